@@ -1,0 +1,8 @@
+-- Addresses, CIDRs, slots and their texts, as contracts see them.
+pub mod Shape
+pub mod Width
+pub mod Holding
+pub mod Made
+pub mod Slots
+pub mod Word
+pub mod Text

@@ -1,0 +1,45 @@
+ghost use Rattle.std.specs.Prelude.{◌≡◌, ℕ};
+
+use std::marker::Model;
+
+/// The version of the Internet Protocol that an address belongs to.
+#[derive(Clone, Copy, Debug, PartialEq, Eq, PartialOrd, Ord)]
+pub enum Family {
+    V4,
+    V6,
+}
+
+impl Family {
+    ghost use Rattle.ipam_addr.specs.Width.{width};
+
+    /// How many bits an address has.
+    pub fn width(self) -> u8
+        ensures { result ≡ width self }
+    {
+        match self {
+            Family::V4 => 32,
+            Family::V6 => 128,
+        }
+    }
+}
+
+/// An address, as its family and its bits read as one number, the first bit the most significant.
+#[derive(Clone, Copy, Debug, PartialEq, Eq, PartialOrd, Ord)]
+pub struct Addr {
+    pub family: Family,
+    pub number: u128,
+}
+
+impl Model for Addr {
+    ghost use Rattle.ipam_addr.specs.Shape.{Address};
+
+    ghost Value = { Address };
+
+    ghost use Rattle.ipam_addr.specs.Width.{IsAddress};
+
+    ghost view = { λ a. record { family = a.family; number = a.number } };
+
+    ghost invariant = { λ a. IsAddress (record { family = a.family; number = a.number }) };
+
+    ghost inverse = { λ a. record { family = a.family; number = a.number } };
+}

@@ -1,0 +1,5 @@
+-- Lemmas on blocks.
+pub mod Ordinals
+pub mod Ascending
+pub mod Assigning
+pub mod Freeing

@@ -1,0 +1,5 @@
+-- A block as contracts see it, and its operations on lists.
+pub mod Content
+pub mod Sound
+pub mod Operations
+pub mod Picked

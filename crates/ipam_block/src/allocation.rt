@@ -1,0 +1,50 @@
+ghost use Rattle.std.specs.Prelude.{◌≡◌};
+
+use ipam_text::{Seq, Text};
+use std::alloc::AllocError;
+
+/// What is kept of an assignment beside its address: the handle that it is recorded to, and pairs
+/// of a key and a value, the keys ascending by their bytes and distinct.
+#[derive(Debug, Drop)]
+pub struct Attributes {
+    pub handle: Text,
+    pub secondary: Seq<(Text, Text)>,
+}
+
+impl Clone for Attributes {
+    ghost is_clone = { λ old new. new ≡ old };
+
+    fn clone(&self) -> Result<Attributes, AllocError> {
+        let handle = self.handle.clone()?;
+        let secondary = self.secondary.clone()?;
+        Ok(Attributes { handle, secondary })
+    }
+}
+
+/// One held address of a block: its ordinal, counted from the block's first address as 0, and the
+/// stamp of its assignment, by which a later assignment of the same address differs from it.
+#[derive(Debug, Drop)]
+pub struct Allocation {
+    pub ordinal: u16,
+    pub attributes: Attributes,
+    pub stamp: u64,
+}
+
+impl Clone for Allocation {
+    ghost is_clone = { λ old new. new ≡ old };
+
+    fn clone(&self) -> Result<Allocation, AllocError> {
+        let attributes = self.attributes.clone()?;
+        Ok(Allocation {
+            ordinal: self.ordinal,
+            attributes,
+            stamp: self.stamp,
+        })
+    }
+}
+
+/// The ordinal that was asked for is held. The attributes come back to the caller.
+#[derive(Debug, Drop)]
+pub struct Held {
+    pub attributes: Attributes,
+}

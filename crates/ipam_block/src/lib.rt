@@ -1,0 +1,13 @@
+//! The record of one block: which of its ordinals are held, by whom, and which are free.
+//!
+//! After the resource IPAMBlock of Calico's datastore.
+#![tactic(auto)]
+
+mod allocation;
+mod blocks;
+
+pub use allocation::{Allocation, Attributes, Held};
+pub use blocks::Block;
+
+#[cfg(test)]
+mod tests;

@@ -1,0 +1,5 @@
+pub mod Counts
+pub mod Streams
+pub mod Passing
+pub mod Fakes
+pub mod Standard

@@ -1,0 +1,29 @@
+//! The edge of a program's input and output: traits whose clauses say what a read, a write and a
+//! pass do, fakes of them in memory for tests, and adapters over std's readers and writers.
+//!
+//! Each count is a `u64` that begins at 0 and stays at `u64::MAX` once it is there.
+#![tactic(auto)]
+
+mod gate;
+mod link;
+mod list_gate;
+mod memory_link;
+mod memory_sink;
+mod memory_source;
+mod open_gate;
+mod parts;
+mod sink;
+mod source;
+mod standard;
+
+pub use gate::{Gate, Passed, Point};
+pub use link::Link;
+pub use list_gate::ListGate;
+pub use memory_link::MemoryLink;
+pub use memory_sink::MemorySink;
+pub use memory_source::MemorySource;
+pub use open_gate::OpenGate;
+pub use sink::Sink;
+pub use source::{Failed, Source};
+pub use standard::{StdSink, StdSource};
+pub use std::alloc::AllocError as Memory;

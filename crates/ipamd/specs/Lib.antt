@@ -1,0 +1,2 @@
+-- What the commands promise.
+pub mod Words
