@@ -1,0 +1,11 @@
+#!/usr/bin/env bash
+# Asks a million times for the next slot with room past 16,384 reserved CIDRs: of one slot each, and
+# of 2^58 slots each. The two times should be alike.
+set -eu
+top=$(cd "$(dirname "$0")/.." && pwd)
+count=${1:-1000000}
+(cd "$top/crates/ipam_bench" && rt run >/dev/null 2>&1)
+for word in narrow-slots wide-slots; do
+    echo "$word:"
+    "$top/crates/ipam_bench/out/ipam_bench" "$word" "$count"
+done

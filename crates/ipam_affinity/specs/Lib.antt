@@ -1,0 +1,2 @@
+-- An affinity's states and their names.
+pub mod State

@@ -1,0 +1,36 @@
+ghost use Rattle.std.specs.Prelude.{◌≡◌, IfOk};
+
+use crate::state::State;
+use ipam_addr::Cidr;
+use ipam_text::Text;
+use std::alloc::AllocError;
+
+/// The affinity of a node to the block of this CIDR.
+#[derive(Debug, Drop)]
+pub struct Affinity {
+    pub node: Text,
+    pub cidr: Cidr,
+    pub state: State,
+}
+
+impl Affinity {
+    /// A copy with this state.
+    pub fn with(&self, state: State) -> Result<Affinity, AllocError>
+        ensures { IfOk result (λ a. a ≡ record self.now { state = state }) }
+    {
+        let node = self.node.clone()?;
+        Ok(Affinity {
+            node,
+            cidr: self.cidr,
+            state,
+        })
+    }
+}
+
+impl Clone for Affinity {
+    ghost is_clone = { λ old new. new ≡ old };
+
+    fn clone(&self) -> Result<Affinity, AllocError> {
+        self.with(self.state)
+    }
+}

@@ -1,0 +1,6 @@
+-- A handle as contracts see it, and its operations on lists.
+pub mod Content
+pub mod Order
+pub mod Sound
+pub mod Operations
+pub mod Places

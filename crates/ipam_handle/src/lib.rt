@@ -1,0 +1,12 @@
+//! The record of one handle: how many addresses of each block are held under it.
+//!
+//! After the resource IPAMHandle of Calico's datastore.
+#![tactic(auto)]
+
+mod counts;
+
+pub use counts::{Handle, RaiseFault};
+pub use std::alloc::AllocError as Memory;
+
+#[cfg(test)]
+mod tests;

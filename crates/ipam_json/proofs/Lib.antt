@@ -1,0 +1,6 @@
+pub mod PathLemmas
+pub mod PathLaws
+pub mod ReadsBack
+pub mod Constructors
+pub mod Prefixes
+pub mod Utf8Texts

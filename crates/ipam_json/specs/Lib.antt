@@ -1,0 +1,4 @@
+pub mod Path
+pub mod Faults
+pub mod Canonical
+pub mod Built

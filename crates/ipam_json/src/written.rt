@@ -1,0 +1,17 @@
+ghost use Rattle.std.specs.Prelude.{◌≡◌, Some, IfOk, string_bytes};
+ghost use Rattle.serde_json.specs.Read.{read};
+ghost use Rattle.serde_json.specs.View.{view};
+ghost use Rattle.serde_json.specs.Written.{compact_text};
+ghost use Rattle.ipam_json.specs.Canonical.{IsCanonical};
+
+use serde_json::Value;
+use std::alloc::{AllocError, Global};
+
+/// The text of a canonical value, with no space.
+pub fn canonical_text(alloc: Global, value: &Value) -> Result<String, AllocError>
+    requires { IsCanonical (view value.now) }
+    ensures text { IfOk result (λ s. string_bytes s ≡ compact_text (view value.now)) }
+    ensures reads_back { IfOk result (λ s. read (string_bytes s) ≡ Some (view value.now)) }
+{
+    value.to_string(alloc)
+}

@@ -1,0 +1,4 @@
+-- Lemmas on pools.
+pub mod Accepting
+pub mod Disabling
+pub mod SlotsLemmas

@@ -1,0 +1,4 @@
+-- Pool tables, as contracts see them.
+pub mod Sound
+pub mod Changes
+pub mod Slots

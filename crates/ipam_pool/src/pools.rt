@@ -1,0 +1,76 @@
+ghost use Rattle.std.specs.Prelude.{◌≡◌};
+
+use ipam_addr::Cidr;
+use ipam_text::Text;
+use std::alloc::AllocError;
+use std::error::Error;
+use std::fmt;
+
+/// A CIDR whose addresses are given out, cut into slots of one size.
+#[derive(Debug, Drop)]
+pub struct Pool {
+    pub name: Text,
+    pub cidr: Cidr,
+    /// The prefix of each of its slots.
+    pub size: u8,
+    /// Whether no new slot of it is to be taken.
+    pub disabled: bool,
+}
+
+impl Clone for Pool {
+    ghost is_clone = { λ old new. new ≡ old };
+
+    fn clone(&self) -> Result<Pool, AllocError> {
+        let name = self.name.clone()?;
+        Ok(Pool {
+            name,
+            cidr: self.cidr,
+            size: self.size,
+            disabled: self.disabled,
+        })
+    }
+}
+
+/// Why a pool is not added to a table.
+#[derive(Clone, Copy, Debug, PartialEq, Eq)]
+pub enum PoolRefusal {
+    /// A pool of the name is there.
+    NameTaken,
+    /// The pool at this place shares addresses with it, and none before.
+    Overlap(usize),
+    /// The family has no slots of the size.
+    Size,
+    /// The pool is smaller than one slot.
+    Prefix,
+    /// The table is full.
+    TooMany,
+    /// There is no memory for one more.
+    Memory,
+}
+
+impl fmt::Display for PoolRefusal {
+    fn fmt<W: fmt::Write>(&self, f: &mut fmt::Formatter<W>) -> fmt::Result {
+        match self {
+            PoolRefusal::NameTaken => f.write_str("a pool of this name exists"),
+            PoolRefusal::Overlap(place) => write!(f, "overlaps the pool at place {place}"),
+            PoolRefusal::Size => f.write_str("slot size out of range"),
+            PoolRefusal::Prefix => f.write_str("prefix longer than the slot size"),
+            PoolRefusal::TooMany => f.write_str("too many pools"),
+            PoolRefusal::Memory => f.write_str("out of memory"),
+        }
+    }
+}
+
+impl Error for PoolRefusal {}
+
+/// No pool of the table has the name.
+#[derive(Clone, Copy, Debug, PartialEq, Eq)]
+pub struct NoSuchPool;
+
+impl fmt::Display for NoSuchPool {
+    fn fmt<W: fmt::Write>(&self, f: &mut fmt::Formatter<W>) -> fmt::Result {
+        f.write_str("no pool of this name")
+    }
+}
+
+impl Error for NoSuchPool {}

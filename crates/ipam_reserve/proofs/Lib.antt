@@ -1,0 +1,5 @@
+-- Lemmas on spans.
+pub mod Gaps
+pub mod Merging
+pub mod Members
+pub mod Rooms

@@ -1,0 +1,77 @@
+ghost use Rattle.std.specs.Prelude.{◌≡◌, ◌≤◌, ◌↔◌, length, IsOk, IfOk};
+
+use ipam_addr::Cidr;
+use ipam_text::{Seq, Text};
+use std::alloc::AllocError;
+use std::error::Error;
+use std::fmt;
+use std::marker::Model;
+
+/// The most CIDRs of a reservation.
+const CIDRS_MAX: usize = 64;
+
+/// CIDRs that are reserved under one name.
+#[derive(Debug, Drop)]
+pub struct Reservation {
+    name: Text,
+    cidrs: Seq<Cidr>,
+}
+
+impl Model for Reservation {
+    ghost use Rattle.std.specs.Prelude.{◌≤◌, length};
+    ghost use Rattle.ipam_reserve.specs.Shape.{NamedRanges};
+
+    ghost Value = { NamedRanges };
+
+    ghost view = { λ r. record { name = r.name; cidrs = r.cidrs } };
+
+    ghost invariant = { λ r. length r.cidrs ≤ 64 };
+}
+
+/// A reservation has at most 64 CIDRs.
+#[derive(Clone, Copy, Debug, PartialEq, Eq)]
+pub struct TooManyCidrs;
+
+impl fmt::Display for TooManyCidrs {
+    fn fmt<W: fmt::Write>(&self, f: &mut fmt::Formatter<W>) -> fmt::Result {
+        f.write_str("too many CIDRs in a reservation")
+    }
+}
+
+impl Error for TooManyCidrs {}
+
+impl Reservation {
+    /// The reservation of these CIDRs, where they are at most 64. Takes no memory.
+    pub fn new(name: Text, cidrs: Seq<Cidr>) -> Result<Reservation, TooManyCidrs>
+        ensures few { IsOk result ↔ (length cidrs ≤ 64) }
+        ensures ok { IfOk result (λ r. r ≡ record { name = name; cidrs = cidrs }) }
+    {
+        if cidrs.len() > CIDRS_MAX {
+            return Err(TooManyCidrs);
+        }
+        Ok(Reservation { name, cidrs })
+    }
+
+    pub fn name(&self) -> &str
+        ensures { result.now ≡ self.now.name }
+    {
+        self.name.as_str()
+    }
+
+    pub fn cidrs(&self) -> &[Cidr]
+        ensures value { result.now ≡ self.now.cidrs }
+        ensures few { length result.now ≤ 64 }
+    {
+        self.cidrs.as_slice()
+    }
+}
+
+impl Clone for Reservation {
+    ghost is_clone = { λ old new. new ≡ old };
+
+    fn clone(&self) -> Result<Reservation, AllocError> {
+        let name = self.name.clone()?;
+        let cidrs = self.cidrs.clone()?;
+        Ok(Reservation { name, cidrs })
+    }
+}
