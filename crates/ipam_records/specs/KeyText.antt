@@ -1,0 +1,74 @@
+-- The texts of keys.
+use Rattle.std.specs.Prelude.{◌≡◌, ℕ, List, ◌++◌, length, take, drop, codes, bytes_eq, Option, Some, None, option_map, Result, Ok, Err, IsTrue, if◌then◌else◌}
+use Rattle.std.specs.List.{before_first, after_first}
+use Rattle.ipam_addr.specs.declared.range.AddrFault.{AddrFault}
+use Rattle.ipam_addr.specs.Shape.{Range}
+use Rattle.ipam_addr.specs.Width.{IsRange}
+use Rattle.ipam_addr.specs.Word.{is_name_text, is_handle_text}
+use Rattle.ipam_addr.specs.Text.{is_slash, range_of, range_text}
+use Rattle.ipam_records.specs.declared.key.Key.{Key}
+use Rattle.ipam_records.specs.declared.key.Key.TheVariants.{Config, Pools, Reservations, Block, Affinity, Handle}
+
+-- the text of a key, where a CIDR has the spelling that is printed
+abbrev pub key_bytes : Key → List ℕ
+key_bytes Config = codes "config"
+key_bytes Pools = codes "pools"
+key_bytes Reservations = codes "reservations"
+key_bytes (Block cidr) = codes "block/" ++ range_text cidr
+key_bytes (Affinity node cidr) = codes "affinity/" ++ (node ++ (codes "/" ++ range_text cidr))
+key_bytes (Handle id) = codes "handle/" ++ id
+
+-- the node is a name, the id a handle's, and the block a CIDR
+abbrev pub IsKey : Key → Type 0
+IsKey Config = Unit {0}
+IsKey Pools = Unit {0}
+IsKey Reservations = Unit {0}
+IsKey (Block cidr) = IsRange cidr
+IsKey (Affinity node cidr) = IsTrue (is_name_text node) × IsRange cidr
+IsKey (Handle id) = IsTrue (is_handle_text id)
+
+-- the text is the key's, and the key's parts are sound
+pub record IsTextOf (text : List ℕ) (key : Key) : Type 0 where
+  pub sound : IsKey key
+  pub spelled : key_bytes key ≡ text
+
+-- the CIDR, where the text is what is printed of it
+abbrev pub range_printed : List ℕ → Result Range AddrFault → Option Range
+range_printed text (Ok cidr) = if bytes_eq (range_text cidr) text then Some cidr else None
+range_printed text (Err fault) = None
+
+abbrev pub range_read : List ℕ → Option Range
+range_read text = range_printed text (range_of text)
+
+-- the key of a block, of an affinity and of a handle, from what stands behind the kind
+abbrev pub block_read : List ℕ → Option Key
+block_read text = option_map Block (range_read text)
+
+abbrev pub affinity_of_parts : List ℕ → List ℕ → Option Key
+affinity_of_parts node block =
+    if is_name_text node then option_map (Affinity node) (range_read block) else None
+
+abbrev pub affinity_read : List ℕ → Option Key
+affinity_read text = affinity_of_parts (before_first is_slash text) (after_first is_slash text)
+
+abbrev pub handle_read : List ℕ → Option Key
+handle_read text = if is_handle_text text then Some (Handle text) else None
+
+-- what stands behind this beginning, where the text has it
+abbrev pub behind : List ℕ → List ℕ → Option (List ℕ)
+behind start text = if bytes_eq (take (length start) text) start then Some (drop (length start) text) else None
+
+-- the key of a kind, from what stands behind `block/`, `affinity/` or `handle/`
+abbrev pub key_of_kind : (block affinity handle : Option (List ℕ)) → Option Key
+key_of_kind (Some text) affinity handle = block_read text
+key_of_kind None (Some text) handle = affinity_read text
+key_of_kind None None (Some text) = handle_read text
+key_of_kind None None None = None
+
+-- the key that the text is of, if it is a key's
+unfoldable pub key_read : List ℕ → Option Key
+key_read text =
+    if bytes_eq text (codes "config") then Some Config
+    else (if bytes_eq text (codes "pools") then Some Pools
+    else (if bytes_eq text (codes "reservations") then Some Reservations
+    else key_of_kind (behind (codes "block/") text) (behind (codes "affinity/") text) (behind (codes "handle/") text)))

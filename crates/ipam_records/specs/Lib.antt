@@ -1,0 +1,15 @@
+-- Keys, records, the datastore's calls, and the words of procedures.
+pub mod Key
+pub mod KeyOrder
+pub mod KeyOrderLaws
+pub mod KeyText
+pub mod Pages
+pub mod Listing
+pub mod Said
+pub mod Datastore
+pub mod Sound
+pub mod Label
+pub mod Word
+pub mod Bound
+pub mod Hearing
+pub mod Example

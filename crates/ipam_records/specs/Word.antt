@@ -1,0 +1,53 @@
+-- What is left of a procedure: its answer, or the next call and what follows each reply.
+use Rattle.std.specs.Prelude.{ℕ, Bool, true, false, List, Option, Some, None}
+use Rattle.ipam_records.specs.declared.call.Call.{Call}
+use Rattle.ipam_records.specs.Said.{Said}
+use Rattle.ipam_records.specs.Label.{Label, idle}
+
+-- an answer; or a call, with where the procedure stands before it and what follows its moment and
+-- what is said to it; or a wait for a list of handle ids
+pub data Word (A : Type 0) : Type 0 where
+  Ends : A → Word A
+  Asks : Label → Call → (ℕ → Said → Word A) → Word A
+  Waits : (List (List ℕ) → Word A) → Word A
+
+-- the call that comes next
+abbrev pub asked : {A : Type 0} → Word A → Option Call
+asked (Ends answer) = None
+asked (Asks label call next) = Some call
+asked (Waits next) = None
+
+-- where the procedure stands
+abbrev pub label_of : {A : Type 0} → Word A → Label
+label_of (Ends answer) = idle
+label_of (Asks label call next) = label
+label_of (Waits next) = idle
+
+-- the answer, once there is one
+abbrev pub ended : {A : Type 0} → Word A → Option A
+ended (Ends answer) = Some answer
+ended (Asks label call next) = None
+ended (Waits next) = None
+
+abbrev pub waits : {A : Type 0} → Word A → Bool
+waits (Ends answer) = false
+waits (Asks label call next) = false
+waits (Waits next) = true
+
+-- what is left once this was said to the call at this moment
+abbrev pub heard : {A : Type 0} → Word A → ℕ → Said → Word A
+heard (Ends answer) moment said = Ends answer
+heard (Asks label call next) moment said = next moment said
+heard (Waits next) moment said = Waits next
+
+-- what is left once these ids were handed in
+abbrev pub fed : {A : Type 0} → Word A → List (List ℕ) → Word A
+fed (Ends answer) live = Ends answer
+fed (Asks label call next) live = Asks label call next
+fed (Waits next) live = next live
+
+-- the word, and at its end another that may depend on the answer
+abbrev pub bound : {A B : Type 0} → Word A → (A → Word B) → Word B
+bound (Ends answer) follows = follows answer
+bound (Asks label call next) follows = Asks label call (λ moment said. bound (next moment said) follows)
+bound (Waits next) follows = Waits (λ live. bound (next live) follows)

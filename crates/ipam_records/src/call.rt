@@ -1,0 +1,57 @@
+use crate::key::{Key, Kind};
+use crate::listing::Listing;
+use crate::record::Record;
+use ipam_text::Text;
+
+/// What the datastore is asked. A write names its record, and the revision that the record is
+/// to have there.
+#[derive(Debug, Drop)]
+pub enum Call {
+    Get(Key),
+    List(Kind),
+    Create(Record),
+    Update(Record, u64),
+    Delete(Key, u64),
+}
+
+/// What the datastore answers to a call.
+#[derive(Clone, Copy)]
+pub enum Reply<'a> {
+    /// The record, and the revision that it has.
+    Found(u64, &'a Record),
+    /// There is no such record.
+    Missing,
+    Listed(Listing<'a>),
+    /// The write may be applied, and takes this revision.
+    Can(u64),
+    /// The record is there already, at this revision.
+    Exists(u64),
+    /// The record has this revision, and not the one that was named.
+    Conflict(u64),
+    /// There is no room for one more record.
+    Full,
+    /// There are no more revisions.
+    Spent,
+}
+
+/// A write, with the revision that it takes.
+#[derive(Debug, Drop)]
+pub enum Write {
+    Put(u64, Record),
+    Remove(u64, Key),
+}
+
+/// A record as texts, as it is kept outside of the process.
+#[derive(Debug, Drop)]
+pub struct Row {
+    pub key: Text,
+    pub revision: u64,
+    pub body: Text,
+}
+
+/// A reply, and the moment of its call: the number of entries before the call's own.
+#[derive(Clone, Copy)]
+pub struct Heard<'a> {
+    pub reply: Reply<'a>,
+    pub moment: u64,
+}

@@ -1,0 +1,65 @@
+ghost use Rattle.std.specs.Prelude.{◌≡◌, IfOk};
+
+use crate::config::Config;
+use crate::key::Key;
+use ipam_affinity::Affinity;
+use ipam_block::Block;
+use ipam_handle::Handle;
+use ipam_pool::PoolTable;
+use ipam_reserve::Reservation;
+use ipam_text::{Seq, Text};
+use std::alloc::{AllocError, Global};
+
+/// What the datastore keeps under a key.
+#[derive(Debug, Drop)]
+pub enum Record {
+    Config(Config),
+    Pools(PoolTable),
+    Reservations(Seq<Reservation>),
+    Block(Block),
+    Affinity(Affinity),
+    Handle(Handle),
+}
+
+impl Record {
+    ghost use Rattle.ipam_records.specs.Key.{key_of};
+
+    /// The key that the record is found by.
+    pub fn key(&self, alloc: Global) -> Result<Key, AllocError>
+        ensures { IfOk result (λ key. key ≡ key_of self.now) }
+    {
+        match self {
+            Record::Config(_) => Ok(Key::Config),
+            Record::Pools(_) => Ok(Key::Pools),
+            Record::Reservations(_) => Ok(Key::Reservations),
+            Record::Block(block) => Ok(Key::Block(block.cidr())),
+            Record::Affinity(affinity) => {
+                Ok(Key::Affinity(affinity.node.clone()?, affinity.cidr))
+            }
+            Record::Handle(handle) => Ok(Key::Handle(Text::copied(alloc, handle.id())?)),
+        }
+    }
+}
+
+impl Clone for Record {
+    ghost is_clone = { λ old new. new ≡ old };
+
+    fn clone(&self) -> Result<Record, AllocError> {
+        match self {
+            Record::Config(config) => Ok(Record::Config(*config)),
+            Record::Pools(pools) => Ok(Record::Pools(pools.copy()?)),
+            Record::Reservations(reservations) => {
+                Ok(Record::Reservations(copied_reservations(reservations)?))
+            }
+            Record::Block(block) => Ok(Record::Block(block.clone()?)),
+            Record::Affinity(affinity) => Ok(Record::Affinity(affinity.clone()?)),
+            Record::Handle(handle) => Ok(Record::Handle(handle.clone()?)),
+        }
+    }
+}
+
+fn copied_reservations(reservations: &Seq<Reservation>) -> Result<Seq<Reservation>, AllocError>
+    ensures { IfOk result (λ copy. copy ≡ reservations.now) }
+{
+    reservations.clone()
+}

@@ -1,0 +1,161 @@
+ghost use Rattle.std.specs.Prelude.{◌≡◌, ◌++◌, ◌↔◌, IfOk, OnOk, bytes_eq, string_bytes};
+ghost use Rattle.std.specs.Option.{option_copied};
+ghost use Rattle.std.specs.Str.{IsAscii};
+ghost use Rattle.ipam_records.specs.KeyText.{IsKey, IsTextOf, key_bytes, key_read, behind, range_read, block_read, affinity_of_parts, affinity_read, handle_read};
+
+use crate::key::Key;
+use ipam_addr::{Cidr, is_handle_id, is_name, push_cidr, read_cidr};
+use ipam_text::Text;
+use std::alloc::{AllocError, Global};
+use std::str;
+
+/// The key's text: its kind, and behind a slash what tells it from others of its kind.
+pub fn key_text(alloc: Global, key: &Key) -> Result<String, AllocError>
+    ensures text { IfOk result (λ text. string_bytes text ≡ key_bytes key.now) }
+    ensures reads_back { IsKey key.now → key_read (key_bytes key.now) ≡ Some key.now }
+    ensures own { (other : Key) → IsKey key.now → IsKey other
+        → key_bytes key.now ≡ key_bytes other → key.now ≡ other }
+{
+    let mut text = String::new(alloc);
+    push_key(alloc, &mut text, key)?;
+    Ok(text)
+}
+
+fn push_key(alloc: Global, out: &mut String, key: &Key) -> Result<(), AllocError>
+    ensures { OnOk result (string_bytes out.new ≡ string_bytes out.old ++ key_bytes key.now) }
+{
+    match key {
+        Key::Config => out.push_str("config")?,
+        Key::Pools => out.push_str("pools")?,
+        Key::Reservations => out.push_str("reservations")?,
+        Key::Block(cidr) => {
+            out.push_str("block/")?;
+            push_cidr(alloc, out, *cidr)?;
+        }
+        Key::Affinity(node, cidr) => {
+            out.push_str("affinity/")?;
+            out.push_str(node.as_str())?;
+            out.push_str("/")?;
+            push_cidr(alloc, out, *cidr)?;
+        }
+        Key::Handle(id) => {
+            out.push_str("handle/")?;
+            out.push_str(id.as_str())?;
+        }
+    }
+    Ok(())
+}
+
+/// The key that has this text, or `None` where no key has it: where the text has not the form of
+/// a key's, the node in it is no name, the id no handle's, or a CIDR is spelled otherwise than it
+/// is printed.
+pub fn key_of_text(alloc: Global, text: &[u8]) -> Result<Option<Key>, AllocError>
+    ensures value { IfOk result (λ found. found ≡ key_read text.now) }
+    ensures exact { IfOk result (λ found.
+        (key : Key) → (found ≡ Some key) ↔ IsTextOf text.now key) }
+{
+    read_key(alloc, text)
+}
+
+fn read_key(alloc: Global, text: &[u8]) -> Result<Option<Key>, AllocError>
+    ensures { IfOk result (λ found. found ≡ key_read text.now) }
+{
+    if is_word(text, "config") {
+        return Ok(Some(Key::Config));
+    }
+    if is_word(text, "pools") {
+        return Ok(Some(Key::Pools));
+    }
+    if is_word(text, "reservations") {
+        return Ok(Some(Key::Reservations));
+    }
+    if let Some(cidr) = behind(text, "block/") {
+        return read_block(alloc, cidr);
+    }
+    if let Some(parts) = behind(text, "affinity/") {
+        return read_affinity(alloc, parts);
+    }
+    if let Some(id) = behind(text, "handle/") {
+        return read_handle(alloc, id);
+    }
+    Ok(None)
+}
+
+fn is_word(text: &[u8], word: &str) -> bool
+    ensures { result ≡ bytes_eq text.now word.now }
+{
+    text == word.as_bytes()
+}
+
+// What stands behind this beginning, where the text has it.
+fn behind<'a>(text: &'a [u8], start: &str) -> Option<&'a [u8]>
+    ensures { option_copied result ≡ behind start.now text.now }
+{
+    text.strip_prefix(start.as_bytes())
+}
+
+fn read_block(alloc: Global, text: &[u8]) -> Result<Option<Key>, AllocError>
+    ensures { IfOk result (λ key. key ≡ block_read text.now) }
+{
+    match read_range(alloc, text)? {
+        Some(cidr) => Ok(Some(Key::Block(cidr))),
+        None => Ok(None),
+    }
+}
+
+fn read_affinity(alloc: Global, text: &[u8]) -> Result<Option<Key>, AllocError>
+    ensures { IfOk result (λ key. key ≡ affinity_read text.now) }
+{
+    let slash = text.iter().position(|&byte| byte == b'/');
+    match slash {
+        Some(slash) => read_affinity_parts(alloc, &text[..slash], &text[slash + 1..]),
+        None => Ok(None),
+    }
+}
+
+fn read_affinity_parts(alloc: Global, node: &[u8], cidr: &[u8]) -> Result<Option<Key>, AllocError>
+    ensures { IfOk result (λ key. key ≡ affinity_of_parts node.now cidr.now) }
+{
+    if !is_name(node) {
+        return Ok(None);
+    }
+    let Some(cidr) = read_range(alloc, cidr)? else {
+        return Ok(None);
+    };
+    let node = copied_word(alloc, node)?;
+    Ok(Some(Key::Affinity(node, cidr)))
+}
+
+fn read_handle(alloc: Global, id: &[u8]) -> Result<Option<Key>, AllocError>
+    ensures { IfOk result (λ key. key ≡ handle_read id.now) }
+{
+    if !is_handle_id(id) {
+        return Ok(None);
+    }
+    let id = copied_word(alloc, id)?;
+    Ok(Some(Key::Handle(id)))
+}
+
+// The CIDR whose printed text this is.
+fn read_range(alloc: Global, text: &[u8]) -> Result<Option<Cidr>, AllocError>
+    ensures { IfOk result (λ cidr. cidr ≡ range_read text.now) }
+{
+    let Ok(cidr) = read_cidr(text) else {
+        return Ok(None);
+    };
+    let mut printed = String::new(alloc);
+    push_cidr(alloc, &mut printed, cidr)?;
+    if printed.as_bytes() == text {
+        Ok(Some(cidr))
+    } else {
+        Ok(None)
+    }
+}
+
+// A copy of a name or an id.
+fn copied_word(alloc: Global, bytes: &[u8]) -> Result<Text, AllocError>
+    requires { IsAscii bytes.now }
+    ensures { IfOk result (λ text. text ≡ bytes.now) }
+{
+    Text::copied(alloc, str::from_utf8(bytes).unwrap())
+}
