@@ -1,0 +1,6 @@
+pub mod Order
+pub mod Searching
+pub mod Shelves
+pub mod Keeping
+pub mod Granting
+pub mod Kept

@@ -1,0 +1,288 @@
+ghost use Rattle.std.specs.Prelude.{◌≡◌, ◌+◌, ◌≤◌, ◌<◌, ◌^◌, ◌↔◌, [], length, IsTrue, IsSome, OnOk, OnErr, Ok, Err, Some, slice_get};
+ghost use Rattle.std.specs.Option.{option_copied};
+
+use crate::key_ref::{KeyRef, Shelf};
+use crate::rows;
+use ipam_records::{Call, Kind, Listing, Record, Reply, Write};
+use std::alloc::{AllocError, Global};
+use std::marker::Model;
+use std::slice;
+
+const MOST_ROWS: usize = 262_144;
+
+const MOST_BLOCKS: usize = 16_384;
+
+const LAST_REVISION: u64 = 1 << 62;
+
+/// Why a row was not loaded.
+#[derive(Clone, Copy, Debug, PartialEq, Eq)]
+pub enum LoadFault {
+    /// Its key has a row already.
+    There,
+    /// There was no memory for one more row.
+    Memory,
+}
+
+impl From<AllocError> for LoadFault {
+    ghost use Rattle.ipam_store.specs.declared.store.LoadFault.{LoadFault};
+
+    ghost from_gives = { λ _ fault. fault ≡ LoadFault.Memory };
+
+    fn from(_: AllocError) -> LoadFault {
+        LoadFault::Memory
+    }
+}
+
+/// The datastore in memory: rows in the order of their keys, and the revision of the last write.
+#[derive(Drop)]
+pub struct Store {
+    singles: Vec<(u64, Record)>,
+    blocks: Vec<(u64, Record)>,
+    affinities: Vec<(u64, Record)>,
+    handles: Vec<(u64, Record)>,
+    counter: u64,
+}
+
+impl Model for Store {
+    ghost use Rattle.ipam_store.specs.Content.{Content};
+
+    ghost Value = { Content };
+
+    ghost use Rattle.ipam_store.specs.Keeping.{content_in, is_kept_in};
+
+    ghost view = { content_in };
+
+    ghost invariant = { is_kept_in };
+}
+
+impl Store {
+    ghost use Rattle.ipam_records.specs.Key.{key_of};
+    ghost use Rattle.ipam_records.specs.Listing.{rows_of};
+    ghost use Rattle.ipam_records.specs.Said.{said};
+    ghost use Rattle.ipam_records.specs.Sound.{IsDatastore, IsRow};
+    ghost use Rattle.ipam_records.specs.Datastore.{reply_of, reply_to_get, reply_to_create, reply_to_change, granted, has_room, row_of, listed, with_row, without_row, written};
+    ghost use Rattle.ipam_store.specs.Shelf.{named};
+    ghost use Rattle.ipam_records.specs.declared.call.Write.TheVariants.{Put, Remove};
+    ghost use Rattle.ipam_store.specs.Granted.{IsGranted, IsSoundWrite, HasRoomFor};
+
+    /// A store with no rows, whose last write had this revision. Takes no memory.
+    pub fn new(alloc: Global, counter: u64) -> Store
+        requires { counter ≤ 2 ^ 62 }
+        ensures rows { result.store ≡ record { rows = []; counter = counter } }
+    {
+        Store {
+            singles: Vec::new(alloc),
+            blocks: Vec::new(alloc),
+            affinities: Vec::new(alloc),
+            handles: Vec::new(alloc),
+            counter,
+        }
+    }
+
+    /// The revision of the last write.
+    pub fn counter(&self) -> u64
+        ensures value { result ≡ self.now.store.counter }
+        ensures small { result ≤ 2 ^ 62 }
+    {
+        self.counter
+    }
+
+    /// How many rows there are.
+    pub fn rows(&self) -> usize
+        ensures { result ≡ length self.now.store.rows }
+    {
+        self.singles.len() + self.blocks.len() + self.affinities.len() + self.handles.len()
+    }
+
+    /// The row of the key, if there is one.
+    fn find(&self, key: &KeyRef<'_>) -> Option<&(u64, Record)>
+        ensures { option_copied result ≡ row_of (named key.now) self.now.store.rows }
+    {
+        match key.shelf() {
+            Shelf::Singles => rows::find(&self.singles, key),
+            Shelf::Blocks => rows::find(&self.blocks, key),
+            Shelf::Affinities => rows::find(&self.affinities, key),
+            Shelf::Handles => rows::find(&self.handles, key),
+        }
+    }
+
+    /// What the datastore answers to the call. Takes no memory.
+    pub fn reply(&self, call: &Call) -> Reply<'_>
+        ensures reply { said result ≡ reply_of self.now.store call.now }
+        ensures sound { IsDatastore self.now.store }
+    {
+        let _ = &self.counter;
+        match call {
+            Call::Get(key) => self.reply_to_get(&KeyRef::of(key)),
+            Call::List(kind) => Reply::Listed(self.listed(*kind)),
+            Call::Create(new) => self.reply_to_create(&KeyRef::of_record(new)),
+            Call::Update(new, revision) => {
+                self.reply_to_change(&KeyRef::of_record(new), *revision)
+            }
+            Call::Delete(key, revision) => self.reply_to_change(&KeyRef::of(key), *revision),
+        }
+    }
+
+    fn reply_to_get(&self, key: &KeyRef<'_>) -> Reply<'_>
+        ensures { said result ≡ reply_to_get (row_of (named key.now) self.now.store.rows) }
+    {
+        match self.find(key) {
+            Some(row) => Reply::Found(row.0, &row.1),
+            None => Reply::Missing,
+        }
+    }
+
+    fn reply_to_create(&self, key: &KeyRef<'_>) -> Reply<'_>
+        ensures { said result ≡ reply_to_create self.now.store (named key.now) (row_of (named key.now) self.now.store.rows) }
+    {
+        match self.find(key) {
+            Some(row) => Reply::Exists(row.0),
+            None => {
+                if self.has_room(key) {
+                    self.granted()
+                } else {
+                    Reply::Full
+                }
+            }
+        }
+    }
+
+    fn reply_to_change(&self, key: &KeyRef<'_>, revision: u64) -> Reply<'_>
+        ensures { said result ≡ reply_to_change self.now.store revision (row_of (named key.now) self.now.store.rows) }
+    {
+        match self.find(key) {
+            Some(row) => {
+                if row.0 == revision {
+                    self.granted()
+                } else {
+                    Reply::Conflict(row.0)
+                }
+            }
+            None => Reply::Missing,
+        }
+    }
+
+    /// The answer to a write that nothing but the revisions can refuse.
+    fn granted(&self) -> Reply<'_>
+        ensures { said result ≡ granted self.now.store }
+    {
+        if self.counter < LAST_REVISION {
+            Reply::Can(self.counter + 1)
+        } else {
+            Reply::Spent
+        }
+    }
+
+    /// Whether one more row with this key is allowed.
+    fn has_room(&self, key: &KeyRef<'_>) -> bool
+        ensures { result ≡ has_room self.now.store (named key.now) }
+    {
+        self.rows() < MOST_ROWS && (!key.is_block() || self.blocks.len() < MOST_BLOCKS)
+    }
+
+    /// The rows of the kind, in the order of their keys.
+    fn listed(&self, kind: Kind) -> Listing<'_>
+        ensures { rows_of result ≡ listed kind self.now.store }
+    {
+        match kind {
+            Kind::Block => Listing::over(slice::from_ref(&self.blocks)),
+            Kind::Affinity => Listing::over(slice::from_ref(&self.affinities)),
+            Kind::Handle => Listing::over(slice::from_ref(&self.handles)),
+        }
+    }
+
+    /// Takes a row that was kept elsewhere. On `Err` nothing has changed.
+    pub fn load(&mut self, revision: u64, value: Record) -> Result<(), LoadFault>
+        requires sound { IsRow self.old.store.counter (revision, value) }
+        requires room { HasRoomFor self.old.store value }
+        ensures ok { OnOk result (self.new.store ≡ record self.old.store { rows = with_row (revision, value) self.old.store.rows }) }
+        ensures err { OnErr result (self.new.store ≡ self.old.store) }
+        ensures there { (result ≡ Err LoadFault.There) ↔ IsSome (row_of (key_of value) self.old.store.rows) }
+    {
+        let shelf = KeyRef::of_record(&value).shelf();
+        match shelf {
+            Shelf::Singles => rows::add(&mut self.singles, (revision, value)),
+            Shelf::Blocks => rows::add(&mut self.blocks, (revision, value)),
+            Shelf::Affinities => rows::add(&mut self.affinities, (revision, value)),
+            Shelf::Handles => rows::add(&mut self.handles, (revision, value)),
+        }
+    }
+
+    /// Makes sure that one more write takes no memory. On `Err` the rows are as they were.
+    pub fn reserve(&mut self) -> Result<(), AllocError>
+        ensures store { self.new.store ≡ self.old.store }
+        ensures spare { OnOk result (1 ≤ self.new.spare) }
+        ensures kept { self.old.spare ≤ self.new.spare }
+    {
+        self.singles.reserve(1)?;
+        self.blocks.reserve(1)?;
+        self.affinities.reserve(1)?;
+        self.handles.reserve(1)
+    }
+
+    /// Applies a write that the store has just granted. Takes no memory.
+    pub fn apply(&mut self, write: Write)
+        requires granted { IsGranted self.old.store write }
+        requires sound { IsSoundWrite write }
+        requires spare { 1 ≤ self.old.spare }
+        ensures store { self.new.store ≡ written self.old.store write }
+        ensures spare { self.old.spare ≤ self.new.spare + 1 }
+    {
+        match write {
+            Write::Put(revision, value) => self.put(revision, value),
+            Write::Remove(revision, key) => self.remove(revision, &KeyRef::of(&key)),
+        }
+    }
+
+    fn put(&mut self, revision: u64, value: Record)
+        requires granted { IsGranted self.old.store (Put revision value) }
+        requires sound { IsSoundWrite (Put revision value) }
+        requires spare { 1 ≤ self.old.spare }
+        ensures store { self.new.store ≡ written self.old.store (Put revision value) }
+        ensures spare { self.old.spare ≤ self.new.spare + 1 }
+    {
+        self.counter = revision;
+        let shelf = KeyRef::of_record(&value).shelf();
+        match shelf {
+            Shelf::Singles => rows::put(&mut self.singles, (revision, value)),
+            Shelf::Blocks => rows::put(&mut self.blocks, (revision, value)),
+            Shelf::Affinities => rows::put(&mut self.affinities, (revision, value)),
+            Shelf::Handles => rows::put(&mut self.handles, (revision, value)),
+        }
+    }
+
+    fn remove(&mut self, revision: u64, key: &KeyRef<'_>)
+        requires granted { IsGranted self.old.store (Remove revision (named key.now)) }
+        ensures store { self.new.store ≡ written self.old.store (Remove revision (named key.now)) }
+        ensures spare { self.old.spare ≤ self.new.spare }
+    {
+        self.counter = revision;
+        match key.shelf() {
+            Shelf::Singles => rows::remove(&mut self.singles, key),
+            Shelf::Blocks => rows::remove(&mut self.blocks, key),
+            Shelf::Affinities => rows::remove(&mut self.affinities, key),
+            Shelf::Handles => rows::remove(&mut self.handles, key),
+        }
+    }
+
+    /// The revision and the record of the row at this place, where the configuration, the pools
+    /// and the reservations come first, then the blocks, the affinities and the handles.
+    pub fn row(&self, place: usize) -> (u64, &Record)
+        requires { place < length self.now.store.rows }
+        ensures { slice_get self.now.store.rows place ≡ Some (result.0, result.1.now) }
+    {
+        let singles = self.singles.len();
+        if place < singles {
+            return rows::at(&self.singles, place);
+        }
+        let blocks = singles + self.blocks.len();
+        if place < blocks {
+            return rows::at(&self.blocks, place - singles);
+        }
+        let affinities = blocks + self.affinities.len();
+        if place < affinities {
+            return rows::at(&self.affinities, place - blocks);
+        }
+        rows::at(&self.handles, place - affinities)
+    }
+}
