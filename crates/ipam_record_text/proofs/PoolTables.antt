@@ -1,0 +1,214 @@
+-- A pool table's body is read back.
+use Rattle.std.proofs.Common.{◌≡◌, ℕ, ◌^◌, ◌<◌, List, [], ◌∷◌, ◌++◌, codes, map, Bool, true, false, Option, Some, None, option_map, Result, Ok, Err, inl, inr, nat_lt, refl, sym, ap, ◌∙◌, arith, lt-ltb, ltb-true, append_assoc, append-nil}
+use Rattle.std.specs.Prelude.{is_none, IsNone, IsOkUnless, ◌≢◌}
+use Rattle.std.specs.List.{AllByRecursion}
+use Rattle.std.proofs.lemmas.Bool.{cases_Bool}
+use Rattle.std.proofs.lemmas.Option.{cond_some, same_Some}
+use Rattle.serde_json.specs.Data.{Data, Items, no_items, item}
+use Rattle.serde_json.specs.Read.{read}
+use Rattle.serde_json.specs.View.{items_of}
+use Rattle.serde_json.specs.Written.{has_float, items_have_float}
+use Rattle.ipam_addr.specs.Shape.{Range}
+use Rattle.ipam_json.specs.Canonical.{IsCanonical}
+use Rattle.ipam_json.proofs.ReadsBack.{read-compact_text}
+use Rattle.ipam_json.proofs.Constructors.{IsCanonicalWithin-array}
+use Rattle.ipam_json.specs.Canonical.{IsCanonicalWithin}
+use Rattle.ipam_pool.specs.Changes.{refusal_of}
+use Rattle.ipam_pool.specs.declared.pools.Pool.{Pool}
+use Rattle.ipam_pool.specs.declared.pools.PoolRefusal.{PoolRefusal}
+use Rattle.ipam_pool.specs.declared.pools.PoolRefusal.TheVariants.{NameTaken, Overlap, Size, Prefix, TooMany, Memory as OutOfMemory}
+use Rattle.ipam_record_text.specs.declared.fault.BodyFault.{BodyFault}
+use Rattle.ipam_record_text.specs.declared.fault.BodyFault.TheVariants.{Form, Table, Memory as NoMemory}
+use Rattle.ipam_record_text.specs.Reading.{◌>>=◌, only_if, truth_at, number_at, items_at, held}
+use Rattle.ipam_record_text.specs.Blocks.{cidr_at, name_at}
+use Rattle.ipam_record_text.specs.Pools.{pool_data, pools_data, pools_body, pool_in, pools_in, pools_after, size_at, are_added, table_of, refusal_fault, pools_reading, IsSoundPool, IsSoundTable, HasRefusedPool}
+use Rattle.ipam_record_text.proofs.Held.{held-was, held-text}
+use Rattle.ipam_record_text.proofs.Parts.{then-is, cidr_at-is, cidr_of-text, name_at-is, name_of-name}
+
+items_have_float-pools : (pools : List Pool) → items_have_float (items_of (map pool_data pools)) ≡ false
+unfolding pool_data
+items_have_float-pools [] = refl
+items_have_float-pools (p ∷ pools) = items_have_float-pools pools
+
+pub has_float-pools_data : (pools : List Pool) → has_float (pools_data pools) ≡ false
+unfolding pools_data
+has_float-pools_data pools = rw (items_have_float-pools pools) refl
+
+-- ---- what is found is sound
+
+size_at-is : (name : List ℕ) (d : Data) (n : ℕ) → size_at name d ≡ Some n → n < 2 ^ 8
+unfolding size_at
+size_at-is name d n e = then-is (λ k. only_if (nat_lt k (2 ^ 8)) k) (λ k. k < 2 ^ 8) small (number_at name d) n e
+  where
+    small : (k m : ℕ) → only_if (nat_lt k (2 ^ 8)) k ≡ Some m → m < 2 ^ 8
+    small k m e' = let (is, same) = cond_some _ k m e' in rw (← same) (ltb-true _ _ is)
+
+-- the parts of a pool that was found
+parts : (size : Option ℕ) (cidr : Option Range) (disabled : Option Bool) (name : Option (List ℕ)) (p : Pool) → (size >>= λ s. cidr >>= λ c. disabled >>= λ d. name >>= λ n. Some (record { name = n; cidr = c; size = s; disabled = d })) ≡ Some p → (size ≡ Some p.size) × (cidr ≡ Some p.cidr) × (name ≡ Some p.name)
+parts (Some s) (Some c) (Some d) (Some n) p e = (ap (option_map (λ (k : Pool). k.size)) e, ap (option_map (λ (k : Pool). k.cidr)) e, ap (option_map (λ (k : Pool). k.name)) e)
+parts (Some s) (Some c) (Some d) None p e = cc
+parts (Some s) (Some c) None name p e = cc
+parts (Some s) None disabled name p e = cc
+parts None cidr disabled name p e = cc
+
+pub pool_in-sound : (d : Data) (p : Pool) → pool_in d ≡ Some p → IsSoundPool p
+unfolding pool_in
+pool_in-sound d p e =
+    let (size, cidr, name) = parts (size_at (codes "blockSize") d) (cidr_at (codes "cidr") d) (truth_at (codes "disabled") d) (name_at (codes "name") d) p e in
+    record {
+      name = name_at-is (codes "name") d p.name name;
+      cidr = cidr_at-is (codes "cidr") d p.cidr cidr;
+      size = size_at-is (codes "blockSize") d p.size size;
+    }
+
+AllByRecursion-push : {A : Type 0} (P : A → Type 0) (xs : List A) (x : A) → AllByRecursion P xs → P x → AllByRecursion P (xs ++ x ∷ [])
+AllByRecursion-push P [] x h k = (k, tt)
+AllByRecursion-push P (y ∷ xs) x h k = (h.0, AllByRecursion-push P xs x h.1 k)
+
+pools_after-sound : (there : List Pool) (ds : Items) (pools : List Pool) → pools_after there ds ≡ Some pools → AllByRecursion IsSoundPool there → AllByRecursion IsSoundPool pools
+pools_after-sound there no_items pools e h = rw (← same_Some there pools e) h
+pools_after-sound there (item d ds) pools e h =
+    next (pool_in d) refl e (λ p k e'. pools_after-sound (there ++ p ∷ []) ds pools e' k)
+  where
+    next : (found : Option Pool) → pool_in d ≡ found → (found >>= λ p. pools_after (there ++ p ∷ []) ds) ≡ Some pools → ((p : Pool) → AllByRecursion IsSoundPool (there ++ p ∷ []) → pools_after (there ++ p ∷ []) ds ≡ Some pools → AllByRecursion IsSoundPool pools) → AllByRecursion IsSoundPool pools
+    next (Some p) is e' more = more p (AllByRecursion-push IsSoundPool there p h (pool_in-sound d p is)) e'
+    next None is e' more = cc
+
+pub pools_in-sound : (d : Data) (pools : List Pool) → pools_in d ≡ Some pools → AllByRecursion IsSoundPool pools
+unfolding pools_in
+pools_in-sound d pools e = then-is (pools_after []) (AllByRecursion IsSoundPool) (λ ds found e'. pools_after-sound [] ds found e' tt) (items_at (codes "pools") d) pools e
+
+-- ---- a sound table is found in its JSON
+
+pool_in-pool_data : (p : Pool) → IsSoundPool p → pool_in (pool_data p) ≡ Some p
+unfolding pool_in pool_data size_at
+pool_in-pool_data p h =
+    let bound : p.size < 2 ^ 32 = omega (arith, h.size) in
+    rw (lt-ltb p.size (2 ^ 32) bound, lt-ltb p.size (2 ^ 8) h.size, cidr_of-text p.cidr h.cidr, name_of-name p.name h.name) refl
+
+pools_after-pools_data : (there pools : List Pool) → AllByRecursion IsSoundPool pools → pools_after there (items_of (map pool_data pools)) ≡ Some (there ++ pools)
+pools_after-pools_data there [] h = ap Some (sym (append-nil there))
+pools_after-pools_data there (p ∷ pools) h =
+    rw (pool_in-pool_data p h.0) (pools_after-pools_data (there ++ p ∷ []) pools h.1 ∙ ap Some (append_assoc there (p ∷ []) pools))
+
+pools_in-pools_data : (pools : List Pool) → AllByRecursion IsSoundPool pools → pools_in (pools_data pools) ≡ Some pools
+unfolding pools_in pools_data
+pools_in-pools_data pools h = pools_after-pools_data [] pools h
+
+pool_data-IsCanonical : (p : Pool) → IsSoundPool p → IsCanonicalWithin 1 (pool_data p)
+unfolding pool_data
+pool_data-IsCanonical p h = record {
+  regular = (refl, omega (arith, h.size), (refl, tt, (refl, tt, (tt, tt, tt))));
+  shallow = omega arith;
+}
+
+pools_canonical : (pools : List Pool) → AllByRecursion IsSoundPool pools → AllByRecursion (IsCanonicalWithin 1) (map pool_data pools)
+pools_canonical [] h = tt
+pools_canonical (p ∷ pools) h = (pool_data-IsCanonical p h.0, pools_canonical pools h.1)
+
+pools_data-IsCanonical : (pools : List Pool) → AllByRecursion IsSoundPool pools → IsCanonical (pools_data pools)
+unfolding pools_data
+pools_data-IsCanonical pools h =
+    let list = IsCanonicalWithin-array 1 2 (map pool_data pools) (omega arith) (pools_canonical pools h) in
+    record { regular = (tt, list.regular, tt); shallow = omega (arith, list.shallow) }
+
+read-pools_body : (pools : List Pool) → AllByRecursion IsSoundPool pools → read (pools_body pools) ≡ Some (pools_data pools)
+unfolding pools_body
+read-pools_body pools h = read-compact_text (pools_data pools) (pools_data-IsCanonical pools h)
+
+pub held-pools_body : (pools : List Pool) → AllByRecursion IsSoundPool pools → held pools_in pools_body (pools_body pools) ≡ Some pools
+held-pools_body pools h = held-text pools_in pools_body pools (pools_data pools) (read-pools_body pools h) (pools_in-pools_data pools h)
+
+-- ---- the body of a table
+
+-- what is read of the pools that are held
+table_of-is : (found : Option (List Pool)) (pools : List Pool) → table_of found ≡ Ok pools → (found ≡ Some pools) × (are_added [] pools ≡ true)
+unfolding table_of
+table_of-is None pools e = cc
+table_of-is (Some ps) pools e = elim (cases_Bool (are_added [] ps)) [
+  | inl added ↦
+      let k : ◌≡◌ {A = Result (List Pool) BodyFault} (Ok ps) (Ok pools) = rw added at e in
+      let same : ps ≡ pools = cc in
+      (ap Some same, rw (← same) added)
+  | inr refused ↦ let k = rw refused at e in cc
+]
+
+pub pools_read : (body : List ℕ) (pools : List Pool) → pools_reading body ≡ Ok pools → (body ≡ pools_body pools) × IsSoundTable pools
+unfolding pools_reading
+pools_read body pools e =
+    let (is_held, added) = table_of-is (held pools_in pools_body body) pools e in
+    let was = held-was pools_in pools_body body pools is_held in
+    (sym was.is_text, record { each = pools_in-sound was.json pools was.was_found; added = added })
+
+pub pools_reads_back : (pools : List Pool) → IsSoundTable pools → pools_reading (pools_body pools) ≡ Ok pools
+unfolding pools_reading table_of
+pools_reads_back pools h = rw (held-pools_body pools h.each, h.added) refl
+
+read_of-pools_body : (body : List ℕ) (pools : List Pool) → AllByRecursion IsSoundPool pools → body ≡ pools_body pools → pools_reading body ≡ table_of (Some pools)
+unfolding pools_reading
+read_of-pools_body body pools h same = ap (λ b. table_of (held pools_in pools_body b)) same ∙ ap table_of (held-pools_body pools h)
+
+-- a body of the wrong form is that of no sound pools
+pub form_unread : (body : List ℕ) → pools_reading body ≡ Err Form → (pools : List Pool) → AllByRecursion IsSoundPool pools → body ≢ pools_body pools
+unfolding table_of
+form_unread body e pools h same = elim (cases_Bool (are_added [] pools)) [
+  | inl added ↦
+      let k : ◌≡◌ {A = Result (List Pool) BodyFault} (Err Form) (Ok pools) = sym e ∙ read_of-pools_body body pools h same ∙ rw added refl in
+      cc
+  | inr refused ↦
+      let k : ◌≡◌ {A = Result (List Pool) BodyFault} (Err Form) (Err Table) = sym e ∙ read_of-pools_body body pools h same ∙ rw refused refl in
+      cc
+]
+
+table_of-refused : (found : Option (List Pool)) → table_of found ≡ Err Table → (pools : List Pool) × (found ≡ Some pools) × (are_added [] pools ≡ false)
+unfolding table_of
+table_of-refused None e = cc
+table_of-refused (Some pools) e = elim (cases_Bool (are_added [] pools)) [
+  | inl added ↦ let k : ◌≡◌ {A = Result (List Pool) BodyFault} (Ok pools) (Err Table) = rw added at e in cc
+  | inr refused ↦ (pools, refl, refused)
+]
+
+pub table_unread : (body : List ℕ) → pools_reading body ≡ Err Table → HasRefusedPool body
+unfolding pools_reading
+table_unread body e =
+    let (pools, is_held, refused) = table_of-refused (held pools_in pools_body body) e in
+    let was = held-was pools_in pools_body body pools is_held in
+    record {
+      pools = pools;
+      each = pools_in-sound was.json pools was.was_found;
+      is_body = sym was.is_text;
+      refused = refused;
+    }
+
+-- ---- adding the pools
+
+-- all pools were added
+pub table_whole : (there rest all : List Pool) → rest ≡ [] → there ++ rest ≡ all → are_added there rest ≡ are_added [] all → table_of (Some all) ≡ Ok there
+unfolding table_of
+table_whole there rest all none whole same =
+    let is : there ≡ all = sym (append-nil there) ∙ ap (λ r. there ++ r) (sym none) ∙ whole in
+    let added : are_added [] all ≡ true = sym same ∙ ap (are_added there) none in
+    rw added (ap Ok (sym is))
+
+not_added : (o : Option PoolRefusal) (r : Result (Unit {0}) PoolRefusal) (e : PoolRefusal) → (IsNone o → IsOkUnless r OutOfMemory) → r ≡ Err e → e ≢ OutOfMemory → is_none o ≡ false
+not_added (Some refusal) r e accepted is other = refl
+not_added None (Ok u) e accepted is other = cc
+not_added None (Err f) e accepted is other =
+    let same : f ≡ e = cc in
+    let memory : f ≡ OutOfMemory = accepted refl in
+    absurd (other (sym same ∙ memory))
+
+table_refused : (there rest all : List Pool) (p : Pool) → are_added there (p ∷ rest) ≡ are_added [] all → is_none (refusal_of there p) ≡ false → table_of (Some all) ≡ Err Table
+unfolding table_of
+table_refused there rest all p same refused =
+    let none : are_added [] all ≡ false = sym same ∙ (rw refused refl) in
+    rw none refl
+
+-- where the next pool is refused, so is the table
+pub table_fault : (there rest all : List Pool) (p : Pool) (r : Result (Unit {0}) PoolRefusal) (e : PoolRefusal) → are_added there (p ∷ rest) ≡ are_added [] all → (IsNone (refusal_of there p) → IsOkUnless r OutOfMemory) → r ≡ Err e → refusal_fault e ≢ NoMemory → table_of (Some all) ≡ Err (refusal_fault e)
+table_fault there rest all p r NameTaken same accepted is other = table_refused there rest all p same (not_added _ r NameTaken accepted is (λ k. cc))
+table_fault there rest all p r (Overlap place) same accepted is other = table_refused there rest all p same (not_added _ r (Overlap place) accepted is (λ k. cc))
+table_fault there rest all p r Size same accepted is other = table_refused there rest all p same (not_added _ r Size accepted is (λ k. cc))
+table_fault there rest all p r Prefix same accepted is other = table_refused there rest all p same (not_added _ r Prefix accepted is (λ k. cc))
+table_fault there rest all p r TooMany same accepted is other = table_refused there rest all p same (not_added _ r TooMany accepted is (λ k. cc))
+table_fault there rest all p r OutOfMemory same accepted is other = absurd (other refl)

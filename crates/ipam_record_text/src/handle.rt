@@ -1,0 +1,142 @@
+ghost use Rattle.std.specs.Prelude.{◌≡◌, ◌≢◌, [], Ok, Err, Some, IfOk, IfErr, IfSome, ◌<◌, option_and_then, string_bytes};
+ghost use Rattle.serde_json.specs.Data.{no_members};
+ghost use Rattle.serde_json.specs.View.{view, members_view};
+ghost use Rattle.ipam_handle.specs.Content.{Content};
+ghost use Rattle.ipam_handle.specs.Operations.{content};
+ghost use Rattle.ipam_record_text.specs.Reading.{held};
+ghost use Rattle.ipam_record_text.specs.Handle.{handle_data, handle_body, with_counts, count_of_json, counted, counts_after, handle_of_counts, handle_in, handle_reading, IsSoundHandle};
+
+use crate::blocks::{block_of, cidr_text, id_at};
+use crate::fault::BodyFault;
+use crate::members::{in_32_bits, json_of, members_at};
+use ipam_addr::Cidr;
+use ipam_handle::Handle;
+use ipam_text::Text;
+use serde_json::{Map, Value, json, put};
+use std::alloc::{AllocError, Global};
+
+/// The body of the handle.
+pub fn handle_text(alloc: Global, handle: &Handle) -> Result<String, AllocError>
+    ensures { IfOk result (λ s. string_bytes s ≡ handle_body handle.now) }
+{
+    let json = handle_json(alloc, handle)?;
+    json.to_string(alloc)
+}
+
+#[tactic(auto, unfolding(crate::specs::Handle::handle_data))]
+fn handle_json(alloc: Global, handle: &Handle) -> Result<Value, AllocError>
+    ensures { IfOk result (λ v. view v ≡ handle_data handle.now) }
+{
+    let counts = counts_json(alloc, handle.blocks())?;
+    let counts = Value::Object(counts);
+    let id = handle.id();
+    json!(in alloc; {"block": counts, "handleID": id})
+}
+
+fn counts_json(alloc: Global, counts: &[(Cidr, u32)]) -> Result<Map<String, Value>, AllocError>
+    ensures { IfOk result
+        (λ m. members_view m.entries ≡ with_counts no_members counts.now) }
+{
+    let mut map = Map::new(alloc);
+    for entry in counts {
+        let name = cidr_text(alloc, entry.0)?;
+        put(&mut map, alloc, name.as_str(), Value::from(entry.1))?;
+    }
+    Ok(map)
+}
+
+/// The handle whose body this is.
+pub fn handle_of(alloc: Global, body: &str) -> Result<Handle, BodyFault>
+    ensures read { IfOk result (λ h. handle_reading body.now ≡ Ok h) }
+    ensures refused { IfErr result (λ e. e ≢ BodyFault.Memory → handle_reading body.now ≡ Err e) }
+    ensures body { IfOk result (λ h. body.now ≡ handle_body h) }
+    ensures sound { IfOk result (λ h. IsSoundHandle h) }
+    ensures form { result ≡ Err BodyFault.Form
+        → (h : Content) → IsSoundHandle h → body.now ≢ handle_body h }
+{
+    match held_handle(alloc, body) {
+        Ok(Some(handle)) => Ok(handle),
+        Ok(None) => Err(BodyFault::Form),
+        Err(_) => Err(BodyFault::Memory),
+    }
+}
+
+#[tactic(auto, unfolding(crate::specs::Reading::held))]
+fn held_handle(alloc: Global, body: &str) -> Result<Option<Handle>, AllocError>
+    ensures { IfOk result (λ held_value. held_value ≡ held handle_in handle_body body.now) }
+{
+    let Some(json) = json_of(alloc, body)? else {
+        return Ok(None);
+    };
+    let Some(handle) = handle_in(alloc, &json)? else {
+        return Ok(None);
+    };
+    let text = handle_text(alloc, &handle)?;
+    if text.as_str() == body {
+        Ok(Some(handle))
+    } else {
+        Ok(None)
+    }
+}
+
+#[tactic(auto, unfolding(crate::specs::Handle::handle_in))]
+fn handle_in(alloc: Global, json: &Value) -> Result<Option<Handle>, AllocError>
+    ensures { IfOk result (λ found. found ≡ handle_in (view json.now)) }
+{
+    let Some(members) = members_at(json, "block") else {
+        return Ok(None);
+    };
+    let Some(id) = id_at(json, "handleID") else {
+        return Ok(None);
+    };
+    let id = Text::copied(alloc, id)?;
+    counted_handle(alloc, id, members)
+}
+
+#[tactic(auto, unfolding(crate::specs::Handle::handle_of_counts))]
+fn counted_handle(
+    alloc: Global,
+    id: Text,
+    members: &Map<String, Value>,
+) -> Result<Option<Handle>, AllocError>
+    ensures { IfOk result (λ found. found ≡ option_and_then (handle_of_counts id)
+        (counts_after [] (members_view members.now.entries))) }
+{
+    let mut handle = Handle::new(alloc, id);
+    for (name, value) in members {
+        let Some((block, count)) = counted(name.as_str(), value) else {
+            return Ok(None);
+        };
+        if handle.count(block) > 0 {
+            return Ok(None);
+        }
+        if handle.raise(block, count).is_err() {
+            return Err(AllocError);
+        }
+    }
+    if handle.is_empty() {
+        Ok(None)
+    } else {
+        Ok(Some(handle))
+    }
+}
+
+/// The block and the count that a member is.
+#[tactic(auto, unfolding(crate::specs::Handle::counted))]
+fn counted(name: &str, value: &Value) -> Option<(Cidr, u32)>
+    ensures value { result ≡ counted name.now (view value.now) }
+    ensures some { IfSome result (λ c. 0 < c.1) }
+{
+    let block = block_of(name)?;
+    let count = count_of_json(value)?;
+    Some((block, count))
+}
+
+#[tactic(auto, unfolding(crate::specs::Handle::count_of_json))]
+fn count_of_json(value: &Value) -> Option<u32>
+    ensures value { result ≡ count_of_json (view value.now) }
+    ensures some { IfSome result (λ n. 0 < n) }
+{
+    let count = in_32_bits(value.as_u64()?)?;
+    if count > 0 { Some(count) } else { None }
+}
