@@ -3,3 +3,5 @@ pub mod Ordinals
 pub mod Ascending
 pub mod Assigning
 pub mod Freeing
+pub mod Tested
+pub mod Marks

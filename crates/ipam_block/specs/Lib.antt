@@ -3,3 +3,4 @@ pub mod Content
 pub mod Sound
 pub mod Operations
 pub mod Picked
+pub mod Test

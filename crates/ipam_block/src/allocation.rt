@@ -48,3 +48,13 @@ impl Clone for Allocation {
 pub struct Held {
     pub attributes: Attributes,
 }
+
+/// Why parts make no block.
+#[derive(Clone, Copy, Debug, PartialEq, Eq)]
+pub enum PartsFault {
+    /// An ordinal is not exactly once among those held and queued, those held do not ascend, or a
+    /// stamp is 0 or above the sequence number.
+    Unsound,
+    /// There was no memory.
+    Memory,
+}

@@ -1,4 +1,4 @@
-ghost use Rattle.std.specs.Prelude.{◌≡◌, ℕ, ◌+◌, ◌<◌, ◌≤◌, ◌^◌, [], ◌↔◌, length, option_map, IsTrue, IfOk, IfErr, OnOk, OnErr, is_err, count_by, insert, filter, not, ◌==◌, nat_lt, ◌++◌};
+ghost use Rattle.std.specs.Prelude.{◌≡◌, ℕ, ◌+◌, ◌<◌, ◌≤◌, ◌^◌, [], ◌↔◌, length, option_map, IsTrue, true, false, IfOk, IfErr, OnOk, OnErr, is_err, count_by, insert, filter, not, ◌==◌, nat_lt, ◌++◌};
 ghost use Rattle.std.specs.List.{list_any};
 ghost use Rattle.ipam_addr.specs.Width.{range_size};
 ghost use Rattle.std.specs.Vec.{vec_len, vec_capacity};
@@ -7,7 +7,8 @@ ghost use Rattle.ipam_block.specs.Operations.{address_of, node_bytes};
 ghost use Rattle.ipam_block.specs.Sound.{ordinals_below, held_ordinals};
 ghost use Rattle.ipam_block.specs.Picked.{picks};
 
-use crate::allocation::{Allocation, Attributes, Held};
+use crate::allocation::{Allocation, Attributes, Held, PartsFault};
+use crate::sound::are_sound;
 use ipam_addr::{Addr, Cidr, Spared};
 use ipam_text::Text;
 use std::alloc::{AllocError, Global};
@@ -85,6 +86,7 @@ impl Block {
     ghost use Rattle.ipam_block.specs.Picked.{picks};
     ghost use Rattle.ipam_block.specs.Operations.{fresh_block, next_block, room, holder, holding, lent_holding, is_held, assigned, freed, is_owned, is_stamped, affine_to, node_bytes};
     ghost use Rattle.ipam_block.specs.Sound.{IsBlock};
+    ghost use Rattle.ipam_block.specs.Test.{is_block, content_of};
 
     /// A block that was never written, with nothing held.
     pub fn fresh(alloc: Global, cidr: Cidr, node: Option<&str>) -> Result<Block, AllocError>
@@ -102,6 +104,48 @@ impl Block {
             queue,
             sequence: 0,
         })
+    }
+
+    /// The block with these parts, where they are those of a block: `allocations` is what is held
+    /// by ascending ordinal, and `queue` has the other ordinals.
+    pub fn of_parts(
+        alloc: Global,
+        cidr: Cidr,
+        node: Option<Text>,
+        allocations: Vec<Allocation>,
+        queue: Vec<u16>,
+        sequence: u64,
+    ) -> Result<Block, PartsFault>
+        requires { range_size cidr ≤ 4096 }
+        ensures ok { IfOk result
+            (λ b. b ≡ content_of cidr node allocations.items queue.items sequence) }
+        ensures sound { IfOk result
+            (λ _. is_block (content_of cidr node allocations.items queue.items sequence) ≡ true) }
+        ensures unsound { result ≡ Err PartsFault.Unsound
+            → is_block (content_of cidr node allocations.items queue.items sequence) ≡ false }
+    {
+        let count = count_of(cidr);
+        match are_sound(
+            alloc,
+            count,
+            allocations.as_slice(),
+            queue.as_slice(),
+            sequence,
+        ) {
+            Ok(true) => {}
+            Ok(false) => return Err(PartsFault::Unsound),
+            Err(_) => return Err(PartsFault::Memory),
+        }
+        match with_room(alloc, count, allocations, queue.as_slice()) {
+            Ok((held, queue)) => Ok(Block {
+                cidr,
+                node,
+                held,
+                queue,
+                sequence,
+            }),
+            Err(_) => Err(PartsFault::Memory),
+        }
     }
 
     /// The addresses of the block.
@@ -287,6 +331,29 @@ impl Clone for Block {
     fn clone(&self) -> Result<Block, AllocError> {
         self.copied(self.sequence)
     }
+}
+
+/// The allocations and the queue in memory for this many ordinals.
+fn with_room(
+    alloc: Global,
+    count: u16,
+    allocations: Vec<Allocation>,
+    queue: &[u16],
+) -> Result<(Vec<Allocation>, VecDeque<u16>), AllocError>
+    requires held { vec_len allocations ≤ count }
+    requires queued { length queue.now ≤ count }
+    ensures allocations { IfOk result (λ p. p.0.items ≡ allocations.items) }
+    ensures queue { IfOk result (λ p. p.1.items ≡ queue.now) }
+    ensures held_room { IfOk result (λ p. count ≤ vec_capacity p.0) }
+    ensures queue_room { IfOk result (λ p. count ≤ deque_capacity p.1) }
+{
+    let mut held = allocations;
+    held.reserve(usize::from(count) - held.len())?;
+    let mut queued = VecDeque::with_capacity(alloc, usize::from(count))?;
+    for ordinal in queue {
+        queued.push_back_reserved(*ordinal);
+    }
+    Ok((held, queued))
 }
 
 /// Whether the ordinal is among those held.

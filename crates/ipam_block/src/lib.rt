@@ -5,8 +5,10 @@
 
 mod allocation;
 mod blocks;
+pub mod laws;
+mod sound;
 
-pub use allocation::{Allocation, Attributes, Held};
+pub use allocation::{Allocation, Attributes, Held, PartsFault};
 pub use blocks::Block;
 
 #[cfg(test)]

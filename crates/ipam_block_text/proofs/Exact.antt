@@ -1,0 +1,291 @@
+-- Each sound block is read from its text.
+use Rattle.std.proofs.Common.{◌≡◌, ◌∙◌, ℕ, suc, ◌+◌, ◌^◌, ◌<◌, ◌≤◌, Bool, true, false, ◌&&◌, List, [], ◌∷◌, ◌++◌, length, get_or, map, Option, Some, None, option_map, Result, Ok, Err, Ordering, Less, Equal, Greater, nat_cmp, cond, refl, sym, ap, arith, decimal, eq-eqb, length-append}
+use Rattle.std.specs.Prelude.{option_and_then, All, fold, position, nat_lt, codes, is_some, bytes_eq}
+use Rattle.std.specs.List.{list_all, list_any, position_or_len, AllByRecursion}
+use Rattle.std.specs.Ordering.{match_ordering}
+use Rattle.std.specs.Str.Parse.{digits_value}
+use Rattle.std.specs.Cmp.Lexicographic.{slice_cmp}
+use Rattle.std.proofs.lemmas.Bool.{and_parts, and_from, ltb-true, le-leb, lt-ltb}
+use Rattle.std.proofs.lemmas.Option.{cond_some}
+use Rattle.std.proofs.lemmas.Slice.Eq.{bytes_eq-Decides}
+use Rattle.std.proofs.lemmas.List.{length-map, get_or-map, get_or-append-add}
+use Rattle.std.proofs.Math.ListN.{get_or-append}
+use Rattle.std.proofs.lemmas.List.Elements.{All-push}
+use Rattle.std.proofs.lemmas.List.FromFn.{length-range_with_len}
+use Rattle.serde_json.specs.Data.{Data, Members, no_members, member, put}
+use Rattle.serde_json.specs.Written.{compact_text}
+use Rattle.serde_json.specs.View.{items_of}
+use Rattle.ipam_json.specs.Built.{Field, member_list, item_list, array_of}
+use Rattle.ipam_json.specs.Canonical.{IsCanonicalWithin, IsCanonical}
+use Rattle.ipam_json.specs.Path.{as_whole, is_index}
+use Rattle.ipam_json.proofs.Constructors.{IsCanonicalWithin-more, IsCanonicalWithin-number, IsCanonicalWithin-string, IsCanonicalWithin-array, IsCanonicalWithin-object, item_list-items_of}
+use Rattle.ipam_json.proofs.PathLaws.{index_of-decimal}
+use Rattle.ipam_json.proofs.ReadsBack.{read-compact_text}
+use Rattle.ipam_addr.specs.Width.{range_size, IsRange}
+use Rattle.ipam_addr.specs.Word.{is_name_text}
+use Rattle.ipam_addr.specs.Text.{range_text}
+use Rattle.ipam_addr.proofs.RangeTextLemmas.{range_of-range_text}
+use Rattle.ipam_block.specs.declared.allocation.Allocation.{Allocation}
+use Rattle.ipam_block.specs.declared.allocation.Attributes.{Attributes}
+use Rattle.ipam_block.specs.Content.{Content}
+use Rattle.ipam_block.specs.Operations.{holder}
+use Rattle.ipam_block.specs.Sound.{IsBlock, ordinals_below, held_ordinals}
+use Rattle.ipam_block.specs.Test.{ascends_from, is_block, content_of, has_stamp_within}
+use Rattle.ipam_block.proofs.Ordinals.{shared-below, shared_count}
+use Rattle.ipam_block.proofs.Tested.{true-is_block}
+use Rattle.ipam_block_text.specs.declared.parts.Parts.{Parts}
+use Rattle.ipam_block_text.specs.declared.fault.BodyFault.{BodyFault}
+use Rattle.ipam_block_text.specs.declared.fault.BodyFault.TheVariants.{Unsound}
+use Rattle.ipam_block_text.specs.Attributes.{are_same, with_those_of, distinct_attributes}
+use Rattle.ipam_block_text.specs.Limits.{is_node, are_attributes, IsSoundBlock}
+use Rattle.ipam_block_text.specs.Parts.{place_of, block_parts}
+use Rattle.ipam_block_text.specs.Body.{whole_data, affinity_data, place_data, attributes_data, range_data, with_stamp, stamps_data, parts_data, block_data, block_body}
+use Rattle.ipam_block_text.specs.Reading.{each, only_if, after_host, affinity_in, node_in, places_in, place_in, all_attributes_in, attributes_in, range_in, small_range, sequence_in, queue_in, parts_in, is_number_name, is_stamp, are_stamps, stamps_in, block_form, held_from, are_ordinals, block_in, checked, reading_from, block_reading}
+use Rattle.ipam_block_text.proofs.Options.{and_then_some}
+use Rattle.ipam_block_text.proofs.Canonical.{each-same, attributes_read, place_read, stamps_canonical, attributes_canonical, map_canonical, affinity_canonical, place_canonical}
+use Rattle.ipam_block_text.proofs.ReadBack.{all_known, few_in_use, held_back}
+
+passes : {A : Type 0} (test : A → Bool) (x : A) → test x ≡ true → only_if test x ≡ Some x
+passes test x h = ap (λ b. cond b (Some x) None) h
+
+-- ---- bounds in a block
+
+held_below : (b : Content) → IsBlock b → All (λ a. a.ordinal < range_size b.cidr) b.allocations
+held_below b h i d within =
+    let held = held_ordinals b.allocations in
+    let count = length-map b.allocations (λ a. a.ordinal) in
+    let long = length-append held b.queue in
+    let below = shared-below b h i d.ordinal (omega arith) in
+    let front = get_or-append held b.queue d.ordinal i (omega arith) in
+    let at = get_or-map (λ (a : Allocation). a.ordinal) b.allocations i d d.ordinal within in
+    omega arith
+
+queued_below : (b : Content) → IsBlock b → All (λ o. o < range_size b.cidr) b.queue
+queued_below b h i d within =
+    let held = held_ordinals b.allocations in
+    let long = length-append held b.queue in
+    let below = shared-below b h (length held + i) d (omega arith) in
+    let at = get_or-append-add held b.queue i d in
+    omega arith
+
+-- ---- the parts
+
+affinity_read : (node : Option (List ℕ)) → is_node node ≡ true → affinity_in (affinity_data node) ≡ Some node
+unfolding after_host
+affinity_read None h = refl
+affinity_read (Some name) h = ap (option_map Some) (passes is_name_text name h)
+
+node_read : (p : Parts) (s : Data) → is_node p.node ≡ true → node_in (parts_data p s) ≡ Some p.node
+unfolding node_in parts_data
+node_read p s h = affinity_read p.node h
+
+items_read : {A : Type 0} (f : Data → Option A) (g : A → Data) (xs : List A) → All (λ x. f (g x) ≡ Some x) xs → each f (item_list (items_of (map g xs))) ≡ Some xs
+items_read f g xs all = ap (each f) (item_list-items_of (map g xs)) ∙ each-same f g xs all
+
+places_read : (p : Parts) (s : Data) → places_in (parts_data p s) ≡ Some p.places
+unfolding places_in parts_data
+places_read p s = items_read place_in place_data p.places (λ i d within. place_read (get_or p.places i d))
+
+all_attributes_read : (p : Parts) (s : Data) → All (λ a. are_attributes a ≡ true) p.attributes → all_attributes_in (parts_data p s) ≡ Some p.attributes
+unfolding all_attributes_in parts_data
+all_attributes_read p s h = items_read attributes_in attributes_data p.attributes (λ i d within. attributes_read (get_or p.attributes i d) (h i d within))
+
+range_read : (p : Parts) (s : Data) → IsRange p.cidr → range_size p.cidr ≤ 4096 → range_in (parts_data p s) ≡ Some p.cidr
+unfolding range_in parts_data
+range_read p s range small = ap small_range (range_of-range_text p.cidr range) ∙ ap (λ b. cond b (Some p.cidr) None) (le-leb _ _ small)
+
+sequence_read : (p : Parts) (s : Data) → p.sequence < 2 ^ 64 → sequence_in (parts_data p s) ≡ Some p.sequence
+unfolding sequence_in parts_data
+sequence_read p s small = passes (λ n. nat_lt n (2 ^ 64)) p.sequence (lt-ltb _ _ small)
+
+queue_read : (p : Parts) (s : Data) → queue_in (parts_data p s) ≡ Some p.queue
+unfolding queue_in parts_data
+queue_read p s = items_read as_whole whole_data p.queue (λ i d within. refl)
+
+pub parts_read : (p : Parts) (s : Data) → is_node p.node ≡ true → All (λ a. are_attributes a ≡ true) p.attributes → IsRange p.cidr → range_size p.cidr ≤ 4096 → p.sequence < 2 ^ 64 → parts_in (parts_data p s) ≡ Some p
+unfolding parts_in
+parts_read p s node attributes range small sequence =
+    rw (node_read p s node, places_read p s, all_attributes_read p s attributes, range_read p s range small, sequence_read p s sequence, queue_read p s) refl
+
+-- ---- the stamps
+
+number_named : (n : ℕ) → n < 2 ^ 64 → is_number_name (decimal n) ≡ true
+unfolding is_number_name
+number_named n small =
+    let parts = cond_some (is_index (decimal n)) (digits_value 10 (decimal n)) n (index_of-decimal n small) in
+    and_from _ _ parts.0 (lt-ltb _ _ (omega (arith, parts.1)))
+
+stamps_put : (k : List ℕ) (d : Data) (ms : Members) → is_stamp (k, d) ≡ true → list_all is_stamp (member_list ms) ≡ true → list_all is_stamp (member_list (put k d ms)) ≡ true
+stamps_put k d no_members h g = and_from _ _ h refl
+stamps_put k d (member l e ms) h g =
+    let parts = and_parts (is_stamp (l, e)) (list_all is_stamp (member_list ms)) g in
+    at (slice_cmp nat_cmp k l) (and_from _ _ h g) (same_named parts.1) (and_from _ _ parts.0 (stamps_put k d ms h parts.1))
+  where
+    same_named : list_all is_stamp (member_list ms) ≡ true → list_all is_stamp ((l, d) ∷ member_list ms) ≡ true
+    same_named rest =
+        let named = and_parts (is_number_name l) (is_some (as_whole e)) (and_parts (is_stamp (l, e)) (list_all is_stamp (member_list ms)) g).0 in
+        let counted = and_parts (is_number_name k) (is_some (as_whole d)) h in
+        and_from _ _ (and_from _ _ named.0 counted.1) rest
+
+    at : (o : Ordering) → list_all is_stamp ((k, d) ∷ (l, e) ∷ member_list ms) ≡ true → list_all is_stamp ((l, d) ∷ member_list ms) ≡ true → list_all is_stamp ((l, e) ∷ member_list (put k d ms)) ≡ true → list_all is_stamp (member_list (match_ordering o (member k d (member l e ms)) (member l d ms) (member l e (put k d ms)))) ≡ true
+    at Less first here later = first
+    at Equal first here later = here
+    at Greater first here later = later
+
+stamps_fold : (xs : List Allocation) (ms : Members) → All (λ a. a.ordinal < 2 ^ 64) xs → list_all is_stamp (member_list ms) ≡ true → list_all is_stamp (member_list (fold with_stamp ms xs)) ≡ true
+stamps_fold [] ms small h = h
+stamps_fold (x ∷ xs) ms small h =
+    stamps_fold xs (with_stamp ms x) (λ i d within. small (suc i) d (omega arith))
+    (stamps_put (decimal x.ordinal) (whole_data x.stamp) ms (and_from _ _ (number_named x.ordinal (small 0 x (omega arith))) refl) h)
+
+stamps_read : (p : Parts) (xs : List Allocation) → All (λ a. a.ordinal < 2 ^ 64) xs → stamps_in (parts_data p (stamps_data xs)) ≡ Some (stamps_data xs)
+unfolding stamps_in parts_data
+stamps_read p xs small = passes are_stamps (stamps_data xs) (stamps_fold xs no_members small refl)
+
+-- ---- the value is canonical
+
+both_maps : {A B C : Type 0} (P : C → Type 0) (f : B → C) (g : A → B) → ((x : A) → P (f (g x))) → (xs : List A) → AllByRecursion P (map f (map g xs))
+both_maps P f g h [] = tt
+both_maps P f g h (x ∷ xs) = (h x, both_maps P f g h xs)
+
+index_below : (all : List Attributes) (b : Content) (o i : ℕ) → place_of all b o ≡ Some i → i < length all
+unfolding place_of
+index_below all b o i e =
+    let found = and_then_some (λ a. position (are_same a.attributes) all) (holder b o) i e in
+    let p = are_same (found.0).attributes in
+    let parts = cond_some (nat_lt (position_or_len p all) (length all)) (position_or_len p all) i found.2 in
+    let within = ltb-true _ _ parts.0 in
+    omega (arith, parts.1)
+
+few_indexes : (b : Content) → IsBlock b → length (distinct_attributes b.allocations) ≤ 4096
+few_indexes b h =
+    let few = few_in_use [] b.allocations in
+    let count = shared_count b h in
+    let small = h.small in
+    omega arith
+
+places_canonical : (b : Content) → IsBlock b → IsCanonicalWithin 3 (array_of (map place_data (block_parts b).places))
+places_canonical b h =
+    let all = distinct_attributes b.allocations in
+    let few = few_indexes b h in
+    IsCanonicalWithin-array 2 3 _ (omega arith)
+    (both_maps (IsCanonicalWithin 2) place_data (place_of all b)
+    (λ o. place_canonical (place_of all b o) (λ i e. let below = index_below all b o i e in omega arith))
+    (ordinals_below (range_size b.cidr)))
+
+queue_canonical : (b : Content) → IsBlock b → IsCanonicalWithin 3 (array_of (map whole_data b.queue))
+queue_canonical b h =
+    let small = h.small in
+    IsCanonicalWithin-array 2 3 _ (omega arith)
+    (map_canonical 2 whole_data b.queue (λ i d within. let below = queued_below b h i d within in IsCanonicalWithin-number 2 (get_or b.queue i d) (omega arith)))
+
+all_canonical : (all : List Attributes) → IsCanonicalWithin 3 (array_of (map attributes_data all))
+all_canonical all = IsCanonicalWithin-array 2 3 _ (omega arith) (map_canonical 2 attributes_data all (λ i d within. attributes_canonical (get_or all i d)))
+
+block_canonical : (b : Content) → IsSoundBlock b → IsCanonical (block_data b)
+unfolding parts_data
+block_canonical b h =
+    let block = h.block in
+    let sequence = h.sequence in
+    let stamps = stamps_canonical b.allocations (λ i d within. let stamped = block.stamped i d within in omega (arith, stamped.1)) in
+    let fields : List Field =
+    (codes "affinity", affinity_data b.node)
+    ∷ (codes "allocations", array_of (map place_data (block_parts b).places))
+    ∷ (codes "attributes", array_of (map attributes_data (distinct_attributes b.allocations)))
+    ∷ (codes "cidr", range_data b.cidr)
+    ∷ (codes "sequenceNumber", whole_data b.sequence)
+    ∷ (codes "sequenceNumberForAllocation", stamps_data b.allocations)
+    ∷ (codes "unallocated", array_of (map whole_data b.queue))
+    ∷ [] in
+    let whole = IsCanonicalWithin-object 3 4 fields (omega arith)
+    (refl, (refl, (refl, (refl, (refl, (refl, tt)))))) (
+      affinity_canonical b.node,
+      (
+        places_canonical b block,
+        (
+          all_canonical (distinct_attributes b.allocations),
+          (
+            IsCanonicalWithin-string 3 (range_text b.cidr),
+            (
+              IsCanonicalWithin-number 3 b.sequence sequence,
+              (
+                IsCanonicalWithin-more 1 3 (stamps_data b.allocations) (omega arith) stamps,
+                (queue_canonical b block, tt),
+              ),
+            ),
+          ),
+        ),
+      ),
+    ) in
+    IsCanonicalWithin-more 4 127 (block_data b) (omega arith) whole
+
+-- ---- the form
+
+in_use_sound : (found : List Attributes) (xs : List Allocation) → All (λ a. are_attributes a ≡ true) found → All (λ x. are_attributes x.attributes ≡ true) xs → All (λ a. are_attributes a ≡ true) (fold with_those_of found xs)
+in_use_sound found [] h all = h
+in_use_sound found (x ∷ xs) h all = in_use_sound (with_those_of found x) xs (one_more (list_any (are_same x.attributes) found)) (λ i d within. all (suc i) d (omega arith))
+  where
+    one_more : (v : Bool) → All (λ a. are_attributes a ≡ true) (cond v found (found ++ x.attributes ∷ []))
+    one_more true = h
+    one_more false = All-push (λ a. are_attributes a ≡ true) found x.attributes h (all 0 x (omega arith))
+
+form_read : (b : Content) → IsSoundBlock b → block_form (block_body b) ≡ Some (block_parts b, stamps_data b.allocations)
+unfolding block_form block_body
+form_read b h =
+    let block = h.block in
+    let small = block.small in
+    let sound = in_use_sound [] b.allocations (λ i d within. absurd (omega arith)) h.attributes in
+    let fits : All (λ a. a.ordinal < 2 ^ 64) b.allocations = λ i d within. let below = held_below b block i d within in omega arith in
+    let body = compact_text (block_data b) in
+    let is_text : Parts × Data → Bool = λ f. bytes_eq (compact_text (parts_data f.0 f.1)) body in
+    let read_back = read-compact_text (block_data b) (block_canonical b h) in
+    let parts = parts_read (block_parts b) (stamps_data b.allocations) h.node sound block.range small h.sequence in
+    let stamps = stamps_read (block_parts b) b.allocations fits in
+    ap (option_and_then (λ d. option_and_then (λ p. option_and_then (λ s. only_if is_text (p, s)) (stamps_in d)) (parts_in d))) read_back
+    ∙ ap (option_and_then (λ p. option_and_then (λ s. only_if is_text (p, s)) (stamps_in (block_data b)))) parts
+    ∙ ap (option_and_then (λ s. only_if is_text (block_parts b, s))) stamps
+    ∙ passes is_text (block_parts b, stamps_data b.allocations) ((bytes_eq-Decides body body).1 refl)
+
+-- ---- the block
+
+are_ordinals-below : (n : ℕ) (queue : List ℕ) → n ≤ 4096 → All (λ o. o < n) queue → are_ordinals queue ≡ true
+are_ordinals-below n [] small h = refl
+are_ordinals-below n (o ∷ queue) small h =
+    let below = h 0 o (omega arith) in
+    and_from _ _ (lt-ltb _ _ (omega arith)) (are_ordinals-below n queue small (λ i d within. h (suc i) d (omega arith)))
+
+block_back : (b : Content) → IsSoundBlock b → block_in (block_parts b) (stamps_data b.allocations) ≡ Some b
+unfolding block_in
+block_back b h =
+    let block = h.block in
+    let small = block.small in
+    let n = range_size b.cidr in
+    let all = distinct_attributes b.allocations in
+    let passed = true-is_block b block in
+    let up = (and_parts (ascends_from 0 b.allocations) (list_all (has_stamp_within b.sequence) b.allocations) (and_parts (ascends_from 0 b.allocations && list_all (has_stamp_within b.sequence) b.allocations) _ passed).0).0 in
+    let fits : All (λ a. a.ordinal < 2 ^ 64) b.allocations = λ i d within. let below = held_below b block i d within in omega arith in
+    let held = held_back all (stamps_data b.allocations) b 0 n b.allocations (λ o from. refl) up
+    (λ i d within. let below = held_below b block i d within in omega arith)
+    (all_known b.allocations up fits) in
+    let count = length-map (ordinals_below n) (place_of all b) in
+    let long = length-range_with_len 0 n in
+    let same = eq-eqb (length (block_parts b).places) n (omega arith) in
+    let tests = and_from _ _ same (are_ordinals-below n b.queue small (queued_below b block)) in
+    let made : List Allocation → Content = λ found. content_of b.cidr b.node found b.queue b.sequence in
+    let whole = λ (o : Option (List Allocation)). option_and_then (only_if is_block) (option_map made o) in
+    ap (λ t. cond t (whole (held_from all (stamps_data b.allocations) 0 (block_parts b).places)) None) tests
+    ∙ ap whole held ∙ passes is_block b passed
+
+pub sound_block_read : (b : Content) → IsSoundBlock b → block_reading (block_body b) ≡ Ok b
+unfolding block_reading
+sound_block_read b h =
+    let body = block_body b in
+    ap (reading_from body) (form_read b h) ∙ ap (checked body) (block_back b h)
+    ∙ ap (λ t. cond t (Ok b) (Err Unsound)) ((bytes_eq-Decides body body).1 refl)
+
+-- no two sound blocks have one text
+pub one_text : (b c : Content) → IsSoundBlock b → IsSoundBlock c → block_body b ≡ block_body c → b ≡ c
+one_text b c h k same = found_same b c (sym (sound_block_read b h) ∙ ap block_reading same ∙ sound_block_read c k)
+  where
+    found_same : (x y : Content) → ◌≡◌ {A = Result Content BodyFault} (Ok x) (Ok y) → x ≡ y
+    found_same x y e = cc

@@ -1,0 +1,26 @@
+-- The attributes in use in a block.
+use Rattle.std.specs.Prelude.{ℕ, Bool, ◌&&◌, List, [], ◌∷◌, ◌++◌, fold, bytes_eq, if◌then◌else◌}
+use Rattle.std.specs.Cmp.Lexicographic.{pointwise}
+use Rattle.std.specs.List.{list_any}
+use Rattle.ipam_block.specs.declared.allocation.Allocation.{Allocation}
+use Rattle.ipam_block.specs.declared.allocation.Attributes.{Attributes}
+
+-- a key and its value
+abbrev pub Pair : Type 0
+Pair = List ℕ × List ℕ
+
+abbrev pub is_same_pair : Pair → Pair → Bool
+is_same_pair p q = bytes_eq p.0 q.0 && bytes_eq p.1 q.1
+
+-- the same handle and the same pairs
+abbrev pub are_same : Attributes → Attributes → Bool
+are_same a b = bytes_eq a.handle b.handle && pointwise is_same_pair a.secondary b.secondary
+
+-- the attributes, and those of one more allocation, unless they are there
+abbrev pub with_those_of : List Attributes → Allocation → List Attributes
+with_those_of found a =
+    if list_any (are_same a.attributes) found then found else found ++ a.attributes ∷ []
+
+-- the attributes in use, each once, by the first allocation that has them
+abbrev pub distinct_attributes : List Allocation → List Attributes
+distinct_attributes allocations = fold with_those_of [] allocations

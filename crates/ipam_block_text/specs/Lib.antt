@@ -1,0 +1,6 @@
+-- The text of a block, as contracts see it.
+pub mod Attributes
+pub mod Limits
+pub mod Parts
+pub mod Body
+pub mod Reading

@@ -1,0 +1,197 @@
+-- Reading the text of a block.
+use Rattle.std.specs.Prelude.{ℕ, ◌+◌, ◌^◌, ◌&&◌, ◌==◌, Bool, false, nat_lt, nat_le, nat_eq, List, [], ◌∷◌, length, drop, Option, Some, None, option_map, option_and_then, unwrap_or, is_some, Result, Ok, Err, codes, decimal, bytes_eq, slice_get, if◌then◌else◌}
+use Rattle.std.specs.List.{list_all, starts_with}
+use Rattle.std.specs.Str.Parse.{digits_value}
+use Rattle.serde_json.specs.Data.{Data, null, boolean, number, string, array, object}
+use Rattle.serde_json.specs.Find.{get, as_str, as_u64}
+use Rattle.serde_json.specs.Read.{read}
+use Rattle.serde_json.specs.Written.{compact_text}
+use Rattle.ipam_addr.specs.Shape.{Range}
+use Rattle.ipam_addr.specs.Text.{range_of}
+use Rattle.ipam_addr.specs.Width.{range_size}
+use Rattle.ipam_addr.specs.Word.{is_name_text, is_handle_text}
+use Rattle.ipam_addr.specs.declared.range.AddrFault.{AddrFault}
+use Rattle.ipam_block.specs.Content.{Content}
+use Rattle.ipam_block.specs.Test.{is_block, content_of}
+use Rattle.ipam_block.specs.declared.allocation.Allocation.{Allocation}
+use Rattle.ipam_block.specs.declared.allocation.Attributes.{Attributes}
+use Rattle.ipam_json.specs.Path.{as_whole, is_index}
+use Rattle.ipam_json.specs.Built.{Field, items_in, members_in}
+use Rattle.ipam_block_text.specs.declared.parts.Parts.{Parts}
+use Rattle.ipam_block_text.specs.declared.fault.BodyFault.{BodyFault}
+use Rattle.ipam_block_text.specs.declared.fault.BodyFault.TheVariants.{Form, Unsound}
+use Rattle.ipam_block_text.specs.Attributes.{Pair}
+use Rattle.ipam_block_text.specs.Limits.{are_pairs}
+use Rattle.ipam_block_text.specs.Body.{parts_data, block_body}
+
+-- what is read of each, where all can be read
+abbrev pub each : {A B : Type 0} → (A → Option B) → List A → Option (List B)
+each f [] = Some []
+each f (x ∷ xs) = option_and_then (λ y. option_map (λ ys. y ∷ ys) (each f xs)) (f x)
+
+abbrev pub only_if : {A : Type 0} → (A → Bool) → A → Option A
+only_if test x = if test x then Some x else None
+
+abbrev pub text_at : List ℕ → Data → Option (List ℕ)
+text_at name d = option_and_then as_str (get name d)
+
+abbrev pub items_at : List ℕ → Data → Option (List Data)
+items_at name d = option_and_then items_in (get name d)
+
+abbrev pub members_at : List ℕ → Data → Option (List Field)
+members_at name d = option_and_then members_in (get name d)
+
+-- ---- the members
+
+-- what stands behind `host:`
+unfoldable pub after_host : List ℕ → Option (List ℕ)
+after_host text = if starts_with nat_eq text (codes "host:") then Some (drop 5 text) else None
+
+abbrev pub node_named : List ℕ → Option (Option (List ℕ))
+node_named text = option_map Some (option_and_then (only_if is_name_text) (after_host text))
+
+abbrev pub affinity_in : Data → Option (Option (List ℕ))
+affinity_in null = Some None
+affinity_in (boolean b) = None
+affinity_in (number n) = None
+affinity_in (string s) = node_named s
+affinity_in (array ds) = None
+affinity_in (object ms) = None
+
+abbrev pub place_in : Data → Option (Option ℕ)
+place_in null = Some None
+place_in (boolean b) = None
+place_in (number n) = option_map Some (as_u64 n)
+place_in (string s) = None
+place_in (array ds) = None
+place_in (object ms) = None
+
+abbrev pub pair_in : Field → Option Pair
+pair_in m = option_map (λ value. (m.0, value)) (as_str m.1)
+
+unfoldable pub secondary_in : Data → Option (List Pair)
+secondary_in d =
+    option_and_then (only_if are_pairs)
+    (option_and_then (each pair_in) (members_at (codes "secondary") d))
+
+unfoldable pub handle_in : Data → Option (List ℕ)
+handle_in d = option_and_then (only_if is_handle_text) (text_at (codes "handle_id") d)
+
+unfoldable pub attributes_in : Data → Option Attributes
+attributes_in d =
+    option_and_then
+    (λ handle. option_map (λ pairs. record { handle = handle; secondary = pairs }) (secondary_in d))
+    (handle_in d)
+
+abbrev pub small_range : Result Range AddrFault → Option Range
+small_range (Ok r) = if nat_le (range_size r) 4096 then Some r else None
+small_range (Err fault) = None
+
+unfoldable pub range_in : Data → Option Range
+range_in d = option_and_then (λ text. small_range (range_of text)) (text_at (codes "cidr") d)
+
+unfoldable pub node_in : Data → Option (Option (List ℕ))
+node_in d = option_and_then affinity_in (get (codes "affinity") d)
+
+unfoldable pub places_in : Data → Option (List (Option ℕ))
+places_in d = option_and_then (each place_in) (items_at (codes "allocations") d)
+
+unfoldable pub all_attributes_in : Data → Option (List Attributes)
+all_attributes_in d = option_and_then (each attributes_in) (items_at (codes "attributes") d)
+
+unfoldable pub sequence_in : Data → Option ℕ
+sequence_in d =
+    option_and_then (only_if (λ n. nat_lt n (2 ^ 64)))
+    (option_and_then as_whole (get (codes "sequenceNumber") d))
+
+unfoldable pub queue_in : Data → Option (List ℕ)
+queue_in d = option_and_then (each as_whole) (items_at (codes "unallocated") d)
+
+-- the parts that the value says
+unfoldable pub parts_in : Data → Option Parts
+parts_in d =
+    option_and_then (λ node.
+    option_and_then (λ places.
+    option_and_then (λ attributes.
+    option_and_then (λ cidr.
+    option_and_then (λ sequence.
+    option_map (λ queue. record {
+      node = node;
+      places = places;
+      attributes = attributes;
+      cidr = cidr;
+      sequence = sequence;
+      queue = queue;
+    })
+    (queue_in d)) (sequence_in d)) (range_in d)) (all_attributes_in d)) (places_in d)) (node_in d)
+
+-- a decimal number below 2^64, in its one spelling
+unfoldable pub is_number_name : List ℕ → Bool
+is_number_name name = is_index name && nat_lt (digits_value 10 name) (2 ^ 64)
+
+abbrev pub is_stamp : Field → Bool
+is_stamp m = is_number_name m.0 && is_some (as_whole m.1)
+
+-- an object of whole numbers whose names are decimal numbers
+abbrev pub are_stamps : Data → Bool
+are_stamps d = unwrap_or (option_map (list_all is_stamp) (members_in d)) false
+
+unfoldable pub stamps_in : Data → Option Data
+stamps_in d =
+    option_and_then (only_if are_stamps) (get (codes "sequenceNumberForAllocation") d)
+
+-- ---- the form
+
+-- the parts and the stamps that the text says, where it is the text of some
+unfoldable pub block_form : List ℕ → Option (Parts × Data)
+block_form body =
+    option_and_then (λ d.
+    option_and_then (λ parts.
+    option_and_then (λ stamps. only_if (λ f. bytes_eq (compact_text (parts_data f.0 f.1)) body) (parts, stamps))
+    (stamps_in d)) (parts_in d)) (read body)
+
+-- ---- the block
+
+abbrev pub stamp_of : Data → ℕ → Option ℕ
+stamp_of stamps o = option_and_then as_whole (get (decimal o) stamps)
+
+-- the allocation of an ordinal, with the attributes at an index
+abbrev pub allocation_at : List Attributes → Data → ℕ → ℕ → Option Allocation
+allocation_at attributes stamps o index =
+    option_and_then
+    (λ own. option_map (λ stamp. record { ordinal = o; attributes = own; stamp = stamp }) (stamp_of stamps o))
+    (slice_get attributes index)
+
+-- what is held from an ordinal on
+abbrev pub held_from : List Attributes → Data → ℕ → List (Option ℕ) → Option (List Allocation)
+held_from attributes stamps o [] = Some []
+held_from attributes stamps o (None ∷ places) = held_from attributes stamps (o + 1) places
+held_from attributes stamps o (Some index ∷ places) =
+    option_and_then
+    (λ a. option_map (λ more. a ∷ more) (held_from attributes stamps (o + 1) places))
+    (allocation_at attributes stamps o index)
+
+abbrev pub are_ordinals : List ℕ → Bool
+are_ordinals queue = list_all (λ o. nat_lt o (2 ^ 16)) queue
+
+-- the block with these parts and stamps
+unfoldable pub block_in : Parts → Data → Option Content
+block_in p stamps =
+    if (length p.places == range_size p.cidr) && are_ordinals p.queue then
+    option_and_then (only_if is_block)
+    (option_map (λ held. content_of p.cidr p.node held p.queue p.sequence)
+    (held_from p.attributes stamps 0 p.places))
+    else None
+
+-- a block that was found is the text's, if the text is its text
+abbrev pub checked : List ℕ → Option Content → Result Content BodyFault
+checked body None = Err Unsound
+checked body (Some b) = if bytes_eq (block_body b) body then Ok b else Err Unsound
+
+abbrev pub reading_from : List ℕ → Option (Parts × Data) → Result Content BodyFault
+reading_from body None = Err Form
+reading_from body (Some f) = checked body (block_in f.0 f.1)
+
+-- the block whose text this is, or else the first fault
+unfoldable pub block_reading : List ℕ → Result Content BodyFault
+block_reading body = reading_from body (block_form body)

@@ -1,0 +1,11 @@
+/// Why a text is not that of a block.
+#[derive(Clone, Copy, Debug, PartialEq, Eq)]
+pub enum BodyFault {
+    /// It is not canonical JSON with exactly the members of a block, or a text or a number in it is
+    /// out of its limits.
+    Form,
+    /// Its members do not make a block, or not in the one way in which a block is written.
+    Unsound,
+    /// There was no memory.
+    Memory,
+}

@@ -1,0 +1,23 @@
+//! Laws of the texts of blocks. Each function does nothing: its contract is the law.
+ghost use Rattle.std.specs.Prelude.{◌≡◌, ℕ, List, Ok};
+ghost use Rattle.ipam_block.specs.Content.{Content};
+ghost use Rattle.ipam_block_text.specs.Body.{block_body};
+ghost use Rattle.ipam_block_text.specs.Limits.{IsSoundBlock};
+ghost use Rattle.ipam_block_text.specs.Reading.{block_reading};
+
+/// What is read is the text of a sound block, and the block is that one.
+pub fn what_is_read_is_the_text_of_a_sound_block()
+    ensures text { (body : List ℕ) (b : Content) → block_reading body ≡ Ok b → body ≡ block_body b }
+    ensures sound { (body : List ℕ) (b : Content) → block_reading body ≡ Ok b → IsSoundBlock b }
+{}
+
+/// Each sound block is read from its text.
+pub fn each_sound_block_is_read_from_its_text()
+    ensures { (b : Content) → IsSoundBlock b → block_reading (block_body b) ≡ Ok b }
+{}
+
+/// No two sound blocks have one text.
+pub fn each_sound_block_has_a_text_of_its_own()
+    ensures { (b c : Content) → IsSoundBlock b → IsSoundBlock c → block_body b ≡ block_body c
+        → b ≡ c }
+{}

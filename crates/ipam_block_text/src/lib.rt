@@ -1,0 +1,17 @@
+//! The one text of a block's record, which is canonical JSON.
+#![tactic(auto)]
+
+mod fault;
+mod form;
+mod held;
+pub mod laws;
+mod parts;
+mod print;
+mod reading;
+
+pub use fault::BodyFault;
+pub use print::block_text;
+pub use reading::block_of;
+
+#[cfg(test)]
+mod tests;
