@@ -1,0 +1,150 @@
+-- A cluster: the datastore, and the requests that run in its slots.
+use Rattle.std.specs.Prelude.{ℕ, ◌+◌, Bool, ◌==◌, List, length, Option, Some, None, if◌then◌else◌}
+use Rattle.ipam_records.specs.declared.record.Record.{Record}
+use Rattle.ipam_records.specs.declared.call.Call.{Call}
+use Rattle.ipam_records.specs.declared.call.Call.TheVariants as call
+use Rattle.ipam_records.specs.declared.call.Write.{Write}
+use Rattle.ipam_records.specs.declared.call.Write.TheVariants.{Put, Remove}
+use Rattle.ipam_records.specs.Datastore.{Datastore, reply_of, written}
+use Rattle.ipam_records.specs.Key.{key_of}
+use Rattle.ipam_records.specs.Said.{Said, Found, Missing, Listed, Can, Exists, Conflict, Full, Spent}
+use Rattle.ipam_records.specs.Word.{Word, Ends, Asks, Waits, ended, fed}
+use Rattle.ipam_model.specs.declared.answer.Answer.{Answer}
+use Rattle.ipam_model.specs.declared.answer.Answer.TheVariants.{Fault}
+use Rattle.ipam_model.specs.declared.entry.CallName.{CallName}
+use Rattle.ipam_model.specs.declared.entry.CallName.TheVariants as name
+use Rattle.ipam_model.specs.declared.entry.Called.{Called}
+use Rattle.ipam_model.specs.declared.entry.Entry.{Entry}
+use Rattle.ipam_model.specs.declared.entry.Entry.TheVariants as entry
+use Rattle.ipam_model.specs.declared.entry.Fate.{Fate}
+use Rattle.ipam_model.specs.declared.entry.Fate.TheVariants.{Well, Before, After}
+use Rattle.ipam_model.specs.declared.entry.Told.{Told}
+use Rattle.ipam_model.specs.declared.entry.Told.TheVariants as told
+use Rattle.ipam_model.specs.declared.request.Request.{Request}
+use Rattle.ipam_model.specs.Requests.{word_of}
+
+-- a request, and what is left of it
+pub record Running : Type 0 where
+  pub request : Request
+  pub word : Word Answer
+
+-- the datastore, how many entries there were, and what runs in each slot
+pub record Cluster : Type 0 where
+  pub store : Datastore
+  pub entries : ℕ
+  pub slots : ℕ → Option Running
+
+abbrev pub Slots : Type 0
+Slots = ℕ → Option Running
+
+abbrev pub with_slot : ℕ → Option Running → Slots → Slots
+with_slot slot running slots = λ other. if other == slot then running else slots other
+
+-- ---- the entry of a call
+
+abbrev pub name_of : Call → CallName
+name_of (call.Get key) = name.Get key
+name_of (call.List kind) = name.List kind
+name_of (call.Create new) = name.Create (key_of new)
+name_of (call.Update new revision) = name.Update (key_of new) revision
+name_of (call.Delete key revision) = name.Delete key revision
+
+abbrev pub told_of : Said → Told
+told_of (Found revision found) = told.Found revision
+told_of Missing = told.Missing
+told_of (Listed rows) = told.Listed (length rows)
+told_of (Can revision) = told.Done revision
+told_of (Exists revision) = told.Exists revision
+told_of (Conflict revision) = told.Conflict revision
+told_of Full = told.Full
+told_of Spent = told.Spent
+
+-- the record that a call writes
+abbrev pub new_record : Call → Option Record
+new_record (call.Get key) = None
+new_record (call.List kind) = None
+new_record (call.Create new) = Some new
+new_record (call.Update new revision) = Some new
+new_record (call.Delete key revision) = None
+
+-- the record that was written, where the write was granted
+abbrev pub record_written : Call → Said → Option Record
+record_written asked (Can revision) = new_record asked
+record_written asked _ = None
+
+-- By its fate a call is done and answered, fails before it is done, or fails after. A request whose
+-- call fails is answered so.
+abbrev pub called : (slot : ℕ) → Fate → Call → Said → Option Answer → Called
+called slot Well asked reply answer = record {
+  slot = slot; call = name_of asked; fate = Well; reply = told_of reply;
+  written = record_written asked reply; answer = answer;
+}
+called slot After asked reply answer = record {
+  slot = slot; call = name_of asked; fate = After; reply = told_of reply;
+  written = record_written asked reply; answer = Some Fault;
+}
+called slot Before asked reply answer = record {
+  slot = slot; call = name_of asked; fate = Before; reply = told.Nothing;
+  written = None; answer = Some Fault;
+}
+
+-- the entry of the call that the word asks for, at this store and moment
+abbrev pub call_entry : (slot : ℕ) → Fate → Datastore → (moment : ℕ) → Word Answer → Option Called
+call_entry slot fate store moment (Ends answer) = None
+call_entry slot fate store moment (Asks label asked next) =
+    let reply = reply_of store asked in
+    Some (called slot fate asked reply (ended (next moment reply)))
+call_entry slot fate store moment (Waits next) = None
+
+-- ---- what an entry makes of the cluster
+
+-- the write that an entry tells of
+abbrev pub write_told : CallName → Told → Option Record → Option Write
+write_told (name.Create key) (told.Done revision) (Some new) = Some (Put revision new)
+write_told (name.Update key old) (told.Done revision) (Some new) = Some (Put revision new)
+write_told (name.Delete key old) (told.Done revision) new = Some (Remove revision key)
+write_told _ _ _ = None
+
+abbrev pub store_with : Option Write → Datastore → Datastore
+store_with None store = store
+store_with (Some write) store = written store write
+
+abbrev pub store_after : Called → Datastore → Datastore
+store_after c store = store_with (write_told c.call c.reply c.written) store
+
+-- what is left of the word once its call is answered
+abbrev pub answered : Datastore → (moment : ℕ) → Word Answer → Word Answer
+answered store moment (Ends answer) = Ends answer
+answered store moment (Asks label asked next) = next moment (reply_of store asked)
+answered store moment (Waits next) = Waits next
+
+-- an answer leaves the slot idle
+abbrev pub goes_on : Datastore → (moment : ℕ) → Option Answer → Option Running → Option Running
+goes_on store moment (Some answer) running = None
+goes_on store moment None None = None
+goes_on store moment None (Some running) =
+    Some (record running { word = answered store moment running.word })
+
+abbrev pub begun : Request → Option Running
+begun request = Some (record { request = request; word = word_of request })
+
+abbrev pub fed_with : List (List ℕ) → Option Running → Option Running
+fed_with live None = None
+fed_with live (Some running) = Some (record running { word = fed running.word live })
+
+abbrev pub in_slot : (slot : ℕ) → Option Running → Cluster → Cluster
+in_slot slot running cluster = record {
+  store = cluster.store;
+  entries = cluster.entries + 1;
+  slots = with_slot slot running cluster.slots;
+}
+
+unfoldable pub after : Cluster → Entry → Cluster
+after cluster (entry.Began slot request) = in_slot slot (begun request) cluster
+after cluster (entry.Fed slot at live) = in_slot slot (fed_with live (cluster.slots slot)) cluster
+after cluster (entry.Stopped slot) = in_slot slot None cluster
+after cluster (entry.Called c) = record {
+  store = store_after c cluster.store;
+  entries = cluster.entries + 1;
+  slots = with_slot c.slot (goes_on cluster.store cluster.entries c.answer (cluster.slots c.slot)) cluster.slots;
+}

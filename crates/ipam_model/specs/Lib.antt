@@ -1,0 +1,20 @@
+-- What is true of the allocator.
+pub mod Selector
+pub mod Usable
+pub mod Reads
+pub mod Choice
+pub mod Step
+pub mod Counting
+pub mod Affinities
+pub mod Assigning
+pub mod Add
+pub mod AddThis
+pub mod Owners
+pub mod Remove
+pub mod Look
+pub mod Admin
+pub mod Requests
+pub mod SoundRequest
+pub mod Cluster
+pub mod Course
+pub mod History

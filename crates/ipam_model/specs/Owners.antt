@@ -1,0 +1,47 @@
+-- Who owns which address.
+use Rattle.std.specs.Prelude.{ℕ, Bool, true, false, not, ◌&&◌, ◌==◌, List, [], Option, Some, None, map, bytes_eq, option_map, unwrap_or}
+use Rattle.std.specs.List.{list_any, find, filter, flat_map}
+use Rattle.ipam_addr.specs.Shape.{Address, Range}
+use Rattle.ipam_addr.specs.Holding.{is_same_family}
+use Rattle.ipam_block.specs.declared.allocation.Allocation.{Allocation}
+use Rattle.ipam_block.specs.Content as block
+use Rattle.ipam_block.specs.Operations.{address_of}
+use Rattle.ipam_records.specs.declared.record.Record.{Record}
+use Rattle.ipam_records.specs.declared.record.Record.TheVariants as record_of
+use Rattle.ipam_records.specs.Datastore.{Datastore}
+use Rattle.ipam_model.specs.Reads.{Row}
+
+-- an address that is recorded to a handle, with the stamp of its assignment
+pub record Owner : Type 0 where
+  pub address : Address
+  pub handle : List ℕ
+  pub stamp : ℕ
+
+abbrev pub owner_of : Range → Allocation → Owner
+owner_of cidr a = record {
+  address = address_of cidr a.ordinal;
+  handle = a.attributes.handle;
+  stamp = a.stamp;
+}
+
+abbrev pub owners_in_row : Row → List Owner
+owners_in_row (revision, record_of.Block b) = map (owner_of b.cidr) b.allocations
+owners_in_row _ = []
+
+-- the owners that the blocks among the rows record
+abbrev pub owners_in : List Row → List Owner
+owners_in rows = flat_map owners_in_row rows
+
+-- all owners, by family and address
+abbrev pub owners : Datastore → List Owner
+owners store = owners_in store.rows
+
+abbrev pub same_address : Address → Address → Bool
+same_address a b = is_same_family a.family b.family && (a.number == b.number)
+
+abbrev pub same_owner : Owner → Owner → Bool
+same_owner o p =
+    same_address o.address p.address && bytes_eq o.handle p.handle && (o.stamp == p.stamp)
+
+abbrev pub is_owner_in : List Row → Owner → Bool
+is_owner_in rows owner = list_any (same_owner owner) (owners_in rows)

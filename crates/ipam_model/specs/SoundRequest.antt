@@ -1,0 +1,91 @@
+-- Which requests are sound: those that can be read from some text.
+use Rattle.std.specs.Prelude.{◌≡◌, ℕ, ◌^◌, ◌<◌, ◌≤◌, ◌⊎◌, Bool, true, ◌||◌, ◌==◌, IsTrue, List, length, map, Option, Some, None, Ok}
+use Rattle.std.specs.List.{All, list_all}
+use Rattle.std.specs.Char.{is_ascii_alphanumeric}
+use Rattle.std.specs.Ordering.{nat_cmp}
+use Rattle.std.specs.Cmp.Lexicographic.{slice_cmp}
+use Rattle.std.specs.List.Sorted.{IsStrictlySortedBy}
+use Rattle.ipam_addr.specs.Shape.{Range}
+use Rattle.ipam_addr.specs.Text.{range_of}
+use Rattle.ipam_addr.specs.Width.{IsAddress, IsRange}
+use Rattle.ipam_pool.specs.declared.pools.Pool.{Pool}
+use Rattle.ipam_records.specs.Sound.{IsName, IsHandleId, AreAttributes, IsReservation}
+use Rattle.ipam_model.specs.declared.request.AddRequest.{AddRequest}
+use Rattle.ipam_model.specs.declared.request.Admin.{Admin}
+use Rattle.ipam_model.specs.declared.request.Admin.TheVariants as change
+use Rattle.ipam_model.specs.declared.request.CollectRequest.{CollectRequest}
+use Rattle.ipam_model.specs.declared.request.ProbeRequest.{ProbeRequest}
+use Rattle.ipam_model.specs.declared.request.Request.{Request}
+use Rattle.ipam_model.specs.declared.request.Request.TheVariants.{Add, AddThis, Del, Check, Release, Collect, Admin as Change, Probe}
+use Rattle.ipam_model.specs.Selector.{Label}
+
+-- a letter, a digit, `_`, `.`, `-` or `/`
+abbrev pub is_label_byte : ℕ → Bool
+is_label_byte c = is_ascii_alphanumeric c || c == 95 || c == 46 || c == 45 || c == 47
+
+pub record IsLabel (label : Label) : Type 0 where
+  pub key_some : 0 < length label.0
+  pub key_small : length label.0 ≤ 317
+  pub key_bytes : IsTrue (list_all is_label_byte label.0)
+  pub value_small : length label.1 ≤ 253
+
+-- at most 64 labels whose keys ascend by their bytes
+pub record AreLabels (labels : List Label) : Type 0 where
+  pub few : length labels ≤ 64
+  pub each : All IsLabel labels
+  pub ascending : IsStrictlySortedBy (slice_cmp nat_cmp) (map (λ label. label.0) labels)
+
+-- a pool is named by its name or by the text of its CIDR
+abbrev pub IsPoolName : List ℕ → Type 0
+IsPoolName text = IsName text ⊎ ((cidr : Range) × (range_of text ≡ Ok cidr))
+
+pub record ArePoolNames (names : List (List ℕ)) : Type 0 where
+  pub few : length names ≤ 64
+  pub each : All IsPoolName names
+
+pub record IsSoundAdd (request : AddRequest) : Type 0 where
+  pub node : IsName request.node
+  pub attributes : AreAttributes request.attributes
+  pub labels : AreLabels request.labels
+  pub pools4 : ArePoolNames request.pools4
+  pub pools6 : ArePoolNames request.pools6
+
+pub record IsSoundProbe (request : ProbeRequest) : Type 0 where
+  pub node : IsName request.node
+  pub labels : AreLabels request.labels
+  pub pools4 : ArePoolNames request.pools4
+  pub pools6 : ArePoolNames request.pools6
+  pub some_family : IsTrue (request.ipv4 || request.ipv6)
+
+abbrev pub IsScope : Option (List ℕ × List ℕ) → Type 0
+IsScope None = Unit {0}
+IsScope (Some scope) = IsName scope.0 × IsName scope.1
+
+pub record IsSoundCollect (request : CollectRequest) : Type 0 where
+  pub live : All IsHandleId request.live
+  pub at : request.at < 2 ^ 64
+  pub grace : request.grace < 2 ^ 64
+  pub scope : IsScope request.scope
+
+-- whether the size is one of the family's is tested against the table
+pub record IsSoundPool (pool : Pool) : Type 0 where
+  pub name : IsName pool.name
+  pub cidr : IsRange pool.cidr
+  pub size : pool.size < 2 ^ 8
+
+abbrev pub IsSoundChange : Admin → Type 0
+IsSoundChange (change.Pool pool) = IsSoundPool pool
+IsSoundChange (change.Disable name disabled) = IsName name
+IsSoundChange (change.Reserve reservation) = IsReservation reservation
+IsSoundChange (change.Unreserve name) = IsName name
+IsSoundChange (change.Config config) = config.max_blocks < 2 ^ 32
+
+abbrev pub IsSoundRequest : Request → Type 0
+IsSoundRequest (Add request) = IsSoundAdd request × IsTrue (request.ipv4 || request.ipv6)
+IsSoundRequest (AddThis request address) = IsSoundAdd request × IsAddress address
+IsSoundRequest (Del id) = IsHandleId id
+IsSoundRequest (Check id addresses) = IsHandleId id × (length addresses ≤ 64) × All IsAddress addresses
+IsSoundRequest (Release node cidr) = IsName node × IsRange cidr
+IsSoundRequest (Collect request) = IsSoundCollect request
+IsSoundRequest (Change request) = IsSoundChange request
+IsSoundRequest (Probe request) = IsSoundProbe request

@@ -1,0 +1,94 @@
+-- Which pools a request may take addresses from.
+use Rattle.std.specs.Prelude.{ℕ, Bool, true, false, not, ◌&&◌, ◌||◌, List, [], ◌∷◌, Option, Some, None, Result, Ok, Err, bytes_eq, position, is_none, option_map}
+use Rattle.std.specs.List.{list_any, find}
+use Rattle.std.specs.BTreeMap.{is_at}
+use Rattle.ipam_addr.specs.declared.address.Family.{Family}
+use Rattle.ipam_addr.specs.declared.address.Family.TheVariants.{V4, V6}
+use Rattle.ipam_addr.specs.declared.range.AddrFault.{AddrFault}
+use Rattle.ipam_addr.specs.Shape.{Address, Range}
+use Rattle.ipam_addr.specs.Holding.{is_same_family, holds_address}
+use Rattle.ipam_addr.specs.Text.{range_of}
+use Rattle.ipam_handle.specs.Order.{range_cmp}
+use Rattle.ipam_pool.specs.declared.pools.Pool.{Pool}
+use Rattle.ipam_model.specs.Selector.{Label, Selector, All, admits}
+
+-- how a pool gives its addresses: to whoever asks, or only where it is named
+pub data Mode : Type 0 where
+  Automatic : Mode
+  Manual : Mode
+
+-- a pool with its mode and its selector
+pub record RuledPool : Type 0 where
+  pub pool : Pool
+  pub mode : Mode
+  pub selector : Selector
+
+-- The record of a pool does not have a mode and a selector yet, so each pool is for all.
+abbrev pub for_all : Pool → RuledPool
+for_all pool = record { pool = pool; mode = Automatic; selector = All }
+
+-- what a request says about one family: the node that it is for with its labels, the pools that it
+-- names, and whether it asks for one address
+pub record Asked : Type 0 where
+  pub node : List ℕ
+  pub family : Family
+  pub names : List (List ℕ)
+  pub labels : List Label
+  pub one_address : Bool
+
+abbrev pub same_range : Range → Range → Bool
+same_range r s = is_at (range_cmp r) s
+
+-- whether the text is a CIDR, in whichever spelling, and the pool's
+abbrev pub is_range_read : Range → Result Range AddrFault → Bool
+is_range_read cidr (Ok read) = same_range cidr read
+is_range_read cidr (Err fault) = false
+
+-- whether the name is the pool's, or the text of its CIDR
+abbrev pub is_name_of : Pool → List ℕ → Bool
+is_name_of pool name = bytes_eq pool.name name || is_range_read pool.cidr (range_of name)
+
+abbrev pub is_named : Asked → Pool → Bool
+is_named asked pool = list_any (is_name_of pool) asked.names
+
+-- whether the request names no pool of the family
+abbrev pub names_none : Asked → Bool
+names_none asked = no_names asked.names
+  where
+    no_names : List (List ℕ) → Bool
+    no_names [] = true
+    no_names (name ∷ names) = false
+
+abbrev pub is_automatic : Mode → Bool
+is_automatic Automatic = true
+is_automatic Manual = false
+
+-- whether the pool is enabled and of the family
+abbrev pub is_enabled : Asked → Pool → Bool
+is_enabled asked pool = not pool.disabled && is_same_family asked.family pool.cidr.family
+
+-- Whether the request may take addresses from the pool: it is enabled, of the family, admits the
+-- node, is named where any is, and a manual one is named or asked for an address of its own.
+abbrev pub is_usable : Asked → RuledPool → Bool
+is_usable asked ruled =
+    is_enabled asked ruled.pool && admits ruled.selector asked.labels
+    && (names_none asked || is_named asked ruled.pool)
+    && (is_automatic ruled.mode || is_named asked ruled.pool || asked.one_address)
+
+-- whether some enabled pool of the family has the name
+abbrev pub is_known : Asked → List RuledPool → List ℕ → Bool
+is_known asked pools name =
+    list_any (λ ruled. is_enabled asked ruled.pool && is_name_of ruled.pool name) pools
+
+-- the place of the first name that no enabled pool of the family has
+abbrev pub unknown_name : Asked → List RuledPool → Option ℕ
+unknown_name asked pools = position (λ name. not (is_known asked pools name)) asked.names
+
+-- the usable pool that holds the address
+abbrev pub usable_pool_of : Asked → Address → List RuledPool → Option RuledPool
+usable_pool_of asked address =
+    find (λ ruled. is_usable asked ruled && holds_address ruled.pool.cidr address)
+
+-- the pool that holds the address, usable or not
+abbrev pub pool_of : Address → List Pool → Option Pool
+pool_of address = find (λ pool. holds_address pool.cidr address)

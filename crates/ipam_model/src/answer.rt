@@ -1,0 +1,95 @@
+use ipam_addr::{Addr, Cidr, Family};
+use ipam_text::{Seq, Text};
+
+/// An address that was given, with the moments of the calls that it rests on: the reads of the
+/// configuration (c), the pools (p) and the reservations (r), the lists of affinities (f) and
+/// blocks (b), and the write of the block (w).
+#[derive(Clone, Copy, Debug, PartialEq, Eq)]
+pub struct Given {
+    pub address: Addr,
+    pub c: u64,
+    pub p: u64,
+    pub r: u64,
+    pub f: u64,
+    pub b: u64,
+    pub w: u64,
+}
+
+/// An address that was asked for and given, with the moments of the reads of the configuration
+/// (c), the pools (p) and the block (b), and of the write of the block (w).
+#[derive(Clone, Copy, Debug, PartialEq, Eq)]
+pub struct GivenThis {
+    pub address: Addr,
+    pub c: u64,
+    pub p: u64,
+    pub b: u64,
+    pub w: u64,
+}
+
+/// What was looked at for a family, with the moments of the five reads.
+#[derive(Clone, Copy, Debug, PartialEq, Eq)]
+pub struct Scan {
+    pub family: Family,
+    pub c: u64,
+    pub p: u64,
+    pub r: u64,
+    pub f: u64,
+    pub b: u64,
+}
+
+/// An address that was held by a handle that is not live.
+#[derive(Debug, Drop)]
+pub struct Item {
+    pub address: Addr,
+    pub handle: Text,
+    pub stamp: u64,
+    /// Whether the collection freed it itself.
+    pub freed: bool,
+}
+
+/// What a collection found, with the moments of its two lists of blocks.
+#[derive(Debug, Drop)]
+pub struct Collected {
+    pub b1: u64,
+    pub b2: u64,
+    pub items: Seq<Item>,
+}
+
+/// What a request is answered. A bare number is the moment of the read that decided it, where
+/// nothing else is said.
+#[derive(Debug, Drop)]
+pub enum Answer {
+    Added(Seq<Given>),
+    AddedThis(GivenThis),
+    /// No candidate was left for this family.
+    Exhausted(Scan),
+    /// This name matches no enabled pool of its family.
+    NoPool(Text, u64),
+    NotInPool(u64),
+    /// The handle that holds the address.
+    Taken(Text, u64),
+    /// The block of another node, or of none.
+    NotAffine(Cidr, u64),
+    Deleted(u64),
+    Checked,
+    NotRecorded(Addr, u64),
+    Released,
+    NoAffinity(u64),
+    Collected(Collected),
+    /// The revision of the write.
+    Done(u64),
+    /// The number of the refusal, and the name that it is about.
+    Refused(u8, Text),
+    /// The lost races and the confirmed claims, of which one has reached 64.
+    Again(u32, u32),
+    /// There is no room for one more record.
+    Full,
+    /// The handle's count of the block is at its limit.
+    CountFull(u64),
+    /// There are no more revisions.
+    Spent,
+    /// A call failed.
+    Fault,
+    /// An address could be given in each wanted family.
+    Ready(Seq<Scan>),
+}

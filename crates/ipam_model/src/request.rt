@@ -1,0 +1,77 @@
+use ipam_addr::{Addr, Cidr};
+use ipam_block::Attributes;
+use ipam_pool::Pool;
+use ipam_records::Config;
+use ipam_reserve::Reservation;
+use ipam_text::{Seq, Text};
+
+/// An address for each family that is wanted, or one address that is asked for.
+#[derive(Debug, Drop)]
+pub struct AddRequest {
+    pub node: Text,
+    /// What the address is recorded with, the handle among it.
+    pub attributes: Attributes,
+    pub ipv4: bool,
+    pub ipv6: bool,
+    /// The labels of the node, the keys ascending by their bytes and distinct.
+    pub labels: Seq<(Text, Text)>,
+    /// The IPv4 pools that are named, by their names or CIDRs. None means any.
+    pub pools4: Seq<Text>,
+    /// The IPv6 pools that are named, likewise.
+    pub pools6: Seq<Text>,
+}
+
+/// Whether an address of each family could be given.
+#[derive(Debug, Drop)]
+pub struct ProbeRequest {
+    pub node: Text,
+    pub labels: Seq<(Text, Text)>,
+    pub ipv4: bool,
+    pub ipv6: bool,
+    pub pools4: Seq<Text>,
+    pub pools6: Seq<Text>,
+}
+
+/// A collection of the addresses whose handles are live in neither of two lists.
+#[derive(Debug, Drop)]
+pub struct CollectRequest {
+    /// The first list of live handles.
+    pub live: Seq<Text>,
+    /// When the first list was made, in seconds by the caller's clock.
+    pub at: u64,
+    /// How many seconds later the second list must be made at the least.
+    pub grace: u64,
+    /// The network and the node whose addresses alone are collected.
+    pub scope: Option<(Text, Text)>,
+}
+
+/// A change of the pools, the reservations or the configuration.
+#[derive(Debug, Drop)]
+pub enum Admin {
+    /// Appends a pool, or sets the rest of the one of this name, CIDR and size.
+    Pool(Pool),
+    /// Disables the pool of this name, or enables it.
+    Disable(Text, bool),
+    /// Appends a reservation, or replaces the one of this name.
+    Reserve(Reservation),
+    /// Removes the reservation of this name.
+    Unreserve(Text),
+    Config(Config),
+}
+
+/// What the allocator is asked.
+#[derive(Debug, Drop)]
+pub enum Request {
+    Add(AddRequest),
+    /// The address that is wanted and no other. The flags of the families are not read.
+    AddThis(AddRequest, Addr),
+    /// Frees all that the handle of this id holds.
+    Del(Text),
+    /// Whether the handle holds each of these addresses.
+    Check(Text, Seq<Addr>),
+    /// Takes the affinity of the block from the node.
+    Release(Text, Cidr),
+    Collect(CollectRequest),
+    Admin(Admin),
+    Probe(ProbeRequest),
+}
