@@ -140,14 +140,17 @@ rank_of asked seen cidr = rank_at asked seen cidr (block_at seen cidr)
 
 -- ---- the choice as a relation
 
--- the slot of this number of the pool at this place is a candidate of this rank
-pub record IsCandidate (asked : Asked) (seen : Seen) (rank : Rank) (place number : ℕ) (slot : Range) : Type 0 where
+-- the slot of this number of the pool at this place among the pools is a candidate of this rank
+pub record IsCandidateOf (asked : Asked) (seen : Seen) (pools : List RuledPool) (rank : Rank) (place number : ℕ) (slot : Range) : Type 0 where
   pub ruled : RuledPool
-  pub at_place : slice_get seen.pools place ≡ Some ruled
+  pub at_place : slice_get pools place ≡ Some ruled
   pub usable : IsTrue (is_usable asked ruled)
   pub within : number ≤ last_slot_of ruled.pool.cidr ruled.pool.size
   pub is_slot : slot ≡ slot_of ruled.pool.cidr ruled.pool.size number
   pub ranked : rank_of asked seen slot ≡ Some rank
+
+abbrev pub IsCandidate : Asked → Seen → Rank → (place number : ℕ) → Range → Type 0
+IsCandidate asked seen = IsCandidateOf asked seen seen.pools
 
 -- by rank, then by the place of the pool, then by the number of the slot
 pub data IsNotBehind (rank : Rank) (place number : ℕ) (other : Rank) (other_place other_number : ℕ) : Type 0 where

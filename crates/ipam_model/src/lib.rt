@@ -6,6 +6,7 @@
 mod answer;
 mod choice;
 mod entry;
+pub mod laws;
 mod outcome;
 mod request;
 

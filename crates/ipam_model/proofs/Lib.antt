@@ -1,0 +1,2 @@
+-- Lemmas on the definitions.
+pub mod ChoiceLemmas
