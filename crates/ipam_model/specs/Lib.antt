@@ -18,3 +18,13 @@ pub mod SoundRequest
 pub mod Cluster
 pub mod Course
 pub mod History
+pub mod Moments
+pub mod OwnerLaw
+pub mod Rounds
+pub mod AddLaw
+pub mod Tries
+pub mod OtherLaws
+pub mod AnswerLaw
+pub mod CountLaw
+pub mod AffinityLaw
+pub mod BoundLaw
