@@ -25,3 +25,5 @@ pub use texts::{from_text, to_text};
 
 #[cfg(test)]
 mod tests;
+#[cfg(test)]
+mod text_tests;
