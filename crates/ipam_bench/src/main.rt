@@ -3,6 +3,7 @@
 #![tactic(auto)]
 
 mod addresses;
+mod blocks;
 mod draws;
 mod slots;
 
@@ -51,6 +52,7 @@ fn measure(rt: &HostRuntime, word: &str, count: u32) -> io::Result<bool> {
         "read-addresses" => read_addresses(rt, count)?,
         "push-addresses" => push_addresses(rt, count)?,
         "narrow-slots" => next_slots(rt, count, 122)?,
+        "block-texts" => blocks::read_and_print(rt, count)?,
         "wide-slots" => next_slots(rt, count, 64)?,
         _ => return Ok(false),
     }

@@ -1,6 +1,6 @@
 -- The value of a sound block is canonical, and its parts are read from it.
 use Rattle.std.proofs.Common.{◌≡◌, ◌∙◌, ℕ, suc, ◌^◌, ◌<◌, Bool, true, ◌&&◌, List, [], ◌∷◌, ◌++◌, length, get_or, map, Option, Some, None, Less, Equal, Greater, Ordering, nat_cmp, cond, refl, sym, ap, subst, arith, decimal, append-nil, append_assoc}
-use Rattle.std.specs.Prelude.{option_and_then, All, fold, nat_le, codes}
+use Rattle.std.specs.Prelude.{option_and_then, All, fold, nat_le, codes, unwrap_or}
 use Rattle.std.specs.List.{list_all, AllByRecursion}
 use Rattle.std.specs.Ordering.{is_lt}
 use Rattle.std.specs.Cmp.Lexicographic.{slice_cmp}
@@ -139,6 +139,6 @@ pub affinity_canonical : (node : Option (List ℕ)) → IsCanonicalWithin 3 (aff
 affinity_canonical None = IsCanonicalWithin-null 3
 affinity_canonical (Some n) = IsCanonicalWithin-string 3 (codes "host:" ++ n)
 
-pub place_canonical : (p : Option ℕ) → ((i : ℕ) → p ≡ Some i → i < 2 ^ 64) → IsCanonicalWithin 2 (place_data p)
+pub place_canonical : (p : Option ℕ) → unwrap_or p 0 < 2 ^ 64 → IsCanonicalWithin 2 (place_data p)
 place_canonical None h = IsCanonicalWithin-null 2
-place_canonical (Some i) h = IsCanonicalWithin-number 2 i (h i refl)
+place_canonical (Some i) h = IsCanonicalWithin-number 2 i h

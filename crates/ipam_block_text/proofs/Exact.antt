@@ -1,6 +1,6 @@
 -- Each sound block is read from its text.
-use Rattle.std.proofs.Common.{◌≡◌, ◌∙◌, ℕ, suc, ◌+◌, ◌^◌, ◌<◌, ◌≤◌, Bool, true, false, ◌&&◌, List, [], ◌∷◌, ◌++◌, length, get_or, map, Option, Some, None, option_map, Result, Ok, Err, Ordering, Less, Equal, Greater, nat_cmp, cond, refl, sym, ap, arith, decimal, eq-eqb, length-append}
-use Rattle.std.specs.Prelude.{option_and_then, All, fold, position, nat_lt, codes, is_some, bytes_eq}
+use Rattle.std.proofs.Common.{◌≡◌, ◌≢◌, ◌∙◌, ℕ, suc, ◌+◌, ◌^◌, ◌<◌, ◌≤◌, Bool, true, false, ◌&&◌, List, [], ◌∷◌, ◌++◌, length, get_or, map, Option, Some, None, option_map, Result, Ok, Err, Ordering, Less, Equal, Greater, nat_cmp, cond, refl, sym, ap, subst, arith, decimal, eq-eqb, length-append}
+use Rattle.std.specs.Prelude.{option_and_then, unwrap_or, All, fold, position, nat_lt, codes, is_some, bytes_eq}
 use Rattle.std.specs.List.{list_all, list_any, position_or_len, AllByRecursion}
 use Rattle.std.specs.Ordering.{match_ordering}
 use Rattle.std.specs.Str.Parse.{digits_value}
@@ -21,6 +21,7 @@ use Rattle.ipam_json.specs.Path.{as_whole, is_index}
 use Rattle.ipam_json.proofs.Constructors.{IsCanonicalWithin-more, IsCanonicalWithin-number, IsCanonicalWithin-string, IsCanonicalWithin-array, IsCanonicalWithin-object, item_list-items_of}
 use Rattle.ipam_json.proofs.PathLaws.{index_of-decimal}
 use Rattle.ipam_json.proofs.ReadsBack.{read-compact_text}
+use Rattle.ipam_addr.specs.Shape.{Range}
 use Rattle.ipam_addr.specs.Width.{range_size, IsRange}
 use Rattle.ipam_addr.specs.Word.{is_name_text}
 use Rattle.ipam_addr.specs.Text.{range_text}
@@ -38,9 +39,10 @@ use Rattle.ipam_block_text.specs.declared.fault.BodyFault.{BodyFault}
 use Rattle.ipam_block_text.specs.declared.fault.BodyFault.TheVariants.{Unsound}
 use Rattle.ipam_block_text.specs.Attributes.{are_same, with_those_of, distinct_attributes}
 use Rattle.ipam_block_text.specs.Limits.{is_node, are_attributes, IsSoundBlock}
+use Rattle.ipam_block_text.specs.Form.{AreParts, AreStamps}
 use Rattle.ipam_block_text.specs.Parts.{place_of, block_parts}
 use Rattle.ipam_block_text.specs.Body.{whole_data, affinity_data, place_data, attributes_data, range_data, with_stamp, stamps_data, parts_data, block_data, block_body}
-use Rattle.ipam_block_text.specs.Reading.{each, only_if, after_host, affinity_in, node_in, places_in, place_in, all_attributes_in, attributes_in, range_in, small_range, sequence_in, queue_in, parts_in, is_number_name, is_stamp, are_stamps, stamps_in, block_form, held_from, are_ordinals, block_in, checked, reading_from, block_reading}
+use Rattle.ipam_block_text.specs.Reading.{each, only_if, after_host, affinity_in, node_in, places_in, place_in, all_attributes_in, attributes_in, range_in, small_range, sequence_in, queue_in, parts_in, is_number_name, is_stamp, are_stamps, stamps_in, block_form, cidr_said, held_from, are_ordinals, block_in, checked, reading_from, block_reading}
 use Rattle.ipam_block_text.proofs.Options.{and_then_some}
 use Rattle.ipam_block_text.proofs.Canonical.{each-same, attributes_read, place_read, stamps_canonical, attributes_canonical, map_canonical, affinity_canonical, place_canonical}
 use Rattle.ipam_block_text.proofs.ReadBack.{all_known, few_in_use, held_back}
@@ -138,15 +140,11 @@ stamps_fold (x ∷ xs) ms small h =
     stamps_fold xs (with_stamp ms x) (λ i d within. small (suc i) d (omega arith))
     (stamps_put (decimal x.ordinal) (whole_data x.stamp) ms (and_from _ _ (number_named x.ordinal (small 0 x (omega arith))) refl) h)
 
-stamps_read : (p : Parts) (xs : List Allocation) → All (λ a. a.ordinal < 2 ^ 64) xs → stamps_in (parts_data p (stamps_data xs)) ≡ Some (stamps_data xs)
+stamps_read : (p : Parts) (stamps : Data) → are_stamps stamps ≡ true → stamps_in (parts_data p stamps) ≡ Some stamps
 unfolding stamps_in parts_data
-stamps_read p xs small = passes are_stamps (stamps_data xs) (stamps_fold xs no_members small refl)
+stamps_read p stamps h = passes are_stamps stamps h
 
 -- ---- the value is canonical
-
-both_maps : {A B C : Type 0} (P : C → Type 0) (f : B → C) (g : A → B) → ((x : A) → P (f (g x))) → (xs : List A) → AllByRecursion P (map f (map g xs))
-both_maps P f g h [] = tt
-both_maps P f g h (x ∷ xs) = (h x, both_maps P f g h xs)
 
 index_below : (all : List Attributes) (b : Content) (o i : ℕ) → place_of all b o ≡ Some i → i < length all
 unfolding place_of
@@ -164,60 +162,52 @@ few_indexes b h =
     let small = h.small in
     omega arith
 
-places_canonical : (b : Content) → IsBlock b → IsCanonicalWithin 3 (array_of (map place_data (block_parts b).places))
-places_canonical b h =
-    let all = distinct_attributes b.allocations in
-    let few = few_indexes b h in
+places_canonical : (p : Parts) → AreParts p → IsCanonicalWithin 3 (array_of (map place_data p.places))
+places_canonical p h =
     IsCanonicalWithin-array 2 3 _ (omega arith)
-    (both_maps (IsCanonicalWithin 2) place_data (place_of all b)
-    (λ o. place_canonical (place_of all b o) (λ i e. let below = index_below all b o i e in omega arith))
-    (ordinals_below (range_size b.cidr)))
+    (map_canonical 2 place_data p.places (λ i d within. place_canonical (get_or p.places i d) (h.places i d within)))
 
-queue_canonical : (b : Content) → IsBlock b → IsCanonicalWithin 3 (array_of (map whole_data b.queue))
-queue_canonical b h =
-    let small = h.small in
+queue_canonical : (p : Parts) → AreParts p → IsCanonicalWithin 3 (array_of (map whole_data p.queue))
+queue_canonical p h =
     IsCanonicalWithin-array 2 3 _ (omega arith)
-    (map_canonical 2 whole_data b.queue (λ i d within. let below = queued_below b h i d within in IsCanonicalWithin-number 2 (get_or b.queue i d) (omega arith)))
+    (map_canonical 2 whole_data p.queue (λ i d within. IsCanonicalWithin-number 2 (get_or p.queue i d) (h.queue i d within)))
 
 all_canonical : (all : List Attributes) → IsCanonicalWithin 3 (array_of (map attributes_data all))
 all_canonical all = IsCanonicalWithin-array 2 3 _ (omega arith) (map_canonical 2 attributes_data all (λ i d within. attributes_canonical (get_or all i d)))
 
-block_canonical : (b : Content) → IsSoundBlock b → IsCanonical (block_data b)
+parts_canonical : (p : Parts) (stamps : Data) → AreParts p → AreStamps stamps → IsCanonical (parts_data p stamps)
 unfolding parts_data
-block_canonical b h =
-    let block = h.block in
-    let sequence = h.sequence in
-    let stamps = stamps_canonical b.allocations (λ i d within. let stamped = block.stamped i d within in omega (arith, stamped.1)) in
+parts_canonical p stamps h named =
     let fields : List Field =
-    (codes "affinity", affinity_data b.node)
-    ∷ (codes "allocations", array_of (map place_data (block_parts b).places))
-    ∷ (codes "attributes", array_of (map attributes_data (distinct_attributes b.allocations)))
-    ∷ (codes "cidr", range_data b.cidr)
-    ∷ (codes "sequenceNumber", whole_data b.sequence)
-    ∷ (codes "sequenceNumberForAllocation", stamps_data b.allocations)
-    ∷ (codes "unallocated", array_of (map whole_data b.queue))
+    (codes "affinity", affinity_data p.node)
+    ∷ (codes "allocations", array_of (map place_data p.places))
+    ∷ (codes "attributes", array_of (map attributes_data p.attributes))
+    ∷ (codes "cidr", range_data p.cidr)
+    ∷ (codes "sequenceNumber", whole_data p.sequence)
+    ∷ (codes "sequenceNumberForAllocation", stamps)
+    ∷ (codes "unallocated", array_of (map whole_data p.queue))
     ∷ [] in
     let whole = IsCanonicalWithin-object 3 4 fields (omega arith)
     (refl, (refl, (refl, (refl, (refl, (refl, tt)))))) (
-      affinity_canonical b.node,
+      affinity_canonical p.node,
       (
-        places_canonical b block,
+        places_canonical p h,
         (
-          all_canonical (distinct_attributes b.allocations),
+          all_canonical p.attributes,
           (
-            IsCanonicalWithin-string 3 (range_text b.cidr),
+            IsCanonicalWithin-string 3 (range_text p.cidr),
             (
-              IsCanonicalWithin-number 3 b.sequence sequence,
+              IsCanonicalWithin-number 3 p.sequence h.sequence,
               (
-                IsCanonicalWithin-more 1 3 (stamps_data b.allocations) (omega arith) stamps,
-                (queue_canonical b block, tt),
+                IsCanonicalWithin-more 1 3 stamps (omega arith) named.numbers,
+                (queue_canonical p h, tt),
               ),
             ),
           ),
         ),
       ),
     ) in
-    IsCanonicalWithin-more 4 127 (block_data b) (omega arith) whole
+    IsCanonicalWithin-more 4 127 (parts_data p stamps) (omega arith) whole
 
 -- ---- the form
 
@@ -229,22 +219,90 @@ in_use_sound found (x ∷ xs) h all = in_use_sound (with_those_of found x) xs (o
     one_more true = h
     one_more false = All-push (λ a. are_attributes a ≡ true) found x.attributes h (all 0 x (omega arith))
 
-form_read : (b : Content) → IsSoundBlock b → block_form (block_body b) ≡ Some (block_parts b, stamps_data b.allocations)
-unfolding block_form block_body
-form_read b h =
+-- a text of parts and stamps within the limits says them
+pub form_back : (p : Parts) (stamps : Data) → AreParts p → AreStamps stamps → block_form (compact_text (parts_data p stamps)) ≡ Some (p, stamps)
+unfolding block_form
+form_back p stamps h named =
+    let body = compact_text (parts_data p stamps) in
+    let is_text : Parts × Data → Bool = λ f. bytes_eq (compact_text (parts_data f.0 f.1)) body in
+    let read_back = read-compact_text (parts_data p stamps) (parts_canonical p stamps h named) in
+    let parts = parts_read p stamps h.node h.attributes h.range h.small h.sequence in
+    ap (option_and_then (λ d. option_and_then (λ q. option_and_then (λ s. only_if is_text (q, s)) (stamps_in d)) (parts_in d))) read_back
+    ∙ ap (option_and_then (λ q. option_and_then (λ s. only_if is_text (q, s)) (stamps_in (parts_data p stamps)))) parts
+    ∙ ap (option_and_then (λ s. only_if is_text (p, s))) (stamps_read p stamps named.names)
+    ∙ passes is_text (p, stamps) ((bytes_eq-Decides body body).1 refl)
+
+small_index : (o : Option ℕ) → ((i : ℕ) → o ≡ Some i → i < 2 ^ 64) → unwrap_or o 0 < 2 ^ 64
+small_index None h = omega arith
+small_index (Some i) h = h i refl
+
+small_places : (b : Content) → IsBlock b → All (λ place. unwrap_or place 0 < 2 ^ 64) (block_parts b).places
+small_places b h i d within =
+    let all = distinct_attributes b.allocations in
+    let few = few_indexes b h in
+    let place = place_of all b in
+    let ordinals = ordinals_below (range_size b.cidr) in
+    let long = length-map ordinals place in
+    let here : get_or (map place ordinals) i d ≡ place (get_or ordinals i 0) = get_or-map place ordinals i 0 d (omega arith) in
+    let P : Option ℕ → Type 0 = λ o. unwrap_or o 0 < 2 ^ 64 in
+    subst P (sym here) (small_index (place (get_or ordinals i 0)) (λ k e. let below = index_below all b (get_or ordinals i 0) k e in omega arith))
+
+are_parts : (b : Content) → IsSoundBlock b → AreParts (block_parts b)
+are_parts b h =
     let block = h.block in
     let small = block.small in
-    let sound = in_use_sound [] b.allocations (λ i d within. absurd (omega arith)) h.attributes in
-    let fits : All (λ a. a.ordinal < 2 ^ 64) b.allocations = λ i d within. let below = held_below b block i d within in omega arith in
-    let body = compact_text (block_data b) in
-    let is_text : Parts × Data → Bool = λ f. bytes_eq (compact_text (parts_data f.0 f.1)) body in
-    let read_back = read-compact_text (block_data b) (block_canonical b h) in
-    let parts = parts_read (block_parts b) (stamps_data b.allocations) h.node sound block.range small h.sequence in
-    let stamps = stamps_read (block_parts b) b.allocations fits in
-    ap (option_and_then (λ d. option_and_then (λ p. option_and_then (λ s. only_if is_text (p, s)) (stamps_in d)) (parts_in d))) read_back
-    ∙ ap (option_and_then (λ p. option_and_then (λ s. only_if is_text (p, s)) (stamps_in (block_data b)))) parts
-    ∙ ap (option_and_then (λ s. only_if is_text (block_parts b, s))) stamps
-    ∙ passes is_text (block_parts b, stamps_data b.allocations) ((bytes_eq-Decides body body).1 refl)
+    record {
+      node = h.node;
+      places = small_places b block;
+      attributes = in_use_sound [] b.allocations (λ i d within. absurd (omega arith)) h.attributes;
+      range = block.range;
+      small = small;
+      sequence = h.sequence;
+      queue = λ i d within. let below = queued_below b block i d within in omega arith;
+    }
+
+are_stamps_of : (b : Content) → IsSoundBlock b → AreStamps (stamps_data b.allocations)
+are_stamps_of b h =
+    let block = h.block in
+    let small = block.small in
+    let sequence = h.sequence in
+    record {
+      numbers = stamps_canonical b.allocations (λ i d within. let stamped = block.stamped i d within in omega (arith, stamped.1));
+      names = stamps_fold b.allocations no_members (λ i d within. let below = held_below b block i d within in omega arith) refl;
+    }
+
+form_read : (b : Content) → IsSoundBlock b → block_form (block_body b) ≡ Some (block_parts b, stamps_data b.allocations)
+unfolding block_body
+form_read b h = form_back (block_parts b) (stamps_data b.allocations) (are_parts b h) (are_stamps_of b h)
+
+-- no parts and stamps within the limits have a text without the form
+pub formless : (body : List ℕ) → block_form body ≡ None → (p : Parts) (stamps : Data) → AreParts p → AreStamps stamps → body ≢ compact_text (parts_data p stamps)
+formless body none p stamps parts named same =
+    let some = ap block_form same ∙ form_back p stamps parts named in
+    absurd cc
+
+fault_same : (e f : BodyFault) → ◌≡◌ {A = Result Content BodyFault} (Err e) (Err f) → e ≡ f
+fault_same e f h = cc
+
+-- what has the form is a block's text, or else unsound and of the CIDR that is said
+checked_fault : (body : List ℕ) (cidr : Range) (o : Option Content) (e : BodyFault) → checked body cidr o ≡ Err e → e ≡ Unsound cidr
+checked_fault body cidr None e h = sym (fault_same (Unsound cidr) e h)
+checked_fault body cidr (Some b) e h = go (bytes_eq (block_body b) body) h
+  where
+    go : (t : Bool) → cond t (Ok b) (Err (Unsound cidr)) ≡ Err e → e ≡ Unsound cidr
+    go true k = absurd cc
+    go false k = sym (fault_same (Unsound cidr) e k)
+
+pub unsound_said : (body : List ℕ) (cidr : Range) → block_reading body ≡ Err (Unsound cidr) → cidr_said body ≡ Some cidr
+unfolding block_reading
+unsound_said body cidr h = go (block_form body) h
+  where
+    same : (r s : Range) → Unsound r ≡ Unsound s → r ≡ s
+    same r s e = cc
+
+    go : (o : Option (Parts × Data)) → reading_from body o ≡ Err (Unsound cidr) → option_map (λ f. f.0.cidr) o ≡ Some cidr
+    go None k = absurd cc
+    go (Some f) k = ap Some (sym (same cidr f.0.cidr (checked_fault body f.0.cidr (block_in f.0 f.1) (Unsound cidr) k)))
 
 -- ---- the block
 
@@ -280,8 +338,8 @@ pub sound_block_read : (b : Content) → IsSoundBlock b → block_reading (block
 unfolding block_reading
 sound_block_read b h =
     let body = block_body b in
-    ap (reading_from body) (form_read b h) ∙ ap (checked body) (block_back b h)
-    ∙ ap (λ t. cond t (Ok b) (Err Unsound)) ((bytes_eq-Decides body body).1 refl)
+    ap (reading_from body) (form_read b h) ∙ ap (checked body b.cidr) (block_back b h)
+    ∙ ap (λ t. cond t (Ok b) (Err (Unsound b.cidr))) ((bytes_eq-Decides body body).1 refl)
 
 -- no two sound blocks have one text
 pub one_text : (b c : Content) → IsSoundBlock b → IsSoundBlock c → block_body b ≡ block_body c → b ≡ c

@@ -8,6 +8,7 @@ use Rattle.serde_json.specs.Data.{Data, null, boolean, number, string, array, ob
 use Rattle.serde_json.specs.Find.{get}
 use Rattle.serde_json.specs.Read.{read}
 use Rattle.serde_json.specs.Written.{compact_text}
+use Rattle.ipam_addr.specs.Shape.{Range}
 use Rattle.ipam_addr.specs.Word.{is_name_text, is_handle_text}
 use Rattle.ipam_json.specs.Path.{as_whole}
 use Rattle.ipam_block.specs.declared.allocation.Allocation.{Allocation}
@@ -158,11 +159,11 @@ form_said body f e =
 ok_same : (x y : Content) → ◌≡◌ {A = Result Content BodyFault} (Ok x) (Ok y) → x ≡ y
 ok_same x y e = cc
 
-checked_ok : (body : List ℕ) (o : Option Content) (b : Content) → checked body o ≡ Ok b → (o ≡ Some b) × (block_body b ≡ body)
-checked_ok body None b e = absurd cc
-checked_ok body (Some c) b e = go (bytes_eq (block_body c) body) refl e
+checked_ok : (body : List ℕ) (cidr : Range) (o : Option Content) (b : Content) → checked body cidr o ≡ Ok b → (o ≡ Some b) × (block_body b ≡ body)
+checked_ok body cidr None b e = absurd cc
+checked_ok body cidr (Some c) b e = go (bytes_eq (block_body c) body) refl e
   where
-    go : (t : Bool) → bytes_eq (block_body c) body ≡ t → cond t (Ok c) (Err Unsound) ≡ Ok b → (Some c ≡ Some b) × (block_body b ≡ body)
+    go : (t : Bool) → bytes_eq (block_body c) body ≡ t → cond t (Ok c) (Err (Unsound cidr)) ≡ Ok b → (Some c ≡ Some b) × (block_body b ≡ body)
     go true is e = (ap Some (ok_same c b e), sym (ap block_body (ok_same c b e)) ∙ (bytes_eq-Decides (block_body c) body).0 is)
     go false is e = absurd cc
 
@@ -174,7 +175,7 @@ block_reading-ok body b e = go (block_form body) refl e
     go : (o : Option (Parts × Data)) → block_form body ≡ o → reading_from body o ≡ Ok b → (body ≡ block_body b) × IsSoundBlock b
     go None is e = absurd cc
     go (Some f) is e =
-        let found = checked_ok body (block_in f.0 f.1) b e in
+        let found = checked_ok body f.0.cidr (block_in f.0 f.1) b e in
         let said = form_said body f is in
         (sym found.1, block_sound said.0 f.0 f.1 b said.1 found.0)
 

@@ -4,3 +4,4 @@ pub mod Limits
 pub mod Parts
 pub mod Body
 pub mod Reading
+pub mod Form

@@ -150,6 +150,10 @@ block_form body =
     option_and_then (λ stamps. only_if (λ f. bytes_eq (compact_text (parts_data f.0 f.1)) body) (parts, stamps))
     (stamps_in d)) (parts_in d)) (read body)
 
+-- the CIDR of the block that the text says, sound or not
+abbrev pub cidr_said : List ℕ → Option Range
+cidr_said body = option_map (λ f. f.0.cidr) (block_form body)
+
 -- ---- the block
 
 abbrev pub stamp_of : Data → ℕ → Option ℕ
@@ -183,14 +187,15 @@ block_in p stamps =
     (held_from p.attributes stamps 0 p.places))
     else None
 
--- a block that was found is the text's, if the text is its text
-abbrev pub checked : List ℕ → Option Content → Result Content BodyFault
-checked body None = Err Unsound
-checked body (Some b) = if bytes_eq (block_body b) body then Ok b else Err Unsound
+-- a block that was found is the text's, if the text is its text; else the text says an unsound
+-- block of the CIDR
+abbrev pub checked : List ℕ → Range → Option Content → Result Content BodyFault
+checked body cidr None = Err (Unsound cidr)
+checked body cidr (Some b) = if bytes_eq (block_body b) body then Ok b else Err (Unsound cidr)
 
 abbrev pub reading_from : List ℕ → Option (Parts × Data) → Result Content BodyFault
 reading_from body None = Err Form
-reading_from body (Some f) = checked body (block_in f.0 f.1)
+reading_from body (Some f) = checked body f.0.cidr (block_in f.0 f.1)
 
 -- the block whose text this is, or else the first fault
 unfoldable pub block_reading : List ℕ → Result Content BodyFault

@@ -1,11 +1,14 @@
-ghost use Rattle.std.specs.Prelude.{◌≡◌, ◌≤◌, Ok, Err, IfOk, IfSome, option_map, bytes_eq, false};
+ghost use Rattle.std.specs.Prelude.{◌≡◌, ◌≢◌, ◌≤◌, Ok, Err, Some, IfOk, IfErr, IfSome, option_map, bytes_eq, false};
+ghost use Rattle.serde_json.specs.Data.{Data};
+ghost use Rattle.ipam_addr.specs.Shape.{Range};
 ghost use Rattle.serde_json.specs.Read.{read};
 ghost use Rattle.serde_json.specs.View.{view};
 ghost use Rattle.serde_json.specs.Written.{compact_text, has_float};
 ghost use Rattle.ipam_addr.specs.Width.{range_size};
 ghost use Rattle.ipam_block_text.specs.Body.{parts_data, block_body};
 ghost use Rattle.ipam_block_text.specs.Limits.{IsSoundBlock};
-ghost use Rattle.ipam_block_text.specs.Reading.{block_form, block_reading};
+ghost use Rattle.ipam_block_text.specs.Form.{AreParts, AreStamps};
+ghost use Rattle.ipam_block_text.specs.Reading.{block_form, block_reading, cidr_said};
 
 use crate::fault::BodyFault;
 use crate::form::{parts_in, stamps_in};
@@ -19,7 +22,7 @@ use std::alloc::{AllocError, Global};
 /// The block whose text this is.
 ///
 /// Fails with `Form` where it is not canonical JSON with the members of a block and within their
-/// limits, and else with `Unsound` where it is not the text of a block.
+/// limits, and else with `Unsound` and the CIDR that it says where it is not the text of a block.
 #[tactic(auto, using(crate::proofs::Sound::text_read, crate::proofs::Sound::block_read), unfolding(crate::specs::Reading::block_reading))]
 pub fn block_of(alloc: Global, body: &str) -> Result<Block, BodyFault>
     ensures text { IfOk result (λ b. body.now ≡ block_body b) }
@@ -27,9 +30,11 @@ pub fn block_of(alloc: Global, body: &str) -> Result<Block, BodyFault>
 
     // Which fault comes.
     ensures read { IfOk result (λ b. block_reading body.now ≡ Ok b) }
-    ensures form { result ≡ Err BodyFault.Form → block_reading body.now ≡ Err BodyFault.Form }
-    ensures unsound { result ≡ Err BodyFault.Unsound
-        → block_reading body.now ≡ Err BodyFault.Unsound }
+    ensures refused { IfErr result (λ e. e ≢ BodyFault.Memory → block_reading body.now ≡ Err e) }
+    ensures form { result ≡ Err BodyFault.Form → (p : Parts) (stamps : Data) → AreParts p
+        → AreStamps stamps → body.now ≢ compact_text (parts_data p stamps) }
+    ensures unsound { (cidr : Range) → result ≡ Err (BodyFault.Unsound cidr)
+        → cidr_said body.now ≡ Some cidr }
 {
     let Ok(form) = form_in(alloc, body) else {
         return Err(BodyFault::Memory);
@@ -37,15 +42,16 @@ pub fn block_of(alloc: Global, body: &str) -> Result<Block, BodyFault>
     let Some((parts, stamps)) = form else {
         return Err(BodyFault::Form);
     };
+    let cidr = parts.cidr;
     let Ok(block) = block_in(alloc, parts, &stamps) else {
         return Err(BodyFault::Memory);
     };
     let Some(block) = block else {
-        return Err(BodyFault::Unsound);
+        return Err(BodyFault::Unsound(cidr));
     };
     match is_text_of(alloc, &block, body) {
         Ok(true) => Ok(block),
-        Ok(false) => Err(BodyFault::Unsound),
+        Ok(false) => Err(BodyFault::Unsound(cidr)),
         Err(_) => Err(BodyFault::Memory),
     }
 }

@@ -25,7 +25,7 @@ fn verdict(alloc: Global, body: &str) -> &'static str {
     match block_of(alloc, body) {
         Ok(_) => "block",
         Err(BodyFault::Form) => "form",
-        Err(BodyFault::Unsound) => "unsound",
+        Err(BodyFault::Unsound(_)) => "unsound",
         Err(BodyFault::Memory) => "memory",
     }
 }

@@ -14,7 +14,7 @@ use Rattle.ipam_block.specs.Operations.{address_of, room}
 use Rattle.ipam_affinity.specs.declared.record.Affinity.{Affinity}
 use Rattle.ipam_affinity.specs.declared.state.State.{State}
 use Rattle.ipam_affinity.specs.declared.state.State.TheVariants.{Pending, Confirmed, PendingDeletion}
-use Rattle.ipam_records.specs.declared.config.Config.{Config}
+use Rattle.ipam_record_text.specs.declared.config.Config.{Config}
 use Rattle.ipam_records.specs.declared.record.Record.{Record}
 use Rattle.ipam_records.specs.declared.record.Record.TheVariants as record_of
 use Rattle.ipam_model.specs.declared.choice.Choice.{Choice}

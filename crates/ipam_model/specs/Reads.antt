@@ -7,7 +7,7 @@ use Rattle.ipam_block.specs.Content as block
 use Rattle.ipam_affinity.specs.declared.record.Affinity.{Affinity}
 use Rattle.ipam_handle.specs.Content as handle
 use Rattle.ipam_handle.specs.Operations.{content}
-use Rattle.ipam_records.specs.declared.config.Config.{Config}
+use Rattle.ipam_record_text.specs.declared.config.Config.{Config}
 use Rattle.ipam_records.specs.declared.record.Record.{Record}
 use Rattle.ipam_records.specs.declared.record.Record.TheVariants as record_of
 use Rattle.ipam_records.specs.Said.{Said, Found, Listed}

@@ -1,4 +1,4 @@
--- Keys, records, the datastore's calls, and the words of procedures.
+-- Keys, records, their texts, the datastore's calls, and the words of procedures.
 pub mod Key
 pub mod KeyOrder
 pub mod KeyOrderLaws
@@ -8,6 +8,8 @@ pub mod Listing
 pub mod Said
 pub mod Datastore
 pub mod Sound
+pub mod Body
+pub mod RecordReading
 pub mod Label
 pub mod Word
 pub mod Bound

@@ -3,21 +3,27 @@
 #![tactic(auto)]
 
 mod call;
-mod config;
+mod fault;
 mod key;
+pub mod laws;
 mod listing;
 mod procedure;
 mod record;
 mod spelling;
+mod texts;
 
 pub use call::{Call, Heard, Reply, Row, Write};
-pub use config::Config;
+pub use fault::TextFault;
+pub use ipam_record_text::Config;
 pub use key::{Key, Kind};
 pub use listing::Listing;
 pub use procedure::Procedure;
 pub use record::Record;
 pub use spelling::{key_of_text, key_text};
 pub use std::alloc::AllocError as Memory;
+pub use texts::{from_text, to_text};
 
 #[cfg(test)]
 mod tests;
+#[cfg(test)]
+mod text_tests;

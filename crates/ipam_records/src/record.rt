@@ -1,11 +1,11 @@
 ghost use Rattle.std.specs.Prelude.{◌≡◌, IfOk};
 
-use crate::config::Config;
 use crate::key::Key;
 use ipam_affinity::Affinity;
 use ipam_block::Block;
 use ipam_handle::Handle;
 use ipam_pool::PoolTable;
+use ipam_record_text::Config;
 use ipam_reserve::Reservation;
 use ipam_text::{Seq, Text};
 use std::alloc::{AllocError, Global};
