@@ -1,13 +1,13 @@
 -- The choice that is computed is the first name that no pool has, or else the first candidate's.
 use Rattle.std.proofs.Common.{◌≡◌, ℕ, zero, suc, ◌+◌, ◌<◌, ◌≤◌, ◌⊎◌, true, false, IsTrue, List, [], ◌∷◌, Option, Some, None, refl, sym, ap, ◌∙◌, subst, inl, inr, arith, eqb-true, ltb-true, ltb-false}
 use Rattle.std.proofs.lemmas.Bool.{cases_Bool}
-use Rattle.std.specs.Prelude.{slice_get, ◌==◌, nat_lt, Bool, MatchOption}
+use Rattle.std.specs.Prelude.{◌==◌, nat_lt, Bool, MatchOption}
 use Rattle.ipam_addr.specs.Shape.{Range}
 use Rattle.ipam_addr.specs.Slots.{last_slot_of, slot_of}
 use Rattle.ipam_model.specs.declared.choice.Choice.{Choice}
-use Rattle.ipam_model.specs.declared.choice.Choice.TheVariants.{Nothing, NoPool}
+use Rattle.ipam_model.specs.declared.choice.Choice.TheVariants.{NoPool}
 use Rattle.ipam_model.specs.Usable.{Asked, RuledPool, is_usable, unknown_name}
-use Rattle.ipam_model.specs.Choice.{Seen, Rank, Own, Unconfirmed, Unclaimed, Foreign, rank_number, rank_of, is_rank, first_from, first_slot_in, first_slot, best_of_ranks, choice_of, choice_unless, chosen, IsCandidateOf, IsCandidate, IsNotBehind, by_rank, by_place, by_number, FirstCandidate, HasNoCandidate, IsBest, IsChoice}
+use Rattle.ipam_model.specs.Choice.{Seen, Rank, Own, Unconfirmed, Unclaimed, Foreign, rank_number, rank_of, is_rank, first_from, first_slot_in, first_slot, best_of_ranks, choice_of, choice_unless, chosen, IsCandidateOf, IsCandidate, IsNotBehind, by_rank, by_place, by_number, FirstCandidate, IsBest, IsChoice}
 
 -- ---- the first number that passes
 
@@ -102,13 +102,23 @@ record IsFirstOf (asked : Asked) (seen : Seen) (pools : List RuledPool) (rank : 
 -- a candidate among more pools
 further : (asked : Asked) (seen : Seen) (head : RuledPool) (pools : List RuledPool) (rank : Rank) (place number : ℕ) (slot : Range) → IsCandidateOf asked seen pools rank place number slot → IsCandidateOf asked seen (head ∷ pools) rank (suc place) number slot
 further asked seen head pools rank place number slot c = record {
-  ruled = c.ruled; at_place = c.at_place; usable = c.usable; within = c.within; is_slot = c.is_slot; ranked = c.ranked;
+  ruled = c.ruled;
+  at_place = c.at_place;
+  usable = c.usable;
+  within = c.within;
+  is_slot = c.is_slot;
+  ranked = c.ranked;
 }
 
 -- and among fewer
 nearer : (asked : Asked) (seen : Seen) (head : RuledPool) (pools : List RuledPool) (rank : Rank) (place number : ℕ) (slot : Range) → IsCandidateOf asked seen (head ∷ pools) rank (suc place) number slot → IsCandidateOf asked seen pools rank place number slot
 nearer asked seen head pools rank place number slot c = record {
-  ruled = c.ruled; at_place = c.at_place; usable = c.usable; within = c.within; is_slot = c.is_slot; ranked = c.ranked;
+  ruled = c.ruled;
+  at_place = c.at_place;
+  usable = c.usable;
+  within = c.within;
+  is_slot = c.is_slot;
+  ranked = c.ranked;
 }
 
 -- a candidate in the first pool passes there
@@ -189,8 +199,8 @@ first_slot-some asked seen rank (head ∷ pools) slot e =
     from (λ f. first_slot-some asked seen rank pools slot f) (is_usable asked head) refl (first_slot_in asked seen rank head.pool) refl e
   where
     from : (first_slot asked seen rank pools ≡ Some slot → IsFirstOf asked seen pools rank slot) → (b : Bool) → is_usable asked head ≡ b → (o : Option ℕ) → first_slot_in asked seen rank head.pool ≡ o
-      → elim b as (λ b. Option Range) [ true ↦ elim o as (λ o. Option Range) [ Some k ↦ Some (slot_of head.pool.cidr head.pool.size k) | None ↦ first_slot asked seen rank pools ] | false ↦ first_slot asked seen rank pools ] ≡ Some slot
-      → IsFirstOf asked seen (head ∷ pools) rank slot
+        → elim b as (λ b. Option Range) [ true ↦ elim o as (λ o. Option Range) [ Some k ↦ Some (slot_of head.pool.cidr head.pool.size k) | None ↦ first_slot asked seen rank pools ] | false ↦ first_slot asked seen rank pools ] ≡ Some slot
+        → IsFirstOf asked seen (head ∷ pools) rank slot
     from rest true usable (Some n) found e =
         let is : slot_of head.pool.cidr head.pool.size n ≡ slot = cc in
         subst (λ (s : Range). IsFirstOf asked seen (head ∷ pools) rank s) is (head_first asked seen head pools rank n usable found)
@@ -206,8 +216,8 @@ first_slot-none asked seen rank (head ∷ pools) e =
     from (λ f. first_slot-none asked seen rank pools f) (is_usable asked head) refl (first_slot_in asked seen rank head.pool) refl e
   where
     from : (first_slot asked seen rank pools ≡ None → (p k : ℕ) (s : Range) → ¬ (IsCandidateOf asked seen pools rank p k s)) → (b : Bool) → is_usable asked head ≡ b → (o : Option ℕ) → first_slot_in asked seen rank head.pool ≡ o
-      → elim b as (λ b. Option Range) [ true ↦ elim o as (λ o. Option Range) [ Some k ↦ Some (slot_of head.pool.cidr head.pool.size k) | None ↦ first_slot asked seen rank pools ] | false ↦ first_slot asked seen rank pools ] ≡ None
-      → (p k : ℕ) (s : Range) → ¬ (IsCandidateOf asked seen (head ∷ pools) rank p k s)
+        → elim b as (λ b. Option Range) [ true ↦ elim o as (λ o. Option Range) [ Some k ↦ Some (slot_of head.pool.cidr head.pool.size k) | None ↦ first_slot asked seen rank pools ] | false ↦ first_slot asked seen rank pools ] ≡ None
+        → (p k : ℕ) (s : Range) → ¬ (IsCandidateOf asked seen (head ∷ pools) rank p k s)
     from rest true usable (Some n) found e = cc
     from rest true usable None found e =
         nowhere asked seen head pools rank (not_ranked asked seen head pools rank found) (rest e)
@@ -223,6 +233,7 @@ best_at asked seen rank slot lower f = inr (first, refl)
     compare_numbers : (r : Rank) (p k : ℕ) → rank ≡ r → (f.place < p) ⊎ ((f.place ≡ p) × (f.number ≤ k)) → IsNotBehind rank f.place f.number r p k
     compare_numbers r p k same (inl before) = by_place same before
     compare_numbers r p k same (inr (place, number)) = by_number same place number
+
     compare : (r : Rank) (p k : ℕ) (s : Range) → IsCandidate asked seen r p k s → IsNotBehind rank f.place f.number r p k
     compare r p k s c = elim (cases_Bool (nat_lt (rank_number r) (rank_number rank))) [
       | inl less ↦ absurd (lower r (ltb-true _ _ less) p k s c)
@@ -233,6 +244,7 @@ best_at asked seen rank slot lower f = inr (first, refl)
             compare_numbers r p k same (f.first p k s (subst (λ (x : Rank). IsCandidate asked seen x p k s) (sym same) c))
       ]
     ]
+
     first : FirstCandidate asked seen
     first = record { rank = rank; place = f.place; number = f.number; slot = slot; candidate = f.candidate; first = compare }
 
@@ -311,14 +323,14 @@ not_behind_both r p k r' p' k' (by_number same place less) (by_number same' plac
 firsts_same : (asked : Asked) (seen : Seen) (c d : FirstCandidate asked seen) → chosen seen c.rank c.slot ≡ chosen seen d.rank d.slot
 firsts_same asked seen c d =
     let same = not_behind_both c.rank c.place c.number d.rank d.place d.number
-      (c.first d.rank d.place d.number d.slot d.candidate) (d.first c.rank c.place c.number c.slot c.candidate) in
+    (c.first d.rank d.place d.number d.slot d.candidate) (d.first c.rank c.place c.number c.slot c.candidate) in
     let r = same.rank in
     let p = same.place in
     let k = same.number in
     let there : IsCandidate asked seen d.rank d.place d.number c.slot =
-      subst (λ (n : ℕ). IsCandidate asked seen d.rank d.place n c.slot) k
-      (subst (λ (q : ℕ). IsCandidate asked seen d.rank q c.number c.slot) p
-      (subst (λ (x : Rank). IsCandidate asked seen x c.place c.number c.slot) r c.candidate)) in
+    subst (λ (n : ℕ). IsCandidate asked seen d.rank d.place n c.slot) k
+    (subst (λ (q : ℕ). IsCandidate asked seen d.rank q c.number c.slot) p
+    (subst (λ (x : Rank). IsCandidate asked seen x c.place c.number c.slot) r c.candidate)) in
     let slot = pools_same asked seen d.rank d.place d.number c.slot d.slot there d.candidate in
     λ i. chosen seen (r i) (slot i)
 

@@ -34,14 +34,14 @@ five_reads family follows =
     Asks idle (ListAll kind.Affinity) (λ f affinities.
     Asks idle (ListAll kind.Block) (λ b blocks.
     follows
-      (record { family = family; c = c; p = p; r = r; f = f; b = b })
-      (record {
-        config = config_said config;
-        pools = map for_all (pools_said pools);
-        reservations = reservations_said reservations;
-        affinities = rows_said affinities;
-        blocks = rows_said blocks;
-      }))))))
+    (record { family = family; c = c; p = p; r = r; f = f; b = b })
+    (record {
+      config = config_said config;
+      pools = map for_all (pools_said pools);
+      reservations = reservations_said reservations;
+      affinities = rows_said affinities;
+      blocks = rows_said blocks;
+    }))))))
 
 -- ---- one family
 
@@ -77,7 +77,12 @@ NextRound = (left claims : ℕ) → Word Served
 abbrev pub given_at : Scan → Range → (ordinal moment : ℕ) → Given
 given_at scan cidr ordinal moment = record {
   address = address_of cidr ordinal;
-  c = scan.c; p = scan.p; r = scan.r; f = scan.f; b = scan.b; w = moment;
+  c = scan.c;
+  p = scan.p;
+  r = scan.r;
+  f = scan.f;
+  b = scan.b;
+  w = moment;
 }
 
 abbrev pub after_assign : NextRound → (claims : ℕ) → Scan → Range → (ordinal : ℕ) → Outcome (Option Assigned) → Word Served

@@ -1,5 +1,5 @@
 -- What the answers of an ADD say of the history.
-use Rattle.std.specs.Prelude.{◌≡◌, ◌≢◌, ℕ, ◌+◌, ◌<◌, ◌⊎◌, Bool, true, false, IsTrue, List, [], ◌∷◌, ◌++◌, Option, Some, None, map, IsSome, slice_get}
+use Rattle.std.specs.Prelude.{◌≡◌, ℕ, ◌+◌, ◌<◌, ◌⊎◌, Bool, true, false, IsTrue, List, [], ◌∷◌, Some, None, map, slice_get}
 use Rattle.ipam_addr.specs.declared.address.Family.{Family}
 use Rattle.ipam_addr.specs.declared.address.Family.TheVariants.{V4, V6}
 use Rattle.ipam_addr.specs.Holding.{Holds}
@@ -24,7 +24,7 @@ use Rattle.ipam_model.specs.declared.entry.Entry.TheVariants as entry
 use Rattle.ipam_model.specs.declared.entry.Told.TheVariants as told
 use Rattle.ipam_model.specs.declared.request.AddRequest.{AddRequest}
 use Rattle.ipam_model.specs.Add.{asked_of}
-use Rattle.ipam_model.specs.AddThis.{asked_of_this, slot_holding}
+use Rattle.ipam_model.specs.AddThis.{asked_of_this}
 use Rattle.ipam_model.specs.Assigning.{names_for}
 use Rattle.ipam_model.specs.Choice.{Seen, IsChoice, block_at, is_node, is_nobodys}
 use Rattle.ipam_model.specs.History.{Base, store_at, store_before, InSpan, Heard}
@@ -52,14 +52,21 @@ pub record IsRecordedAt (base : Base) (history : List Entry) (slot moment : ℕ)
   pub with_attributes : allocation.attributes ≡ attributes
   pub with_stamp : allocation.stamp ≡ written.sequence
   pub gains : Gains (store_before base history moment) (store_before base history (moment + 1)) (record {
-    address = address_of read.1.cidr ordinal; handle = attributes.handle; stamp = written.sequence;
+    address = address_of read.1.cidr ordinal;
+    handle = attributes.handle;
+    stamp = written.sequence;
   })
 
 -- ---- Added
 
 abbrev pub scan_of : Family → Given → Scan
 scan_of family given = record {
-  family = family; c = given.c; p = given.p; r = given.r; f = given.f; b = given.b;
+  family = family;
+  c = given.c;
+  p = given.p;
+  r = given.r;
+  f = given.f;
+  b = given.b;
 }
 
 -- the choice on what was read is an ordinal of this block, and it was recorded later
@@ -69,8 +76,8 @@ pub record IsGivenRight (base : Base) (history : List Entry) (slot : ℕ) (reque
   pub cidr : Range
   pub ordinal : ℕ
   pub is_choice :
-    IsChoice (asked_of request family) seen (Use cidr ordinal)
-    ⊎ IsChoice (asked_of request family) seen (Borrow cidr ordinal)
+      IsChoice (asked_of request family) seen (Use cidr ordinal)
+      ⊎ IsChoice (asked_of request family) seen (Borrow cidr ordinal)
   pub is_address : given.address ≡ address_of cidr ordinal
   pub read : ℕ × block.Content
   pub was_listed : block_at seen cidr ≡ Some read

@@ -1,5 +1,5 @@
 -- An ADD of one address.
-use Rattle.std.specs.Prelude.{ℕ, zero, suc, ◌-◌, true, List, Option, Some, None, map, unwrap_or, if◌then◌else◌}
+use Rattle.std.specs.Prelude.{ℕ, zero, suc, ◌-◌, true, Option, Some, None, map, unwrap_or, if◌then◌else◌}
 use Rattle.ipam_addr.specs.Shape.{Address, Range}
 use Rattle.ipam_addr.specs.Slots.{slot_of, slot_number_of}
 use Rattle.ipam_pool.specs.declared.pools.Pool.{Pool}
@@ -50,7 +50,10 @@ pub record Looked : Type 0 where
 abbrev pub this_given : Address → Looked → (moment : ℕ) → GivenThis
 this_given address looked moment = record {
   address = address;
-  c = looked.c; p = looked.p; b = looked.b; w = moment;
+  c = looked.c;
+  p = looked.p;
+  b = looked.b;
+  w = moment;
 }
 
 abbrev pub this_assigned : NextRound → (claims : ℕ) → Address → Looked → Outcome (Option Assigned) → Word AddThisAnswer
@@ -67,9 +70,9 @@ this_claimed next claims (Stops left why) = Ends (this_stop left claims why)
 abbrev pub this_free : NextRound → (left claims : ℕ) → AddRequest → Address → Config → Looked → (cidr : Range) (ordinal : ℕ) → ℕ × block.Content → Word AddThisAnswer
 this_free next left claims request address config looked cidr ordinal found =
     if is_node request.node found.1.node then
-      bound (assign left request.attributes found ordinal) (this_assigned next claims address looked)
+    bound (assign left request.attributes found ordinal) (this_assigned next claims address looked)
     else (if is_nobodys found.1 then
-      bound (claim_for left claims request.node cidr (Some found)) (this_claimed next claims)
+    bound (claim_for left claims request.node cidr (Some found)) (this_claimed next claims)
     else (if config.strict then Ends (add.NotAffine cidr looked.b)
     else bound (assign left request.attributes found ordinal) (this_assigned next claims address looked)))
 
@@ -96,7 +99,7 @@ this_in_pool next left claims request address config c p (Some ruled) =
     let cidr = slot_holding ruled.pool address in
     Asks idle (Get (key.Block cidr)) (λ b said.
     this_block next left claims request address config (record { c = c; p = p; b = b }) cidr
-      (ordinal_of cidr address) (block_said said))
+    (ordinal_of cidr address) (block_said said))
   where
     ordinal_of : Range → Address → ℕ
     ordinal_of cidr address = address.number - cidr.base
@@ -106,7 +109,7 @@ this_round next left claims request address =
     Asks idle (Get key.Config) (λ c config.
     Asks idle (Get key.Pools) (λ p pools.
     this_in_pool next left claims request address (config_said config) c p
-      (usable_pool_of (asked_of_this request address) address (map for_all (pools_said pools)))))
+    (usable_pool_of (asked_of_this request address) address (map for_all (pools_said pools)))))
 
 unfoldable pub this_rounds : (many left claims : ℕ) → AddRequest → Address → Word AddThisAnswer
 this_rounds zero left claims request address = Ends (add.Again (lost_with left) claims)

@@ -1,7 +1,6 @@
 -- Changes of the pools, the reservations and the configuration.
-use Rattle.std.specs.Prelude.{ℕ, zero, suc, Bool, true, false, not, ◌&&◌, ◌==◌, nat_le, List, [], ◌∷◌, ◌++◌, Option, Some, None, length, map, bytes_eq, slice_get, option_map, unwrap_or, if◌then◌else◌}
-use Rattle.std.specs.List.{list_any, filter, find}
-use Rattle.ipam_addr.specs.Shape.{Range}
+use Rattle.std.specs.Prelude.{ℕ, zero, suc, Bool, not, ◌&&◌, ◌==◌, nat_le, List, [], ◌∷◌, ◌++◌, Option, Some, None, length, map, bytes_eq, slice_get, option_map, unwrap_or, if◌then◌else◌}
+use Rattle.std.specs.List.{list_any, filter}
 use Rattle.ipam_pool.specs.declared.pools.Pool.{Pool}
 use Rattle.ipam_pool.specs.declared.pools.PoolRefusal.{PoolRefusal}
 use Rattle.ipam_pool.specs.declared.pools.PoolRefusal.TheVariants.{NameTaken, Overlap, Size, Prefix, TooMany, Memory}

@@ -1,5 +1,5 @@
 -- How a node claims a block, and how its affinity is released.
-use Rattle.std.specs.Prelude.{◌≡◌, ℕ, zero, suc, ◌==◌, Bool, false, List, Option, Some, None, option_map, bytes_eq, if◌then◌else◌}
+use Rattle.std.specs.Prelude.{ℕ, zero, suc, ◌==◌, List, Option, Some, None, option_map, if◌then◌else◌}
 use Rattle.ipam_addr.specs.Shape.{Range}
 use Rattle.ipam_block.specs.Content as block
 use Rattle.ipam_block.specs.Operations.{fresh_block, next_block, affine_to}
@@ -11,7 +11,7 @@ use Rattle.ipam_records.specs.declared.call.Call.{Call}
 use Rattle.ipam_records.specs.declared.call.Call.TheVariants.{Get, Create, Update, Delete}
 use Rattle.ipam_records.specs.declared.record.Record.TheVariants as record_of
 use Rattle.ipam_records.specs.Said.{Said}
-use Rattle.ipam_records.specs.Label.{Label, idle, standing, Point, Claiming, Claimed, Releasing, Released}
+use Rattle.ipam_records.specs.Label.{idle, standing, Claiming, Claimed, Releasing, Released}
 use Rattle.ipam_records.specs.Word.{Word, Ends, Asks}
 use Rattle.ipam_model.specs.declared.outcome.ClaimAnswer.{ClaimAnswer}
 use Rattle.ipam_model.specs.declared.outcome.ClaimAnswer.TheVariants as claimed

@@ -1,10 +1,9 @@
 -- A block and its affinity agree: no block is confirmed to two nodes.
-use Rattle.std.specs.Prelude.{◌≡◌, ◌≢◌, ℕ, ◌≤◌, ◌⊎◌, List, Option, Some, None}
+use Rattle.std.specs.Prelude.{◌≡◌, ◌≢◌, ℕ, ◌⊎◌, List, Option, Some, None}
 use Rattle.ipam_addr.specs.Shape.{Range}
 use Rattle.ipam_block.specs.Content as block
-use Rattle.ipam_affinity.specs.declared.record.Affinity.{Affinity}
 use Rattle.ipam_affinity.specs.declared.state.State.{State}
-use Rattle.ipam_affinity.specs.declared.state.State.TheVariants.{Pending, Confirmed, PendingDeletion}
+use Rattle.ipam_affinity.specs.declared.state.State.TheVariants.{Confirmed, PendingDeletion}
 use Rattle.ipam_records.specs.declared.key.Key.{Key}
 use Rattle.ipam_records.specs.declared.key.Key.TheVariants as key
 use Rattle.ipam_records.specs.declared.record.Record.{Record}
@@ -15,7 +14,7 @@ use Rattle.ipam_records.specs.Sound.{IsDatastore}
 use Rattle.ipam_records.specs.Word.{label_of}
 use Rattle.ipam_model.specs.declared.entry.Entry.{Entry}
 use Rattle.ipam_model.specs.Affinities.{affinity}
-use Rattle.ipam_model.specs.Cluster.{Cluster, Running, Slots}
+use Rattle.ipam_model.specs.Cluster.{Running, Slots}
 use Rattle.ipam_model.specs.History.{Base, Lawful, cluster_at, store_at, store_before}
 use Rattle.ipam_model.specs.Moments.{Has, revision_of}
 
@@ -77,42 +76,42 @@ HasNoOtherNode store cidr node =
 pub record PointsAgree (store : Datastore) (slots : Slots) : Type 0 where
   -- a claimer whose block is as it read it finds its affinity there, and nobody is about to delete it
   pub claiming : (slot : ℕ) (node : List ℕ) (cidr : Range) (read : Option ℕ) (kept : ℕ)
-    → point_of (slots slot) ≡ Claiming node cidr read kept → IsBlockCurrent store cidr read
-    → (revision : ℕ) × IsAffinityCurrent store node cidr revision
+      → point_of (slots slot) ≡ Claiming node cidr read kept → IsBlockCurrent store cidr read
+      → (revision : ℕ) × IsAffinityCurrent store node cidr revision
   pub claiming_apart : (slot other : ℕ) (node : List ℕ) (cidr : Range) (read : Option ℕ) (kept mark : ℕ)
-    → point_of (slots slot) ≡ Claiming node cidr read kept → IsBlockCurrent store cidr read
-    → point_of (slots other) ≡ Released node cidr mark → ¬ (IsAffinityCurrent store node cidr mark)
+      → point_of (slots slot) ≡ Claiming node cidr read kept → IsBlockCurrent store cidr read
+      → point_of (slots other) ≡ Released node cidr mark → ¬ (IsAffinityCurrent store node cidr mark)
   -- a claimer that wrote the block, and whose affinity is as it keeps it, finds its node in the block,
   -- and nobody is about to take it away
   pub claimed : (slot : ℕ) (node : List ℕ) (cidr : Range) (kept : ℕ)
-    → point_of (slots slot) ≡ Claimed node cidr kept → IsAffinityCurrent store node cidr kept
-    → HasNode store cidr node
+      → point_of (slots slot) ≡ Claimed node cidr kept → IsAffinityCurrent store node cidr kept
+      → HasNode store cidr node
   pub claimed_apart : (slot other : ℕ) (node : List ℕ) (cidr : Range) (kept : ℕ) (read : Option ℕ) (mark : ℕ)
-    → point_of (slots slot) ≡ Claimed node cidr kept → IsAffinityCurrent store node cidr kept
-    → point_of (slots other) ≡ Releasing node cidr read mark → ¬ (IsBlockCurrent store cidr read)
+      → point_of (slots slot) ≡ Claimed node cidr kept → IsAffinityCurrent store node cidr kept
+      → point_of (slots other) ≡ Releasing node cidr read mark → ¬ (IsBlockCurrent store cidr read)
   -- a releaser whose block is as it read it finds no confirmed affinity
   pub releasing : (slot : ℕ) (node : List ℕ) (cidr : Range) (read : Option ℕ) (mark : ℕ)
-    → point_of (slots slot) ≡ Releasing node cidr read mark → IsBlockCurrent store cidr read
-    → ¬ (HasAffinity store node cidr Confirmed)
+      → point_of (slots slot) ≡ Releasing node cidr read mark → IsBlockCurrent store cidr read
+      → ¬ (HasAffinity store node cidr Confirmed)
   -- a releaser that wrote the block, and whose mark is current, finds the affinity still to be deleted
   -- and the block without the node
   pub released : (slot : ℕ) (node : List ℕ) (cidr : Range) (mark : ℕ)
-    → point_of (slots slot) ≡ Released node cidr mark → IsAffinityCurrent store node cidr mark
-    → HasAffinity store node cidr PendingDeletion × ¬ (HasNode store cidr node)
+      → point_of (slots slot) ≡ Released node cidr mark → IsAffinityCurrent store node cidr mark
+      → HasAffinity store node cidr PendingDeletion × ¬ (HasNode store cidr node)
   -- a claimer reads only blocks with its node or with none, and keeps no affinity that is to be deleted
   pub claims_own : (slot : ℕ) (node : List ℕ) (cidr : Range) (read : Option ℕ) (kept : ℕ)
-    → point_of (slots slot) ≡ Claiming node cidr read kept → IsBlockCurrent store cidr read
-    → HasNoOtherNode store cidr node
+      → point_of (slots slot) ≡ Claiming node cidr read kept → IsBlockCurrent store cidr read
+      → HasNoOtherNode store cidr node
   pub claims_kept : (slot : ℕ) (node : List ℕ) (cidr : Range) (read : Option ℕ) (kept : ℕ)
-    → point_of (slots slot) ≡ Claiming node cidr read kept → IsAffinityCurrent store node cidr kept
-    → ¬ (HasAffinity store node cidr PendingDeletion)
+      → point_of (slots slot) ≡ Claiming node cidr read kept → IsAffinityCurrent store node cidr kept
+      → ¬ (HasAffinity store node cidr PendingDeletion)
   pub claimed_kept : (slot : ℕ) (node : List ℕ) (cidr : Range) (kept : ℕ)
-    → point_of (slots slot) ≡ Claimed node cidr kept → IsAffinityCurrent store node cidr kept
-    → ¬ (HasAffinity store node cidr PendingDeletion)
+      → point_of (slots slot) ≡ Claimed node cidr kept → IsAffinityCurrent store node cidr kept
+      → ¬ (HasAffinity store node cidr PendingDeletion)
   -- a mark is an affinity that is to be deleted
   pub marks : (slot : ℕ) (node : List ℕ) (cidr : Range) (read : Option ℕ) (mark : ℕ)
-    → point_of (slots slot) ≡ Releasing node cidr read mark → IsAffinityCurrent store node cidr mark
-    → HasAffinity store node cidr PendingDeletion
+      → point_of (slots slot) ≡ Releasing node cidr read mark → IsAffinityCurrent store node cidr mark
+      → HasAffinity store node cidr PendingDeletion
 
 abbrev pub PointsLaw : Type 0
 PointsLaw =

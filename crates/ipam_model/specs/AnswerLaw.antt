@@ -60,12 +60,12 @@ pub record IsAgain (a : Answered) (lost claims : ℕ) : Type 0 where
 -- the block in which an ADD was to assign an address
 pub data IsTarget (a : Answered) (cidr : Range) : Type 0 where
   Chosen : (add : AddRequest) (scan : Scan) (seen : Seen) (ordinal : ℕ) → a.request ≡ Add add
-    → HasScanned a.base (history_of a) a.call.slot scan seen
-    → IsChoice (asked_of add scan.family) seen (Use cidr ordinal) ⊎ IsChoice (asked_of add scan.family) seen (Borrow cidr ordinal)
-    → IsTarget a cidr
+      → HasScanned a.base (history_of a) a.call.slot scan seen
+      → IsChoice (asked_of add scan.family) seen (Use cidr ordinal) ⊎ IsChoice (asked_of add scan.family) seen (Borrow cidr ordinal)
+      → IsTarget a cidr
   AskedFor : (add : AddRequest) (address : Address) (c p b : ℕ) → a.request ≡ AddThis add address
-    → (looked : HasLooked a.base (history_of a) a.call.slot add address c p b) → looked.cidr ≡ cidr
-    → IsTarget a cidr
+      → (looked : HasLooked a.base (history_of a) a.call.slot add address c p b) → looked.cidr ≡ cidr
+      → IsTarget a cidr
 
 abbrev pub IsRight : Answered → Answer → Type 0
 IsRight a (answer.Added given) =

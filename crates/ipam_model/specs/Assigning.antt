@@ -16,7 +16,6 @@ use Rattle.ipam_model.specs.declared.request.AddRequest.{AddRequest}
 use Rattle.ipam_model.specs.Affinities.{BlockRead, claim}
 use Rattle.ipam_model.specs.Counting.{credit_of, raise, lower}
 use Rattle.ipam_model.specs.Step.{most_claims, Outcome, Went, Stops, OutOfTries, OutOfClaims, NoRoom, NoRevisions, after_lost, on_write}
-use Rattle.ipam_model.specs.Usable.{Asked}
 
 -- the pools of the family that the request names
 abbrev pub names_for : Family → AddRequest → List (List ℕ)
@@ -45,8 +44,8 @@ assign_block left attributes (revision, b) ordinal =
     Asks (owing (credit_of attributes.handle b.cidr 1))
     (Update (record_of.Block (assigned (next_block b) ordinal attributes)) revision)
     (λ moment said. on_write said left
-      (λ taken. Ends (Went left (Some (record { moment = moment; stamp = b.sequence + 1 }))))
-      (assign_lost left attributes.handle b.cidr))
+    (λ taken. Ends (Went left (Some (record { moment = moment; stamp = b.sequence + 1 }))))
+    (assign_lost left attributes.handle b.cidr))
 
 abbrev pub assign_raised : Attributes → ℕ × block.Content → (ordinal : ℕ) → Outcome (Unit {0}) → Word (Outcome (Option Assigned))
 assign_raised attributes found ordinal (Went left done) = assign_block left attributes found ordinal

@@ -1,9 +1,9 @@
 -- How many calls a request makes at most.
-use Rattle.std.specs.Prelude.{◌≡◌, ℕ, ◌+◌, ◌*◌, ◌≤◌, List, length, Some}
+use Rattle.std.specs.Prelude.{ℕ, ◌+◌, ◌*◌, List, length}
 use Rattle.ipam_addr.specs.Shape.{Address, Range}
 use Rattle.ipam_records.specs.Bound.{AtMost}
 use Rattle.ipam_records.specs.Said.{Said}
-use Rattle.ipam_records.specs.Word.{Word, heard, fed}
+use Rattle.ipam_records.specs.Word.{heard, fed}
 use Rattle.ipam_model.specs.declared.request.AddRequest.{AddRequest}
 use Rattle.ipam_model.specs.declared.request.Admin.{Admin}
 use Rattle.ipam_model.specs.declared.request.CollectRequest.{CollectRequest}
@@ -29,4 +29,4 @@ abbrev pub CollectBoundLaw : Type 0
 CollectBoundLaw =
     (request : CollectRequest) (b1 b2 : ℕ) (first second : Said) (live : List (List ℕ))
     → AtMost (heard (fed (heard (word_of (Collect request)) b1 first) live) b2 second)
-      (198 + 4 * length (leaks (suspects request (rows_said first)) live (rows_said second)))
+    (198 + 4 * length (leaks (suspects request (rows_said first)) live (rows_said second)))

@@ -1,7 +1,6 @@
 -- Which address an ADD takes, by what it has read.
 use Rattle.std.specs.Prelude.{◌≡◌, ℕ, zero, suc, ◌+◌, ◌<◌, ◌≤◌, ◌⊎◌, Bool, true, false, not, ◌&&◌, ◌||◌, ◌==◌, nat_lt, IsTrue, List, [], ◌∷◌, Option, Some, None, MatchOption, is_some, slice_get, bytes_eq, if◌then◌else◌}
 use Rattle.std.specs.List.{list_any, find, count_by}
-use Rattle.ipam_addr.specs.declared.address.Family.{Family}
 use Rattle.ipam_addr.specs.Shape.{Address, Range}
 use Rattle.ipam_addr.specs.Width.{range_size}
 use Rattle.ipam_addr.specs.Holding.{is_same_family}
@@ -11,11 +10,9 @@ use Rattle.ipam_reserve.specs.Shape.{NamedRanges}
 use Rattle.ipam_reserve.specs.Union.{is_in_union}
 use Rattle.ipam_block.specs.Content as block
 use Rattle.ipam_block.specs.Operations.{address_of, room}
-use Rattle.ipam_affinity.specs.declared.record.Affinity.{Affinity}
 use Rattle.ipam_affinity.specs.declared.state.State.{State}
-use Rattle.ipam_affinity.specs.declared.state.State.TheVariants.{Pending, Confirmed, PendingDeletion}
+use Rattle.ipam_affinity.specs.declared.state.State.TheVariants.{Confirmed}
 use Rattle.ipam_record_text.specs.declared.config.Config.{Config}
-use Rattle.ipam_records.specs.declared.record.Record.{Record}
 use Rattle.ipam_records.specs.declared.record.Record.TheVariants as record_of
 use Rattle.ipam_model.specs.declared.choice.Choice.{Choice}
 use Rattle.ipam_model.specs.declared.choice.Choice.TheVariants.{Use, Claim, Borrow, Nothing, NoPool}
@@ -79,6 +76,7 @@ is_nobodys b = nobody b.node && nothing b.allocations
     nobody : Option (List ℕ) → Bool
     nobody None = true
     nobody (Some node) = false
+
     nothing : {A : Type 0} → List A → Bool
     nothing [] = true
     nothing (x ∷ xs) = false
@@ -126,7 +124,7 @@ abbrev pub rank_of_block : Asked → Seen → block.Content → Option Rank
 rank_of_block asked seen b =
     if not (is_some (room_of seen b)) then None
     else (if is_node asked.node b.node
-      then (if list_any (is_confirmed_for asked.node b.cidr) seen.affinities then Some Own else Some Unconfirmed)
+    then (if list_any (is_confirmed_for asked.node b.cidr) seen.affinities then Some Own else Some Unconfirmed)
     else (if is_nobodys b && may_claim asked seen then Some Unclaimed
     else (if seen.config.strict then None else Some Foreign)))
 

@@ -1,5 +1,5 @@
 -- A cluster: the datastore, and the requests that run in its slots.
-use Rattle.std.specs.Prelude.{ℕ, ◌+◌, Bool, ◌==◌, List, length, Option, Some, None, if◌then◌else◌}
+use Rattle.std.specs.Prelude.{ℕ, ◌+◌, ◌==◌, List, length, Option, Some, None, if◌then◌else◌}
 use Rattle.ipam_records.specs.declared.record.Record.{Record}
 use Rattle.ipam_records.specs.declared.call.Call.{Call}
 use Rattle.ipam_records.specs.declared.call.Call.TheVariants as call
@@ -76,16 +76,28 @@ record_written asked _ = None
 -- call fails is answered so.
 abbrev pub called : (slot : ℕ) → Fate → Call → Said → Option Answer → Called
 called slot Well asked reply answer = record {
-  slot = slot; call = name_of asked; fate = Well; reply = told_of reply;
-  written = record_written asked reply; answer = answer;
+  slot = slot;
+  call = name_of asked;
+  fate = Well;
+  reply = told_of reply;
+  written = record_written asked reply;
+  answer = answer;
 }
 called slot After asked reply answer = record {
-  slot = slot; call = name_of asked; fate = After; reply = told_of reply;
-  written = record_written asked reply; answer = Some Fault;
+  slot = slot;
+  call = name_of asked;
+  fate = After;
+  reply = told_of reply;
+  written = record_written asked reply;
+  answer = Some Fault;
 }
 called slot Before asked reply answer = record {
-  slot = slot; call = name_of asked; fate = Before; reply = told.Nothing;
-  written = None; answer = Some Fault;
+  slot = slot;
+  call = name_of asked;
+  fate = Before;
+  reply = told.Nothing;
+  written = None;
+  answer = Some Fault;
 }
 
 -- the entry of the call that the word asks for, at this store and moment

@@ -1,5 +1,5 @@
 -- A handle's count of a block covers the addresses that it owns there.
-use Rattle.std.specs.Prelude.{ℕ, ◌+◌, ◌≤◌, Bool, ◌&&◌, List, Option, Some, None, bytes_eq, if◌then◌else◌}
+use Rattle.std.specs.Prelude.{ℕ, ◌+◌, ◌≤◌, ◌&&◌, List, Option, Some, None, bytes_eq, if◌then◌else◌}
 use Rattle.std.specs.List.{range_with_len, sum_by, count_by}
 use Rattle.ipam_addr.specs.Shape.{Range}
 use Rattle.ipam_block.specs.Operations.{is_owned}
@@ -11,9 +11,9 @@ use Rattle.ipam_records.specs.Label.{Credit}
 use Rattle.ipam_records.specs.Sound.{IsDatastore}
 use Rattle.ipam_records.specs.Word.{label_of}
 use Rattle.ipam_model.specs.declared.entry.Entry.{Entry}
-use Rattle.ipam_model.specs.Cluster.{Cluster, Running, Slots}
+use Rattle.ipam_model.specs.Cluster.{Running, Slots}
 use Rattle.ipam_model.specs.Course.{slot_count}
-use Rattle.ipam_model.specs.History.{Base, Lawful, cluster_at, store_at, start}
+use Rattle.ipam_model.specs.History.{Base, Lawful, cluster_at, store_at}
 use Rattle.ipam_model.specs.Reads.{Row}
 use Rattle.ipam_model.specs.Usable.{same_range}
 

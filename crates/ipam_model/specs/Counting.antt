@@ -1,6 +1,6 @@
 -- Raising and lowering a handle's count of a block, and freeing what a handle holds in a block.
 use Rattle.std.specs.Prelude.{ℕ, zero, suc, ◌-◌, ◌^◌, Bool, nat_le, List, [], ◌∷◌, Option, Some, None, if◌then◌else◌}
-use Rattle.std.specs.List.{filter, count_by}
+use Rattle.std.specs.List.{count_by}
 use Rattle.ipam_addr.specs.Shape.{Range}
 use Rattle.ipam_block.specs.declared.allocation.Allocation.{Allocation}
 use Rattle.ipam_block.specs.Content as block
@@ -85,8 +85,8 @@ free_these again left id cidr picks zero found = Ends (Went left 0)
 free_these again left id cidr picks (suc more) (revision, b) =
     Asks idle (Update (record_of.Block (freed picks (next_block b))) revision)
     (λ moment reply. on_write reply left
-      (λ taken. bound (lower left (credit_of id cidr (suc more))) (freed_and_lowered (suc more)))
-      again)
+    (λ taken. bound (lower left (credit_of id cidr (suc more))) (freed_and_lowered (suc more)))
+    again)
 
 abbrev pub free_found : (again : Word (Outcome ℕ)) (left : ℕ) (id : List ℕ) (cidr : Range) → (Allocation → Bool) → Option (ℕ × block.Content) → Word (Outcome ℕ)
 free_found again left id cidr picks None = Ends (Went left 0)

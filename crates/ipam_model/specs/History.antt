@@ -1,12 +1,11 @@
 -- Which histories there are: a base, and entries, the newest first.
-use Rattle.std.specs.Prelude.{◌≡◌, ℕ, ◌+◌, ◌-◌, ◌<◌, ◌≤◌, List, [], ◌∷◌, length, drop, Option, Some, None, IsSome, IsTrue, Bool, true, false, if◌then◌else◌, ◌==◌}
+use Rattle.std.specs.Prelude.{◌≡◌, ℕ, ◌+◌, ◌-◌, ◌<◌, ◌≤◌, List, [], ◌∷◌, length, drop, Option, Some, None, IsSome, IsTrue, Bool, false, if◌then◌else◌, ◌==◌}
 use Rattle.std.specs.List.{All}
 use Rattle.ipam_records.specs.declared.call.Call.{Call}
 use Rattle.ipam_records.specs.Datastore.{Datastore, reply_of}
 use Rattle.ipam_records.specs.Said.{Said}
 use Rattle.ipam_records.specs.Sound.{IsHandleId}
-use Rattle.ipam_records.specs.Word.{Word, Ends, Asks, Waits, waits}
-use Rattle.ipam_model.specs.declared.answer.Answer.{Answer}
+use Rattle.ipam_records.specs.Word.{waits}
 use Rattle.ipam_model.specs.declared.entry.Called.{Called}
 use Rattle.ipam_model.specs.declared.entry.Entry.{Entry}
 use Rattle.ipam_model.specs.declared.entry.Entry.TheVariants as entry

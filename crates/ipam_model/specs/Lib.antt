@@ -28,3 +28,6 @@ pub mod AnswerLaw
 pub mod CountLaw
 pub mod AffinityLaw
 pub mod BoundLaw
+pub mod Opened
+pub mod Alone
+pub mod Plain

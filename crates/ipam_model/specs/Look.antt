@@ -1,8 +1,8 @@
 -- The requests that write nothing: CHECK and the probe.
-use Rattle.std.specs.Prelude.{ℕ, ◌-◌, Bool, true, false, List, [], ◌∷◌, ◌++◌, Option, Some, None, bytes_eq}
+use Rattle.std.specs.Prelude.{ℕ, ◌-◌, Bool, true, false, List, [], ◌∷◌, Option, Some, None, bytes_eq}
 use Rattle.ipam_addr.specs.declared.address.Family.{Family}
 use Rattle.ipam_addr.specs.declared.address.Family.TheVariants.{V4, V6}
-use Rattle.ipam_addr.specs.Shape.{Address, Range}
+use Rattle.ipam_addr.specs.Shape.{Address}
 use Rattle.ipam_pool.specs.declared.pools.Pool.{Pool}
 use Rattle.ipam_block.specs.declared.allocation.Allocation.{Allocation}
 use Rattle.ipam_block.specs.Content as block
@@ -59,10 +59,18 @@ check_word id addresses =
 
 abbrev pub asked_of_probe : ProbeRequest → Family → Asked
 asked_of_probe request V4 = record {
-  node = request.node; family = V4; names = request.pools4; labels = request.labels; one_address = false;
+  node = request.node;
+  family = V4;
+  names = request.pools4;
+  labels = request.labels;
+  one_address = false;
 }
 asked_of_probe request V6 = record {
-  node = request.node; family = V6; names = request.pools6; labels = request.labels; one_address = false;
+  node = request.node;
+  family = V6;
+  names = request.pools6;
+  labels = request.labels;
+  one_address = false;
 }
 
 abbrev pub probe_choice : (rest : Word ProbeAnswer) → Asked → Scan → Choice → Word ProbeAnswer

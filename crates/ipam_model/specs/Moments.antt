@@ -1,9 +1,8 @@
 -- What a request saw and did, by moments.
-use Rattle.std.specs.Prelude.{◌≡◌, ◌≢◌, ℕ, ◌+◌, ◌<◌, ◌⊎◌, List, Option, Some, None, Contains, option_map, ◌↔◌}
-use Rattle.ipam_addr.specs.Shape.{Address, Range}
+use Rattle.std.specs.Prelude.{◌≡◌, ◌≢◌, ℕ, ◌+◌, ◌<◌, ◌⊎◌, List, Option, Some, Contains, option_map, ◌↔◌}
+use Rattle.ipam_addr.specs.Shape.{Address}
 use Rattle.ipam_block.specs.declared.allocation.Allocation.{Allocation}
 use Rattle.ipam_block.specs.Content as block
-use Rattle.ipam_records.specs.declared.call.Call.{Call}
 use Rattle.ipam_records.specs.declared.key.Key.{Key}
 use Rattle.ipam_records.specs.declared.record.Record.{Record}
 use Rattle.ipam_records.specs.declared.record.Record.TheVariants as record_of
@@ -11,7 +10,7 @@ use Rattle.ipam_records.specs.Datastore.{Datastore, row_of}
 use Rattle.ipam_model.specs.declared.entry.Entry.{Entry}
 use Rattle.ipam_model.specs.declared.request.Request.{Request}
 use Rattle.ipam_model.specs.Cluster.{Cluster, Running}
-use Rattle.ipam_model.specs.History.{Base, cluster_at, store_before, InSpan}
+use Rattle.ipam_model.specs.History.{Base, store_before, InSpan}
 use Rattle.ipam_model.specs.Owners.{Owner, owner_of, owners}
 
 -- the request that runs in the slot

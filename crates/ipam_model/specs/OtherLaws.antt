@@ -1,12 +1,10 @@
 -- What the answers of the other requests say of the history.
-use Rattle.std.specs.Prelude.{◌≡◌, ◌≢◌, ℕ, ◌+◌, ◌<◌, ◌≤◌, ◌⊎◌, Bool, true, false, IsTrue, List, [], ◌∷◌, ◌++◌, Option, Some, None, map, Contains, AllPairs, IsNone, ◌↔◌, slice_get}
+use Rattle.std.specs.Prelude.{◌≡◌, ◌≢◌, ℕ, ◌<◌, ◌⊎◌, false, IsTrue, List, [], ◌∷◌, ◌++◌, Some, None, map, Contains, AllPairs, ◌↔◌, slice_get}
 use Rattle.std.specs.List.{All}
 use Rattle.ipam_addr.specs.declared.address.Family.{Family}
-use Rattle.ipam_addr.specs.declared.address.Family.TheVariants.{V4, V6}
 use Rattle.ipam_addr.specs.Holding.{Holds}
 use Rattle.ipam_addr.specs.Shape.{Address, Range}
 use Rattle.ipam_block.specs.Content as block
-use Rattle.ipam_block.specs.Operations.{holder}
 use Rattle.ipam_handle.specs.Operations.{count_of}
 use Rattle.ipam_handle.specs.Order.{family_rank}
 use Rattle.ipam_pool.specs.declared.pools.Pool.{Pool}

@@ -1,6 +1,6 @@
 -- In which ways owners may change.
 use Rattle.std.specs.Prelude.{◌≡◌, ℕ, ◌+◌, ◌<◌, ◌≤◌, ◌⊎◌, IsTrue, false, List, ◌∷◌, Some}
-use Rattle.ipam_addr.specs.Shape.{Address, Range}
+use Rattle.ipam_addr.specs.Shape.{Range}
 use Rattle.ipam_addr.specs.Holding.{Holds}
 use Rattle.ipam_block.specs.declared.allocation.Allocation.{Allocation}
 use Rattle.ipam_records.specs.declared.call.Call.TheVariants.{List as ListAll}

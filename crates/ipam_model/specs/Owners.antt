@@ -1,12 +1,10 @@
 -- Who owns which address.
-use Rattle.std.specs.Prelude.{ℕ, Bool, true, false, not, ◌&&◌, ◌==◌, List, [], Option, Some, None, map, bytes_eq, option_map, unwrap_or}
-use Rattle.std.specs.List.{list_any, find, filter, flat_map}
+use Rattle.std.specs.Prelude.{ℕ, Bool, ◌&&◌, ◌==◌, List, [], map, bytes_eq}
+use Rattle.std.specs.List.{list_any, flat_map}
 use Rattle.ipam_addr.specs.Shape.{Address, Range}
 use Rattle.ipam_addr.specs.Holding.{is_same_family}
 use Rattle.ipam_block.specs.declared.allocation.Allocation.{Allocation}
-use Rattle.ipam_block.specs.Content as block
 use Rattle.ipam_block.specs.Operations.{address_of}
-use Rattle.ipam_records.specs.declared.record.Record.{Record}
 use Rattle.ipam_records.specs.declared.record.Record.TheVariants as record_of
 use Rattle.ipam_records.specs.Datastore.{Datastore}
 use Rattle.ipam_model.specs.Reads.{Row}

@@ -1,6 +1,5 @@
 -- What a request reads from a reply.
 use Rattle.std.specs.Prelude.{ℕ, true, false, List, [], Option, Some, None}
-use Rattle.ipam_addr.specs.Shape.{Range}
 use Rattle.ipam_pool.specs.declared.pools.Pool.{Pool}
 use Rattle.ipam_reserve.specs.Shape.{NamedRanges}
 use Rattle.ipam_block.specs.Content as block

@@ -1,9 +1,8 @@
 -- DEL, and the collection of what no live handle owns.
-use Rattle.std.specs.Prelude.{ℕ, ◌-◌, Bool, true, false, not, ◌&&◌, nat_lt, List, [], ◌∷◌, ◌++◌, Option, Some, None, map, bytes_eq, codes, option_map, unwrap_or}
-use Rattle.std.specs.List.{list_any, find, filter, flat_map}
+use Rattle.std.specs.Prelude.{ℕ, ◌-◌, Bool, true, not, ◌&&◌, nat_lt, List, [], ◌∷◌, ◌++◌, Option, Some, None, map, bytes_eq, codes}
+use Rattle.std.specs.List.{list_any, filter, flat_map}
 use Rattle.ipam_addr.specs.Shape.{Range}
 use Rattle.ipam_block.specs.declared.allocation.Allocation.{Allocation}
-use Rattle.ipam_block.specs.Content as block
 use Rattle.ipam_block.specs.Operations.{is_owned, is_stamped}
 use Rattle.ipam_records.specs.declared.key.Key.TheVariants as key
 use Rattle.ipam_records.specs.declared.key.Kind.TheVariants as kind
@@ -21,7 +20,7 @@ use Rattle.ipam_model.specs.Counting.{free}
 use Rattle.ipam_model.specs.Owners.{Owner, owner_of, is_owner_in}
 use Rattle.ipam_model.specs.Reads.{Row, handle_said, rows_said}
 use Rattle.ipam_model.specs.Selector.{has_value}
-use Rattle.ipam_model.specs.Step.{most_lost, all_left, Outcome, Went, Stops, Stop, OutOfTries, OutOfClaims, NoRoom, CountAtLimit, NoRevisions}
+use Rattle.ipam_model.specs.Step.{most_lost, all_left, Outcome, Went, Stops, Stop, OutOfTries}
 
 -- ---- DEL
 

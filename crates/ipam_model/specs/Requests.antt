@@ -1,5 +1,4 @@
 -- The word of each request.
-use Rattle.std.specs.Prelude.{ℕ, List}
 use Rattle.ipam_records.specs.Word.{Word, Ends, bound}
 use Rattle.ipam_model.specs.declared.answer.Answer.{Answer}
 use Rattle.ipam_model.specs.declared.answer.Answer.TheVariants as answer

@@ -1,5 +1,5 @@
 -- Which nodes a pool is for: a test of a node's labels (the `nodeSelector` of an IPPool).
-use Rattle.std.specs.Prelude.{ℕ, Bool, true, false, not, ◌&&◌, ◌||◌, nat_eq, List, [], ◌∷◌, Option, Some, None, bytes_eq, option_map, unwrap_or}
+use Rattle.std.specs.Prelude.{ℕ, Bool, true, false, not, ◌&&◌, ◌||◌, nat_eq, List, [], ◌∷◌, Option, bytes_eq, option_map, unwrap_or}
 use Rattle.std.specs.List.{list_any, find, starts_with, ends_with}
 
 -- a label: a key and its value

@@ -1,9 +1,8 @@
 -- Which pools a request may take addresses from.
-use Rattle.std.specs.Prelude.{ℕ, Bool, true, false, not, ◌&&◌, ◌||◌, List, [], ◌∷◌, Option, Some, None, Result, Ok, Err, bytes_eq, position, is_none, option_map}
+use Rattle.std.specs.Prelude.{ℕ, Bool, true, false, not, ◌&&◌, ◌||◌, List, [], ◌∷◌, Option, Result, Ok, Err, bytes_eq, position}
 use Rattle.std.specs.List.{list_any, find}
 use Rattle.std.specs.BTreeMap.{is_at}
 use Rattle.ipam_addr.specs.declared.address.Family.{Family}
-use Rattle.ipam_addr.specs.declared.address.Family.TheVariants.{V4, V6}
 use Rattle.ipam_addr.specs.declared.range.AddrFault.{AddrFault}
 use Rattle.ipam_addr.specs.Shape.{Address, Range}
 use Rattle.ipam_addr.specs.Holding.{is_same_family, holds_address}

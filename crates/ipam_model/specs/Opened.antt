@@ -1,0 +1,127 @@
+-- Which rows may be opened.
+use Rattle.std.specs.Prelude.{◌≡◌, ◌≢◌, ℕ, ◌<◌, ◌≤◌, ◌⊎◌, List, [], Option, Some, None, Result, Ok, Err, Contains, slice_get, codes, filter, Bool, false}
+use Rattle.std.specs.declared.cmp.Ordering.TheVariants.{Greater}
+use Rattle.std.specs.Ordering.{nat_cmp}
+use Rattle.std.specs.Cmp.Lexicographic.{slice_cmp}
+use Rattle.std.specs.List.{filter_map}
+use Rattle.ipam_addr.specs.Shape.{Range}
+use Rattle.ipam_pool.specs.declared.pools.Pool.{Pool}
+use Rattle.ipam_pool.specs.Slots.{IsSlotOf}
+use Rattle.ipam_affinity.specs.declared.state.State.{State}
+use Rattle.ipam_affinity.specs.declared.state.State.TheVariants.{Confirmed}
+use Rattle.ipam_records.specs.declared.call.Row.{Row as RowText}
+use Rattle.ipam_records.specs.declared.fault.TextFault.{TextFault}
+use Rattle.ipam_records.specs.declared.fault.TextFault.TheVariants as fault
+use Rattle.ipam_records.specs.declared.key.Key.{Key}
+use Rattle.ipam_records.specs.declared.key.Key.TheVariants as key
+use Rattle.ipam_records.specs.declared.key.Kind.TheVariants as kind
+use Rattle.ipam_records.specs.declared.record.Record.{Record}
+use Rattle.ipam_records.specs.declared.record.Record.TheVariants as record_of
+use Rattle.ipam_records.specs.Datastore.{Datastore, most_rows, most_blocks, last_revision, row_of}
+use Rattle.ipam_records.specs.KeyOrder.{is_of_kind}
+use Rattle.ipam_records.specs.KeyText.{key_bytes, key_read}
+use Rattle.ipam_records.specs.RecordReading.{record_reading}
+use Rattle.ipam_records.specs.Sound.{IsDatastore}
+use Rattle.ipam_model.specs.AffinityLaw.{HasAffinity, HasNode}
+use Rattle.ipam_model.specs.CountLaw.{handle_count, held_count}
+use Rattle.ipam_model.specs.Reads.{Row}
+
+-- rows as texts, by ascending key, and the counter
+pub record Texts : Type 0 where
+  pub rows : List RowText
+  pub counter : ℕ
+
+abbrev pub reading_of : RowText → Result Record TextFault
+reading_of row = record_reading row.key row.body
+
+abbrev pub row_read : (revision : ℕ) → Result Record TextFault → Option Row
+row_read revision (Ok found) = Some (revision, found)
+row_read revision (Err broken) = None
+
+-- the rows that can be read
+abbrev pub readable : List RowText → List Row
+readable rows = filter_map (λ row. row_read row.revision (reading_of row)) rows
+
+abbrev pub read_store : Texts → Datastore
+read_store texts = record { rows = readable texts.rows; counter = texts.counter }
+
+abbrev pub pools_in_row : Option Row → List Pool
+pools_in_row (Some (revision, record_of.Pools pools)) = pools
+pools_in_row _ = []
+
+-- the pools, none where their row is missing
+abbrev pub pools_read : Texts → List Pool
+pools_read texts = pools_in_row (row_of key.Pools (readable texts.rows))
+
+-- the CIDR that a key names, where it is a block's or an affinity's
+abbrev pub cidr_of_key : Option Key → Option Range
+cidr_of_key (Some (key.Block cidr)) = Some cidr
+cidr_of_key (Some (key.Affinity node cidr)) = Some cidr
+cidr_of_key _ = None
+
+abbrev pub IsSlotOfSome : List Pool → Range → Type 0
+IsSlotOfSome pools cidr = (pool : Pool) × Contains pools pool × IsSlotOf pool cidr
+
+abbrev pub is_block_text : RowText → Bool
+is_block_text row = of_key (key_read row.key)
+  where
+    of_key : Option Key → Bool
+    of_key (Some found) = is_of_kind kind.Block found
+    of_key None = false
+
+-- a block that is not sound, or that was written as often as the datastore
+abbrev pub IsBrokenBlock : (revision : ℕ) → Result Record TextFault → Type 0
+IsBrokenBlock revision (Ok (record_of.Block b)) = revision ≤ b.sequence
+IsBrokenBlock revision (Err broken) = broken ≡ fault.Unsound
+IsBrokenBlock revision _ = ⊥
+
+-- What breaks the rows: the number of the rule, and the text of the key that it is told of.
+pub data Breaks (texts : Texts) : (number : ℕ) (about : List ℕ) → Type 0 where
+  -- 1: the key or the body is no text of the format
+  NoText : (row : RowText) → Contains texts.rows row → reading_of row ≡ Err fault.Form → Breaks texts 1 row.key
+  -- 2: the record has another key
+  AnotherKey : (row : RowText) → Contains texts.rows row → reading_of row ≡ Err fault.Key → Breaks texts 2 row.key
+  -- 3: the pools are no table
+  NoTable : (row : RowText) → Contains texts.rows row → reading_of row ≡ Err fault.Table → Breaks texts 3 row.key
+  -- 4: the CIDR of a block or an affinity is no slot of a pool
+  NoSlot : (row : RowText) (cidr : Range) → Contains texts.rows row → cidr_of_key (key_read row.key) ≡ Some cidr
+      → reading_of row ≢ Err fault.Form → reading_of row ≢ Err fault.Key
+      → ¬ (IsSlotOfSome (pools_read texts) cidr) → Breaks texts 4 row.key
+  -- 5: a block is not sound, or its sequence number is not below its revision
+  NoBlock : (row : RowText) → Contains texts.rows row → IsBrokenBlock row.revision (reading_of row) → Breaks texts 5 row.key
+  -- 6: a handle's count of a block is below its addresses there
+  CountTooLow : (id : List ℕ) (cidr : Range) → handle_count (read_store texts) id cidr < held_count (read_store texts) id cidr
+      → Breaks texts 6 (key_bytes (key.Handle id))
+  -- 7: a block's node has no affinity for it
+  NoAffinityFor : (cidr : Range) (node : List ℕ) → HasNode (read_store texts) cidr node
+      → ((state : State) → ¬ (HasAffinity (read_store texts) node cidr state)) → Breaks texts 7 (key_bytes (key.Block cidr))
+  -- 8: a confirmed affinity's block is missing or has not the node
+  NoNodeFor : (cidr : Range) (node : List ℕ) → HasAffinity (read_store texts) node cidr Confirmed
+      → ¬ (HasNode (read_store texts) cidr node) → Breaks texts 8 (key_bytes (key.Affinity node cidr))
+  -- 9: there are too many rows, or too many blocks
+  TooManyRows : (row : RowText) → slice_get texts.rows most_rows ≡ Some row → Breaks texts 9 row.key
+  TooManyBlocks : (row : RowText) → slice_get (filter is_block_text texts.rows) most_blocks ≡ Some row → Breaks texts 9 row.key
+  -- 10: a revision is 0, above the counter or above the last one, or the counter is above the last one
+  NoRevision : (row : RowText) → Contains texts.rows row → row.revision ≡ 0 → Breaks texts 10 row.key
+  AboveCounter : (row : RowText) → Contains texts.rows row → texts.counter < row.revision → Breaks texts 10 row.key
+  AboveLast : (row : RowText) → Contains texts.rows row → last_revision < row.revision → Breaks texts 10 row.key
+  CounterAboveLast : last_revision < texts.counter → Breaks texts 10 (codes "counter")
+
+-- the rule of the least number, and of those the key that comes first by its bytes
+pub record IsRefusedBy (texts : Texts) (number : ℕ) (about : List ℕ) : Type 0 where
+  pub breaks : Breaks texts number about
+  pub first : (n : ℕ) (k : List ℕ) → Breaks texts n k
+      → (number < n) ⊎ ((number ≡ n) × (slice_cmp nat_cmp about k ≢ Greater))
+
+-- nothing breaks the rows
+abbrev pub MayBeOpened : Texts → Type 0
+MayBeOpened texts = (number : ℕ) (about : List ℕ) → ¬ (Breaks texts number about)
+
+-- the datastore has exactly the rows that were read
+pub record OpensAs (texts : Texts) (store : Datastore) : Type 0 where
+  pub may_be_opened : MayBeOpened texts
+  pub sound : IsDatastore store
+  pub counter : store.counter ≡ texts.counter
+  pub all_read : (row : RowText) (found : Record) → Contains texts.rows row → reading_of row ≡ Ok found → Contains store.rows (row.revision, found)
+  pub nothing_else : (revision : ℕ) (found : Record) → Contains store.rows (revision, found)
+      → (row : RowText) × Contains texts.rows row × (row.revision ≡ revision) × (reading_of row ≡ Ok found)

@@ -1,0 +1,338 @@
+-- What a request that runs alone comes to, as a function of the records that are there. Revisions and
+-- moments do not matter here: rows are compared by their records.
+use Rattle.std.specs.Prelude.{◌≡◌, ℕ, zero, suc, ◌+◌, ◌-◌, ◌*◌, ◌≤◌, ◌≢◌, Bool, true, false, List, [], ◌∷◌, Option, Some, None, map, filter, length, if◌then◌else◌}
+use Rattle.std.specs.List.{All, count_by}
+use Rattle.ipam_addr.specs.declared.address.Family.{Family}
+use Rattle.ipam_addr.specs.declared.address.Family.TheVariants.{V4, V6}
+use Rattle.ipam_addr.specs.Shape.{Address, Range}
+use Rattle.ipam_pool.specs.declared.pools.Pool.{Pool}
+use Rattle.ipam_block.specs.declared.allocation.Allocation.{Allocation}
+use Rattle.ipam_block.specs.declared.allocation.Attributes.{Attributes}
+use Rattle.ipam_block.specs.Content as block
+use Rattle.ipam_block.specs.Operations.{address_of, fresh_block, next_block, affine_to, assigned, freed, holder, is_owned, is_stamped}
+use Rattle.ipam_affinity.specs.declared.state.State.TheVariants.{Confirmed}
+use Rattle.ipam_handle.specs.Content as handle
+use Rattle.ipam_handle.specs.Operations.{raised, lowered}
+use Rattle.ipam_records.specs.declared.key.Key.{Key}
+use Rattle.ipam_records.specs.declared.key.Key.TheVariants as key
+use Rattle.ipam_records.specs.declared.key.Kind.TheVariants as kind
+use Rattle.ipam_records.specs.declared.record.Record.{Record}
+use Rattle.ipam_records.specs.declared.record.Record.TheVariants as record_of
+use Rattle.ipam_records.specs.Datastore.{Datastore, row_key, row_of, with_row, without_row, reply_to_get, last_revision, most_rows, most_blocks, listed}
+use Rattle.ipam_records.specs.KeyOrder.{is_of_kind}
+use Rattle.ipam_records.specs.Said.{Said}
+use Rattle.ipam_records.specs.Sound.{IsDatastore}
+use Rattle.ipam_model.specs.declared.answer.Answer.{Answer}
+use Rattle.ipam_model.specs.declared.answer.Answer.TheVariants as answer
+use Rattle.ipam_model.specs.declared.answer.Given.{Given}
+use Rattle.ipam_model.specs.declared.choice.Choice.{Choice}
+use Rattle.ipam_model.specs.declared.choice.Choice.TheVariants.{Use, Claim, Borrow, Nothing, NoPool}
+use Rattle.ipam_model.specs.declared.request.AddRequest.{AddRequest}
+use Rattle.ipam_model.specs.declared.request.CollectRequest.{CollectRequest}
+use Rattle.ipam_model.specs.declared.request.ProbeRequest.{ProbeRequest}
+use Rattle.ipam_model.specs.declared.request.Request.{Request}
+use Rattle.ipam_model.specs.declared.request.Request.TheVariants.{Add, AddThis, Del, Check, Release, Collect, Admin, Probe}
+use Rattle.ipam_model.specs.Add.{asked_of, name_at}
+use Rattle.ipam_model.specs.AddThis.{asked_of_this, slot_holding}
+use Rattle.ipam_model.specs.Affinities.{affinity}
+use Rattle.ipam_model.specs.AffinityLaw.{AgreesWithAffinities}
+use Rattle.ipam_model.specs.Alone.{alone_over}
+use Rattle.ipam_model.specs.Assigning.{names_for}
+use Rattle.ipam_model.specs.Choice.{Seen, choice_of, is_node, is_nobodys, room_of}
+use Rattle.ipam_model.specs.CountLaw.{IsCovered}
+use Rattle.ipam_model.specs.Counting.{most_count}
+use Rattle.ipam_model.specs.History.{Base}
+use Rattle.ipam_model.specs.Look.{asked_of_probe, holds_at}
+use Rattle.ipam_model.specs.OtherLaws.{owner_in}
+use Rattle.ipam_model.specs.Owners.{Owner}
+use Rattle.ipam_model.specs.Reads.{Row, config_said, pools_said, reservations_said, handle_said, block_said}
+use Rattle.ipam_model.specs.Remove.{Leak, is_leak, suspects, leaks}
+use Rattle.ipam_model.specs.SoundRequest.{IsSoundRequest}
+use Rattle.ipam_model.specs.Usable.{Asked, RuledPool, for_all, usable_pool_of, pool_of}
+
+abbrev pub Rows : Type 0
+Rows = List Row
+
+-- ---- changes of the records
+
+abbrev pub put : Record → Rows → Rows
+put new rows = with_row (0, new) rows
+
+abbrev pub found_in : Key → Rows → Said
+found_in asked rows = reply_to_get (row_of asked rows)
+
+abbrev pub block_of : Range → Rows → Option (ℕ × block.Content)
+block_of cidr rows = block_said (found_in (key.Block cidr) rows)
+
+abbrev pub handle_of : List ℕ → Rows → handle.Content
+handle_of id rows = handle_said id (found_in (key.Handle id) rows)
+
+abbrev pub kept_or_gone : handle.Content → (counts : List (Range × ℕ)) → Rows → Rows
+kept_or_gone h [] rows = without_row (key.Handle h.id) rows
+kept_or_gone h (count ∷ counts) rows = put (record_of.Handle h) rows
+
+-- the count is one higher, or lower by so many, and a handle without counts goes
+abbrev pub with_raised : List ℕ → Range → Rows → Rows
+with_raised id cidr rows = put (record_of.Handle (raised (handle_of id rows) cidr 1)) rows
+
+abbrev pub with_lowered : List ℕ → Range → (amount : ℕ) → Rows → Rows
+with_lowered id cidr amount rows =
+    let h = lowered (handle_of id rows) cidr amount in kept_or_gone h h.counts rows
+
+-- the ordinal of the block is the handle's
+abbrev pub with_assigned : Attributes → block.Content → (ordinal : ℕ) → Rows → Rows
+with_assigned attributes b ordinal rows =
+    put (record_of.Block (assigned (next_block b) ordinal attributes))
+    (with_raised attributes.handle b.cidr rows)
+
+abbrev pub claimed_block : List ℕ → Range → Option (ℕ × block.Content) → block.Content
+claimed_block node cidr None = fresh_block cidr (Some node)
+claimed_block node cidr (Some found) = affine_to (Some node) (next_block found.1)
+
+-- the block has the node and the affinity is confirmed
+abbrev pub with_claimed : List ℕ → Range → Rows → Rows
+with_claimed node cidr rows =
+    put (record_of.Block (claimed_block node cidr (block_of cidr rows)))
+    (put (record_of.Affinity (affinity node cidr Confirmed)) rows)
+
+abbrev pub with_these_freed : List ℕ → (Allocation → Bool) → (amount : ℕ) → block.Content → Rows → Rows
+with_these_freed id picks zero b rows = rows
+with_these_freed id picks (suc more) b rows =
+    with_lowered id b.cidr (suc more) (put (record_of.Block (freed picks (next_block b))) rows)
+
+abbrev pub with_freed_found : List ℕ → (Allocation → Bool) → Option (ℕ × block.Content) → Rows → Rows
+with_freed_found id picks None rows = rows
+with_freed_found id picks (Some found) rows =
+    with_these_freed id picks (count_by picks found.1.allocations) found.1 rows
+
+-- the handle's allocations that are picked are free, and its count is lower by them
+abbrev pub with_freed : List ℕ → Range → (Allocation → Bool) → Rows → Rows
+with_freed id cidr picks rows = with_freed_found id picks (block_of cidr rows) rows
+
+-- ---- answers without moments
+
+pub data PlainAnswer : Type 0 where
+  Gives : List Address → PlainAnswer
+  Lacks : Family → PlainAnswer
+  KnowsNoPool : (name : List ℕ) → PlainAnswer
+  IsInNoPool : PlainAnswer
+  IsHeldBy : (id : List ℕ) → PlainAnswer
+  IsAnothers : (cidr : Range) → PlainAnswer
+  Deletes : PlainAnswer
+  Holds : PlainAnswer
+  HoldsNot : Address → PlainAnswer
+  Collects : List Owner → PlainAnswer
+  CanGive : PlainAnswer
+
+abbrev pub plain_of : Answer → Option PlainAnswer
+plain_of (answer.Added given) = Some (Gives (map (λ (g : Given). g.address) given))
+plain_of (answer.AddedThis given) = Some (Gives (given.address ∷ []))
+plain_of (answer.Exhausted scan) = Some (Lacks scan.family)
+plain_of (answer.NoPool name moment) = Some (KnowsNoPool name)
+plain_of (answer.NotInPool moment) = Some IsInNoPool
+plain_of (answer.Taken id moment) = Some (IsHeldBy id)
+plain_of (answer.NotAffine cidr moment) = Some (IsAnothers cidr)
+plain_of (answer.Deleted moment) = Some Deletes
+plain_of answer.Checked = Some Holds
+plain_of (answer.NotRecorded address moment) = Some (HoldsNot address)
+plain_of (answer.Collected collected) = Some (Collects (map owner_in collected.items))
+plain_of (answer.Ready scans) = Some CanGive
+plain_of _ = None
+
+-- ---- ADD
+
+abbrev pub seen_in : Rows → Seen
+seen_in rows = record {
+  config = config_said (found_in key.Config rows);
+  pools = map for_all (pools_said (found_in key.Pools rows));
+  reservations = reservations_said (found_in key.Reservations rows);
+  affinities = filter (λ row. is_of_kind kind.Affinity (row_key row)) rows;
+  blocks = filter (λ row. is_of_kind kind.Block (row_key row)) rows;
+}
+
+-- an address that was given, with its block and stamp, or an answer without one
+pub data PlainServed : Type 0 where
+  Served : Address → Range → (ordinal stamp : ℕ) → Rows → PlainServed
+  Unserved : PlainAnswer → Rows → PlainServed
+
+abbrev pub plain_take : AddRequest → Family → (ordinal : Option ℕ) → Option (ℕ × block.Content) → Rows → PlainServed
+plain_take request family (Some ordinal) (Some found) rows =
+    Served (address_of found.1.cidr ordinal) found.1.cidr ordinal (found.1.sequence + 1)
+    (with_assigned request.attributes found.1 ordinal rows)
+plain_take request family _ _ rows = Unserved (Lacks family) rows
+
+abbrev pub room_in : Seen → Option (ℕ × block.Content) → Option ℕ
+room_in seen None = None
+room_in seen (Some found) = room_of seen found.1
+
+abbrev pub plain_claim : AddRequest → Family → Range → Rows → PlainServed
+plain_claim request family cidr rows =
+    let claimed = with_claimed request.node cidr rows in
+    plain_take request family (room_in (seen_in claimed) (block_of cidr claimed)) (block_of cidr claimed) claimed
+
+abbrev pub plain_choice : AddRequest → Family → Choice → Rows → PlainServed
+plain_choice request family (Use cidr ordinal) rows = plain_take request family (Some ordinal) (block_of cidr rows) rows
+plain_choice request family (Borrow cidr ordinal) rows = plain_take request family (Some ordinal) (block_of cidr rows) rows
+plain_choice request family (Claim cidr) rows = plain_claim request family cidr rows
+plain_choice request family Nothing rows = Unserved (Lacks family) rows
+plain_choice request family (NoPool place) rows = Unserved (KnowsNoPool (name_at (names_for family request) place)) rows
+
+abbrev pub plain_family : AddRequest → Family → Rows → PlainServed
+plain_family request family rows =
+    plain_choice request family (choice_of (asked_of request family) (seen_in rows)) rows
+
+abbrev pub Result : Type 0
+Result = PlainAnswer × Rows
+
+abbrev pub plain_one : PlainServed → Result
+plain_one (Served address cidr ordinal stamp rows) = (Gives (address ∷ []), rows)
+plain_one (Unserved why rows) = (why, rows)
+
+-- where the second family has no address, the first is freed and what was claimed stays claimed
+abbrev pub plain_second : AddRequest → Address → Range → (ordinal stamp : ℕ) → PlainServed → Result
+plain_second request first cidr ordinal stamp (Served address other_cidr other_ordinal other_stamp rows) =
+    (Gives (first ∷ address ∷ []), rows)
+plain_second request first cidr ordinal stamp (Unserved why rows) =
+    (why, with_freed request.attributes.handle cidr (is_stamped ordinal request.attributes.handle stamp) rows)
+
+abbrev pub plain_first : AddRequest → PlainServed → Result
+plain_first request (Served address cidr ordinal stamp rows) =
+    plain_second request address cidr ordinal stamp (plain_family request V6 rows)
+plain_first request (Unserved why rows) = (why, rows)
+
+abbrev pub plain_add : AddRequest → (ipv4 ipv6 : Bool) → Rows → Result
+plain_add request true true rows = plain_first request (plain_family request V4 rows)
+plain_add request true false rows = plain_one (plain_family request V4 rows)
+plain_add request false true rows = plain_one (plain_family request V6 rows)
+plain_add request false false rows = (Gives [], rows)
+
+-- ---- ADD of one address
+
+abbrev pub plain_this : AddRequest → (ordinal : ℕ) → Option (ℕ × block.Content) → Rows → Result
+plain_this request ordinal None rows = (IsInNoPool, rows)
+plain_this request ordinal (Some found) rows =
+    (Gives (address_of found.1.cidr ordinal ∷ []), with_assigned request.attributes found.1 ordinal rows)
+
+abbrev pub plain_this_claimed : AddRequest → Range → (ordinal : ℕ) → Rows → Result
+plain_this_claimed request cidr ordinal rows =
+    let claimed = with_claimed request.node cidr rows in
+    plain_this request ordinal (block_of cidr claimed) claimed
+
+abbrev pub plain_this_held : AddRequest → (strict : Bool) → Range → (ordinal : ℕ) → ℕ × block.Content → Option Allocation → Rows → Result
+plain_this_held request strict cidr ordinal found (Some held) rows = (IsHeldBy held.attributes.handle, rows)
+plain_this_held request strict cidr ordinal found None rows =
+    if is_node request.node found.1.node then plain_this request ordinal (Some found) rows
+    else (if is_nobodys found.1 then plain_this_claimed request cidr ordinal rows
+    else (if strict then (IsAnothers cidr, rows) else plain_this request ordinal (Some found) rows))
+
+abbrev pub plain_this_block : AddRequest → (strict : Bool) → Range → (ordinal : ℕ) → Option (ℕ × block.Content) → Rows → Result
+plain_this_block request strict cidr ordinal None rows = plain_this_claimed request cidr ordinal rows
+plain_this_block request strict cidr ordinal (Some found) rows =
+    plain_this_held request strict cidr ordinal found (holder found.1 ordinal) rows
+
+abbrev pub plain_this_pool : AddRequest → Address → (strict : Bool) → Option RuledPool → Rows → Result
+plain_this_pool request address strict None rows = (IsInNoPool, rows)
+plain_this_pool request address strict (Some ruled) rows =
+    let cidr = slot_holding ruled.pool address in
+    plain_this_block request strict cidr (address.number - cidr.base) (block_of cidr rows) rows
+
+abbrev pub plain_add_this : AddRequest → Address → Rows → Result
+plain_add_this request address rows =
+    let seen = seen_in rows in
+    plain_this_pool request address seen.config.strict
+    (usable_pool_of (asked_of_this request address) address seen.pools) rows
+
+-- ---- DEL, collection, CHECK and the probe
+
+abbrev pub with_all_freed : List ℕ → List Range → Rows → Rows
+with_all_freed id [] rows = rows
+with_all_freed id (cidr ∷ rest) rows = with_all_freed id rest (with_freed id cidr (is_owned id) rows)
+
+abbrev pub plain_del : List ℕ → Rows → Result
+plain_del id rows = (Deletes, with_all_freed id (map (λ count. count.0) (handle_of id rows).counts) rows)
+
+abbrev pub with_leaks_freed : List Leak → Rows → Rows
+with_leaks_freed [] rows = rows
+with_leaks_freed (leak ∷ rest) rows =
+    with_leaks_freed rest (with_freed leak.owner.handle leak.block (is_leak leak) rows)
+
+abbrev pub plain_collect : CollectRequest → Rows → Result
+plain_collect request rows =
+    let found = leaks (suspects request rows) request.live rows in
+    (Collects (map (λ (leak : Leak). leak.owner) found), with_leaks_freed found rows)
+
+abbrev pub plain_check_next : (rest : PlainAnswer) → Address → Bool → PlainAnswer
+plain_check_next rest address true = rest
+plain_check_next rest address false = HoldsNot address
+
+abbrev pub holds_in : List ℕ → Address → Option Pool → Rows → Bool
+holds_in id address None rows = false
+holds_in id address (Some pool) rows = holds_at id address (block_of (slot_holding pool address) rows)
+
+abbrev pub plain_check : List ℕ → List Address → Rows → PlainAnswer
+plain_check id [] rows = Holds
+plain_check id (address ∷ rest) rows =
+    plain_check_next (plain_check id rest rows) address
+    (holds_in id address (pool_of address (pools_said (found_in key.Pools rows))) rows)
+
+abbrev pub plain_probe_next : (rest : PlainAnswer) → Asked → Choice → PlainAnswer
+plain_probe_next rest asked Nothing = Lacks asked.family
+plain_probe_next rest asked (NoPool place) = KnowsNoPool (name_at asked.names place)
+plain_probe_next rest asked _ = rest
+
+abbrev pub plain_probe_family : ProbeRequest → Family → (rest : PlainAnswer) → Rows → PlainAnswer
+plain_probe_family request family rest rows =
+    plain_probe_next rest (asked_of_probe request family) (choice_of (asked_of_probe request family) (seen_in rows))
+
+abbrev pub plain_probe : ProbeRequest → (ipv4 ipv6 : Bool) → Rows → PlainAnswer
+plain_probe request true true rows =
+    plain_probe_family request V4 (plain_probe_family request V6 CanGive rows) rows
+plain_probe request true false rows = plain_probe_family request V4 CanGive rows
+plain_probe request false true rows = plain_probe_family request V6 CanGive rows
+plain_probe request false false rows = CanGive
+
+-- ---- all of them
+
+-- the release of an affinity and administration are only said by their words
+abbrev pub plain : Request → Rows → Option Result
+plain (Add request) rows = Some (plain_add request request.ipv4 request.ipv6 rows)
+plain (AddThis request address) rows = Some (plain_add_this request address rows)
+plain (Del id) rows = Some (plain_del id rows)
+plain (Check id addresses) rows = Some (plain_check id addresses rows, rows)
+plain (Release node cidr) rows = None
+plain (Collect request) rows = Some (plain_collect request rows)
+plain (Admin change) rows = None
+plain (Probe request) rows = Some (plain_probe request request.ipv4 request.ipv6 rows, rows)
+
+-- ---- with spare
+
+-- how many revisions the request needs at most
+abbrev pub needs : Request → Rows → ℕ
+needs (Del id) rows = 2 * length (handle_of id rows).counts
+needs (Collect request) rows = 2 * length (leaks (suspects request rows) request.live rows)
+needs _ rows = 0
+
+abbrev pub handle_in : Request → List ℕ
+handle_in (Add request) = request.attributes.handle
+handle_in (AddThis request address) = request.attributes.handle
+handle_in _ = []
+
+-- there are revisions, rows and counts enough
+pub record HasSpare (store : Datastore) (request : Request) : Type 0 where
+  pub revisions : store.counter + 12 ≤ last_revision
+  pub for_all_blocks : store.counter + needs request store.rows ≤ last_revision
+  pub rows : length store.rows + 5 ≤ most_rows
+  pub blocks : length (listed kind.Block store) + 2 ≤ most_blocks
+  pub counts : All (λ (entry : Range × ℕ). entry.1 ≢ most_count) (handle_of (handle_in request) store.rows).counts
+
+abbrev pub records : Rows → List Record
+records rows = map (λ row. row.1) rows
+
+-- A request that runs alone with spare comes to what the records say.
+abbrev pub AloneLaw : Type 0
+AloneLaw =
+    (base : Base) (request : Request) (result : Result)
+    → IsDatastore base.store → IsCovered base.store → AgreesWithAffinities base.store
+    → IsSoundRequest request → HasSpare base.store request → plain request base.store.rows ≡ Some result
+    → (plain_of (alone_over base request).0 ≡ Some result.0)
+    × (records (alone_over base request).1.rows ≡ records result.1)
