@@ -1,0 +1,5 @@
+-- Proofs of the laws.
+pub mod Within
+pub mod PartBounds
+pub mod AddBounds
+pub mod RequestBounds

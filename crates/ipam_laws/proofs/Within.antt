@@ -1,0 +1,33 @@
+-- Words that end with calls to spare.
+use Rattle.std.proofs.Common.{ℕ, zero, suc, ◌-◌, ◌<◌, List, true, false, Bool, arith}
+use Rattle.ipam_records.specs.Bound.{AtMost}
+use Rattle.ipam_records.specs.Said.{Said, Found, Missing, Listed, Can, Exists, Conflict, Full, Spent}
+use Rattle.ipam_records.specs.Word.{Word, Ends, Asks, Waits, bound}
+use Rattle.ipam_model.specs.Step.{after_write, after_lost}
+
+-- with so many calls left at first, it is true of the answer and of the calls that are left then
+abbrev pub Within : {A : Type 0} → (A → ℕ → Type 0) → Word A → ℕ → Type 0
+Within P (Ends answer) count = P answer count
+Within P (Asks label call next) count = (0 < count) × ((moment : ℕ) (said : Said) → Within P (next moment said) (count - 1))
+Within P (Waits next) count = (live : List (List ℕ)) → Within P (next live) count
+
+pub AtMost-Within : {A : Type 0} → (P : A → ℕ → Type 0) (w : Word A) (count : ℕ) → Within P w count → AtMost w count
+AtMost-Within P (Ends answer) count h = tt
+AtMost-Within P (Asks label call next) count h = (h.0, λ moment said. AtMost-Within P (next moment said) (count - 1) (h.1 moment said))
+AtMost-Within P (Waits next) count h = λ live. AtMost-Within P (next live) count (h live)
+
+pub Within-bound : {A B : Type 0} → (P : A → ℕ → Type 0) (Q : B → ℕ → Type 0) (w : Word A) (follows : A → Word B) (count : ℕ) → Within P w count → ((a : A) (left : ℕ) → P a left → Within Q (follows a) left) → Within Q (bound w follows) count
+Within-bound P Q (Ends answer) follows count h k = k answer count h
+Within-bound P Q (Asks label call next) follows count h k = (h.0, λ moment said. Within-bound P Q (next moment said) follows (count - 1) (h.1 moment said) k)
+Within-bound P Q (Waits next) follows count h k = λ live. Within-bound P Q (next live) follows count (h live) k
+
+-- whatever a write is answered
+pub Within-after_write : {A : Type 0} → (P : A → ℕ → Type 0) (said : Said) (took : ℕ → Word A) (lost full spent : Word A) (count : ℕ) → ((revision : ℕ) → Within P (took revision) count) → Within P lost count → Within P full count → Within P spent count → Within P (after_write said took lost full spent) count
+Within-after_write P (Can revision) took lost full spent count a b c d = a revision
+Within-after_write P Missing took lost full spent count a b c d = b
+Within-after_write P (Exists revision) took lost full spent count a b c d = b
+Within-after_write P (Conflict revision) took lost full spent count a b c d = b
+Within-after_write P Full took lost full spent count a b c d = c
+Within-after_write P Spent took lost full spent count a b c d = d
+Within-after_write P (Found revision found) took lost full spent count a b c d = b
+Within-after_write P (Listed rows) took lost full spent count a b c d = b

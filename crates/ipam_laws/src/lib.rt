@@ -1,0 +1,5 @@
+//! Laws of histories. Each function does nothing: its contract is the law, and the proof is of the
+//! model alone.
+#![tactic(auto)]
+
+pub mod bounds;
