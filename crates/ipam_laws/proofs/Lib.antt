@@ -3,3 +3,5 @@ pub mod Within
 pub mod PartBounds
 pub mod AddBounds
 pub mod RequestBounds
+pub mod StoreSteps
+pub mod OneRecord

@@ -3,3 +3,4 @@
 #![tactic(auto)]
 
 pub mod bounds;
+pub mod datastore;

@@ -111,11 +111,15 @@ call_entry slot fate store moment (Waits next) = None
 -- ---- what an entry makes of the cluster
 
 -- the write that an entry tells of
+abbrev pub write_done : CallName → (revision : ℕ) → Option Record → Option Write
+write_done (name.Create key) revision (Some new) = Some (Put revision new)
+write_done (name.Update key old) revision (Some new) = Some (Put revision new)
+write_done (name.Delete key old) revision new = Some (Remove revision key)
+write_done _ _ _ = None
+
 abbrev pub write_told : CallName → Told → Option Record → Option Write
-write_told (name.Create key) (told.Done revision) (Some new) = Some (Put revision new)
-write_told (name.Update key old) (told.Done revision) (Some new) = Some (Put revision new)
-write_told (name.Delete key old) (told.Done revision) new = Some (Remove revision key)
-write_told _ _ _ = None
+write_told asked (told.Done revision) new = write_done asked revision new
+write_told asked _ new = None
 
 abbrev pub store_with : Option Write → Datastore → Datastore
 store_with None store = store

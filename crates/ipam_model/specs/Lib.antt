@@ -31,3 +31,4 @@ pub mod BoundLaw
 pub mod Opened
 pub mod Alone
 pub mod Plain
+pub mod ReplyLaw

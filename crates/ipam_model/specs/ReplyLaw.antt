@@ -1,0 +1,35 @@
+-- Each call has the datastore's own reply.
+use Rattle.std.specs.Prelude.{◌≡◌, List, ◌∷◌, Option, None}
+use Rattle.ipam_records.specs.declared.call.Call.{Call}
+use Rattle.ipam_records.specs.Datastore.{Datastore, reply_of, write_granted}
+use Rattle.ipam_model.specs.declared.entry.Called.{Called}
+use Rattle.ipam_model.specs.declared.entry.Entry.{Entry}
+use Rattle.ipam_model.specs.declared.entry.Entry.TheVariants as entry
+use Rattle.ipam_model.specs.declared.entry.Fate.{Fate}
+use Rattle.ipam_model.specs.declared.entry.Fate.TheVariants.{Well, Before, After}
+use Rattle.ipam_model.specs.declared.entry.Told.TheVariants as told
+use Rattle.ipam_model.specs.Cluster.{name_of, told_of, record_written, store_with}
+use Rattle.ipam_model.specs.History.{Base, Lawful, store_at}
+
+-- the reply and the written record are those of the datastore, and what it granted is done
+pub record IsDoneBy (store behind : Datastore) (asked : Call) (c : Called) : Type 0 where
+  pub is_reply : c.reply ≡ told_of (reply_of store asked)
+  pub is_written : c.written ≡ record_written asked (reply_of store asked)
+  pub is_store : behind ≡ store_with (write_granted asked (reply_of store asked)) store
+
+-- a call that failed before was not answered, and wrote nothing
+pub record IsNotDone (store behind : Datastore) (c : Called) : Type 0 where
+  pub no_reply : c.reply ≡ told.Nothing
+  pub nothing_written : c.written ≡ None
+  pub is_store : behind ≡ store
+
+abbrev pub IsAnsweredBy : Datastore → Datastore → Call → Called → Fate → Type 0
+IsAnsweredBy store behind asked c Well = IsDoneBy store behind asked c
+IsAnsweredBy store behind asked c After = IsDoneBy store behind asked c
+IsAnsweredBy store behind asked c Before = IsNotDone store behind c
+
+abbrev pub RepliesLaw : Type 0
+RepliesLaw =
+    (base : Base) (history : List Entry) (c : Called) → Lawful base (entry.Called c ∷ history)
+    → (asked : Call) × (c.call ≡ name_of asked)
+    × IsAnsweredBy (store_at base history) (store_at base (entry.Called c ∷ history)) asked c c.fate
