@@ -10,3 +10,6 @@ mod store;
 
 pub use std::alloc::AllocError as Memory;
 pub use store::{LoadFault, Store};
+
+#[cfg(test)]
+mod tests;
