@@ -5,6 +5,7 @@
 #![tactic(auto)]
 
 mod key_ref;
+pub mod laws;
 mod rows;
 mod store;
 
