@@ -1,11 +1,11 @@
 #!/usr/bin/env bash
-# Asks ten million times for one of 1,000 and of 100,000 rows, and creates as many rows in each order
-# of their keys.
+# Asks ten million times for one of 1,000 rows and of 100,000, and creates 1,000 rows and 100,000 in
+# each order of their keys.
 set -eu
 top=$(cd "$(dirname "$0")/.." && pwd)
 gets=${1:-10000000}
 rows=${2:-100000}
-(cd "$top/crates/ipam_bench" && rt run >/dev/null 2>&1)
+(cd "$top/crates/ipam_bench" && rt run -- get-from-1000 1 >/dev/null 2>&1)
 for word in get-from-1000 get-from-100000; do
     echo "$word:"
     "$top/crates/ipam_bench/out/ipam_bench" "$word" "$gets"
