@@ -6,7 +6,6 @@ ghost use Rattle.ipam_records.specs.Said.{said};
 ghost use Rattle.ipam_records.specs.Said as says;
 ghost use Rattle.ipam_records.specs.Datastore.{write_of, listed};
 ghost use Rattle.ipam_store.specs.AlwaysSound.{IsAlwaysSound, IsSoundCall};
-ghost use Rattle.ipam_store.specs.Granted.{HasRoomFor};
 
 use crate::*;
 use ipam_addr::{Addr, Cidr, Family, cidr, read_cidr};
