@@ -6,6 +6,7 @@ mod addresses;
 mod blocks;
 mod draws;
 mod slots;
+mod store;
 
 use std::process::ExitCode;
 use std::time::Instant;
@@ -51,6 +52,11 @@ fn measure(rt: &HostRuntime, word: &str, count: u32) -> io::Result<bool> {
     match word {
         "read-addresses" => read_addresses(rt, count)?,
         "push-addresses" => push_addresses(rt, count)?,
+        "get-from-1000" => store::get_rows(rt, count, 1_000)?,
+        "get-from-100000" => store::get_rows(rt, count, 100_000)?,
+        "create-ascending" => store::create_rows(rt, count, store::Order::Ascending)?,
+        "create-descending" => store::create_rows(rt, count, store::Order::Descending)?,
+        "create-random" => store::create_rows(rt, count, store::Order::Random)?,
         "narrow-slots" => next_slots(rt, count, 122)?,
         "block-texts" => blocks::read_and_print(rt, count)?,
         "wide-slots" => next_slots(rt, count, 64)?,

@@ -94,7 +94,7 @@ list_shelved Handles lists sh = sh.handles
 later_row : (old new : ℕ) → old ≤ new → (row : ℕ × Record) → IsRow old row → IsRow new row
 later_row old new up row r = record { is_record = r.is_record; some = r.some; given = omega (arith, r.given); counted = r.counted }
 
-later_rows : (old new : ℕ) → old ≤ new → (rows : List (ℕ × Record)) → All (IsRow old) rows → All (IsRow new) rows
+pub later_rows : (old new : ℕ) → old ≤ new → (rows : List (ℕ × Record)) → All (IsRow old) rows → All (IsRow new) rows
 later_rows old new up rows all = λ i d l. later_row old new up _ (all i d l)
 
 pub stored-put : (lists : Lists) → AreShelved lists → (new : ℕ × Record) (s : Shelf) → shelf_of (row_key new) ≡ s → (rows : List (ℕ × Record)) → rows ≡ with_row new (list_on s lists) → all_rows (with_list s rows lists) ≡ with_row new (all_rows lists)

@@ -4,3 +4,4 @@ pub mod Shelves
 pub mod Keeping
 pub mod Granting
 pub mod Kept
+pub mod Grants

@@ -5,3 +5,4 @@ pub mod Lists
 pub mod Content
 pub mod Keeping
 pub mod Granted
+pub mod AlwaysSound

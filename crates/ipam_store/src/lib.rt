@@ -5,8 +5,12 @@
 #![tactic(auto)]
 
 mod key_ref;
+pub mod laws;
 mod rows;
 mod store;
 
 pub use std::alloc::AllocError as Memory;
 pub use store::{LoadFault, Store};
+
+#[cfg(test)]
+mod tests;
