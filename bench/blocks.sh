@@ -3,5 +3,5 @@
 set -eu
 top=$(cd "$(dirname "$0")/.." && pwd)
 count=${1:-100}
-(cd "$top/crates/ipam_bench" && rt run >/dev/null 2>&1)
+(cd "$top/crates/ipam_bench" && rt run -- narrow-slots 1 >/dev/null 2>&1)
 "$top/crates/ipam_bench/out/ipam_bench" block-texts "$count"

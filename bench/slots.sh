@@ -4,7 +4,7 @@
 set -eu
 top=$(cd "$(dirname "$0")/.." && pwd)
 count=${1:-1000000}
-(cd "$top/crates/ipam_bench" && rt run >/dev/null 2>&1)
+(cd "$top/crates/ipam_bench" && rt run -- narrow-slots 1 >/dev/null 2>&1)
 for word in narrow-slots wide-slots; do
     echo "$word:"
     "$top/crates/ipam_bench/out/ipam_bench" "$word" "$count"

@@ -37,7 +37,8 @@ use Rattle.ipam_model.specs.Counting.{free}
 use Rattle.ipam_model.specs.Look as look
 use Rattle.ipam_model.specs.Reads.{handle_said, rows_said, affinity_said, block_said, pools_said}
 use Rattle.ipam_model.specs.Remove as remove
-use Rattle.ipam_model.specs.Requests.{word_of, told_as, of_add, of_add_this, of_del, of_check, of_release, of_collect, of_admin, of_probe}
+use Rattle.ipam_model.specs.Requests.{word_of, told_as}
+use Rattle.ipam_model.specs.Told.{of_add, of_add_this, of_del, of_check, of_release, of_collect, of_admin, of_probe}
 use Rattle.ipam_model.specs.Step.{Outcome, Went, Stops, most_lost}
 use Rattle.ipam_model.specs.Usable.{pool_of}
 use Rattle.ipam_laws.proofs.Within.{Within, AtMost-Within, Within-bound, Within-after_write}

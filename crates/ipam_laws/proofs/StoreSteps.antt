@@ -18,7 +18,8 @@ use Rattle.ipam_model.specs.declared.entry.Entry.{Entry}
 use Rattle.ipam_model.specs.declared.entry.Entry.TheVariants as entry
 use Rattle.ipam_model.specs.declared.entry.Fate.{Fate}
 use Rattle.ipam_model.specs.declared.entry.Fate.TheVariants.{Well, Before, After}
-use Rattle.ipam_model.specs.Cluster.{Cluster, name_of, told_of, new_record, record_written, write_told, write_done, store_with, store_after, called, call_entry, after}
+use Rattle.ipam_model.specs.Cluster.{Cluster, new_record, record_written, write_told, write_done, store_with, store_after, called, call_entry, after}
+use Rattle.ipam_model.specs.Named.{name_of, told_of}
 use Rattle.ipam_model.specs.History.{Base, Lawful, cluster_at, store_at, MayCall}
 use Rattle.ipam_model.specs.AnswerLaw.{FaultLaw}
 use Rattle.ipam_model.specs.ReplyLaw.{IsDoneBy, IsNotDone, IsAnsweredBy, RepliesLaw}

@@ -1,13 +1,12 @@
 -- A cluster: the datastore, and the requests that run in its slots.
-use Rattle.std.specs.Prelude.{ℕ, ◌+◌, ◌==◌, List, length, Option, Some, None, if◌then◌else◌}
+use Rattle.std.specs.Prelude.{ℕ, ◌+◌, ◌==◌, List, Option, Some, None, if◌then◌else◌}
 use Rattle.ipam_records.specs.declared.record.Record.{Record}
 use Rattle.ipam_records.specs.declared.call.Call.{Call}
 use Rattle.ipam_records.specs.declared.call.Call.TheVariants as call
 use Rattle.ipam_records.specs.declared.call.Write.{Write}
 use Rattle.ipam_records.specs.declared.call.Write.TheVariants.{Put, Remove}
 use Rattle.ipam_records.specs.Datastore.{Datastore, reply_of, written}
-use Rattle.ipam_records.specs.Key.{key_of}
-use Rattle.ipam_records.specs.Said.{Said, Found, Missing, Listed, Can, Exists, Conflict, Full, Spent}
+use Rattle.ipam_records.specs.Said.{Said, Can}
 use Rattle.ipam_records.specs.Word.{Word, Ends, Asks, Waits, ended, fed}
 use Rattle.ipam_model.specs.declared.answer.Answer.{Answer}
 use Rattle.ipam_model.specs.declared.answer.Answer.TheVariants.{Fault}
@@ -21,6 +20,7 @@ use Rattle.ipam_model.specs.declared.entry.Fate.TheVariants.{Well, Before, After
 use Rattle.ipam_model.specs.declared.entry.Told.{Told}
 use Rattle.ipam_model.specs.declared.entry.Told.TheVariants as told
 use Rattle.ipam_model.specs.declared.request.Request.{Request}
+use Rattle.ipam_model.specs.Named.{name_of, told_of}
 use Rattle.ipam_model.specs.Requests.{word_of}
 
 -- a request, and what is left of it
@@ -41,23 +41,6 @@ abbrev pub with_slot : ℕ → Option Running → Slots → Slots
 with_slot slot running slots = λ other. if other == slot then running else slots other
 
 -- ---- the entry of a call
-
-abbrev pub name_of : Call → CallName
-name_of (call.Get key) = name.Get key
-name_of (call.List kind) = name.List kind
-name_of (call.Create new) = name.Create (key_of new)
-name_of (call.Update new revision) = name.Update (key_of new) revision
-name_of (call.Delete key revision) = name.Delete key revision
-
-abbrev pub told_of : Said → Told
-told_of (Found revision found) = told.Found revision
-told_of Missing = told.Missing
-told_of (Listed rows) = told.Listed (length rows)
-told_of (Can revision) = told.Done revision
-told_of (Exists revision) = told.Exists revision
-told_of (Conflict revision) = told.Conflict revision
-told_of Full = told.Full
-told_of Spent = told.Spent
 
 -- the record that a call writes
 abbrev pub new_record : Call → Option Record

@@ -11,7 +11,8 @@ use Rattle.ipam_model.specs.declared.entry.Entry.{Entry}
 use Rattle.ipam_model.specs.declared.entry.Entry.TheVariants as entry
 use Rattle.ipam_model.specs.declared.entry.Fate.TheVariants.{Well}
 use Rattle.ipam_model.specs.declared.request.Request.{Request}
-use Rattle.ipam_model.specs.Cluster.{Cluster, Running, call_entry, name_of, after}
+use Rattle.ipam_model.specs.Cluster.{Cluster, Running, call_entry, after}
+use Rattle.ipam_model.specs.Named.{name_of}
 use Rattle.ipam_model.specs.Course.{slot_count, most_entries, time_of}
 use Rattle.ipam_model.specs.SoundRequest.{IsSoundRequest}
 

@@ -13,8 +13,10 @@ pub mod Owners
 pub mod Remove
 pub mod Look
 pub mod Admin
+pub mod Told
 pub mod Requests
 pub mod SoundRequest
+pub mod Named
 pub mod Cluster
 pub mod Course
 pub mod History

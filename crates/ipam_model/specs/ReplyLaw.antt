@@ -1,5 +1,5 @@
 -- Each call has the datastore's own reply.
-use Rattle.std.specs.Prelude.{◌≡◌, List, ◌∷◌, Option, None}
+use Rattle.std.specs.Prelude.{◌≡◌, List, ◌∷◌, None}
 use Rattle.ipam_records.specs.declared.call.Call.{Call}
 use Rattle.ipam_records.specs.Datastore.{Datastore, reply_of, write_granted}
 use Rattle.ipam_model.specs.declared.entry.Called.{Called}
@@ -8,7 +8,8 @@ use Rattle.ipam_model.specs.declared.entry.Entry.TheVariants as entry
 use Rattle.ipam_model.specs.declared.entry.Fate.{Fate}
 use Rattle.ipam_model.specs.declared.entry.Fate.TheVariants.{Well, Before, After}
 use Rattle.ipam_model.specs.declared.entry.Told.TheVariants as told
-use Rattle.ipam_model.specs.Cluster.{name_of, told_of, record_written, store_with}
+use Rattle.ipam_model.specs.Cluster.{record_written, store_with}
+use Rattle.ipam_model.specs.Named.{name_of, told_of}
 use Rattle.ipam_model.specs.History.{Base, Lawful, store_at}
 
 -- the reply and the written record are those of the datastore, and what it granted is done

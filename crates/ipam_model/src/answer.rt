@@ -1,3 +1,9 @@
+ghost use Rattle.std.specs.Prelude.{◌≡◌};
+
+use crate::outcome::{
+    AddAnswer, AddThisAnswer, AdminAnswer, CheckAnswer, CollectAnswer, DelAnswer, ProbeAnswer,
+    ReleaseAnswer,
+};
 use ipam_addr::{Addr, Cidr, Family};
 use ipam_text::{Seq, Text};
 
@@ -92,4 +98,128 @@ pub enum Answer {
     Fault,
     /// An address could be given in each wanted family.
     Ready(Seq<Scan>),
+}
+
+impl From<AddAnswer> for Answer {
+    ghost use Rattle.ipam_model.specs.Told.{of_add};
+
+    ghost from_gives = { λ one answer. answer ≡ of_add one };
+
+    fn from(one: AddAnswer) -> Answer {
+        match one {
+            AddAnswer::Added(given) => Answer::Added(given),
+            AddAnswer::Exhausted(scan) => Answer::Exhausted(scan),
+            AddAnswer::NoPool(name, moment) => Answer::NoPool(name, moment),
+            AddAnswer::Again(lost, claims) => Answer::Again(lost, claims),
+            AddAnswer::Full => Answer::Full,
+            AddAnswer::CountFull(moment) => Answer::CountFull(moment),
+            AddAnswer::Spent => Answer::Spent,
+        }
+    }
+}
+
+impl From<AddThisAnswer> for Answer {
+    ghost use Rattle.ipam_model.specs.Told.{of_add_this};
+
+    ghost from_gives = { λ one answer. answer ≡ of_add_this one };
+
+    fn from(one: AddThisAnswer) -> Answer {
+        match one {
+            AddThisAnswer::AddedThis(given) => Answer::AddedThis(given),
+            AddThisAnswer::NotInPool(moment) => Answer::NotInPool(moment),
+            AddThisAnswer::Taken(holder, moment) => Answer::Taken(holder, moment),
+            AddThisAnswer::NotAffine(cidr, moment) => Answer::NotAffine(cidr, moment),
+            AddThisAnswer::Again(lost, claims) => Answer::Again(lost, claims),
+            AddThisAnswer::Full => Answer::Full,
+            AddThisAnswer::CountFull(moment) => Answer::CountFull(moment),
+            AddThisAnswer::Spent => Answer::Spent,
+        }
+    }
+}
+
+impl From<DelAnswer> for Answer {
+    ghost use Rattle.ipam_model.specs.Told.{of_del};
+
+    ghost from_gives = { λ one answer. answer ≡ of_del one };
+
+    fn from(one: DelAnswer) -> Answer {
+        match one {
+            DelAnswer::Deleted(moment) => Answer::Deleted(moment),
+            DelAnswer::Again(lost) => Answer::Again(lost, 0),
+            DelAnswer::Spent => Answer::Spent,
+        }
+    }
+}
+
+impl From<CheckAnswer> for Answer {
+    ghost use Rattle.ipam_model.specs.Told.{of_check};
+
+    ghost from_gives = { λ one answer. answer ≡ of_check one };
+
+    fn from(one: CheckAnswer) -> Answer {
+        match one {
+            CheckAnswer::Checked => Answer::Checked,
+            CheckAnswer::NotRecorded(address, moment) => Answer::NotRecorded(address, moment),
+        }
+    }
+}
+
+impl From<ReleaseAnswer> for Answer {
+    ghost use Rattle.ipam_model.specs.Told.{of_release};
+
+    ghost from_gives = { λ one answer. answer ≡ of_release one };
+
+    fn from(one: ReleaseAnswer) -> Answer {
+        match one {
+            ReleaseAnswer::Released => Answer::Released,
+            ReleaseAnswer::NoAffinity(moment) => Answer::NoAffinity(moment),
+            ReleaseAnswer::Again(lost) => Answer::Again(lost, 0),
+            ReleaseAnswer::Full => Answer::Full,
+            ReleaseAnswer::Spent => Answer::Spent,
+        }
+    }
+}
+
+impl From<CollectAnswer> for Answer {
+    ghost use Rattle.ipam_model.specs.Told.{of_collect};
+
+    ghost from_gives = { λ one answer. answer ≡ of_collect one };
+
+    fn from(one: CollectAnswer) -> Answer {
+        match one {
+            CollectAnswer::Collected(collected) => Answer::Collected(collected),
+            CollectAnswer::Again(lost) => Answer::Again(lost, 0),
+            CollectAnswer::Spent => Answer::Spent,
+        }
+    }
+}
+
+impl From<AdminAnswer> for Answer {
+    ghost use Rattle.ipam_model.specs.Told.{of_admin};
+
+    ghost from_gives = { λ one answer. answer ≡ of_admin one };
+
+    fn from(one: AdminAnswer) -> Answer {
+        match one {
+            AdminAnswer::Done(revision) => Answer::Done(revision),
+            AdminAnswer::Refused(number, name) => Answer::Refused(number, name),
+            AdminAnswer::Again(lost) => Answer::Again(lost, 0),
+            AdminAnswer::Full => Answer::Full,
+            AdminAnswer::Spent => Answer::Spent,
+        }
+    }
+}
+
+impl From<ProbeAnswer> for Answer {
+    ghost use Rattle.ipam_model.specs.Told.{of_probe};
+
+    ghost from_gives = { λ one answer. answer ≡ of_probe one };
+
+    fn from(one: ProbeAnswer) -> Answer {
+        match one {
+            ProbeAnswer::Ready(scans) => Answer::Ready(scans),
+            ProbeAnswer::Exhausted(scan) => Answer::Exhausted(scan),
+            ProbeAnswer::NoPool(name, moment) => Answer::NoPool(name, moment),
+        }
+    }
 }

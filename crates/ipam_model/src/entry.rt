@@ -1,7 +1,10 @@
+ghost use Rattle.std.specs.Prelude.{◌≡◌, IfOk};
+
 use crate::answer::Answer;
 use crate::request::Request;
-use ipam_records::{Key, Kind, Record};
+use ipam_records::{Call, Key, Kind, Record, Reply};
 use ipam_text::{Seq, Text};
+use std::alloc::{AllocError, Global};
 
 /// What became of a call.
 #[derive(Clone, Copy, Debug, PartialEq, Eq)]
@@ -63,4 +66,42 @@ pub enum Entry {
     Fed(u8, u64, Seq<Text>),
     Called(Called),
     Stopped(u8),
+}
+
+impl CallName {
+    ghost use Rattle.ipam_model.specs.Named.{name_of};
+
+    /// The name of the call.
+    pub fn of(alloc: Global, call: &Call) -> Result<CallName, AllocError>
+        ensures { IfOk result (λ name. name ≡ name_of call.now) }
+    {
+        match call {
+            Call::Get(key) => Ok(CallName::Get(key.clone()?)),
+            Call::List(kind) => Ok(CallName::List(*kind)),
+            Call::Create(new) => Ok(CallName::Create(new.key(alloc)?)),
+            Call::Update(new, revision) => Ok(CallName::Update(new.key(alloc)?, *revision)),
+            Call::Delete(key, revision) => Ok(CallName::Delete(key.clone()?, *revision)),
+        }
+    }
+}
+
+impl Told {
+    ghost use Rattle.ipam_records.specs.Said.{said};
+    ghost use Rattle.ipam_model.specs.Named.{told_of};
+
+    /// The reply, in short.
+    pub fn of(reply: &Reply) -> Told
+        ensures { result ≡ told_of (said reply.now) }
+    {
+        match reply {
+            Reply::Found(revision, _) => Told::Found(*revision),
+            Reply::Missing => Told::Missing,
+            Reply::Listed(listing) => Told::Listed(listing.len() as u64),
+            Reply::Can(revision) => Told::Done(*revision),
+            Reply::Exists(revision) => Told::Exists(*revision),
+            Reply::Conflict(revision) => Told::Conflict(*revision),
+            Reply::Full => Told::Full,
+            Reply::Spent => Told::Spent,
+        }
+    }
 }
