@@ -10,6 +10,8 @@ use Rattle.ipam_handle.specs.Order.{family_rank}
 use Rattle.ipam_pool.specs.declared.pools.Pool.{Pool}
 use Rattle.ipam_pool.specs.Slots.{IsSlotOf}
 use Rattle.ipam_records.specs.declared.call.Call.TheVariants.{Get}
+use Rattle.ipam_affinity.specs.declared.state.State.TheVariants.{PendingDeletion}
+use Rattle.ipam_records.specs.declared.key.Key.{Key}
 use Rattle.ipam_records.specs.declared.key.Key.TheVariants as key
 use Rattle.ipam_records.specs.declared.record.Record.{Record}
 use Rattle.ipam_records.specs.declared.record.Record.TheVariants as record_of
@@ -28,6 +30,7 @@ use Rattle.ipam_model.specs.declared.request.Admin.{Admin}
 use Rattle.ipam_model.specs.declared.request.CollectRequest.{CollectRequest}
 use Rattle.ipam_model.specs.declared.request.ProbeRequest.{ProbeRequest}
 use Rattle.ipam_model.specs.Admin.{Becomes, Refuses, changed, key_changed}
+use Rattle.ipam_model.specs.Affinities.{affinity}
 use Rattle.ipam_model.specs.AddLaw.{families_if}
 use Rattle.ipam_model.specs.Choice.{Seen, IsChoice}
 use Rattle.ipam_model.specs.Counting.{most_count}
@@ -109,10 +112,21 @@ pub record IsNotRecorded (base : Base) (history : List Entry) (slot : ℕ) (id :
 
 -- ---- the release of an affinity
 
--- the call deleted the affinity at its mark, and the block does not have the node
+-- at the moment the request set the affinity to be deleted, and this revision is its mark
+pub record HasMarked (base : Base) (history : List Entry) (slot : ℕ) (node : List ℕ) (cidr : Range) (mark : ℕ) : Type 0 where
+  pub moment : ℕ
+  pub c : Called
+  pub in_span : InSpan base history slot moment (entry.Called c)
+  pub revision : ℕ
+  pub is_update : c.call ≡ name.Update (key.Affinity node cidr) revision
+  pub is_marking : c.written ≡ Some (record_of.Affinity (affinity node cidr PendingDeletion))
+  pub is_mark : c.reply ≡ told.Done mark
+
+-- the call deleted the affinity by the mark, and the block does not have the node
 pub record IsReleased (base : Base) (history : List Entry) (node : List ℕ) (cidr : Range) (c : Called) : Type 0 where
   pub mark : ℕ
   pub revision : ℕ
+  pub marked : HasMarked base history c.slot node cidr mark
   pub deletes : c.call ≡ name.Delete (key.Affinity node cidr) mark
   pub is_done : c.reply ≡ told.Done revision
   pub bare : (b : block.Content) → Has (store_at base history) (key.Block cidr) (record_of.Block b) → b.node ≢ Some node
@@ -194,6 +208,8 @@ pub record IsFull (base : Base) (history : List Entry) (slot : ℕ) : Type 0 whe
   pub moment : ℕ
   pub c : Called
   pub in_span : InSpan base history slot moment (entry.Called c)
+  pub about : Key
+  pub creates : c.call ≡ name.Create about
   pub is_full : c.reply ≡ told.Full
 
 -- the handle's count of the block was at its limit

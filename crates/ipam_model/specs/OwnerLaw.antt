@@ -4,7 +4,10 @@ use Rattle.ipam_addr.specs.Shape.{Range}
 use Rattle.ipam_addr.specs.Holding.{Holds}
 use Rattle.ipam_block.specs.declared.allocation.Allocation.{Allocation}
 use Rattle.ipam_records.specs.declared.call.Call.TheVariants.{List as ListAll}
+use Rattle.ipam_block.specs.Content as block
+use Rattle.ipam_records.specs.declared.key.Key.TheVariants as key
 use Rattle.ipam_records.specs.declared.key.Kind.TheVariants as kind
+use Rattle.ipam_records.specs.declared.record.Record.TheVariants as record_of
 use Rattle.ipam_records.specs.Said.{Said}
 use Rattle.ipam_records.specs.Sound.{IsDatastore}
 use Rattle.ipam_model.specs.declared.entry.Entry.{Entry}
@@ -14,7 +17,7 @@ use Rattle.ipam_model.specs.declared.request.CollectRequest.{CollectRequest}
 use Rattle.ipam_model.specs.declared.request.Request.{Request}
 use Rattle.ipam_model.specs.declared.request.Request.TheVariants.{Add, AddThis, Del, Collect}
 use Rattle.ipam_model.specs.History.{Base, cluster_at, store_at, store_before, slot_of_entry, Lawful, InSpan, Heard}
-use Rattle.ipam_model.specs.Moments.{request_in, Recorded, Owns, Gains, Loses, GainedInSpan}
+use Rattle.ipam_model.specs.Moments.{Has, request_in, Recorded, Owns, Gains, Loses, GainedInSpan}
 use Rattle.ipam_model.specs.Owners.{Owner, owners}
 use Rattle.ipam_model.specs.Remove.{is_live, is_in_scope}
 
@@ -63,7 +66,7 @@ pub record IsHeldIn (cidr : Range) (id : List ℕ) (owner : Owner) : Type 0 wher
 -- from the store before the entry to the one behind it, while this request runs in its slot
 pub data OwnersChange (base : Base) (history : List Entry) (new : Entry) (request : Request) : Type 0 where
   Assigned : (owner : Owner) → MayGain request owner → Gains (store_at base history) (store_at base (new ∷ history)) owner → OwnersChange base history new request
-  Deleted : (id : List ℕ) (cidr : Range) → request ≡ Del id → Loses (store_at base history) (store_at base (new ∷ history)) (IsHeldIn cidr id) → OwnersChange base history new request
+  Deleted : (id : List ℕ) (b : block.Content) → request ≡ Del id → Has (store_at base history) (key.Block b.cidr) (record_of.Block b) → Loses (store_at base history) (store_at base (new ∷ history)) (IsHeldIn b.cidr id) → OwnersChange base history new request
   Undone : (add : AddRequest) (owner : Owner) → request ≡ Add add → GainedInSpan base history (slot_of_entry new) owner → Loses (store_at base history) (store_at base (new ∷ history)) (λ o. o ≡ owner) → OwnersChange base history new request
   Collected : (collect : CollectRequest) (owner : Owner) → request ≡ Collect collect → (c : Collecting base history (slot_of_entry new) collect) → IsLeak base history (slot_of_entry new) collect c owner → Loses (store_at base history) (store_at base (new ∷ history)) (λ o. o ≡ owner) → OwnersChange base history new request
 
