@@ -1,7 +1,7 @@
 -- Each sound block is read from its text.
 use Rattle.std.proofs.Common.{◌≡◌, ◌≢◌, ◌∙◌, ℕ, suc, ◌+◌, ◌^◌, ◌<◌, ◌≤◌, Bool, true, false, ◌&&◌, List, [], ◌∷◌, ◌++◌, length, get_or, map, Option, Some, None, option_map, Result, Ok, Err, Ordering, Less, Equal, Greater, nat_cmp, cond, refl, sym, ap, subst, arith, decimal, eq-eqb, length-append}
 use Rattle.std.specs.Prelude.{option_and_then, unwrap_or, All, fold, position, nat_lt, codes, is_some, bytes_eq}
-use Rattle.std.specs.List.{list_all, list_any, position_or_len, AllByRecursion}
+use Rattle.std.specs.List.{list_all, list_any, position_or_len}
 use Rattle.std.specs.Ordering.{match_ordering}
 use Rattle.std.specs.Str.Parse.{digits_value}
 use Rattle.std.specs.Cmp.Lexicographic.{slice_cmp}
@@ -41,7 +41,7 @@ use Rattle.ipam_block_text.specs.Attributes.{are_same, with_those_of, distinct_a
 use Rattle.ipam_block_text.specs.Limits.{is_node, are_attributes, IsSoundBlock}
 use Rattle.ipam_block_text.specs.Form.{AreParts, AreStamps}
 use Rattle.ipam_block_text.specs.Parts.{place_of, block_parts}
-use Rattle.ipam_block_text.specs.Body.{whole_data, affinity_data, place_data, attributes_data, range_data, with_stamp, stamps_data, parts_data, block_data, block_body}
+use Rattle.ipam_block_text.specs.Body.{whole_data, affinity_data, place_data, attributes_data, range_data, with_stamp, stamps_data, parts_data, block_body}
 use Rattle.ipam_block_text.specs.Reading.{each, only_if, after_host, affinity_in, node_in, places_in, place_in, all_attributes_in, attributes_in, range_in, small_range, sequence_in, queue_in, parts_in, is_number_name, is_stamp, are_stamps, stamps_in, block_form, cidr_said, held_from, are_ordinals, block_in, checked, reading_from, block_reading}
 use Rattle.ipam_block_text.proofs.Options.{and_then_some}
 use Rattle.ipam_block_text.proofs.Canonical.{each-same, attributes_read, place_read, stamps_canonical, attributes_canonical, map_canonical, affinity_canonical, place_canonical}

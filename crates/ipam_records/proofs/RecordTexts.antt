@@ -31,7 +31,7 @@ use Rattle.ipam_records.specs.Key.{key_of}
 use Rattle.ipam_records.specs.KeyOrder.{key_rank}
 use Rattle.ipam_records.specs.KeyText.{key_bytes, key_read, IsKey}
 use Rattle.ipam_records.specs.Body.{body_of}
-use Rattle.ipam_records.specs.RecordReading.{fault_of_body, unsound_fault, fault_of_block, if_key, keyed, keyed_block, reading_of_kind, reading_at, record_reading, SaysKey, SaysAnotherKey, SaysBlock}
+use Rattle.ipam_records.specs.RecordReading.{unsound_fault, if_key, keyed, keyed_block, reading_of_kind, reading_at, record_reading, SaysAnotherKey, SaysBlock}
 use Rattle.ipam_records.specs.Sound.{IsRecord}
 use Rattle.ipam_records.proofs.KeyTextLemmas.{key_read-key_bytes}
 use Rattle.ipam_records.proofs.SoundTexts.{config_sound, pools_sound, reservations_sound, block_sound, affinity_sound, handle_sound}

@@ -1,7 +1,7 @@
 -- A record is sound exactly where what its text is that of is sound.
-use Rattle.std.proofs.Common.{◌≡◌, ◌≢◌, ℕ, suc, ◌<◌, ◌≤◌, Bool, true, ◌&&◌, List, [], ◌∷◌, ◌++◌, length, get_or, map, Option, Some, None, Ordering, Less, Equal, Greater, nat_cmp, ◌↔◌, refl, sym, ap, ◌∙◌, subst, arith, append_assoc, append-nil}
-use Rattle.std.specs.Prelude.{All, AllPairs, nat_le, is_none, bytes_eq}
-use Rattle.std.specs.List.{AllByRecursion, list_all, IsDistinct}
+use Rattle.std.proofs.Common.{◌≡◌, ◌≢◌, ℕ, ◌<◌, true, ◌&&◌, List, [], ◌∷◌, ◌++◌, length, get_or, map, Option, Some, None, Ordering, Less, Equal, Greater, nat_cmp, ◌↔◌, refl, sym, ap, ◌∙◌, subst, arith, append_assoc, append-nil}
+use Rattle.std.specs.Prelude.{AllPairs, nat_le, is_none}
+use Rattle.std.specs.List.{AllByRecursion, list_all}
 use Rattle.std.specs.List.Sorted.{IsStrictlySortedBy}
 use Rattle.std.specs.Ordering.{is_lt}
 use Rattle.std.specs.Cmp.Lexicographic.{slice_cmp, nat_list_cmp_total}
@@ -9,12 +9,11 @@ use Rattle.std.proofs.lemmas.Bool.{and_parts, and_from, leb-true, le-leb}
 use Rattle.std.proofs.lemmas.List.{get_or-map, length-map}
 use Rattle.std.proofs.lemmas.List.Elements.{All-from_recursion, recursion_from_All, All-weaker}
 use Rattle.std.proofs.lemmas.List.Sums.{AllPass-from_list_all, list_all-from_AllPass}
-use Rattle.std.proofs.lemmas.Map.Keys.{sorted_head, sorted_tail}
 use Rattle.std.proofs.lemmas.Map.Made.{AllPairs-from_IsDistinct, IsDistinct-from_AllPairs}
 use Rattle.std.proofs.lemmas.Slice.Eq.{bytes_eq-Decides}
 use Rattle.ipam_addr.specs.Shape.{Range}
 use Rattle.ipam_addr.specs.Width.{IsRange}
-use Rattle.ipam_addr.specs.Word.{is_name_text, is_handle_text}
+use Rattle.ipam_addr.specs.Word.{is_handle_text}
 use Rattle.ipam_affinity.specs.declared.record.Affinity.{Affinity}
 use Rattle.ipam_block.specs.Content as block
 use Rattle.ipam_block.specs.declared.allocation.Attributes.{Attributes}
@@ -36,7 +35,7 @@ use Rattle.ipam_record_text.specs.Affinity.{IsSoundAffinity}
 use Rattle.ipam_record_text.specs.Handle.{IsSoundHandle}
 use Rattle.ipam_reserve.specs.Shape.{NamedRanges}
 use Rattle.ipam_records.specs.declared.record.Record.TheVariants as record_of
-use Rattle.ipam_records.specs.Sound.{IsRecord, IsBlockRange, IsPair, AreAttributes, IsNode, IsBlockRecord, IsAffinityRecord, IsHandleRecord, IsPoolsRecord, IsReservation, IsReservationsRecord}
+use Rattle.ipam_records.specs.Sound.{IsRecord, IsBlockRange, IsPair, AreAttributes, IsNode, IsReservation}
 
 pub config_sound : (c : Config) → IsRecord (record_of.Config c) ↔ IsSoundConfig c
 config_sound c = (λ h. record { bound = h }, λ h. h.bound)
