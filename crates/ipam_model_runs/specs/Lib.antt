@@ -1,3 +1,11 @@
 -- Runs of the model whose every entry is known.
 pub mod Setting
 pub mod FirstRun
+pub mod Races
+pub mod Releases
+pub mod Stops
+pub mod Collections
+pub mod Borrowing
+pub mod Families
+pub mod Refusals
+pub mod Probes

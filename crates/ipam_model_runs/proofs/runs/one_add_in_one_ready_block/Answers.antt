@@ -1,5 +1,11 @@
-use Rattle.ipam_model_runs.proofs.Computed.{first_run}
+use Rattle.std.proofs.Common.{refl}
+use Rattle.ipam_model_runs.proofs.Unfolded.{runs_computed}
 use Rattle.ipam_model_runs.proofs.runs.one_add_in_one_ready_block.Goals as goal
 
-pub returns : goal.returns
-returns c = first_run
+pub returns-clause-first_run : goal.returns-clause-first_run
+unfolding runs_computed
+returns-clause-first_run c = refl
+
+pub returns-clause-ninth_call : goal.returns-clause-ninth_call
+unfolding runs_computed
+returns-clause-ninth_call c = refl

@@ -1,0 +1,15 @@
+use Rattle.std.proofs.Common.{refl}
+use Rattle.ipam_model_runs.proofs.Unfolded.{runs_computed}
+use Rattle.ipam_model_runs.proofs.runs.adds_that_race.Goals as goal
+
+pub returns-clause-lost_block_write : goal.returns-clause-lost_block_write
+unfolding runs_computed
+returns-clause-lost_block_write c = refl
+
+pub returns-clause-two_nodes_race : goal.returns-clause-two_nodes_race
+unfolding runs_computed
+returns-clause-two_nodes_race c = refl
+
+pub returns-clause-two_nodes_rows : goal.returns-clause-two_nodes_rows
+unfolding runs_computed
+returns-clause-two_nodes_rows c = refl

@@ -1,0 +1,76 @@
+-- Releases of an affinity that race with ADDs.
+use Rattle.std.specs.Prelude.{◌≡◌, ℕ, List, [], ◌∷◌, ◌++◌, Some, None, codes}
+use Rattle.ipam_affinity.specs.declared.state.State.TheVariants.{Pending, Confirmed, PendingDeletion}
+use Rattle.ipam_records.specs.declared.key.Key.TheVariants as key
+use Rattle.ipam_model.specs.declared.answer.Answer.TheVariants as answer
+use Rattle.ipam_model.specs.declared.entry.CallName.TheVariants as name
+use Rattle.ipam_model.specs.declared.entry.Entry.TheVariants as entry
+use Rattle.ipam_model.specs.declared.entry.Fate.TheVariants.{Well}
+use Rattle.ipam_model.specs.declared.entry.Told.TheVariants as told
+use Rattle.ipam_model.specs.declared.request.Request.{Request}
+use Rattle.ipam_model.specs.declared.request.Request.TheVariants as request
+use Rattle.ipam_model.specs.Course.{Begin, Turn, Stop}
+use Rattle.ipam_model_runs.specs.Setting.{v4, slot0, ready_base, bare_base, block_of, affinity_of, handle_of, held, queue4, add, turns, did_read, get_block, get_affinity, get_handle, created, updated, deleted, five_reads, given, goes}
+
+abbrev pub release_first : Request
+release_first = request.Release (codes "a") slot0
+
+-- A claim is overtaken before its write of the block, which the release creates. The ADD loses this
+-- race, claims the block that is nobody's now, and takes its first address.
+abbrev pub ReleasedBeforeTheClaim : Type 0
+ReleasedBeforeTheClaim = goes bare_base
+  (Begin 0 (add (codes "n.c1") (codes "a")) ∷ turns 0 7
+  ++ Begin 1 release_first ∷ turns 1 6
+  ++ Turn 0 Well ∷ turns 0 17)
+  (entry.Began 0 (add (codes "n.c1") (codes "a"))
+  ∷ five_reads 0 0 0
+  ++ get_affinity 0 (codes "a") slot0 told.Missing
+  ∷ created 0 (key.Affinity (codes "a") slot0) 2 (affinity_of (codes "a") slot0 Pending) None
+  ∷ entry.Began 1 release_first
+  ∷ get_affinity 1 (codes "a") slot0 (told.Found 2)
+  ∷ updated 1 (key.Affinity (codes "a") slot0) 2 3 (affinity_of (codes "a") slot0 PendingDeletion) None
+  ∷ get_block 1 slot0 told.Missing
+  ∷ get_affinity 1 (codes "a") slot0 (told.Found 3)
+  ∷ created 1 (key.Block slot0) 4 (block_of slot0 None [] queue4 0) None
+  ∷ deleted 1 (key.Affinity (codes "a") slot0) 3 5 (Some answer.Released)
+  ∷ did_read 0 (name.Create (key.Block slot0)) (told.Exists 4)
+  ∷ five_reads 0 0 1
+  ++ get_affinity 0 (codes "a") slot0 told.Missing
+  ∷ created 0 (key.Affinity (codes "a") slot0) 6 (affinity_of (codes "a") slot0 Pending) None
+  ∷ updated 0 (key.Block slot0) 4 7 (block_of slot0 (Some (codes "a")) [] queue4 1) None
+  ∷ updated 0 (key.Affinity (codes "a") slot0) 6 8 (affinity_of (codes "a") slot0 Confirmed) None
+  ∷ five_reads 0 1 1
+  ++ get_handle 0 (codes "n.c1") told.Missing
+  ∷ created 0 (key.Handle (codes "n.c1")) 9 (handle_of (codes "n.c1") slot0 1) None
+  ∷ updated 0 (key.Block slot0) 7 10
+    (block_of slot0 (Some (codes "a")) (held 0 (codes "n.c1") 2 ∷ []) (1 ∷ 2 ∷ 3 ∷ []) 2)
+    (Some (given (v4 0) 25 32))
+  ∷ [])
+
+-- The ADD finds the affinity marked for deletion, takes it back and confirms it again. The release
+-- has read the block before, so its write is lost.
+abbrev pub AffinityTakenBack : Type 0
+AffinityTakenBack = goes ready_base
+  (Begin 1 release_first ∷ turns 1 4
+  ++ Begin 0 (add (codes "n.c1") (codes "a")) ∷ turns 0 9
+  ++ Turn 1 Well ∷ Stop 1 ∷ turns 0 8)
+  (entry.Began 1 release_first
+  ∷ get_affinity 1 (codes "a") slot0 (told.Found 2)
+  ∷ updated 1 (key.Affinity (codes "a") slot0) 2 4 (affinity_of (codes "a") slot0 PendingDeletion) None
+  ∷ get_block 1 slot0 (told.Found 3)
+  ∷ get_affinity 1 (codes "a") slot0 (told.Found 4)
+  ∷ entry.Began 0 (add (codes "n.c1") (codes "a"))
+  ∷ five_reads 0 1 1
+  ++ get_affinity 0 (codes "a") slot0 (told.Found 4)
+  ∷ updated 0 (key.Affinity (codes "a") slot0) 4 5 (affinity_of (codes "a") slot0 Pending) None
+  ∷ updated 0 (key.Block slot0) 3 6 (block_of slot0 (Some (codes "a")) [] queue4 1) None
+  ∷ updated 0 (key.Affinity (codes "a") slot0) 5 7 (affinity_of (codes "a") slot0 Confirmed) None
+  ∷ did_read 1 (name.Update (key.Block slot0) 3) (told.Conflict 6)
+  ∷ entry.Stopped 1
+  ∷ five_reads 0 1 1
+  ++ get_handle 0 (codes "n.c1") told.Missing
+  ∷ created 0 (key.Handle (codes "n.c1")) 8 (handle_of (codes "n.c1") slot0 1) None
+  ∷ updated 0 (key.Block slot0) 6 9
+    (block_of slot0 (Some (codes "a")) (held 0 (codes "n.c1") 2 ∷ []) (1 ∷ 2 ∷ 3 ∷ []) 2)
+    (Some (given (v4 0) 17 24))
+  ∷ [])
