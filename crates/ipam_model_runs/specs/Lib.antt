@@ -7,5 +7,6 @@ pub mod Stops
 pub mod Collections
 pub mod Borrowing
 pub mod Families
+pub mod Limits
 pub mod Refusals
 pub mod Probes

@@ -1,5 +1,5 @@
 -- What the runs have in common: bases, requests, events, and entries in short.
-use Rattle.std.specs.Prelude.{◌≡◌, ℕ, ◌+◌, zero, suc, Bool, true, false, List, [], ◌∷◌, ◌++◌, length, filter, find, slice_get, Option, Some, None, codes}
+use Rattle.std.specs.Prelude.{◌≡◌, ℕ, ◌+◌, zero, suc, Bool, true, false, List, [], ◌∷◌, ◌++◌, length, map, slice_get, Option, Some, None, codes}
 use Rattle.ipam_addr.specs.declared.address.Family.{Family}
 use Rattle.ipam_addr.specs.declared.address.Family.TheVariants.{V4, V6}
 use Rattle.ipam_addr.specs.Shape.{Address, Range}
@@ -207,3 +207,18 @@ stops base events entries refusal = run base events ≡ record { entries = entri
 -- the datastore behind the events
 abbrev pub store_behind : Base → List Event → Datastore
 store_behind base events = (after_all (start base) (run base events).entries).store
+
+-- ---- a part of what happens, where it is long
+
+-- the entries at some places, how many entries there are, and what stopped the events
+pub record Excerpt : Type 0 where
+  pub entries : List (Option Entry)
+  pub count : ℕ
+  pub refused : Option Refusal
+
+abbrev pub excerpt : (places : List ℕ) → Course → Excerpt
+excerpt places all = record {
+  entries = map (slice_get all.entries) places;
+  count = length all.entries;
+  refused = all.refused;
+}

@@ -6,6 +6,7 @@ ghost use Rattle.ipam_model_runs.specs.Stops.{LostAnswer, LostAnswerRows, Failed
 ghost use Rattle.ipam_model_runs.specs.Collections.{LeakFreed, LiveInSecondList, NotYetWaiting, WaitingHasNoCall, GivenAgainBetweenTheLists, GivenAgainBehindTheLists, FedWithinTheGrace, FedBehindTheGrace, OutsideTheScope};
 ghost use Rattle.ipam_model_runs.specs.Borrowing.{StrictAdd, BorrowingAdd, StrictAddOfOne};
 ghost use Rattle.ipam_model_runs.specs.Families.{SecondFamilyExhausted, NoOwnerIsLeft};
+ghost use Rattle.ipam_model_runs.specs.Limits.{RevisionsSpent, SixtyFourLostRaces};
 ghost use Rattle.ipam_model_runs.specs.Refusals.{CallOfIdle, StopOfIdle, BeginOfBusy};
 ghost use Rattle.ipam_model_runs.specs.Probes.{ReadyFromAny, ReadyFromNamed};
 
@@ -64,6 +65,12 @@ pub fn adds_where_the_own_block_is_full()
 pub fn add_of_both_families()
     ensures second_family_exhausted { SecondFamilyExhausted }
     ensures no_owner_is_left { NoOwnerIsLeft }
+{}
+
+/// A request ends where the revisions are spent, and at its 64th lost race.
+pub fn requests_at_a_limit()
+    ensures revisions_spent { RevisionsSpent }
+    ensures sixty_four_lost_races { SixtyFourLostRaces }
 {}
 
 /// A slot refuses what does not meet it idle or busy.
