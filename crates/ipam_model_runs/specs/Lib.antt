@@ -1,4 +1,4 @@
--- Runs of the model whose every entry is known.
+-- Runs of the model whose every entry is known, and choices in small cases.
 pub mod Setting
 pub mod FirstRun
 pub mod Races
@@ -10,3 +10,4 @@ pub mod Families
 pub mod Limits
 pub mod Refusals
 pub mod Probes
+pub mod Choices
