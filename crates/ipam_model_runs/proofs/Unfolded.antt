@@ -8,6 +8,8 @@ use Rattle.ipam_model.specs.Affinities.{claim, release_with}
 use Rattle.ipam_model.specs.Add.{rounds}
 use Rattle.ipam_model.specs.AddThis.{this_rounds}
 use Rattle.ipam_model.specs.Remove.{del_blocks, free_leaks}
+use Rattle.ipam_model.specs.Look.{check_each}
+use Rattle.ipam_model.specs.Admin.{admin_with}
 use Rattle.ipam_model.specs.Requests.{word_of}
 use Rattle.ipam_model.specs.Cluster.{after}
 use Rattle.ipam_model.specs.Course.{after_all, course}
@@ -23,5 +25,5 @@ unfolding read_number read_octet read_ipv4 read_segment read_segments read_ipv6 
 names_read = tt
 
 unfoldable pub runs_computed : ⊤
-unfolding choice_computed raise lower free claim release_with rounds this_rounds del_blocks free_leaks word_of after after_all course turns
+unfolding choice_computed raise lower free claim release_with rounds this_rounds del_blocks free_leaks check_each admin_with word_of after after_all course turns
 runs_computed = tt

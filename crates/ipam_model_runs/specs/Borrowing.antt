@@ -13,7 +13,7 @@ use Rattle.ipam_model.specs.declared.entry.Entry.TheVariants as entry
 use Rattle.ipam_model.specs.declared.entry.Told.TheVariants as told
 use Rattle.ipam_model.specs.Course.{Begin}
 use Rattle.ipam_model.specs.History.{Base}
-use Rattle.ipam_model_runs.specs.Setting.{v4, v4_range, pool, base_of, block_of, affinity_of, handle_of, held, add, add_this, turns, did, did_read, get_handle, created, updated, scan_from, given, goes}
+use Rattle.ipam_model_runs.specs.Setting.{v4, v4_range, slot0, pool_row, pool, base_of, block_of, affinity_of, handle_of, held, queue4, add, add_this, turns, did, did_read, get_handle, created, updated, scan_from, given, goes}
 
 -- the first of two blocks is a's and full, the second b's with its first address held
 abbrev pub full : Range
@@ -71,4 +71,29 @@ StrictAddOfOne = goes (two_blocks true)
   ∷ did_read 0 (name.Get key.Config) (told.Found 2)
   ∷ did_read 0 (name.Get key.Pools) (told.Found 1)
   ∷ did 0 (name.Get (key.Block with_room)) (told.Found 8) None (Some (answer.NotAffine with_room 3))
+  ∷ [])
+
+-- an empty block without affinity, where no block may be allocated
+abbrev pub bare_block : Base
+bare_block = base_of
+  ((2, record_of.Config (record { strict = false; auto = false; max_blocks = 0 }))
+  ∷ pool_row
+  ∷ (3, block_of slot0 None [] queue4 1)
+  ∷ []) 3
+
+-- An address of it is borrowed, and it stays without affinity.
+abbrev pub BorrowingFromNobody : Type 0
+BorrowingFromNobody = goes bare_block
+  (Begin 0 (add (codes "n.c1") (codes "a")) ∷ turns 0 8)
+  (entry.Began 0 (add (codes "n.c1") (codes "a"))
+  ∷ did_read 0 (name.Get key.Config) (told.Found 2)
+  ∷ did_read 0 (name.Get key.Pools) (told.Found 1)
+  ∷ did_read 0 (name.Get key.Reservations) told.Missing
+  ∷ did_read 0 (name.List kind.Affinity) (told.Listed 0)
+  ∷ did_read 0 (name.List kind.Block) (told.Listed 1)
+  ∷ get_handle 0 (codes "n.c1") told.Missing
+  ∷ created 0 (key.Handle (codes "n.c1")) 4 (handle_of (codes "n.c1") slot0 1) None
+  ∷ updated 0 (key.Block slot0) 3 5
+    (block_of slot0 None (held 0 (codes "n.c1") 2 ∷ []) (1 ∷ 2 ∷ 3 ∷ []) 2)
+    (Some (given (v4 0) 1 8))
   ∷ [])

@@ -8,6 +8,10 @@ pub mod Collections
 pub mod Borrowing
 pub mod Families
 pub mod Limits
+pub mod OneAddress
+pub mod Deletions
+pub mod Checks
+pub mod Administration
 pub mod Refusals
 pub mod Probes
 pub mod Choices

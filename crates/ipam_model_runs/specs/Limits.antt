@@ -1,5 +1,6 @@
 -- Requests that come to a limit.
-use Rattle.std.specs.Prelude.{◌≡◌, ℕ, zero, suc, List, [], ◌∷◌, ◌++◌, Option, Some, None, codes}
+use Rattle.std.specs.Prelude.{◌≡◌, ℕ, ◌-◌, ◌^◌, zero, suc, List, [], ◌∷◌, ◌++◌, Option, Some, None, codes}
+use Rattle.ipam_affinity.specs.declared.state.State.TheVariants.{Confirmed}
 use Rattle.ipam_records.specs.declared.key.Key.TheVariants as key
 use Rattle.ipam_model.specs.declared.answer.Answer.{Answer}
 use Rattle.ipam_model.specs.declared.answer.Answer.TheVariants as answer
@@ -7,9 +8,11 @@ use Rattle.ipam_model.specs.declared.entry.CallName.TheVariants as name
 use Rattle.ipam_model.specs.declared.entry.Entry.{Entry}
 use Rattle.ipam_model.specs.declared.entry.Entry.TheVariants as entry
 use Rattle.ipam_model.specs.declared.entry.Told.TheVariants as told
-use Rattle.ipam_model.specs.declared.request.Request.TheVariants.{Del}
-use Rattle.ipam_model.specs.Course.{Event, Begin}
-use Rattle.ipam_model_runs.specs.Setting.{v4, slot0, ready_rows, ready_base, base_of, handle_of, add, add_this, turns, did, get_handle, created, five_reads, goes, run, Excerpt, excerpt}
+use Rattle.ipam_model.specs.declared.request.Request.TheVariants.{Del, Release}
+use Rattle.ipam_model.specs.Course.{Event, Begin, Turn, Stop, Worn}
+use Rattle.ipam_model.specs.declared.entry.Fate.TheVariants.{Well}
+use Rattle.ipam_model.specs.History.{Base}
+use Rattle.ipam_model_runs.specs.Setting.{v4, slot0, pool_row, ready_rows, ready_base, bare_base, base_of, block_of, affinity_of, handle_of, queue4, add, add_this, turns, did, updated, get_handle, created, five_reads, goes, stops, run, Excerpt, excerpt}
 
 -- ---- the last revision
 
@@ -61,3 +64,71 @@ SixtyFourLostRaces =
       count = 1055;
       refused = None;
     }
+
+-- ---- 64 claims
+
+-- the ADD claims the first slot
+abbrev pub claims : List Event
+claims = turns 0 9
+
+-- and its claim is released before it looks again
+abbrev pub released : List Event
+released = Begin 1 (Release (codes "a") slot0) ∷ turns 1 6
+
+unfoldable pub claim_rounds : (many : ℕ) → List Event
+claim_rounds zero = []
+claim_rounds (suc many) = claims ++ released ++ claim_rounds many
+
+abbrev pub confirms : (seen revision : ℕ) → Option Answer → Entry
+confirms seen revision answer =
+    updated 0 (key.Affinity (codes "a") slot0) seen revision (affinity_of (codes "a") slot0 Confirmed) answer
+
+-- After the 63rd claim another round begins, and the 64th ends the request in its entry.
+abbrev pub SixtyFourClaims : Type 0
+SixtyFourClaims =
+    excerpt (1001 ∷ 1017 ∷ [])
+      (run bare_base (Begin 0 (add (codes "n.c1") (codes "a")) ∷ claim_rounds 63 ++ claims))
+    ≡ record {
+      entries = Some (confirms 374 376 None) ∷ Some (confirms 380 382 (Some (answer.Again 0 64))) ∷ [];
+      count = 1018;
+      refused = None;
+    }
+
+-- ---- the highest count
+
+abbrev pub highest_count : Base
+highest_count = base_of
+  (pool_row
+  ∷ (3, block_of slot0 (Some (codes "a")) [] queue4 0)
+  ∷ (2, affinity_of (codes "a") slot0 Confirmed)
+  ∷ (4, handle_of (codes "n.c1") slot0 4294967295)
+  ∷ []) 4
+
+abbrev pub CountAtItsLimit : Type 0
+CountAtItsLimit = goes highest_count
+  (Begin 0 (add (codes "n.c1") (codes "a")) ∷ turns 0 6)
+  (entry.Began 0 (add (codes "n.c1") (codes "a"))
+  ∷ five_reads 0 1 1
+  ++ did 0 (name.Get (key.Handle (codes "n.c1"))) (told.Found 4) None (Some (answer.CountFull 6))
+  ∷ [])
+
+-- ---- the last entry
+
+-- a cluster that had so many entries before
+abbrev pub begun_at : ℕ → Base
+begun_at first = record ready_base { first = first }
+
+abbrev pub WornAtFirst : Type 0
+WornAtFirst = stops (begun_at (2 ^ 62)) (Begin 0 (add (codes "n.c1") (codes "a")) ∷ []) [] Worn
+
+-- One entry is left. What it begins has no turn any more, and can be stopped.
+abbrev pub WornBehindOne : Type 0
+WornBehindOne = stops (begun_at (2 ^ 62 - 1))
+  (Begin 0 (add (codes "n.c1") (codes "a")) ∷ Turn 0 Well ∷ [])
+  (entry.Began 0 (add (codes "n.c1") (codes "a")) ∷ [])
+  Worn
+
+abbrev pub WornAndStopped : Type 0
+WornAndStopped = goes (begun_at (2 ^ 62 - 1))
+  (Begin 0 (add (codes "n.c1") (codes "a")) ∷ Stop 0 ∷ [])
+  (entry.Began 0 (add (codes "n.c1") (codes "a")) ∷ entry.Stopped 0 ∷ [])

@@ -10,7 +10,7 @@ use Rattle.ipam_model.specs.declared.entry.Told.TheVariants as told
 use Rattle.ipam_model.specs.declared.request.Request.{Request}
 use Rattle.ipam_model.specs.declared.request.Request.TheVariants as request
 use Rattle.ipam_model.specs.Course.{Begin, Turn, Stop}
-use Rattle.ipam_model_runs.specs.Setting.{v4, slot0, ready_base, bare_base, block_of, affinity_of, handle_of, held, queue4, add, turns, did_read, get_block, get_affinity, get_handle, created, updated, deleted, five_reads, given, goes}
+use Rattle.ipam_model_runs.specs.Setting.{v4, slot0, ready_base, bare_base, held_base, block_of, affinity_of, handle_of, held, queue4, add, turns, did, did_read, get_block, get_affinity, get_handle, created, updated, deleted, five_reads, given, goes}
 
 abbrev pub release_first : Request
 release_first = request.Release (codes "a") slot0
@@ -73,4 +73,22 @@ AffinityTakenBack = goes ready_base
   ∷ updated 0 (key.Block slot0) 6 9
     (block_of slot0 (Some (codes "a")) (held 0 (codes "n.c1") 2 ∷ []) (1 ∷ 2 ∷ 3 ∷ []) 2)
     (Some (given (v4 0) 17 24))
+  ∷ [])
+
+-- ---- a release with nobody beside it
+
+-- The block keeps what is held in it. Then there is no affinity any more.
+abbrev pub ReleasedTwice : Type 0
+ReleasedTwice = goes held_base
+  (Begin 0 release_first ∷ turns 0 6 ++ Begin 0 release_first ∷ turns 0 1)
+  (entry.Began 0 release_first
+  ∷ get_affinity 0 (codes "a") slot0 (told.Found 2)
+  ∷ updated 0 (key.Affinity (codes "a") slot0) 2 5 (affinity_of (codes "a") slot0 PendingDeletion) None
+  ∷ get_block 0 slot0 (told.Found 3)
+  ∷ get_affinity 0 (codes "a") slot0 (told.Found 5)
+  ∷ updated 0 (key.Block slot0) 3 6
+    (block_of slot0 None (held 0 (codes "n.c1") 1 ∷ []) (1 ∷ 2 ∷ 3 ∷ []) 2) None
+  ∷ deleted 0 (key.Affinity (codes "a") slot0) 5 7 (Some answer.Released)
+  ∷ entry.Began 0 release_first
+  ∷ did 0 (name.Get (key.Affinity (codes "a") slot0)) told.Missing None (Some (answer.NoAffinity 8))
   ∷ [])

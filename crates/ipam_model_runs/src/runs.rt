@@ -1,19 +1,24 @@
 //! Whole runs.
-ghost use Rattle.ipam_model_runs.specs.FirstRun.{FirstRun, NinthCall};
+ghost use Rattle.ipam_model_runs.specs.FirstRun.{FirstRun, NinthCall, FifthExhausted};
 ghost use Rattle.ipam_model_runs.specs.Races.{LostBlockWrite, TwoNodesRace, TwoNodesRows};
-ghost use Rattle.ipam_model_runs.specs.Releases.{ReleasedBeforeTheClaim, AffinityTakenBack};
+ghost use Rattle.ipam_model_runs.specs.Releases.{ReleasedBeforeTheClaim, AffinityTakenBack, ReleasedTwice};
 ghost use Rattle.ipam_model_runs.specs.Stops.{LostAnswer, LostAnswerRows, FailedWrite, FailedWriteRows, StoppedAdd, StoppedAddRows, RestartOfIdle, RestartOfBusy};
 ghost use Rattle.ipam_model_runs.specs.Collections.{LeakFreed, LiveInSecondList, NotYetWaiting, WaitingHasNoCall, GivenAgainBetweenTheLists, GivenAgainBehindTheLists, FedWithinTheGrace, FedBehindTheGrace, OutsideTheScope};
-ghost use Rattle.ipam_model_runs.specs.Borrowing.{StrictAdd, BorrowingAdd, StrictAddOfOne};
+ghost use Rattle.ipam_model_runs.specs.Borrowing.{StrictAdd, BorrowingAdd, StrictAddOfOne, BorrowingFromNobody};
 ghost use Rattle.ipam_model_runs.specs.Families.{SecondFamilyExhausted, NoOwnerIsLeft};
-ghost use Rattle.ipam_model_runs.specs.Limits.{RevisionsSpent, SixtyFourLostRaces};
+ghost use Rattle.ipam_model_runs.specs.Limits.{RevisionsSpent, SixtyFourLostRaces, SixtyFourClaims, CountAtItsLimit, WornAtFirst, WornBehindOne, WornAndStopped};
+ghost use Rattle.ipam_model_runs.specs.OneAddress.{TakenAddress, AddressInNoPool, ReservedAddress, ClaimedForOneAddress};
+ghost use Rattle.ipam_model_runs.specs.Deletions.{DelOfTwoBlocks, DelOfMissing};
+ghost use Rattle.ipam_model_runs.specs.Checks.{Recorded, RecordedToAnother, SecondNotRecorded, InNoPool, SecondInNoPool, InDisabledPool};
+ghost use Rattle.ipam_model_runs.specs.Administration.{ReservationMade, PoolOverlaps, PoolDisabled};
 ghost use Rattle.ipam_model_runs.specs.Refusals.{CallOfIdle, StopOfIdle, BeginOfBusy};
 ghost use Rattle.ipam_model_runs.specs.Probes.{ReadyFromAny, ReadyFromNamed};
 
-/// One ADD takes the first address of the node's own block.
-pub fn one_add_in_one_ready_block()
+/// An ADD takes the next address of the node's own block, until there is none.
+pub fn adds_in_one_ready_block()
     ensures first_run { FirstRun }
     ensures ninth_call { NinthCall }
+    ensures fifth_exhausted { FifthExhausted }
 {}
 
 /// Two ADDs lose races to each other, on one node and on two.
@@ -23,10 +28,11 @@ pub fn adds_that_race()
     ensures two_nodes_rows { TwoNodesRows }
 {}
 
-/// An ADD and a release of the same affinity lose races to each other.
-pub fn releases_that_race()
+/// An affinity is released, alone and in races with an ADD.
+pub fn releases()
     ensures released_before_the_claim { ReleasedBeforeTheClaim }
     ensures affinity_taken_back { AffinityTakenBack }
+    ensures released_twice { ReleasedTwice }
 {}
 
 /// Calls fail before and behind a write, and requests are stopped.
@@ -54,11 +60,12 @@ pub fn collections()
     ensures outside_the_scope { OutsideTheScope }
 {}
 
-/// A node whose block is full borrows an address, unless affinity is strict.
-pub fn adds_where_the_own_block_is_full()
+/// An address is borrowed where the node may have no other block, unless affinity is strict.
+pub fn adds_that_borrow()
     ensures strict_add { StrictAdd }
     ensures borrowing_add { BorrowingAdd }
     ensures strict_add_of_one { StrictAddOfOne }
+    ensures borrowing_from_nobody { BorrowingFromNobody }
 {}
 
 /// An ADD of both families frees the first address where the second family has none.
@@ -67,10 +74,46 @@ pub fn add_of_both_families()
     ensures no_owner_is_left { NoOwnerIsLeft }
 {}
 
-/// A request ends where the revisions are spent, and at its 64th lost race.
+/// A request ends at the last revision, the 64th lost race or claim, and the highest count.
 pub fn requests_at_a_limit()
     ensures revisions_spent { RevisionsSpent }
     ensures sixty_four_lost_races { SixtyFourLostRaces }
+    ensures sixty_four_claims { SixtyFourClaims }
+    ensures count_at_its_limit { CountAtItsLimit }
+    ensures worn_at_first { WornAtFirst }
+    ensures worn_behind_one { WornBehindOne }
+    ensures worn_and_stopped { WornAndStopped }
+{}
+
+/// One address is asked for: it is taken, in no pool, reserved, or in a block that is missing.
+pub fn adds_of_one_address()
+    ensures taken_address { TakenAddress }
+    ensures address_in_no_pool { AddressInNoPool }
+    ensures reserved_address { ReservedAddress }
+    ensures claimed_for_one_address { ClaimedForOneAddress }
+{}
+
+/// A DEL frees what its handle holds in each block, and nothing else.
+pub fn deletions()
+    ensures del_of_two_blocks { DelOfTwoBlocks }
+    ensures del_of_missing { DelOfMissing }
+{}
+
+/// A CHECK tells the first address that its handle does not hold.
+pub fn checks()
+    ensures recorded { Recorded }
+    ensures recorded_to_another { RecordedToAnother }
+    ensures second_not_recorded { SecondNotRecorded }
+    ensures in_no_pool { InNoPool }
+    ensures second_in_no_pool { SecondInNoPool }
+    ensures in_disabled_pool { InDisabledPool }
+{}
+
+/// An operator reserves addresses, and makes and disables pools.
+pub fn changes_by_an_operator()
+    ensures reservation_made { ReservationMade }
+    ensures pool_overlaps { PoolOverlaps }
+    ensures pool_disabled { PoolDisabled }
 {}
 
 /// A slot refuses what does not meet it idle or busy.
