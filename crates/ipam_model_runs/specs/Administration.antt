@@ -61,3 +61,22 @@ PoolDisabled = goes ready_base
     (record_of.Pools (record (pool (codes "p") (v4_range 0 29) 30) { disabled = true } ∷ []))
     (Some (answer.Done 4))
   ∷ [])
+
+abbrev pub last_reserved : NamedRanges
+last_reserved = record { name = codes "s"; cidrs = v4_range 7 32 ∷ [] }
+
+-- a change whose write is lost is made again to what is there
+abbrev pub ChangesRace : Type 0
+ChangesRace = goes ready_base
+  (Begin 0 (Admin (change.Reserve two_reserved)) ∷ turns 0 1
+  ++ Begin 1 (Admin (change.Reserve last_reserved)) ∷ turns 1 2 ++ turns 0 3)
+  (entry.Began 0 (Admin (change.Reserve two_reserved))
+  ∷ did_read 0 (name.Get key.Reservations) told.Missing
+  ∷ entry.Began 1 (Admin (change.Reserve last_reserved))
+  ∷ did_read 1 (name.Get key.Reservations) told.Missing
+  ∷ created 1 key.Reservations 4 (record_of.Reservations (last_reserved ∷ [])) (Some (answer.Done 4))
+  ∷ did_read 0 (name.Create key.Reservations) (told.Exists 4)
+  ∷ did_read 0 (name.Get key.Reservations) (told.Found 4)
+  ∷ updated 0 key.Reservations 4 5 (record_of.Reservations (last_reserved ∷ two_reserved ∷ []))
+    (Some (answer.Done 5))
+  ∷ [])

@@ -1,5 +1,7 @@
 -- Collections of addresses that no live handle owns.
 use Rattle.std.specs.Prelude.{◌≡◌, ℕ, ◌+◌, Bool, true, false, List, [], ◌∷◌, ◌++◌, Option, Some, None, codes}
+use Rattle.ipam_block.specs.declared.allocation.Allocation.{Allocation}
+use Rattle.ipam_affinity.specs.declared.state.State.TheVariants.{Confirmed}
 use Rattle.ipam_records.specs.declared.key.Key.TheVariants as key
 use Rattle.ipam_records.specs.declared.key.Kind.TheVariants as kind
 use Rattle.ipam_model.specs.declared.answer.Answer.{Answer}
@@ -12,7 +14,8 @@ use Rattle.ipam_model.specs.declared.entry.Told.TheVariants as told
 use Rattle.ipam_model.specs.declared.request.Request.{Request}
 use Rattle.ipam_model.specs.declared.request.Request.TheVariants.{Del, Collect}
 use Rattle.ipam_model.specs.Course.{Event, Begin, Feed, NotWaiting, TooSoon, Waiting}
-use Rattle.ipam_model_runs.specs.Setting.{v4, slot0, held_base, block_of, handle_of, held, add_this, turns, did, did_read, get_block, get_handle, created, updated, deleted, given_this, goes, stops}
+use Rattle.ipam_model.specs.History.{Base}
+use Rattle.ipam_model_runs.specs.Setting.{v4, slot0, pool_row, base_of, held_base, block_of, affinity_of, handle_of, held, add_this, turns, did, did_read, get_block, get_handle, created, updated, deleted, given_this, goes, stops}
 
 abbrev pub collection : (at grace : ℕ) → (scope : Option (List ℕ × List ℕ)) → Request
 collection at grace scope = Collect (record { live = []; at = at; grace = grace; scope = scope })
@@ -48,7 +51,20 @@ LeakFreed = goes held_base
   (Begin 0 collect_all ∷ turns 0 1 ++ Feed 0 0 [] ∷ turns 0 5)
   (entry.Began 0 collect_all ∷ list_blocks None ∷ entry.Fed 0 0 [] ∷ freeing)
 
--- a handle of the second list is live
+-- a handle of the first list is live
+abbrev pub first_live : Request
+first_live = Collect (record { live = codes "n.c1" ∷ []; at = 0; grace = 0; scope = None })
+
+abbrev pub LiveInFirstList : Type 0
+LiveInFirstList = goes held_base
+  (Begin 0 first_live ∷ turns 0 1 ++ Feed 0 0 [] ∷ turns 0 1)
+  (entry.Began 0 first_live
+  ∷ list_blocks None
+  ∷ entry.Fed 0 0 []
+  ∷ list_blocks (Some (collected 1 3 []))
+  ∷ [])
+
+-- and so is one of the second list
 abbrev pub LiveInSecondList : Type 0
 LiveInSecondList = goes held_base
   (Begin 0 collect_all ∷ turns 0 1 ++ Feed 0 0 (codes "n.c1" ∷ []) ∷ turns 0 1)
@@ -145,4 +161,42 @@ OutsideTheScope = goes held_base
   ∷ list_blocks None
   ∷ entry.Fed 0 0 []
   ∷ list_blocks (Some (collected 1 3 []))
+  ∷ [])
+
+-- n.c1 holds three addresses: two are recorded with the network, of which one is with the node
+abbrev pub scoped : (ordinal : ℕ) → (secondary : List (List ℕ × List ℕ)) → (stamp : ℕ) → Allocation
+scoped ordinal secondary stamp = record {
+  ordinal = ordinal; attributes = record { handle = codes "n.c1"; secondary = secondary }; stamp = stamp;
+}
+
+abbrev pub elsewhere : Allocation
+elsewhere = scoped 0 ((codes "network", codes "n") ∷ (codes "node", codes "b") ∷ []) 1
+
+abbrev pub here : Allocation
+here = scoped 1 ((codes "network", codes "n") ∷ (codes "node", codes "a") ∷ []) 2
+
+abbrev pub in_another : Allocation
+in_another = scoped 2 ((codes "network", codes "m") ∷ (codes "node", codes "a") ∷ []) 3
+
+abbrev pub scoped_base : Base
+scoped_base = base_of
+  (pool_row
+  ∷ (3, block_of slot0 (Some (codes "a")) (elsewhere ∷ here ∷ in_another ∷ []) (3 ∷ []) 3)
+  ∷ (2, affinity_of (codes "a") slot0 Confirmed)
+  ∷ (4, handle_of (codes "n.c1") slot0 3)
+  ∷ []) 4
+
+abbrev pub InsideTheScope : Type 0
+InsideTheScope = goes scoped_base
+  (Begin 0 of_one_node ∷ turns 0 1 ++ Feed 0 0 [] ∷ turns 0 5)
+  (entry.Began 0 of_one_node
+  ∷ list_blocks None
+  ∷ entry.Fed 0 0 []
+  ∷ list_blocks None
+  ∷ get_block 0 slot0 (told.Found 3)
+  ∷ updated 0 (key.Block slot0) 3 5
+    (block_of slot0 (Some (codes "a")) (elsewhere ∷ in_another ∷ []) (3 ∷ 1 ∷ []) 4) None
+  ∷ get_handle 0 (codes "n.c1") (told.Found 4)
+  ∷ updated 0 (key.Handle (codes "n.c1")) 4 6 (handle_of (codes "n.c1") slot0 2)
+    (Some (collected 1 3 (record { address = v4 1; handle = codes "n.c1"; stamp = 2; freed = true } ∷ [])))
   ∷ [])

@@ -1,13 +1,15 @@
--- ADDs that lose races to each other.
+-- ADDs and a DEL that lose races to an ADD.
 use Rattle.std.specs.Prelude.{◌≡◌, ℕ, List, [], ◌∷◌, ◌++◌, Some, None, codes}
 use Rattle.ipam_affinity.specs.declared.state.State.TheVariants.{Pending, Confirmed}
 use Rattle.ipam_records.specs.declared.key.Key.TheVariants as key
+use Rattle.ipam_model.specs.declared.answer.Answer.TheVariants as answer
 use Rattle.ipam_model.specs.declared.entry.CallName.TheVariants as name
 use Rattle.ipam_model.specs.declared.entry.Entry.{Entry}
 use Rattle.ipam_model.specs.declared.entry.Entry.TheVariants as entry
 use Rattle.ipam_model.specs.declared.entry.Told.TheVariants as told
+use Rattle.ipam_model.specs.declared.request.Request.TheVariants.{Del}
 use Rattle.ipam_model.specs.Course.{Event, Begin}
-use Rattle.ipam_model_runs.specs.Setting.{v4, slot0, slot1, pool_row, ready_base, bare_base, block_of, affinity_of, handle_of, held, queue4, add, turns, did_read, get_affinity, get_handle, created, updated, deleted, five_reads, given, goes, store_behind}
+use Rattle.ipam_model_runs.specs.Setting.{v4, slot0, slot1, pool_row, ready_base, bare_base, block_of, affinity_of, handle_of, held_base, held, queue4, add, add_this, turns, did, did_read, get_block, get_affinity, get_handle, created, updated, deleted, five_reads, given, given_this, goes, store_behind}
 
 -- ---- two ADDs on one node
 
@@ -94,3 +96,90 @@ TwoNodesRows = store_behind bare_base two_nodes ≡ record {
     ∷ [];
   counter = 12;
 }
+
+-- ---- two ADDs for one handle
+
+-- The first loses its creation of the handle, reads it again and raises the count to two. Then it
+-- loses its write of the block, lowers the count to one, and takes the next address.
+abbrev pub RaceForOneHandle : Type 0
+RaceForOneHandle = goes ready_base
+  (Begin 0 (add (codes "n.c1") (codes "a")) ∷ Begin 1 (add (codes "n.c1") (codes "a"))
+  ∷ turns 0 6 ++ turns 1 8 ++ turns 0 14)
+  (entry.Began 0 (add (codes "n.c1") (codes "a"))
+  ∷ entry.Began 1 (add (codes "n.c1") (codes "a"))
+  ∷ five_reads 0 1 1
+  ++ get_handle 0 (codes "n.c1") told.Missing
+  ∷ five_reads 1 1 1
+  ++ get_handle 1 (codes "n.c1") told.Missing
+  ∷ created 1 (key.Handle (codes "n.c1")) 4 (handle_of (codes "n.c1") slot0 1) None
+  ∷ updated 1 (key.Block slot0) 3 5
+    (block_of slot0 (Some (codes "a")) (held 0 (codes "n.c1") 1 ∷ []) (1 ∷ 2 ∷ 3 ∷ []) 1)
+    (Some (given (v4 0) 8 15))
+  ∷ did_read 0 (name.Create (key.Handle (codes "n.c1"))) (told.Exists 4)
+  ∷ get_handle 0 (codes "n.c1") (told.Found 4)
+  ∷ updated 0 (key.Handle (codes "n.c1")) 4 6 (handle_of (codes "n.c1") slot0 2) None
+  ∷ did_read 0 (name.Update (key.Block slot0) 3) (told.Conflict 5)
+  ∷ get_handle 0 (codes "n.c1") (told.Found 6)
+  ∷ updated 0 (key.Handle (codes "n.c1")) 6 7 (handle_of (codes "n.c1") slot0 1) None
+  ∷ five_reads 0 1 1
+  ++ get_handle 0 (codes "n.c1") (told.Found 7)
+  ∷ updated 0 (key.Handle (codes "n.c1")) 7 8 (handle_of (codes "n.c1") slot0 2) None
+  ∷ updated 0 (key.Block slot0) 5 9
+    (block_of slot0 (Some (codes "a")) (held 0 (codes "n.c1") 1 ∷ held 1 (codes "n.c1") 2 ∷ []) (2 ∷ 3 ∷ []) 2)
+    (Some (given (v4 1) 22 29))
+  ∷ [])
+
+-- ---- two ADDs of one address
+
+-- The first loses its write of the block, lowers its count, and finds the address taken.
+abbrev pub RaceForOneAddress : Type 0
+RaceForOneAddress = goes ready_base
+  (Begin 0 (add_this (codes "n.c1") (codes "a") (v4 1)) ∷ turns 0 5
+  ++ Begin 1 (add_this (codes "n.c2") (codes "a") (v4 1)) ∷ turns 1 6 ++ turns 0 6)
+  (entry.Began 0 (add_this (codes "n.c1") (codes "a") (v4 1))
+  ∷ did_read 0 (name.Get key.Config) told.Missing
+  ∷ did_read 0 (name.Get key.Pools) (told.Found 1)
+  ∷ get_block 0 slot0 (told.Found 3)
+  ∷ get_handle 0 (codes "n.c1") told.Missing
+  ∷ created 0 (key.Handle (codes "n.c1")) 4 (handle_of (codes "n.c1") slot0 1) None
+  ∷ entry.Began 1 (add_this (codes "n.c2") (codes "a") (v4 1))
+  ∷ did_read 1 (name.Get key.Config) told.Missing
+  ∷ did_read 1 (name.Get key.Pools) (told.Found 1)
+  ∷ get_block 1 slot0 (told.Found 3)
+  ∷ get_handle 1 (codes "n.c2") told.Missing
+  ∷ created 1 (key.Handle (codes "n.c2")) 5 (handle_of (codes "n.c2") slot0 1) None
+  ∷ updated 1 (key.Block slot0) 3 6
+    (block_of slot0 (Some (codes "a")) (held 1 (codes "n.c2") 1 ∷ []) (0 ∷ 2 ∷ 3 ∷ []) 1)
+    (Some (given_this (v4 1) 7 12))
+  ∷ did_read 0 (name.Update (key.Block slot0) 3) (told.Conflict 6)
+  ∷ get_handle 0 (codes "n.c1") (told.Found 4)
+  ∷ deleted 0 (key.Handle (codes "n.c1")) 4 7 None
+  ∷ did_read 0 (name.Get key.Config) told.Missing
+  ∷ did_read 0 (name.Get key.Pools) (told.Found 1)
+  ∷ did 0 (name.Get (key.Block slot0)) (told.Found 6) None (Some (answer.Taken (codes "n.c2") 18))
+  ∷ [])
+
+-- ---- a DEL and an ADD
+
+-- The DEL loses its write of the block, reads the block again, and writes it.
+abbrev pub DelLosesItsWrite : Type 0
+DelLosesItsWrite = goes held_base
+  (Begin 0 (Del (codes "n.c1")) ∷ turns 0 2
+  ++ Begin 1 (add (codes "n.c2") (codes "a")) ∷ turns 1 8 ++ turns 0 5)
+  (entry.Began 0 (Del (codes "n.c1"))
+  ∷ get_handle 0 (codes "n.c1") (told.Found 4)
+  ∷ get_block 0 slot0 (told.Found 3)
+  ∷ entry.Began 1 (add (codes "n.c2") (codes "a"))
+  ∷ five_reads 1 1 1
+  ++ get_handle 1 (codes "n.c2") told.Missing
+  ∷ created 1 (key.Handle (codes "n.c2")) 5 (handle_of (codes "n.c2") slot0 1) None
+  ∷ updated 1 (key.Block slot0) 3 6
+    (block_of slot0 (Some (codes "a")) (held 0 (codes "n.c1") 1 ∷ held 1 (codes "n.c2") 2 ∷ []) (2 ∷ 3 ∷ []) 2)
+    (Some (given (v4 1) 4 11))
+  ∷ did_read 0 (name.Update (key.Block slot0) 3) (told.Conflict 6)
+  ∷ get_block 0 slot0 (told.Found 6)
+  ∷ updated 0 (key.Block slot0) 6 7
+    (block_of slot0 (Some (codes "a")) (held 1 (codes "n.c2") 2 ∷ []) (2 ∷ 3 ∷ 0 ∷ []) 3) None
+  ∷ get_handle 0 (codes "n.c1") (told.Found 4)
+  ∷ deleted 0 (key.Handle (codes "n.c1")) 4 8 (Some (answer.Deleted 1))
+  ∷ [])

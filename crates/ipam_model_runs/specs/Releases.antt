@@ -10,7 +10,8 @@ use Rattle.ipam_model.specs.declared.entry.Told.TheVariants as told
 use Rattle.ipam_model.specs.declared.request.Request.{Request}
 use Rattle.ipam_model.specs.declared.request.Request.TheVariants as request
 use Rattle.ipam_model.specs.Course.{Begin, Turn, Stop}
-use Rattle.ipam_model_runs.specs.Setting.{v4, slot0, ready_base, bare_base, held_base, block_of, affinity_of, handle_of, held, queue4, add, turns, did, did_read, get_block, get_affinity, get_handle, created, updated, deleted, five_reads, given, goes}
+use Rattle.ipam_model.specs.History.{Base}
+use Rattle.ipam_model_runs.specs.Setting.{v4, slot0, pool_row, base_of, ready_base, bare_base, held_base, block_of, affinity_of, handle_of, held, queue4, add, turns, did, did_read, get_block, get_affinity, get_handle, created, updated, deleted, five_reads, given, goes}
 
 abbrev pub release_first : Request
 release_first = request.Release (codes "a") slot0
@@ -91,4 +92,26 @@ ReleasedTwice = goes held_base
   ∷ deleted 0 (key.Affinity (codes "a") slot0) 5 7 (Some answer.Released)
   ∷ entry.Began 0 release_first
   ∷ did 0 (name.Get (key.Affinity (codes "a") slot0)) told.Missing None (Some (answer.NoAffinity 8))
+  ∷ [])
+
+-- a claim of the node a was given up, and the block is b's
+abbrev pub others_block : Base
+others_block = base_of
+  (pool_row
+  ∷ (4, block_of slot0 (Some (codes "b")) [] queue4 0)
+  ∷ (2, affinity_of (codes "a") slot0 Pending)
+  ∷ (3, affinity_of (codes "b") slot0 Confirmed)
+  ∷ []) 4
+
+-- The affinity of a goes, and the block stays b's.
+abbrev pub ReleasedBesideAnother : Type 0
+ReleasedBesideAnother = goes others_block
+  (Begin 0 release_first ∷ turns 0 6)
+  (entry.Began 0 release_first
+  ∷ get_affinity 0 (codes "a") slot0 (told.Found 2)
+  ∷ updated 0 (key.Affinity (codes "a") slot0) 2 5 (affinity_of (codes "a") slot0 PendingDeletion) None
+  ∷ get_block 0 slot0 (told.Found 4)
+  ∷ get_affinity 0 (codes "a") slot0 (told.Found 5)
+  ∷ updated 0 (key.Block slot0) 4 6 (block_of slot0 (Some (codes "b")) [] queue4 1) None
+  ∷ deleted 0 (key.Affinity (codes "a") slot0) 5 7 (Some answer.Released)
   ∷ [])

@@ -1,18 +1,18 @@
 //! Whole runs.
 ghost use Rattle.ipam_model_runs.specs.FirstRun.{FirstRun, NinthCall, FifthExhausted};
-ghost use Rattle.ipam_model_runs.specs.Races.{LostBlockWrite, TwoNodesRace, TwoNodesRows};
-ghost use Rattle.ipam_model_runs.specs.Releases.{ReleasedBeforeTheClaim, AffinityTakenBack, ReleasedTwice};
+ghost use Rattle.ipam_model_runs.specs.Races.{LostBlockWrite, TwoNodesRace, TwoNodesRows, RaceForOneHandle, RaceForOneAddress, DelLosesItsWrite};
+ghost use Rattle.ipam_model_runs.specs.Releases.{ReleasedBeforeTheClaim, AffinityTakenBack, ReleasedTwice, ReleasedBesideAnother};
 ghost use Rattle.ipam_model_runs.specs.Stops.{LostAnswer, LostAnswerRows, FailedWrite, FailedWriteRows, StoppedAdd, StoppedAddRows, RestartOfIdle, RestartOfBusy};
-ghost use Rattle.ipam_model_runs.specs.Collections.{LeakFreed, LiveInSecondList, NotYetWaiting, WaitingHasNoCall, GivenAgainBetweenTheLists, GivenAgainBehindTheLists, FedWithinTheGrace, FedBehindTheGrace, OutsideTheScope};
+ghost use Rattle.ipam_model_runs.specs.Collections.{LeakFreed, LiveInFirstList, LiveInSecondList, NotYetWaiting, WaitingHasNoCall, GivenAgainBetweenTheLists, GivenAgainBehindTheLists, FedWithinTheGrace, FedBehindTheGrace, OutsideTheScope, InsideTheScope};
 ghost use Rattle.ipam_model_runs.specs.Borrowing.{StrictAdd, BorrowingAdd, StrictAddOfOne, BorrowingFromNobody};
-ghost use Rattle.ipam_model_runs.specs.Families.{SecondFamilyExhausted, NoOwnerIsLeft};
+ghost use Rattle.ipam_model_runs.specs.Families.{SecondFamilyExhausted, NoOwnerIsLeft, GivenAgainBeforeTheSecond};
 ghost use Rattle.ipam_model_runs.specs.Limits.{RevisionsSpent, SixtyFourLostRaces, SixtyFourClaims, CountAtItsLimit, WornAtFirst, WornBehindOne, WornAndStopped};
 ghost use Rattle.ipam_model_runs.specs.OneAddress.{TakenAddress, AddressInNoPool, ReservedAddress, ClaimedForOneAddress};
 ghost use Rattle.ipam_model_runs.specs.Deletions.{DelOfTwoBlocks, DelOfMissing};
 ghost use Rattle.ipam_model_runs.specs.Checks.{Recorded, RecordedToAnother, SecondNotRecorded, InNoPool, SecondInNoPool, InDisabledPool};
-ghost use Rattle.ipam_model_runs.specs.Administration.{ReservationMade, PoolOverlaps, PoolDisabled};
+ghost use Rattle.ipam_model_runs.specs.Administration.{ReservationMade, PoolOverlaps, PoolDisabled, ChangesRace};
 ghost use Rattle.ipam_model_runs.specs.Refusals.{CallOfIdle, StopOfIdle, BeginOfBusy};
-ghost use Rattle.ipam_model_runs.specs.Probes.{ReadyFromAny, ReadyFromNamed};
+ghost use Rattle.ipam_model_runs.specs.Probes.{ReadyFromAny, ReadyFromNamed, ReadyForAnotherNode, ProbeOfUnknownName, ExhaustedInOneFamily};
 
 /// An ADD takes the next address of the node's own block, until there is none.
 pub fn adds_in_one_ready_block()
@@ -21,11 +21,14 @@ pub fn adds_in_one_ready_block()
     ensures fifth_exhausted { FifthExhausted }
 {}
 
-/// Two ADDs lose races to each other, on one node and on two.
-pub fn adds_that_race()
+/// ADDs and a DEL lose races to an ADD, on one node and on two.
+pub fn races()
     ensures lost_block_write { LostBlockWrite }
     ensures two_nodes_race { TwoNodesRace }
     ensures two_nodes_rows { TwoNodesRows }
+    ensures race_for_one_handle { RaceForOneHandle }
+    ensures race_for_one_address { RaceForOneAddress }
+    ensures del_loses_its_write { DelLosesItsWrite }
 {}
 
 /// An affinity is released, alone and in races with an ADD.
@@ -33,6 +36,7 @@ pub fn releases()
     ensures released_before_the_claim { ReleasedBeforeTheClaim }
     ensures affinity_taken_back { AffinityTakenBack }
     ensures released_twice { ReleasedTwice }
+    ensures released_beside_another { ReleasedBesideAnother }
 {}
 
 /// Calls fail before and behind a write, and requests are stopped.
@@ -50,6 +54,7 @@ pub fn calls_that_fail_and_stops()
 /// A collection frees a leak, and nothing that is live, given again or out of its scope.
 pub fn collections()
     ensures leak_freed { LeakFreed }
+    ensures live_in_first_list { LiveInFirstList }
     ensures live_in_second_list { LiveInSecondList }
     ensures not_yet_waiting { NotYetWaiting }
     ensures waiting_has_no_call { WaitingHasNoCall }
@@ -58,6 +63,7 @@ pub fn collections()
     ensures fed_within_the_grace { FedWithinTheGrace }
     ensures fed_behind_the_grace { FedBehindTheGrace }
     ensures outside_the_scope { OutsideTheScope }
+    ensures inside_the_scope { InsideTheScope }
 {}
 
 /// An address is borrowed where the node may have no other block, unless affinity is strict.
@@ -72,6 +78,7 @@ pub fn adds_that_borrow()
 pub fn add_of_both_families()
     ensures second_family_exhausted { SecondFamilyExhausted }
     ensures no_owner_is_left { NoOwnerIsLeft }
+    ensures given_again_before_the_second { GivenAgainBeforeTheSecond }
 {}
 
 /// A request ends at the last revision, the 64th lost race or claim, and the highest count.
@@ -114,6 +121,7 @@ pub fn changes_by_an_operator()
     ensures reservation_made { ReservationMade }
     ensures pool_overlaps { PoolOverlaps }
     ensures pool_disabled { PoolDisabled }
+    ensures changes_race { ChangesRace }
 {}
 
 /// A slot refuses what does not meet it idle or busy.
@@ -127,4 +135,7 @@ pub fn events_that_are_refused()
 pub fn probes()
     ensures ready_from_any { ReadyFromAny }
     ensures ready_from_named { ReadyFromNamed }
+    ensures ready_for_another_node { ReadyForAnotherNode }
+    ensures probe_of_unknown_name { ProbeOfUnknownName }
+    ensures exhausted_in_one_family { ExhaustedInOneFamily }
 {}

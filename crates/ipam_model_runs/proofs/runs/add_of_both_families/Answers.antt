@@ -9,3 +9,7 @@ returns-clause-second_family_exhausted c = refl
 pub returns-clause-no_owner_is_left : goal.returns-clause-no_owner_is_left
 unfolding runs_computed
 returns-clause-no_owner_is_left c = refl
+
+pub returns-clause-given_again_before_the_second : goal.returns-clause-given_again_before_the_second
+unfolding runs_computed
+returns-clause-given_again_before_the_second c = refl

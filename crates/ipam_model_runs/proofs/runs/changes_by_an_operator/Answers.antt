@@ -13,3 +13,7 @@ returns-clause-pool_overlaps c = refl
 pub returns-clause-pool_disabled : goal.returns-clause-pool_disabled
 unfolding runs_computed
 returns-clause-pool_disabled c = refl
+
+pub returns-clause-changes_race : goal.returns-clause-changes_race
+unfolding runs_computed
+returns-clause-changes_race c = refl

@@ -6,6 +6,10 @@ pub returns-clause-leak_freed : goal.returns-clause-leak_freed
 unfolding runs_computed
 returns-clause-leak_freed c = refl
 
+pub returns-clause-live_in_first_list : goal.returns-clause-live_in_first_list
+unfolding runs_computed
+returns-clause-live_in_first_list c = refl
+
 pub returns-clause-live_in_second_list : goal.returns-clause-live_in_second_list
 unfolding runs_computed
 returns-clause-live_in_second_list c = refl
@@ -37,3 +41,7 @@ returns-clause-fed_behind_the_grace c = refl
 pub returns-clause-outside_the_scope : goal.returns-clause-outside_the_scope
 unfolding runs_computed
 returns-clause-outside_the_scope c = refl
+
+pub returns-clause-inside_the_scope : goal.returns-clause-inside_the_scope
+unfolding runs_computed
+returns-clause-inside_the_scope c = refl

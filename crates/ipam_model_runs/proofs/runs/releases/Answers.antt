@@ -13,3 +13,7 @@ returns-clause-affinity_taken_back c = refl
 pub returns-clause-released_twice : goal.returns-clause-released_twice
 unfolding runs_computed
 returns-clause-released_twice c = refl
+
+pub returns-clause-released_beside_another : goal.returns-clause-released_beside_another
+unfolding runs_computed
+returns-clause-released_beside_another c = refl
