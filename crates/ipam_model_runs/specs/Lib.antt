@@ -15,3 +15,4 @@ pub mod Administration
 pub mod Refusals
 pub mod Probes
 pub mod Choices
+pub mod Selectors

@@ -9,6 +9,7 @@ use Rattle.ipam_model.specs.declared.entry.Entry.TheVariants as entry
 use Rattle.ipam_model.specs.declared.entry.Told.TheVariants as told
 use Rattle.ipam_model.specs.Course.{Begin}
 use Rattle.ipam_model.specs.History.{Base}
+use Rattle.ipam_model.specs.Reads.{Row}
 use Rattle.ipam_model_runs.specs.Setting.{v4, slot0, slot1, pool_row, held_base, base_of, block_of, affinity_of, handle_of, held, queue4, add_this, turns, did, did_read, get_block, get_affinity, get_handle, created, updated, given_this, goes}
 
 -- the address is held, and the holder is told
@@ -82,4 +83,51 @@ ClaimedForOneAddress = goes bounded_base
   ∷ updated 0 (key.Block slot1) 6 9
     (block_of slot1 (Some (codes "a")) (held 1 (codes "n.c1") 1 ∷ []) (0 ∷ 2 ∷ 3 ∷ []) 1)
     (Some (given_this (v4 5) 8 13))
+  ∷ [])
+
+-- the first block is nobody's, and affinity is strict
+abbrev pub strict_config : Row
+strict_config = (2, record_of.Config (record { strict = true; auto = true; max_blocks = 0 }))
+
+abbrev pub nobodys_base : Base
+nobodys_base = base_of (strict_config ∷ pool_row ∷ (3, block_of slot0 None [] queue4 1) ∷ []) 3
+
+-- where it is empty it is claimed
+abbrev pub ClaimedFromNobody : Type 0
+ClaimedFromNobody = goes nobodys_base
+  (Begin 0 (add_this (codes "n.c1") (codes "a") (v4 1)) ∷ turns 0 13)
+  (entry.Began 0 (add_this (codes "n.c1") (codes "a") (v4 1))
+  ∷ did_read 0 (name.Get key.Config) (told.Found 2)
+  ∷ did_read 0 (name.Get key.Pools) (told.Found 1)
+  ∷ get_block 0 slot0 (told.Found 3)
+  ∷ get_affinity 0 (codes "a") slot0 told.Missing
+  ∷ created 0 (key.Affinity (codes "a") slot0) 4 (affinity_of (codes "a") slot0 Pending) None
+  ∷ updated 0 (key.Block slot0) 3 5 (block_of slot0 (Some (codes "a")) [] queue4 2) None
+  ∷ updated 0 (key.Affinity (codes "a") slot0) 4 6 (affinity_of (codes "a") slot0 Confirmed) None
+  ∷ did_read 0 (name.Get key.Config) (told.Found 2)
+  ∷ did_read 0 (name.Get key.Pools) (told.Found 1)
+  ∷ get_block 0 slot0 (told.Found 5)
+  ∷ get_handle 0 (codes "n.c1") told.Missing
+  ∷ created 0 (key.Handle (codes "n.c1")) 7 (handle_of (codes "n.c1") slot0 1) None
+  ∷ updated 0 (key.Block slot0) 5 8
+    (block_of slot0 (Some (codes "a")) (held 1 (codes "n.c1") 3 ∷ []) (0 ∷ 2 ∷ 3 ∷ []) 3)
+    (Some (given_this (v4 1) 8 13))
+  ∷ [])
+
+abbrev pub nobodys_held_base : Base
+nobodys_held_base = base_of
+  (strict_config
+  ∷ pool_row
+  ∷ (3, block_of slot0 None (held 0 (codes "n.x") 1 ∷ []) (1 ∷ 2 ∷ 3 ∷ []) 2)
+  ∷ (4, handle_of (codes "n.x") slot0 1)
+  ∷ []) 4
+
+-- and where it isn't, it is as another node's
+abbrev pub NobodysIsNotAffine : Type 0
+NobodysIsNotAffine = goes nobodys_held_base
+  (Begin 0 (add_this (codes "n.c1") (codes "a") (v4 1)) ∷ turns 0 3)
+  (entry.Began 0 (add_this (codes "n.c1") (codes "a") (v4 1))
+  ∷ did_read 0 (name.Get key.Config) (told.Found 2)
+  ∷ did_read 0 (name.Get key.Pools) (told.Found 1)
+  ∷ did 0 (name.Get (key.Block slot0)) (told.Found 3) None (Some (answer.NotAffine slot0 3))
   ∷ [])

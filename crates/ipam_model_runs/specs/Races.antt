@@ -183,3 +183,26 @@ DelLosesItsWrite = goes held_base
   ∷ get_handle 0 (codes "n.c1") (told.Found 4)
   ∷ deleted 0 (key.Handle (codes "n.c1")) 4 8 (Some (answer.Deleted 1))
   ∷ [])
+
+-- The DEL has freed the address when an ADD raises the count of the same handle. So it loses its
+-- lowering, reads the handle again, and lowers the count to one.
+abbrev pub DelLosesItsLowering : Type 0
+DelLosesItsLowering = goes held_base
+  (Begin 0 (Del (codes "n.c1")) ∷ turns 0 4
+  ++ Begin 1 (add (codes "n.c1") (codes "a")) ∷ turns 1 8 ++ turns 0 3)
+  (entry.Began 0 (Del (codes "n.c1"))
+  ∷ get_handle 0 (codes "n.c1") (told.Found 4)
+  ∷ get_block 0 slot0 (told.Found 3)
+  ∷ updated 0 (key.Block slot0) 3 5 (block_of slot0 (Some (codes "a")) [] (1 ∷ 2 ∷ 3 ∷ 0 ∷ []) 2) None
+  ∷ get_handle 0 (codes "n.c1") (told.Found 4)
+  ∷ entry.Began 1 (add (codes "n.c1") (codes "a"))
+  ∷ five_reads 1 1 1
+  ++ get_handle 1 (codes "n.c1") (told.Found 4)
+  ∷ updated 1 (key.Handle (codes "n.c1")) 4 6 (handle_of (codes "n.c1") slot0 2) None
+  ∷ updated 1 (key.Block slot0) 5 7
+    (block_of slot0 (Some (codes "a")) (held 1 (codes "n.c1") 3 ∷ []) (2 ∷ 3 ∷ 0 ∷ []) 3)
+    (Some (given (v4 1) 6 13))
+  ∷ did_read 0 (name.Delete (key.Handle (codes "n.c1")) 4) (told.Conflict 6)
+  ∷ get_handle 0 (codes "n.c1") (told.Found 6)
+  ∷ updated 0 (key.Handle (codes "n.c1")) 6 8 (handle_of (codes "n.c1") slot0 1) (Some (answer.Deleted 1))
+  ∷ [])

@@ -115,3 +115,66 @@ ReleasedBesideAnother = goes others_block
   ∷ updated 0 (key.Block slot0) 4 6 (block_of slot0 (Some (codes "b")) [] queue4 1) None
   ∷ deleted 0 (key.Affinity (codes "a") slot0) 5 7 (Some answer.Released)
   ∷ [])
+
+-- ---- a release that goes back to its first step
+
+-- The ADD takes the marked affinity back before the release reads it again. The release marks it
+-- anew, so the ADD loses its confirmation. It claims the block once the release is done.
+abbrev pub MarkTakenBack : Type 0
+MarkTakenBack = goes ready_base
+  (Begin 1 release_first ∷ turns 1 2
+  ++ Begin 0 (add (codes "n.c1") (codes "a")) ∷ turns 0 7
+  ++ turns 1 4 ++ turns 0 2 ++ turns 1 4 ++ turns 0 17)
+  (entry.Began 1 release_first
+  ∷ get_affinity 1 (codes "a") slot0 (told.Found 2)
+  ∷ updated 1 (key.Affinity (codes "a") slot0) 2 4 (affinity_of (codes "a") slot0 PendingDeletion) None
+  ∷ entry.Began 0 (add (codes "n.c1") (codes "a"))
+  ∷ five_reads 0 1 1
+  ++ get_affinity 0 (codes "a") slot0 (told.Found 4)
+  ∷ updated 0 (key.Affinity (codes "a") slot0) 4 5 (affinity_of (codes "a") slot0 Pending) None
+  ∷ get_block 1 slot0 (told.Found 3)
+  ∷ get_affinity 1 (codes "a") slot0 (told.Found 5)
+  ∷ get_affinity 1 (codes "a") slot0 (told.Found 5)
+  ∷ updated 1 (key.Affinity (codes "a") slot0) 5 6 (affinity_of (codes "a") slot0 PendingDeletion) None
+  ∷ updated 0 (key.Block slot0) 3 7 (block_of slot0 (Some (codes "a")) [] queue4 1) None
+  ∷ did_read 0 (name.Update (key.Affinity (codes "a") slot0) 5) (told.Conflict 6)
+  ∷ get_block 1 slot0 (told.Found 7)
+  ∷ get_affinity 1 (codes "a") slot0 (told.Found 6)
+  ∷ updated 1 (key.Block slot0) 7 8 (block_of slot0 None [] queue4 2) None
+  ∷ deleted 1 (key.Affinity (codes "a") slot0) 6 9 (Some answer.Released)
+  ∷ five_reads 0 0 1
+  ++ get_affinity 0 (codes "a") slot0 told.Missing
+  ∷ created 0 (key.Affinity (codes "a") slot0) 10 (affinity_of (codes "a") slot0 Pending) None
+  ∷ updated 0 (key.Block slot0) 8 11 (block_of slot0 (Some (codes "a")) [] queue4 3) None
+  ∷ updated 0 (key.Affinity (codes "a") slot0) 10 12 (affinity_of (codes "a") slot0 Confirmed) None
+  ∷ five_reads 0 1 1
+  ++ get_handle 0 (codes "n.c1") told.Missing
+  ∷ created 0 (key.Handle (codes "n.c1")) 13 (handle_of (codes "n.c1") slot0 1) None
+  ∷ updated 0 (key.Block slot0) 11 14
+    (block_of slot0 (Some (codes "a")) (held 0 (codes "n.c1") 4 ∷ []) (1 ∷ 2 ∷ 3 ∷ []) 4)
+    (Some (given (v4 0) 30 37))
+  ∷ [])
+
+-- The ADD takes the affinity back behind the release's write of the block. The release loses its
+-- deletion, and reads the affinity again.
+abbrev pub DeletionLost : Type 0
+DeletionLost = goes ready_base
+  (Begin 1 release_first ∷ turns 1 5
+  ++ Begin 0 (add (codes "n.c1") (codes "a")) ∷ turns 0 7
+  ++ turns 1 2 ++ Stop 1 ∷ turns 0 2)
+  (entry.Began 1 release_first
+  ∷ get_affinity 1 (codes "a") slot0 (told.Found 2)
+  ∷ updated 1 (key.Affinity (codes "a") slot0) 2 4 (affinity_of (codes "a") slot0 PendingDeletion) None
+  ∷ get_block 1 slot0 (told.Found 3)
+  ∷ get_affinity 1 (codes "a") slot0 (told.Found 4)
+  ∷ updated 1 (key.Block slot0) 3 5 (block_of slot0 None [] queue4 1) None
+  ∷ entry.Began 0 (add (codes "n.c1") (codes "a"))
+  ∷ five_reads 0 1 1
+  ++ get_affinity 0 (codes "a") slot0 (told.Found 4)
+  ∷ updated 0 (key.Affinity (codes "a") slot0) 4 6 (affinity_of (codes "a") slot0 Pending) None
+  ∷ did_read 1 (name.Delete (key.Affinity (codes "a") slot0) 4) (told.Conflict 6)
+  ∷ get_affinity 1 (codes "a") slot0 (told.Found 6)
+  ∷ entry.Stopped 1
+  ∷ updated 0 (key.Block slot0) 5 7 (block_of slot0 (Some (codes "a")) [] queue4 2) None
+  ∷ updated 0 (key.Affinity (codes "a") slot0) 6 8 (affinity_of (codes "a") slot0 Confirmed) None
+  ∷ [])

@@ -4,6 +4,7 @@ ghost use Rattle.ipam_model_runs.specs.Choices.{OtherNodesBlock, OtherNodesBlock
 ghost use Rattle.ipam_model_runs.specs.Choices.{ReservedOrdinals, ReservedBlock, ReservedInPart, ReservedSlot, ReservedPool};
 ghost use Rattle.ipam_model_runs.specs.Choices.{FirstPool, LastSlotOfTheFirstPool, RankBeforePool, DisabledPool, OtherFamily, ManualNotNamed, ManualNamed, ManualForOneAddress, ManualForAny, AddressOfNoPool, Admitted, NotAdmitted, WithoutLabels, NamedAndNotAdmitted, OneAddressNotAdmitted};
 ghost use Rattle.ipam_model_runs.specs.Choices.{NamedPool, NamedInTableOrder, NamedByCidr, NamedByOtherSpelling, UnknownName, NameOfDisabled, NameOfOtherFamily};
+ghost use Rattle.ipam_model_runs.specs.Selectors.{SelectsAll, SelectsByKey, SelectsByValue, SelectsByEmptyValue, SelectsOthers, SelectsOneOf, SelectsNoneOf, SelectsByPart, SelectsByLastPart, SelectsByEmptyPart, SelectsByStart, SelectsByEnd, SelectsByLongStart, SelectsBoth, SelectsEither};
 
 /// The choice is the first candidate by rank.
 pub fn choices_by_rank()
@@ -74,4 +75,23 @@ pub fn choices_by_name()
     ensures unknown_name { UnknownName }
     ensures name_of_disabled { NameOfDisabled }
     ensures name_of_other_family { NameOfOtherFamily }
+{}
+
+/// A selector admits nodes by their labels.
+pub fn selectors()
+    ensures selects_all { SelectsAll }
+    ensures selects_by_key { SelectsByKey }
+    ensures selects_by_value { SelectsByValue }
+    ensures selects_by_empty_value { SelectsByEmptyValue }
+    ensures selects_others { SelectsOthers }
+    ensures selects_one_of { SelectsOneOf }
+    ensures selects_none_of { SelectsNoneOf }
+    ensures selects_by_part { SelectsByPart }
+    ensures selects_by_last_part { SelectsByLastPart }
+    ensures selects_by_empty_part { SelectsByEmptyPart }
+    ensures selects_by_start { SelectsByStart }
+    ensures selects_by_end { SelectsByEnd }
+    ensures selects_by_long_start { SelectsByLongStart }
+    ensures selects_both { SelectsBoth }
+    ensures selects_either { SelectsEither }
 {}

@@ -1,13 +1,13 @@
 //! Whole runs.
 ghost use Rattle.ipam_model_runs.specs.FirstRun.{FirstRun, NinthCall, FifthExhausted};
-ghost use Rattle.ipam_model_runs.specs.Races.{LostBlockWrite, TwoNodesRace, TwoNodesRows, RaceForOneHandle, RaceForOneAddress, DelLosesItsWrite};
-ghost use Rattle.ipam_model_runs.specs.Releases.{ReleasedBeforeTheClaim, AffinityTakenBack, ReleasedTwice, ReleasedBesideAnother};
+ghost use Rattle.ipam_model_runs.specs.Races.{LostBlockWrite, TwoNodesRace, TwoNodesRows, RaceForOneHandle, RaceForOneAddress, DelLosesItsWrite, DelLosesItsLowering};
+ghost use Rattle.ipam_model_runs.specs.Releases.{ReleasedBeforeTheClaim, AffinityTakenBack, ReleasedTwice, ReleasedBesideAnother, MarkTakenBack, DeletionLost};
 ghost use Rattle.ipam_model_runs.specs.Stops.{LostAnswer, LostAnswerRows, FailedWrite, FailedWriteRows, StoppedAdd, StoppedAddRows, RestartOfIdle, RestartOfBusy};
 ghost use Rattle.ipam_model_runs.specs.Collections.{LeakFreed, LiveInFirstList, LiveInSecondList, NotYetWaiting, WaitingHasNoCall, GivenAgainBetweenTheLists, GivenAgainBehindTheLists, FedWithinTheGrace, FedBehindTheGrace, OutsideTheScope, InsideTheScope};
 ghost use Rattle.ipam_model_runs.specs.Borrowing.{StrictAdd, BorrowingAdd, StrictAddOfOne, BorrowingFromNobody};
 ghost use Rattle.ipam_model_runs.specs.Families.{SecondFamilyExhausted, NoOwnerIsLeft, GivenAgainBeforeTheSecond};
 ghost use Rattle.ipam_model_runs.specs.Limits.{RevisionsSpent, SixtyFourLostRaces, SixtyFourClaims, CountAtItsLimit, WornAtFirst, WornBehindOne, WornAndStopped};
-ghost use Rattle.ipam_model_runs.specs.OneAddress.{TakenAddress, AddressInNoPool, ReservedAddress, ClaimedForOneAddress};
+ghost use Rattle.ipam_model_runs.specs.OneAddress.{TakenAddress, AddressInNoPool, ReservedAddress, ClaimedForOneAddress, ClaimedFromNobody, NobodysIsNotAffine};
 ghost use Rattle.ipam_model_runs.specs.Deletions.{DelOfTwoBlocks, DelOfMissing};
 ghost use Rattle.ipam_model_runs.specs.Checks.{Recorded, RecordedToAnother, SecondNotRecorded, InNoPool, SecondInNoPool, InDisabledPool};
 ghost use Rattle.ipam_model_runs.specs.Administration.{ReservationMade, PoolOverlaps, PoolDisabled, ChangesRace};
@@ -29,6 +29,7 @@ pub fn races()
     ensures race_for_one_handle { RaceForOneHandle }
     ensures race_for_one_address { RaceForOneAddress }
     ensures del_loses_its_write { DelLosesItsWrite }
+    ensures del_loses_its_lowering { DelLosesItsLowering }
 {}
 
 /// An affinity is released, alone and in races with an ADD.
@@ -37,6 +38,8 @@ pub fn releases()
     ensures affinity_taken_back { AffinityTakenBack }
     ensures released_twice { ReleasedTwice }
     ensures released_beside_another { ReleasedBesideAnother }
+    ensures mark_taken_back { MarkTakenBack }
+    ensures deletion_lost { DeletionLost }
 {}
 
 /// Calls fail before and behind a write, and requests are stopped.
@@ -98,6 +101,8 @@ pub fn adds_of_one_address()
     ensures address_in_no_pool { AddressInNoPool }
     ensures reserved_address { ReservedAddress }
     ensures claimed_for_one_address { ClaimedForOneAddress }
+    ensures claimed_from_nobody { ClaimedFromNobody }
+    ensures nobodys_is_not_affine { NobodysIsNotAffine }
 {}
 
 /// A DEL frees what its handle holds in each block, and nothing else.

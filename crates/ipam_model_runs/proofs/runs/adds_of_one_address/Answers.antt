@@ -17,3 +17,11 @@ returns-clause-reserved_address c = refl
 pub returns-clause-claimed_for_one_address : goal.returns-clause-claimed_for_one_address
 unfolding runs_computed
 returns-clause-claimed_for_one_address c = refl
+
+pub returns-clause-claimed_from_nobody : goal.returns-clause-claimed_from_nobody
+unfolding runs_computed
+returns-clause-claimed_from_nobody c = refl
+
+pub returns-clause-nobodys_is_not_affine : goal.returns-clause-nobodys_is_not_affine
+unfolding runs_computed
+returns-clause-nobodys_is_not_affine c = refl

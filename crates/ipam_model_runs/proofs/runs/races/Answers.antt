@@ -25,3 +25,7 @@ returns-clause-race_for_one_address c = refl
 pub returns-clause-del_loses_its_write : goal.returns-clause-del_loses_its_write
 unfolding runs_computed
 returns-clause-del_loses_its_write c = refl
+
+pub returns-clause-del_loses_its_lowering : goal.returns-clause-del_loses_its_lowering
+unfolding runs_computed
+returns-clause-del_loses_its_lowering c = refl

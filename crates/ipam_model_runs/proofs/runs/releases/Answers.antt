@@ -17,3 +17,11 @@ returns-clause-released_twice c = refl
 pub returns-clause-released_beside_another : goal.returns-clause-released_beside_another
 unfolding runs_computed
 returns-clause-released_beside_another c = refl
+
+pub returns-clause-mark_taken_back : goal.returns-clause-mark_taken_back
+unfolding runs_computed
+returns-clause-mark_taken_back c = refl
+
+pub returns-clause-deletion_lost : goal.returns-clause-deletion_lost
+unfolding runs_computed
+returns-clause-deletion_lost c = refl
