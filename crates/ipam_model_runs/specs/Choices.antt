@@ -1,19 +1,16 @@
 -- What an ADD chooses in small cases.
-use Rattle.std.specs.Prelude.{◌≡◌, ℕ, ◌+◌, ◌*◌, ◌^◌, Bool, true, false, List, [], ◌∷◌, Option, Some, None, codes, option_map}
-use Rattle.ipam_addr.specs.declared.address.Family.{Family}
+use Rattle.std.specs.Prelude.{◌≡◌, ℕ, ◌+◌, ◌*◌, ◌^◌, true, false, List, [], ◌∷◌, Some, None, codes}
 use Rattle.ipam_addr.specs.declared.address.Family.TheVariants.{V4, V6}
-use Rattle.ipam_addr.specs.Shape.{Address, Range}
+use Rattle.ipam_addr.specs.Shape.{Range}
 use Rattle.ipam_pool.specs.declared.pools.Pool.{Pool}
-use Rattle.ipam_reserve.specs.Shape.{NamedRanges}
 use Rattle.ipam_block.specs.Operations.{fresh_block}
 use Rattle.ipam_affinity.specs.declared.state.State.TheVariants.{Pending, Confirmed, PendingDeletion}
 use Rattle.ipam_records.specs.declared.config.Config.{Config}
 use Rattle.ipam_records.specs.declared.record.Record.TheVariants as record_of
-use Rattle.ipam_model.specs.declared.choice.Choice.{Choice}
 use Rattle.ipam_model.specs.declared.choice.Choice.TheVariants.{Use, Claim, Borrow, Nothing, NoPool}
 use Rattle.ipam_model.specs.Choice.{Seen, choice_of}
 use Rattle.ipam_model.specs.Reads.{Row}
-use Rattle.ipam_model.specs.Selector.{Label, Selector, All, Is}
+use Rattle.ipam_model.specs.Selector.{Selector, All, Is}
 use Rattle.ipam_model.specs.Usable.{Asked, RuledPool, Mode, Automatic, Manual, usable_pool_of}
 use Rattle.ipam_model_runs.specs.Setting.{v4_range, v4, slot0, slot1, queue4, pool, held, block_of, affinity_of}
 
@@ -57,7 +54,11 @@ not_allocating = record defaults { auto = false }
 
 abbrev pub seen_in : List RuledPool → Config → (affinities blocks : List Row) → Seen
 seen_in pools config affinities blocks = record {
-  config = config; pools = pools; reservations = []; affinities = affinities; blocks = blocks;
+  config = config;
+  pools = pools;
+  reservations = [];
+  affinities = affinities;
+  blocks = blocks;
 }
 
 abbrev pub seen : Config → (affinities blocks : List Row) → Seen
@@ -73,8 +74,11 @@ abbrev pub empty_of : Range → List ℕ → Row
 empty_of cidr node = (3, block_of cidr (Some node) [] queue4 0)
 
 abbrev pub full_of : Range → List ℕ → Row
-full_of cidr node = (3, block_of cidr (Some node)
-  (held 0 (codes "n.x") 1 ∷ held 1 (codes "n.x") 2 ∷ held 2 (codes "n.x") 3 ∷ held 3 (codes "n.x") 4 ∷ []) [] 4)
+full_of cidr node = (
+  3,
+  block_of cidr (Some node)
+      (held 0 (codes "n.x") 1 ∷ held 1 (codes "n.x") 2 ∷ held 2 (codes "n.x") 3 ∷ held 3 (codes "n.x") 4 ∷ []) [] 4,
+)
 
 -- a block without affinity that is empty, or of which the first address is held
 abbrev pub empty_bare : Range → Row
@@ -95,7 +99,7 @@ OwnBlock = choice_of anything (seen defaults (confirmed slot0 a ∷ []) (empty_o
 abbrev pub FirstInQueue : Type 0
 FirstInQueue =
     choice_of anything (seen defaults (confirmed slot0 a ∷ [])
-      ((3, block_of slot0 (Some a) (held 0 (codes "n.x") 3 ∷ []) (2 ∷ 3 ∷ 1 ∷ []) 3) ∷ []))
+    ((3, block_of slot0 (Some a) (held 0 (codes "n.x") 3 ∷ []) (2 ∷ 3 ∷ 1 ∷ []) 3) ∷ []))
     ≡ Use slot0 2
 
 abbrev pub AffinityMissing : Type 0
@@ -203,7 +207,7 @@ BoundInTheOtherFamily = choice_of anything (seen bounded [] (full_of (ipv6_slot 
 abbrev pub ReservedOrdinals : Type 0
 ReservedOrdinals =
     choice_of anything (reserving (v4_range 0 31 ∷ [])
-      (seen defaults (confirmed slot0 a ∷ []) (empty_of slot0 a ∷ [])))
+    (seen defaults (confirmed slot0 a ∷ []) (empty_of slot0 a ∷ [])))
     ≡ Use slot0 2
 
 abbrev pub ReservedBlock : Type 0
@@ -240,20 +244,20 @@ FirstPool =
 abbrev pub LastSlotOfTheFirstPool : Type 0
 LastSlotOfTheFirstPool =
     choice_of anything (seen_in (for_everyone two_slots ∷ for_everyone other_slots ∷ []) defaults []
-      (full_of slot0 b ∷ []))
+    (full_of slot0 b ∷ []))
     ≡ Claim slot1
 
 -- the rank comes before the place of the pool
 abbrev pub RankBeforePool : Type 0
 RankBeforePool =
     choice_of anything (seen_in (for_everyone two_slots ∷ for_everyone other_slots ∷ []) defaults
-      (confirmed slot_of_other a ∷ []) (empty_of slot_of_other a ∷ []))
+    (confirmed slot_of_other a ∷ []) (empty_of slot_of_other a ∷ []))
     ≡ Use slot_of_other 0
 
 abbrev pub DisabledPool : Type 0
 DisabledPool =
     choice_of anything (seen_in (for_everyone (record two_slots { disabled = true }) ∷ for_everyone other_slots ∷ [])
-      defaults (confirmed slot0 a ∷ []) (empty_of slot0 a ∷ []))
+    defaults (confirmed slot0 a ∷ []) (empty_of slot0 a ∷ []))
     ≡ Claim slot_of_other
 
 abbrev pub OtherFamily : Type 0
@@ -311,21 +315,21 @@ OneAddressNotAdmitted =
 abbrev pub NamedPool : Type 0
 NamedPool =
     choice_of (naming (codes "q" ∷ []))
-      (seen_in (for_everyone two_slots ∷ for_everyone other_slots ∷ []) defaults
-        (confirmed slot0 a ∷ []) (empty_of slot0 a ∷ []))
+    (seen_in (for_everyone two_slots ∷ for_everyone other_slots ∷ []) defaults
+    (confirmed slot0 a ∷ []) (empty_of slot0 a ∷ []))
     ≡ Claim slot_of_other
 
 -- pools that are named stand in the order of the table, not of the names
 abbrev pub NamedInTableOrder : Type 0
 NamedInTableOrder =
     choice_of (naming (codes "q" ∷ codes "p" ∷ []))
-      (seen_in (for_everyone two_slots ∷ for_everyone other_slots ∷ []) defaults [] [])
+    (seen_in (for_everyone two_slots ∷ for_everyone other_slots ∷ []) defaults [] [])
     ≡ Claim slot0
 
 abbrev pub NamedByCidr : Type 0
 NamedByCidr =
     choice_of (naming (codes "10.0.0.8/29" ∷ []))
-      (seen_in (for_everyone two_slots ∷ for_everyone other_slots ∷ []) defaults [] [])
+    (seen_in (for_everyone two_slots ∷ for_everyone other_slots ∷ []) defaults [] [])
     ≡ Claim slot_of_other
 
 -- in whichever spelling
@@ -335,8 +339,8 @@ ipv6_pool = pool (codes "six") (record { family = V6; base = 0x20010db8 * 2 ^ 96
 abbrev pub NamedByOtherSpelling : Type 0
 NamedByOtherSpelling =
     choice_of (record (naming (codes "2001:DB8:0:0::/48" ∷ [])) { family = V6 })
-      (seen_in (for_everyone ipv6_pool ∷ []) defaults
-        (confirmed (ipv6_slot 0) a ∷ []) ((3, record_of.Block (fresh_block (ipv6_slot 0) (Some a))) ∷ []))
+    (seen_in (for_everyone ipv6_pool ∷ []) defaults
+    (confirmed (ipv6_slot 0) a ∷ []) ((3, record_of.Block (fresh_block (ipv6_slot 0) (Some a))) ∷ []))
     ≡ Use (ipv6_slot 0) 0
 
 -- the place of the first name that no enabled pool of the family has
@@ -346,7 +350,7 @@ UnknownName = choice_of (naming (codes "p" ∷ codes "x" ∷ codes "y" ∷ [])) 
 abbrev pub NameOfDisabled : Type 0
 NameOfDisabled =
     choice_of (naming (codes "p" ∷ []))
-      (seen_in (for_everyone (record two_slots { disabled = true }) ∷ []) defaults [] [])
+    (seen_in (for_everyone (record two_slots { disabled = true }) ∷ []) defaults [] [])
     ≡ NoPool 0
 
 abbrev pub NameOfOtherFamily : Type 0

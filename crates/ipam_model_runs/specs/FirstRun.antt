@@ -12,7 +12,7 @@ use Rattle.ipam_model.specs.declared.entry.Entry.TheVariants as entry
 use Rattle.ipam_model.specs.declared.entry.Told.TheVariants as told
 use Rattle.ipam_model.specs.Course.{Event, Begin, Idle}
 use Rattle.ipam_model.specs.History.{Base}
-use Rattle.ipam_model_runs.specs.Setting.{v4, slot0, ready_base, base_of, pool, block_of, affinity_of, handle_of, held, queue4, add, turns, did, get_handle, created, updated, five_reads, scan_from, given, goes, stops, run, Excerpt, excerpt}
+use Rattle.ipam_model_runs.specs.Setting.{v4, slot0, ready_base, base_of, pool, block_of, affinity_of, handle_of, held, queue4, add, turns, did, get_handle, created, updated, five_reads, scan_from, given, goes, stops, run, excerpt}
 
 abbrev pub first_entries : List Entry
 first_entries =
@@ -21,8 +21,8 @@ first_entries =
     ++ get_handle 0 (codes "n.c1") told.Missing
     ∷ created 0 (key.Handle (codes "n.c1")) 4 (handle_of (codes "n.c1") slot0 1) None
     ∷ updated 0 (key.Block slot0) 3 5
-      (block_of slot0 (Some (codes "a")) (held 0 (codes "n.c1") 1 ∷ []) (1 ∷ 2 ∷ 3 ∷ []) 1)
-      (Some (given (v4 0) 1 8))
+    (block_of slot0 (Some (codes "a")) (held 0 (codes "n.c1") 1 ∷ []) (1 ∷ 2 ∷ 3 ∷ []) 1)
+    (Some (given (v4 0) 1 8))
     ∷ []
 
 -- The ADD takes the first address of the node's own block.
@@ -37,10 +37,10 @@ NinthCall = stops ready_base (Begin 0 (add (codes "n.c1") (codes "a")) ∷ turns
 
 abbrev pub small_base : Base
 small_base = base_of
-  ((1, record_of.Pools (pool (codes "p") slot0 30 ∷ []))
-  ∷ (3, block_of slot0 (Some (codes "a")) [] queue4 0)
-  ∷ (2, affinity_of (codes "a") slot0 Confirmed)
-  ∷ []) 3
+    ((1, record_of.Pools (pool (codes "p") slot0 30 ∷ []))
+    ∷ (3, block_of slot0 (Some (codes "a")) [] queue4 0)
+    ∷ (2, affinity_of (codes "a") slot0 Confirmed)
+    ∷ []) 3
 
 abbrev pub added : (id : List ℕ) → List Event
 added id = Begin 0 (add id (codes "a")) ∷ turns 0 8
@@ -49,29 +49,29 @@ added id = Begin 0 (add id (codes "a")) ∷ turns 0 8
 abbrev pub FifthExhausted : Type 0
 FifthExhausted =
     excerpt (8 ∷ 17 ∷ 26 ∷ 35 ∷ 41 ∷ [])
-      (run small_base
-        (added (codes "n.c1") ++ added (codes "n.c2") ++ added (codes "n.c3") ++ added (codes "n.c4")
-        ++ Begin 0 (add (codes "n.c5") (codes "a")) ∷ turns 0 5))
+    (run small_base
+    (added (codes "n.c1") ++ added (codes "n.c2") ++ added (codes "n.c3") ++ added (codes "n.c4")
+    ++ Begin 0 (add (codes "n.c5") (codes "a")) ∷ turns 0 5))
     ≡ record {
       entries =
-        Some (updated 0 (key.Block slot0) 3 5
+          Some (updated 0 (key.Block slot0) 3 5
           (block_of slot0 (Some (codes "a")) (held 0 (codes "n.c1") 1 ∷ []) (1 ∷ 2 ∷ 3 ∷ []) 1)
           (Some (given (v4 0) 1 8)))
-        ∷ Some (updated 0 (key.Block slot0) 5 7
+          ∷ Some (updated 0 (key.Block slot0) 5 7
           (block_of slot0 (Some (codes "a")) (held 0 (codes "n.c1") 1 ∷ held 1 (codes "n.c2") 2 ∷ [])
-            (2 ∷ 3 ∷ []) 2)
+          (2 ∷ 3 ∷ []) 2)
           (Some (given (v4 1) 10 17)))
-        ∷ Some (updated 0 (key.Block slot0) 7 9
+          ∷ Some (updated 0 (key.Block slot0) 7 9
           (block_of slot0 (Some (codes "a"))
-            (held 0 (codes "n.c1") 1 ∷ held 1 (codes "n.c2") 2 ∷ held 2 (codes "n.c3") 3 ∷ []) (3 ∷ []) 3)
+          (held 0 (codes "n.c1") 1 ∷ held 1 (codes "n.c2") 2 ∷ held 2 (codes "n.c3") 3 ∷ []) (3 ∷ []) 3)
           (Some (given (v4 2) 19 26)))
-        ∷ Some (updated 0 (key.Block slot0) 9 11
+          ∷ Some (updated 0 (key.Block slot0) 9 11
           (block_of slot0 (Some (codes "a"))
-            (held 0 (codes "n.c1") 1 ∷ held 1 (codes "n.c2") 2 ∷ held 2 (codes "n.c3") 3
-            ∷ held 3 (codes "n.c4") 4 ∷ []) [] 4)
+          (held 0 (codes "n.c1") 1 ∷ held 1 (codes "n.c2") 2 ∷ held 2 (codes "n.c3") 3
+          ∷ held 3 (codes "n.c4") 4 ∷ []) [] 4)
           (Some (given (v4 3) 28 35)))
-        ∷ Some (did 0 (name.List kind.Block) (told.Listed 1) None (Some (answer.Exhausted (scan_from V4 37))))
-        ∷ [];
+          ∷ Some (did 0 (name.List kind.Block) (told.Listed 1) None (Some (answer.Exhausted (scan_from V4 37))))
+          ∷ [];
       count = 42;
       refused = None;
     }

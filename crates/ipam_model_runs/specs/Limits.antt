@@ -12,20 +12,20 @@ use Rattle.ipam_model.specs.declared.request.Request.TheVariants.{Del, Release}
 use Rattle.ipam_model.specs.Course.{Event, Begin, Turn, Stop, Worn}
 use Rattle.ipam_model.specs.declared.entry.Fate.TheVariants.{Well}
 use Rattle.ipam_model.specs.History.{Base}
-use Rattle.ipam_model_runs.specs.Setting.{v4, slot0, pool_row, ready_rows, ready_base, bare_base, base_of, block_of, affinity_of, handle_of, queue4, add, add_this, turns, did, updated, get_handle, created, five_reads, goes, stops, run, Excerpt, excerpt}
+use Rattle.ipam_model_runs.specs.Setting.{v4, slot0, pool_row, ready_rows, ready_base, bare_base, base_of, block_of, affinity_of, handle_of, queue4, add, add_this, turns, did, updated, get_handle, created, five_reads, goes, stops, run, excerpt}
 
 -- ---- the last revision
 
 -- The counter is one below the last revision, which the handle takes, so none is left for the block.
 abbrev pub RevisionsSpent : Type 0
 RevisionsSpent = goes (base_of ready_rows 4611686018427387903)
-  (Begin 0 (add (codes "n.c1") (codes "a")) ∷ turns 0 8)
-  (entry.Began 0 (add (codes "n.c1") (codes "a"))
-  ∷ five_reads 0 1 1
-  ++ get_handle 0 (codes "n.c1") told.Missing
-  ∷ created 0 (key.Handle (codes "n.c1")) 4611686018427387904 (handle_of (codes "n.c1") slot0 1) None
-  ∷ did 0 (name.Update (key.Block slot0) 3) told.Spent None (Some answer.Spent)
-  ∷ [])
+    (Begin 0 (add (codes "n.c1") (codes "a")) ∷ turns 0 8)
+    (entry.Began 0 (add (codes "n.c1") (codes "a"))
+    ∷ five_reads 0 1 1
+    ++ get_handle 0 (codes "n.c1") told.Missing
+    ∷ created 0 (key.Handle (codes "n.c1")) 4611686018427387904 (handle_of (codes "n.c1") slot0 1) None
+    ∷ did 0 (name.Update (key.Block slot0) 3) told.Spent None (Some answer.Spent)
+    ∷ [])
 
 -- ---- 64 lost races
 
@@ -54,13 +54,13 @@ lost_update seen current answer =
 abbrev pub SixtyFourLostRaces : Type 0
 SixtyFourLostRaces =
     excerpt (1038 ∷ 1054 ∷ [])
-      (run ready_base
-        (Begin 0 (add (codes "n.c1") (codes "a")) ∷ lost_rounds 31 ++ lost_to_add ++ lowers ++ lost_to_del))
+    (run ready_base
+    (Begin 0 (add (codes "n.c1") (codes "a")) ∷ lost_rounds 31 ++ lost_to_add ++ lowers ++ lost_to_del))
     ≡ record {
       entries =
-        Some (lost_update 249 254 None)
-        ∷ Some (lost_update 254 257 (Some (answer.Again 64 0)))
-        ∷ [];
+          Some (lost_update 249 254 None)
+          ∷ Some (lost_update 254 257 (Some (answer.Again 64 0)))
+          ∷ [];
       count = 1055;
       refused = None;
     }
@@ -87,7 +87,7 @@ confirms seen revision answer =
 abbrev pub SixtyFourClaims : Type 0
 SixtyFourClaims =
     excerpt (1001 ∷ 1017 ∷ [])
-      (run bare_base (Begin 0 (add (codes "n.c1") (codes "a")) ∷ claim_rounds 63 ++ claims))
+    (run bare_base (Begin 0 (add (codes "n.c1") (codes "a")) ∷ claim_rounds 63 ++ claims))
     ≡ record {
       entries = Some (confirms 374 376 None) ∷ Some (confirms 380 382 (Some (answer.Again 0 64))) ∷ [];
       count = 1018;
@@ -98,19 +98,19 @@ SixtyFourClaims =
 
 abbrev pub highest_count : Base
 highest_count = base_of
-  (pool_row
-  ∷ (3, block_of slot0 (Some (codes "a")) [] queue4 0)
-  ∷ (2, affinity_of (codes "a") slot0 Confirmed)
-  ∷ (4, handle_of (codes "n.c1") slot0 4294967295)
-  ∷ []) 4
+    (pool_row
+    ∷ (3, block_of slot0 (Some (codes "a")) [] queue4 0)
+    ∷ (2, affinity_of (codes "a") slot0 Confirmed)
+    ∷ (4, handle_of (codes "n.c1") slot0 4294967295)
+    ∷ []) 4
 
 abbrev pub CountAtItsLimit : Type 0
 CountAtItsLimit = goes highest_count
-  (Begin 0 (add (codes "n.c1") (codes "a")) ∷ turns 0 6)
-  (entry.Began 0 (add (codes "n.c1") (codes "a"))
-  ∷ five_reads 0 1 1
-  ++ did 0 (name.Get (key.Handle (codes "n.c1"))) (told.Found 4) None (Some (answer.CountFull 6))
-  ∷ [])
+    (Begin 0 (add (codes "n.c1") (codes "a")) ∷ turns 0 6)
+    (entry.Began 0 (add (codes "n.c1") (codes "a"))
+    ∷ five_reads 0 1 1
+    ++ did 0 (name.Get (key.Handle (codes "n.c1"))) (told.Found 4) None (Some (answer.CountFull 6))
+    ∷ [])
 
 -- ---- the last entry
 
@@ -124,11 +124,11 @@ WornAtFirst = stops (begun_at (2 ^ 62)) (Begin 0 (add (codes "n.c1") (codes "a")
 -- One entry is left. What it begins has no turn any more, and can be stopped.
 abbrev pub WornBehindOne : Type 0
 WornBehindOne = stops (begun_at (2 ^ 62 - 1))
-  (Begin 0 (add (codes "n.c1") (codes "a")) ∷ Turn 0 Well ∷ [])
-  (entry.Began 0 (add (codes "n.c1") (codes "a")) ∷ [])
-  Worn
+    (Begin 0 (add (codes "n.c1") (codes "a")) ∷ Turn 0 Well ∷ [])
+    (entry.Began 0 (add (codes "n.c1") (codes "a")) ∷ [])
+    Worn
 
 abbrev pub WornAndStopped : Type 0
 WornAndStopped = goes (begun_at (2 ^ 62 - 1))
-  (Begin 0 (add (codes "n.c1") (codes "a")) ∷ Stop 0 ∷ [])
-  (entry.Began 0 (add (codes "n.c1") (codes "a")) ∷ entry.Stopped 0 ∷ [])
+    (Begin 0 (add (codes "n.c1") (codes "a")) ∷ Stop 0 ∷ [])
+    (entry.Began 0 (add (codes "n.c1") (codes "a")) ∷ entry.Stopped 0 ∷ [])

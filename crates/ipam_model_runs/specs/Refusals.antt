@@ -1,5 +1,5 @@
 -- Events that a slot refuses.
-use Rattle.std.specs.Prelude.{ℕ, [], ◌∷◌, codes}
+use Rattle.std.specs.Prelude.{[], ◌∷◌, codes}
 use Rattle.ipam_model.specs.declared.entry.Entry.TheVariants as entry
 use Rattle.ipam_model.specs.declared.entry.Fate.TheVariants.{Well}
 use Rattle.ipam_model.specs.Course.{Begin, Turn, Stop, Idle, Busy}
@@ -14,6 +14,6 @@ StopOfIdle = stops (base_of [] 0) (Stop 0 ∷ []) [] Idle
 -- of two beginnings in one slot the second is refused
 abbrev pub BeginOfBusy : Type 0
 BeginOfBusy = stops (base_of [] 0)
-  (Begin 0 (add (codes "n.c1") (codes "a")) ∷ Begin 0 (add (codes "n.c2") (codes "a")) ∷ [])
-  (entry.Began 0 (add (codes "n.c1") (codes "a")) ∷ [])
-  Busy
+    (Begin 0 (add (codes "n.c1") (codes "a")) ∷ Begin 0 (add (codes "n.c2") (codes "a")) ∷ [])
+    (entry.Began 0 (add (codes "n.c1") (codes "a")) ∷ [])
+    Busy

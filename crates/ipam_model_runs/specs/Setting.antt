@@ -1,16 +1,13 @@
 -- What the runs have in common: bases, requests, events, and entries in short.
-use Rattle.std.specs.Prelude.{◌≡◌, ℕ, ◌+◌, zero, suc, Bool, true, false, List, [], ◌∷◌, ◌++◌, length, map, slice_get, Option, Some, None, codes}
+use Rattle.std.specs.Prelude.{◌≡◌, ℕ, ◌+◌, zero, suc, true, false, List, [], ◌∷◌, length, map, slice_get, Option, Some, None, codes}
 use Rattle.ipam_addr.specs.declared.address.Family.{Family}
-use Rattle.ipam_addr.specs.declared.address.Family.TheVariants.{V4, V6}
+use Rattle.ipam_addr.specs.declared.address.Family.TheVariants.{V4}
 use Rattle.ipam_addr.specs.Shape.{Address, Range}
 use Rattle.ipam_pool.specs.declared.pools.Pool.{Pool}
 use Rattle.ipam_block.specs.declared.allocation.Allocation.{Allocation}
 use Rattle.ipam_block.specs.declared.allocation.Attributes.{Attributes}
-use Rattle.ipam_block.specs.Content as block
 use Rattle.ipam_affinity.specs.declared.state.State.{State}
-use Rattle.ipam_affinity.specs.declared.state.State.TheVariants.{Pending, Confirmed, PendingDeletion}
-use Rattle.ipam_handle.specs.Content as handle
-use Rattle.ipam_records.specs.declared.config.Config.{Config}
+use Rattle.ipam_affinity.specs.declared.state.State.TheVariants.{Confirmed}
 use Rattle.ipam_records.specs.declared.key.Key.{Key}
 use Rattle.ipam_records.specs.declared.key.Key.TheVariants as key
 use Rattle.ipam_records.specs.declared.key.Kind.TheVariants as kind
@@ -19,21 +16,18 @@ use Rattle.ipam_records.specs.declared.record.Record.TheVariants as record_of
 use Rattle.ipam_records.specs.Datastore.{Datastore}
 use Rattle.ipam_model.specs.declared.answer.Answer.{Answer}
 use Rattle.ipam_model.specs.declared.answer.Answer.TheVariants as answer
-use Rattle.ipam_model.specs.declared.answer.Given.{Given}
-use Rattle.ipam_model.specs.declared.answer.GivenThis.{GivenThis}
 use Rattle.ipam_model.specs.declared.answer.Scan.{Scan}
 use Rattle.ipam_model.specs.declared.entry.CallName.{CallName}
 use Rattle.ipam_model.specs.declared.entry.CallName.TheVariants as name
 use Rattle.ipam_model.specs.declared.entry.Entry.{Entry}
 use Rattle.ipam_model.specs.declared.entry.Entry.TheVariants as entry
-use Rattle.ipam_model.specs.declared.entry.Fate.TheVariants.{Well, Before, After}
+use Rattle.ipam_model.specs.declared.entry.Fate.TheVariants.{Well}
 use Rattle.ipam_model.specs.declared.entry.Told.{Told}
 use Rattle.ipam_model.specs.declared.entry.Told.TheVariants as told
 use Rattle.ipam_model.specs.declared.request.AddRequest.{AddRequest}
 use Rattle.ipam_model.specs.declared.request.Request.{Request}
 use Rattle.ipam_model.specs.declared.request.Request.TheVariants as request
-use Rattle.ipam_model.specs.Cluster.{Cluster}
-use Rattle.ipam_model.specs.Course.{Event, Begin, Turn, Refusal, Course, course, after_all}
+use Rattle.ipam_model.specs.Course.{Event, Turn, Refusal, Course, course, after_all}
 use Rattle.ipam_model.specs.History.{Base, start}
 use Rattle.ipam_model.specs.Reads.{Row}
 
@@ -61,7 +55,11 @@ held ordinal id stamp = record { ordinal = ordinal; attributes = recorded_to id;
 
 abbrev pub block_of : Range → (node : Option (List ℕ)) → List Allocation → (queue : List ℕ) → (sequence : ℕ) → Record
 block_of cidr node allocations queue sequence = record_of.Block (record {
-  cidr = cidr; node = node; allocations = allocations; queue = queue; sequence = sequence;
+  cidr = cidr;
+  node = node;
+  allocations = allocations;
+  queue = queue;
+  sequence = sequence;
 })
 
 abbrev pub affinity_of : (node : List ℕ) → Range → State → Record
@@ -96,10 +94,10 @@ queue4 = 0 ∷ 1 ∷ 2 ∷ 3 ∷ []
 -- the pool whose first block is confirmed to the node a and empty
 abbrev pub ready_rows : List Row
 ready_rows =
-  pool_row
-  ∷ (3, block_of slot0 (Some (codes "a")) [] queue4 0)
-  ∷ (2, affinity_of (codes "a") slot0 Confirmed)
-  ∷ []
+    pool_row
+    ∷ (3, block_of slot0 (Some (codes "a")) [] queue4 0)
+    ∷ (2, affinity_of (codes "a") slot0 Confirmed)
+    ∷ []
 
 abbrev pub ready_base : Base
 ready_base = base_of ready_rows 3
@@ -107,17 +105,23 @@ ready_base = base_of ready_rows 3
 -- the same where the first address is held by n.c1
 abbrev pub held_base : Base
 held_base = base_of
-  (pool_row
-  ∷ (3, block_of slot0 (Some (codes "a")) (held 0 (codes "n.c1") 1 ∷ []) (1 ∷ 2 ∷ 3 ∷ []) 1)
-  ∷ (2, affinity_of (codes "a") slot0 Confirmed)
-  ∷ (4, handle_of (codes "n.c1") slot0 1)
-  ∷ []) 4
+    (pool_row
+    ∷ (3, block_of slot0 (Some (codes "a")) (held 0 (codes "n.c1") 1 ∷ []) (1 ∷ 2 ∷ 3 ∷ []) 1)
+    ∷ (2, affinity_of (codes "a") slot0 Confirmed)
+    ∷ (4, handle_of (codes "n.c1") slot0 1)
+    ∷ []) 4
 
 -- ---- requests
 
 abbrev pub add_request : (id node : List ℕ) → AddRequest
 add_request id node = record {
-  node = node; attributes = recorded_to id; ipv4 = true; ipv6 = false; labels = []; pools4 = []; pools6 = [];
+  node = node;
+  attributes = recorded_to id;
+  ipv4 = true;
+  ipv6 = false;
+  labels = [];
+  pools4 = [];
+  pools6 = [];
 }
 
 abbrev pub add : (id node : List ℕ) → Request
@@ -137,7 +141,12 @@ turns slot (suc many) = Turn slot Well ∷ turns slot many
 
 abbrev pub did : (slot : ℕ) → CallName → Told → Option Record → Option Answer → Entry
 did slot asked reply written answer = entry.Called (record {
-  slot = slot; call = asked; fate = Well; reply = reply; written = written; answer = answer;
+  slot = slot;
+  call = asked;
+  fate = Well;
+  reply = reply;
+  written = written;
+  answer = answer;
 })
 
 -- a call that wrote nothing and was not the last
@@ -184,12 +193,12 @@ scan_from family c = record { family = family; c = c; p = c + 1; r = c + 2; f = 
 -- the address was given by the reads from the moment c on, and written at w
 abbrev pub given : Address → (c w : ℕ) → Answer
 given address c w = answer.Added
-  (record { address = address; c = c; p = c + 1; r = c + 2; f = c + 3; b = c + 4; w = w } ∷ [])
+    (record { address = address; c = c; p = c + 1; r = c + 2; f = c + 3; b = c + 4; w = w } ∷ [])
 
 -- the same for an address that was asked for
 abbrev pub given_this : Address → (c w : ℕ) → Answer
 given_this address c w = answer.AddedThis
-  (record { address = address; c = c; p = c + 1; b = c + 2; w = w })
+    (record { address = address; c = c; p = c + 1; b = c + 2; w = w })
 
 -- ---- what happens
 
