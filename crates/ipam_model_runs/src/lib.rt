@@ -1,5 +1,6 @@
-//! Runs of the model whose every entry is known: each function does nothing, and its contract says
-//! that the course of some events has these entries.
+//! Runs of the model whose every entry is known, and choices in small cases: each function does
+//! nothing, and its contract says what the course of some events is, or what is chosen.
 #![tactic(auto)]
 
+pub mod choices;
 pub mod runs;

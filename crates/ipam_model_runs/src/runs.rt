@@ -1,7 +1,146 @@
 //! Whole runs.
-ghost use Rattle.ipam_model_runs.specs.FirstRun.{FirstRun};
+ghost use Rattle.ipam_model_runs.specs.FirstRun.{FirstRun, NinthCall, FifthExhausted};
+ghost use Rattle.ipam_model_runs.specs.Races.{LostBlockWrite, TwoNodesRace, TwoNodesRows, RaceForOneHandle, RaceForOneAddress, DelLosesItsWrite, DelLosesItsLowering};
+ghost use Rattle.ipam_model_runs.specs.Releases.{ReleasedBeforeTheClaim, AffinityTakenBack, ReleasedTwice, ReleasedBesideAnother, MarkTakenBack, DeletionLost};
+ghost use Rattle.ipam_model_runs.specs.Stops.{LostAnswer, LostAnswerRows, FailedWrite, FailedWriteRows, StoppedAdd, StoppedAddRows, RestartOfIdle, RestartOfBusy};
+ghost use Rattle.ipam_model_runs.specs.Collections.{LeakFreed, LiveInFirstList, LiveInSecondList, NotYetWaiting, WaitingHasNoCall, GivenAgainBetweenTheLists, GivenAgainBehindTheLists, FedWithinTheGrace, FedBehindTheGrace, OutsideTheScope, InsideTheScope};
+ghost use Rattle.ipam_model_runs.specs.Borrowing.{StrictAdd, BorrowingAdd, StrictAddOfOne, BorrowingFromNobody};
+ghost use Rattle.ipam_model_runs.specs.Families.{SecondFamilyExhausted, NoOwnerIsLeft, GivenAgainBeforeTheSecond};
+ghost use Rattle.ipam_model_runs.specs.Limits.{RevisionsSpent, SixtyFourLostRaces, SixtyFourClaims, CountAtItsLimit, WornAtFirst, WornBehindOne, WornAndStopped};
+ghost use Rattle.ipam_model_runs.specs.OneAddress.{TakenAddress, AddressInNoPool, ReservedAddress, ClaimedForOneAddress, ClaimedFromNobody, NobodysIsNotAffine};
+ghost use Rattle.ipam_model_runs.specs.Deletions.{DelOfTwoBlocks, DelOfMissing};
+ghost use Rattle.ipam_model_runs.specs.Checks.{Recorded, RecordedToAnother, SecondNotRecorded, InNoPool, SecondInNoPool, InDisabledPool};
+ghost use Rattle.ipam_model_runs.specs.Administration.{ReservationMade, PoolOverlaps, PoolDisabled, ChangesRace};
+ghost use Rattle.ipam_model_runs.specs.Refusals.{CallOfIdle, StopOfIdle, BeginOfBusy};
+ghost use Rattle.ipam_model_runs.specs.Probes.{ReadyFromAny, ReadyFromNamed, ReadyForAnotherNode, ProbeOfUnknownName, ExhaustedInOneFamily};
 
-/// One ADD takes the first address of the node's own block.
-pub fn one_add_in_one_ready_block()
-    ensures { FirstRun }
+/// An ADD takes the next address of the node's own block, until there is none.
+pub fn adds_in_one_ready_block()
+    ensures first_run { FirstRun }
+    ensures ninth_call { NinthCall }
+    ensures fifth_exhausted { FifthExhausted }
+{}
+
+/// ADDs and a DEL lose races to an ADD, on one node and on two.
+pub fn races()
+    ensures lost_block_write { LostBlockWrite }
+    ensures two_nodes_race { TwoNodesRace }
+    ensures two_nodes_rows { TwoNodesRows }
+    ensures race_for_one_handle { RaceForOneHandle }
+    ensures race_for_one_address { RaceForOneAddress }
+    ensures del_loses_its_write { DelLosesItsWrite }
+    ensures del_loses_its_lowering { DelLosesItsLowering }
+{}
+
+/// An affinity is released, alone and in races with an ADD.
+pub fn releases()
+    ensures released_before_the_claim { ReleasedBeforeTheClaim }
+    ensures affinity_taken_back { AffinityTakenBack }
+    ensures released_twice { ReleasedTwice }
+    ensures released_beside_another { ReleasedBesideAnother }
+    ensures mark_taken_back { MarkTakenBack }
+    ensures deletion_lost { DeletionLost }
+{}
+
+/// Calls fail before and behind a write, and requests are stopped.
+pub fn calls_that_fail_and_stops()
+    ensures lost_answer { LostAnswer }
+    ensures lost_answer_rows { LostAnswerRows }
+    ensures failed_write { FailedWrite }
+    ensures failed_write_rows { FailedWriteRows }
+    ensures stopped_add { StoppedAdd }
+    ensures stopped_add_rows { StoppedAddRows }
+    ensures restart_of_idle { RestartOfIdle }
+    ensures restart_of_busy { RestartOfBusy }
+{}
+
+/// A collection frees a leak, and nothing that is live, given again or out of its scope.
+pub fn collections()
+    ensures leak_freed { LeakFreed }
+    ensures live_in_first_list { LiveInFirstList }
+    ensures live_in_second_list { LiveInSecondList }
+    ensures not_yet_waiting { NotYetWaiting }
+    ensures waiting_has_no_call { WaitingHasNoCall }
+    ensures given_again_between_the_lists { GivenAgainBetweenTheLists }
+    ensures given_again_behind_the_lists { GivenAgainBehindTheLists }
+    ensures fed_within_the_grace { FedWithinTheGrace }
+    ensures fed_behind_the_grace { FedBehindTheGrace }
+    ensures outside_the_scope { OutsideTheScope }
+    ensures inside_the_scope { InsideTheScope }
+{}
+
+/// An address is borrowed where the node may have no other block, unless affinity is strict.
+pub fn adds_that_borrow()
+    ensures strict_add { StrictAdd }
+    ensures borrowing_add { BorrowingAdd }
+    ensures strict_add_of_one { StrictAddOfOne }
+    ensures borrowing_from_nobody { BorrowingFromNobody }
+{}
+
+/// An ADD of both families frees the first address where the second family has none.
+pub fn add_of_both_families()
+    ensures second_family_exhausted { SecondFamilyExhausted }
+    ensures no_owner_is_left { NoOwnerIsLeft }
+    ensures given_again_before_the_second { GivenAgainBeforeTheSecond }
+{}
+
+/// A request ends at the last revision, the 64th lost race or claim, and the highest count.
+pub fn requests_at_a_limit()
+    ensures revisions_spent { RevisionsSpent }
+    ensures sixty_four_lost_races { SixtyFourLostRaces }
+    ensures sixty_four_claims { SixtyFourClaims }
+    ensures count_at_its_limit { CountAtItsLimit }
+    ensures worn_at_first { WornAtFirst }
+    ensures worn_behind_one { WornBehindOne }
+    ensures worn_and_stopped { WornAndStopped }
+{}
+
+/// One address is asked for: it is taken, in no pool, reserved, or in a block that is missing.
+pub fn adds_of_one_address()
+    ensures taken_address { TakenAddress }
+    ensures address_in_no_pool { AddressInNoPool }
+    ensures reserved_address { ReservedAddress }
+    ensures claimed_for_one_address { ClaimedForOneAddress }
+    ensures claimed_from_nobody { ClaimedFromNobody }
+    ensures nobodys_is_not_affine { NobodysIsNotAffine }
+{}
+
+/// A DEL frees what its handle holds in each block, and nothing else.
+pub fn deletions()
+    ensures del_of_two_blocks { DelOfTwoBlocks }
+    ensures del_of_missing { DelOfMissing }
+{}
+
+/// A CHECK tells the first address that its handle does not hold.
+pub fn checks()
+    ensures recorded { Recorded }
+    ensures recorded_to_another { RecordedToAnother }
+    ensures second_not_recorded { SecondNotRecorded }
+    ensures in_no_pool { InNoPool }
+    ensures second_in_no_pool { SecondInNoPool }
+    ensures in_disabled_pool { InDisabledPool }
+{}
+
+/// An operator reserves addresses, and makes and disables pools.
+pub fn changes_by_an_operator()
+    ensures reservation_made { ReservationMade }
+    ensures pool_overlaps { PoolOverlaps }
+    ensures pool_disabled { PoolDisabled }
+    ensures changes_race { ChangesRace }
+{}
+
+/// A slot refuses what does not meet it idle or busy.
+pub fn events_that_are_refused()
+    ensures call_of_idle { CallOfIdle }
+    ensures stop_of_idle { StopOfIdle }
+    ensures begin_of_busy { BeginOfBusy }
+{}
+
+/// A probe is ready where an ADD would be given an address.
+pub fn probes()
+    ensures ready_from_any { ReadyFromAny }
+    ensures ready_from_named { ReadyFromNamed }
+    ensures ready_for_another_node { ReadyForAnotherNode }
+    ensures probe_of_unknown_name { ProbeOfUnknownName }
+    ensures exhausted_in_one_family { ExhaustedInOneFamily }
 {}

@@ -1,0 +1,33 @@
+use Rattle.std.proofs.Common.{refl}
+use Rattle.ipam_model_runs.proofs.Unfolded.{runs_computed}
+use Rattle.ipam_model_runs.specs.Limits.{lost_rounds}
+use Rattle.ipam_model_runs.specs.Limits.{claim_rounds}
+use Rattle.ipam_model_runs.proofs.runs.requests_at_a_limit.Goals as goal
+
+pub returns-clause-revisions_spent : goal.returns-clause-revisions_spent
+unfolding runs_computed
+returns-clause-revisions_spent c = refl
+
+pub returns-clause-sixty_four_lost_races : goal.returns-clause-sixty_four_lost_races
+unfolding runs_computed lost_rounds
+returns-clause-sixty_four_lost_races c = refl
+
+pub returns-clause-sixty_four_claims : goal.returns-clause-sixty_four_claims
+unfolding runs_computed claim_rounds
+returns-clause-sixty_four_claims c = refl
+
+pub returns-clause-count_at_its_limit : goal.returns-clause-count_at_its_limit
+unfolding runs_computed
+returns-clause-count_at_its_limit c = refl
+
+pub returns-clause-worn_at_first : goal.returns-clause-worn_at_first
+unfolding runs_computed
+returns-clause-worn_at_first c = refl
+
+pub returns-clause-worn_behind_one : goal.returns-clause-worn_behind_one
+unfolding runs_computed
+returns-clause-worn_behind_one c = refl
+
+pub returns-clause-worn_and_stopped : goal.returns-clause-worn_and_stopped
+unfolding runs_computed
+returns-clause-worn_and_stopped c = refl
