@@ -1,11 +1,11 @@
 -- One key and one revision have one record.
-use Rattle.std.proofs.Common.{◌≡◌, ◌≢◌, ℕ, zero, suc, ◌+◌, ◌-◌, ◌<◌, ◌≤◌, true, false, Bool, IsTrue, List, [], ◌∷◌, length, drop, Option, Some, None, refl, sym, ap, ◌∙◌, subst, inl, inr, ◌⊎◌, arith, nat_lt, ltb-true, ltb-false}
+use Rattle.std.proofs.Common.{◌≡◌, ◌≢◌, ℕ, zero, suc, ◌+◌, ◌-◌, ◌≤◌, true, List, [], ◌∷◌, drop, Some, sym, ap, ◌∙◌, subst, inl, inr, ◌⊎◌, arith, nat_lt, ltb-true, ltb-false}
 use Rattle.std.proofs.lemmas.Bool.{cases_Bool}
 use Rattle.std.proofs.Math.Seq.{drop-drop}
 use Rattle.ipam_records.specs.declared.key.Key.{Key}
 use Rattle.ipam_records.specs.declared.record.Record.{Record}
 use Rattle.ipam_records.specs.declared.call.Write.TheVariants.{Put, Remove}
-use Rattle.ipam_records.specs.Datastore.{Datastore, row_of, row_key, with_row, without_row, written}
+use Rattle.ipam_records.specs.Datastore.{Datastore, row_of, with_row, without_row, written}
 use Rattle.ipam_records.specs.Key.{key_of}
 use Rattle.ipam_records.specs.KeyOrder.{keys_equal}
 use Rattle.ipam_records.specs.KeyOrderLaws.{same-keys_equal, keys_equal-itself}
@@ -121,9 +121,9 @@ later-same base (suc many) [] sound h key revision one other a b =
     let rows : (revision, one) ≡ (revision, other) = cc (a, b) in ap (λ (row : ℕ × Record). row.1) rows
 later-same base (suc many) (new ∷ history) sound h key revision one other a b =
     step-same (store_at base history) (store_at base (new ∷ history)) (store-step base history new h)
-      (store_at base (drop many history)) (history-given base (drop many history) sound (drop-lawful base many history h.0))
-      (drop-counter base many history h.0) key revision one other a b
-      (later-same base many history sound h.0 key revision one other a)
+    (store_at base (drop many history)) (history-given base (drop many history) sound (drop-lawful base many history h.0))
+    (drop-counter base many history h.0) key revision one other a b
+    (later-same base many history sound h.0 key revision one other a)
 
 -- two moments, the one before the other
 in-order : (base : Base) (history : List Entry) → IsDatastore base.store → Lawful base history → (first second : ℕ) → first ≤ second → (key : Key) (revision : ℕ) (one other : Record) → HasAt (store_before base history first) key revision one → HasAt (store_before base history second) key revision other → one ≡ other
@@ -132,7 +132,7 @@ in-order base history sound h first second order key revision one other a b =
     let between = (now - first) - (now - second) in
     let sum : (now - second) + between ≡ now - first = omega arith in
     let early : HasAt (store_at base (drop between (drop (now - second) history))) key revision one =
-      subst (λ (hs : List Entry). HasAt (store_at base hs) key revision one) (ap (λ n. drop n history) (sym sum) ∙ sym (drop-drop between (now - second) history)) a in
+    subst (λ (hs : List Entry). HasAt (store_at base hs) key revision one) (ap (λ n. drop n history) (sym sum) ∙ sym (drop-drop between (now - second) history)) a in
     later-same base between (drop (now - second) history) sound (drop-lawful base (now - second) history h) key revision one other early b
 
 pub one_record : OneRecordLaw

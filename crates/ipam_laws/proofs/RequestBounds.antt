@@ -1,5 +1,5 @@
 -- The bounds of all requests.
-use Rattle.std.proofs.Common.{◌≡◌, ℕ, zero, suc, ◌+◌, ◌*◌, ◌-◌, ◌<◌, ◌≤◌, true, false, Bool, cond, List, [], ◌∷◌, ◌++◌, length, Option, Some, None, refl, subst, arith}
+use Rattle.std.proofs.Common.{◌≡◌, ℕ, zero, suc, ◌+◌, ◌*◌, ◌-◌, ◌≤◌, true, false, Bool, cond, List, [], ◌∷◌, ◌++◌, length, Option, Some, None, refl, subst, arith}
 use Rattle.std.specs.Prelude.{◌==◌, map}
 use Rattle.ipam_addr.specs.declared.address.Family.{Family}
 use Rattle.ipam_addr.specs.declared.address.Family.TheVariants.{V4, V6}
@@ -9,7 +9,7 @@ use Rattle.ipam_block.specs.Operations.{is_owned}
 use Rattle.ipam_affinity.specs.declared.record.Affinity.{Affinity}
 use Rattle.ipam_records.specs.Bound.{AtMost}
 use Rattle.ipam_records.specs.Said.{Said}
-use Rattle.ipam_records.specs.Word.{Word, Ends, Asks, Waits, bound}
+use Rattle.ipam_records.specs.Word.{Word, Ends}
 use Rattle.ipam_model.specs.declared.answer.Answer.{Answer}
 use Rattle.ipam_model.specs.declared.answer.Item.{Item}
 use Rattle.ipam_model.specs.declared.answer.Scan.{Scan}
@@ -18,14 +18,10 @@ use Rattle.ipam_model.specs.declared.choice.Choice.TheVariants.{Use, Claim, Borr
 use Rattle.ipam_model.specs.declared.outcome.AdminAnswer.{AdminAnswer}
 use Rattle.ipam_model.specs.declared.outcome.AdminAnswer.TheVariants as admin
 use Rattle.ipam_model.specs.declared.outcome.CheckAnswer.{CheckAnswer}
-use Rattle.ipam_model.specs.declared.outcome.CollectAnswer.{CollectAnswer}
-use Rattle.ipam_model.specs.declared.outcome.DelAnswer.{DelAnswer}
 use Rattle.ipam_model.specs.declared.outcome.ProbeAnswer.{ProbeAnswer}
 use Rattle.ipam_model.specs.declared.outcome.ReleaseAnswer.{ReleaseAnswer}
 use Rattle.ipam_model.specs.declared.outcome.ReleaseAnswer.TheVariants as released
-use Rattle.ipam_model.specs.declared.request.AddRequest.{AddRequest}
 use Rattle.ipam_model.specs.declared.request.Admin.{Admin}
-use Rattle.ipam_model.specs.declared.request.CollectRequest.{CollectRequest}
 use Rattle.ipam_model.specs.declared.request.ProbeRequest.{ProbeRequest}
 use Rattle.ipam_model.specs.Add.{add_word}
 use Rattle.ipam_model.specs.AddThis.{add_this_word}
@@ -56,8 +52,8 @@ unfolding remove.del_blocks
 del_blocks-within left id moment [] count h = tt
 del_blocks-within left id moment (cidr ∷ rest) count h =
     Within-bound (Leaves 2 (4 * length rest)) Any (free left id cidr (is_owned id)) (remove.del_next (λ less. remove.del_blocks less id moment rest)) count
-      (free-within 2 (4 * length rest) left count id cidr (is_owned id) (omega arith) (omega arith))
-      (next (λ less remaining k. del_blocks-within less id moment rest remaining k))
+    (free-within 2 (4 * length rest) left count id cidr (is_owned id) (omega arith) (omega arith))
+    (next (λ less remaining k. del_blocks-within less id moment rest remaining k))
   where
     next : ((less remaining : ℕ) → 2 * less + 4 * length rest ≤ remaining → Within Any (remove.del_blocks less id moment rest) remaining) → (o : Outcome ℕ) (remaining : ℕ) → Leaves 2 (4 * length rest) o remaining → Within Any (remove.del_next (λ less. remove.del_blocks less id moment rest) o) remaining
     next further (Went less amount) remaining k = further less remaining k
@@ -74,8 +70,8 @@ unfolding remove.free_leaks
 free_leaks-within left b1 b2 done [] count h = tt
 free_leaks-within left b1 b2 done (leak ∷ rest) count h =
     Within-bound (Leaves 2 (4 * length rest)) Any (free left leak.owner.handle leak.block (remove.is_leak leak)) (remove.collect_next (λ less item. remove.free_leaks less b1 b2 (done ++ item ∷ []) rest) leak) count
-      (free-within 2 (4 * length rest) left count leak.owner.handle leak.block (remove.is_leak leak) (omega arith) (omega arith))
-      (next (λ less item remaining k. free_leaks-within less b1 b2 (done ++ item ∷ []) rest remaining k))
+    (free-within 2 (4 * length rest) left count leak.owner.handle leak.block (remove.is_leak leak) (omega arith) (omega arith))
+    (next (λ less item remaining k. free_leaks-within less b1 b2 (done ++ item ∷ []) rest remaining k))
   where
     next : ((less : ℕ) (item : Item) (remaining : ℕ) → 2 * less + 4 * length rest ≤ remaining → Within Any (remove.free_leaks less b1 b2 (done ++ item ∷ []) rest) remaining) → (o : Outcome ℕ) (remaining : ℕ) → Leaves 2 (4 * length rest) o remaining → Within Any (remove.collect_next (λ less item. remove.free_leaks less b1 b2 (done ++ item ∷ []) rest) leak o) remaining
     next further (Went less amount) remaining k = further less (remove.item_of leak amount) remaining k
@@ -89,8 +85,11 @@ check_held-within rest address moment false count h = tt
 
 check_in_pool-within : (rest : Word CheckAnswer) (id : List ℕ) (address : Address) (p : ℕ) (pool : Option Pool) (count : ℕ) → Within Any rest count → Within Any (look.check_in_pool rest id address p pool) (1 + count)
 check_in_pool-within rest id address p None count h = tt
-check_in_pool-within rest id address p (Some pool) count h = (omega arith, λ moment said.
-    check_held-within rest address moment _ (1 + count - 1) (again h))
+check_in_pool-within rest id address p (Some pool) count h = (
+  omega arith,
+  λ moment said.
+      check_held-within rest address moment _ (1 + count - 1) (again h),
+)
   where
     again : Within Any rest count → Within Any rest (1 + count - 1)
     again k = let same : count ≡ 1 + count - 1 = omega arith in subst (λ (n : ℕ). Within Any rest n) same k
@@ -104,20 +103,29 @@ check_each-within id p pools (address ∷ rest) =
     (check_in_pool-within (look.check_each id p pools rest) id address p (pool_of address pools) (length rest) (check_each-within id p pools rest))
 
 check-within : (id : List ℕ) (addresses : List Address) → Within Any (look.check_word id addresses) (1 + length addresses)
-check-within id addresses = (omega arith, λ p said.
-    let same : length addresses ≡ 1 + length addresses - 1 = omega arith in
-    subst (λ (n : ℕ). Within Any (look.check_each id p (pools_said said) addresses) n) same (check_each-within id p (pools_said said) addresses))
+check-within id addresses = (
+  omega arith,
+  λ p said.
+      let same : length addresses ≡ 1 + length addresses - 1 = omega arith in
+      subst (λ (n : ℕ). Within Any (look.check_each id p (pools_said said) addresses) n) same (check_each-within id p (pools_said said) addresses),
+)
 
 -- ---- the release of an affinity: six calls for each try
 
 release_delete-within : (again : Word ReleaseAnswer) (node : List ℕ) (cidr : Range) (mark count : ℕ) → 1 ≤ count → Within Any again (count - 1) → Within Any (affinities.release_delete again node cidr mark) count
-release_delete-within again node cidr mark count h a = (h, λ moment said.
-    Within-after_write Any said (λ revision. Ends released.Released) again (Ends released.Full) (Ends released.Spent) (count - 1) (λ revision. tt) a tt tt)
+release_delete-within again node cidr mark count h a = (
+  h,
+  λ moment said.
+      Within-after_write Any said (λ revision. Ends released.Released) again (Ends released.Full) (Ends released.Spent) (count - 1) (λ revision. tt) a tt tt,
+)
 
 release_block-within : (again : Word ReleaseAnswer) (node : List ℕ) (cidr : Range) (mark : ℕ) (read : affinities.BlockRead) (count : ℕ) → 2 ≤ count → Within Any again (count - 1) → Within Any again (count - 1 - 1) → Within Any (affinities.release_block again node cidr mark read) count
-release_block-within again node cidr mark read count h a b = (omega arith, λ moment said.
-    Within-after_write Any said (λ revision. affinities.release_delete again node cidr mark) again (Ends released.Full) (Ends released.Spent) (count - 1)
-      (λ revision. release_delete-within again node cidr mark (count - 1) (omega arith) b) a tt tt)
+release_block-within again node cidr mark read count h a b = (
+  omega arith,
+  λ moment said.
+      Within-after_write Any said (λ revision. affinities.release_delete again node cidr mark) again (Ends released.Full) (Ends released.Spent) (count - 1)
+      (λ revision. release_delete-within again node cidr mark (count - 1) (omega arith) b) a tt tt,
+)
 
 release_marked-within : (again : Word ReleaseAnswer) (node : List ℕ) (cidr : Range) (mark : ℕ) (read : affinities.BlockRead) (found : Option (ℕ × Affinity)) (count : ℕ) → 2 ≤ count → Within Any again count → Within Any again (count - 1) → Within Any again (count - 1 - 1) → Within Any (affinities.release_marked again node cidr mark read found) count
 release_marked-within again node cidr mark read None count h a b c = a
@@ -128,26 +136,38 @@ release_marked-within again node cidr mark read (Some (revision, found)) count h
     from false = a
 
 release_look-within : (again : Word ReleaseAnswer) (node : List ℕ) (cidr : Range) (mark count : ℕ) → 4 ≤ count → ((spent : ℕ) → spent ≤ 4 → Within Any again (count - spent)) → Within Any (affinities.release_look again node cidr mark) count
-release_look-within again node cidr mark count h a = (omega arith, λ moment seen. (omega arith, λ second said.
-    release_marked-within again node cidr mark (block_said seen) (affinity_said said) (count - 1 - 1) (omega arith)
-      (less 2 (omega arith) (count - 1 - 1) (omega arith)) (less 3 (omega arith) (count - 1 - 1 - 1) (omega arith)) (less 4 (omega arith) (count - 1 - 1 - 1 - 1) (omega arith))))
+release_look-within again node cidr mark count h a = (
+  omega arith,
+  λ moment seen. (
+    omega arith,
+    λ second said.
+        release_marked-within again node cidr mark (block_said seen) (affinity_said said) (count - 1 - 1) (omega arith)
+        (less 2 (omega arith) (count - 1 - 1) (omega arith)) (less 3 (omega arith) (count - 1 - 1 - 1) (omega arith)) (less 4 (omega arith) (count - 1 - 1 - 1 - 1) (omega arith)),
+  ),
+)
   where
     less : (spent : ℕ) → spent ≤ 4 → (n : ℕ) → count - spent ≡ n → Within Any again n
     less spent few n same = subst (λ (n : ℕ). Within Any again n) same (a spent few)
 
 release_found-within : (again : Word ReleaseAnswer) (node : List ℕ) (cidr : Range) (moment : ℕ) (found : Option (ℕ × Affinity)) (count : ℕ) → 5 ≤ count → ((spent : ℕ) → spent ≤ 5 → Within Any again (count - spent)) → Within Any (affinities.release_found again node cidr moment found) count
 release_found-within again node cidr moment None count h a = tt
-release_found-within again node cidr moment (Some (revision, found)) count h a = (omega arith, λ second said.
-    Within-after_write Any said (affinities.release_look again node cidr) again (Ends released.Full) (Ends released.Spent) (count - 1)
+release_found-within again node cidr moment (Some (revision, found)) count h a = (
+  omega arith,
+  λ second said.
+      Within-after_write Any said (affinities.release_look again node cidr) again (Ends released.Full) (Ends released.Spent) (count - 1)
       (λ mark. release_look-within again node cidr mark (count - 1) (omega arith) later)
-      (a 1 (omega arith)) tt tt)
+      (a 1 (omega arith)) tt tt,
+)
   where
     later : (spent : ℕ) → spent ≤ 4 → Within Any again (count - 1 - spent)
     later spent few = let same : count - (1 + spent) ≡ count - 1 - spent = omega arith in subst (λ (n : ℕ). Within Any again n) same (a (1 + spent) (omega arith))
 
 release_once-within : (again : Word ReleaseAnswer) (node : List ℕ) (cidr : Range) (count : ℕ) → 6 ≤ count → ((spent : ℕ) → spent ≤ 6 → Within Any again (count - spent)) → Within Any (affinities.release_once again node cidr) count
-release_once-within again node cidr count h a = (omega arith, λ moment said.
-    release_found-within again node cidr moment (affinity_said said) (count - 1) (omega arith) later)
+release_once-within again node cidr count h a = (
+  omega arith,
+  λ moment said.
+      release_found-within again node cidr moment (affinity_said said) (count - 1) (omega arith) later,
+)
   where
     later : (spent : ℕ) → spent ≤ 5 → Within Any again (count - 1 - spent)
     later spent few = let same : count - (1 + spent) ≡ count - 1 - spent = omega arith in subst (λ (n : ℕ). Within Any again n) same (a (1 + spent) (omega arith))
@@ -161,8 +181,11 @@ release-within (suc left) count node cidr h =
 -- ---- administration
 
 admin_write-within : (again : Word AdminAnswer) (said : Said) (changed : change.Changed) (count : ℕ) → 1 ≤ count → Within Any again (count - 1) → Within Any (change.admin_write again said changed) count
-admin_write-within again said (change.Becomes new) count h a = (h, λ moment reply.
-    Within-after_write Any reply (λ revision. Ends (admin.Done revision)) again (Ends admin.Full) (Ends admin.Spent) (count - 1) (λ revision. tt) a tt tt)
+admin_write-within again said (change.Becomes new) count h a = (
+  h,
+  λ moment reply.
+      Within-after_write Any reply (λ revision. Ends (admin.Done revision)) again (Ends admin.Full) (Ends admin.Spent) (count - 1) (λ revision. tt) a tt tt,
+)
 admin_write-within again said (change.Refuses number name) count h a = tt
 
 admin_once-within : (again : Word AdminAnswer) (request : Admin) (count : ℕ) → 2 ≤ count → Within Any again (count - 1 - 1) → Within Any (change.admin_once again request) count
@@ -207,7 +230,7 @@ bounds = record {
   add = λ request. told-bound of_add (add_word request) 2000 (add_families-within request request.ipv4 request.ipv6);
   add_this = λ request address. told-bound of_add_this (add_this_word request address) 2000 (this_rounds-within 127 63 0 request address 2000 (omega arith) (omega arith));
   del = λ id moment said. told-bound of_del (remove.del_blocks 63 id moment (map (λ (count : Range × ℕ). count.0) (handle_said id said).counts)) (199 + 4 * length (handle_said id said).counts)
-    (del_blocks-within 63 id moment (map (λ (count : Range × ℕ). count.0) (handle_said id said).counts) (199 + 4 * length (handle_said id said).counts) (omega (arith, blocks_of_counts (handle_said id said).counts)));
+      (del_blocks-within 63 id moment (map (λ (count : Range × ℕ). count.0) (handle_said id said).counts) (199 + 4 * length (handle_said id said).counts) (omega (arith, blocks_of_counts (handle_said id said).counts)));
   check = λ id addresses. told-bound of_check (look.check_word id addresses) (1 + length addresses) (check-within id addresses);
   release = λ node cidr. told-bound of_release (affinities.release node cidr) 400 (release-within 63 400 node cidr (omega arith));
   admin = λ request. told-bound of_admin (change.admin_word request) 200 (admin-within 63 200 request (omega arith));
@@ -218,5 +241,5 @@ pub collect_bounds : CollectBoundLaw
 unfolding word_of
 collect_bounds request b1 b2 first second live =
     told-bound of_collect (remove.free_leaks 63 b1 b2 [] (remove.leaks (remove.suspects request (rows_said first)) live (rows_said second)))
-      (198 + 4 * length (remove.leaks (remove.suspects request (rows_said first)) live (rows_said second)))
-      (free_leaks-within 63 b1 b2 [] (remove.leaks (remove.suspects request (rows_said first)) live (rows_said second)) (198 + 4 * length (remove.leaks (remove.suspects request (rows_said first)) live (rows_said second))) (omega arith))
+    (198 + 4 * length (remove.leaks (remove.suspects request (rows_said first)) live (rows_said second)))
+    (free_leaks-within 63 b1 b2 [] (remove.leaks (remove.suspects request (rows_said first)) live (rows_said second)) (198 + 4 * length (remove.leaks (remove.suspects request (rows_said first)) live (rows_said second))) (omega arith))

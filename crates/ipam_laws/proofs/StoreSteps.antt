@@ -1,13 +1,12 @@
 -- What an entry makes of the store.
-use Rattle.std.proofs.Common.{◌≡◌, ◌≢◌, ℕ, ◌+◌, true, false, Bool, cond, List, [], ◌∷◌, Option, Some, None, refl, sym, ap, ◌∙◌, subst, arith}
+use Rattle.std.proofs.Common.{◌≡◌, ◌≢◌, ℕ, ◌+◌, true, false, Bool, cond, List, ◌∷◌, Option, Some, None, refl, sym, ap, ◌∙◌, subst}
 use Rattle.std.specs.Prelude.{◌==◌, nat_lt}
 use Rattle.ipam_records.specs.declared.key.Key.{Key}
 use Rattle.ipam_records.specs.declared.record.Record.{Record}
 use Rattle.ipam_records.specs.declared.call.Call.{Call}
 use Rattle.ipam_records.specs.declared.call.Call.TheVariants as call
-use Rattle.ipam_records.specs.declared.call.Write.{Write}
 use Rattle.ipam_records.specs.declared.call.Write.TheVariants.{Put, Remove}
-use Rattle.ipam_records.specs.Datastore.{Datastore, reply_of, reply_to_get, reply_to_create, reply_to_change, granted, has_room, row_of, listed, last_revision, written, write_granted, write_of}
+use Rattle.ipam_records.specs.Datastore.{Datastore, reply_of, reply_to_get, reply_to_create, reply_to_change, granted, has_room, row_of, last_revision, written, write_granted, write_of}
 use Rattle.ipam_records.specs.Key.{key_of}
 use Rattle.ipam_records.specs.Said.{Said, Found, Missing, Listed, Can, Exists, Conflict, Full, Spent}
 use Rattle.ipam_records.specs.Word.{Word, Ends, Asks, Waits, ended}
@@ -18,11 +17,11 @@ use Rattle.ipam_model.specs.declared.entry.Entry.{Entry}
 use Rattle.ipam_model.specs.declared.entry.Entry.TheVariants as entry
 use Rattle.ipam_model.specs.declared.entry.Fate.{Fate}
 use Rattle.ipam_model.specs.declared.entry.Fate.TheVariants.{Well, Before, After}
-use Rattle.ipam_model.specs.Cluster.{Cluster, new_record, record_written, write_told, write_done, store_with, store_after, called, call_entry, after}
+use Rattle.ipam_model.specs.Cluster.{new_record, record_written, write_told, write_done, store_with, store_after, called, call_entry, after}
 use Rattle.ipam_model.specs.Named.{name_of, told_of}
-use Rattle.ipam_model.specs.History.{Base, Lawful, cluster_at, store_at, MayCall}
+use Rattle.ipam_model.specs.History.{Base, Lawful, cluster_at, store_at}
 use Rattle.ipam_model.specs.AnswerLaw.{FaultLaw}
-use Rattle.ipam_model.specs.ReplyLaw.{IsDoneBy, IsNotDone, IsAnsweredBy, RepliesLaw}
+use Rattle.ipam_model.specs.ReplyLaw.{IsAnsweredBy, RepliesLaw}
 
 -- ---- the write of an entry is the one that was granted
 

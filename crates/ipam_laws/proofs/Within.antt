@@ -1,9 +1,9 @@
 -- Words that end with calls to spare.
-use Rattle.std.proofs.Common.{ℕ, zero, suc, ◌-◌, ◌<◌, List, true, false, Bool, arith}
+use Rattle.std.proofs.Common.{ℕ, ◌-◌, ◌<◌, List}
 use Rattle.ipam_records.specs.Bound.{AtMost}
 use Rattle.ipam_records.specs.Said.{Said, Found, Missing, Listed, Can, Exists, Conflict, Full, Spent}
 use Rattle.ipam_records.specs.Word.{Word, Ends, Asks, Waits, bound}
-use Rattle.ipam_model.specs.Step.{after_write, after_lost}
+use Rattle.ipam_model.specs.Step.{after_write}
 
 -- with so many calls left at first, it is true of the answer and of the calls that are left then
 abbrev pub Within : {A : Type 0} → (A → ℕ → Type 0) → Word A → ℕ → Type 0
