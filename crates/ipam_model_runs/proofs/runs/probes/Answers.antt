@@ -1,6 +1,5 @@
 use Rattle.std.proofs.Common.{refl}
-use Rattle.ipam_model_runs.proofs.Unfolded.{runs_computed}
-use Rattle.ipam_model_runs.proofs.Unfolded.{names_read}
+use Rattle.ipam_model_runs.proofs.Unfolded.{runs_computed, names_read}
 use Rattle.ipam_model_runs.proofs.runs.probes.Goals as goal
 
 pub returns-clause-ready_from_any : goal.returns-clause-ready_from_any

@@ -1,7 +1,6 @@
 use Rattle.std.proofs.Common.{refl}
 use Rattle.ipam_model_runs.proofs.Unfolded.{runs_computed}
-use Rattle.ipam_model_runs.specs.Limits.{lost_rounds}
-use Rattle.ipam_model_runs.specs.Limits.{claim_rounds}
+use Rattle.ipam_model_runs.specs.Limits.{lost_rounds, claim_rounds}
 use Rattle.ipam_model_runs.proofs.runs.requests_at_a_limit.Goals as goal
 
 pub returns-clause-revisions_spent : goal.returns-clause-revisions_spent
