@@ -113,7 +113,7 @@ step-same store behind (Removes gone e) earlier given below key revision one oth
     let there = subst (λ (s : Datastore). HasAt s key revision other) e k in
     same (remove-found store (store.counter + 1) gone key revision other there)
 
-later-same : (base : Base) (many : ℕ) (history : List Entry) → IsDatastore base.store → Lawful base history → (key : Key) (revision : ℕ) (one other : Record) → HasAt (store_at base (drop many history)) key revision one → HasAt (store_at base history) key revision other → one ≡ other
+pub later-same : (base : Base) (many : ℕ) (history : List Entry) → IsDatastore base.store → Lawful base history → (key : Key) (revision : ℕ) (one other : Record) → HasAt (store_at base (drop many history)) key revision one → HasAt (store_at base history) key revision other → one ≡ other
 unfolding Lawful
 later-same base zero history sound h key revision one other a b =
     let rows : (revision, one) ≡ (revision, other) = cc (a, b) in ap (λ (row : ℕ × Record). row.1) rows

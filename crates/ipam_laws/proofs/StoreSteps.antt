@@ -32,7 +32,7 @@ write_done-new (call.Create new) revision = refl
 write_done-new (call.Update new old) revision = refl
 write_done-new (call.Delete key old) revision = refl
 
-write_told-granted : (asked : Call) (reply : Said) → write_told (name_of asked) (told_of reply) (record_written asked reply) ≡ write_granted asked reply
+pub write_told-granted : (asked : Call) (reply : Said) → write_told (name_of asked) (told_of reply) (record_written asked reply) ≡ write_granted asked reply
 write_told-granted asked (Can revision) = write_done-new asked revision
 write_told-granted asked (Found revision found) = refl
 write_told-granted asked Missing = refl

@@ -3,4 +3,5 @@
 #![tactic(auto)]
 
 pub mod bounds;
+pub mod counts;
 pub mod datastore;

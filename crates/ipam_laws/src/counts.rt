@@ -1,0 +1,14 @@
+//! Counts over a whole history: a handle never counts fewer addresses than the blocks give it.
+ghost use Rattle.ipam_model.specs.CountLaw.{CountLaw, CreditLaw};
+
+/// At each moment, what a handle counts for a block is at least the number of addresses that the
+/// block gives it.
+pub fn counts_cover_addresses()
+    ensures { CountLaw }
+{}
+
+/// The count also covers what running requests are ahead by: an address counted that its block
+/// does not show yet, or addresses given back in their block and not yet taken off the count.
+pub fn counts_cover_what_running_requests_owe()
+    ensures { CreditLaw }
+{}
