@@ -1,5 +1,5 @@
 -- What the answers of an ADD say of the history.
-use Rattle.std.specs.Prelude.{◌≡◌, ℕ, ◌+◌, ◌<◌, ◌⊎◌, Bool, true, false, IsTrue, List, [], ◌∷◌, Some, None, map, slice_get}
+use Rattle.std.specs.Prelude.{◌≡◌, ℕ, ◌+◌, ◌<◌, ◌⊎◌, Bool, true, false, IsTrue, List, [], ◌∷◌, Some, None, map, Contains, slice_get}
 use Rattle.ipam_addr.specs.declared.address.Family.{Family}
 use Rattle.ipam_addr.specs.declared.address.Family.TheVariants.{V4, V6}
 use Rattle.ipam_addr.specs.Holding.{Holds}
@@ -109,17 +109,19 @@ abbrev pub HasNothing : Base → List Entry → ℕ → Type 0
 HasNothing base history slot =
     (owner : Owner) → GainedInSpan base history slot owner → ¬ (Owns (store_at base history) owner)
 
--- the choice on what was read is nothing, so no candidate was left
+-- for a wanted family the choice on what was read is nothing, so no candidate was left
 pub record IsExhausted (base : Base) (history : List Entry) (slot : ℕ) (request : AddRequest) (scan : Scan) : Type 0 where
+  pub wanted : Contains (families_of request) scan.family
   pub seen : Seen
   pub scanned : HasScanned base history slot scan seen
   pub is_choice : IsChoice (asked_of request scan.family) seen Nothing
   pub nothing_left : HasNothing base history slot
 
--- no enabled pool of the family had the name
+-- no enabled pool of a wanted family had the name
 pub record IsWithoutPool (base : Base) (history : List Entry) (slot : ℕ) (request : AddRequest) (called : List ℕ) (moment : ℕ) : Type 0 where
   pub seen : Seen
   pub scan : Scan
+  pub wanted : Contains (families_of request) scan.family
   pub scanned : HasScanned base history slot scan seen
   pub at_pools : moment ≡ scan.p
   pub place : ℕ

@@ -2,6 +2,7 @@
 use Rattle.std.specs.Prelude.{◌≡◌, ◌≢◌, ℕ, ◌⊎◌, List, Option, Some, None}
 use Rattle.ipam_addr.specs.Shape.{Range}
 use Rattle.ipam_block.specs.Content as block
+use Rattle.ipam_affinity.specs.declared.record.Affinity.{Affinity}
 use Rattle.ipam_affinity.specs.declared.state.State.{State}
 use Rattle.ipam_affinity.specs.declared.state.State.TheVariants.{Confirmed, PendingDeletion}
 use Rattle.ipam_records.specs.declared.key.Key.{Key}
@@ -50,6 +51,9 @@ OneNodeLaw =
 
 -- ---- where the claimers and the releasers stand
 
+abbrev pub HasAt : Datastore → Key → (revision : ℕ) → Record → Type 0
+HasAt store key revision found = row_of key store.rows ≡ Some (revision, found)
+
 abbrev pub point_of : Option Running → Point
 point_of None = Nowhere
 point_of (Some running) = (label_of running.word).point
@@ -61,16 +65,6 @@ IsBlockCurrent store cidr read = revision_of store (key.Block cidr) ≡ read
 -- the affinity is at the revision that is kept
 abbrev pub IsAffinityCurrent : Datastore → List ℕ → Range → ℕ → Type 0
 IsAffinityCurrent store node cidr kept = revision_of store (key.Affinity node cidr) ≡ Some kept
-
-pub record IsAffinityPending (store : Datastore) (node : List ℕ) (cidr : Range) : Type 0 where
-  pub state : State
-  pub there : HasAffinity store node cidr state
-  pub not_confirmed : state ≢ Confirmed
-
--- the block has the node, or it has none, or it is missing
-abbrev pub HasNoOtherNode : Datastore → Range → List ℕ → Type 0
-HasNoOtherNode store cidr node =
-    (b : block.Content) → Has store (key.Block cidr) (record_of.Block b) → (b.node ≡ None) ⊎ (b.node ≡ Some node)
 
 -- What holds of the points at which the slots stand, by what is current.
 pub record PointsAgree (store : Datastore) (slots : Slots) : Type 0 where
@@ -98,30 +92,41 @@ pub record PointsAgree (store : Datastore) (slots : Slots) : Type 0 where
   pub released : (slot : ℕ) (node : List ℕ) (cidr : Range) (mark : ℕ)
       → point_of (slots slot) ≡ Released node cidr mark → IsAffinityCurrent store node cidr mark
       → HasAffinity store node cidr PendingDeletion × ¬ (HasNode store cidr node)
+
+-- at some moment the key had this record at the revision
+abbrev pub WasAt : Base → List Entry → Key → (revision : ℕ) → Record → Type 0
+WasAt base history key revision found =
+    (moment : ℕ) × HasAt (store_before base history moment) key revision found
+
+-- What holds of the revisions that the points keep, current or not.
+pub record PointsKeep (base : Base) (history : List Entry) (slots : Slots) : Type 0 where
   -- a claimer reads only blocks with its node or with none, and keeps no affinity that is to be deleted
-  pub claims_own : (slot : ℕ) (node : List ℕ) (cidr : Range) (read : Option ℕ) (kept : ℕ)
-      → point_of (slots slot) ≡ Claiming node cidr read kept → IsBlockCurrent store cidr read
-      → HasNoOtherNode store cidr node
-  pub claims_kept : (slot : ℕ) (node : List ℕ) (cidr : Range) (read : Option ℕ) (kept : ℕ)
-      → point_of (slots slot) ≡ Claiming node cidr read kept → IsAffinityCurrent store node cidr kept
-      → ¬ (HasAffinity store node cidr PendingDeletion)
-  pub claimed_kept : (slot : ℕ) (node : List ℕ) (cidr : Range) (kept : ℕ)
-      → point_of (slots slot) ≡ Claimed node cidr kept → IsAffinityCurrent store node cidr kept
-      → ¬ (HasAffinity store node cidr PendingDeletion)
+  pub claims_own : (slot : ℕ) (node : List ℕ) (cidr : Range) (read kept : ℕ) (b : block.Content)
+      → point_of (slots slot) ≡ Claiming node cidr (Some read) kept
+      → WasAt base history (key.Block cidr) read (record_of.Block b)
+      → (b.node ≡ None) ⊎ (b.node ≡ Some node)
+  pub claims_kept : (slot : ℕ) (node : List ℕ) (cidr : Range) (read : Option ℕ) (kept : ℕ) (a : Affinity)
+      → point_of (slots slot) ≡ Claiming node cidr read kept
+      → WasAt base history (key.Affinity node cidr) kept (record_of.Affinity a) → a.state ≢ PendingDeletion
+  pub claimed_kept : (slot : ℕ) (node : List ℕ) (cidr : Range) (kept : ℕ) (a : Affinity)
+      → point_of (slots slot) ≡ Claimed node cidr kept
+      → WasAt base history (key.Affinity node cidr) kept (record_of.Affinity a) → a.state ≢ PendingDeletion
   -- a mark is an affinity that is to be deleted
-  pub marks : (slot : ℕ) (node : List ℕ) (cidr : Range) (read : Option ℕ) (mark : ℕ)
-      → point_of (slots slot) ≡ Releasing node cidr read mark → IsAffinityCurrent store node cidr mark
-      → HasAffinity store node cidr PendingDeletion
+  pub releasing_marks : (slot : ℕ) (node : List ℕ) (cidr : Range) (read : Option ℕ) (mark : ℕ) (a : Affinity)
+      → point_of (slots slot) ≡ Releasing node cidr read mark
+      → WasAt base history (key.Affinity node cidr) mark (record_of.Affinity a) → a.state ≡ PendingDeletion
+  pub released_marks : (slot : ℕ) (node : List ℕ) (cidr : Range) (mark : ℕ) (a : Affinity)
+      → point_of (slots slot) ≡ Released node cidr mark
+      → WasAt base history (key.Affinity node cidr) mark (record_of.Affinity a) → a.state ≡ PendingDeletion
 
 abbrev pub PointsLaw : Type 0
 PointsLaw =
     (base : Base) (history : List Entry) → IsDatastore base.store → AgreesWithAffinities base.store
-    → Lawful base history → PointsAgree (store_at base history) (cluster_at base history).slots
+    → Lawful base history
+    → PointsAgree (store_at base history) (cluster_at base history).slots
+    × PointsKeep base history (cluster_at base history).slots
 
 -- ---- one key and one revision have one record
-
-abbrev pub HasAt : Datastore → Key → (revision : ℕ) → Record → Type 0
-HasAt store key revision found = row_of key store.rows ≡ Some (revision, found)
 
 abbrev pub OneRecordLaw : Type 0
 OneRecordLaw =

@@ -1,9 +1,10 @@
 -- What each answer says of the history that led to it.
-use Rattle.std.specs.Prelude.{◌≡◌, ◌≢◌, ℕ, ◌+◌, ◌⊎◌, List, ◌∷◌, Some}
+use Rattle.std.specs.Prelude.{◌≡◌, ◌≢◌, ℕ, ◌+◌, ◌<◌, ◌⊎◌, List, ◌∷◌, Some}
 use Rattle.ipam_addr.specs.Shape.{Address, Range}
-use Rattle.ipam_records.specs.Sound.{IsDatastore}
 use Rattle.ipam_model.specs.declared.answer.Answer.{Answer}
 use Rattle.ipam_model.specs.declared.answer.Answer.TheVariants as answer
+use Rattle.ipam_records.specs.declared.key.Key.TheVariants as key
+use Rattle.ipam_model.specs.declared.entry.CallName.TheVariants as name
 use Rattle.ipam_model.specs.declared.entry.Called.{Called}
 use Rattle.ipam_model.specs.declared.entry.Entry.{Entry}
 use Rattle.ipam_model.specs.declared.entry.Entry.TheVariants as entry
@@ -21,7 +22,8 @@ use Rattle.ipam_model.specs.declared.choice.Choice.TheVariants.{Use, Borrow}
 use Rattle.ipam_model.specs.Add.{asked_of}
 use Rattle.ipam_model.specs.Choice.{Seen, IsChoice}
 use Rattle.ipam_model.specs.Rounds.{HasScanned}
-use Rattle.ipam_model.specs.History.{Base, Lawful, cluster_at, moment_of, since_begin}
+use Rattle.ipam_model.specs.Consistent.{IsConsistent}
+use Rattle.ipam_model.specs.History.{Base, InSpan, Lawful, cluster_at, moment_of, since_begin}
 use Rattle.ipam_model.specs.Moments.{request_in}
 use Rattle.ipam_model.specs.OtherLaws.{IsDeleted, IsCollected, IsChecked, IsNotRecorded, IsReleased, HasNoAffinity, IsDone, IsRefused, AreReady, IsProbedExhausted, IsProbedWithoutPool, IsFull, IsCountFull}
 use Rattle.ipam_model.specs.AddLaw.{families_if}
@@ -54,18 +56,25 @@ earlier_calls a = calls_of a.call.slot (since_begin a.call.slot a.earlier)
 pub record IsAgain (a : Answered) (lost claims : ℕ) : Type 0 where
   pub are_lost : lost_races a.request (a.call ∷ earlier_calls a) ≡ lost
   pub are_claims : claims_of a.request (a.call ∷ earlier_calls a) ≡ claims
-  pub bound : (lost ≡ most_lost) ⊎ (claims ≡ most_claims)
-  pub by_this_call : lost_races a.request (earlier_calls a) + claims_of a.request (earlier_calls a) + 1 ≡ lost + claims
+  pub by_this_call :
+      ((lost ≡ most_lost) × (lost_races a.request (earlier_calls a) + 1 ≡ lost))
+      ⊎ ((claims ≡ most_claims) × (claims_of a.request (earlier_calls a) + 1 ≡ claims))
 
--- the block in which an ADD was to assign an address
-pub data IsTarget (a : Answered) (cidr : Range) : Type 0 where
+-- the moments are of one round: the configuration, with which each round begins, was not read between
+pub record IsInRound (a : Answered) (first later : ℕ) : Type 0 where
+  pub behind : first < later
+  pub same_round : (k : ℕ) (c : Called) → first < k → k < later
+      → InSpan a.base (history_of a) a.call.slot k (entry.Called c) → c.call ≢ name.Get key.Config
+
+-- the block in which an ADD was to assign an address in the round of this moment
+pub data IsTarget (a : Answered) (moment : ℕ) (cidr : Range) : Type 0 where
   Chosen : (add : AddRequest) (scan : Scan) (seen : Seen) (ordinal : ℕ) → a.request ≡ Add add
-      → HasScanned a.base (history_of a) a.call.slot scan seen
+      → HasScanned a.base (history_of a) a.call.slot scan seen → IsInRound a scan.b moment
       → IsChoice (asked_of add scan.family) seen (Use cidr ordinal) ⊎ IsChoice (asked_of add scan.family) seen (Borrow cidr ordinal)
-      → IsTarget a cidr
+      → IsTarget a moment cidr
   AskedFor : (add : AddRequest) (address : Address) (c p b : ℕ) → a.request ≡ AddThis add address
-      → (looked : HasLooked a.base (history_of a) a.call.slot add address c p b) → looked.cidr ≡ cidr
-      → IsTarget a cidr
+      → (looked : HasLooked a.base (history_of a) a.call.slot add address c p b) → looked.cidr ≡ cidr → IsInRound a b moment
+      → IsTarget a moment cidr
 
 abbrev pub IsRight : Answered → Answer → Type 0
 IsRight a (answer.Added given) =
@@ -118,7 +127,7 @@ IsRight a answer.Full =
     × ((add : AddRequest) → IsAddWith a.request add → HasNothing a.base (history_of a) a.call.slot)
 IsRight a (answer.CountFull moment) =
     (add : AddRequest) × IsAddWith a.request add
-    × ((cidr : Range) × IsTarget a cidr × IsCountFull a.base (history_of a) a.call.slot add.attributes.handle cidr moment)
+    × ((cidr : Range) × IsTarget a moment cidr × IsCountFull a.base (history_of a) a.call.slot add.attributes.handle cidr moment)
     × HasNothing a.base (history_of a) a.call.slot
 IsRight a answer.Spent = a.call.reply ≡ told.Spent
 IsRight a answer.Fault = a.call.fate ≢ Well
@@ -129,7 +138,7 @@ IsRight a (answer.Ready scans) =
 -- Each answer is right of the history that led to it.
 abbrev pub AnswersLaw : Type 0
 AnswersLaw =
-    (a : Answered) (told : Answer) → IsDatastore a.base.store → Lawful a.base (history_of a)
+    (a : Answered) (told : Answer) → IsConsistent a.base.store → Lawful a.base (history_of a)
     → request_in (cluster_at a.base a.earlier) a.call.slot ≡ Some a.request → a.call.answer ≡ Some told
     → IsRight a told
 

@@ -1,12 +1,11 @@
 -- Which rows may be opened.
-use Rattle.std.specs.Prelude.{◌≡◌, ◌≢◌, ℕ, ◌<◌, ◌≤◌, ◌⊎◌, List, [], Option, Some, None, Result, Ok, Err, Contains, slice_get, codes, filter, Bool, false}
+use Rattle.std.specs.Prelude.{◌≡◌, ◌≢◌, ℕ, ◌<◌, ◌≤◌, ◌⊎◌, List, Option, Some, None, Result, Ok, Err, Contains, slice_get, codes, filter, map, Bool, false}
 use Rattle.std.specs.declared.cmp.Ordering.TheVariants.{Greater}
 use Rattle.std.specs.Ordering.{nat_cmp}
 use Rattle.std.specs.Cmp.Lexicographic.{slice_cmp}
 use Rattle.std.specs.List.{filter_map}
 use Rattle.ipam_addr.specs.Shape.{Range}
 use Rattle.ipam_pool.specs.declared.pools.Pool.{Pool}
-use Rattle.ipam_pool.specs.Slots.{IsSlotOf}
 use Rattle.ipam_affinity.specs.declared.state.State.{State}
 use Rattle.ipam_affinity.specs.declared.state.State.TheVariants.{Confirmed}
 use Rattle.ipam_records.specs.declared.call.Row.{Row as RowText}
@@ -17,12 +16,16 @@ use Rattle.ipam_records.specs.declared.key.Key.TheVariants as key
 use Rattle.ipam_records.specs.declared.key.Kind.TheVariants as kind
 use Rattle.ipam_records.specs.declared.record.Record.{Record}
 use Rattle.ipam_records.specs.declared.record.Record.TheVariants as record_of
-use Rattle.ipam_records.specs.Datastore.{Datastore, most_rows, most_blocks, last_revision, row_of}
+use Rattle.ipam_records.specs.Datastore.{Datastore, most_rows, most_blocks, last_revision, row_key}
 use Rattle.ipam_records.specs.KeyOrder.{is_of_kind}
 use Rattle.ipam_records.specs.KeyText.{key_bytes, key_read}
 use Rattle.ipam_records.specs.RecordReading.{record_reading}
 use Rattle.ipam_records.specs.Sound.{IsDatastore}
 use Rattle.ipam_model.specs.AffinityLaw.{HasAffinity, HasNode}
+use Rattle.ipam_model.specs.Consistent.{IsConsistent, IsSlotOfSome, cidr_named, pools_in}
+use Rattle.ipam_model.specs.declared.entry.Entry.{Entry}
+use Rattle.ipam_model.specs.History.{Base, Lawful, store_at}
+use Rattle.ipam_records.specs.Body.{body_of}
 use Rattle.ipam_model.specs.CountLaw.{handle_count, held_count}
 use Rattle.ipam_model.specs.Reads.{Row}
 
@@ -45,22 +48,14 @@ readable rows = filter_map (λ row. row_read row.revision (reading_of row)) rows
 abbrev pub read_store : Texts → Datastore
 read_store texts = record { rows = readable texts.rows; counter = texts.counter }
 
-abbrev pub pools_in_row : Option Row → List Pool
-pools_in_row (Some (revision, record_of.Pools pools)) = pools
-pools_in_row _ = []
-
 -- the pools, none where their row is missing
 abbrev pub pools_read : Texts → List Pool
-pools_read texts = pools_in_row (row_of key.Pools (readable texts.rows))
+pools_read texts = pools_in (readable texts.rows)
 
--- the CIDR that a key names, where it is a block's or an affinity's
+-- the CIDR that the text of a key names, where it is a block's or an affinity's
 abbrev pub cidr_of_key : Option Key → Option Range
-cidr_of_key (Some (key.Block cidr)) = Some cidr
-cidr_of_key (Some (key.Affinity node cidr)) = Some cidr
-cidr_of_key _ = None
-
-abbrev pub IsSlotOfSome : List Pool → Range → Type 0
-IsSlotOfSome pools cidr = (pool : Pool) × Contains pools pool × IsSlotOf pool cidr
+cidr_of_key (Some found) = cidr_named found
+cidr_of_key None = None
 
 abbrev pub is_block_text : RowText → Bool
 is_block_text row = of_key (key_read row.key)
@@ -125,3 +120,20 @@ pub record OpensAs (texts : Texts) (store : Datastore) : Type 0 where
   pub all_read : (row : RowText) (found : Record) → Contains texts.rows row → reading_of row ≡ Ok found → Contains store.rows (row.revision, found)
   pub nothing_else : (revision : ℕ) (found : Record) → Contains store.rows (revision, found)
       → (row : RowText) × Contains texts.rows row × (row.revision ≡ revision) × (reading_of row ≡ Ok found)
+
+-- the texts of the datastore's rows
+abbrev pub text_of : Row → RowText
+text_of row = record { key = key_bytes (row_key row); body = body_of row.1; revision = row.0 }
+
+abbrev pub texts_of : Datastore → Texts
+texts_of store = record { rows = map text_of store.rows; counter = store.counter }
+
+-- what was opened is consistent
+abbrev pub OpenedLaw : Type 0
+OpenedLaw = (texts : Texts) (store : Datastore) → OpensAs texts store → IsConsistent store
+
+-- So at every moment what is there may be opened again, and it is the same.
+abbrev pub OpenedAgainLaw : Type 0
+OpenedAgainLaw =
+    (base : Base) (history : List Entry) → IsConsistent base.store → Lawful base history
+    → OpensAs (texts_of (store_at base history)) (store_at base history)

@@ -9,13 +9,13 @@ use Rattle.ipam_records.specs.declared.key.Key.TheVariants as key
 use Rattle.ipam_records.specs.declared.key.Kind.TheVariants as kind
 use Rattle.ipam_records.specs.declared.record.Record.TheVariants as record_of
 use Rattle.ipam_records.specs.Said.{Said}
-use Rattle.ipam_records.specs.Sound.{IsDatastore}
 use Rattle.ipam_model.specs.declared.entry.Entry.{Entry}
 use Rattle.ipam_model.specs.declared.entry.Entry.TheVariants as entry
 use Rattle.ipam_model.specs.declared.request.AddRequest.{AddRequest}
 use Rattle.ipam_model.specs.declared.request.CollectRequest.{CollectRequest}
 use Rattle.ipam_model.specs.declared.request.Request.{Request}
 use Rattle.ipam_model.specs.declared.request.Request.TheVariants.{Add, AddThis, Del, Collect}
+use Rattle.ipam_model.specs.Consistent.{IsConsistent}
 use Rattle.ipam_model.specs.History.{Base, cluster_at, store_at, store_before, slot_of_entry, Lawful, InSpan, Heard}
 use Rattle.ipam_model.specs.Moments.{Has, request_in, Recorded, Owns, Gains, Loses, GainedInSpan}
 use Rattle.ipam_model.specs.Owners.{Owner, owners}
@@ -73,6 +73,6 @@ pub data OwnersChange (base : Base) (history : List Entry) (new : Entry) (reques
 -- The owners stay as they are, or change in one of these ways by a request that runs.
 abbrev pub OwnersLaw : Type 0
 OwnersLaw =
-    (base : Base) (history : List Entry) (new : Entry) → IsDatastore base.store → Lawful base (new ∷ history)
+    (base : Base) (history : List Entry) (new : Entry) → IsConsistent base.store → Lawful base (new ∷ history)
     → (owners (store_at base (new ∷ history)) ≡ owners (store_at base history))
     ⊎ ((request : Request) × (request_in (cluster_at base history) (slot_of_entry new) ≡ Some request) × OwnersChange base history new request)

@@ -1,6 +1,6 @@
 -- What a request that runs alone comes to, as a function of the records that are there. Revisions and
 -- moments do not matter here: rows are compared by their records.
-use Rattle.std.specs.Prelude.{◌≡◌, ℕ, zero, suc, ◌+◌, ◌-◌, ◌*◌, ◌≤◌, ◌≢◌, Bool, true, false, List, [], ◌∷◌, Option, Some, None, map, filter, length, if◌then◌else◌}
+use Rattle.std.specs.Prelude.{◌≡◌, ℕ, zero, suc, ◌+◌, ◌-◌, ◌*◌, ◌≤◌, ◌≢◌, Bool, true, false, List, [], ◌∷◌, Option, Some, None, map, filter, length, if◌then◌else◌, ◌==◌}
 use Rattle.std.specs.List.{All, count_by}
 use Rattle.ipam_addr.specs.declared.address.Family.{Family}
 use Rattle.ipam_addr.specs.declared.address.Family.TheVariants.{V4, V6}
@@ -21,7 +21,6 @@ use Rattle.ipam_records.specs.declared.record.Record.TheVariants as record_of
 use Rattle.ipam_records.specs.Datastore.{Datastore, row_key, row_of, with_row, without_row, reply_to_get, last_revision, most_rows, most_blocks, listed}
 use Rattle.ipam_records.specs.KeyOrder.{is_of_kind}
 use Rattle.ipam_records.specs.Said.{Said}
-use Rattle.ipam_records.specs.Sound.{IsDatastore}
 use Rattle.ipam_model.specs.declared.answer.Answer.{Answer}
 use Rattle.ipam_model.specs.declared.answer.Answer.TheVariants as answer
 use Rattle.ipam_model.specs.declared.answer.Given.{Given}
@@ -35,11 +34,10 @@ use Rattle.ipam_model.specs.declared.request.Request.TheVariants.{Add, AddThis, 
 use Rattle.ipam_model.specs.Add.{asked_of, name_at}
 use Rattle.ipam_model.specs.AddThis.{asked_of_this, slot_holding}
 use Rattle.ipam_model.specs.Affinities.{affinity}
-use Rattle.ipam_model.specs.AffinityLaw.{AgreesWithAffinities}
 use Rattle.ipam_model.specs.Alone.{alone_over}
 use Rattle.ipam_model.specs.Assigning.{names_for}
 use Rattle.ipam_model.specs.Choice.{Seen, choice_of, is_node, is_nobodys, room_of}
-use Rattle.ipam_model.specs.CountLaw.{IsCovered}
+use Rattle.ipam_model.specs.Consistent.{IsConsistent}
 use Rattle.ipam_model.specs.Counting.{most_count}
 use Rattle.ipam_model.specs.History.{Base}
 use Rattle.ipam_model.specs.Look.{asked_of_probe, holds_at}
@@ -293,6 +291,10 @@ plain_probe request false false rows = CanGive
 
 -- ---- all of them
 
+-- a collection is fed at once, so it is one without a grace
+abbrev pub plain_collection : CollectRequest → Rows → Option Result
+plain_collection request rows = if request.grace == 0 then Some (plain_collect request rows) else None
+
 -- the release of an affinity and administration are only said by their words
 abbrev pub plain : Request → Rows → Option Result
 plain (Add request) rows = Some (plain_add request request.ipv4 request.ipv6 rows)
@@ -300,7 +302,7 @@ plain (AddThis request address) rows = Some (plain_add_this request address rows
 plain (Del id) rows = Some (plain_del id rows)
 plain (Check id addresses) rows = Some (plain_check id addresses rows, rows)
 plain (Release node cidr) rows = None
-plain (Collect request) rows = Some (plain_collect request rows)
+plain (Collect request) rows = plain_collection request rows
 plain (Admin change) rows = None
 plain (Probe request) rows = Some (plain_probe request request.ipv4 request.ipv6 rows, rows)
 
@@ -325,6 +327,11 @@ pub record HasSpare (store : Datastore) (request : Request) : Type 0 where
   pub blocks : length (listed kind.Block store) + 2 ≤ most_blocks
   pub counts : All (λ (entry : Range × ℕ). entry.1 ≢ most_count) (handle_of (handle_in request) store.rows).counts
 
+-- a collection needs revisions alone
+abbrev pub HasSpareFor : Datastore → Request → Type 0
+HasSpareFor store (Collect request) = store.counter + needs (Collect request) store.rows ≤ last_revision
+HasSpareFor store request = HasSpare store request
+
 abbrev pub records : Rows → List Record
 records rows = map (λ row. row.1) rows
 
@@ -332,7 +339,6 @@ records rows = map (λ row. row.1) rows
 abbrev pub AloneLaw : Type 0
 AloneLaw =
     (base : Base) (request : Request) (result : Result)
-    → IsDatastore base.store → IsCovered base.store → AgreesWithAffinities base.store
-    → IsSoundRequest request → HasSpare base.store request → plain request base.store.rows ≡ Some result
+    → IsConsistent base.store → IsSoundRequest request → HasSpareFor base.store request → plain request base.store.rows ≡ Some result
     → (plain_of (alone_over base request).0 ≡ Some result.0)
     × (records (alone_over base request).1.rows ≡ records result.1)

@@ -13,7 +13,7 @@ pub struct Pool {
     pub cidr: Cidr,
     /// The prefix of each of its slots.
     pub size: u8,
-    /// Whether no new slot of it is to be taken.
+    /// Whether no address of it is to be given any more. What is recorded stays.
     pub disabled: bool,
 }
 
