@@ -14,3 +14,5 @@ pub mod CountWrites
 pub mod CountWords
 pub mod CountRequests
 pub mod CountHistory
+pub mod EventHistory
+pub mod AloneHistory

@@ -4,4 +4,5 @@
 
 pub mod bounds;
 pub mod counts;
+pub mod courses;
 pub mod datastore;
