@@ -16,3 +16,4 @@ pub mod CountRequests
 pub mod CountHistory
 pub mod EventHistory
 pub mod AloneHistory
+pub mod SpanBound
