@@ -1,7 +1,6 @@
 ghost use Rattle.std.specs.Prelude.{◌≡◌, ℕ, IsTrue, IfOk, Some};
 ghost use Rattle.ipam_records.specs.Sound.{IsBlockRange, IsHandleId, IsHandleRecord};
 ghost use Rattle.ipam_records.specs.Said.{said, Can};
-ghost use Rattle.ipam_records.specs.Datastore.{write_of};
 ghost use Rattle.ipam_store.specs.AlwaysSound.{IsSoundCall};
 ghost use Rattle.std.proofs.Props.{props};
 
@@ -140,7 +139,7 @@ fn write(store: &mut Store, call: Call) -> Result<(), AllocError>
 {
     store.reserve()?;
     if let Some(revision) = granted(&store.reply(&call)) {
-        if let Some(write) = write_of(call, revision) {
+        if let Some(write) = call.into_write(revision) {
             store.apply(write);
         }
     }
@@ -154,16 +153,6 @@ fn granted(reply: &Reply) -> Option<u64>
     match reply {
         Reply::Can(revision) => Some(*revision),
         _ => None,
-    }
-}
-
-fn write_of(call: Call, revision: u64) -> Option<Write>
-    ensures { result ≡ write_of call revision }
-{
-    match call {
-        Call::Get(_) | Call::List(_) => None,
-        Call::Create(new) | Call::Update(new, _) => Some(Write::Put(revision, new)),
-        Call::Delete(key, _) => Some(Write::Remove(revision, key)),
     }
 }
 

@@ -1,3 +1,6 @@
+ghost use Rattle.std.specs.Prelude.{◌≡◌};
+ghost use Rattle.ipam_records.specs.Datastore.{write_of};
+
 use crate::key::{Key, Kind};
 use crate::listing::Listing;
 use crate::record::Record;
@@ -12,6 +15,20 @@ pub enum Call {
     Create(Record),
     Update(Record, u64),
     Delete(Key, u64),
+}
+
+impl Call {
+    /// The write that the call asks for, once this revision was granted to it. None where it only
+    /// reads.
+    pub fn into_write(self, revision: u64) -> Option<Write>
+        ensures { result ≡ write_of self revision }
+    {
+        match self {
+            Call::Get(_) | Call::List(_) => None,
+            Call::Create(new) | Call::Update(new, _) => Some(Write::Put(revision, new)),
+            Call::Delete(key, _) => Some(Write::Remove(revision, key)),
+        }
+    }
 }
 
 /// What the datastore answers to a call.

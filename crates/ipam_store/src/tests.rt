@@ -4,7 +4,7 @@ ghost use Rattle.ipam_records.specs.KeyText.{IsKey};
 ghost use Rattle.ipam_records.specs.Sound.{IsBlockRange, IsName, IsHandleId};
 ghost use Rattle.ipam_records.specs.Said.{said};
 ghost use Rattle.ipam_records.specs.Said as says;
-ghost use Rattle.ipam_records.specs.Datastore.{write_of, listed};
+ghost use Rattle.ipam_records.specs.Datastore.{listed};
 ghost use Rattle.ipam_store.specs.AlwaysSound.{IsAlwaysSound, IsSoundCall};
 
 use crate::*;
@@ -164,16 +164,6 @@ fn call_of(alloc: Global, asked: Asked, key: Key) -> Result<Call, AllocError>
     }
 }
 
-fn write_of(call: Call, revision: u64) -> Option<Write>
-    ensures { result ≡ write_of call revision }
-{
-    match call {
-        Call::Get(_) | Call::List(_) => None,
-        Call::Create(new) | Call::Update(new, _) => Some(Write::Put(revision, new)),
-        Call::Delete(key, _) => Some(Write::Remove(revision, key)),
-    }
-}
-
 /// Asks the store, and applies the write that it grants.
 fn ask(store: &mut Store, call: Call) -> Result<Answer, AllocError>
     requires { IsSoundCall call }
@@ -181,7 +171,7 @@ fn ask(store: &mut Store, call: Call) -> Result<Answer, AllocError>
     store.reserve()?;
     let answer = answer_of(&store.reply(&call));
     if let Answer::Can(revision) = answer {
-        if let Some(write) = write_of(call, revision) {
+        if let Some(write) = call.into_write(revision) {
             store.apply(write);
         }
     }

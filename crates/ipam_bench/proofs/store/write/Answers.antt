@@ -4,6 +4,6 @@ use Rattle.ipam_bench.proofs.store.write.Goals as goal
 
 pub apply-requires-clause-granted : goal.apply-requires-clause-granted
 apply-requires-clause-granted c =
-    IsGranted-can _ c.args.call c.in-Some.revision c.in-Some-write_of.write
+    IsGranted-can _ c.args.call c.in-Some.revision c.in-Some-into_write.write
     (sym c.reply.ensures.reply ∙ c.granted.ensures c.in-Some.revision c.in-Some.is)
-    (sym c.write_of.ensures ∙ c.in-Some-write_of.is)
+    (sym c.into_write.ensures ∙ c.in-Some-into_write.is)

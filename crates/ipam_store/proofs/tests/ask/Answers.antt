@@ -6,4 +6,4 @@ pub apply-requires-clause-granted : goal.apply-requires-clause-granted
 apply-requires-clause-granted c =
     IsGranted-can _ c.args.call c.in-Can.revision c.in-Some.write
     (sym c.reply.ensures.reply ∙ c.answer_of-answer.ensures c.in-Can.revision c.in-Can.is)
-    (sym c.write_of.ensures ∙ c.in-Some.is)
+    (sym c.into_write.ensures ∙ c.in-Some.is)
