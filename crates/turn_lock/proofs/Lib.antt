@@ -1,0 +1,4 @@
+pub mod Totals
+pub mod Numbering
+pub mod Keeping
+pub mod Passing
