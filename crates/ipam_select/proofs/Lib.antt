@@ -1,0 +1,15 @@
+pub mod Choices
+pub mod Cutting
+pub mod Ascending
+pub mod Phrases
+pub mod Members
+pub mod Literals
+pub mod Several
+pub mod Lengths
+pub mod Spelling
+pub mod Whole
+pub mod Roundtrip
+pub mod Formed
+pub mod Ordered
+pub mod Printed
+pub mod Exact

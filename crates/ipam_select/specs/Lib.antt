@@ -1,0 +1,9 @@
+pub mod Formula
+pub mod Admitting
+pub mod Words
+pub mod Lexing
+pub mod Reading
+pub mod Grammar
+pub mod Printing
+pub mod Sound
+pub mod Stored
