@@ -1,7 +1,15 @@
 #!/usr/bin/env bash
-# Reads and prints a block of 4,096 held addresses, each with a handle of its own, a hundred times.
+# Prints and reads a block of 4,096 held addresses, each of a handle of its own and all of one with
+# seven pairs, and handles with counts in 16,384 blocks and in 65,536.
 set -eu
 top=$(cd "$(dirname "$0")/.." && pwd)
 count=${1:-100}
 (cd "$top/crates/ipam_bench" && rt run -- narrow-slots 1 >/dev/null 2>&1)
-"$top/crates/ipam_bench/out/ipam_bench" block-texts "$count"
+for word in print-blocks read-blocks print-shared-blocks read-shared-blocks; do
+    echo "$word:"
+    "$top/crates/ipam_bench/out/ipam_bench" "$word" "$count"
+done
+for blocks in 16384 65536; do
+    echo "handle-texts:"
+    "$top/crates/ipam_bench/out/ipam_bench" handle-texts "$blocks"
+done

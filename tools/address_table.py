@@ -1,5 +1,5 @@
 #!/usr/bin/env python3
-"""Writes crates/ipam_addr/src/table_tests.rt: address texts and what must be read from each.
+"""Writes crates/ipam_leaf_tests/src/address_table.rt: address texts and what must be read from each.
 
 The judge is Python's `ipaddress`. It and ipam_addr differ in two places, where ipam_addr's own
 rule decides, and the table marks the line:
@@ -14,7 +14,7 @@ import ipaddress
 import random
 from pathlib import Path
 
-OUT = Path(__file__).resolve().parent.parent / "crates/ipam_addr/src/table_tests.rt"
+OUT = Path(__file__).resolve().parent.parent / "crates/ipam_leaf_tests/src/address_table.rt"
 IPV6_LINES = 340
 IPV4_LINES = 120
 
@@ -140,7 +140,7 @@ HEAD = '''// Written by tools/address_table.py: change that, and not this file.
 // Each line has a text, and the text and the number in hex that it is read as, or `!` where it is
 // refused. A third part says where Python's `ipaddress`, which judged the texts, has another rule:
 // `zone`, which it takes, and `dotted`, where it prints an IPv4-mapped address in dots.
-use crate::{push_addr, read_addr};
+use ipam_addr::{push_addr, read_addr};
 use std::alloc::Global;
 use std::fmt::Write;
 use std::process::Abort;

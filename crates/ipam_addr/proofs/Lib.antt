@@ -1,9 +1,11 @@
 -- Lemmas on CIDRs, slots and texts.
-pub mod RangeLemmas
+pub mod CidrLemmas
+pub mod HoldingLemmas
 pub mod SlotLemmas
 pub mod WordLemmas
+pub mod SlashLemmas
 pub mod TextLemmas
 pub mod PrintLemmas
 pub mod SpelledLemmas
-pub mod RangeTextLemmas
+pub mod CidrTextLemmas
 pub mod BufferLemmas

@@ -10,7 +10,7 @@ use Rattle.std.specs.Net.Text.{ipv4_text, hex_groups_text}
 use Rattle.std.proofs.NetLemmas.Texts.{IsDotted-ipv4_text, IsColonHex-hex_groups_text}
 use Rattle.ipam_addr.specs.declared.address.Family.{Family}
 use Rattle.ipam_addr.specs.declared.address.Family.TheVariants.{V4, V6}
-use Rattle.ipam_addr.specs.Shape.{Address}
+use Rattle.ipam_addr.specs.Shape.{AddrValue}
 use Rattle.ipam_addr.specs.Width.{address_count, IsAddress}
 use Rattle.ipam_addr.specs.Text.{octets_at, segments_at, number_text, address_text, address_of, SpellsNumber, SpellsAddress}
 use Rattle.ipam_addr.proofs.TextLemmas.{address_of-spelled}
@@ -82,28 +82,28 @@ spelled_by V6 n fits = (
   sym (ap (from_be_bytes w128) (octets_of-segments_of (to_be_bytes w128 n) (pairs_at n)) ∙ from_be_bytes-to_be_bytes_16 n fits),
 )
 
-pub SpellsAddress-address_text : (a : Address) → IsAddress a → SpellsAddress (address_text a) a
+pub SpellsAddress-address_text : (a : AddrValue) → IsAddress a → SpellsAddress (address_text a) a
 unfolding address_text
 SpellsAddress-address_text a h = spelled_by a.family a.number h
 
 -- a printed address is read back
-pub address_of-address_text : (a : Address) → IsAddress a → address_of (address_text a) ≡ Some a
+pub address_of-address_text : (a : AddrValue) → IsAddress a → address_of (address_text a) ≡ Some a
 address_of-address_text a h = address_of-spelled (address_text a) a (SpellsAddress-address_text a h)
 
 -- the text at each family
-pub address_text-V4 : (a : Address) → a.family ≡ V4 → address_text a ≡ ipv4_text (octets_at a.number)
+pub address_text-V4 : (a : AddrValue) → a.family ≡ V4 → address_text a ≡ ipv4_text (octets_at a.number)
 unfolding address_text
 address_text-V4 a e = ap (λ f. number_text f a.number) e
 
-pub address_text-V6 : (a : Address) → a.family ≡ V6 → address_text a ≡ hex_groups_text (segments_at a.number)
+pub address_text-V6 : (a : AddrValue) → a.family ≡ V6 → address_text a ≡ hex_groups_text (segments_at a.number)
 unfolding address_text
 address_text-V6 a e = ap (λ f. number_text f a.number) e
 
 -- the text of the address that std makes of the number
-pub ipv4_text-of_bits : (a : Address) (ip : Ipv4Addr) → a.family ≡ V4 → IsIpv4OfBits ip a.number → ipv4_text (ipv4_octets ip) ≡ address_text a
+pub ipv4_text-of_bits : (a : AddrValue) (ip : Ipv4Addr) → a.family ≡ V4 → IsIpv4OfBits ip a.number → ipv4_text (ipv4_octets ip) ≡ address_text a
 unfolding IsIpv4OfBits
 ipv4_text-of_bits a ip e h = ap ipv4_text h ∙ sym (address_text-V4 a e)
 
-pub hex_groups_text-of_bits : (a : Address) (ip : Ipv6Addr) → a.family ≡ V6 → IsIpv6OfBits ip a.number → hex_groups_text (ipv6_segments ip) ≡ address_text a
+pub hex_groups_text-of_bits : (a : AddrValue) (ip : Ipv6Addr) → a.family ≡ V6 → IsIpv6OfBits ip a.number → hex_groups_text (ipv6_segments ip) ≡ address_text a
 unfolding IsIpv6OfBits
 hex_groups_text-of_bits a ip e h = ap hex_groups_text h ∙ sym (address_text-V6 a e)

@@ -5,11 +5,11 @@ use Rattle.std.proofs.lemmas.Bool.{cases_order}
 use Rattle.std.proofs.Math.Nat.{mul_assoc, add-mul-mod_self_right}
 use Rattle.ipam_addr.specs.declared.address.Family.{Family}
 use Rattle.ipam_addr.specs.declared.address.Family.TheVariants.{V4, V6}
-use Rattle.ipam_addr.specs.Shape.{Address, Range}
-use Rattle.ipam_addr.specs.Width.{width, address_count, size_of, IsRange}
-use Rattle.ipam_addr.specs.Holding.{first_address, range_end, Holds, LiesIn}
+use Rattle.ipam_addr.specs.Shape.{AddrValue, CidrValue}
+use Rattle.ipam_addr.specs.Width.{width, address_count, size_of, IsCidr}
+use Rattle.ipam_addr.specs.Holding.{first_address, cidr_end, Holds, LiesIn}
 use Rattle.ipam_addr.specs.Slots.{AllowsSize, HasSlots, last_slot_of, slot_of, IsApart, IsOnlySlot}
-use Rattle.ipam_addr.proofs.RangeLemmas.{range_end-le, address_count-le, multiple}
+use Rattle.ipam_addr.proofs.CidrLemmas.{cidr_end-le, address_count-le, multiple}
 
 pub size_within : (f : Family) (size : ℕ) → AllowsSize f size → (size ≤ width f) × (width f - size ≤ 12)
 size_within V4 size h = (h.1, omega arith)
@@ -22,7 +22,7 @@ slots_fill w size p above within =
     sym (pow-add 2 (size - p) (w - size)) ∙ ap (λ n. 2 ^ n) whole
 
 -- a slot ends within the pool
-pub slot_end : (pool : Range) (size k : ℕ) → HasSlots pool size → k ≤ last_slot_of pool size → range_end (slot_of pool size k) ≤ range_end pool
+pub slot_end : (pool : CidrValue) (size k : ℕ) → HasSlots pool size → k ≤ last_slot_of pool size → cidr_end (slot_of pool size k) ≤ cidr_end pool
 slot_end pool size k h within =
     let w = width pool.family in
     let (fits, _) = size_within pool.family size h.allowed in
@@ -41,11 +41,11 @@ coarser w size p b above within aligned =
     let shown : b ≡ q * i * d + 0 = omega (arith, regroup, multiple b (w - p) aligned) in
     ap (λ n. n % d) shown ∙ mod_low (q * i) (w - size) 0 (pow_pos (w - size))
 
-pub slot_sound : (pool : Range) (size k : ℕ) → IsRange pool → HasSlots pool size → k ≤ last_slot_of pool size → IsRange (slot_of pool size k)
+pub slot_sound : (pool : CidrValue) (size k : ℕ) → IsCidr pool → HasSlots pool size → k ≤ last_slot_of pool size → IsCidr (slot_of pool size k)
 slot_sound pool size k r h within =
     let w = width pool.family in
     let (fits, _) = size_within pool.family size h.allowed in
-    let end = range_end-le pool r in
+    let end = cidr_end-le pool r in
     let slot = slot_end pool size k h within in
     let some = pow_pos (w - size) in
     record {
@@ -55,7 +55,7 @@ slot_sound pool size k r h within =
           ∙ coarser w size pool.prefix pool.base h.fits fits r.no_host_bits;
     }
 
-pub slot_within : (pool : Range) (size k : ℕ) → HasSlots pool size → k ≤ last_slot_of pool size → LiesIn (slot_of pool size k) pool
+pub slot_within : (pool : CidrValue) (size k : ℕ) → HasSlots pool size → k ≤ last_slot_of pool size → LiesIn (slot_of pool size k) pool
 slot_within pool size k h within a held =
     let end = slot_end pool size k h within in
     record {
@@ -64,7 +64,7 @@ slot_within pool size k h within a held =
       below_end = omega (arith, held.below_end);
     }
 
-pub slots_apart : (pool : Range) (size k : ℕ) → IsApart pool size k
+pub slots_apart : (pool : CidrValue) (size k : ℕ) → IsApart pool size k
 slots_apart pool size k j within other o =
     let d = size_of pool.family size in
     elim (cases_order j k) [
@@ -74,7 +74,7 @@ slots_apart pool size k j within other o =
     ]
 
 -- the number that the code computes is that of the slot that holds the address
-pub slot_number_last : (pool : Range) (size : ℕ) (a : Address) → HasSlots pool size → Holds pool a → (a.number - pool.base) / size_of pool.family size ≤ last_slot_of pool size
+pub slot_number_last : (pool : CidrValue) (size : ℕ) (a : AddrValue) → HasSlots pool size → Holds pool a → (a.number - pool.base) / size_of pool.family size ≤ last_slot_of pool size
 slot_number_last pool size a h held =
     let w = width pool.family in
     let (fits, _) = size_within pool.family size h.allowed in
@@ -83,7 +83,7 @@ slot_number_last pool size a h held =
     let row = shr_below (a.number - pool.base) (size - pool.prefix) (w - size) below in
     omega arith
 
-pub slot_number_holds : (pool : Range) (size : ℕ) (a : Address) → Holds pool a → Holds (slot_of pool size ((a.number - pool.base) / size_of pool.family size)) a
+pub slot_number_holds : (pool : CidrValue) (size : ℕ) (a : AddrValue) → Holds pool a → Holds (slot_of pool size ((a.number - pool.base) / size_of pool.family size)) a
 slot_number_holds pool size a held =
     let d = width pool.family - size in
     let split = shr_split (a.number - pool.base) d in
@@ -94,7 +94,7 @@ slot_number_holds pool size a held =
       below_end = omega (arith, held.from_base);
     }
 
-pub slot_number_only : (pool : Range) (size : ℕ) (a : Address) → IsOnlySlot pool size a ((a.number - pool.base) / size_of pool.family size)
+pub slot_number_only : (pool : CidrValue) (size : ℕ) (a : AddrValue) → IsOnlySlot pool size a ((a.number - pool.base) / size_of pool.family size)
 slot_number_only pool size a j held =
     let d = size_of pool.family size in
     let rest = a.number - pool.base - j * d in
@@ -102,9 +102,9 @@ slot_number_only pool size a j held =
     rw whole (sym (div-mul-add j d rest (omega (arith, held.from_base, held.below_end))))
 
 -- where a slot begins, as the code computes it
-pub slot_offset : (pool : Range) (size k w : ℕ) → IsRange pool → HasSlots pool size → k ≤ last_slot_of pool size → w ≡ width pool.family → k * 2 ^ (w - size) % 2 ^ 128 ≡ k * size_of pool.family size
+pub slot_offset : (pool : CidrValue) (size k w : ℕ) → IsCidr pool → HasSlots pool size → k ≤ last_slot_of pool size → w ≡ width pool.family → k * 2 ^ (w - size) % 2 ^ 128 ≡ k * size_of pool.family size
 slot_offset pool size k w r h within w_is =
-    let end = range_end-le pool r in
+    let end = cidr_end-le pool r in
     let slot = slot_end pool size k h within in
     let most = address_count-le pool.family in
     let some = pow_pos (width pool.family - size) in
@@ -112,23 +112,23 @@ slot_offset pool size k w r h within w_is =
     ap (λ v. k * 2 ^ (v - size) % 2 ^ 128) w_is ∙ mod-eq_of_lt fits
 
 -- the slot that the code makes
-pub slot_first : (pool : Range) (size k : ℕ) (f : Family) (b w : ℕ) → IsRange pool → HasSlots pool size → k ≤ last_slot_of pool size → (record { family = f; number = b }) ≡ first_address pool → w ≡ width f → (b + k * 2 ^ (w - size) % 2 ^ 128 < 2 ^ 128) × (b + k * 2 ^ (w - size) % 2 ^ 128 < address_count f) × ((record { family = f; base = b + k * 2 ^ (w - size) % 2 ^ 128; prefix = size }) ≡ slot_of pool size k)
+pub slot_first : (pool : CidrValue) (size k : ℕ) (f : Family) (b w : ℕ) → IsCidr pool → HasSlots pool size → k ≤ last_slot_of pool size → (record { family = f; number = b }) ≡ first_address pool → w ≡ width f → (b + k * 2 ^ (w - size) % 2 ^ 128 < 2 ^ 128) × (b + k * 2 ^ (w - size) % 2 ^ 128 < address_count f) × ((record { family = f; base = b + k * 2 ^ (w - size) % 2 ^ 128; prefix = size }) ≡ slot_of pool size k)
 slot_first pool size k f b w r h within first w_is =
-    let same_family : f ≡ pool.family = ap (λ (a : Address). a.family) first in
-    let same_base : b ≡ pool.base = ap (λ (a : Address). a.number) first in
+    let same_family : f ≡ pool.family = ap (λ (a : AddrValue). a.family) first in
+    let same_base : b ≡ pool.base = ap (λ (a : AddrValue). a.number) first in
     let offset = slot_offset pool size k w r h within (w_is ∙ ap width same_family) in
     let sound = slot_sound pool size k r h within in
     let most = address_count-le pool.family in
     let same : b + k * 2 ^ (w - size) % 2 ^ 128 ≡ (slot_of pool size k).base = omega arith in
     let below : b + k * 2 ^ (w - size) % 2 ^ 128 < address_count pool.family = omega (arith, sound.base_fits) in
-    let made : Family → ℕ → Range = λ g n. record { family = g; base = n; prefix = size } in
+    let made : Family → ℕ → CidrValue = λ g n. record { family = g; base = n; prefix = size } in
     (omega arith, rw same_family below, ap₂ made same_family same)
 
 -- the number of the slot, as the code computes it
-pub slot_number_at : (pool : Range) (size w : ℕ) (a b c : Address) → b ≡ a → c ≡ first_address pool → w ≡ width b.family → Holds pool a → (b.number - c.number) / 2 ^ (w - size) ≡ (a.number - pool.base) / size_of pool.family size
+pub slot_number_at : (pool : CidrValue) (size w : ℕ) (a b c : AddrValue) → b ≡ a → c ≡ first_address pool → w ≡ width b.family → Holds pool a → (b.number - c.number) / 2 ^ (w - size) ≡ (a.number - pool.base) / size_of pool.family size
 slot_number_at pool size w a b c same first w_is held =
-    let wide : w ≡ width pool.family = w_is ∙ ap (λ (x : Address). width x.family) same ∙ ap width held.same_family in
-    let number : b.number ≡ a.number = ap (λ (x : Address). x.number) same in
-    let base : c.number ≡ pool.base = ap (λ (x : Address). x.number) first in
+    let wide : w ≡ width pool.family = w_is ∙ ap (λ (x : AddrValue). width x.family) same ∙ ap width held.same_family in
+    let number : b.number ≡ a.number = ap (λ (x : AddrValue). x.number) same in
+    let base : c.number ≡ pool.base = ap (λ (x : AddrValue). x.number) first in
     ap₂ (λ m n. (m - n) / 2 ^ (w - size)) number base
     ∙ ap (λ v. (a.number - pool.base) / 2 ^ (v - size)) wide

@@ -10,7 +10,8 @@ use Rattle.std.specs.Net.Addr.{segments_of, octets_of}
 use Rattle.std.specs.Net.Grammar.{IsDotted, IsGroup, IsGroupsAfter, IsColonHex}
 use Rattle.ipam_addr.specs.declared.address.Family.{Family}
 use Rattle.ipam_addr.specs.declared.address.Family.TheVariants.{V4, V6}
-use Rattle.ipam_addr.specs.Shape.{Address}
+use Rattle.ipam_addr.specs.Shape.{AddrValue}
+use Rattle.ipam_addr.proofs.SlashLemmas.{NoSlash, NoSlash-append}
 use Rattle.ipam_addr.specs.Width.{address_count, IsAddress}
 use Rattle.ipam_addr.specs.Text.{SpellsNumber, SpellsAddress}
 
@@ -72,18 +73,10 @@ number_fits text V6 n (segments, h, value) =
     let fit = octets_of-fit segments (colon_hex_fits text segments h) in
     rw value (from_be_bytes_16-lt (octets_of segments) (AllFit-at 256 _ (lit≤ tt) fit))
 
-pub IsAddress-spelled : (text : List ℕ) (a : Address) → SpellsAddress text a → IsAddress a
+pub IsAddress-spelled : (text : List ℕ) (a : AddrValue) → SpellsAddress text a → IsAddress a
 IsAddress-spelled text a h = number_fits text a.family a.number h
 
 -- ---- the text has no slash
-abbrev pub NoSlash : List ℕ → Type 0
-NoSlash [] = Unit {0}
-NoSlash (c ∷ text) = (c ≢ 47) × NoSlash text
-
-pub NoSlash-append : (xs ys : List ℕ) → NoSlash xs → NoSlash ys → NoSlash (xs ++ ys)
-NoSlash-append [] ys h k = k
-NoSlash-append (x ∷ xs) ys h k = (h.0, NoSlash-append xs ys h.1 k)
-
 -- a slash is no digit
 not_slash : (radix c : ℕ) → radix ≤ 16 → digit_value c < radix → c ≢ 47
 not_slash radix c few digit same =
@@ -132,5 +125,5 @@ NoSlash-number : (text : List ℕ) (f : Family) (n : ℕ) → SpellsNumber text 
 NoSlash-number text V4 n h = NoSlash-dotted text h.0 h.1
 NoSlash-number text V6 n h = NoSlash-colon_hex text h.0 h.1
 
-pub NoSlash-spelled : (text : List ℕ) (a : Address) → SpellsAddress text a → NoSlash text
+pub NoSlash-spelled : (text : List ℕ) (a : AddrValue) → SpellsAddress text a → NoSlash text
 NoSlash-spelled text a h = NoSlash-number text a.family a.number h

@@ -11,7 +11,7 @@ use Rattle.std.proofs.NetLemmas.Ipv4.{read_ipv4_complete, read_ipv4_sound}
 use Rattle.std.proofs.NetLemmas.Ipv6.{read_ipv6_complete, read_ipv6_sound, EndsGroups-nil, IsDotted-not_colon_hex}
 use Rattle.ipam_addr.specs.declared.address.Family.{Family}
 use Rattle.ipam_addr.specs.declared.address.Family.TheVariants.{V4, V6}
-use Rattle.ipam_addr.specs.Shape.{Address}
+use Rattle.ipam_addr.specs.Shape.{AddrValue}
 use Rattle.ipam_addr.specs.Text.{SpellsNumber, SpellsAddress, v4_address, v6_address, address_of}
 
 -- a whole text was read where nothing is left
@@ -50,11 +50,11 @@ unfolding address_of
 number_of-spelled text V4 n h = rw (v4_complete text h.0 h.1, h.2)
 number_of-spelled text V6 n h = rw (v4_none text h.0 h.1, v6_complete text h.0 h.1, h.2)
 
-pub address_of-spelled : (text : List ℕ) (a : Address) → SpellsAddress text a → address_of text ≡ Some a
+pub address_of-spelled : (text : List ℕ) (a : AddrValue) → SpellsAddress text a → address_of text ≡ Some a
 address_of-spelled text a h = number_of-spelled text a.family a.number h
 
 -- and no other
-pub spelled-address_of : (text : List ℕ) (a : Address) → address_of text ≡ Some a → SpellsAddress text a
+pub spelled-address_of : (text : List ℕ) (a : AddrValue) → address_of text ≡ Some a → SpellsAddress text a
 unfolding address_of
 spelled-address_of text a e = go (whole_value (read_ipv4 text)) (whole_value (read_ipv6 text)) refl refl e
   where
@@ -64,10 +64,10 @@ spelled-address_of text a e = go (whole_value (read_ipv4 text)) (whole_value (re
     go None None v4 v6 e = absurd (none-some a e)
 
 -- a text that writes no address has none
-pub address_of-none : (text : List ℕ) → ((a : Address) → ¬ (SpellsAddress text a)) → address_of text ≡ None
+pub address_of-none : (text : List ℕ) → ((a : AddrValue) → ¬ (SpellsAddress text a)) → address_of text ≡ None
 address_of-none text none = go (address_of text) refl
   where
-    go : (o : Option Address) → address_of text ≡ o → address_of text ≡ None
+    go : (o : Option AddrValue) → address_of text ≡ o → address_of text ≡ None
     go None e = e
     go (Some a) e = absurd (none a (spelled-address_of text a e))
 
@@ -84,5 +84,5 @@ none_in : (text : List ℕ) → ((ip : Ipv4Addr) → ¬ (IsIpv4Text text ip)) �
 none_in text v4 v6 V4 n h = v4 (record { octets = h.0 }) h.1
 none_in text v4 v6 V6 n h = v6 (record { segments = h.0 }) h.1
 
-pub none_spelled : (text : List ℕ) → ((ip : Ipv4Addr) → ¬ (IsIpv4Text text ip)) → ((ip : Ipv6Addr) → ¬ (IsIpv6Text text ip)) → (a : Address) → ¬ (SpellsAddress text a)
+pub none_spelled : (text : List ℕ) → ((ip : Ipv4Addr) → ¬ (IsIpv4Text text ip)) → ((ip : Ipv6Addr) → ¬ (IsIpv6Text text ip)) → (a : AddrValue) → ¬ (SpellsAddress text a)
 none_spelled text v4 v6 a = none_in text v4 v6 a.family a.number

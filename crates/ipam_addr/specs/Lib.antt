@@ -4,5 +4,5 @@ pub mod Width
 pub mod Holding
 pub mod Made
 pub mod Slots
-pub mod Word
+pub mod Names
 pub mod Text

@@ -3,12 +3,12 @@ use Rattle.std.specs.Prelude.{ℕ}
 use Rattle.ipam_addr.specs.declared.address.Family.{Family}
 
 -- an address: its family, and its bits as a number
-pub record Address : Type 0 where
+pub record AddrValue : Type 0 where
   pub family : Family
   pub number : ℕ
 
 -- all addresses whose first `prefix` bits are those of the base
-pub record Range : Type 0 where
+pub record CidrValue : Type 0 where
   pub family : Family
   pub base : ℕ
   pub prefix : ℕ

@@ -2,7 +2,7 @@
 use Rattle.std.specs.Prelude.{◌≡◌, ℕ, ◌-◌, ◌%◌, ◌^◌, ◌<◌, ◌≤◌}
 use Rattle.ipam_addr.specs.declared.address.Family.{Family}
 use Rattle.ipam_addr.specs.declared.address.Family.TheVariants.{V4, V6}
-use Rattle.ipam_addr.specs.Shape.{Address, Range}
+use Rattle.ipam_addr.specs.Shape.{AddrValue, CidrValue}
 
 -- how many bits an address has
 abbrev pub width : Family → ℕ
@@ -15,18 +15,18 @@ address_count V4 = 2 ^ 32
 address_count V6 = 2 ^ 128
 
 -- the number is one of the family's
-abbrev pub IsAddress : Address → Type 0
+abbrev pub IsAddress : AddrValue → Type 0
 IsAddress a = a.number < address_count a.family
 
 -- how many addresses a CIDR has
 abbrev pub size_of : Family → ℕ → ℕ
 size_of family prefix = 2 ^ (width family - prefix)
 
-abbrev pub range_size : Range → ℕ
-range_size r = size_of r.family r.prefix
+abbrev pub cidr_size : CidrValue → ℕ
+cidr_size r = size_of r.family r.prefix
 
 -- the prefix is no longer than an address, and no bit of the base is set behind it
-pub record IsRange (r : Range) : Type 0 where
+pub record IsCidr (r : CidrValue) : Type 0 where
   pub prefix_fits : r.prefix ≤ width r.family
   pub base_fits : r.base < address_count r.family
-  pub no_host_bits : r.base % range_size r ≡ 0
+  pub no_host_bits : r.base % cidr_size r ≡ 0

@@ -31,9 +31,9 @@ pub struct Addr {
 }
 
 impl Model for Addr {
-    ghost use Rattle.ipam_addr.specs.Shape.{Address};
+    ghost use Rattle.ipam_addr.specs.Shape.{AddrValue};
 
-    ghost Value = { Address };
+    ghost Value = { AddrValue };
 
     ghost use Rattle.ipam_addr.specs.Width.{IsAddress};
 

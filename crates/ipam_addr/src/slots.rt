@@ -1,10 +1,10 @@
 ghost use Rattle.std.specs.Prelude.{◌≡◌, ℕ, ◌≤◌, ◌↔◌, IsTrue, IsNone, IfSome};
-ghost use Rattle.ipam_addr.specs.Width.{IsRange};
+ghost use Rattle.ipam_addr.specs.Width.{IsCidr};
 ghost use Rattle.ipam_addr.specs.Holding.{Holds, LiesIn};
 ghost use Rattle.ipam_addr.specs.Slots.{AllowsSize, HasSlots, last_slot_of, slot_of, slot_number_of, IsApart, IsOnlySlot};
 
 use crate::address::{Addr, Family};
-use crate::range::{Cidr, low_bits};
+use crate::cidrs::{Cidr, low_bits};
 
 /// Whether slots may have this size, which is the prefix of a slot: 20 to 32 in IPv4, and 116 to
 /// 128 in IPv6.
@@ -37,7 +37,7 @@ pub fn slot(pool: Cidr, size: u8, k: u128) -> Cidr
     requires size { HasSlots pool size }
     requires number { k ≤ last_slot_of pool size }
     ensures value { result ≡ slot_of pool size k }
-    ensures sound { IsRange result }
+    ensures sound { IsCidr result }
     ensures within { LiesIn result pool }
     ensures apart { IsApart pool size k }
 {

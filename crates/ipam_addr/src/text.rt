@@ -3,14 +3,14 @@ ghost use Rattle.std.specs.Option.{ok_or};
 ghost use Rattle.std.specs.Str.{all_ascii_digits};
 ghost use Rattle.std.specs.Str.Parse.{digits_value};
 ghost use Rattle.std.specs.Net.Grammar.{Parses};
-ghost use Rattle.ipam_addr.specs.Shape.{Address};
-ghost use Rattle.ipam_addr.specs.Made.{range_made};
-ghost use Rattle.ipam_addr.specs.Text.{SpellsAddress, address_of, address_text, HasForm, SpellsRange, range_from, range_of, range_text, prefix_of};
+ghost use Rattle.ipam_addr.specs.Shape.{AddrValue};
+ghost use Rattle.ipam_addr.specs.Made.{made_cidr};
+ghost use Rattle.ipam_addr.specs.Text.{SpellsAddress, address_of, address_text, HasForm, SpellsCidr, cidr_from_parts, cidr_reading, cidr_text_of, prefix_of};
 
 use crate::address::{Addr, Family};
 use crate::buffer::TextBuffer;
-use crate::making::cidr;
-use crate::range::{AddrFault, Cidr};
+use crate::cidrs::{AddrFault, Cidr};
+use crate::prefix::cidr;
 use std::alloc::{AllocError, Global};
 use std::net::{Ipv4Addr, Ipv6Addr};
 
@@ -42,12 +42,12 @@ pub fn read_addr(text: &[u8]) -> Result<Addr, AddrFault>
 ///
 /// Fails with `Text` where the text has not this form, and else as `cidr` does. Takes no memory.
 pub fn read_cidr(text: &[u8]) -> Result<Cidr, AddrFault>
-    ensures value { result ≡ range_of text.now }
+    ensures value { result ≡ cidr_reading text.now }
     ensures text { (result ≡ Err AddrFault.Text)
-        ↔ ((a : Address) (prefix : ℕ) → ¬ (HasForm text.now a prefix)) }
-    ensures made { (a : Address) (prefix : ℕ) → HasForm text.now a prefix
-        → result ≡ range_made a prefix }
-    ensures spelled { IfOk result (SpellsRange text.now) }
+        ↔ ((a : AddrValue) (prefix : ℕ) → ¬ (HasForm text.now a prefix)) }
+    ensures made { (a : AddrValue) (prefix : ℕ) → HasForm text.now a prefix
+        → result ≡ made_cidr a prefix }
+    ensures spelled { IfOk result (SpellsCidr text.now) }
 {
     let slash = text.iter().position(|&byte| byte == b'/');
     match slash {
@@ -57,7 +57,7 @@ pub fn read_cidr(text: &[u8]) -> Result<Cidr, AddrFault>
 }
 
 fn read_parts(address: &[u8], digits: &[u8]) -> Result<Cidr, AddrFault>
-    ensures { result ≡ range_from (address_of address.now) (prefix_of digits.now) }
+    ensures { result ≡ cidr_from_parts (address_of address.now) (prefix_of digits.now) }
 {
     let addr = read_addr(address)?;
     let Some(prefix) = read_prefix(digits) else {
@@ -114,9 +114,9 @@ pub fn push_addr(_alloc: Global, out: &mut String, addr: Addr) -> Result<(), All
 /// Appends the CIDR's text: its first address as `push_addr` writes it, `/` and the prefix. Only
 /// `out` may ask for memory.
 pub fn push_cidr(_alloc: Global, out: &mut String, cidr: Cidr) -> Result<(), AllocError>
-    ensures ok { OnOk result (string_bytes out.new ≡ string_bytes out.old ++ range_text cidr) }
+    ensures ok { OnOk result (string_bytes out.new ≡ string_bytes out.old ++ cidr_text_of cidr) }
     ensures err { OnErr result (string_bytes out.new ≡ string_bytes out.old) }
-    ensures reads_back { range_of (range_text cidr) ≡ Ok cidr }
+    ensures reads_back { cidr_reading (cidr_text_of cidr) ≡ Ok cidr }
 {
     let mut text = TextBuffer::new();
     text.push_addr(cidr.base());

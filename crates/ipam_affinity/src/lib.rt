@@ -9,6 +9,3 @@ mod state;
 pub use record::Affinity;
 pub use state::State;
 pub use std::alloc::AllocError as Memory;
-
-#[cfg(test)]
-mod tests;

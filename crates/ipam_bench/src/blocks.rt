@@ -1,4 +1,4 @@
-use ipam_addr::{Addr, Family, cidr};
+use ipam_addr::{Addr, Cidr, Family, cidr};
 use ipam_block::{Attributes, Block};
 use ipam_block_text::{block_of, block_text};
 use ipam_text::{Seq, Text};
@@ -14,51 +14,119 @@ const PREFIX: u8 = 20;
 /// How many addresses a block has at most.
 const ADDRESSES: u16 = 4096;
 
-/// Reads and prints the body of a full block, this often.
-pub fn read_and_print(rt: &HostRuntime, count: u32) -> io::Result<()> {
-    let body = full_body(rt.alloc())?;
-    let start = Instant::now(rt)?;
-    let bytes = bytes_printed(rt.alloc(), body.as_str(), count)?;
-    crate::tell(rt, &start)?;
-    println!(rt; "read and printed {count} blocks, {bytes} bytes")
+/// The keys of the pairs that all addresses share.
+const KEYS: [&str; 7] = [
+    "app",
+    "namespace",
+    "node",
+    "pod",
+    "timestamp",
+    "type",
+    "zone",
+];
+
+/// Who holds the addresses of a full block.
+#[derive(Clone, Copy)]
+pub enum Holders {
+    /// Each address a handle of its own, with no pair.
+    Own,
+    /// All of them one handle, with seven pairs.
+    Shared,
 }
 
-fn bytes_printed(alloc: Global, body: &str, count: u32) -> Result<u64, AllocError> {
+/// Prints a full block, this often.
+pub fn print_all(rt: &HostRuntime, holders: Holders, count: u32) -> io::Result<()> {
+    let block = full_block(rt.alloc(), holders)?;
+    let start = Instant::now(rt)?;
+    let bytes = bytes_printed(rt.alloc(), &block, count)?;
+    crate::tell(rt, &start)?;
+    println!(rt; "printed {count} blocks, {bytes} bytes")
+}
+
+/// Reads the body of a full block, this often.
+pub fn read_all(rt: &HostRuntime, holders: Holders, count: u32) -> io::Result<()> {
+    let body = block_text(rt.alloc(), &full_block(rt.alloc(), holders)?)?;
+    let start = Instant::now(rt)?;
+    let held = held_read(rt.alloc(), body.as_str(), count);
+    crate::tell(rt, &start)?;
+    println!(rt; "read {count} blocks, {held} held")
+}
+
+fn bytes_printed(alloc: Global, block: &Block, count: u32) -> Result<u64, AllocError> {
     let mut bytes = 0u64;
     for _ in 0..count {
-        if let Ok(block) = block_of(alloc, body) {
-            let text = block_text(alloc, &block)?;
-            bytes = bytes.wrapping_add(text.len() as u64);
-        }
+        let text = block_text(alloc, block)?;
+        bytes = bytes.wrapping_add(text.len() as u64);
     }
     Ok(bytes)
 }
 
-/// The body of a block in which each address is held by a handle of its own.
-fn full_body(alloc: Global) -> Result<String, AllocError> {
+fn held_read(alloc: Global, body: &str, count: u32) -> u64 {
+    let mut held = 0u64;
+    for _ in 0..count {
+        if let Ok(block) = block_of(alloc, body) {
+            held = held.wrapping_add(block.allocations().len() as u64);
+        }
+    }
+    held
+}
+
+fn full_block(alloc: Global, holders: Holders) -> Result<Block, AllocError> {
+    let mut block = written_block(alloc)?;
+    for ordinal in 0..ADDRESSES {
+        hold(alloc, &mut block, ordinal, holders)?;
+    }
+    Ok(block)
+}
+
+/// The block at its first write.
+fn written_block(alloc: Global) -> Result<Block, AllocError> {
+    let cidr = block_cidr()?;
+    if cidr.last().number - cidr.base().number >= u128::from(ADDRESSES) {
+        return Err(AllocError);
+    }
+    Block::fresh(alloc, cidr, Some("a"))?.next()
+}
+
+fn block_cidr() -> Result<Cidr, AllocError> {
     let base = Addr {
         family: Family::V4,
         number: FIRST,
     };
-    let Ok(cidr) = cidr(base, PREFIX) else {
-        return Ok(String::new(alloc));
-    };
-    if cidr.last().number - cidr.base().number >= u128::from(ADDRESSES) {
-        return Ok(String::new(alloc));
-    }
-    let mut block = Block::fresh(alloc, cidr, Some("a"))?.next()?;
-    for ordinal in 0..ADDRESSES {
-        hold(alloc, &mut block, ordinal)?;
-    }
-    block_text(alloc, &block)
+    cidr(base, PREFIX).map_err(|_| AllocError)
 }
 
-fn hold(alloc: Global, block: &mut Block, ordinal: u16) -> Result<(), AllocError> {
+fn hold(
+    alloc: Global,
+    block: &mut Block,
+    ordinal: u16,
+    holders: Holders,
+) -> Result<(), AllocError> {
     if ordinal < block.count() && block.sequence() > 0 {
-        let handle = Text::of(format!(in alloc; "n.c{ordinal}")?);
-        let secondary = Seq::new(alloc);
-        let held = block.assign(ordinal, Attributes { handle, secondary });
+        let held = block.assign(ordinal, attributes_of(alloc, ordinal, holders)?);
         drop(held);
     }
     Ok(())
+}
+
+fn attributes_of(alloc: Global, ordinal: u16, holders: Holders) -> Result<Attributes, AllocError> {
+    match holders {
+        Holders::Own => Ok(Attributes {
+            handle: Text::of(format!(in alloc; "n.c{ordinal}")?),
+            secondary: Seq::new(alloc),
+        }),
+        Holders::Shared => Ok(Attributes {
+            handle: Text::copied(alloc, "n.c1")?,
+            secondary: equal_pairs(alloc)?,
+        }),
+    }
+}
+
+fn equal_pairs(alloc: Global) -> Result<Seq<(Text, Text)>, AllocError> {
+    let mut pairs = Seq::new(alloc);
+    for key in KEYS {
+        let value = Text::copied(alloc, "a value of some length")?;
+        pairs.push((Text::copied(alloc, key)?, value))?;
+    }
+    Ok(pairs)
 }

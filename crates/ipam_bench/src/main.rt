@@ -5,6 +5,7 @@
 mod addresses;
 mod blocks;
 mod draws;
+mod handles;
 mod slots;
 mod store;
 
@@ -58,7 +59,11 @@ fn measure(rt: &HostRuntime, word: &str, count: u32) -> io::Result<bool> {
         "create-descending" => store::create_rows(rt, count, store::Order::Descending)?,
         "create-random" => store::create_rows(rt, count, store::Order::Random)?,
         "narrow-slots" => next_slots(rt, count, 122)?,
-        "block-texts" => blocks::read_and_print(rt, count)?,
+        "print-blocks" => blocks::print_all(rt, blocks::Holders::Own, count)?,
+        "print-shared-blocks" => blocks::print_all(rt, blocks::Holders::Shared, count)?,
+        "read-blocks" => blocks::read_all(rt, blocks::Holders::Own, count)?,
+        "read-shared-blocks" => blocks::read_all(rt, blocks::Holders::Shared, count)?,
+        "handle-texts" => handles::print_and_read(rt, count)?,
         "wide-slots" => next_slots(rt, count, 64)?,
         _ => return Ok(false),
     }

@@ -1,5 +1,5 @@
 ghost use Rattle.std.specs.Prelude.{◌≡◌, ℕ, IsTrue, IfOk, Some};
-ghost use Rattle.ipam_records.specs.Sound.{IsBlockRange, IsHandleId, IsHandleRecord};
+ghost use Rattle.ipam_records.specs.Sound.{IsBlockCidr, IsHandleId, IsHandleRecord};
 ghost use Rattle.ipam_records.specs.Said.{said, Can};
 ghost use Rattle.ipam_store.specs.AlwaysSound.{IsSoundCall};
 ghost use Rattle.std.proofs.Props.{props};
@@ -102,7 +102,7 @@ fn handle_id(alloc: Global, number: u32) -> Result<Text, AllocError>
 
 /// Whether a block may have this CIDR.
 fn is_block(cidr: &Cidr) -> bool
-    ensures { IsTrue result → IsBlockRange cidr.now }
+    ensures { IsTrue result → IsBlockCidr cidr.now }
 {
     cidr.last().number - cidr.base().number < 4096
 }

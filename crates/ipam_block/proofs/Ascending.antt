@@ -1,5 +1,5 @@
 -- An allocation that is put behind those of lower ordinals keeps them ascending.
-use Rattle.std.proofs.Common.{◌≡◌, ◌≢◌, ℕ, zero, suc, ◌+◌, ◌-◌, ◌<◌, ◌≤◌, ◌⊎◌, Bool, true, false, cond, ltb, List, [], ◌∷◌, length, get_or, ap, sym, ◌∙◌, arith, refl, subst, inl, inr, lt-ltb, le-ltb}
+use Rattle.std.proofs.Common.{◌≡◌, ◌≢◌, ℕ, zero, suc, ◌+◌, ◌-◌, ◌<◌, ◌≤◌, ◌⊎◌, Bool, cond, List, [], ◌∷◌, length, get_or, ap, sym, arith, refl, subst, inl, inr, lt-ltb, le-ltb}
 use Rattle.std.specs.Prelude.{AllPairs, insert, count_by, sum_by, nat_lt}
 use Rattle.std.proofs.lemmas.Bool.{cases_lt}
 use Rattle.std.proofs.lemmas.List.Sums.{sum_by-cons}

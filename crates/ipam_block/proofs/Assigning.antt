@@ -1,22 +1,22 @@
 -- A block stays a block where one of its queued ordinals is assigned.
-use Rattle.std.proofs.Common.{◌≡◌, ◌≢◌, ℕ, zero, suc, ◌+◌, ◌<◌, ◌≤◌, Bool, true, false, not, cond, eqb, ltb, List, [], ◌∷◌, ◌++◌, length, map, get_or, ap, sym, ◌∙◌, arith, rules, refl, subst, inl, inr, eqb-true, eq-eqb, tests, length-append}
-use Rattle.std.specs.Prelude.{All, AllPairs, filter, insert, count_by, sum_by, nat_lt, ◌==◌}
+use Rattle.std.proofs.Common.{◌≡◌, ◌≢◌, ℕ, zero, suc, ◌+◌, ◌<◌, ◌≤◌, Bool, true, false, not, cond, eqb, List, [], ◌∷◌, ◌++◌, length, get_or, ap, ◌∙◌, arith, refl, subst, inl, inr, eqb-true, eq-eqb}
+use Rattle.std.specs.Prelude.{filter, insert, count_by, sum_by, nat_lt, ◌==◌}
 use Rattle.std.specs.List.{range_with_len, list_any}
 use Rattle.std.specs.List.Sorted.{IsPermutation}
 use Rattle.std.proofs.lemmas.Bool.{cases_lt}
 use Rattle.std.proofs.lemmas.Bool.Decides.{eqb_tells}
-use Rattle.std.proofs.lemmas.List.{length-map, nil_from_length}
-use Rattle.std.proofs.lemmas.List.Sorted.{IsPermutation-trans, IsPermutation-append_left, IsPermutation-append_right, IsPermutation-middle, IsPermutation-insert, IsPermutation-map, IsPermutation-filter_both, All-permutation, sum_by-IsPermutation, length_permutation}
+use Rattle.std.proofs.lemmas.List.{nil_from_length}
+use Rattle.std.proofs.lemmas.List.Sorted.{IsPermutation-trans, IsPermutation-append_left, IsPermutation-append_right, IsPermutation-middle, IsPermutation-insert, IsPermutation-map, IsPermutation-filter_both, All-permutation, sum_by-IsPermutation}
 use Rattle.std.proofs.lemmas.List.Sums.{sum_by-append, sum_by-cons}
 use Rattle.std.proofs.lemmas.List.Elements.{All-cons}
 use Rattle.ipam_block.proofs.Ordinals.{shared_count}
 use Rattle.ipam_block.proofs.Ascending.{lower_count-is, Ascend-insert}
-use Rattle.ipam_addr.specs.Width.{range_size}
+use Rattle.ipam_addr.specs.Width.{cidr_size}
 use Rattle.ipam_block.specs.declared.allocation.Allocation.{Allocation}
 use Rattle.ipam_block.specs.declared.allocation.Attributes.{Attributes}
-use Rattle.ipam_block.specs.Content.{Content}
-use Rattle.ipam_block.specs.Sound.{IsBlock, ordinals_below, held_ordinals}
-use Rattle.ipam_block.specs.Operations.{is_held, with_allocation, assigned}
+use Rattle.ipam_block.specs.Shape.{BlockValue}
+use Rattle.ipam_block.specs.Sound.{IsBlock, held_ordinals}
+use Rattle.ipam_block.specs.Operations.{is_held, assigned}
 
 -- one for the ordinal, and 0 for another
 mark : ℕ → ℕ → ℕ
@@ -74,10 +74,10 @@ marks_held o (x ∷ xs) none =
     ] refl
 
 -- an ordinal that is not held stands once in the queue
-marks_queued : (b : Content) (o : ℕ) → IsBlock b → o < range_size b.cidr → is_held b o ≡ false → sum_by (mark o) b.queue ≡ 1
+marks_queued : (b : BlockValue) (o : ℕ) → IsBlock b → o < cidr_size b.cidr → is_held b o ≡ false → sum_by (mark o) b.queue ≡ 1
 marks_queued b o h own none =
     let kept = sum_by-IsPermutation (mark o) _ _ h.each_once in
-    let all = marks_within o 0 (range_size b.cidr) (omega arith) (omega arith) in
+    let all = marks_within o 0 (cidr_size b.cidr) (omega arith) (omega arith) in
     let both = sum_by-append (mark o) (held_ordinals b.allocations) b.queue in
     let held = marks_held o b.allocations none in
     omega arith
@@ -130,11 +130,11 @@ assigned-shares xs a i queue once =
     IsPermutation-trans _ _ _ first (IsPermutation-trans _ _ _ second third)
 
 -- where an ordinal is not held, one more can be
-pub few_held : (b : Content) (o : ℕ) → IsBlock b → o < range_size b.cidr → is_held b o ≡ false → length b.allocations < range_size b.cidr
+pub few_held : (b : BlockValue) (o : ℕ) → IsBlock b → o < cidr_size b.cidr → is_held b o ≡ false → length b.allocations < cidr_size b.cidr
 few_held b o h own none =
     let once = marks_queued b o h own none in
     let both = shared_count b h in
-    elim (cases_lt (length b.allocations) (range_size b.cidr)) [
+    elim (cases_lt (length b.allocations) (cidr_size b.cidr)) [
       | inl few ↦ few
       | inr all ↦
           let empty : length b.queue ≡ 0 = omega arith in
@@ -156,7 +156,7 @@ other_ordinals o (x ∷ xs) (suc k) d none within same =
       | inr h ↦ other_ordinals o xs k d (rw h.0 at none) (omega arith) same
     ]
 
-pub IsBlock-assigned : (b : Content) (o : ℕ) (attributes : Attributes) → IsBlock b → o < range_size b.cidr → 0 < b.sequence → is_held b o ≡ false → IsBlock (assigned b o attributes)
+pub IsBlock-assigned : (b : BlockValue) (o : ℕ) (attributes : Attributes) → IsBlock b → o < cidr_size b.cidr → 0 < b.sequence → is_held b o ≡ false → IsBlock (assigned b o attributes)
 IsBlock-assigned b o attributes h own written none =
     let a : Allocation = record { ordinal = o; attributes = attributes; stamp = b.sequence } in
     let place = lower_count-is o b.allocations in

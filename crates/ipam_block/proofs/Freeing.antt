@@ -1,6 +1,6 @@
 -- A block stays a block where some of its allocations are freed.
-use Rattle.std.proofs.Common.{◌≡◌, ℕ, ◌+◌, ◌<◌, ◌≤◌, Bool, true, false, not, ◌||◌, cond, List, [], ◌∷◌, ◌++◌, length, map, ap, sym, ◌∙◌, arith, refl, subst, append_assoc}
-use Rattle.std.specs.Prelude.{All, AllPairs, filter, count_by, nat_lt}
+use Rattle.std.proofs.Common.{◌≡◌, ℕ, ◌+◌, ◌<◌, ◌≤◌, Bool, true, false, not, ◌||◌, cond, List, [], ◌∷◌, ◌++◌, sym, arith, refl, subst, append_assoc}
+use Rattle.std.specs.Prelude.{filter, count_by, nat_lt}
 use Rattle.std.specs.List.{list_any}
 use Rattle.std.proofs.lemmas.Bool.{lt-ltb}
 use Rattle.std.proofs.lemmas.List.Sums.{sum_by-cons}
@@ -9,10 +9,9 @@ use Rattle.std.proofs.lemmas.List.{map-append}
 use Rattle.std.proofs.lemmas.List.Elements.{All-filter}
 use Rattle.std.proofs.lemmas.List.Kept.{AllPairs-filter}
 use Rattle.std.proofs.lemmas.List.Sorted.{IsPermutation-trans, IsPermutation-append_left, IsPermutation-append_right, IsPermutation-append_comm, IsPermutation-map, IsPermutation-filter_both}
-use Rattle.ipam_addr.specs.Width.{range_size}
 use Rattle.ipam_block.specs.declared.allocation.Allocation.{Allocation}
-use Rattle.ipam_block.specs.Content.{Content}
-use Rattle.ipam_block.specs.Sound.{IsBlock, ordinals_below, held_ordinals}
+use Rattle.ipam_block.specs.Shape.{BlockValue}
+use Rattle.ipam_block.specs.Sound.{IsBlock, held_ordinals}
 use Rattle.ipam_block.specs.Operations.{freed}
 
 -- what is kept, then the queue, then what is freed: the same ordinals as before
@@ -37,7 +36,7 @@ freed-shares test xs queue =
     (IsPermutation-append_left queue _ _ ordinals) in
     IsPermutation-trans _ _ _ front swapped
 
-pub IsBlock-freed : (test : Allocation → Bool) (b : Content) → IsBlock b → IsBlock (freed test b)
+pub IsBlock-freed : (test : Allocation → Bool) (b : BlockValue) → IsBlock b → IsBlock (freed test b)
 IsBlock-freed test b h = record {
   range = h.range;
   small = h.small;

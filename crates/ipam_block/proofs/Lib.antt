@@ -5,3 +5,4 @@ pub mod Assigning
 pub mod Freeing
 pub mod Tested
 pub mod Marks
+pub mod Searched

@@ -1,19 +1,20 @@
 -- The test of a content tells whether it is a block's.
-use Rattle.std.proofs.Common.{◌≡◌, ℕ, zero, suc, ◌+◌, ◌<◌, ◌≤◌, Bool, true, false, eqb, cond, List, [], ◌∷◌, ◌++◌, Option, length, map, get_or, ap, sym, ◌∙◌, arith, rules, refl, subst, eqb-true, eq-eqb, inl, inr}
+use Rattle.std.proofs.Common.{◌≡◌, ℕ, zero, suc, ◌+◌, ◌<◌, ◌≤◌, Bool, true, List, [], ◌∷◌, Option, length, get_or, sym, arith, refl, subst, eqb-true, eq-eqb, inl, inr}
 use Rattle.std.specs.Prelude.{All, AllPairs, nat_lt, nat_le, ◌==◌, ◌&&◌, Contains, remove}
 use Rattle.std.specs.List.{range_with_len, list_any, list_all}
 use Rattle.std.specs.List.Sorted.{IsPermutation}
-use Rattle.std.proofs.lemmas.Bool.{cases_lt, and_parts, and_from, leb-true, le-leb, ltb-true, lt-ltb}
+use Rattle.std.proofs.lemmas.Bool.{and_parts, and_from, leb-true, le-leb, ltb-true, lt-ltb}
 use Rattle.std.proofs.lemmas.List.FromFn.{length-range_with_len, get_or-range_with_len}
 use Rattle.std.proofs.lemmas.List.Sorted.{IsPermutation-trans, IsPermutation-sym, IsPermutation-cons, IsPermutation-remove, IsPermutation-refl, Contains-permutation, length_permutation}
 use Rattle.std.proofs.lemmas.Bool.Decides.{eqb_tells}
 use Rattle.std.proofs.lemmas.List.Elements.{All-contains, Contains-get_or}
 use Rattle.std.proofs.lemmas.List.Folds.{list_any_at}
-use Rattle.ipam_addr.specs.Shape.{Range}
-use Rattle.ipam_addr.specs.Width.{range_size, IsRange}
+use Rattle.ipam_addr.specs.Shape.{CidrValue}
+use Rattle.ipam_addr.specs.Width.{cidr_size, IsCidr}
 use Rattle.ipam_block.specs.declared.allocation.Allocation.{Allocation}
-use Rattle.ipam_block.specs.Content.{Content}
-use Rattle.ipam_block.specs.Sound.{IsBlock, ordinals_below, held_ordinals}
+use Rattle.ipam_block.specs.declared.limits.TheConstants.{ADDRESSES_MAX}
+use Rattle.ipam_block.specs.Shape.{BlockValue}
+use Rattle.ipam_block.specs.Sound.{IsBlock, ordinals_below}
 use Rattle.ipam_block.specs.Test.{ascends_from, are_all_below, has_stamp_within, is_block, content_of}
 
 -- ---- the ordinals ascend
@@ -134,7 +135,7 @@ true-stamped s (x ∷ xs) h =
     (and_from _ _ (lt-ltb _ _ here.0) (le-leb _ _ here.1))
     (true-stamped s xs (λ i d within. h (suc i) d (omega arith)))
 
-pub is_block-true : (b : Content) → IsRange b.cidr → range_size b.cidr ≤ 4096 → is_block b ≡ true → IsBlock b
+pub is_block-true : (b : BlockValue) → IsCidr b.cidr → cidr_size b.cidr ≤ ADDRESSES_MAX → is_block b ≡ true → IsBlock b
 is_block-true b range small h =
     let parts = and_parts (ascends_from 0 b.allocations && list_all (has_stamp_within b.sequence) b.allocations) _ h in
     let front = and_parts (ascends_from 0 b.allocations) _ parts.0 in
@@ -146,7 +147,7 @@ is_block-true b range small h =
       stamped = stamped-true b.sequence b.allocations front.1;
     }
 
-pub true-is_block : (b : Content) → IsBlock b → is_block b ≡ true
+pub true-is_block : (b : BlockValue) → IsBlock b → is_block b ≡ true
 true-is_block b h =
     and_from _ _
     (and_from _ _
@@ -155,7 +156,7 @@ true-is_block b h =
     (true-are_all_below _ _ h.each_once)
 
 -- the same held and queued
-pub IsBlock-same : (cidr : Range) (node : Option (List ℕ)) (held others : List Allocation) (queue rest : List ℕ) (sequence : ℕ) → others ≡ held → rest ≡ queue → IsBlock (content_of cidr node held queue sequence) → IsBlock (content_of cidr node others rest sequence)
+pub IsBlock-same : (cidr : CidrValue) (node : Option (List ℕ)) (held others : List Allocation) (queue rest : List ℕ) (sequence : ℕ) → others ≡ held → rest ≡ queue → IsBlock (content_of cidr node held queue sequence) → IsBlock (content_of cidr node others rest sequence)
 IsBlock-same cidr node held others queue rest sequence e f h =
     let P : List Allocation → Type 0 = λ l. IsBlock (content_of cidr node l rest sequence) in
     let Q : List ℕ → Type 0 = λ l. IsBlock (content_of cidr node held l sequence) in

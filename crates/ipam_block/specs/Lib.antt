@@ -1,5 +1,5 @@
 -- A block as contracts see it, and its operations on lists.
-pub mod Content
+pub mod Shape
 pub mod Sound
 pub mod Operations
 pub mod Picked

@@ -1,40 +1,40 @@
 -- What each operation makes of a block.
-use Rattle.std.specs.Prelude.{ℕ, ◌+◌, Bool, not, ◌&&◌, ◌==◌, nat_lt, List, [], ◌∷◌, ◌++◌, Option, Some, None, length, map, filter, find, count_by, insert, bytes_eq, option_map}
+use Rattle.std.specs.Prelude.{ℕ, ◌+◌, Bool, not, ◌&&◌, ◌==◌, nat_lt, List, [], ◌++◌, Option, filter, find, count_by, insert, bytes_eq, option_map}
 use Rattle.std.specs.List.{list_any}
 use Rattle.std.specs.Option.{option_copied}
 use Rattle.std.specs.Borrow.{Bor}
-use Rattle.ipam_addr.specs.Shape.{Address, Range}
-use Rattle.ipam_addr.specs.Width.{range_size}
+use Rattle.ipam_addr.specs.Shape.{AddrValue, CidrValue}
+use Rattle.ipam_addr.specs.Width.{cidr_size}
 use Rattle.ipam_block.specs.declared.allocation.Allocation.{Allocation}
 use Rattle.ipam_block.specs.declared.allocation.Attributes.{Attributes}
-use Rattle.ipam_block.specs.Content.{Content}
+use Rattle.ipam_block.specs.Shape.{BlockValue}
 use Rattle.ipam_block.specs.Sound.{held_ordinals, ordinals_below}
 
 -- a block with nothing held, its queue from 0 upwards
-abbrev pub fresh_block : Range → Option (List ℕ) → Content
+abbrev pub fresh_block : CidrValue → Option (List ℕ) → BlockValue
 fresh_block cidr node =
     record {
       cidr = cidr;
       node = node;
       allocations = [];
-      queue = ordinals_below (range_size cidr);
+      queue = ordinals_below (cidr_size cidr);
       sequence = 0;
     }
 
 -- the block as its next write has it
-abbrev pub next_block : Content → Content
+abbrev pub next_block : BlockValue → BlockValue
 next_block b = record b { sequence = b.sequence + 1 }
 
 -- the address of an ordinal
-abbrev pub address_of : Range → ℕ → Address
+abbrev pub address_of : CidrValue → ℕ → AddrValue
 address_of cidr ordinal = record { family = cidr.family; number = cidr.base + ordinal }
 
 -- the first queued ordinal whose address is not reserved
-abbrev pub room : (Address → Bool) → Content → Option ℕ
+abbrev pub room : (AddrValue → Bool) → BlockValue → Option ℕ
 room reserved b = find (λ o. not (reserved (address_of b.cidr o))) b.queue
 
 -- the allocation of an ordinal, where it is held
-abbrev pub holder : Content → ℕ → Option Allocation
+abbrev pub holder : BlockValue → ℕ → Option Allocation
 holder b ordinal = find (λ a. a.ordinal == ordinal) b.allocations
 
 -- what is told of an allocation: what it is recorded to, and its stamp
@@ -46,11 +46,11 @@ abbrev pub lent_holding : Option (Bor Attributes × ℕ) → Option (Attributes 
 lent_holding = option_map (λ p. (p.0.now, p.1))
 
 -- whether an ordinal is held
-abbrev pub is_held : Content → ℕ → Bool
+abbrev pub is_held : BlockValue → ℕ → Bool
 is_held b ordinal = list_any (λ a. a.ordinal == ordinal) b.allocations
 
 -- the block with one more allocation, which stands behind those of lower ordinals
-abbrev pub with_allocation : Content → Allocation → Content
+abbrev pub with_allocation : BlockValue → Allocation → BlockValue
 with_allocation b a =
     record b {
       allocations = insert b.allocations (count_by (λ x. nat_lt x.ordinal a.ordinal) b.allocations) a;
@@ -58,13 +58,13 @@ with_allocation b a =
     }
 
 -- the block with this ordinal held from now on, stamped with the sequence number
-abbrev pub assigned : Content → ℕ → Attributes → Content
+abbrev pub assigned : BlockValue → ℕ → Attributes → BlockValue
 assigned b ordinal attributes =
     with_allocation b (record { ordinal = ordinal; attributes = attributes; stamp = b.sequence })
 
 -- the block without the allocations that pass the test: their ordinals go, ascending, to the back
 -- of the queue
-abbrev pub freed : (Allocation → Bool) → Content → Content
+abbrev pub freed : (Allocation → Bool) → BlockValue → BlockValue
 freed test b =
     record b {
       allocations = filter (λ a. not (test a)) b.allocations;
@@ -84,5 +84,5 @@ abbrev pub node_bytes : Option (Bor (List ℕ)) → Option (List ℕ)
 node_bytes node = option_copied node
 
 -- the block tied to this node, or to none
-abbrev pub affine_to : Option (List ℕ) → Content → Content
+abbrev pub affine_to : Option (List ℕ) → BlockValue → BlockValue
 affine_to node b = record b { node = node }

@@ -4,12 +4,11 @@
 #![tactic(auto)]
 
 mod allocation;
-mod blocks;
+mod block_record;
 pub mod laws;
+mod limits;
 mod sound;
 
 pub use allocation::{Allocation, Attributes, Held, PartsFault};
-pub use blocks::Block;
-
-#[cfg(test)]
-mod tests;
+pub use block_record::Block;
+pub use limits::{ADDRESSES_MAX, KEY_BYTES_MAX, PAIRS_MAX, VALUE_BYTES_MAX};

@@ -9,9 +9,10 @@ use Rattle.serde_json.specs.Data.{Data, string, object, Members, no_members, put
 use Rattle.ipam_json.specs.Built.{Field, members_from, member_list, names, IsAscending}
 use Rattle.ipam_json.specs.Canonical.{IsCanonicalWithin}
 use Rattle.ipam_json.proofs.Constructors.{IsCanonicalWithin-null, IsCanonicalWithin-number, IsCanonicalWithin-string, IsCanonicalWithin-object, IsCanonicalWithin-put, put-members_from, member_list-members_from}
-use Rattle.ipam_addr.specs.Word.{is_handle_text}
+use Rattle.ipam_addr.specs.Names.{is_handle_text}
 use Rattle.ipam_block.specs.declared.allocation.Allocation.{Allocation}
 use Rattle.ipam_block.specs.declared.allocation.Attributes.{Attributes}
+use Rattle.ipam_block.specs.declared.limits.TheConstants.{PAIRS_MAX}
 use Rattle.ipam_block_text.specs.Attributes.{Pair}
 use Rattle.ipam_block_text.specs.Limits.{are_pairs, is_small_pair, keys_ascend, ascend_after, are_attributes}
 use Rattle.ipam_block_text.specs.Body.{whole_data, affinity_data, place_data, with_pair, secondary_data, attributes_data, stamps_data}
@@ -85,7 +86,7 @@ pairs_read pairs up = ap (each pair_in) (secondary_listed pairs up) ∙ each-sam
 -- ---- the attributes
 
 pairs_parts : (pairs : List Pair) → are_pairs pairs ≡ true → keys_ascend pairs ≡ true
-pairs_parts pairs h = (and_parts (nat_le (length pairs) 8 && list_all is_small_pair pairs) (keys_ascend pairs) h).1
+pairs_parts pairs h = (and_parts (nat_le (length pairs) PAIRS_MAX && list_all is_small_pair pairs) (keys_ascend pairs) h).1
 
 passes : {A : Type 0} (test : A → Bool) (x : A) → test x ≡ true → only_if test x ≡ Some x
 passes test x h = ap (λ b. cond b (Some x) None) h

@@ -13,6 +13,7 @@ use Rattle.std.proofs.Math.ListN.{get_or-append}
 use Rattle.std.proofs.lemmas.List.Elements.{All-push}
 use Rattle.std.proofs.lemmas.List.FromFn.{length-range_with_len}
 use Rattle.serde_json.specs.Data.{Data, Members, no_members, member, put}
+use Rattle.serde_json.specs.Read.{read}
 use Rattle.serde_json.specs.Written.{compact_text}
 use Rattle.serde_json.specs.View.{items_of}
 use Rattle.ipam_json.specs.Built.{Field, member_list, item_list, array_of}
@@ -21,29 +22,33 @@ use Rattle.ipam_json.specs.Path.{as_whole, is_index}
 use Rattle.ipam_json.proofs.Constructors.{IsCanonicalWithin-more, IsCanonicalWithin-number, IsCanonicalWithin-string, IsCanonicalWithin-array, IsCanonicalWithin-object, item_list-items_of}
 use Rattle.ipam_json.proofs.PathLaws.{index_of-decimal}
 use Rattle.ipam_json.proofs.ReadsBack.{read-compact_text}
-use Rattle.ipam_addr.specs.Shape.{Range}
-use Rattle.ipam_addr.specs.Width.{range_size, IsRange}
-use Rattle.ipam_addr.specs.Word.{is_name_text}
-use Rattle.ipam_addr.specs.Text.{range_text}
-use Rattle.ipam_addr.proofs.RangeTextLemmas.{range_of-range_text}
+use Rattle.ipam_addr.specs.Shape.{CidrValue}
+use Rattle.ipam_addr.specs.Width.{cidr_size, IsCidr}
+use Rattle.ipam_addr.specs.Names.{is_name_text}
+use Rattle.ipam_addr.specs.Text.{cidr_text_of}
+use Rattle.ipam_addr.proofs.CidrTextLemmas.{cidr_reading-cidr_text_of}
 use Rattle.ipam_block.specs.declared.allocation.Allocation.{Allocation}
 use Rattle.ipam_block.specs.declared.allocation.Attributes.{Attributes}
-use Rattle.ipam_block.specs.Content.{Content}
+use Rattle.ipam_block.specs.Shape.{BlockValue}
 use Rattle.ipam_block.specs.Operations.{holder}
-use Rattle.ipam_block.specs.Sound.{IsBlock, ordinals_below, held_ordinals}
+use Rattle.ipam_block.specs.Sound.{IsBlock, IsBlockRecord, ordinals_below, held_ordinals}
 use Rattle.ipam_block.specs.Test.{ascends_from, is_block, content_of, has_stamp_within}
 use Rattle.ipam_block.proofs.Ordinals.{shared-below, shared_count}
 use Rattle.ipam_block.proofs.Tested.{true-is_block}
+use Rattle.ipam_block.specs.declared.limits.TheConstants.{ADDRESSES_MAX}
 use Rattle.ipam_block_text.specs.declared.parts.Parts.{Parts}
 use Rattle.ipam_block_text.specs.declared.fault.BodyFault.{BodyFault}
-use Rattle.ipam_block_text.specs.declared.fault.BodyFault.TheVariants.{Unsound}
+use Rattle.ipam_block_text.specs.declared.fault.BodyFault.TheVariants.{Form, Unsound}
 use Rattle.ipam_block_text.specs.Attributes.{are_same, with_those_of, distinct_attributes}
-use Rattle.ipam_block_text.specs.Limits.{is_node, are_attributes, IsSoundBlock}
+use Rattle.ipam_block_text.specs.Limits.{is_node, are_attributes}
 use Rattle.ipam_block_text.specs.Form.{AreParts, AreStamps}
 use Rattle.ipam_block_text.specs.Parts.{place_of, block_parts}
-use Rattle.ipam_block_text.specs.Body.{whole_data, affinity_data, place_data, attributes_data, range_data, with_stamp, stamps_data, parts_data, block_body}
-use Rattle.ipam_block_text.specs.Reading.{each, only_if, after_host, affinity_in, node_in, places_in, place_in, all_attributes_in, attributes_in, range_in, small_range, sequence_in, queue_in, parts_in, is_number_name, is_stamp, are_stamps, stamps_in, block_form, cidr_said, held_from, are_ordinals, block_in, checked, reading_from, block_reading}
+use Rattle.ipam_block_text.specs.Body.{whole_data, affinity_data, place_data, attributes_data, cidr_data, with_stamp, stamps_data, parts_data, block_body}
+use Rattle.ipam_block_text.specs.Reading.{each, only_if, after_host, affinity_in, node_in, places_in, place_in, all_attributes_in, attributes_in, cidr_in, small_cidr, sequence_in, queue_in, parts_in, is_number_name, is_stamp, are_stamps, stamps_in, block_form, cidr_said, held_from, are_ordinals, block_in, has_text, checked, reading_from, block_reading}
+use Rattle.ipam_block_text.proofs.Limited.{IsLimited, limited, node_there, node_back, attributes_there, attributes_back}
 use Rattle.ipam_block_text.proofs.Options.{and_then_some}
+use Rattle.ipam_block_text.proofs.Said.{parts_said}
+use Rattle.ipam_block_text.proofs.Sound.{block_sound}
 use Rattle.ipam_block_text.proofs.Canonical.{each-same, attributes_read, place_read, stamps_canonical, attributes_canonical, map_canonical, affinity_canonical, place_canonical}
 use Rattle.ipam_block_text.proofs.ReadBack.{all_known, few_in_use, held_back}
 
@@ -52,7 +57,7 @@ passes test x h = ap (λ b. cond b (Some x) None) h
 
 -- ---- bounds in a block
 
-held_below : (b : Content) → IsBlock b → All (λ a. a.ordinal < range_size b.cidr) b.allocations
+held_below : (b : BlockValue) → IsBlock b → All (λ a. a.ordinal < cidr_size b.cidr) b.allocations
 held_below b h i d within =
     let held = held_ordinals b.allocations in
     let count = length-map b.allocations (λ a. a.ordinal) in
@@ -62,7 +67,7 @@ held_below b h i d within =
     let at = get_or-map (λ (a : Allocation). a.ordinal) b.allocations i d d.ordinal within in
     omega arith
 
-queued_below : (b : Content) → IsBlock b → All (λ o. o < range_size b.cidr) b.queue
+queued_below : (b : BlockValue) → IsBlock b → All (λ o. o < cidr_size b.cidr) b.queue
 queued_below b h i d within =
     let held = held_ordinals b.allocations in
     let long = length-append held b.queue in
@@ -92,9 +97,9 @@ all_attributes_read : (p : Parts) (s : Data) → All (λ a. are_attributes a ≡
 unfolding all_attributes_in parts_data
 all_attributes_read p s h = items_read attributes_in attributes_data p.attributes (λ i d within. attributes_read (get_or p.attributes i d) (h i d within))
 
-range_read : (p : Parts) (s : Data) → IsRange p.cidr → range_size p.cidr ≤ 4096 → range_in (parts_data p s) ≡ Some p.cidr
-unfolding range_in parts_data
-range_read p s range small = ap small_range (range_of-range_text p.cidr range) ∙ ap (λ b. cond b (Some p.cidr) None) (le-leb _ _ small)
+cidr_read : (p : Parts) (s : Data) → IsCidr p.cidr → cidr_size p.cidr ≤ ADDRESSES_MAX → cidr_in (parts_data p s) ≡ Some p.cidr
+unfolding cidr_in parts_data
+cidr_read p s range small = ap small_cidr (cidr_reading-cidr_text_of p.cidr range) ∙ ap (λ b. cond b (Some p.cidr) None) (le-leb _ _ small)
 
 sequence_read : (p : Parts) (s : Data) → p.sequence < 2 ^ 64 → sequence_in (parts_data p s) ≡ Some p.sequence
 unfolding sequence_in parts_data
@@ -104,10 +109,10 @@ queue_read : (p : Parts) (s : Data) → queue_in (parts_data p s) ≡ Some p.que
 unfolding queue_in parts_data
 queue_read p s = items_read as_whole whole_data p.queue (λ i d within. refl)
 
-pub parts_read : (p : Parts) (s : Data) → is_node p.node ≡ true → All (λ a. are_attributes a ≡ true) p.attributes → IsRange p.cidr → range_size p.cidr ≤ 4096 → p.sequence < 2 ^ 64 → parts_in (parts_data p s) ≡ Some p
+pub parts_read : (p : Parts) (s : Data) → is_node p.node ≡ true → All (λ a. are_attributes a ≡ true) p.attributes → IsCidr p.cidr → cidr_size p.cidr ≤ ADDRESSES_MAX → p.sequence < 2 ^ 64 → parts_in (parts_data p s) ≡ Some p
 unfolding parts_in
 parts_read p s node attributes range small sequence =
-    rw (node_read p s node, places_read p s, all_attributes_read p s attributes, range_read p s range small, sequence_read p s sequence, queue_read p s) refl
+    rw (node_read p s node, places_read p s, all_attributes_read p s attributes, cidr_read p s range small, sequence_read p s sequence, queue_read p s) refl
 
 -- ---- the stamps
 
@@ -146,7 +151,7 @@ stamps_read p stamps h = passes are_stamps stamps h
 
 -- ---- the value is canonical
 
-index_below : (all : List Attributes) (b : Content) (o i : ℕ) → place_of all b o ≡ Some i → i < length all
+index_below : (all : List Attributes) (b : BlockValue) (o i : ℕ) → place_of all b o ≡ Some i → i < length all
 unfolding place_of
 index_below all b o i e =
     let found = and_then_some (λ a. position (are_same a.attributes) all) (holder b o) i e in
@@ -155,7 +160,7 @@ index_below all b o i e =
     let within = ltb-true _ _ parts.0 in
     omega (arith, parts.1)
 
-few_indexes : (b : Content) → IsBlock b → length (distinct_attributes b.allocations) ≤ 4096
+few_indexes : (b : BlockValue) → IsBlock b → length (distinct_attributes b.allocations) ≤ ADDRESSES_MAX
 few_indexes b h =
     let few = few_in_use [] b.allocations in
     let count = shared_count b h in
@@ -182,7 +187,7 @@ parts_canonical p stamps h named =
     (codes "affinity", affinity_data p.node)
     ∷ (codes "allocations", array_of (map place_data p.places))
     ∷ (codes "attributes", array_of (map attributes_data p.attributes))
-    ∷ (codes "cidr", range_data p.cidr)
+    ∷ (codes "cidr", cidr_data p.cidr)
     ∷ (codes "sequenceNumber", whole_data p.sequence)
     ∷ (codes "sequenceNumberForAllocation", stamps)
     ∷ (codes "unallocated", array_of (map whole_data p.queue))
@@ -195,7 +200,7 @@ parts_canonical p stamps h named =
         (
           all_canonical p.attributes,
           (
-            IsCanonicalWithin-string 3 (range_text p.cidr),
+            IsCanonicalWithin-string 3 (cidr_text_of p.cidr),
             (
               IsCanonicalWithin-number 3 p.sequence h.sequence,
               (
@@ -226,7 +231,8 @@ form_back p stamps h named =
     let body = compact_text (parts_data p stamps) in
     let is_text : Parts × Data → Bool = λ f. bytes_eq (compact_text (parts_data f.0 f.1)) body in
     let read_back = read-compact_text (parts_data p stamps) (parts_canonical p stamps h named) in
-    let parts = parts_read p stamps h.node h.attributes h.range h.small h.sequence in
+    let attributes : All (λ a. are_attributes a ≡ true) p.attributes = λ i d within. attributes_there (get_or p.attributes i d) (h.attributes i d within) in
+    let parts = parts_read p stamps (node_there p.node h.node) attributes h.range.range h.range.small h.sequence in
     ap (option_and_then (λ d. option_and_then (λ q. option_and_then (λ s. only_if is_text (q, s)) (stamps_in d)) (parts_in d))) read_back
     ∙ ap (option_and_then (λ q. option_and_then (λ s. only_if is_text (q, s)) (stamps_in (parts_data p stamps)))) parts
     ∙ ap (option_and_then (λ s. only_if is_text (p, s))) (stamps_read p stamps named.names)
@@ -236,32 +242,31 @@ small_index : (o : Option ℕ) → ((i : ℕ) → o ≡ Some i → i < 2 ^ 64) �
 small_index None h = omega arith
 small_index (Some i) h = h i refl
 
-small_places : (b : Content) → IsBlock b → All (λ place. unwrap_or place 0 < 2 ^ 64) (block_parts b).places
+small_places : (b : BlockValue) → IsBlock b → All (λ place. unwrap_or place 0 < 2 ^ 64) (block_parts b).places
 small_places b h i d within =
     let all = distinct_attributes b.allocations in
     let few = few_indexes b h in
     let place = place_of all b in
-    let ordinals = ordinals_below (range_size b.cidr) in
+    let ordinals = ordinals_below (cidr_size b.cidr) in
     let long = length-map ordinals place in
     let here : get_or (map place ordinals) i d ≡ place (get_or ordinals i 0) = get_or-map place ordinals i 0 d (omega arith) in
     let P : Option ℕ → Type 0 = λ o. unwrap_or o 0 < 2 ^ 64 in
     subst P (sym here) (small_index (place (get_or ordinals i 0)) (λ k e. let below = index_below all b (get_or ordinals i 0) k e in omega arith))
 
-are_parts : (b : Content) → IsSoundBlock b → AreParts (block_parts b)
+are_parts : (b : BlockValue) → IsLimited b → AreParts (block_parts b)
 are_parts b h =
     let block = h.block in
     let small = block.small in
     record {
-      node = h.node;
+      node = node_back b.node h.node;
       places = small_places b block;
-      attributes = in_use_sound [] b.allocations (λ i d within. absurd (omega arith)) h.attributes;
-      range = block.range;
-      small = small;
+      attributes = λ i d within. attributes_back (get_or (distinct_attributes b.allocations) i d) (in_use_sound [] b.allocations (λ i d within. absurd (omega arith)) h.attributes i d within);
+      range = record { range = block.range; small = block.small };
       sequence = h.sequence;
       queue = λ i d within. let below = queued_below b block i d within in omega arith;
     }
 
-are_stamps_of : (b : Content) → IsSoundBlock b → AreStamps (stamps_data b.allocations)
+are_stamps_of : (b : BlockValue) → IsLimited b → AreStamps (stamps_data b.allocations)
 are_stamps_of b h =
     let block = h.block in
     let small = block.small in
@@ -271,21 +276,15 @@ are_stamps_of b h =
       names = stamps_fold b.allocations no_members (λ i d within. let below = held_below b block i d within in omega arith) refl;
     }
 
-form_read : (b : Content) → IsSoundBlock b → block_form (block_body b) ≡ Some (block_parts b, stamps_data b.allocations)
+form_read : (b : BlockValue) → IsLimited b → block_form (block_body b) ≡ Some (block_parts b, stamps_data b.allocations)
 unfolding block_body
 form_read b h = form_back (block_parts b) (stamps_data b.allocations) (are_parts b h) (are_stamps_of b h)
 
--- no parts and stamps within the limits have a text without the form
-pub formless : (body : List ℕ) → block_form body ≡ None → (p : Parts) (stamps : Data) → AreParts p → AreStamps stamps → body ≢ compact_text (parts_data p stamps)
-formless body none p stamps parts named same =
-    let some = ap block_form same ∙ form_back p stamps parts named in
-    absurd cc
-
-fault_same : (e f : BodyFault) → ◌≡◌ {A = Result Content BodyFault} (Err e) (Err f) → e ≡ f
+fault_same : (e f : BodyFault) → ◌≡◌ {A = Result BlockValue BodyFault} (Err e) (Err f) → e ≡ f
 fault_same e f h = cc
 
 -- what has the form is a block's text, or else unsound and of the CIDR that is said
-checked_fault : (body : List ℕ) (cidr : Range) (o : Option Content) (e : BodyFault) → checked body cidr o ≡ Err e → e ≡ Unsound cidr
+checked_fault : (body : List ℕ) (cidr : CidrValue) (o : Option BlockValue) (e : BodyFault) → checked body cidr o ≡ Err e → e ≡ Unsound cidr
 checked_fault body cidr None e h = sym (fault_same (Unsound cidr) e h)
 checked_fault body cidr (Some b) e h = go (bytes_eq (block_body b) body) h
   where
@@ -293,11 +292,11 @@ checked_fault body cidr (Some b) e h = go (bytes_eq (block_body b) body) h
     go true k = absurd cc
     go false k = sym (fault_same (Unsound cidr) e k)
 
-pub unsound_said : (body : List ℕ) (cidr : Range) → block_reading body ≡ Err (Unsound cidr) → cidr_said body ≡ Some cidr
+pub unsound_said : (body : List ℕ) (cidr : CidrValue) → block_reading body ≡ Err (Unsound cidr) → cidr_said body ≡ Some cidr
 unfolding block_reading
 unsound_said body cidr h = go (block_form body) h
   where
-    same : (r s : Range) → Unsound r ≡ Unsound s → r ≡ s
+    same : (r s : CidrValue) → Unsound r ≡ Unsound s → r ≡ s
     same r s e = cc
 
     go : (o : Option (Parts × Data)) → reading_from body o ≡ Err (Unsound cidr) → option_map (λ f. f.0.cidr) o ≡ Some cidr
@@ -306,18 +305,18 @@ unsound_said body cidr h = go (block_form body) h
 
 -- ---- the block
 
-are_ordinals-below : (n : ℕ) (queue : List ℕ) → n ≤ 4096 → All (λ o. o < n) queue → are_ordinals queue ≡ true
+are_ordinals-below : (n : ℕ) (queue : List ℕ) → n ≤ ADDRESSES_MAX → All (λ o. o < n) queue → are_ordinals queue ≡ true
 are_ordinals-below n [] small h = refl
 are_ordinals-below n (o ∷ queue) small h =
     let below = h 0 o (omega arith) in
     and_from _ _ (lt-ltb _ _ (omega arith)) (are_ordinals-below n queue small (λ i d within. h (suc i) d (omega arith)))
 
-block_back : (b : Content) → IsSoundBlock b → block_in (block_parts b) (stamps_data b.allocations) ≡ Some b
+block_back : (b : BlockValue) → IsLimited b → block_in (block_parts b) (stamps_data b.allocations) ≡ Some b
 unfolding block_in
 block_back b h =
     let block = h.block in
     let small = block.small in
-    let n = range_size b.cidr in
+    let n = cidr_size b.cidr in
     let all = distinct_attributes b.allocations in
     let passed = true-is_block b block in
     let up = (and_parts (ascends_from 0 b.allocations) (list_all (has_stamp_within b.sequence) b.allocations) (and_parts (ascends_from 0 b.allocations && list_all (has_stamp_within b.sequence) b.allocations) _ passed).0).0 in
@@ -329,21 +328,90 @@ block_back b h =
     let long = length-range_with_len 0 n in
     let same = eq-eqb (length (block_parts b).places) n (omega arith) in
     let tests = and_from _ _ same (are_ordinals-below n b.queue small (queued_below b block)) in
-    let made : List Allocation → Content = λ found. content_of b.cidr b.node found b.queue b.sequence in
+    let made : List Allocation → BlockValue = λ found. content_of b.cidr b.node found b.queue b.sequence in
     let whole = λ (o : Option (List Allocation)). option_and_then (only_if is_block) (option_map made o) in
     ap (λ t. cond t (whole (held_from all (stamps_data b.allocations) 0 (block_parts b).places)) None) tests
     ∙ ap whole held ∙ passes is_block b passed
 
-pub sound_block_read : (b : Content) → IsSoundBlock b → block_reading (block_body b) ≡ Ok b
+limited_block_read : (b : BlockValue) → IsLimited b → block_reading (block_body b) ≡ Ok b
 unfolding block_reading
-sound_block_read b h =
+limited_block_read b h =
     let body = block_body b in
     ap (reading_from body) (form_read b h) ∙ ap (checked body b.cidr) (block_back b h)
     ∙ ap (λ t. cond t (Ok b) (Err (Unsound b.cidr))) ((bytes_eq-Decides body body).1 refl)
 
+pub sound_block_read : (b : BlockValue) → IsBlockRecord b → block_reading (block_body b) ≡ Ok b
+sound_block_read b h = limited_block_read b (limited b h)
+
 -- no two sound blocks have one text
-pub one_text : (b c : Content) → IsSoundBlock b → IsSoundBlock c → block_body b ≡ block_body c → b ≡ c
+pub one_text : (b c : BlockValue) → IsBlockRecord b → IsBlockRecord c → block_body b ≡ block_body c → b ≡ c
 one_text b c h k same = found_same b c (sym (sound_block_read b h) ∙ ap block_reading same ∙ sound_block_read c k)
   where
-    found_same : (x y : Content) → ◌≡◌ {A = Result Content BodyFault} (Ok x) (Ok y) → x ≡ y
+    found_same : (x y : BlockValue) → ◌≡◌ {A = Result BlockValue BodyFault} (Ok x) (Ok y) → x ≡ y
     found_same x y e = cc
+
+-- ---- what the code finds
+
+-- what a value says, as the code reads it
+pub record SaysForm (body : List ℕ) (d : Data) (p : Parts) (stamps : Data) : Type 0 where
+  pub value : read body ≡ Some d
+  pub parts : parts_in d ≡ Some p
+  pub stamps_said : stamps_in d ≡ Some stamps
+
+is_form : (body : List ℕ) (d : Data) (p : Parts) (stamps : Data) → SaysForm body d p stamps → block_form body ≡ only_if (λ f. bytes_eq (compact_text (parts_data f.0 f.1)) body) (p, stamps)
+unfolding block_form
+is_form body d p stamps says = rw (says.value, says.parts, says.stamps_said) refl
+
+pub no_value : (body : List ℕ) → read body ≡ None → block_reading body ≡ Err Form
+unfolding block_reading block_form
+no_value body none = rw none refl
+
+pub no_parts : (body : List ℕ) (d : Data) → read body ≡ Some d → parts_in d ≡ None → block_reading body ≡ Err Form
+unfolding block_reading block_form
+no_parts body d value none = rw (value, none) refl
+
+pub no_stamps : (body : List ℕ) (d : Data) (p : Parts) → read body ≡ Some d → parts_in d ≡ Some p → stamps_in d ≡ None → block_reading body ≡ Err Form
+unfolding block_reading block_form
+no_stamps body d p value parts none = rw (value, parts, none) refl
+
+texted : (body : List ℕ) (o : Option BlockValue) (b : BlockValue) → option_and_then (has_text body) o ≡ Some b → (o ≡ Some b) × (block_body b ≡ body)
+texted body None b e = absurd cc
+texted body (Some c) b e =
+    let parts = cond_some (bytes_eq (block_body c) body) c b e in
+    (ap Some parts.1, ap block_body (sym parts.1) ∙ (bytes_eq-Decides (block_body c) body).0 parts.0)
+
+pub block_found : (body : List ℕ) (d : Data) (p : Parts) (stamps : Data) (b : BlockValue) → SaysForm body d p stamps → option_and_then (has_text body) (block_in p stamps) ≡ Some b → block_reading body ≡ Ok b
+block_found body d p stamps b says e =
+    let found = texted body (block_in p stamps) b e in
+    ap block_reading (sym found.1) ∙ limited_block_read b (block_sound d p stamps b (parts_said d p says.parts) found.0)
+
+untexted : (body : List ℕ) (cidr : CidrValue) (o : Option BlockValue) → option_and_then (has_text body) o ≡ None → checked body cidr o ≡ Err (Unsound cidr)
+untexted body cidr None e = refl
+untexted body cidr (Some b) e = go (bytes_eq (block_body b) body) e
+  where
+    go : (t : Bool) → cond t (Some b) None ≡ None → cond t (Ok b) (Err (Unsound cidr)) ≡ Err (Unsound cidr)
+    go true k = absurd cc
+    go false k = refl
+
+pub unsound_found : (body : List ℕ) (d : Data) (p : Parts) (stamps : Data) → SaysForm body d p stamps → option_and_then (has_text body) (block_in p stamps) ≡ None → bytes_eq (compact_text (parts_data p stamps)) body ≡ true → block_reading body ≡ Err (Unsound p.cidr)
+unfolding block_reading
+unsound_found body d p stamps says none same =
+    let is_text : Parts × Data → Bool = λ f. bytes_eq (compact_text (parts_data f.0 f.1)) body in
+    ap (reading_from body) (is_form body d p stamps says ∙ passes is_text (p, stamps) same)
+    ∙ untexted body p.cidr (block_in p stamps) none
+
+pub form_found : (body : List ℕ) (d : Data) (p : Parts) (stamps : Data) → SaysForm body d p stamps → bytes_eq (compact_text (parts_data p stamps)) body ≡ false → block_reading body ≡ Err Form
+unfolding block_reading
+form_found body d p stamps says other =
+    ap (reading_from body) (is_form body d p stamps says ∙ ap (λ b. cond b (Some (p, stamps)) None) other)
+
+-- what a text that is refused for its form is not
+pub formless_fault : (body : List ℕ) → block_reading body ≡ Err Form → (p : Parts) (stamps : Data) → AreParts p → AreStamps stamps → body ≢ compact_text (parts_data p stamps)
+unfolding block_reading
+formless_fault body e p stamps parts named same =
+    let form = ap block_form same ∙ form_back p stamps parts named in
+    let unsound = checked_form body p.cidr (block_in p stamps) (sym (ap (reading_from body) form) ∙ e) in
+    unsound
+  where
+    checked_form : (body : List ℕ) (cidr : CidrValue) (o : Option BlockValue) → checked body cidr o ≡ Err Form → ⊥
+    checked_form body cidr o k = let is = checked_fault body cidr o Form k in absurd cc

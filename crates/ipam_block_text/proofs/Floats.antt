@@ -9,7 +9,7 @@ use Rattle.serde_json.specs.View.{items_of}
 use Rattle.serde_json.specs.Written.{compact_text, has_float, items_have_float, members_have_float}
 use Rattle.ipam_block.specs.declared.allocation.Allocation.{Allocation}
 use Rattle.ipam_block.specs.declared.allocation.Attributes.{Attributes}
-use Rattle.ipam_block.specs.Content.{Content}
+use Rattle.ipam_block.specs.Shape.{BlockValue}
 use Rattle.ipam_block_text.specs.declared.parts.Parts.{Parts}
 use Rattle.ipam_block_text.specs.Parts.{block_parts}
 use Rattle.ipam_block_text.specs.Body.{affinity_data, place_data, attributes_data, stamps_data, whole_data, parts_data, block_data, block_body}
@@ -51,7 +51,7 @@ unfolding parts_data
 has_float-parts_data p stamps h =
     rw (affinity_without p.node, items_without place_data place_without p.places, items_without attributes_data attributes_without p.attributes, h, items_without whole_data (λ n. refl) p.queue) refl
 
-pub body_written : (r : Result (String Global) AllocError) (b : Content) (d : Data) → d ≡ block_data b → IfOk r (λ s. has_float d ≡ false → string_bytes s ≡ compact_text d) → IfOk r (λ s. string_bytes s ≡ block_body b)
+pub body_written : (r : Result (String Global) AllocError) (b : BlockValue) (d : Data) → d ≡ block_data b → IfOk r (λ s. has_float d ≡ false → string_bytes s ≡ compact_text d) → IfOk r (λ s. string_bytes s ≡ block_body b)
 unfolding block_body
 body_written (Ok s) b d e written =
     let none = has_float-parts_data (block_parts b) (stamps_data b.allocations) (has_float-stamps_data b.allocations) in

@@ -1,13 +1,14 @@
 -- Lemmas on the texts of blocks.
 pub mod Floats
-pub mod Places
 pub mod Ordinals
 pub mod Each
 pub mod Listed
 pub mod Names
 pub mod Options
 pub mod Said
+pub mod Limited
 pub mod Sound
 pub mod ReadBack
+pub mod Numbers
 pub mod Canonical
 pub mod Exact

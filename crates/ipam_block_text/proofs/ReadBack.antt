@@ -14,7 +14,7 @@ use Rattle.serde_json.proofs.Views.{get_member-put, get_member-put_other}
 use Rattle.ipam_json.specs.Path.{as_whole}
 use Rattle.ipam_block.specs.declared.allocation.Allocation.{Allocation}
 use Rattle.ipam_block.specs.declared.allocation.Attributes.{Attributes}
-use Rattle.ipam_block.specs.Content.{Content}
+use Rattle.ipam_block.specs.Shape.{BlockValue}
 use Rattle.ipam_block.specs.Operations.{holder}
 use Rattle.ipam_block.specs.Test.{ascends_from}
 use Rattle.ipam_block_text.specs.Attributes.{Pair, is_same_pair, are_same, with_those_of, distinct_attributes}
@@ -46,7 +46,7 @@ are_same-true a b h =
     made : (g h : List ℕ) (p q : List Pair) → g ≡ h → p ≡ q → ◌≡◌ {A = Attributes} (record { handle = g; secondary = p }) (record { handle = h; secondary = q })
     made g h p q e f = cc
 
-are_same-itself : (a : Attributes) → are_same a a ≡ true
+pub are_same-itself : (a : Attributes) → are_same a a ≡ true
 are_same-itself a =
     and_from _ _ ((bytes_eq-Decides a.handle a.handle).1 refl)
     ((slice_eq-Decides (λ p q. (same_pairs p q, pairs_same p q)) a.secondary a.secondary (pointwise is_same_pair a.secondary a.secondary) refl).1 refl)
@@ -173,16 +173,16 @@ none_at least a (y ∷ ys) below up =
     let above = leb-true _ _ parts.0 in
     rw (ne_eqb y.ordinal a (λ e. omega arith)) (none_at (y.ordinal + 1) a ys (omega arith) parts.1)
 
-place_none : (all : List Attributes) (b : Content) (o : ℕ) → holder b o ≡ None → place_of all b o ≡ None
+place_none : (all : List Attributes) (b : BlockValue) (o : ℕ) → holder b o ≡ None → place_of all b o ≡ None
 unfolding place_of
 place_none all b o e = ap (option_and_then (λ a. position (are_same a.attributes) all)) e
 
-place_some : (all : List Attributes) (b : Content) (o : ℕ) (y : Allocation) → holder b o ≡ Some y → place_of all b o ≡ position (are_same y.attributes) all
+place_some : (all : List Attributes) (b : BlockValue) (o : ℕ) (y : Allocation) → holder b o ≡ Some y → place_of all b o ≡ position (are_same y.attributes) all
 unfolding place_of
 place_some all b o y e = ap (option_and_then (λ a. position (are_same a.attributes) all)) e
 
 -- what is held from the ordinal on is found again
-pub held_back : (all : List Attributes) (stamps : Data) (b : Content) (a m : ℕ) (ys : List Allocation) → ((o : ℕ) → a ≤ o → holder b o ≡ find (λ x. x.ordinal == o) ys) → ascends_from a ys ≡ true → All (λ y. y.ordinal < a + m) ys → All (λ y. IsKnown all stamps y) ys → held_from all stamps a (map (place_of all b) (range_with_len a m)) ≡ Some ys
+pub held_back : (all : List Attributes) (stamps : Data) (b : BlockValue) (a m : ℕ) (ys : List Allocation) → ((o : ℕ) → a ≤ o → holder b o ≡ find (λ x. x.ordinal == o) ys) → ascends_from a ys ≡ true → All (λ y. y.ordinal < a + m) ys → All (λ y. IsKnown all stamps y) ys → held_from all stamps a (map (place_of all b) (range_with_len a m)) ≡ Some ys
 held_back all stamps b a zero [] held up below known = refl
 held_back all stamps b a zero (y ∷ ys) held up below known =
     let parts = and_parts (nat_le a y.ordinal) (ascends_from (y.ordinal + 1) ys) up in

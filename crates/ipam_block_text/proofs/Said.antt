@@ -6,15 +6,16 @@ use Rattle.std.proofs.lemmas.Option.{cond_some}
 use Rattle.std.proofs.lemmas.Bool.{and_parts, leb-true}
 use Rattle.serde_json.specs.Data.{Data, unsigned, negative, float, null, boolean, number, string, array, object, Members, no_members, member}
 use Rattle.serde_json.specs.Written.{has_float, members_have_float}
-use Rattle.ipam_addr.specs.Shape.{Range}
-use Rattle.ipam_addr.specs.Text.{range_of}
-use Rattle.ipam_addr.specs.Width.{IsRange, range_size}
-use Rattle.ipam_addr.specs.declared.range.AddrFault.{AddrFault}
-use Rattle.ipam_addr.proofs.RangeTextLemmas.{spelled-range_of}
+use Rattle.ipam_addr.specs.Shape.{CidrValue}
+use Rattle.ipam_addr.specs.Text.{cidr_reading}
+use Rattle.ipam_addr.specs.Width.{IsCidr, cidr_size}
+use Rattle.ipam_addr.specs.declared.cidrs.AddrFault.{AddrFault}
+use Rattle.ipam_addr.proofs.CidrTextLemmas.{spelled-cidr_reading}
 use Rattle.ipam_json.specs.Path.{as_whole}
 use Rattle.ipam_json.specs.Built.{member_list}
+use Rattle.ipam_block.specs.declared.limits.TheConstants.{ADDRESSES_MAX}
 use Rattle.ipam_block_text.specs.declared.parts.Parts.{Parts}
-use Rattle.ipam_block_text.specs.Reading.{node_in, places_in, all_attributes_in, range_in, small_range, sequence_in, queue_in, parts_in, is_stamp, are_stamps, stamps_in, text_at}
+use Rattle.ipam_block_text.specs.Reading.{node_in, places_in, all_attributes_in, cidr_in, small_cidr, sequence_in, queue_in, parts_in, is_stamp, are_stamps, stamps_in, text_at}
 use Rattle.ipam_block_text.proofs.Options.{and_then_some, map_some, passed_some}
 
 -- ---- the parts
@@ -23,7 +24,7 @@ pub record Says (d : Data) (p : Parts) : Type 0 where
   pub node : node_in d ≡ Some p.node
   pub places : places_in d ≡ Some p.places
   pub attributes : all_attributes_in d ≡ Some p.attributes
-  pub cidr : range_in d ≡ Some p.cidr
+  pub cidr : cidr_in d ≡ Some p.cidr
   pub sequence : sequence_in d ≡ Some p.sequence
   pub queue : queue_in d ≡ Some p.queue
 
@@ -33,7 +34,7 @@ parts_said d p e =
     let a = and_then_some _ (node_in d) p e in
     let b = and_then_some _ (places_in d) p a.2 in
     let f = and_then_some _ (all_attributes_in d) p b.2 in
-    let g = and_then_some _ (range_in d) p f.2 in
+    let g = and_then_some _ (cidr_in d) p f.2 in
     let h = and_then_some _ (sequence_in d) p g.2 in
     let k = map_some _ (queue_in d) p h.2 in
     record {
@@ -45,22 +46,22 @@ parts_said d p e =
       queue = k.1 ∙ ap (λ q. Some q.queue) k.2;
     }
 
-small_some : (text : List ℕ) (o : Result Range AddrFault) (r : Range) → range_of text ≡ o → small_range o ≡ Some r → IsRange r × (range_size r ≤ 4096)
+small_some : (text : List ℕ) (o : Result CidrValue AddrFault) (r : CidrValue) → cidr_reading text ≡ o → small_cidr o ≡ Some r → IsCidr r × (cidr_size r ≤ ADDRESSES_MAX)
 small_some text (Err fault) r e h = absurd cc
 small_some text (Ok q) r e h =
-    let parts = cond_some (nat_le (range_size q) 4096) q r h in
-    let spelled = spelled-range_of text q e in
-    let P : Range → Type 0 = λ x. IsRange x × (range_size x ≤ 4096) in
+    let parts = cond_some (nat_le (cidr_size q) ADDRESSES_MAX) q r h in
+    let spelled = spelled-cidr_reading text q e in
+    let P : CidrValue → Type 0 = λ x. IsCidr x × (cidr_size x ≤ ADDRESSES_MAX) in
     subst P parts.1 (spelled.sound, leb-true _ _ parts.0)
 
-pub range_said : (d : Data) (r : Range) → range_in d ≡ Some r → IsRange r × (range_size r ≤ 4096)
-unfolding range_in
-range_said d r e =
-    let read = and_then_some (λ text. small_range (range_of text)) (text_at (codes "cidr") d) r e in
-    small_some read.0 (range_of read.0) r refl read.2
+pub cidr_said : (d : Data) (r : CidrValue) → cidr_in d ≡ Some r → IsCidr r × (cidr_size r ≤ ADDRESSES_MAX)
+unfolding cidr_in
+cidr_said d r e =
+    let read = and_then_some (λ text. small_cidr (cidr_reading text)) (text_at (codes "cidr") d) r e in
+    small_some read.0 (cidr_reading read.0) r refl read.2
 
-pub small_said : (d : Data) (p : Parts) → parts_in d ≡ Some p → range_size p.cidr ≤ 4096
-small_said d p e = (range_said d p.cidr (parts_said d p e).cidr).1
+pub small_said : (d : Data) (p : Parts) → parts_in d ≡ Some p → cidr_size p.cidr ≤ ADDRESSES_MAX
+small_said d p e = (cidr_said d p.cidr (parts_said d p e).cidr).1
 
 -- ---- the stamps
 

@@ -8,22 +8,24 @@ use Rattle.serde_json.specs.Data.{Data, null, boolean, number, string, array, ob
 use Rattle.serde_json.specs.Find.{get}
 use Rattle.serde_json.specs.Read.{read}
 use Rattle.serde_json.specs.Written.{compact_text}
-use Rattle.ipam_addr.specs.Shape.{Range}
-use Rattle.ipam_addr.specs.Word.{is_name_text, is_handle_text}
+use Rattle.ipam_addr.specs.Shape.{CidrValue}
+use Rattle.ipam_addr.specs.Names.{is_name_text, is_handle_text}
 use Rattle.ipam_json.specs.Path.{as_whole}
 use Rattle.ipam_block.specs.declared.allocation.Allocation.{Allocation}
 use Rattle.ipam_block.specs.declared.allocation.Attributes.{Attributes}
-use Rattle.ipam_block.specs.Content.{Content}
+use Rattle.ipam_block.specs.Shape.{BlockValue}
+use Rattle.ipam_block.specs.Sound.{IsBlockRecord}
 use Rattle.ipam_block.specs.Test.{is_block, content_of}
 use Rattle.ipam_block.proofs.Tested.{is_block-true}
 use Rattle.ipam_block_text.specs.declared.fault.BodyFault.{BodyFault}
 use Rattle.ipam_block_text.specs.declared.fault.BodyFault.TheVariants.{Unsound}
 use Rattle.ipam_block_text.specs.declared.parts.Parts.{Parts}
-use Rattle.ipam_block_text.specs.Limits.{is_node, are_pairs, are_attributes, IsSoundBlock}
+use Rattle.ipam_block_text.specs.Limits.{is_node, are_pairs, are_attributes}
 use Rattle.ipam_block_text.specs.Body.{parts_data, block_body}
 use Rattle.ipam_block_text.specs.Reading.{each, only_if, pair_in, text_at, members_at, node_in, affinity_in, node_named, after_host, all_attributes_in, attributes_in, handle_in, secondary_in, items_at, sequence_in, stamp_of, allocation_at, held_from, block_in, checked, reading_from, block_form, block_reading, parts_in, stamps_in}
+use Rattle.ipam_block_text.proofs.Limited.{IsLimited, kept}
 use Rattle.ipam_block_text.proofs.Options.{some_same, and_then_some, map_some, passed_some, only_if_some}
-use Rattle.ipam_block_text.proofs.Said.{Says, parts_said, range_said}
+use Rattle.ipam_block_text.proofs.Said.{Says, parts_said, cidr_said}
 
 -- ---- the texts
 
@@ -129,16 +131,16 @@ if_some : {A : Type 0} (b : Bool) (o : Option A) (y : A) → cond b o None ≡ S
 if_some true o y e = e
 if_some false o y e = absurd cc
 
-block_sound : (d : Data) (p : Parts) (stamps : Data) (b : Content) → Says d p → block_in p stamps ≡ Some b → IsSoundBlock b
+pub block_sound : (d : Data) (p : Parts) (stamps : Data) (b : BlockValue) → Says d p → block_in p stamps ≡ Some b → IsLimited b
 unfolding block_in
 block_sound d p stamps b says e =
     let inner = if_some _ _ b e in
     let tested = passed_some is_block (option_map (λ held. content_of p.cidr p.node held p.queue p.sequence) (held_from p.attributes stamps 0 p.places)) b inner in
     let made = map_some (λ held. content_of p.cidr p.node held p.queue p.sequence) (held_from p.attributes stamps 0 p.places) b tested.0 in
-    let range = range_said d p.cidr says.cidr in
+    let range = cidr_said d p.cidr says.cidr in
     let content = content_of p.cidr p.node made.0 p.queue p.sequence in
     let passed : is_block content ≡ true = ap is_block made.2 ∙ tested.1 in
-    subst IsSoundBlock made.2 (record {
+    subst IsLimited made.2 (record {
       block = is_block-true content range.0 range.1 passed;
       node = node_sound d p.node says.node;
       attributes = held_sound (λ a. are_attributes a ≡ true) p.attributes stamps 0 p.places made.0 (all_sound d p.attributes says.attributes) made.1;
@@ -156,10 +158,10 @@ form_said body f e =
     let h = only_if_some is_text (b.0, g.0) f g.2 in
     (a.0, subst (λ (x : Parts × Data). Says a.0 x.0) h.0 (parts_said a.0 b.0 b.1))
 
-ok_same : (x y : Content) → ◌≡◌ {A = Result Content BodyFault} (Ok x) (Ok y) → x ≡ y
+ok_same : (x y : BlockValue) → ◌≡◌ {A = Result BlockValue BodyFault} (Ok x) (Ok y) → x ≡ y
 ok_same x y e = cc
 
-checked_ok : (body : List ℕ) (cidr : Range) (o : Option Content) (b : Content) → checked body cidr o ≡ Ok b → (o ≡ Some b) × (block_body b ≡ body)
+checked_ok : (body : List ℕ) (cidr : CidrValue) (o : Option BlockValue) (b : BlockValue) → checked body cidr o ≡ Ok b → (o ≡ Some b) × (block_body b ≡ body)
 checked_ok body cidr None b e = absurd cc
 checked_ok body cidr (Some c) b e = go (bytes_eq (block_body c) body) refl e
   where
@@ -168,20 +170,13 @@ checked_ok body cidr (Some c) b e = go (bytes_eq (block_body c) body) refl e
     go false is e = absurd cc
 
 -- what is read is the text of a sound block
-pub block_reading-ok : (body : List ℕ) (b : Content) → block_reading body ≡ Ok b → (body ≡ block_body b) × IsSoundBlock b
+pub block_reading-ok : (body : List ℕ) (b : BlockValue) → block_reading body ≡ Ok b → (body ≡ block_body b) × IsBlockRecord b
 unfolding block_reading
 block_reading-ok body b e = go (block_form body) refl e
   where
-    go : (o : Option (Parts × Data)) → block_form body ≡ o → reading_from body o ≡ Ok b → (body ≡ block_body b) × IsSoundBlock b
+    go : (o : Option (Parts × Data)) → block_form body ≡ o → reading_from body o ≡ Ok b → (body ≡ block_body b) × IsBlockRecord b
     go None is e = absurd cc
     go (Some f) is e =
         let found = checked_ok body f.0.cidr (block_in f.0 f.1) b e in
         let said = form_said body f is in
-        (sym found.1, block_sound said.0 f.0 f.1 b said.1 found.0)
-
--- the same of what the code found
-pub text_read : (body : List ℕ) (f : Parts × Data) (b : Content) → block_form body ≡ Some f → block_in f.0 f.1 ≡ Some b → bytes_eq (block_body b) body ≡ true → body ≡ block_body b
-text_read body f b form found same = sym ((bytes_eq-Decides (block_body b) body).0 same)
-
-pub block_read : (body : List ℕ) (f : Parts × Data) (b : Content) → block_form body ≡ Some f → block_in f.0 f.1 ≡ Some b → IsSoundBlock b
-block_read body f b form found = let said = form_said body f form in block_sound said.0 f.0 f.1 b said.1 found
+        (sym found.1, kept b (block_sound said.0 f.0 f.1 b said.1 found.0))

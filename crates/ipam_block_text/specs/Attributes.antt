@@ -16,10 +16,12 @@ is_same_pair p q = bytes_eq p.0 q.0 && bytes_eq p.1 q.1
 abbrev pub are_same : Attributes → Attributes → Bool
 are_same a b = bytes_eq a.handle b.handle && pointwise is_same_pair a.secondary b.secondary
 
--- the attributes, and those of one more allocation, unless they are there
+-- the attributes, and these if they are not there
+abbrev pub with_attributes : List Attributes → Attributes → List Attributes
+with_attributes found own = if list_any (are_same own) found then found else found ++ own ∷ []
+
 abbrev pub with_those_of : List Attributes → Allocation → List Attributes
-with_those_of found a =
-    if list_any (are_same a.attributes) found then found else found ++ a.attributes ∷ []
+with_those_of found a = with_attributes found a.attributes
 
 -- the attributes in use, each once, by the first allocation that has them
 abbrev pub distinct_attributes : List Allocation → List Attributes

@@ -2,11 +2,11 @@
 use Rattle.std.specs.Prelude.{ℕ, List, [], ◌∷◌, ◌++◌, Option, Some, None, codes, decimal, map, fold}
 use Rattle.serde_json.specs.Data.{Data, null, number, unsigned, string, object, Members, no_members, put}
 use Rattle.serde_json.specs.Written.{compact_text}
-use Rattle.ipam_addr.specs.Shape.{Range}
-use Rattle.ipam_addr.specs.Text.{range_text}
+use Rattle.ipam_addr.specs.Shape.{CidrValue}
+use Rattle.ipam_addr.specs.Text.{cidr_text_of}
 use Rattle.ipam_block.specs.declared.allocation.Allocation.{Allocation}
 use Rattle.ipam_block.specs.declared.allocation.Attributes.{Attributes}
-use Rattle.ipam_block.specs.Content.{Content}
+use Rattle.ipam_block.specs.Shape.{BlockValue}
 use Rattle.ipam_json.specs.Built.{object_of, array_of}
 use Rattle.ipam_block_text.specs.declared.parts.Parts.{Parts}
 use Rattle.ipam_block_text.specs.Attributes.{Pair}
@@ -37,8 +37,8 @@ attributes_data a =
     object_of
     ((codes "handle_id", string a.handle) ∷ (codes "secondary", secondary_data a.secondary) ∷ [])
 
-abbrev pub range_data : Range → Data
-range_data r = string (range_text r)
+abbrev pub cidr_data : CidrValue → Data
+cidr_data r = string (cidr_text_of r)
 
 abbrev pub with_stamp : Members → Allocation → Members
 with_stamp members a = put (decimal a.ordinal) (whole_data a.stamp) members
@@ -54,16 +54,16 @@ parts_data p stamps =
     ((codes "affinity", affinity_data p.node)
     ∷ (codes "allocations", array_of (map place_data p.places))
     ∷ (codes "attributes", array_of (map attributes_data p.attributes))
-    ∷ (codes "cidr", range_data p.cidr)
+    ∷ (codes "cidr", cidr_data p.cidr)
     ∷ (codes "sequenceNumber", whole_data p.sequence)
     ∷ (codes "sequenceNumberForAllocation", stamps)
     ∷ (codes "unallocated", array_of (map whole_data p.queue))
     ∷ [])
 
 -- the JSON value of a block
-abbrev pub block_data : Content → Data
+abbrev pub block_data : BlockValue → Data
 block_data b = parts_data (block_parts b) (stamps_data b.allocations)
 
 -- the text of a block
-unfoldable pub block_body : Content → List ℕ
+unfoldable pub block_body : BlockValue → List ℕ
 block_body b = compact_text (block_data b)

@@ -1,19 +1,17 @@
 -- What the text of a block may say, sound or not.
-use Rattle.std.specs.Prelude.{◌≡◌, ◌^◌, ◌<◌, ◌≤◌, true, unwrap_or, All}
+use Rattle.std.specs.Prelude.{◌≡◌, ◌^◌, ◌<◌, true, unwrap_or, All}
 use Rattle.serde_json.specs.Data.{Data}
-use Rattle.ipam_addr.specs.Width.{IsRange, range_size}
+use Rattle.ipam_block.specs.Sound.{IsBlockCidr, AreAttributes, IsNode}
 use Rattle.ipam_json.specs.Canonical.{IsCanonicalWithin}
 use Rattle.ipam_block_text.specs.declared.parts.Parts.{Parts}
-use Rattle.ipam_block_text.specs.Limits.{is_node, are_attributes}
 use Rattle.ipam_block_text.specs.Reading.{are_stamps}
 
 -- texts and numbers within the limits
 pub record AreParts (p : Parts) : Type 0 where
-  pub node : is_node p.node ≡ true
+  pub node : IsNode p.node
   pub places : All (λ place. unwrap_or place 0 < 2 ^ 64) p.places
-  pub attributes : All (λ a. are_attributes a ≡ true) p.attributes
-  pub range : IsRange p.cidr
-  pub small : range_size p.cidr ≤ 4096
+  pub attributes : All AreAttributes p.attributes
+  pub range : IsBlockCidr p.cidr
   pub sequence : p.sequence < 2 ^ 64
   pub queue : All (λ n. n < 2 ^ 64) p.queue
 

@@ -1,6 +1,7 @@
 -- The text of a block, as contracts see it.
 pub mod Attributes
 pub mod Limits
+pub mod Numbering
 pub mod Parts
 pub mod Body
 pub mod Reading

@@ -6,12 +6,13 @@ use Rattle.serde_json.specs.Data.{Data, null, boolean, number, string, array, ob
 use Rattle.serde_json.specs.Find.{get, as_str, as_u64}
 use Rattle.serde_json.specs.Read.{read}
 use Rattle.serde_json.specs.Written.{compact_text}
-use Rattle.ipam_addr.specs.Shape.{Range}
-use Rattle.ipam_addr.specs.Text.{range_of}
-use Rattle.ipam_addr.specs.Width.{range_size}
-use Rattle.ipam_addr.specs.Word.{is_name_text, is_handle_text}
-use Rattle.ipam_addr.specs.declared.range.AddrFault.{AddrFault}
-use Rattle.ipam_block.specs.Content.{Content}
+use Rattle.ipam_addr.specs.Shape.{CidrValue}
+use Rattle.ipam_addr.specs.Text.{cidr_reading}
+use Rattle.ipam_addr.specs.Width.{cidr_size}
+use Rattle.ipam_addr.specs.Names.{is_name_text, is_handle_text}
+use Rattle.ipam_addr.specs.declared.cidrs.AddrFault.{AddrFault}
+use Rattle.ipam_block.specs.Shape.{BlockValue}
+use Rattle.ipam_block.specs.declared.limits.TheConstants.{ADDRESSES_MAX}
 use Rattle.ipam_block.specs.Test.{is_block, content_of}
 use Rattle.ipam_block.specs.declared.allocation.Allocation.{Allocation}
 use Rattle.ipam_block.specs.declared.allocation.Attributes.{Attributes}
@@ -83,12 +84,12 @@ attributes_in d =
     (λ handle. option_map (λ pairs. record { handle = handle; secondary = pairs }) (secondary_in d))
     (handle_in d)
 
-abbrev pub small_range : Result Range AddrFault → Option Range
-small_range (Ok r) = if nat_le (range_size r) 4096 then Some r else None
-small_range (Err fault) = None
+abbrev pub small_cidr : Result CidrValue AddrFault → Option CidrValue
+small_cidr (Ok r) = if nat_le (cidr_size r) ADDRESSES_MAX then Some r else None
+small_cidr (Err fault) = None
 
-unfoldable pub range_in : Data → Option Range
-range_in d = option_and_then (λ text. small_range (range_of text)) (text_at (codes "cidr") d)
+unfoldable pub cidr_in : Data → Option CidrValue
+cidr_in d = option_and_then (λ text. small_cidr (cidr_reading text)) (text_at (codes "cidr") d)
 
 unfoldable pub node_in : Data → Option (Option (List ℕ))
 node_in d = option_and_then affinity_in (get (codes "affinity") d)
@@ -123,7 +124,7 @@ parts_in d =
       sequence = sequence;
       queue = queue;
     })
-    (queue_in d)) (sequence_in d)) (range_in d)) (all_attributes_in d)) (places_in d)) (node_in d)
+    (queue_in d)) (sequence_in d)) (cidr_in d)) (all_attributes_in d)) (places_in d)) (node_in d)
 
 -- a decimal number below 2^64, in its one spelling
 unfoldable pub is_number_name : List ℕ → Bool
@@ -151,7 +152,7 @@ block_form body =
     (stamps_in d)) (parts_in d)) (read body)
 
 -- the CIDR of the block that the text says, sound or not
-abbrev pub cidr_said : List ℕ → Option Range
+abbrev pub cidr_said : List ℕ → Option CidrValue
 cidr_said body = option_map (λ f. f.0.cidr) (block_form body)
 
 -- ---- the block
@@ -179,24 +180,28 @@ abbrev pub are_ordinals : List ℕ → Bool
 are_ordinals queue = list_all (λ o. nat_lt o (2 ^ 16)) queue
 
 -- the block with these parts and stamps
-unfoldable pub block_in : Parts → Data → Option Content
+unfoldable pub block_in : Parts → Data → Option BlockValue
 block_in p stamps =
-    if (length p.places == range_size p.cidr) && are_ordinals p.queue then
+    if (length p.places == cidr_size p.cidr) && are_ordinals p.queue then
     option_and_then (only_if is_block)
     (option_map (λ held. content_of p.cidr p.node held p.queue p.sequence)
     (held_from p.attributes stamps 0 p.places))
     else None
 
+-- the block, where this is its text
+abbrev pub has_text : List ℕ → BlockValue → Option BlockValue
+has_text body b = if bytes_eq (block_body b) body then Some b else None
+
 -- a block that was found is the text's, if the text is its text; else the text says an unsound
 -- block of the CIDR
-abbrev pub checked : List ℕ → Range → Option Content → Result Content BodyFault
+abbrev pub checked : List ℕ → CidrValue → Option BlockValue → Result BlockValue BodyFault
 checked body cidr None = Err (Unsound cidr)
 checked body cidr (Some b) = if bytes_eq (block_body b) body then Ok b else Err (Unsound cidr)
 
-abbrev pub reading_from : List ℕ → Option (Parts × Data) → Result Content BodyFault
+abbrev pub reading_from : List ℕ → Option (Parts × Data) → Result BlockValue BodyFault
 reading_from body None = Err Form
 reading_from body (Some f) = checked body f.0.cidr (block_in f.0 f.1)
 
 -- the block whose text this is, or else the first fault
-unfoldable pub block_reading : List ℕ → Result Content BodyFault
+unfoldable pub block_reading : List ℕ → Result BlockValue BodyFault
 block_reading body = reading_from body (block_form body)

@@ -5,23 +5,17 @@ ghost use Rattle.std.specs.List.{list_all};
 ghost use Rattle.ipam_json.specs.Built.{fields_of, items_in, members_in};
 ghost use Rattle.ipam_json.specs.Path.{as_whole, is_index, has_leading_zero};
 ghost use Rattle.std.specs.Char.{is_ascii_digit};
-ghost use Rattle.ipam_addr.specs.Text.{range_of};
-ghost use Rattle.ipam_addr.specs.Width.{range_size};
+ghost use Rattle.ipam_addr.specs.Text.{cidr_reading};
+ghost use Rattle.ipam_addr.specs.Width.{cidr_size};
 ghost use Rattle.ipam_block_text.specs.Limits.{are_pairs, is_small_pair, keys_ascend, ascend_after};
-ghost use Rattle.ipam_block_text.specs.Reading.{each, only_if, text_at, items_at, members_at, after_host, node_named, affinity_in, place_in, pair_in, secondary_in, handle_in, attributes_in, range_in, small_range, node_in, places_in, all_attributes_in, sequence_in, queue_in, parts_in, is_number_name, is_stamp, are_stamps, stamps_in};
+ghost use Rattle.ipam_block_text.specs.Reading.{each, only_if, text_at, items_at, members_at, after_host, node_named, affinity_in, place_in, pair_in, secondary_in, handle_in, attributes_in, cidr_in, small_cidr, node_in, places_in, all_attributes_in, sequence_in, queue_in, parts_in, is_number_name, is_stamp, are_stamps, stamps_in};
 
 use crate::parts::Parts;
 use ipam_addr::{Cidr, is_handle_id, is_name, read_cidr};
-use ipam_block::Attributes;
+use ipam_block::{ADDRESSES_MAX, Attributes, KEY_BYTES_MAX, PAIRS_MAX, VALUE_BYTES_MAX};
 use ipam_text::{Seq, Text};
 use serde_json::{Map, Value};
 use std::alloc::{AllocError, Global};
-
-/// The most pairs of one allocation.
-const PAIRS_MAX: usize = 8;
-
-/// The most addresses of a block.
-const COUNT_MAX: u128 = 4096;
 
 /// What the value says of a block but for the stamps, if its members are those of a block.
 #[tactic(auto, unfolding(crate::specs::Reading::parts_in))]
@@ -37,7 +31,7 @@ pub(crate) fn parts_in(alloc: Global, value: &Value) -> Result<Option<Parts>, Al
     let Some(attributes) = all_attributes_in(alloc, value)? else {
         return Ok(None);
     };
-    let Some(cidr) = range_in(value) else {
+    let Some(cidr) = cidr_in(value) else {
         return Ok(None);
     };
     let Some(sequence) = sequence_in(value) else {
@@ -352,7 +346,7 @@ fn is_small_pair(pair: &(Text, Text)) -> bool
 {
     let key = pair.0.as_str();
     let value = pair.1.as_str();
-    1 <= key.len() && key.len() <= 63 && value.len() <= 253
+    1 <= key.len() && key.len() <= KEY_BYTES_MAX && value.len() <= VALUE_BYTES_MAX
 }
 
 fn keys_ascend(pairs: &[(Text, Text)]) -> bool
@@ -377,21 +371,23 @@ fn ascend_after(key: &Text, pairs: &[(Text, Text)]) -> bool
     true
 }
 
-#[tactic(auto, unfolding(crate::specs::Reading::range_in))]
-fn range_in(value: &Value) -> Option<Cidr>
-    ensures value { result ≡ range_in (view value.now) }
+#[tactic(auto, unfolding(crate::specs::Reading::cidr_in))]
+fn cidr_in(value: &Value) -> Option<Cidr>
+    ensures value { result ≡ cidr_in (view value.now) }
 {
     match text_at(value, "cidr") {
-        Some(text) => small_range(text),
+        Some(text) => small_cidr(text),
         None => None,
     }
 }
 
-fn small_range(text: &str) -> Option<Cidr>
-    ensures { result ≡ small_range (range_of text.now) }
+fn small_cidr(text: &str) -> Option<Cidr>
+    ensures { result ≡ small_cidr (cidr_reading text.now) }
 {
     match read_cidr(text.as_bytes()) {
-        Ok(cidr) if cidr.last().number - cidr.base().number < COUNT_MAX => Some(cidr),
+        Ok(cidr) if cidr.last().number - cidr.base().number < u128::from(ADDRESSES_MAX) => Some(
+            cidr,
+        ),
         _ => None,
     }
 }

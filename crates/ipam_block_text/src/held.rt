@@ -1,10 +1,11 @@
 ghost use Rattle.std.specs.Prelude.{◌≡◌, ◌+◌, ◌<◌, ◌≤◌, length, Some, None, IfOk, map, option_map, option_and_then, if◌then◌else◌};
 ghost use Rattle.serde_json.specs.View.{view};
-ghost use Rattle.ipam_addr.specs.Width.{range_size};
+ghost use Rattle.ipam_addr.specs.Width.{cidr_size};
 ghost use Rattle.ipam_block_text.specs.Reading.{block_in, held_from, allocation_at, stamp_of, are_ordinals};
 
 use crate::parts::Parts;
-use ipam_block::{Allocation, Attributes, Block, PartsFault};
+use ipam_block::{ADDRESSES_MAX, Allocation, Attributes, Block, PartsFault};
+use ipam_text::Text;
 use serde_json::Value;
 use std::alloc::{AllocError, Global};
 
@@ -12,11 +13,11 @@ use std::alloc::{AllocError, Global};
 #[tactic(auto, unfolding(crate::specs::Reading::block_in))]
 pub(crate) fn block_in(
     alloc: Global,
-    parts: Parts,
+    parts: &Parts,
     stamps: &Value,
 ) -> Result<Option<Block>, AllocError>
-    requires { range_size parts.cidr ≤ 4096 }
-    ensures { IfOk result (λ o. o ≡ block_in parts (view stamps.now)) }
+    requires { cidr_size parts.now.cidr ≤ ADDRESSES_MAX }
+    ensures { IfOk result (λ o. o ≡ block_in parts.now (view stamps.now)) }
 {
     let count = parts.cidr.last().number - parts.cidr.base().number + 1;
     if parts.places.len() as u128 != count {
@@ -29,10 +30,21 @@ pub(crate) fn block_in(
     let Some(held) = held(alloc, parts.places.as_slice(), attributes, stamps)? else {
         return Ok(None);
     };
-    match Block::of_parts(alloc, parts.cidr, parts.node, held, queue, parts.sequence) {
+    let node = copied_node(&parts.node)?;
+    match Block::of_parts(alloc, parts.cidr, node, held, queue, parts.sequence) {
         Ok(block) => Ok(Some(block)),
         Err(PartsFault::Unsound) => Ok(None),
         Err(PartsFault::Memory) => Err(AllocError),
+    }
+}
+
+/// The node's name once more.
+fn copied_node(node: &Option<Text>) -> Result<Option<Text>, AllocError>
+    ensures { IfOk result (λ copy. copy ≡ node.now) }
+{
+    match node {
+        Some(name) => Ok(Some(name.clone()?)),
+        None => Ok(None),
     }
 }
 
@@ -58,7 +70,7 @@ fn held(
     attributes: &[Attributes],
     stamps: &Value,
 ) -> Result<Option<Vec<Allocation>>, AllocError>
-    requires { length places.now ≤ 4096 }
+    requires { length places.now ≤ ADDRESSES_MAX }
     ensures { IfOk result (λ o. option_map (λ v. v.items) o
         ≡ held_from attributes.now (view stamps.now) 0 places.now) }
 {

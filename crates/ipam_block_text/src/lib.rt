@@ -12,6 +12,3 @@ mod reading;
 pub use fault::BodyFault;
 pub use print::block_text;
 pub use reading::block_of;
-
-#[cfg(test)]
-mod tests;

@@ -1,15 +1,15 @@
-ghost use Rattle.std.specs.Prelude.{◌≡◌, ℕ, ◌<◌, ◌≤◌, IfOk, map, position};
-ghost use Rattle.std.specs.List.{list_any};
-ghost use Rattle.ipam_addr.specs.Width.{range_size};
+ghost use Rattle.std.specs.Prelude.{◌≡◌, ℕ, ◌<◌, IfOk, OnOk, Some, AllPairs, map, position};
 ghost use Rattle.ipam_block.specs.Operations.{node_bytes};
 ghost use Rattle.ipam_block.specs.Sound.{ordinals_below};
-ghost use Rattle.ipam_block_text.specs.Attributes.{distinct_attributes, are_same};
-ghost use Rattle.ipam_block_text.specs.Parts.{block_parts, place_of};
+ghost use Rattle.ipam_block_text.specs.Attributes.{distinct_attributes, with_attributes, are_same};
+ghost use Rattle.ipam_block_text.specs.Numbering.{IsNumbering, placed, numbered_in, index_at};
+ghost use Rattle.ipam_block_text.specs.Parts.{block_parts};
 
 use ipam_addr::Cidr;
 use ipam_block::{Allocation, Attributes, Block};
 use ipam_text::{Seq, Text};
 use std::alloc::{AllocError, Global};
+use std::collections::BTreeMap;
 
 /// What the text of a block says, but for the stamps: for each ordinal that is held the index of
 /// its attributes, the attributes, and the rest as the block has it.
@@ -27,15 +27,16 @@ pub(crate) struct Parts {
 pub(crate) fn parts_of(alloc: Global, block: &Block) -> Result<Parts, AllocError>
     ensures { IfOk result (λ p. p ≡ block_parts block.now) }
 {
+    let cidr = block.cidr();
     let node = owned(alloc, block.node())?;
-    let attributes = distinct(alloc, block.allocations())?;
-    let places = places_of(alloc, block, attributes.as_slice())?;
+    let (attributes, held) = numbered(alloc, block.allocations())?;
+    let places = places_of(alloc, block.count(), held.as_slice())?;
     let queue = queue_of(alloc, block)?;
     Ok(Parts {
         node,
         places: Seq::of(places),
         attributes: Seq::of(attributes),
-        cidr: block.cidr(),
+        cidr,
         sequence: block.sequence(),
         queue: Seq::of(queue),
     })
@@ -50,62 +51,69 @@ fn owned(alloc: Global, node: Option<&str>) -> Result<Option<Text>, AllocError>
     }
 }
 
-/// The attributes in use, each once, by the least ordinal that has them.
-fn distinct(alloc: Global, allocations: &[Allocation]) -> Result<Vec<Attributes>, AllocError>
-    ensures { IfOk result (λ v. v.items ≡ distinct_attributes allocations.now) }
+/// The attributes in use, each once, by the least ordinal that has them, and for each allocation its
+/// ordinal and the index of its attributes among these.
+fn numbered(
+    alloc: Global,
+    allocations: &[Allocation],
+) -> Result<(Vec<Attributes>, Vec<(u16, usize)>), AllocError>
+    ensures attributes { IfOk result (λ p. p.0.items ≡ distinct_attributes allocations.now) }
+    ensures held { IfOk result (λ p. map placed p.1.items
+        ≡ map (numbered_in (distinct_attributes allocations.now)) allocations.now) }
 {
-    let mut found = Vec::new(alloc);
+    let mut numbers = BTreeMap::new(alloc);
+    let mut attributes = Vec::new(alloc);
+    let mut held = Vec::new(alloc);
     for allocation in allocations {
-        if !is_among(&allocation.attributes, found.as_slice()) {
-            found.push(allocation.attributes.clone()?)?;
-        }
+        let index = number(&mut numbers, &mut attributes, &allocation.attributes)?;
+        held.push((allocation.ordinal, index))?;
     }
-    Ok(found)
+    Ok((attributes, held))
 }
 
-fn is_among(attributes: &Attributes, list: &[Attributes]) -> bool
-    ensures { result ≡ list_any (are_same attributes.now) list.now }
+/// The index of the attributes among these, where they come last if they are not there yet.
+fn number<'a>(
+    numbers: &mut BTreeMap<(&'a str, &'a [(Text, Text)]), usize>,
+    attributes: &mut Vec<Attributes>,
+    own: &'a Attributes,
+) -> Result<usize, AllocError>
+    requires { IsNumbering numbers.old attributes.old.items }
+    ensures numbering { OnOk result (IsNumbering numbers.new attributes.new.items) }
+    ensures attributes { OnOk result (attributes.new.items ≡ with_attributes attributes.old.items own.now) }
+    ensures index { IfOk result (λ i. position (are_same own.now) attributes.new.items ≡ Some i) }
 {
-    list.iter().any(|other| are_same(attributes, other))
+    let key = (own.handle.as_str(), own.secondary.as_slice());
+    if let Some(index) = numbers.get(&key) {
+        return Ok(*index);
+    }
+    let index = attributes.len();
+    attributes.push(own.clone()?)?;
+    match numbers.insert(key, index) {
+        Ok(_) => Ok(index),
+        Err(_) => Err(AllocError),
+    }
 }
 
-fn are_same(attributes: &Attributes, other: &Attributes) -> bool
-    ensures { result ≡ are_same attributes.now other.now }
-{
-    attributes.handle.as_str() == other.handle.as_str()
-        && attributes.secondary.as_slice() == other.secondary.as_slice()
-}
-
-/// The place of each ordinal, where these are the attributes in use.
+/// The index of each ordinal that is held.
 fn places_of(
     alloc: Global,
-    block: &Block,
-    attributes: &[Attributes],
+    count: u16,
+    held: &[(u16, usize)],
 ) -> Result<Vec<Option<usize>>, AllocError>
-    ensures { IfOk result (λ v. v.items
-        ≡ map (place_of attributes.now block.now) (ordinals_below (range_size block.now.cidr))) }
+    requires { AllPairs (λ x y. x.0 < y.0) held.now }
+    ensures { IfOk result (λ v. v.items ≡ map (index_at held.now) (ordinals_below count)) }
 {
     let mut places = Vec::new(alloc);
-    for ordinal in 0..block.count() {
-        places.push(place_of(block, attributes, ordinal))?;
+    let mut next = 0usize;
+    for ordinal in 0..count {
+        if next < held.len() && held[next].0 == ordinal {
+            places.push(Some(held[next].1))?;
+            next += 1;
+        } else {
+            places.push(None)?;
+        }
     }
     Ok(places)
-}
-
-#[tactic(auto, using(crate::proofs::Places::place_is, crate::proofs::Places::no_place))]
-fn place_of(block: &Block, attributes: &[Attributes], ordinal: u16) -> Option<usize>
-    ensures { result ≡ place_of attributes.now block.now ordinal }
-{
-    match block.holder(ordinal) {
-        Some((own, _)) => index_of(own, attributes),
-        None => None,
-    }
-}
-
-fn index_of(attributes: &Attributes, list: &[Attributes]) -> Option<usize>
-    ensures { result ≡ position (are_same attributes.now) list.now }
-{
-    list.iter().position(|other| are_same(attributes, other))
 }
 
 fn queue_of(alloc: Global, block: &Block) -> Result<Vec<u64>, AllocError>

@@ -1,7 +1,7 @@
 ghost use Rattle.std.specs.Prelude.{◌≡◌, IfOk, OnOk, OnErr, string_bytes, map, Option};
 ghost use Rattle.serde_json.specs.Data.{Data, array};
 ghost use Rattle.serde_json.specs.View.{view, items_of};
-ghost use Rattle.ipam_block_text.specs.Body.{block_data, block_body, parts_data, stamps_data, affinity_data, place_data, attributes_data, secondary_data, range_data, whole_data};
+ghost use Rattle.ipam_block_text.specs.Body.{block_data, block_body, parts_data, stamps_data, affinity_data, place_data, attributes_data, secondary_data, cidr_data, whole_data};
 
 use crate::parts::{Parts, parts_of};
 use ipam_addr::{Cidr, push_cidr};
@@ -38,7 +38,7 @@ pub(crate) fn parts_value(alloc: Global, parts: &Parts, stamps: Value) -> Result
     put(&mut members, alloc, "allocations", places)?;
     let attributes = list_value(alloc, parts.attributes.as_slice())?;
     put(&mut members, alloc, "attributes", attributes)?;
-    let cidr = range_value(alloc, parts.cidr)?;
+    let cidr = cidr_json(alloc, parts.cidr)?;
     put(&mut members, alloc, "cidr", cidr)?;
     let sequence = Value::from(parts.sequence);
     put(&mut members, alloc, "sequenceNumber", sequence)?;
@@ -117,8 +117,8 @@ fn secondary_value(alloc: Global, pairs: &[(Text, Text)]) -> Result<Value, Alloc
     Ok(Value::Object(members))
 }
 
-fn range_value(alloc: Global, cidr: Cidr) -> Result<Value, AllocError>
-    ensures { IfOk result (λ v. view v ≡ range_data cidr) }
+fn cidr_json(alloc: Global, cidr: Cidr) -> Result<Value, AllocError>
+    ensures { IfOk result (λ v. view v ≡ cidr_data cidr) }
 {
     let mut text = String::new(alloc);
     push_cidr(alloc, &mut text, cidr)?;

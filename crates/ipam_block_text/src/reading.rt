@@ -1,21 +1,21 @@
-ghost use Rattle.std.specs.Prelude.{◌≡◌, ◌≢◌, ◌≤◌, Ok, Err, Some, IfOk, IfErr, IfSome, option_map, bytes_eq, false};
+ghost use Rattle.std.specs.Prelude.{◌≡◌, ◌≢◌, ◌≤◌, Ok, Err, Some, IfOk, IfErr, option_map, option_and_then, bytes_eq, false};
 ghost use Rattle.serde_json.specs.Data.{Data};
-ghost use Rattle.ipam_addr.specs.Shape.{Range};
+ghost use Rattle.ipam_addr.specs.Shape.{CidrValue};
 ghost use Rattle.serde_json.specs.Read.{read};
 ghost use Rattle.serde_json.specs.View.{view};
 ghost use Rattle.serde_json.specs.Written.{compact_text, has_float};
-ghost use Rattle.ipam_addr.specs.Width.{range_size};
+ghost use Rattle.ipam_addr.specs.Width.{cidr_size};
 ghost use Rattle.ipam_block_text.specs.Body.{parts_data, block_body};
-ghost use Rattle.ipam_block_text.specs.Limits.{IsSoundBlock};
+ghost use Rattle.ipam_block.specs.Sound.{IsBlockRecord};
 ghost use Rattle.ipam_block_text.specs.Form.{AreParts, AreStamps};
-ghost use Rattle.ipam_block_text.specs.Reading.{block_form, block_reading, cidr_said};
+ghost use Rattle.ipam_block_text.specs.Reading.{block_in, has_text, block_reading, cidr_said};
 
 use crate::fault::BodyFault;
 use crate::form::{parts_in, stamps_in};
 use crate::held::block_in;
 use crate::parts::Parts;
 use crate::print::{block_text, parts_value};
-use ipam_block::Block;
+use ipam_block::{ADDRESSES_MAX, Block};
 use serde_json::Value;
 use std::alloc::{AllocError, Global};
 
@@ -23,67 +23,66 @@ use std::alloc::{AllocError, Global};
 ///
 /// Fails with `Form` where it is not canonical JSON with the members of a block and within their
 /// limits, and else with `Unsound` and the CIDR that it says where it is not the text of a block.
-#[tactic(auto, using(crate::proofs::Sound::text_read, crate::proofs::Sound::block_read), unfolding(crate::specs::Reading::block_reading))]
 pub fn block_of(alloc: Global, body: &str) -> Result<Block, BodyFault>
     ensures text { IfOk result (λ b. body.now ≡ block_body b) }
-    ensures sound { IfOk result IsSoundBlock }
+    ensures sound { IfOk result IsBlockRecord }
 
     // Which fault comes.
     ensures read { IfOk result (λ b. block_reading body.now ≡ Ok b) }
     ensures refused { IfErr result (λ e. e ≢ BodyFault.Memory → block_reading body.now ≡ Err e) }
     ensures form { result ≡ Err BodyFault.Form → (p : Parts) (stamps : Data) → AreParts p
         → AreStamps stamps → body.now ≢ compact_text (parts_data p stamps) }
-    ensures unsound { (cidr : Range) → result ≡ Err (BodyFault.Unsound cidr)
+    ensures unsound { (cidr : CidrValue) → result ≡ Err (BodyFault.Unsound cidr)
         → cidr_said body.now ≡ Some cidr }
 {
-    let Ok(form) = form_in(alloc, body) else {
-        return Err(BodyFault::Memory);
-    };
-    let Some((parts, stamps)) = form else {
-        return Err(BodyFault::Form);
-    };
-    let cidr = parts.cidr;
-    let Ok(block) = block_in(alloc, parts, &stamps) else {
-        return Err(BodyFault::Memory);
-    };
-    let Some(block) = block else {
-        return Err(BodyFault::Unsound(cidr));
-    };
-    match is_text_of(alloc, &block, body) {
-        Ok(true) => Ok(block),
-        Ok(false) => Err(BodyFault::Unsound(cidr)),
+    match outcome(alloc, body) {
+        Ok(outcome) => outcome,
         Err(_) => Err(BodyFault::Memory),
     }
 }
 
-/// Whether the body is the block's text.
-fn is_text_of(alloc: Global, block: &Block, body: &str) -> Result<bool, AllocError>
-    ensures { IfOk result (λ same. same ≡ bytes_eq (block_body block.now) body.now) }
-{
-    let text = block_text(alloc, block)?;
-    Ok(text.as_str() == body)
-}
-
-/// The parts and the stamps that the body says, if it is the text of some.
-#[tactic(auto, unfolding(crate::specs::Reading::block_form))]
-fn form_in(alloc: Global, body: &str) -> Result<Option<(Parts, Value)>, AllocError>
-    ensures form { IfOk result (λ o. option_map (λ f. (f.0, view f.1)) o ≡ block_form body.now) }
-    ensures small { IfOk result (λ o. IfSome o (λ f. range_size f.0.cidr ≤ 4096)) }
+/// The block, or why there is none. A text that is a block's is printed once.
+fn outcome(alloc: Global, body: &str) -> Result<Result<Block, BodyFault>, AllocError>
+    ensures { IfOk result (λ r. r ≡ block_reading body.now) }
 {
     let Some(value) = value_of(alloc, body)? else {
-        return Ok(None);
+        return Ok(Err(BodyFault::Form));
     };
     let Some(parts) = parts_in(alloc, &value)? else {
-        return Ok(None);
+        return Ok(Err(BodyFault::Form));
     };
     let Some(stamps) = stamps_in(&value) else {
+        return Ok(Err(BodyFault::Form));
+    };
+    if let Some(block) = block_with_text(alloc, &parts, stamps, body)? {
+        return Ok(Ok(block));
+    }
+    if is_text_with(alloc, &parts, stamps, body)? {
+        Ok(Err(BodyFault::Unsound(parts.cidr)))
+    } else {
+        Ok(Err(BodyFault::Form))
+    }
+}
+
+/// The block with these parts and stamps, if they make one and this is its text.
+fn block_with_text(
+    alloc: Global,
+    parts: &Parts,
+    stamps: &Value,
+    body: &str,
+) -> Result<Option<Block>, AllocError>
+    requires { cidr_size parts.now.cidr ≤ ADDRESSES_MAX }
+    ensures { IfOk result (λ o. o ≡ option_and_then (has_text body.now) (block_in parts.now (view stamps.now))) }
+{
+    let Some(block) = block_in(alloc, parts, stamps)? else {
         return Ok(None);
     };
-    if !is_text_with(alloc, &parts, stamps, body)? {
-        return Ok(None);
+    let text = block_text(alloc, &block)?;
+    if text.as_str() == body {
+        Ok(Some(block))
+    } else {
+        Ok(None)
     }
-    let stamps = stamps.clone()?;
-    Ok(Some((parts, stamps)))
 }
 
 /// Whether the body is the text with these parts and stamps.

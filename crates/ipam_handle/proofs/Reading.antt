@@ -12,15 +12,15 @@ use Rattle.std.proofs.lemmas.Map.{lookup-remove_entry}
 use Rattle.std.proofs.lemmas.Map.Keys.{IsDistinct-from_sorted}
 use Rattle.std.proofs.lemmas.Map.Entries.{All-lookup}
 use Rattle.std.proofs.lemmas.Map.Views.{tells_apart, Contains-keys_from_lookup, IsSome-lookup_from_Contains}
-use Rattle.ipam_addr.specs.Shape.{Range}
-use Rattle.ipam_handle.specs.Order.{range_cmp}
+use Rattle.ipam_addr.specs.Shape.{CidrValue}
+use Rattle.ipam_handle.specs.Order.{cidr_cmp}
 use Rattle.ipam_handle.specs.Sound.{AreCounts, IsCount}
 use Rattle.ipam_handle.specs.Operations.{count_in, counts_with}
-use Rattle.ipam_handle.proofs.Order.{range_cmp_total, range_cmp_exact}
+use Rattle.ipam_handle.proofs.Order.{cidr_cmp_total, cidr_cmp_exact}
 use Rattle.ipam_handle.proofs.Entries.{All-remove_entry, sorted-remove_entry, All-insert_entry, sorted-insert_entry, lookup-insert_entry}
 
-same_block : IsEquivalence (eq_by_cmp range_cmp)
-same_block = eq_by_cmp_equiv range_cmp_total
+same_block : IsEquivalence (eq_by_cmp cidr_cmp)
+same_block = eq_by_cmp_equiv cidr_cmp_total
 
 chosen : (b : Bool) (v : ℕ) (o : Option ℕ) → unwrap_or (cond b (Some v) o) 0 ≡ cond b v (unwrap_or o 0)
 chosen true v o = refl
@@ -30,51 +30,51 @@ none_chosen : (b : Bool) (o : Option ℕ) → unwrap_or (cond b None o) 0 ≡ co
 none_chosen true o = refl
 none_chosen false o = refl
 
-gone : (es : List (Range × ℕ)) → AreCounts es → (block q : Range) → lookup (is_at (range_cmp q)) (counts_with es block 0) ≡ cond (is_eq (range_cmp block q)) None (lookup (is_at (range_cmp q)) es)
+gone : (es : List (CidrValue × ℕ)) → AreCounts es → (block q : CidrValue) → lookup (is_at (cidr_cmp q)) (counts_with es block 0) ≡ cond (is_eq (cidr_cmp block q)) None (lookup (is_at (cidr_cmp q)) es)
 gone es sound block q =
-    lookup-remove_entry same_block (is_at (range_cmp block)) one q es (IsDistinct-from_sorted range_cmp _ sound.ascending)
+    lookup-remove_entry same_block (is_at (cidr_cmp block)) one q es (IsDistinct-from_sorted cidr_cmp _ sound.ascending)
   where
-    one : (x y : Range) → is_at (range_cmp block) x ≡ true → is_at (range_cmp block) y ≡ eq_by_cmp range_cmp x y
+    one : (x y : CidrValue) → is_at (cidr_cmp block) x ≡ true → is_at (cidr_cmp block) y ≡ eq_by_cmp cidr_cmp x y
     one x y h = same_block.congr block x y h
 
 -- a count that is not 0 is put at its place
-pub counts_with-some : (es : List (Range × ℕ)) (block : Range) (n : ℕ) → 0 < n → counts_with es block n ≡ insert_entry range_cmp es block n
+pub counts_with-some : (es : List (CidrValue × ℕ)) (block : CidrValue) (n : ℕ) → 0 < n → counts_with es block n ≡ insert_entry cidr_cmp es block n
 counts_with-some es block zero h = absurd (omega arith)
 counts_with-some es block (suc n) h =
-    ap (λ b. cond b (remove_entry (is_at (range_cmp block)) es) (insert_entry range_cmp es block (suc n))) (eqb-suc-zero n)
+    ap (λ b. cond b (remove_entry (is_at (cidr_cmp block)) es) (insert_entry cidr_cmp es block (suc n))) (eqb-suc-zero n)
 
 -- the count of any block after one was written
-count_in-counts_with : (es : List (Range × ℕ)) → AreCounts es → (block : Range) (n : ℕ) (q : Range) → count_in (counts_with es block n) q ≡ cond (is_eq (range_cmp q block)) n (count_in es q)
+count_in-counts_with : (es : List (CidrValue × ℕ)) → AreCounts es → (block : CidrValue) (n : ℕ) (q : CidrValue) → count_in (counts_with es block n) q ≡ cond (is_eq (cidr_cmp q block)) n (count_in es q)
 count_in-counts_with es sound block zero q =
     ap (λ o. unwrap_or o 0) (gone es sound block q)
-    ∙ none_chosen (is_eq (range_cmp block q)) _
+    ∙ none_chosen (is_eq (cidr_cmp block q)) _
     ∙ ap (λ b. cond b 0 (count_in es q)) (same_block.symm block q)
 count_in-counts_with es sound block (suc n) q =
     ap (λ l. count_in l q) (counts_with-some es block (suc n) (omega arith))
-    ∙ ap (λ o. unwrap_or o 0) (lookup-insert_entry range_cmp_total block (suc n) q es)
-    ∙ chosen (is_eq (range_cmp q block)) (suc n) _
+    ∙ ap (λ o. unwrap_or o 0) (lookup-insert_entry cidr_cmp_total block (suc n) q es)
+    ∙ chosen (is_eq (cidr_cmp q block)) (suc n) _
 
-pub count_in-here : (es : List (Range × ℕ)) → AreCounts es → (block : Range) (n : ℕ) → count_in (counts_with es block n) block ≡ n
+pub count_in-here : (es : List (CidrValue × ℕ)) → AreCounts es → (block : CidrValue) (n : ℕ) → count_in (counts_with es block n) block ≡ n
 count_in-here es sound block n =
-    count_in-counts_with es sound block n block ∙ ap (λ r. cond (is_eq r) n (count_in es block)) (tied_itself range_cmp_total block)
+    count_in-counts_with es sound block n block ∙ ap (λ r. cond (is_eq r) n (count_in es block)) (tied_itself cidr_cmp_total block)
 
-pub count_in-elsewhere : (es : List (Range × ℕ)) → AreCounts es → (block : Range) (n : ℕ) (other : Range) → other ≢ block → count_in (counts_with es block n) other ≡ count_in es other
+pub count_in-elsewhere : (es : List (CidrValue × ℕ)) → AreCounts es → (block : CidrValue) (n : ℕ) (other : CidrValue) → other ≢ block → count_in (counts_with es block n) other ≡ count_in es other
 count_in-elsewhere es sound block n other differs =
-    count_in-counts_with es sound block n other ∙ ap (λ b. cond b n (count_in es other)) (differ (is_eq (range_cmp other block)) refl)
+    count_in-counts_with es sound block n other ∙ ap (λ b. cond b n (count_in es other)) (differ (is_eq (cidr_cmp other block)) refl)
   where
-    differ : (b : Bool) → is_eq (range_cmp other block) ≡ b → b ≡ false
-    differ true h = absurd (differs (range_cmp_exact other block ((Equal-is (range_cmp other block)).0 h)))
+    differ : (b : Bool) → is_eq (cidr_cmp other block) ≡ b → b ≡ false
+    differ true h = absurd (differs (cidr_cmp_exact other block ((Equal-is (cidr_cmp other block)).0 h)))
     differ false h = refl
 
-pub AreCounts-counts_with : (es : List (Range × ℕ)) → AreCounts es → (block : Range) (n : ℕ) → (0 < n → IsCount (block, n)) → AreCounts (counts_with es block n)
+pub AreCounts-counts_with : (es : List (CidrValue × ℕ)) → AreCounts es → (block : CidrValue) (n : ℕ) → (0 < n → IsCount (block, n)) → AreCounts (counts_with es block n)
 AreCounts-counts_with es sound block zero one = record {
-  ascending = sorted-remove_entry range_cmp (is_at (range_cmp block)) es sound.ascending;
-  each = All-remove_entry IsCount (is_at (range_cmp block)) es sound.each;
+  ascending = sorted-remove_entry cidr_cmp (is_at (cidr_cmp block)) es sound.ascending;
+  each = All-remove_entry IsCount (is_at (cidr_cmp block)) es sound.each;
 }
 AreCounts-counts_with es sound block (suc n) one =
-    let put : AreCounts (insert_entry range_cmp es block (suc n)) = record {
-      ascending = sorted-insert_entry range_cmp_total block (suc n) es sound.ascending;
-      each = All-insert_entry range_cmp_total block (suc n) range_cmp_exact IsCount es (one (omega arith)) sound.each;
+    let put : AreCounts (insert_entry cidr_cmp es block (suc n)) = record {
+      ascending = sorted-insert_entry cidr_cmp_total block (suc n) es sound.ascending;
+      each = All-insert_entry cidr_cmp_total block (suc n) cidr_cmp_exact IsCount es (one (omega arith)) sound.each;
     } in
     subst AreCounts (sym (counts_with-some es block (suc n) (omega arith))) put
 
@@ -87,19 +87,19 @@ some_count (Some n) found h = h
 some_count None found h = absurd (cc found)
 
 -- a block has a count exactly if it is listed
-pub listed : (es : List (Range × ℕ)) → AreCounts es → (block : Range) → (0 < count_in es block) ↔ Contains (keys_of es) block
+pub listed : (es : List (CidrValue × ℕ)) → AreCounts es → (block : CidrValue) → (0 < count_in es block) ↔ Contains (keys_of es) block
 listed es sound block = (there, back)
   where
     there : 0 < count_in es block → Contains (keys_of es) block
-    there h = Contains-keys_from_lookup (tells_apart range_cmp_exact) block es (found_somewhere _ h)
+    there h = Contains-keys_from_lookup (tells_apart cidr_cmp_exact) block es (found_somewhere _ h)
 
     back : Contains (keys_of es) block → 0 < count_in es block
     back h =
         some_count _ (IsSome-lookup_from_Contains same_block block es h)
-        (All-lookup (λ n. 0 < n) (is_at (range_cmp block)) es (λ k d l. (sound.each k d l).some))
+        (All-lookup (λ n. 0 < n) (is_at (cidr_cmp block)) es (λ k d l. (sound.each k d l).some))
 
 -- a block whose count is 0 is not listed
-pub unlisted : (es : List (Range × ℕ)) → AreCounts es → (block : Range) → count_in es block ≡ 0 → ¬ (Contains (keys_of es) block)
+pub unlisted : (es : List (CidrValue × ℕ)) → AreCounts es → (block : CidrValue) → count_in es block ≡ 0 → ¬ (Contains (keys_of es) block)
 unlisted es sound block none h = let some = (listed es sound block).1 h in omega arith
 
 pub AreCounts-nil : AreCounts []

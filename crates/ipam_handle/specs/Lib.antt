@@ -1,5 +1,5 @@
 -- A handle as contracts see it, and its operations on lists.
-pub mod Content
+pub mod Shape
 pub mod Order
 pub mod Sound
 pub mod Operations

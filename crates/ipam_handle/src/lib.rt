@@ -3,10 +3,7 @@
 //! After the resource IPAMHandle of Calico's datastore.
 #![tactic(auto)]
 
-mod counts;
+mod handles;
 
-pub use counts::{Handle, RaiseFault};
+pub use handles::{Handle, RaiseFault};
 pub use std::alloc::AllocError as Memory;
-
-#[cfg(test)]
-mod tests;

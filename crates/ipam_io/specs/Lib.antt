@@ -3,3 +3,4 @@ pub mod Streams
 pub mod Passing
 pub mod Fakes
 pub mod Standard
+pub mod Readings

@@ -1,11 +1,14 @@
-//! The edge of a program's input and output: traits whose clauses say what a read, a write and a
-//! pass do, fakes of them in memory for tests, and adapters over std's readers and writers.
+//! The edge of a program's input and output: traits whose clauses say what a read, a write, a pass
+//! and a look at the clock do, fakes of them in memory for tests, and adapters over std's readers,
+//! writers and sockets and the system's clock.
 //!
 //! Each count is a `u64` that begins at 0 and stays at `u64::MAX` once it is there.
 #![tactic(auto)]
 
+mod clock;
 mod gate;
 mod link;
+mod list_clock;
 mod list_gate;
 mod memory_link;
 mod memory_sink;
@@ -15,9 +18,13 @@ mod parts;
 mod sink;
 mod source;
 mod standard;
+mod system_clock;
+mod tcp_link;
 
+pub use clock::Clock;
 pub use gate::{Gate, Passed, Point};
 pub use link::Link;
+pub use list_clock::ListClock;
 pub use list_gate::ListGate;
 pub use memory_link::MemoryLink;
 pub use memory_sink::MemorySink;
@@ -27,3 +34,5 @@ pub use sink::Sink;
 pub use source::{Failed, Source};
 pub use standard::{StdSink, StdSource};
 pub use std::alloc::AllocError as Memory;
+pub use system_clock::SystemClock;
+pub use tcp_link::{StreamLink, TcpLink};

@@ -14,6 +14,3 @@ pub trait Link: Source + Sink {
     ghost write_leaves_source: { (link : Self) → Self.write_rest link
         ≡ (Self.left link, Self.read_faults link) };
 }
-
-#[cfg(test)]
-mod tests;

@@ -15,9 +15,9 @@ pub struct ListGate {
 }
 
 impl Model for ListGate {
-    ghost use Rattle.ipam_io.specs.Fakes.{GateState};
+    ghost use Rattle.ipam_io.specs.Fakes.{ListGateValue};
 
-    ghost Value = { GateState };
+    ghost Value = { ListGateValue };
 
     ghost view = { λ gate. record {
       stops = gate.stops;
@@ -71,36 +71,5 @@ impl Gate for ListGate {
             return Passed::Stop;
         }
         Passed::Go
-    }
-}
-
-#[cfg(test)]
-mod tests {
-    use super::*;
-    use crate::open_gate::OpenGate;
-    use std::test::Fail;
-
-    fn pass_through<G: Gate>(gate: &mut G, point: Point) -> Passed {
-        gate.pass(point)
-    }
-
-    #[test]
-    fn stops_where_told(rt: HostRuntime) -> Result<(), Fail> {
-        let stopping = vec![in rt.alloc(); 2, 3]?;
-        let mut listed = ListGate::new(stopping);
-        let mut open = OpenGate::new();
-        let cases = [
-            (Point::Turn, Passed::Go, 1),
-            (Point::Line, Passed::Stop, 1),
-            (Point::Turn, Passed::Stop, 2),
-            (Point::Line, Passed::Go, 2),
-        ];
-        for (point, answer, turns) in cases {
-            assert_eq!(rt; pass_through(&mut listed, point), answer);
-            assert_eq!(rt; listed.turns, turns);
-            assert_eq!(rt; pass_through(&mut open, point), Passed::Go);
-        }
-        assert_eq!(rt; listed.stops, 2);
-        Ok(())
     }
 }

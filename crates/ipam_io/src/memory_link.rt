@@ -21,9 +21,9 @@ pub struct MemoryLink {
 }
 
 impl Model for MemoryLink {
-    ghost use Rattle.ipam_io.specs.Fakes.{LinkState};
+    ghost use Rattle.ipam_io.specs.Fakes.{MemoryLinkValue};
 
-    ghost Value = { LinkState };
+    ghost Value = { MemoryLinkValue };
 
     ghost view = { λ link. record {
       left = link.unread;

@@ -18,9 +18,9 @@ pub struct MemorySink {
 }
 
 impl Model for MemorySink {
-    ghost use Rattle.ipam_io.specs.Fakes.{SinkState};
+    ghost use Rattle.ipam_io.specs.Fakes.{MemorySinkValue};
 
-    ghost Value = { SinkState };
+    ghost Value = { MemorySinkValue };
 
     ghost view = { λ sink. record {
       written = sink.page.written.items;
@@ -91,36 +91,6 @@ impl Sink for MemorySink {
         if self.writes.next_is_listed() || self.page.append(piece).is_err() {
             self.faults = self.faults.saturating_add(1);
             return Err(Failed);
-        }
-        Ok(())
-    }
-}
-
-#[cfg(test)]
-mod tests {
-    use super::*;
-    use std::test::Fail;
-
-    fn write_piece<S: Sink>(sink: &mut S, piece: &[u8]) -> Result<(), Failed> {
-        sink.write(piece)
-    }
-
-    #[test]
-    fn keeps_what_fits(rt: HostRuntime) -> Result<(), Fail> {
-        let failing = vec![in rt.alloc(); 2, 5]?;
-        let mut sink = MemorySink::new(rt.alloc(), 5, failing)?;
-        let cases: [(&[u8], Result<(), Failed>, &[u8]); 7] = [
-            (b"ab", Ok(()), b"ab"),
-            (b"cd", Err(Failed), b"ab"),
-            (b"", Ok(()), b"ab"),
-            (b"cdef", Err(Failed), b"abcde"),
-            (b"", Err(Failed), b"abcde"),
-            (b"", Ok(()), b"abcde"),
-            (b"f", Err(Failed), b"abcde"),
-        ];
-        for (piece, answer, written) in cases {
-            assert_eq!(rt; write_piece(&mut sink, piece), answer);
-            assert_eq!(rt; sink.written(), written);
         }
         Ok(())
     }

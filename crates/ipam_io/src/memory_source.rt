@@ -15,9 +15,9 @@ pub struct MemorySource {
 }
 
 impl Model for MemorySource {
-    ghost use Rattle.ipam_io.specs.Fakes.{SourceState};
+    ghost use Rattle.ipam_io.specs.Fakes.{MemorySourceValue};
 
-    ghost Value = { SourceState };
+    ghost Value = { MemorySourceValue };
 
     ghost view = { λ source. record {
       left = source.unread;
@@ -74,39 +74,5 @@ impl Source for MemorySource {
             return Err(Failed);
         }
         Ok(self.unread.take_into(into))
-    }
-}
-
-#[cfg(test)]
-mod tests {
-    use super::*;
-    use std::test::Fail;
-
-    fn read_into<S: Source>(source: &mut S, into: &mut [u8]) -> Result<usize, Failed>
-        requires { 1 ≤ length into.old }
-    {
-        source.read(into)
-    }
-
-    #[test]
-    fn gives_its_bytes_in_order(rt: HostRuntime) -> Result<(), Fail> {
-        let bytes = Vec::from_slice(rt.alloc(), b"abcde")?;
-        let failing = vec![in rt.alloc(); 2, 6]?;
-        let mut source = MemorySource::new(bytes, failing);
-        let mut into = [0u8; 2];
-        let cases = [
-            (Ok(2), *b"ab"),
-            (Err(Failed), *b"ab"),
-            (Ok(2), *b"cd"),
-            (Ok(1), *b"ed"),
-            (Ok(0), *b"ed"),
-            (Err(Failed), *b"ed"),
-            (Ok(0), *b"ed"),
-        ];
-        for (outcome, filled) in cases {
-            assert_eq!(rt; read_into(&mut source, &mut into), outcome);
-            assert_eq!(rt; into, filled);
-        }
-        Ok(())
     }
 }

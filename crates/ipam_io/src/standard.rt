@@ -2,12 +2,13 @@
 ghost use Rattle.std.specs.Prelude.{◌≡◌, ◌≤◌, None, OnOk, OnErr};
 ghost use Rattle.std.specs.Io.{ReadsAtMost};
 ghost use Rattle.std.specs.Io.KnownBytes.{ReadConsumes, Appends};
+ghost use Rattle.ipam_io.specs.Streams.{AppendsPart};
 ghost use Rattle.ipam_io.specs.Counts.{next_count};
 ghost use Rattle.ipam_io.specs.Standard.{reader_of, reader_faults, writer_of, writer_faults};
 
 use super::sink::Sink;
 use super::source::{Failed, Source};
-use std::io::{Read, Write};
+use std::io::{ErrorKind, Read, Write};
 
 /// A reader of std as a source. It does not tell which bytes are left.
 #[derive(Drop)]
@@ -76,18 +77,21 @@ impl<W: Write> Sink for StdSink<W> {
 
     ghost write_rest = { λ _. (None, 0) };
 
-    /// Hands the whole piece to the writer, in as many writes as it asks for. Its error is a
-    /// fault, and so is a write that takes nothing. What a writer buffers may stay in its buffer.
+    /// Hands the whole piece to the writer, in as many writes as it asks for. An interrupted write
+    /// is tried again; any other error is a fault, and so is a write that takes nothing. What was
+    /// taken before a fault stays written. What a writer buffers may stay in its buffer.
     fn write(&mut self, piece: &[u8]) -> Result<(), Failed>
         ensures bytes { OnOk result (Appends
+            (W.contents (writer_of self.old)) (W.contents (writer_of self.new)) piece.now) }
+        ensures part { OnErr result (AppendsPart
             (W.contents (writer_of self.old)) (W.contents (writer_of self.new)) piece.now) }
         ensures fault { OnErr result (writer_faults self.new ≡ next_count (writer_faults self.old)) }
         ensures no_fault { OnOk result (writer_faults self.new ≡ writer_faults self.old) }
         ensures never_falls { writer_faults self.old ≤ writer_faults self.new }
     {
-        match self.writer.write_all(piece) {
+        match write_each(&mut self.writer, piece) {
             Ok(()) => Ok(()),
-            Err(_) => {
+            Err(Failed) => {
                 self.faults = self.faults.saturating_add(1);
                 Err(Failed)
             }
@@ -95,49 +99,26 @@ impl<W: Write> Sink for StdSink<W> {
     }
 }
 
-#[cfg(test)]
-mod tests {
-    use super::*;
-    use std::io;
-    use std::io::{Cursor, ErrorKind};
-    use std::test::Fail;
-
-    struct Broken;
-
-    impl Read for Broken {
-        fn read(&mut self, _buf: &mut [u8]) -> io::Result<usize> {
-            Err(io::Error::from(ErrorKind::TimedOut))
+/// Writes the piece part by part. Std's `write_all` promises nothing of what it wrote before an
+/// error, so the loop stands here.
+pub(crate) fn write_each<W: Write>(writer: &mut W, piece: &[u8]) -> Result<(), Failed>
+    ensures bytes { OnOk result (Appends (W.contents writer.old) (W.contents writer.new) piece.now) }
+    ensures part { OnErr result (AppendsPart (W.contents writer.old) (W.contents writer.new) piece.now) }
+{
+    let mut rest = piece;
+    for _ in 0..u64::MAX {
+        if rest.is_empty() {
+            return Ok(());
+        }
+        match writer.write(rest) {
+            Ok(0) => return Err(Failed),
+            Ok(count) => rest = &rest[count..],
+            Err(error) => {
+                if error.kind() != ErrorKind::Interrupted {
+                    return Err(Failed);
+                }
+            }
         }
     }
-
-    #[test]
-    fn reads_and_writes_through(rt: HostRuntime) -> Result<(), Fail> {
-        let bytes: &[u8] = b"abc";
-        let mut source = StdSource::new(bytes);
-        let mut into = [0u8; 2];
-        for (count, filled) in [(2, *b"ab"), (1, *b"cb"), (0, *b"cb")] {
-            assert_eq!(rt; source.read(&mut into), Ok(count));
-            assert_eq!(rt; into, filled);
-        }
-        assert_eq!(rt; source.faults, 0);
-
-        let mut sink = StdSink::new(Cursor::new([0u8; 3]));
-        for (piece, answer, faults) in [
-            ("xy", Ok(()), 0),
-            ("zw", Err(Failed), 1),
-            ("", Ok(()), 1),
-        ] {
-            assert_eq!(rt; sink.write(piece.as_bytes()), answer);
-            assert_eq!(rt; sink.faults, faults);
-        }
-        assert_eq!(rt; sink.writer.into_inner(), *b"xyz");
-
-        let mut broken = StdSource::new(Broken);
-        for faults in [1, 2] {
-            assert_eq!(rt; broken.read(&mut into), Err(Failed));
-            assert_eq!(rt; broken.faults, faults);
-        }
-        let StdSource { reader: Broken, .. } = broken;
-        Ok(())
-    }
+    Err(Failed)
 }

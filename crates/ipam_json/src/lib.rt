@@ -5,8 +5,6 @@ mod fault;
 pub mod laws;
 mod path;
 mod read;
-#[cfg(test)]
-mod tests;
 mod written;
 
 pub use fault::{FieldFault, ReadFault, Want};

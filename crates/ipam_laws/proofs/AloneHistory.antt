@@ -10,7 +10,8 @@ use Rattle.ipam_model.specs.declared.entry.Entry.TheVariants as entry
 use Rattle.ipam_model.specs.declared.entry.Fate.{Fate}
 use Rattle.ipam_model.specs.declared.entry.Fate.TheVariants.{Well}
 use Rattle.ipam_model.specs.declared.request.Request.{Request}
-use Rattle.ipam_model.specs.Alone.{alone, live_of, alone_over, IsAlone, AloneHistoryLaw}
+use Rattle.ipam_model.specs.declared.request.Request.TheVariants as request_of
+use Rattle.ipam_model.specs.Alone.{alone, live_of, alone_over, IsFirstList, IsAlone, AloneHistoryLaw}
 use Rattle.ipam_model.specs.Cluster.{Cluster, Running, Slots, begun, store_with, store_after, called, call_entry, answered, goes_on, fed_with, with_slot, after}
 use Rattle.ipam_model.specs.History.{Base, Lawful, cluster_at, MayCall}
 use Rattle.ipam_model.specs.Requests.{word_of}
@@ -67,6 +68,16 @@ begun-comes base request r e =
     let is : record { request = request; word = word_of request } ≡ r = cc e in
     subst (λ (x : Running). alone base.store (base.first + 1) (live_of request) x.word ≡ alone_over base request) is refl
 
+first-live : (request : Request) (at : ℕ) (live : List (List ℕ)) → IsFirstList request at live → live ≡ live_of request
+first-live (request_of.Collect request) at live h = h.1
+first-live (request_of.Add request) at live h = absurd h
+first-live (request_of.AddThis request address) at live h = absurd h
+first-live (request_of.Del id) at live h = absurd h
+first-live (request_of.Check id addresses) at live h = absurd h
+first-live (request_of.Release node cidr) at live h = absurd h
+first-live (request_of.Admin request) at live h = absurd h
+first-live (request_of.Probe request) at live h = absurd h
+
 fed-alone : (store : Datastore) (moment : ℕ) (live : List (List ℕ)) (word : Word Answer) → IsTrue (waits word) → alone store (moment + 1) live (fed word live) ≡ alone store moment live word
 fed-alone store moment live (Ends answer) w = absurd (cc w)
 fed-alone store moment live (Asks label asked next) w = absurd (cc w)
@@ -87,7 +98,8 @@ comes base request (entry.Began slot other ∷ history) h (at_0, same, first) = 
     let begins = subst (λ (q : Request). begun q ≡ Some r) same own in
     subst (λ (hs : List Entry). alone (cluster_at base hs).store ((cluster_at base hs).entries + 1) (live_of request) r.word ≡ alone_over base request) (sym first)
     (begun-comes base request r begins)
-comes base request (entry.Fed slot at live ∷ history) h (at_0, time, same, rest) = λ r is.
+comes base request (entry.Fed slot at live ∷ history) h (at_0, list, rest) = λ r is.
+    let same = first-live request at live list in
     let may = h.1 in
     let own = own-slot slot (fed_with live ((cluster_at base history).slots slot)) (cluster_at base history).slots r at_0 is in
     let there : fed_with live ((cluster_at base history).slots slot) ≡ Some (record may.running { word = fed may.running.word live }) = ap (fed_with live) may.runs in

@@ -1,9 +1,9 @@
 -- Reads and writes of a word that is to meet a law.
 use Rattle.std.proofs.Common.{◌≡◌, ℕ, inl, Bool, true, false, cond, List, Option, Some, None, refl, sym, ap, ◌∙◌, subst, eqb-true}
 use Rattle.std.specs.Prelude.{◌==◌}
-use Rattle.ipam_addr.specs.Shape.{Range}
-use Rattle.ipam_block.specs.Content as block
-use Rattle.ipam_handle.specs.Content as handle
+use Rattle.ipam_addr.specs.Shape.{CidrValue}
+use Rattle.ipam_block.specs.Shape as block
+use Rattle.ipam_handle.specs.Shape as handle
 use Rattle.ipam_records.specs.declared.key.Key.{Key}
 use Rattle.ipam_records.specs.declared.key.Key.TheVariants as key
 use Rattle.ipam_records.specs.declared.key.Kind.{Kind}
@@ -27,7 +27,7 @@ use Rattle.ipam_laws.proofs.Lift.{Known, more, Grows, Agrees, behind, label_to, 
 pub found-key : (store : Datastore) (k : Key) (revision : ℕ) (found : Record) → HasAt store k revision found → key_of found ≡ k
 found-key store k revision found e = row_key-row_of k store.rows (revision, found) e
 
-pub found-handle : (id : List ℕ) (found : Record) → key_of found ≡ key.Handle id → (h : handle.Content) × (found ≡ record_of.Handle h) × (h.id ≡ id)
+pub found-handle : (id : List ℕ) (found : Record) → key_of found ≡ key.Handle id → (h : handle.HandleValue) × (found ≡ record_of.Handle h) × (h.id ≡ id)
 found-handle id (record_of.Handle h) e = (h, refl, cc)
 found-handle id (record_of.Config config) e = absurd (cc e)
 found-handle id (record_of.Pools pools) e = absurd (cc e)
@@ -35,7 +35,7 @@ found-handle id (record_of.Reservations reservations) e = absurd (cc e)
 found-handle id (record_of.Block b) e = absurd (cc e)
 found-handle id (record_of.Affinity a) e = absurd (cc e)
 
-pub found-block : (cidr : Range) (found : Record) → key_of found ≡ key.Block cidr → (b : block.Content) × (found ≡ record_of.Block b) × (b.cidr ≡ cidr)
+pub found-block : (cidr : CidrValue) (found : Record) → key_of found ≡ key.Block cidr → (b : block.BlockValue) × (found ≡ record_of.Block b) × (b.cidr ≡ cidr)
 found-block cidr (record_of.Block b) e = (b, refl, cc)
 found-block cidr (record_of.Config config) e = absurd (cc e)
 found-block cidr (record_of.Pools pools) e = absurd (cc e)

@@ -4,7 +4,7 @@ use Rattle.std.specs.Prelude.{◌==◌}
 use Rattle.std.specs.List.{range_with_len, sum_by}
 use Rattle.std.proofs.lemmas.Bool.{cases_Bool, eqb-false}
 use Rattle.std.proofs.lemmas.List.Sums.{sum_by-cons}
-use Rattle.ipam_addr.specs.Shape.{Range}
+use Rattle.ipam_addr.specs.Shape.{CidrValue}
 use Rattle.ipam_records.specs.declared.key.Key.{Key}
 use Rattle.ipam_records.specs.declared.record.Record.{Record}
 use Rattle.ipam_records.specs.declared.call.Call.{Call}
@@ -72,7 +72,7 @@ changed_sum f g slot same (suc many) from above below = elim (cases_Bool (from =
 ]
 
 -- what the slots owe, where one of them changes
-slot-changes : (id : List ℕ) (cidr : Range) (slots : Slots) (slot : ℕ) (running : Option Running) → slot < 64 → credits id cidr (with_slot slot running slots) + credit_of_slot id cidr (slots slot) ≡ credits id cidr slots + credit_of_slot id cidr running
+slot-changes : (id : List ℕ) (cidr : CidrValue) (slots : Slots) (slot : ℕ) (running : Option Running) → slot < 64 → credits id cidr (with_slot slot running slots) + credit_of_slot id cidr (slots slot) ≡ credits id cidr slots + credit_of_slot id cidr running
 slot-changes id cidr slots slot running below =
     let f : ℕ → ℕ = λ s. credit_of_slot id cidr (with_slot slot running slots s) in
     let g : ℕ → ℕ = λ s. credit_of_slot id cidr (slots s) in
@@ -167,12 +167,12 @@ label-is (Waits next) = refl
 -- how the call's entry leaves the store and its slot
 record CallTurn (store next : Datastore) (moment : ℕ) (c : Called) (running : Running) (known : Known) : Type 0 where
   keeps : (r : Running) → goes_on store moment c.answer (Some running) ≡ Some r → Counts still (more known store next) r.word
-  grows : (id : List ℕ) (cidr : Range) → held_count next id cidr + credit_of_slot id cidr (goes_on store moment c.answer (Some running)) + handle_count store id cidr ≤ held_count store id cidr + credit_of_slot id cidr (Some running) + handle_count next id cidr
+  grows : (id : List ℕ) (cidr : CidrValue) → held_count next id cidr + credit_of_slot id cidr (goes_on store moment c.answer (Some running)) + handle_count store id cidr ≤ held_count store id cidr + credit_of_slot id cidr (Some running) + handle_count next id cidr
 
 answered-turn : (store : Datastore) (moment slot : ℕ) (request : Request) (known : Known) (label : Label) (asked : Call) (next : ℕ → Said → Word Answer) (answer : Option Answer)
     → CountsGrow store (behind store asked) label (label_to still (next moment (reply_of store asked))) → Counts still (more known store (behind store asked)) (next moment (reply_of store asked))
     → ((r : Running) → goes_on store moment answer (Some (record { request = request; word = Asks label asked next })) ≡ Some r → Counts still (more known store (behind store asked)) r.word)
-    × ((id : List ℕ) (cidr : Range) → held_count (behind store asked) id cidr + credit_of_slot id cidr (goes_on store moment answer (Some (record { request = request; word = Asks label asked next }))) + handle_count store id cidr ≤ held_count store id cidr + owed id cidr label + handle_count (behind store asked) id cidr)
+    × ((id : List ℕ) (cidr : CidrValue) → held_count (behind store asked) id cidr + credit_of_slot id cidr (goes_on store moment answer (Some (record { request = request; word = Asks label asked next }))) + handle_count store id cidr ≤ held_count store id cidr + owed id cidr label + handle_count (behind store asked) id cidr)
 answered-turn store moment slot request known label asked next (Some answer) does meets = (
   λ r f. absurd (cc f),
   λ id cidr. let k = does id cidr in omega arith,
@@ -227,10 +227,10 @@ call-turn store moment slot fate running known c agrees counts e = from running.
 
 -- what is held and owed is within the counts
 IsWithin : Base → List Entry → Type 0
-IsWithin base history = (id : List ℕ) (cidr : Range) → held_count (store_at base history) id cidr + credits id cidr (cluster_at base history).slots ≤ handle_count (store_at base history) id cidr
+IsWithin base history = (id : List ℕ) (cidr : CidrValue) → held_count (store_at base history) id cidr + credits id cidr (cluster_at base history).slots ≤ handle_count (store_at base history) id cidr
 
 -- a slot that is given another word over the same store
-slot-turn : (base : Base) (history : List Entry) (slot : ℕ) (running : Option Running) → slot < 64 → IsWithin base history → ((id : List ℕ) (cidr : Range) → credit_of_slot id cidr running ≡ 0) → (id : List ℕ) (cidr : Range) → held_count (store_at base history) id cidr + credits id cidr (with_slot slot running (cluster_at base history).slots) ≤ handle_count (store_at base history) id cidr
+slot-turn : (base : Base) (history : List Entry) (slot : ℕ) (running : Option Running) → slot < 64 → IsWithin base history → ((id : List ℕ) (cidr : CidrValue) → credit_of_slot id cidr running ≡ 0) → (id : List ℕ) (cidr : CidrValue) → held_count (store_at base history) id cidr + credits id cidr (with_slot slot running (cluster_at base history).slots) ≤ handle_count (store_at base history) id cidr
 unfolding IsWithin
 slot-turn base history slot running below within nothing id cidr =
     let k = within id cidr in
@@ -238,7 +238,7 @@ slot-turn base history slot running below within nothing id cidr =
     let none = nothing id cidr in
     omega arith
 
-begun-owes : (request : Request) (id : List ℕ) (cidr : Range) → credit_of_slot id cidr (begun request) ≡ 0
+begun-owes : (request : Request) (id : List ℕ) (cidr : CidrValue) → credit_of_slot id cidr (begun request) ≡ 0
 unfolding known_at
 begun-owes request id cidr =
     let label = (word-lawful request (λ k r f. ⊥)).0 in
@@ -304,7 +304,7 @@ entry-keeps base history (entry.Called c) sound h i =
           omega arith,
     )
 
-none-owe : (id : List ℕ) (cidr : Range) (many from : ℕ) → sum_with (λ slot. credit_of_slot id cidr None) many from ≡ 0
+none-owe : (id : List ℕ) (cidr : CidrValue) (many from : ℕ) → sum_with (λ slot. credit_of_slot id cidr None) many from ≡ 0
 unfolding sum_with
 none-owe id cidr zero from = refl
 none-owe id cidr (suc many) from = let rest = none-owe id cidr many (from + 1) in omega arith

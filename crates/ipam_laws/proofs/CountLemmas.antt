@@ -9,28 +9,28 @@ use Rattle.std.specs.Cmp.{Equal-is, tied_itself}
 use Rattle.std.proofs.lemmas.Bool.{cases_Bool}
 use Rattle.std.proofs.lemmas.List.Sums.{sum_by-insert, sum_by-cons}
 use Rattle.std.proofs.lemmas.Slice.Eq.{bytes_eq-Decides}
-use Rattle.ipam_addr.specs.Shape.{Range}
+use Rattle.ipam_addr.specs.Shape.{CidrValue}
 use Rattle.ipam_block.specs.declared.allocation.Allocation.{Allocation}
 use Rattle.ipam_block.specs.declared.allocation.Attributes.{Attributes}
-use Rattle.ipam_block.specs.Content as block
+use Rattle.ipam_block.specs.Shape as block
 use Rattle.ipam_block.specs.Operations.{is_owned, assigned, next_block}
-use Rattle.ipam_handle.specs.Content as handle
+use Rattle.ipam_handle.specs.Shape as handle
 use Rattle.ipam_handle.specs.Operations.{count_in, count_of, counts_with, raised, lowered}
-use Rattle.ipam_handle.specs.Order.{range_cmp}
-use Rattle.ipam_handle.proofs.Order.{range_cmp_total, range_cmp_exact}
+use Rattle.ipam_handle.specs.Order.{cidr_cmp}
+use Rattle.ipam_handle.proofs.Order.{cidr_cmp_total, cidr_cmp_exact}
 use Rattle.ipam_handle.proofs.Entries.{lookup-insert_entry}
 use Rattle.ipam_handle.proofs.Reading.{counts_with-some}
-use Rattle.ipam_model.specs.Usable.{same_range}
+use Rattle.ipam_model.specs.Usable.{is_same_cidr}
 
 -- ---- equal and other ranges and texts
 
-pub range_cases : (r s : Range) → ((same_range r s ≡ true) × (r ≡ s)) ⊎ ((same_range r s ≡ false) × (r ≢ s))
-range_cases r s = elim (cases_Bool (same_range r s)) [
-  | inl same ↦ inl (same, range_cmp_exact r s ((Equal-is (range_cmp r s)).0 same))
+pub cidr_cases : (r s : CidrValue) → ((is_same_cidr r s ≡ true) × (r ≡ s)) ⊎ ((is_same_cidr r s ≡ false) × (r ≢ s))
+cidr_cases r s = elim (cases_Bool (is_same_cidr r s)) [
+  | inl same ↦ inl (same, cidr_cmp_exact r s ((Equal-is (cidr_cmp r s)).0 same))
   | inr differ ↦ inr (
     differ,
     λ e.
-        let itself : same_range r s ≡ true = subst (λ (x : Range). same_range r x ≡ true) e (ap is_eq (tied_itself range_cmp_total r)) in cc,
+        let itself : is_same_cidr r s ≡ true = subst (λ (x : CidrValue). is_same_cidr r x ≡ true) e (ap is_eq (tied_itself cidr_cmp_total r)) in cc,
   )
 ]
 
@@ -43,60 +43,60 @@ text_cases xs ys = elim (cases_Bool (bytes_eq xs ys)) [
 pub same_text : (xs : List ℕ) → bytes_eq xs xs ≡ true
 same_text xs = (bytes_eq-Decides xs xs).1 refl
 
-pub same_itself : (r : Range) → same_range r r ≡ true
-same_itself r = ap is_eq (tied_itself range_cmp_total r)
+pub same_itself : (r : CidrValue) → is_same_cidr r r ≡ true
+same_itself r = ap is_eq (tied_itself cidr_cmp_total r)
 
 -- ---- counts
 
 -- an entry of another block that goes changes no count
-remove-next : (es : List (Range × ℕ)) (e : Range × ℕ) (block q : Range) → block ≢ q → lookup (is_at (range_cmp q)) (remove_entry (is_at (range_cmp block)) es) ≡ lookup (is_at (range_cmp q)) es → (b : Bool) → is_at (range_cmp block) e.0 ≡ b → lookup (is_at (range_cmp q)) (cond b es (e ∷ remove_entry (is_at (range_cmp block)) es)) ≡ cond (is_at (range_cmp q) e.0) (Some e.1) (lookup (is_at (range_cmp q)) es)
+remove-next : (es : List (CidrValue × ℕ)) (e : CidrValue × ℕ) (block q : CidrValue) → block ≢ q → lookup (is_at (cidr_cmp q)) (remove_entry (is_at (cidr_cmp block)) es) ≡ lookup (is_at (cidr_cmp q)) es → (b : Bool) → is_at (cidr_cmp block) e.0 ≡ b → lookup (is_at (cidr_cmp q)) (cond b es (e ∷ remove_entry (is_at (cidr_cmp block)) es)) ≡ cond (is_at (cidr_cmp q) e.0) (Some e.1) (lookup (is_at (cidr_cmp q)) es)
 remove-next es e block q other further true at = rw not_q refl
   where
-    not_q : is_at (range_cmp q) e.0 ≡ false
-    not_q = elim (range_cases q e.0) [
-      | inl (t, same) ↦ elim (range_cases block e.0) [
+    not_q : is_at (cidr_cmp q) e.0 ≡ false
+    not_q = elim (cidr_cases q e.0) [
+      | inl (t, same) ↦ elim (cidr_cases block e.0) [
         | inl (u, same') ↦ absurd (other (same' ∙ sym same))
         | inr (u, differ) ↦ cc
       ]
       | inr (f, differ) ↦ f
     ]
-remove-next es e block q other further false at = ap (λ o. cond (is_at (range_cmp q) e.0) (Some e.1) o) further
+remove-next es e block q other further false at = ap (λ o. cond (is_at (cidr_cmp q) e.0) (Some e.1) o) further
 
-remove-elsewhere : (es : List (Range × ℕ)) (block q : Range) → block ≢ q → lookup (is_at (range_cmp q)) (remove_entry (is_at (range_cmp block)) es) ≡ lookup (is_at (range_cmp q)) es
+remove-elsewhere : (es : List (CidrValue × ℕ)) (block q : CidrValue) → block ≢ q → lookup (is_at (cidr_cmp q)) (remove_entry (is_at (cidr_cmp block)) es) ≡ lookup (is_at (cidr_cmp q)) es
 remove-elsewhere [] block q other = refl
-remove-elsewhere (e ∷ es) block q other = remove-next es e block q other (remove-elsewhere es block q other) (is_at (range_cmp block) e.0) refl
+remove-elsewhere (e ∷ es) block q other = remove-next es e block q other (remove-elsewhere es block q other) (is_at (cidr_cmp block) e.0) refl
 
-inserted : (es : List (Range × ℕ)) (block q : Range) (n : ℕ) → lookup (is_at (range_cmp q)) (insert_entry range_cmp es block n) ≡ cond (is_eq (range_cmp q block)) (Some n) (lookup (is_at (range_cmp q)) es)
-inserted es block q n = lookup-insert_entry range_cmp_total block n q es
+inserted : (es : List (CidrValue × ℕ)) (block q : CidrValue) (n : ℕ) → lookup (is_at (cidr_cmp q)) (insert_entry cidr_cmp es block n) ≡ cond (is_eq (cidr_cmp q block)) (Some n) (lookup (is_at (cidr_cmp q)) es)
+inserted es block q n = lookup-insert_entry cidr_cmp_total block n q es
 
-pub count-elsewhere : (es : List (Range × ℕ)) (block q : Range) (n : ℕ) → block ≢ q → count_in (counts_with es block n) q ≡ count_in es q
+pub count-elsewhere : (es : List (CidrValue × ℕ)) (block q : CidrValue) (n : ℕ) → block ≢ q → count_in (counts_with es block n) q ≡ count_in es q
 count-elsewhere es block q zero other = ap (λ o. unwrap_or o 0) (remove-elsewhere es block q other)
 count-elsewhere es block q (suc n) other =
     ap (λ l. count_in l q) (counts_with-some es block (suc n) (omega arith))
     ∙ (ap (λ o. unwrap_or o 0) (inserted es block q (suc n)) ∙ kept)
   where
-    kept : unwrap_or (cond (is_eq (range_cmp q block)) (Some (suc n)) (lookup (is_at (range_cmp q)) es)) 0 ≡ count_in es q
-    kept = elim (range_cases q block) [
+    kept : unwrap_or (cond (is_eq (cidr_cmp q block)) (Some (suc n)) (lookup (is_at (cidr_cmp q)) es)) 0 ≡ count_in es q
+    kept = elim (cidr_cases q block) [
       | inl (t, same) ↦ absurd (other (sym same))
       | inr (f, differ) ↦ rw f refl
     ]
 
-pub count-here : (es : List (Range × ℕ)) (block : Range) (n : ℕ) → count_in (counts_with es block (suc n)) block ≡ suc n
+pub count-here : (es : List (CidrValue × ℕ)) (block : CidrValue) (n : ℕ) → count_in (counts_with es block (suc n)) block ≡ suc n
 count-here es block n =
     ap (λ l. count_in l block) (counts_with-some es block (suc n) (omega arith))
     ∙ (ap (λ o. unwrap_or o 0) (inserted es block block (suc n)) ∙ put)
   where
-    put : unwrap_or (cond (is_eq (range_cmp block block)) (Some (suc n)) (lookup (is_at (range_cmp block)) es)) 0 ≡ suc n
+    put : unwrap_or (cond (is_eq (cidr_cmp block block)) (Some (suc n)) (lookup (is_at (cidr_cmp block)) es)) 0 ≡ suc n
     put = let t = same_itself block in rw t refl
 
 -- one more, and nothing else
-pub raised-here : (h : handle.Content) (cidr : Range) → count_of (raised h cidr 1) cidr ≡ count_of h cidr + 1
+pub raised-here : (h : handle.HandleValue) (cidr : CidrValue) → count_of (raised h cidr 1) cidr ≡ count_of h cidr + 1
 raised-here h cidr =
     let more : count_of h cidr + 1 ≡ suc (count_of h cidr) = omega arith in
     ap (λ n. count_in (counts_with h.counts cidr n) cidr) more ∙ (count-here h.counts cidr (count_of h cidr) ∙ sym more)
 
 -- at most so many fewer
-pub lowered-here : (h : handle.Content) (cidr : Range) (amount : ℕ) → count_of h cidr ≤ amount + count_of (lowered h cidr amount) cidr
+pub lowered-here : (h : handle.HandleValue) (cidr : CidrValue) (amount : ℕ) → count_of h cidr ≤ amount + count_of (lowered h cidr amount) cidr
 lowered-here h cidr amount = from (count_of h cidr - amount) refl
   where
     from : (n : ℕ) → count_of h cidr - amount ≡ n → count_of h cidr ≤ amount + count_in (counts_with h.counts cidr n) cidr
@@ -105,7 +105,7 @@ lowered-here h cidr amount = from (count_of h cidr - amount) refl
 
 -- ---- what is held
 
-pub held-assigned : (b : block.Content) (ordinal : ℕ) (attributes : Attributes) (id : List ℕ) → count_by (is_owned id) (assigned (next_block b) ordinal attributes).allocations ≡ count_by (is_owned id) b.allocations + cond (bytes_eq attributes.handle id) 1 0
+pub held-assigned : (b : block.BlockValue) (ordinal : ℕ) (attributes : Attributes) (id : List ℕ) → count_by (is_owned id) (assigned (next_block b) ordinal attributes).allocations ≡ count_by (is_owned id) b.allocations + cond (bytes_eq attributes.handle id) 1 0
 held-assigned b ordinal attributes id =
     sum_by-insert (λ a. cond (is_owned id a) 1 0) b.allocations (count_by (λ x. nat_lt x.ordinal ordinal) b.allocations)
     (record { ordinal = ordinal; attributes = attributes; stamp = b.sequence + 1 })

@@ -2,10 +2,10 @@
 use Rattle.std.proofs.Common.{◌≡◌, ◌≢◌, ℕ, ◌+◌, ◌≤◌, inl, inr, Bool, true, false, cond, List, Some, refl, ap, subst, arith, bytes_eq}
 use Rattle.std.specs.Prelude.{◌&&◌}
 use Rattle.std.specs.List.{count_by}
-use Rattle.ipam_addr.specs.Shape.{Range}
-use Rattle.ipam_block.specs.Content as block
+use Rattle.ipam_addr.specs.Shape.{CidrValue}
+use Rattle.ipam_block.specs.Shape as block
 use Rattle.ipam_block.specs.Operations.{is_owned}
-use Rattle.ipam_handle.specs.Content as handle
+use Rattle.ipam_handle.specs.Shape as handle
 use Rattle.ipam_handle.specs.Operations.{count_of}
 use Rattle.ipam_records.specs.declared.key.Key.{Key}
 use Rattle.ipam_records.specs.declared.key.Key.TheVariants as key
@@ -17,22 +17,22 @@ use Rattle.ipam_records.specs.Key.{key_of}
 use Rattle.ipam_records.specs.Label.{Label, Credit, idle, owing}
 use Rattle.ipam_records.proofs.DatastoreLemmas.{row_of-with_row, row_of-with_row-other, row_of-without_row-other}
 use Rattle.ipam_model.specs.CountLaw.{count_in_row, handle_count, held_in_row, held_count, amount_for}
-use Rattle.ipam_model.specs.Usable.{same_range}
-use Rattle.ipam_laws.proofs.CountLemmas.{range_cases, text_cases, same_text, same_itself}
+use Rattle.ipam_model.specs.Usable.{is_same_cidr}
+use Rattle.ipam_laws.proofs.CountLemmas.{cidr_cases, text_cases, same_text, same_itself}
 
 -- what a label owes
-abbrev pub owed : List ℕ → Range → Label → ℕ
+abbrev pub owed : List ℕ → CidrValue → Label → ℕ
 owed id cidr label = amount_for id cidr label.credit
 
 -- what is held, with what is owed, grows by no more than the count
 abbrev pub CountsGrow : Datastore → Datastore → Label → Label → Type 0
-CountsGrow old new label after = (id : List ℕ) (cidr : Range)
+CountsGrow old new label after = (id : List ℕ) (cidr : CidrValue)
     → held_count new id cidr + owed id cidr after + handle_count old id cidr
     ≤ held_count old id cidr + owed id cidr label + handle_count new id cidr
 
 -- no more is owed
 abbrev pub OwesLess : Label → Label → Type 0
-OwesLess label after = (id : List ℕ) (cidr : Range) → owed id cidr after ≤ owed id cidr label
+OwesLess label after = (id : List ℕ) (cidr : CidrValue) → owed id cidr after ≤ owed id cidr label
 
 pub stays-grow : (store : Datastore) (label after : Label) → OwesLess label after → CountsGrow store store label after
 stays-grow store label after less id cidr = let h = less id cidr in omega arith
@@ -55,7 +55,7 @@ IsApart (key.Block cidr) = ⊥
 IsApart (key.Affinity node cidr) = Unit {0}
 IsApart (key.Handle id) = ⊥
 
-apart-block : (k : Key) (cidr : Range) → IsApart k → k ≢ key.Block cidr
+apart-block : (k : Key) (cidr : CidrValue) → IsApart k → k ≢ key.Block cidr
 apart-block k cidr apart e = subst (λ (x : Key). IsApart x) e apart
 
 apart-handle : (k : Key) (id : List ℕ) → IsApart k → k ≢ key.Handle id
@@ -77,13 +77,13 @@ apart-remove store r gone label after apart less id cidr =
 
 -- ---- a write of a block
 
-pub block-grow : (store : Datastore) (r : ℕ) (b : block.Content) (label after : Label)
+pub block-grow : (store : Datastore) (r : ℕ) (b : block.BlockValue) (label after : Label)
     → ((id : List ℕ) → count_by (is_owned id) b.allocations + owed id b.cidr after ≤ held_count store id b.cidr + owed id b.cidr label)
-    → ((id : List ℕ) (cidr : Range) → b.cidr ≢ cidr → owed id cidr after ≤ owed id cidr label)
+    → ((id : List ℕ) (cidr : CidrValue) → b.cidr ≢ cidr → owed id cidr after ≤ owed id cidr label)
     → CountsGrow store (written store (Put r (record_of.Block b))) label after
-block-grow store r b label after here there id cidr = elim (range_cases b.cidr cidr) [
+block-grow store r b label after here there id cidr = elim (cidr_cases b.cidr cidr) [
   | inl (t, same) ↦
-      let P : Range → Type 0 = λ x. held_count (written store (Put r (record_of.Block b))) id x + owed id x after + handle_count store id x ≤ held_count store id x + owed id x label + handle_count (written store (Put r (record_of.Block b))) id x in
+      let P : CidrValue → Type 0 = λ x. held_count (written store (Put r (record_of.Block b))) id x + owed id x after + handle_count store id x ≤ held_count store id x + owed id x label + handle_count (written store (Put r (record_of.Block b))) id x in
       subst P same (own (here id))
   | inr (f, differ) ↦
       let block_same = ap (held_in_row id) (put-other store r (record_of.Block b) (key.Block cidr) (λ e. differ (cc e))) in
@@ -100,9 +100,9 @@ block-grow store r b label after here there id cidr = elim (range_cases b.cidr c
 
 -- ---- a write of a handle
 
-pub handle-grow : (store : Datastore) (r : ℕ) (h : handle.Content) (label after : Label)
-    → ((cidr : Range) → owed h.id cidr after + handle_count store h.id cidr ≤ owed h.id cidr label + count_of h cidr)
-    → ((id : List ℕ) (cidr : Range) → h.id ≢ id → owed id cidr after ≤ owed id cidr label)
+pub handle-grow : (store : Datastore) (r : ℕ) (h : handle.HandleValue) (label after : Label)
+    → ((cidr : CidrValue) → owed h.id cidr after + handle_count store h.id cidr ≤ owed h.id cidr label + count_of h cidr)
+    → ((id : List ℕ) (cidr : CidrValue) → h.id ≢ id → owed id cidr after ≤ owed id cidr label)
     → CountsGrow store (written store (Put r (record_of.Handle h))) label after
 handle-grow store r h label after here there id cidr = elim (text_cases h.id id) [
   | inl (t, same) ↦
@@ -123,8 +123,8 @@ handle-grow store r h label after here there id cidr = elim (text_cases h.id id)
         omega arith
 
 pub handle-remove : (store : Datastore) (r : ℕ) (gone : List ℕ) (label after : Label)
-    → ((cidr : Range) → owed gone cidr after + handle_count store gone cidr ≤ owed gone cidr label)
-    → ((id : List ℕ) (cidr : Range) → gone ≢ id → owed id cidr after ≤ owed id cidr label)
+    → ((cidr : CidrValue) → owed gone cidr after + handle_count store gone cidr ≤ owed gone cidr label)
+    → ((id : List ℕ) (cidr : CidrValue) → gone ≢ id → owed id cidr after ≤ owed id cidr label)
     → CountsGrow store (written store (Remove r (key.Handle gone))) label after
 handle-remove store r gone label after here there id cidr = elim (text_cases gone id) [
   | inl (t, same) ↦
@@ -155,18 +155,18 @@ itself-less label id cidr = omega arith
 pub owed-own : (credit : Credit) → owed credit.handle credit.block (owing credit) ≡ credit.amount
 owed-own credit = rw (same_text credit.handle, same_itself credit.block) refl
 
-pub owed-other_id : (credit : Credit) (id : List ℕ) (cidr : Range) → credit.handle ≢ id → owed id cidr (owing credit) ≡ 0
+pub owed-other_id : (credit : Credit) (id : List ℕ) (cidr : CidrValue) → credit.handle ≢ id → owed id cidr (owing credit) ≡ 0
 owed-other_id credit id cidr other = elim (text_cases credit.handle id) [
   | inl (t, same) ↦ absurd (other same)
   | inr (f, differ) ↦ rw f refl
 ]
 
-pub owed-other_block : (credit : Credit) (id : List ℕ) (cidr : Range) → credit.block ≢ cidr → owed id cidr (owing credit) ≡ 0
-owed-other_block credit id cidr other = elim (range_cases credit.block cidr) [
+pub owed-other_block : (credit : Credit) (id : List ℕ) (cidr : CidrValue) → credit.block ≢ cidr → owed id cidr (owing credit) ≡ 0
+owed-other_block credit id cidr other = elim (cidr_cases credit.block cidr) [
   | inl (t, same) ↦ absurd (other same)
   | inr (f, differ) ↦ from (bytes_eq credit.handle id)
 ]
   where
-    from : (b : Bool) → cond (b && same_range credit.block cidr) credit.amount 0 ≡ 0
-    from true = elim (range_cases credit.block cidr) [ inl (t, same) ↦ absurd (other same) | inr (f, differ) ↦ rw f refl ]
+    from : (b : Bool) → cond (b && is_same_cidr credit.block cidr) credit.amount 0 ≡ 0
+    from true = elim (cidr_cases credit.block cidr) [ inl (t, same) ↦ absurd (other same) | inr (f, differ) ↦ rw f refl ]
     from false = refl

@@ -1,11 +1,11 @@
 -- Every request keeps the counts above what is held.
 use Rattle.std.proofs.Common.{◌≡◌, ℕ, zero, suc, ◌+◌, inl, inr, Bool, true, false, cond, List, [], ◌∷◌, Option, Some, None, refl, sym, ap, ◌∙◌, subst}
-use Rattle.std.specs.Prelude.{◌==◌, map}
-use Rattle.std.specs.List.{find, filter}
+use Rattle.std.specs.Prelude.{◌&&◌, map}
+use Rattle.std.specs.List.{find, filter, list_any}
 use Rattle.ipam_addr.specs.declared.address.Family.{Family}
-use Rattle.ipam_addr.specs.Shape.{Range}
+use Rattle.ipam_addr.specs.Shape.{CidrValue}
 use Rattle.ipam_block.specs.declared.allocation.Attributes.{Attributes}
-use Rattle.ipam_block.specs.Content as block
+use Rattle.ipam_block.specs.Shape as block
 use Rattle.ipam_records.specs.declared.key.Key.TheVariants as key
 use Rattle.ipam_records.specs.declared.key.Kind.TheVariants as kind
 use Rattle.ipam_records.specs.declared.record.Record.{Record}
@@ -15,24 +15,23 @@ use Rattle.ipam_records.specs.Datastore.{Datastore, reply_of, reply_to_get, row_
 use Rattle.ipam_records.specs.KeyOrder.{is_of_kind}
 use Rattle.ipam_records.specs.Label.{Label, idle}
 use Rattle.ipam_records.specs.Said.{Said, Listed}
-use Rattle.ipam_records.specs.Word.{Word, Ends, Asks, bound}
+use Rattle.ipam_records.specs.Word.{Word, Ends, Asks, Waits, bound}
 use Rattle.ipam_records.proofs.DatastoreLemmas.{row_key-row_of}
 use Rattle.ipam_model.specs.declared.answer.Scan.{Scan}
-use Rattle.ipam_model.specs.declared.choice.Choice.{Choice}
-use Rattle.ipam_model.specs.declared.choice.Choice.TheVariants.{Use, Claim, Borrow, Nothing, NoPool}
 use Rattle.ipam_model.specs.declared.outcome.ClaimAnswer.{ClaimAnswer}
 use Rattle.ipam_model.specs.declared.outcome.ClaimAnswer.TheVariants as claimed
 use Rattle.ipam_model.specs.declared.request.AddRequest.{AddRequest}
 use Rattle.ipam_model.specs.Add as add
-use Rattle.ipam_model.specs.Add.{five_reads, Served, Gave, Refused, Ended}
+use Rattle.ipam_model.specs.Add.{five_reads, Round}
 use Rattle.ipam_model.specs.Affinities.{BlockRead, claim}
 use Rattle.ipam_model.specs.AffinityLaw.{HasAt}
-use Rattle.ipam_model.specs.Assigning.{Assigned, assign, assign_raised, after_claim, claim_for}
-use Rattle.ipam_model.specs.Choice.{Seen, is_block_at, block_in_found, block_at, choice_of}
+use Rattle.ipam_model.specs.Assigning.{Target, target_in, assign, assign_block, after_claim, claim_for}
+use Rattle.ipam_model.specs.Choice.{Seen, is_block_at, block_in_found, block_at, is_node, is_unowned_and_empty, is_confirmed_for, may_claim, room_of, has_free_address, Rank, Own, Unconfirmed, Unclaimed, Foreign, rank_of_block, rank_at, Pick, Unknown, Lacks, Picks, pick_of}
+use Rattle.ipam_model.proofs.ChoiceLemmas.{pick-ranked}
 use Rattle.ipam_model.specs.Counting.{raise}
 use Rattle.ipam_model.specs.Reads.{Row, config_said, pools_said, reservations_said, rows_said}
-use Rattle.ipam_model.specs.Step.{Outcome, Went, Stops, OutOfClaims}
-use Rattle.ipam_model.specs.Usable.{for_all, same_range}
+use Rattle.ipam_model.specs.Step.{Left, left_of, Outcome, Went, Stops, Part, OutOfTries, StopAnswers, answer_of, settled, stops, onward, followed, rounds}
+use Rattle.ipam_model.specs.Usable.{Asked, for_all, is_same_cidr}
 use Rattle.ipam_laws.proofs.Lift.{Known, more, Grows, label_to, Meets-bound, label_to-bound}
 use Rattle.ipam_laws.proofs.Calls.{found-block, get-meets, list-meets}
 use Rattle.ipam_laws.proofs.CountSteps.{owed, CountsGrow, stays-grow}
@@ -53,11 +52,64 @@ bound-keeps w follows known h labels k = (
   Meets-bound CountsGrow still still Any Any follows labels w known h.1 (λ other a grows t. k other a grows),
 )
 
+-- a word whose first label is idle, and which keeps the law whatever is known
+abbrev pub Lawful : {A : Type 0} → Word A → Type 1
+Lawful word = (known : Known) → (label_to still word ≡ idle) × Counts still known word
+
+-- what follows an answer
+abbrev pub LawfulAfter : {A B : Type 0} → (A → Word B) → Type 1
+LawfulAfter {A} follows = (a : A) → Lawful (follows a)
+
+-- what follows what a part came to
+abbrev pub LawfulOn : {A B : Type 0} → (Left → A → Part B) → Type 1
+LawfulOn {A} follows = (left : Left) (a : A) → Lawful (follows left a)
+
+-- the rounds that follow
+abbrev pub LawfulNext : {A : Type 0} → (Left → Part A) → Type 1
+LawfulNext next = (left : Left) → Lawful (next left)
+
+nothing_known : Known
+nothing_known = λ k r f. ⊥
+
+pub onward-lawful : {A B : Type 0} → (follows : Left → A → Part B) → LawfulOn follows → LawfulAfter (onward follows)
+onward-lawful follows h (Went left a) known = h left a known
+onward-lawful follows h (Stops left why) known = (refl, tt)
+
+pub lawful-behind : {A B : Type 0} → (w : Word A) (follows : A → Word B) (known : Known) → Keeps known w → LawfulAfter follows → Keeps known (bound w follows)
+lawful-behind w follows known h k =
+    bound-keeps w follows known h (λ a. sym (k a nothing_known).0) (λ other a grows. (k a other).1)
+
+pub lawful-bound : {A B : Type 0} → (w : Word A) (follows : A → Word B) → Lawful w → LawfulAfter follows → (known : Known) → Keeps known (bound w follows)
+lawful-bound w follows h k known = lawful-behind w follows known (λ id c. ap (owed id c) (h known).0, (h known).1) k
+
+-- the first label of a word behind another is that word's
+bound-label : {A B : Type 0} → (w : Word A) (follows : A → Word B) → Lawful w → LawfulAfter follows → label_to still (bound w follows) ≡ idle
+bound-label (Ends answer) follows h k = (k answer nothing_known).0
+bound-label (Asks label asked next) follows h k = (h nothing_known).0
+bound-label (Waits next) follows h k = refl
+
+pub lawful-both : {A B : Type 0} → (w : Word A) (follows : A → Word B) → Lawful w → LawfulAfter follows → Lawful (bound w follows)
+lawful-both w follows h k known = (bound-label w follows h k, (lawful-bound w follows h k known).1)
+
+pub followed-keeps : {A B : Type 0} → (part : Part A) (follows : Left → A → Part B) (known : Known) → Keeps known part → LawfulOn follows → Keeps known (followed part follows)
+followed-keeps part follows known h k = lawful-behind part (onward follows) known h (onward-lawful follows k)
+
+pub followed-lawful : {A B : Type 0} → (part : Part A) (follows : Left → A → Part B) → Lawful part → LawfulOn follows → Lawful (followed part follows)
+followed-lawful part follows h k = lawful-both part (onward follows) h (onward-lawful follows k)
+
+pub settled-lawful : {A : Type 0} → (answers : StopAnswers A) (part : Part A) → Lawful part → Lawful (settled answers part)
+settled-lawful answers part h = lawful-both part (λ outcome. Ends (answer_of answers outcome)) h (λ outcome known. (refl, tt))
+
+pub rounds-lawful : {A : Type 0} → (round : (Left → Part A) → Left → Part A) → ((next : Left → Part A) → LawfulNext next → LawfulNext (round next)) → (many : ℕ) → LawfulNext (rounds round many)
+unfolding rounds
+rounds-lawful round h zero left = h (λ now. stops now OutOfTries) (λ now known. (refl, tt)) left
+rounds-lawful round h (suc many) left = h (rounds round many) (rounds-lawful round h many) left
+
 -- ---- blocks that were listed
 
-listed-block : (rows : List Row) (cidr : Range) → find (is_block_at cidr) (filter (λ row. is_of_kind kind.Block (row_key row)) rows) ≡ row_of (key.Block cidr) rows
+pub listed-block : (rows : List Row) (cidr : CidrValue) → find (is_block_at cidr) (filter (λ row. is_of_kind kind.Block (row_key row)) rows) ≡ row_of (key.Block cidr) rows
 listed-block [] cidr = refl
-listed-block ((revision, record_of.Block b) ∷ rows) cidr = ap (λ o. cond (same_range b.cidr cidr) (Some (revision, record_of.Block b)) o) (listed-block rows cidr)
+listed-block ((revision, record_of.Block b) ∷ rows) cidr = ap (λ o. cond (is_same_cidr b.cidr cidr) (Some (revision, record_of.Block b)) o) (listed-block rows cidr)
 listed-block ((revision, record_of.Config config) ∷ rows) cidr = listed-block rows cidr
 listed-block ((revision, record_of.Pools pools) ∷ rows) cidr = listed-block rows cidr
 listed-block ((revision, record_of.Reservations reservations) ∷ rows) cidr = listed-block rows cidr
@@ -66,16 +118,16 @@ listed-block ((revision, record_of.Handle h) ∷ rows) cidr = listed-block rows 
 
 -- each block that was seen is known
 abbrev pub SeenKnown : Known → Seen → Type 0
-SeenKnown known seen = (cidr : Range) → IsKnownBlock known cidr (block_at seen cidr)
+SeenKnown known seen = (cidr : CidrValue) → IsKnownBlock known cidr (block_at seen cidr)
 
-found-known : (known : Known) (store : Datastore) (cidr : Range) (o : Option Row) → row_of (key.Block cidr) store.rows ≡ o → IsKnownBlock (more known store store) cidr (block_in_found o)
+found-known : (known : Known) (store : Datastore) (cidr : CidrValue) (o : Option Row) → row_of (key.Block cidr) store.rows ≡ o → IsKnownBlock (more known store store) cidr (block_in_found o)
 found-known known store cidr None e = tt
 found-known known store cidr (Some row) e =
     let (b, is, same) = found-block cidr row.1 (row_key-row_of (key.Block cidr) store.rows row e) in
     let there : HasAt store (key.Block cidr) row.0 (record_of.Block b) = e ∙ ap (λ (x : Record). Some (row.0, x)) is in
     subst (λ (x : Record). IsKnownBlock (more known store store) cidr (block_in_found (Some (row.0, x)))) (sym is) (same, inr (inl there))
 
-listed-known : (known : Known) (store : Datastore) (cidr : Range) → IsKnownBlock (more known store store) cidr (block_in_found (find (is_block_at cidr) (rows_said (Listed (listed kind.Block store)))))
+listed-known : (known : Known) (store : Datastore) (cidr : CidrValue) → IsKnownBlock (more known store store) cidr (block_in_found (find (is_block_at cidr) (rows_said (Listed (listed kind.Block store)))))
 listed-known known store cidr =
     subst (λ (o : Option Row). IsKnownBlock (more known store store) cidr (block_in_found o)) (sym (listed-block store.rows cidr))
     (found-known known store cidr (row_of (key.Block cidr) store.rows) refl)
@@ -165,78 +217,111 @@ five_reads-counts family follows k known = (
 
 -- ---- assigning and claiming
 
-assigned-label : (attributes : Attributes) (found : ℕ × block.Content) (ordinal : ℕ) (o : Outcome (Unit {0})) → raised_label attributes.handle found.1.cidr o ≡ label_to still (assign_raised attributes found ordinal o)
-assigned-label attributes (revision, b) ordinal (Went left done) = refl
-assigned-label attributes (revision, b) ordinal (Stops left why) = refl
+-- the block is known as it was read
+abbrev pub IsKnownTarget : Known → Target → Type 0
+IsKnownTarget known target = known (key.Block target.block.cidr) target.revision (record_of.Block target.block)
 
-assigned-counts : (attributes : Attributes) (found : ℕ × block.Content) (ordinal : ℕ) (o : Outcome (Unit {0})) (known : Known) → known (key.Block found.1.cidr) found.0 (record_of.Block found.1) → Counts still known (assign_raised attributes found ordinal o)
-assigned-counts attributes found ordinal (Went left done) known k = assign_block-counts known left attributes found ordinal k
-assigned-counts attributes found ordinal (Stops left why) known k = tt
+assigned-label : (attributes : Attributes) (target : Target) (o : Outcome (Unit {0})) → raised_label attributes.handle target.block.cidr o ≡ label_to still (onward (λ now done. assign_block attributes target now) o)
+assigned-label attributes target (Went left done) = refl
+assigned-label attributes target (Stops left why) = refl
 
-pub assign-keeps : (left : ℕ) (attributes : Attributes) (found : ℕ × block.Content) (ordinal : ℕ) (known : Known) → known (key.Block found.1.cidr) found.0 (record_of.Block found.1) → Keeps known (assign left attributes found ordinal)
-assign-keeps left attributes found ordinal known k = (
-  λ id cidr. ap (owed id cidr) (sym (label_to-bound CountsGrow (raised_label attributes.handle found.1.cidr) still (assign_raised attributes found ordinal) (assigned-label attributes found ordinal) (raise left attributes.handle found.1.cidr)) ∙ raise-label left attributes.handle found.1.cidr),
-  Meets-bound CountsGrow (raised_label attributes.handle found.1.cidr) still Any Any (assign_raised attributes found ordinal) (assigned-label attributes found ordinal) (raise left attributes.handle found.1.cidr) known (raise-counts left attributes.handle found.1.cidr known)
-      (λ other o grows t. assigned-counts attributes found ordinal o other (grows (key.Block found.1.cidr) found.0 (record_of.Block found.1) k)),
-)
+assigned-counts : (attributes : Attributes) (target : Target) (o : Outcome (Unit {0})) (known : Known) → IsKnownTarget known target → Counts still known (onward (λ now done. assign_block attributes target now) o)
+assigned-counts attributes target (Went left done) known k = assign_block-counts known attributes target left k
+assigned-counts attributes target (Stops left why) known k = tt
+
+pub assign-keeps : (attributes : Attributes) (target : Target) (left : Left) (known : Known) → IsKnownTarget known target → Keeps known (assign attributes target left)
+assign-keeps attributes target left known k =
+    let raising = raise attributes.handle target.block.cidr left in
+    let labelled = raised_label attributes.handle target.block.cidr in
+    let follows = onward (λ now done. assign_block attributes target now) in (
+      λ id cidr. ap (owed id cidr) (sym (label_to-bound CountsGrow labelled still follows (assigned-label attributes target) raising) ∙ raise-label attributes.handle target.block.cidr left),
+      Meets-bound CountsGrow labelled still Any Any follows (assigned-label attributes target) raising known (raise-counts attributes.handle target.block.cidr left known)
+          (λ other o grows t. assigned-counts attributes target o other (grows (key.Block target.block.cidr) target.revision (record_of.Block target.block) k)),
+    )
 
 -- a block that was found at its CIDR
-own-known : (known : Known) (cidr : Range) (found : ℕ × block.Content) → IsKnownBlock known cidr (Some found) → known (key.Block found.1.cidr) found.0 (record_of.Block found.1)
-own-known known cidr found h = subst (λ (x : Range). known (key.Block x) found.0 (record_of.Block found.1)) (sym h.0) h.1
+pub own-known : (known : Known) (cidr : CidrValue) (found : ℕ × block.BlockValue) (ordinal : ℕ) → IsKnownBlock known cidr (Some found) → IsKnownTarget known (target_in found ordinal)
+own-known known cidr found ordinal h = subst (λ (x : CidrValue). known (key.Block x) found.0 (record_of.Block found.1)) (sym h.0) h.1
 
-after_claim-keeps : (left claims : ℕ) (answer : ClaimAnswer) (known : Known) → (idle ≡ label_to still (after_claim left claims answer)) × Counts still known (after_claim left claims answer)
-after_claim-keeps left claims claimed.Confirmed known = from (claims + 1 == 64)
-  where
-    from : (b : Bool) → (idle ≡ label_to still (cond b (Ends (Stops left OutOfClaims)) (Ends (Went left (claims + 1))))) × Counts still known (cond b (Ends (Stops left OutOfClaims)) (Ends (Went left (claims + 1))))
-    from true = (refl, tt)
-    from false = (refl, tt)
-after_claim-keeps zero claims claimed.Lost known = (refl, tt)
-after_claim-keeps (suc left) claims claimed.Lost known = (refl, tt)
-after_claim-keeps left claims claimed.Full known = (refl, tt)
-after_claim-keeps left claims claimed.Spent known = (refl, tt)
+after_claim-lawful : (races claims : ℕ) (answer : ClaimAnswer) → Lawful (after_claim (left_of races claims) answer)
+after_claim-lawful races zero claimed.Confirmed known = (refl, tt)
+after_claim-lawful races (suc claims) claimed.Confirmed known = (refl, tt)
+after_claim-lawful zero claims claimed.Lost known = (refl, tt)
+after_claim-lawful (suc races) claims claimed.Lost known = (refl, tt)
+after_claim-lawful races claims claimed.Full known = (refl, tt)
+after_claim-lawful races claims claimed.Spent known = (refl, tt)
 
-nothing_known : Known
-nothing_known = λ k r f. ⊥
-
-pub claim_for-keeps : (left claims : ℕ) (node : List ℕ) (cidr : Range) (read : BlockRead) (known : Known) → IsKnownBlock known cidr read → Keeps known (claim_for left claims node cidr read)
-claim_for-keeps left claims node cidr read known h =
-    bound-keeps (claim node cidr read) (after_claim left claims) known (λ id c. ap (owed id c) (claim-label node cidr read), claim-counts known node cidr read h)
-    (λ answer. (after_claim-keeps left claims answer nothing_known).0) (λ other answer grows. (after_claim-keeps left claims answer other).1)
+pub claim_for-keeps : (node : List ℕ) (cidr : CidrValue) (read : BlockRead) (left : Left) (known : Known) → IsKnownBlock known cidr read → Keeps known (claim_for node cidr read left)
+claim_for-keeps node cidr read left known h =
+    lawful-behind (claim node cidr read) (after_claim left) known (λ id c. ap (owed id c) (claim-label node cidr read), claim-counts known node cidr read h)
+    (λ answer. after_claim-lawful left.races left.claims answer)
 
 -- ---- one family
 
-abbrev pub NextKeeps : add.NextRound → Type 1
-NextKeeps next = (left claims : ℕ) (known : Known) → (label_to still (next left claims) ≡ idle) × Counts still known (next left claims)
+-- what makes a slot a candidate is known
+abbrev pub IsKnownRank : Known → CidrValue → Rank → Type 0
+IsKnownRank known slot (Own found ordinal) = IsKnownBlock known slot (Some found)
+IsKnownRank known slot (Unconfirmed found) = IsKnownBlock known slot (Some found)
+IsKnownRank known slot (Unclaimed read) = IsKnownBlock known slot read
+IsKnownRank known slot (Foreign found ordinal) = IsKnownBlock known slot (Some found)
 
-after_assign-keeps : (next : add.NextRound) → NextKeeps next → (claims : ℕ) (scan : Scan) (cidr : Range) (ordinal : ℕ) (o : Outcome (Option Assigned)) (known : Known) → (idle ≡ label_to still (add.after_assign next claims scan cidr ordinal o)) × Counts still known (add.after_assign next claims scan cidr ordinal o)
-after_assign-keeps next n claims scan cidr ordinal (Went left (Some done)) known = (refl, tt)
-after_assign-keeps next n claims scan cidr ordinal (Went left None) known = (sym (n left claims known).0, (n left claims known).1)
-after_assign-keeps next n claims scan cidr ordinal (Stops left why) known = (refl, tt)
+rank_of_block-known : (known : Known) (asked : Asked) (seen : Seen) (slot : CidrValue) (found : ℕ × block.BlockValue) (room : Option ℕ) (rank : Rank) → IsKnownBlock known slot (Some found) → rank_of_block asked seen found room ≡ Some rank → IsKnownRank known slot rank
+rank_of_block-known known asked seen slot found None rank h e = absurd (cc e)
+rank_of_block-known known asked seen slot found (Some ordinal) rank h e =
+    by (is_node asked.node found.1.node) (list_any (is_confirmed_for asked.node found.1.cidr) seen.affinities) (is_unowned_and_empty found.1 && may_claim asked seen) seen.config.strict e
+  where
+    is : (other : Rank) → IsKnownRank known slot other → Some other ≡ Some rank → IsKnownRank known slot rank
+    is other k f = let same : other ≡ rank = cc f in subst (λ (x : Rank). IsKnownRank known slot x) same k
 
-take_in-keeps : (next : add.NextRound) → NextKeeps next → (left claims : ℕ) (request : AddRequest) (scan : Scan) (ordinal : ℕ) (cidr : Range) (found : Option (ℕ × block.Content)) (known : Known) → IsKnownBlock known cidr found → Keeps known (add.take_in next left claims request scan ordinal found)
-take_in-keeps next n left claims request scan ordinal cidr None known h = (idle-nothing, tt)
-take_in-keeps next n left claims request scan ordinal cidr (Some found) known h =
-    bound-keeps (assign left request.attributes found ordinal) (add.after_assign next claims scan found.1.cidr ordinal) known (assign-keeps left request.attributes found ordinal known (own-known known cidr found h))
-    (λ o. (after_assign-keeps next n claims scan found.1.cidr ordinal o nothing_known).0) (λ other o grows. (after_assign-keeps next n claims scan found.1.cidr ordinal o other).1)
+    by : (own confirmed free strict : Bool) → cond own (cond confirmed (Some (Own found ordinal)) (Some (Unconfirmed found))) (cond free (Some (Unclaimed (Some found))) (cond strict None (Some (Foreign found ordinal)))) ≡ Some rank → IsKnownRank known slot rank
+    by true true free strict f = is (Own found ordinal) h f
+    by true false free strict f = is (Unconfirmed found) h f
+    by false confirmed true strict f = is (Unclaimed (Some found)) h f
+    by false confirmed false true f = absurd (cc f)
+    by false confirmed false false f = is (Foreign found ordinal) h f
 
-next_after_claim-keeps : (next : add.NextRound) → NextKeeps next → (claims : ℕ) (o : Outcome ℕ) (known : Known) → (idle ≡ label_to still (add.next_after_claim next claims o)) × Counts still known (add.next_after_claim next claims o)
-next_after_claim-keeps next n claims (Went left now) known = (sym (n left now known).0, (n left now known).1)
-next_after_claim-keeps next n claims (Stops left why) known = (refl, tt)
+rank_at-known : (known : Known) (asked : Asked) (seen : Seen) (slot : CidrValue) (read : BlockRead) (rank : Rank) → IsKnownBlock known slot read → rank_at asked seen slot read ≡ Some rank → IsKnownRank known slot rank
+rank_at-known known asked seen slot (Some found) rank h e = rank_of_block-known known asked seen slot found (room_of seen found.1) rank h e
+rank_at-known known asked seen slot None rank h e = by (may_claim asked seen && has_free_address seen slot) e
+  where
+    by : (b : Bool) → cond b (Some (Unclaimed None)) None ≡ Some rank → IsKnownRank known slot rank
+    by true f = let same : Unclaimed None ≡ rank = cc f in subst (λ (x : Rank). IsKnownRank known slot x) same tt
+    by false f = absurd (cc f)
 
-follow_choice-keeps : (next : add.NextRound) → NextKeeps next → (left claims : ℕ) (request : AddRequest) (scan : Scan) (seen : Seen) (choice : Choice) (known : Known) → SeenKnown known seen → Keeps known (add.follow_choice next left claims request scan seen choice)
-follow_choice-keeps next n left claims request scan seen (Use cidr ordinal) known h = take_in-keeps next n left claims request scan ordinal cidr (block_at seen cidr) known (h cidr)
-follow_choice-keeps next n left claims request scan seen (Borrow cidr ordinal) known h = take_in-keeps next n left claims request scan ordinal cidr (block_at seen cidr) known (h cidr)
-follow_choice-keeps next n left claims request scan seen (Claim cidr) known h =
-    bound-keeps (claim_for left claims request.node cidr (block_at seen cidr)) (add.next_after_claim next claims) known (claim_for-keeps left claims request.node cidr (block_at seen cidr) known (h cidr))
-    (λ o. (next_after_claim-keeps next n claims o nothing_known).0) (λ other o grows. (next_after_claim-keeps next n claims o other).1)
-follow_choice-keeps next n left claims request scan seen Nothing known h = (idle-nothing, tt)
-follow_choice-keeps next n left claims request scan seen (NoPool place) known h = (idle-nothing, tt)
+after_assign-lawful : (round : Round) → LawfulNext round.next → (target : Target) → LawfulOn (add.after_assign round target)
+after_assign-lawful round n target left (Some done) known = (refl, tt)
+after_assign-lawful round n target left None known = n left known
 
-pub rounds-keeps : (many left claims : ℕ) (request : AddRequest) (family : Family) (known : Known) → (label_to still (add.rounds many left claims request family) ≡ idle) × Counts still known (add.rounds many left claims request family)
-unfolding add.rounds
-rounds-keeps zero left claims request family known = (refl, tt)
-rounds-keeps (suc many) left claims request family known = (
+take_in-keeps : (round : Round) → LawfulNext round.next → (left : Left) (slot : CidrValue) (found : ℕ × block.BlockValue) (ordinal : ℕ) (known : Known) → IsKnownBlock known slot (Some found) → Keeps known (add.take_in round left (target_in found ordinal))
+take_in-keeps round n left slot found ordinal known h =
+    let target = target_in found ordinal in
+    followed-keeps (assign round.request.attributes target left) (add.after_assign round target) known
+    (assign-keeps round.request.attributes target left known (own-known known slot found ordinal h)) (after_assign-lawful round n target)
+
+claim_in-keeps : (round : Round) → LawfulNext round.next → (left : Left) (slot : CidrValue) (read : BlockRead) (known : Known) → IsKnownBlock known slot read → Keeps known (add.claim_in round left slot read)
+claim_in-keeps round n left slot read known h =
+    followed-keeps (claim_for round.request.node slot read left) (λ now done. round.next now) known
+    (claim_for-keeps round.request.node slot read left known h) (λ now done. n now)
+
+follow_rank-keeps : (round : Round) → LawfulNext round.next → (left : Left) (slot : CidrValue) (rank : Rank) (known : Known) → IsKnownRank known slot rank → Keeps known (add.follow_rank round left slot rank)
+follow_rank-keeps round n left slot (Own found ordinal) known h = take_in-keeps round n left slot found ordinal known h
+follow_rank-keeps round n left slot (Unconfirmed found) known h = claim_in-keeps round n left slot (Some found) known h
+follow_rank-keeps round n left slot (Unclaimed read) known h = claim_in-keeps round n left slot read known h
+follow_rank-keeps round n left slot (Foreign found ordinal) known h = take_in-keeps round n left slot found ordinal known h
+
+follow_pick-keeps : (round : Round) → LawfulNext round.next → (left : Left) (asked : Asked) (seen : Seen) (known : Known) → SeenKnown known seen → (pick : Pick) → pick_of asked seen ≡ pick → Keeps known (add.follow_pick round left pick)
+follow_pick-keeps round n left asked seen known h (Picks ranked) is =
+    follow_rank-keeps round n left ranked.slot ranked.rank known
+    (rank_at-known known asked seen ranked.slot (block_at seen ranked.slot) ranked.rank (h ranked.slot) (pick-ranked asked seen ranked is))
+follow_pick-keeps round n left asked seen known h Lacks is = (idle-nothing, tt)
+follow_pick-keeps round n left asked seen known h (Unknown place) is = (idle-nothing, tt)
+
+round-lawful : (request : AddRequest) (family : Family) (next : add.NextRound) → LawfulNext next → LawfulNext (add.round_of request family next)
+round-lawful request family next n left known = (
   refl,
-  (five_reads-counts family (λ scan seen. add.follow_choice (λ less now. add.rounds many less now request family) left claims request scan seen (choice_of (add.asked_of request family) seen))
-      (λ other scan seen h. follow_choice-keeps (λ less now. add.rounds many less now request family) (λ less now wider. rounds-keeps many less now request family wider) left claims request scan seen (choice_of (add.asked_of request family) seen) other h) known).1,
+  (five_reads-counts family (λ scan seen. add.follow_pick (record { request = request; scan = scan; next = next }) left (pick_of (add.asked_of request family) seen))
+      (λ other scan seen h. follow_pick-keeps (record { request = request; scan = scan; next = next }) n left (add.asked_of request family) seen other h (pick_of (add.asked_of request family) seen) refl) known).1,
 )
+
+pub serve-lawful : (request : AddRequest) (family : Family) → LawfulNext (add.serve request family)
+serve-lawful request family left = rounds-lawful (add.round_of request family) (round-lawful request family) (left.races + left.claims) left

@@ -1,9 +1,9 @@
 -- Courses are lawful histories, and lawful histories are courses.
 use Rattle.std.proofs.Common.{◌≡◌, ℕ, zero, suc, ◌+◌, ◌<◌, ◌≤◌, Bool, true, false, cond, List, [], ◌∷◌, ◌++◌, map, Option, Some, None, refl, sym, ap, ◌∙◌, subst, arith, nat_lt, ltb-true, eqb-true}
-use Rattle.std.specs.Prelude.{◌==◌, nat_le, is_some, reverse, IsTrue, IsSome, Result, Ok, Err}
+use Rattle.std.specs.Prelude.{◌==◌, is_some, reverse, IsTrue, IsSome, Result, Ok, Err}
 use Rattle.std.specs.List.{All, filter, range_with_len}
 use mathlib.Core.List.{reverse_aux}
-use Rattle.std.proofs.lemmas.Bool.{lt-ltb, le-leb, leb-true}
+use Rattle.std.proofs.lemmas.Bool.{lt-ltb}
 use Rattle.std.proofs.lemmas.List.{reverse-reverse}
 use Rattle.ipam_records.specs.Word.{Word, Ends, Asks, Waits, waits}
 use Rattle.ipam_records.specs.Datastore.{Datastore}
@@ -15,7 +15,7 @@ use Rattle.ipam_model.specs.declared.entry.Fate.{Fate}
 use Rattle.ipam_model.specs.declared.entry.Fate.TheVariants.{Well, Before, After}
 use Rattle.ipam_model.specs.declared.request.Request.{Request}
 use Rattle.ipam_model.specs.Cluster.{Cluster, Running, Slots, call_entry, after}
-use Rattle.ipam_model.specs.Course.{Course, Event, Begin, Turn, Feed, Stop, Restart, Refusal, Worn, TooSoon, one, unless_worn, begin_entry, turn_entry, turn_called, feed_entry, feed_waiting, feed_in_time, stop_entry, time_of, busy_slots, entries_of, after_all, behind, course, most_entries, slot_count}
+use Rattle.ipam_model.specs.Course.{Course, Event, Begin, Turn, Feed, Stop, Restart, Refusal, Worn, NotWaiting, one, unless_worn, begin_entry, turn_entry, turn_called, feed_entry, feed_waiting, is_due, too_soon, stop_entry, busy_slots, entries_of, after_all, behind, refused_at_once, course, most_entries, slot_count}
 use Rattle.ipam_model.specs.CourseLaw.{IsEvent, CourseLaw, event_of, HistoryLaw}
 use Rattle.ipam_model.specs.History.{Base, Lawful, cluster_at, start, MayCome, MayFeed, MayCall, MayStop}
 
@@ -112,28 +112,27 @@ turn-comes base history slot fate entries below e = from ((cluster_at base histo
 feed-comes : (base : Base) (history : List Entry) (slot at : ℕ) (live : List (List ℕ)) (entries : List Entry) → IsEvent (Feed slot at live) → entries_of (cluster_at base history) (Feed slot at live) ≡ Ok entries → Comes base history entries
 feed-comes base history slot at live entries sound e = from ((cluster_at base history).slots slot) refl e
   where
-    due : (running : Running) → (cluster_at base history).slots slot ≡ Some running → IsTrue (waits running.word) → (b : Bool) → nat_le ((time_of running.request).0 + (time_of running.request).1) at ≡ b
-        → one (cond b (unless_worn (cluster_at base history) (entry.Fed slot at live)) (Err (TooSoon (time_of running.request).0 (time_of running.request).1))) ≡ Ok entries → Comes base history entries
-    due running runs waiting true late f =
+    timed : (running : Running) → (cluster_at base history).slots slot ≡ Some running → IsTrue (waits running.word) → (b : Bool) → is_due running.request at ≡ b
+        → one (cond b (unless_worn (cluster_at base history) (entry.Fed slot at live)) (Err (too_soon running.request))) ≡ Ok entries → Comes base history entries
+    timed running runs waiting true late f =
         let h = one-unless_worn (cluster_at base history) (entry.Fed slot at live) entries f in
         comes-one base history (entry.Fed slot at live) entries h.is (record {
           turn = record { slot_exists = sound.0; not_worn = h.not_worn };
           running = running;
           runs = runs;
           waiting = waiting;
-          due = leb-true ((time_of running.request).0 + (time_of running.request).1) at late;
+          due = late;
           sound = sound.1;
         })
-    due running runs waiting false late f = cc
+    timed running runs waiting false late f = cc
 
-    fed : (running : Running) → (cluster_at base history).slots slot ≡ Some running → (word : Word Answer) → running.word ≡ word → one (feed_waiting (cluster_at base history) slot at live running.request word) ≡ Ok entries → Comes base history entries
-    fed running runs (Ends answer) is f = cc
-    fed running runs (Asks label asked next) is f = cc
-    fed running runs (Waits next) is f = due running runs (subst (λ (w : Word Answer). IsTrue (waits w)) (sym is) refl) (nat_le ((time_of running.request).0 + (time_of running.request).1) at) refl f
+    fed : (running : Running) → (cluster_at base history).slots slot ≡ Some running → (b : Bool) → waits running.word ≡ b → one (cond b (feed_waiting (cluster_at base history) slot at live running.request) (Err NotWaiting)) ≡ Ok entries → Comes base history entries
+    fed running runs true waiting f = timed running runs waiting (is_due running.request at) refl f
+    fed running runs false waiting f = cc
 
     from : (o : Option Running) → (cluster_at base history).slots slot ≡ o → one (feed_entry (cluster_at base history) slot at live o) ≡ Ok entries → Comes base history entries
     from None idle f = cc
-    from (Some running) runs f = fed running runs running.word refl f
+    from (Some running) runs f = fed running runs (waits running.word) refl f
 
 stop-comes : (base : Base) (history : List Entry) (slot : ℕ) (entries : List Entry) → IsEvent (Stop slot) → entries_of (cluster_at base history) (Stop slot) ≡ Ok entries → Comes base history entries
 stop-comes base history slot entries below e = from ((cluster_at base history).slots slot) refl e
@@ -182,7 +181,7 @@ event-comes base history Restart entries is e =
 course_next : Cluster → List Event → Result (List Entry) Refusal → Course
 course_next cluster events r = elim r [
   | Ok entries ↦ behind entries (course (after_all cluster entries) events)
-  | Err refusal ↦ record { entries = []; refused = Some refusal }
+  | Err refusal ↦ refused_at_once refusal
 ]
 
 course-comes : (base : Base) (events : List Event) (history : List Entry) → All IsEvent events → Comes base history (course (cluster_at base history) events).entries
@@ -217,14 +216,9 @@ call-event cluster c h =
 feed-event : (cluster : Cluster) (slot at : ℕ) (live : List (List ℕ)) → MayFeed cluster slot at live → entries_of cluster (Feed slot at live) ≡ Ok (entry.Fed slot at live ∷ [])
 feed-event cluster slot at live h =
     ap (λ o. one (feed_entry cluster slot at live o)) h.runs
-    ∙ waiting h.running.word h.waiting
-    ∙ ap (λ b. one (cond b (unless_worn cluster (entry.Fed slot at live)) (Err (TooSoon (time_of h.running.request).0 (time_of h.running.request).1)))) (le-leb ((time_of h.running.request).0 + (time_of h.running.request).1) at h.due)
+    ∙ ap (λ b. one (cond b (feed_waiting cluster slot at live h.running.request) (Err NotWaiting))) h.waiting
+    ∙ ap (λ b. one (cond b (unless_worn cluster (entry.Fed slot at live)) (Err (too_soon h.running.request)))) h.due
     ∙ unless_worn-new cluster (entry.Fed slot at live) h.turn.not_worn
-  where
-    waiting : (word : Word Answer) → IsTrue (waits word) → one (feed_waiting cluster slot at live h.running.request word) ≡ one (feed_in_time cluster slot at live (time_of h.running.request))
-    waiting (Ends answer) w = cc
-    waiting (Asks label asked next) w = cc
-    waiting (Waits next) w = refl
 
 stop-event : (cluster : Cluster) (slot : ℕ) (o : Option Running) → cluster.slots slot ≡ o → IsSome o → one (stop_entry slot (cluster.slots slot)) ≡ Ok (entry.Stopped slot ∷ [])
 stop-event cluster slot None is runs = cc

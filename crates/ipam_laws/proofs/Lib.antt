@@ -17,3 +17,17 @@ pub mod CountHistory
 pub mod EventHistory
 pub mod AloneHistory
 pub mod SpanBound
+pub mod KeptWords
+pub mod Fates
+pub mod StandsFor
+pub mod SpanCalls
+pub mod KeptRequests
+pub mod OwnAnswers
+pub mod CallsFall
+pub mod Openings
+pub mod Trails
+pub mod AddTrails
+pub mod AddParts
+pub mod AddRounds
+pub mod AddFamilies
+pub mod FamilyHistory

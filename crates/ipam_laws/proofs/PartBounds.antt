@@ -1,13 +1,12 @@
 -- The parts of requests: each lost race costs so many calls, and each part leaves what it does not need.
-use Rattle.std.proofs.Common.{◌≡◌, ℕ, zero, suc, ◌+◌, ◌*◌, ◌-◌, ◌≤◌, true, false, Bool, cond, List, Option, Some, None, refl, arith}
+use Rattle.std.proofs.Common.{ℕ, zero, suc, ◌+◌, ◌*◌, ◌-◌, ◌≤◌, true, false, Bool, cond, List, Option, Some, None, arith}
 use Rattle.std.specs.Prelude.{nat_le, map}
 use Rattle.std.specs.List.{count_by}
-use Rattle.ipam_addr.specs.Shape.{Range}
-use Rattle.ipam_block.specs.declared.allocation.Allocation.{Allocation}
-use Rattle.ipam_block.specs.Content as block
+use Rattle.ipam_addr.specs.Shape.{CidrValue}
+use Rattle.ipam_block.specs.Shape as block
 use Rattle.ipam_records.specs.Label.{Credit}
 use Rattle.ipam_records.specs.Said.{Said}
-use Rattle.ipam_records.specs.Word.{Word, Ends}
+use Rattle.ipam_records.specs.Word.{Word}
 use Rattle.ipam_handle.specs.Operations.{count_of}
 use Rattle.ipam_addr.specs.declared.address.Family.{Family}
 use Rattle.ipam_model.specs.declared.answer.Scan.{Scan}
@@ -15,96 +14,106 @@ use Rattle.ipam_model.specs.Add.{five_reads}
 use Rattle.ipam_model.specs.Choice.{Seen}
 use Rattle.ipam_model.specs.Usable.{for_all}
 use Rattle.ipam_model.specs.Reads.{config_said, pools_said, reservations_said, rows_said, handle_said, block_said}
-use Rattle.ipam_model.specs.Step.{Outcome, Went, Stops, OutOfTries, NoRoom, NoRevisions, CountAtLimit}
-use Rattle.ipam_model.specs.Counting.{most_count, raise, raise_once, raise_write, lower, lower_once, free, free_once, free_found, free_these, freed_and_lowered, credit_of}
-use Rattle.ipam_laws.proofs.Within.{Within, Within-bound, Within-after_write}
+use Rattle.ipam_model.specs.Step.{Left, left_of, Outcome, Went, Stops, Part, OutOfTries, NoRoom, NoRevisions, CountAtLimit, goes, stops, tries}
+use Rattle.ipam_model.specs.Counting.{most_count, raise, raise_once, raise_write, lower, lower_once, Freeing, free, free_once, free_found, free_these, credit_of}
+use Rattle.ipam_laws.proofs.Within.{Within, Within-followed, Within-after_write}
 
--- so many calls for each race that may still be lost, and so many more
-abbrev pub Leaves : {A : Type 0} → (each more : ℕ) → Outcome A → ℕ → Type 0
-Leaves each more (Went left done) count = each * left + more ≤ count
-Leaves each more (Stops left why) count = each * left + more ≤ count
+-- so many calls for each race that may still be lost, and for each claim that may be confirmed
+abbrev pub worth : (each claim : ℕ) → Left → ℕ
+worth each claim left = each * left.races + claim * left.claims
 
--- ---- raising
+-- these are left, and so many more
+abbrev pub Leaves : {A : Type 0} → (each claim more : ℕ) → Outcome A → ℕ → Type 0
+Leaves each claim more (Went left done) count = worth each claim left + more ≤ count
+Leaves each claim more (Stops left why) count = worth each claim left + more ≤ count
 
-raise_read-within : (each more left count : ℕ) (again : Word (Outcome (Unit {0}))) (id : List ℕ) (cidr : Range) (moment : ℕ) (said : Said) (b : Bool) → nat_le most_count (count_of (handle_said id said) cidr) ≡ b → each * left + more + 1 ≤ count → Within (Leaves each more) again (count - 1) → Within (Leaves each more) (cond b (Ends (Stops left (CountAtLimit moment))) (raise_write again left id cidr said)) count
-raise_read-within each more left count again id cidr moment said true e h a = omega arith
-raise_read-within each more left count again id cidr moment said false e h a = (
-  omega arith,
-  λ second reply.
-      Within-after_write (Leaves each more) reply (λ revision. Ends (Went left tt)) again (Ends (Stops left NoRoom)) (Ends (Stops left NoRevisions)) (count - 1)
-      (λ revision. omega arith) a (omega arith) (omega arith),
-)
+module _ (each claim more : ℕ) where
+  -- ---- raising
 
-raise_once-within : (each more left count : ℕ) (again : Word (Outcome (Unit {0}))) (id : List ℕ) (cidr : Range) → each * left + more + 2 ≤ count → Within (Leaves each more) again (count - 1 - 1) → Within (Leaves each more) (raise_once again left id cidr) count
-raise_once-within each more left count again id cidr h a = (
-  omega arith,
-  λ moment said.
-      raise_read-within each more left (count - 1) again id cidr moment said (nat_le most_count (count_of (handle_said id said) cidr)) refl (omega arith) a,
-)
-
-pub raise-within : (each more left count : ℕ) (id : List ℕ) (cidr : Range) → 2 ≤ each → each * left + more + 2 ≤ count → Within (Leaves each more) (raise left id cidr) count
-unfolding raise
-raise-within each more zero count id cidr two h = raise_once-within each more zero count (Ends (Stops zero OutOfTries)) id cidr h (omega arith)
-raise-within each more (suc left) count id cidr two h =
-    raise_once-within each more (suc left) count (raise left id cidr) id cidr h
-    (raise-within each more left (count - 1 - 1) id cidr two (omega arith))
-
--- ---- lowering
-
-lower_once-within : (each more left count : ℕ) (again : Word (Outcome (Unit {0}))) (credit : Credit) → each * left + more + 2 ≤ count → Within (Leaves each more) again (count - 1 - 1) → Within (Leaves each more) (lower_once again left credit) count
-lower_once-within each more left count again credit h a = (
-  omega arith,
-  λ moment said. (
+  raise_read-within : (left : Left) (count : ℕ) (id : List ℕ) (cidr : CidrValue) (again : Part (Unit {0})) (moment : ℕ) (said : Said) (b : Bool) → worth each claim left + more + 1 ≤ count → Within (Leaves each claim more) again (count - 1) → Within (Leaves each claim more) (cond b (stops left (CountAtLimit moment)) (raise_write id cidr again left said)) count
+  raise_read-within left count id cidr again moment said true h a = omega arith
+  raise_read-within left count id cidr again moment said false h a = (
     omega arith,
     λ second reply.
-        Within-after_write (Leaves each more) reply (λ revision. Ends (Went left tt)) again (Ends (Stops left NoRoom)) (Ends (Stops left NoRevisions)) (count - 1 - 1)
+        Within-after_write (Leaves each claim more) reply (λ revision. goes left tt) again (stops left NoRoom) (stops left NoRevisions) (count - 1)
         (λ revision. omega arith) a (omega arith) (omega arith),
-  ),
-)
+  )
 
-pub lower-within : (each more left count : ℕ) (credit : Credit) → 2 ≤ each → each * left + more + 2 ≤ count → Within (Leaves each more) (lower left credit) count
-unfolding lower
-lower-within each more zero count credit two h = lower_once-within each more zero count (Ends (Stops zero OutOfTries)) credit h (omega arith)
-lower-within each more (suc left) count credit two h =
-    lower_once-within each more (suc left) count (lower left credit) credit h
-    (lower-within each more left (count - 1 - 1) credit two (omega arith))
+  raise_once-within : (left : Left) (count : ℕ) (id : List ℕ) (cidr : CidrValue) (again : Part (Unit {0})) → worth each claim left + more + 2 ≤ count → Within (Leaves each claim more) again (count - 1 - 1) → Within (Leaves each claim more) (raise_once id cidr again left) count
+  raise_once-within left count id cidr again h a = (
+    omega arith,
+    λ moment said.
+        raise_read-within left (count - 1) id cidr again moment said (nat_le most_count (count_of (handle_said id said) cidr)) (omega arith) a,
+  )
 
--- ---- freeing
+  raise_tries-within : (races claims count : ℕ) (id : List ℕ) (cidr : CidrValue) → 2 ≤ each → each * races + claim * claims + more + 2 ≤ count → Within (Leaves each claim more) (tries (raise_once id cidr) races claims) count
+  unfolding tries
+  raise_tries-within zero claims count id cidr two h = raise_once-within (left_of zero claims) count id cidr (stops (left_of zero claims) OutOfTries) h (omega arith)
+  raise_tries-within (suc races) claims count id cidr two h =
+      raise_once-within (left_of (suc races) claims) count id cidr (tries (raise_once id cidr) races claims) h
+      (raise_tries-within races claims (count - 1 - 1) id cidr two (omega arith))
 
-freed-within : (each more amount : ℕ) (o : Outcome (Unit {0})) (count : ℕ) → Leaves each more o count → Within (Leaves each more) (freed_and_lowered amount o) count
-freed-within each more amount (Went left done) count h = h
-freed-within each more amount (Stops left why) count h = h
+  pub raise-within : (left : Left) (count : ℕ) (id : List ℕ) (cidr : CidrValue) → 2 ≤ each → worth each claim left + more + 2 ≤ count → Within (Leaves each claim more) (raise id cidr left) count
+  raise-within left count id cidr two h = raise_tries-within left.races left.claims count id cidr two h
 
-free_these-within : (each more left count : ℕ) (again : Word (Outcome ℕ)) (id : List ℕ) (cidr : Range) (picks : Allocation → Bool) (amount : ℕ) (found : ℕ × block.Content) → 2 ≤ each → each * left + more + 3 ≤ count → Within (Leaves each more) again (count - 1) → Within (Leaves each more) (free_these again left id cidr picks amount found) count
-free_these-within each more left count again id cidr picks zero found two h a = omega arith
-free_these-within each more left count again id cidr picks (suc amount) (revision, b) two h a = (
-  omega arith,
-  λ moment reply.
-      Within-after_write (Leaves each more) reply _ again (Ends (Stops left NoRoom)) (Ends (Stops left NoRevisions)) (count - 1)
-      (λ taken. Within-bound (Leaves each more) (Leaves each more) (lower left (credit_of id cidr (suc amount))) (freed_and_lowered (suc amount)) (count - 1)
-      (lower-within each more left (count - 1) (credit_of id cidr (suc amount)) two (omega arith))
-      (λ o rest k. freed-within each more (suc amount) o rest k))
-      a (omega arith) (omega arith),
-)
+  -- ---- lowering
 
-free_found-within : (each more left count : ℕ) (again : Word (Outcome ℕ)) (id : List ℕ) (cidr : Range) (picks : Allocation → Bool) (found : Option (ℕ × block.Content)) → 2 ≤ each → each * left + more + 3 ≤ count → Within (Leaves each more) again (count - 1) → Within (Leaves each more) (free_found again left id cidr picks found) count
-free_found-within each more left count again id cidr picks None two h a = omega arith
-free_found-within each more left count again id cidr picks (Some found) two h a =
-    free_these-within each more left count again id cidr picks (count_by picks found.1.allocations) found two h a
+  lower_once-within : (left : Left) (count : ℕ) (credit : Credit) (again : Part (Unit {0})) → worth each claim left + more + 2 ≤ count → Within (Leaves each claim more) again (count - 1 - 1) → Within (Leaves each claim more) (lower_once credit again left) count
+  lower_once-within left count credit again h a = (
+    omega arith,
+    λ moment said. (
+      omega arith,
+      λ second reply.
+          Within-after_write (Leaves each claim more) reply (λ revision. goes left tt) again (stops left NoRoom) (stops left NoRevisions) (count - 1 - 1)
+          (λ revision. omega arith) a (omega arith) (omega arith),
+    ),
+  )
 
-free_once-within : (each more left count : ℕ) (again : Word (Outcome ℕ)) (id : List ℕ) (cidr : Range) (picks : Allocation → Bool) → 2 ≤ each → each * left + more + 4 ≤ count → Within (Leaves each more) again (count - 1 - 1) → Within (Leaves each more) (free_once again left id cidr picks) count
-free_once-within each more left count again id cidr picks two h a = (
-  omega arith,
-  λ moment said.
-      free_found-within each more left (count - 1) again id cidr picks (block_said said) two (omega arith) a,
-)
+  lower_tries-within : (races claims count : ℕ) (credit : Credit) → 2 ≤ each → each * races + claim * claims + more + 2 ≤ count → Within (Leaves each claim more) (tries (lower_once credit) races claims) count
+  unfolding tries
+  lower_tries-within zero claims count credit two h = lower_once-within (left_of zero claims) count credit (stops (left_of zero claims) OutOfTries) h (omega arith)
+  lower_tries-within (suc races) claims count credit two h =
+      lower_once-within (left_of (suc races) claims) count credit (tries (lower_once credit) races claims) h
+      (lower_tries-within races claims (count - 1 - 1) credit two (omega arith))
 
-pub free-within : (each more left count : ℕ) (id : List ℕ) (cidr : Range) (picks : Allocation → Bool) → 2 ≤ each → each * left + more + 4 ≤ count → Within (Leaves each more) (free left id cidr picks) count
-unfolding free
-free-within each more zero count id cidr picks two h = free_once-within each more zero count (Ends (Stops zero OutOfTries)) id cidr picks two h (omega arith)
-free-within each more (suc left) count id cidr picks two h =
-    free_once-within each more (suc left) count (free left id cidr picks) id cidr picks two h
-    (free-within each more left (count - 1 - 1) id cidr picks two (omega arith))
+  pub lower-within : (left : Left) (count : ℕ) (credit : Credit) → 2 ≤ each → worth each claim left + more + 2 ≤ count → Within (Leaves each claim more) (lower credit left) count
+  lower-within left count credit two h = lower_tries-within left.races left.claims count credit two h
+
+  -- ---- freeing
+
+  free_these-within : (left : Left) (count : ℕ) (what : Freeing) (again : Part ℕ) (amount : ℕ) (found : ℕ × block.BlockValue) → 2 ≤ each → worth each claim left + more + 3 ≤ count → Within (Leaves each claim more) again (count - 1) → Within (Leaves each claim more) (free_these what again left amount found) count
+  free_these-within left count what again zero found two h a = omega arith
+  free_these-within left count what again (suc amount) (revision, b) two h a = (
+    omega arith,
+    λ moment reply.
+        Within-after_write (Leaves each claim more) reply _ again (stops left NoRoom) (stops left NoRevisions) (count - 1)
+        (λ taken. Within-followed (Leaves each claim more) (Leaves each claim more) (lower (credit_of what.handle what.block (suc amount)) left) (λ now done. goes now (suc amount)) (count - 1)
+        (lower-within left (count - 1) (credit_of what.handle what.block (suc amount)) two (omega arith))
+        (λ now done rest k. k) (λ now why rest k. k))
+        a (omega arith) (omega arith),
+  )
+
+  free_found-within : (left : Left) (count : ℕ) (what : Freeing) (again : Part ℕ) (found : Option (ℕ × block.BlockValue)) → 2 ≤ each → worth each claim left + more + 3 ≤ count → Within (Leaves each claim more) again (count - 1) → Within (Leaves each claim more) (free_found what again left found) count
+  free_found-within left count what again None two h a = omega arith
+  free_found-within left count what again (Some found) two h a =
+      free_these-within left count what again (count_by what.picks found.1.allocations) found two h a
+
+  free_once-within : (left : Left) (count : ℕ) (what : Freeing) (again : Part ℕ) → 2 ≤ each → worth each claim left + more + 4 ≤ count → Within (Leaves each claim more) again (count - 1 - 1) → Within (Leaves each claim more) (free_once what again left) count
+  free_once-within left count what again two h a = (
+    omega arith,
+    λ moment said.
+        free_found-within left (count - 1) what again (block_said said) two (omega arith) a,
+  )
+
+  free_tries-within : (races claims count : ℕ) (what : Freeing) → 2 ≤ each → each * races + claim * claims + more + 4 ≤ count → Within (Leaves each claim more) (tries (free_once what) races claims) count
+  unfolding tries
+  free_tries-within zero claims count what two h = free_once-within (left_of zero claims) count what (stops (left_of zero claims) OutOfTries) two h (omega arith)
+  free_tries-within (suc races) claims count what two h =
+      free_once-within (left_of (suc races) claims) count what (tries (free_once what) races claims) two h
+      (free_tries-within races claims (count - 1 - 1) what two (omega arith))
+
+  pub free-within : (left : Left) (count : ℕ) (what : Freeing) → 2 ≤ each → worth each claim left + more + 4 ≤ count → Within (Leaves each claim more) (free what left) count
+  free-within left count what two h = free_tries-within left.races left.claims count what two h
 
 -- ---- the five reads of a round
 

@@ -1,17 +1,16 @@
 -- The bounds of all requests.
 use Rattle.std.proofs.Common.{◌≡◌, ℕ, zero, suc, ◌+◌, ◌*◌, ◌-◌, ◌≤◌, true, false, Bool, cond, List, [], ◌∷◌, ◌++◌, length, Option, Some, None, refl, subst, arith}
-use Rattle.std.specs.Prelude.{◌==◌, map}
+use Rattle.std.specs.Prelude.{map}
 use Rattle.ipam_addr.specs.declared.address.Family.{Family}
 use Rattle.ipam_addr.specs.declared.address.Family.TheVariants.{V4, V6}
-use Rattle.ipam_addr.specs.Shape.{Address, Range}
+use Rattle.ipam_addr.specs.Shape.{AddrValue, CidrValue}
 use Rattle.ipam_pool.specs.declared.pools.Pool.{Pool}
-use Rattle.ipam_block.specs.Operations.{is_owned}
 use Rattle.ipam_affinity.specs.declared.record.Affinity.{Affinity}
 use Rattle.ipam_records.specs.Bound.{AtMost}
 use Rattle.ipam_records.specs.Said.{Said}
 use Rattle.ipam_records.specs.Word.{Word, Ends}
 use Rattle.ipam_model.specs.declared.answer.Answer.{Answer}
-use Rattle.ipam_model.specs.declared.answer.Item.{Item}
+use Rattle.ipam_model.specs.declared.answer.Collected.{Collected}
 use Rattle.ipam_model.specs.declared.answer.Scan.{Scan}
 use Rattle.ipam_model.specs.declared.choice.Choice.{Choice}
 use Rattle.ipam_model.specs.declared.choice.Choice.TheVariants.{Use, Claim, Borrow, Nothing, NoPool}
@@ -29,17 +28,17 @@ use Rattle.ipam_model.specs.Admin as change
 use Rattle.ipam_model.specs.Affinities as affinities
 use Rattle.ipam_model.specs.BoundLaw.{BoundLaw, CollectBoundLaw}
 use Rattle.ipam_model.specs.Choice.{choice_of}
-use Rattle.ipam_model.specs.Counting.{free}
+use Rattle.ipam_model.specs.Counting.{freeing_all, free}
 use Rattle.ipam_model.specs.Look as look
 use Rattle.ipam_model.specs.Reads.{handle_said, rows_said, affinity_said, block_said, pools_said}
 use Rattle.ipam_model.specs.Remove as remove
 use Rattle.ipam_model.specs.Requests.{word_of, told_as}
 use Rattle.ipam_model.specs.Told.{of_add, of_add_this, of_del, of_check, of_release, of_collect, of_admin, of_probe}
-use Rattle.ipam_model.specs.Step.{Outcome, Went, Stops, most_lost}
-use Rattle.ipam_model.specs.Usable.{pool_of}
-use Rattle.ipam_laws.proofs.Within.{Within, AtMost-Within, Within-bound, Within-after_write}
+use Rattle.ipam_model.specs.Step.{Left, left_of, all_left, Part, OutOfTries, NoRoom, NoRevisions, goes, stops, tries, retried}
+use Rattle.ipam_model.specs.Usable.{families_if, pool_of}
+use Rattle.ipam_laws.proofs.Within.{Within, Any, AtMost-Within, Within-bound, Within-followed, Within-settled, Within-after_write}
 use Rattle.ipam_laws.proofs.PartBounds.{Leaves, free-within, five_reads-within}
-use Rattle.ipam_laws.proofs.AddBounds.{Any, add_families-within, this_rounds-within}
+use Rattle.ipam_laws.proofs.AddBounds.{add-within, add_this-within}
 
 -- a word keeps its bound where its answer is told as another
 told-bound : {A : Type 0} → (of_one : A → Answer) (w : Word A) (count : ℕ) → Within Any w count → AtMost (told_as of_one w) count
@@ -47,43 +46,35 @@ told-bound of_one w count h = AtMost-Within Any (told_as of_one w) count (Within
 
 -- ---- DEL
 
-del_blocks-within : (left : ℕ) (id : List ℕ) (moment : ℕ) (blocks : List Range) (count : ℕ) → 2 * left + 4 * length blocks ≤ count → Within Any (remove.del_blocks left id moment blocks) count
+del_blocks-within : (id : List ℕ) (moment : ℕ) (blocks : List CidrValue) (left : Left) (count : ℕ) → 2 * left.races + 0 * left.claims + 4 * length blocks ≤ count → Within Any (remove.del_blocks id moment blocks left) count
 unfolding remove.del_blocks
-del_blocks-within left id moment [] count h = tt
-del_blocks-within left id moment (cidr ∷ rest) count h =
-    Within-bound (Leaves 2 (4 * length rest)) Any (free left id cidr (is_owned id)) (remove.del_next (λ less. remove.del_blocks less id moment rest)) count
-    (free-within 2 (4 * length rest) left count id cidr (is_owned id) (omega arith) (omega arith))
-    (next (λ less remaining k. del_blocks-within less id moment rest remaining k))
-  where
-    next : ((less remaining : ℕ) → 2 * less + 4 * length rest ≤ remaining → Within Any (remove.del_blocks less id moment rest) remaining) → (o : Outcome ℕ) (remaining : ℕ) → Leaves 2 (4 * length rest) o remaining → Within Any (remove.del_next (λ less. remove.del_blocks less id moment rest) o) remaining
-    next further (Went less amount) remaining k = further less remaining k
-    next further (Stops less why) remaining k = tt
+del_blocks-within id moment [] left count h = tt
+del_blocks-within id moment (cidr ∷ rest) left count h =
+    Within-followed (Leaves 2 0 (4 * length rest)) Any (free (freeing_all id cidr) left) (λ now amount. remove.del_blocks id moment rest now) count
+    (free-within 2 0 (4 * length rest) left count (freeing_all id cidr) (omega arith) (omega arith))
+    (λ now amount remaining k. del_blocks-within id moment rest now remaining k) (λ now why remaining k. tt)
 
-blocks_of_counts : (counts : List (Range × ℕ)) → length (map (λ (count : Range × ℕ). count.0) counts) ≡ length counts
+blocks_of_counts : (counts : List (CidrValue × ℕ)) → length (map (λ (count : CidrValue × ℕ). count.0) counts) ≡ length counts
 blocks_of_counts [] = refl
 blocks_of_counts (count ∷ counts) = omega (arith, blocks_of_counts counts)
 
 -- ---- collection
 
-free_leaks-within : (left b1 b2 : ℕ) (done : List Item) (leaks : List remove.Leak) (count : ℕ) → 2 * left + 4 * length leaks ≤ count → Within Any (remove.free_leaks left b1 b2 done leaks) count
+free_leaks-within : (done : Collected) (leaks : List remove.Leak) (left : Left) (count : ℕ) → 2 * left.races + 0 * left.claims + 4 * length leaks ≤ count → Within Any (remove.free_leaks done leaks left) count
 unfolding remove.free_leaks
-free_leaks-within left b1 b2 done [] count h = tt
-free_leaks-within left b1 b2 done (leak ∷ rest) count h =
-    Within-bound (Leaves 2 (4 * length rest)) Any (free left leak.owner.handle leak.block (remove.is_leak leak)) (remove.collect_next (λ less item. remove.free_leaks less b1 b2 (done ++ item ∷ []) rest) leak) count
-    (free-within 2 (4 * length rest) left count leak.owner.handle leak.block (remove.is_leak leak) (omega arith) (omega arith))
-    (next (λ less item remaining k. free_leaks-within less b1 b2 (done ++ item ∷ []) rest remaining k))
-  where
-    next : ((less : ℕ) (item : Item) (remaining : ℕ) → 2 * less + 4 * length rest ≤ remaining → Within Any (remove.free_leaks less b1 b2 (done ++ item ∷ []) rest) remaining) → (o : Outcome ℕ) (remaining : ℕ) → Leaves 2 (4 * length rest) o remaining → Within Any (remove.collect_next (λ less item. remove.free_leaks less b1 b2 (done ++ item ∷ []) rest) leak o) remaining
-    next further (Went less amount) remaining k = further less (remove.item_of leak amount) remaining k
-    next further (Stops less why) remaining k = tt
+free_leaks-within done [] left count h = tt
+free_leaks-within done (leak ∷ rest) left count h =
+    Within-followed (Leaves 2 0 (4 * length rest)) Any (free (remove.freeing_owner leak.owner leak.block) left) (λ now amount. remove.free_leaks (remove.with_item done (remove.item_of leak amount)) rest now) count
+    (free-within 2 0 (4 * length rest) left count (remove.freeing_owner leak.owner leak.block) (omega arith) (omega arith))
+    (λ now amount remaining k. free_leaks-within (remove.with_item done (remove.item_of leak amount)) rest now remaining k) (λ now why remaining k. tt)
 
 -- ---- CHECK
 
-check_held-within : (rest : Word CheckAnswer) (address : Address) (moment : ℕ) (held : Bool) (count : ℕ) → Within Any rest count → Within Any (look.check_held rest address moment held) count
+check_held-within : (rest : Word CheckAnswer) (address : AddrValue) (moment : ℕ) (held : Bool) (count : ℕ) → Within Any rest count → Within Any (look.check_held rest address moment held) count
 check_held-within rest address moment true count h = h
 check_held-within rest address moment false count h = tt
 
-check_in_pool-within : (rest : Word CheckAnswer) (id : List ℕ) (address : Address) (p : ℕ) (pool : Option Pool) (count : ℕ) → Within Any rest count → Within Any (look.check_in_pool rest id address p pool) (1 + count)
+check_in_pool-within : (rest : Word CheckAnswer) (id : List ℕ) (address : AddrValue) (p : ℕ) (pool : Option Pool) (count : ℕ) → Within Any rest count → Within Any (look.check_in_pool rest id address p pool) (1 + count)
 check_in_pool-within rest id address p None count h = tt
 check_in_pool-within rest id address p (Some pool) count h = (
   omega arith,
@@ -94,7 +85,7 @@ check_in_pool-within rest id address p (Some pool) count h = (
     again : Within Any rest count → Within Any rest (1 + count - 1)
     again k = let same : count ≡ 1 + count - 1 = omega arith in subst (λ (n : ℕ). Within Any rest n) same k
 
-check_each-within : (id : List ℕ) (p : ℕ) (pools : List Pool) (addresses : List Address) → Within Any (look.check_each id p pools addresses) (length addresses)
+check_each-within : (id : List ℕ) (p : ℕ) (pools : List Pool) (addresses : List AddrValue) → Within Any (look.check_each id p pools addresses) (length addresses)
 unfolding look.check_each
 check_each-within id p pools [] = tt
 check_each-within id p pools (address ∷ rest) =
@@ -102,7 +93,7 @@ check_each-within id p pools (address ∷ rest) =
     subst (λ (n : ℕ). Within Any (look.check_in_pool (look.check_each id p pools rest) id address p (pool_of address pools)) n) same
     (check_in_pool-within (look.check_each id p pools rest) id address p (pool_of address pools) (length rest) (check_each-within id p pools rest))
 
-check-within : (id : List ℕ) (addresses : List Address) → Within Any (look.check_word id addresses) (1 + length addresses)
+check-within : (id : List ℕ) (addresses : List AddrValue) → Within Any (look.check_word id addresses) (1 + length addresses)
 check-within id addresses = (
   omega arith,
   λ p said.
@@ -112,90 +103,93 @@ check-within id addresses = (
 
 -- ---- the release of an affinity: six calls for each try
 
-release_delete-within : (again : Word ReleaseAnswer) (node : List ℕ) (cidr : Range) (mark count : ℕ) → 1 ≤ count → Within Any again (count - 1) → Within Any (affinities.release_delete again node cidr mark) count
-release_delete-within again node cidr mark count h a = (
+release_delete-within : (tie : affinities.Tie) (again : Part ReleaseAnswer) (left : Left) (mark count : ℕ) → 1 ≤ count → Within Any again (count - 1) → Within Any (affinities.release_delete tie again left mark) count
+release_delete-within tie again left mark count h a = (
   h,
   λ moment said.
-      Within-after_write Any said (λ revision. Ends released.Released) again (Ends released.Full) (Ends released.Spent) (count - 1) (λ revision. tt) a tt tt,
+      Within-after_write Any said (λ revision. goes left released.Released) again (stops left NoRoom) (stops left NoRevisions) (count - 1) (λ revision. tt) a tt tt,
 )
 
-release_block-within : (again : Word ReleaseAnswer) (node : List ℕ) (cidr : Range) (mark : ℕ) (read : affinities.BlockRead) (count : ℕ) → 2 ≤ count → Within Any again (count - 1) → Within Any again (count - 1 - 1) → Within Any (affinities.release_block again node cidr mark read) count
-release_block-within again node cidr mark read count h a b = (
+release_block-within : (tie : affinities.Tie) (again : Part ReleaseAnswer) (left : Left) (mark : ℕ) (read : affinities.BlockRead) (count : ℕ) → 2 ≤ count → Within Any again (count - 1) → Within Any again (count - 1 - 1) → Within Any (affinities.release_block tie again left mark read) count
+release_block-within tie again left mark read count h a b = (
   omega arith,
   λ moment said.
-      Within-after_write Any said (λ revision. affinities.release_delete again node cidr mark) again (Ends released.Full) (Ends released.Spent) (count - 1)
-      (λ revision. release_delete-within again node cidr mark (count - 1) (omega arith) b) a tt tt,
+      Within-after_write Any said (λ revision. affinities.release_delete tie again left mark) again (stops left NoRoom) (stops left NoRevisions) (count - 1)
+      (λ revision. release_delete-within tie again left mark (count - 1) (omega arith) b) a tt tt,
 )
 
-release_marked-within : (again : Word ReleaseAnswer) (node : List ℕ) (cidr : Range) (mark : ℕ) (read : affinities.BlockRead) (found : Option (ℕ × Affinity)) (count : ℕ) → 2 ≤ count → Within Any again count → Within Any again (count - 1) → Within Any again (count - 1 - 1) → Within Any (affinities.release_marked again node cidr mark read found) count
-release_marked-within again node cidr mark read None count h a b c = a
-release_marked-within again node cidr mark read (Some (revision, found)) count h a b c = from (revision == mark)
-  where
-    from : (same : Bool) → Within Any (cond same (affinities.release_block again node cidr mark read) again) count
-    from true = release_block-within again node cidr mark read count h b c
-    from false = a
-
-release_look-within : (again : Word ReleaseAnswer) (node : List ℕ) (cidr : Range) (mark count : ℕ) → 4 ≤ count → ((spent : ℕ) → spent ≤ 4 → Within Any again (count - spent)) → Within Any (affinities.release_look again node cidr mark) count
-release_look-within again node cidr mark count h a = (
+release_look-within : (tie : affinities.Tie) (again : Part ReleaseAnswer) (left : Left) (mark count : ℕ) → 4 ≤ count → ((spent : ℕ) → spent ≤ 4 → Within Any again (count - spent)) → Within Any (affinities.release_look tie again left mark) count
+release_look-within tie again left mark count h a = (
   omega arith,
   λ moment seen. (
     omega arith,
-    λ second said.
-        release_marked-within again node cidr mark (block_said seen) (affinity_said said) (count - 1 - 1) (omega arith)
-        (less 2 (omega arith) (count - 1 - 1) (omega arith)) (less 3 (omega arith) (count - 1 - 1 - 1) (omega arith)) (less 4 (omega arith) (count - 1 - 1 - 1 - 1) (omega arith)),
+    λ second said. from (block_said seen) (affinities.is_at_mark mark (affinity_said said)),
   ),
 )
   where
     less : (spent : ℕ) → spent ≤ 4 → (n : ℕ) → count - spent ≡ n → Within Any again n
     less spent few n same = subst (λ (n : ℕ). Within Any again n) same (a spent few)
 
-release_found-within : (again : Word ReleaseAnswer) (node : List ℕ) (cidr : Range) (moment : ℕ) (found : Option (ℕ × Affinity)) (count : ℕ) → 5 ≤ count → ((spent : ℕ) → spent ≤ 5 → Within Any again (count - spent)) → Within Any (affinities.release_found again node cidr moment found) count
-release_found-within again node cidr moment None count h a = tt
-release_found-within again node cidr moment (Some (revision, found)) count h a = (
+    from : (read : affinities.BlockRead) (same : Bool) → Within Any (cond same (affinities.release_block tie again left mark read) again) (count - 1 - 1)
+    from read true = release_block-within tie again left mark read (count - 1 - 1) (omega arith) (less 3 (omega arith) (count - 1 - 1 - 1) (omega arith)) (less 4 (omega arith) (count - 1 - 1 - 1 - 1) (omega arith))
+    from read false = less 2 (omega arith) (count - 1 - 1) (omega arith)
+
+release_found-within : (tie : affinities.Tie) (again : Part ReleaseAnswer) (left : Left) (moment : ℕ) (found : Option (ℕ × Affinity)) (count : ℕ) → 5 ≤ count → ((spent : ℕ) → spent ≤ 5 → Within Any again (count - spent)) → Within Any (affinities.release_found tie again left moment found) count
+release_found-within tie again left moment None count h a = tt
+release_found-within tie again left moment (Some (revision, found)) count h a = (
   omega arith,
   λ second said.
-      Within-after_write Any said (affinities.release_look again node cidr) again (Ends released.Full) (Ends released.Spent) (count - 1)
-      (λ mark. release_look-within again node cidr mark (count - 1) (omega arith) later)
+      Within-after_write Any said (affinities.release_look tie again left) again (stops left NoRoom) (stops left NoRevisions) (count - 1)
+      (λ mark. release_look-within tie again left mark (count - 1) (omega arith) later)
       (a 1 (omega arith)) tt tt,
 )
   where
     later : (spent : ℕ) → spent ≤ 4 → Within Any again (count - 1 - spent)
     later spent few = let same : count - (1 + spent) ≡ count - 1 - spent = omega arith in subst (λ (n : ℕ). Within Any again n) same (a (1 + spent) (omega arith))
 
-release_once-within : (again : Word ReleaseAnswer) (node : List ℕ) (cidr : Range) (count : ℕ) → 6 ≤ count → ((spent : ℕ) → spent ≤ 6 → Within Any again (count - spent)) → Within Any (affinities.release_once again node cidr) count
-release_once-within again node cidr count h a = (
+release_once-within : (tie : affinities.Tie) (again : Part ReleaseAnswer) (left : Left) (count : ℕ) → 6 ≤ count → ((spent : ℕ) → spent ≤ 6 → Within Any again (count - spent)) → Within Any (affinities.release_once tie again left) count
+release_once-within tie again left count h a = (
   omega arith,
   λ moment said.
-      release_found-within again node cidr moment (affinity_said said) (count - 1) (omega arith) later,
+      release_found-within tie again left moment (affinity_said said) (count - 1) (omega arith) later,
 )
   where
     later : (spent : ℕ) → spent ≤ 5 → Within Any again (count - 1 - spent)
     later spent few = let same : count - (1 + spent) ≡ count - 1 - spent = omega arith in subst (λ (n : ℕ). Within Any again n) same (a (1 + spent) (omega arith))
 
-release-within : (left count : ℕ) (node : List ℕ) (cidr : Range) → 6 * left + 6 ≤ count → Within Any (affinities.release_with left node cidr) count
-unfolding affinities.release_with
-release-within zero count node cidr h = release_once-within (Ends (released.Again most_lost)) node cidr count (omega arith) (λ spent few. tt)
-release-within (suc left) count node cidr h =
-    release_once-within (affinities.release_with left node cidr) node cidr count (omega arith) (λ spent few. release-within left (count - spent) node cidr (omega arith))
+release_tries-within : (tie : affinities.Tie) (races claims count : ℕ) → 6 * races + 6 ≤ count → Within Any (tries (affinities.release_once tie) races claims) count
+unfolding tries
+release_tries-within tie zero claims count h = release_once-within tie (stops (left_of zero claims) OutOfTries) (left_of zero claims) count (omega arith) (λ spent few. tt)
+release_tries-within tie (suc races) claims count h =
+    release_once-within tie (tries (affinities.release_once tie) races claims) (left_of (suc races) claims) count (omega arith) (λ spent few. release_tries-within tie races claims (count - spent) (omega arith))
+
+release-within : (node : List ℕ) (cidr : CidrValue) → Within Any (affinities.release node cidr) 400
+release-within node cidr =
+    let tie : affinities.Tie = record { node = node; block = cidr } in
+    Within-settled Any affinities.release_stops (retried (affinities.release_once tie) all_left) 400 (release_tries-within tie 63 63 400 (omega arith))
 
 -- ---- administration
 
-admin_write-within : (again : Word AdminAnswer) (said : Said) (changed : change.Changed) (count : ℕ) → 1 ≤ count → Within Any again (count - 1) → Within Any (change.admin_write again said changed) count
-admin_write-within again said (change.Becomes new) count h a = (
+admin_write-within : (again : Part AdminAnswer) (left : Left) (said : Said) (changed : change.Changed) (count : ℕ) → 1 ≤ count → Within Any again (count - 1) → Within Any (change.admin_write again left said changed) count
+admin_write-within again left said (change.Becomes new) count h a = (
   h,
   λ moment reply.
-      Within-after_write Any reply (λ revision. Ends (admin.Done revision)) again (Ends admin.Full) (Ends admin.Spent) (count - 1) (λ revision. tt) a tt tt,
+      Within-after_write Any reply (λ revision. goes left (admin.Done revision)) again (stops left NoRoom) (stops left NoRevisions) (count - 1) (λ revision. tt) a tt tt,
 )
-admin_write-within again said (change.Refuses number name) count h a = tt
+admin_write-within again left said (change.Refuses number name) count h a = tt
 
-admin_once-within : (again : Word AdminAnswer) (request : Admin) (count : ℕ) → 2 ≤ count → Within Any again (count - 1 - 1) → Within Any (change.admin_once again request) count
-admin_once-within again request count h a = (omega arith, λ moment said. admin_write-within again said (change.changed request said) (count - 1) (omega arith) a)
+admin_once-within : (request : Admin) (again : Part AdminAnswer) (left : Left) (count : ℕ) → 2 ≤ count → Within Any again (count - 1 - 1) → Within Any (change.admin_once request again left) count
+admin_once-within request again left count h a = (omega arith, λ moment said. admin_write-within again left said (change.changed request said) (count - 1) (omega arith) a)
 
-admin-within : (left count : ℕ) (request : Admin) → 2 * left + 2 ≤ count → Within Any (change.admin_with left request) count
-unfolding change.admin_with
-admin-within zero count request h = admin_once-within (Ends (admin.Again most_lost)) request count (omega arith) tt
-admin-within (suc left) count request h =
-    admin_once-within (change.admin_with left request) request count (omega arith) (admin-within left (count - 1 - 1) request (omega arith))
+admin_tries-within : (request : Admin) (races claims count : ℕ) → 2 * races + 2 ≤ count → Within Any (tries (change.admin_once request) races claims) count
+unfolding tries
+admin_tries-within request zero claims count h = admin_once-within request (stops (left_of zero claims) OutOfTries) (left_of zero claims) count (omega arith) tt
+admin_tries-within request (suc races) claims count h =
+    admin_once-within request (tries (change.admin_once request) races claims) (left_of (suc races) claims) count (omega arith) (admin_tries-within request races claims (count - 1 - 1) (omega arith))
+
+admin-within : (request : Admin) → Within Any (change.admin_word request) 200
+admin-within request =
+    Within-settled Any change.admin_stops (retried (change.admin_once request) all_left) 200 (admin_tries-within request 63 63 200 (omega arith))
 
 -- ---- the probe
 
@@ -206,40 +200,42 @@ probe_choice-within rest request family scan (Use cidr ordinal) count h = h
 probe_choice-within rest request family scan (Claim cidr) count h = h
 probe_choice-within rest request family scan (Borrow cidr ordinal) count h = h
 
-probe_family-within : (request : ProbeRequest) (family : Family) (rest : Scan → Word ProbeAnswer) (count : ℕ) → 5 ≤ count → ((scan : Scan) → Within Any (rest scan) (count - 1 - 1 - 1 - 1 - 1)) → Within Any (look.probe_family request family rest) count
-probe_family-within request family rest count h k =
-    five_reads-within Any family (λ scan seen. look.probe_choice (rest scan) (look.asked_of_probe request family) scan (choice_of (look.asked_of_probe request family) seen)) count h
-    (λ scan seen. probe_choice-within (rest scan) request family scan (choice_of (look.asked_of_probe request family) seen) (count - 1 - 1 - 1 - 1 - 1) (k scan))
+probe_each-within : (request : ProbeRequest) (scans : List Scan) (families : List Family) (count : ℕ) → 5 * length families ≤ count → Within Any (look.probe_each request scans families) count
+unfolding look.probe_each
+probe_each-within request scans [] count h = tt
+probe_each-within request scans (family ∷ families) count h =
+    five_reads-within Any family (λ scan seen. look.probe_choice (look.probe_each request (scans ++ scan ∷ []) families) (look.asked_of_probe request family) scan (choice_of (look.asked_of_probe request family) seen)) count (omega arith)
+    (λ scan seen. probe_choice-within (look.probe_each request (scans ++ scan ∷ []) families) request family scan (choice_of (look.asked_of_probe request family) seen) (count - 1 - 1 - 1 - 1 - 1)
+    (probe_each-within request (scans ++ scan ∷ []) families (count - 1 - 1 - 1 - 1 - 1) (omega arith)))
 
-is_ready : (scans : List Scan) (count : ℕ) → Within Any (look.ready scans) count
-is_ready scans count = tt
-
-probe-within : (request : ProbeRequest) (ipv4 ipv6 : Bool) → Within Any (look.probe_families request ipv4 ipv6) 10
-probe-within request true true =
-    probe_family-within request V4 (λ first. look.probe_family request V6 (λ second. look.ready (first ∷ second ∷ []))) 10 (omega arith)
-    (λ first. probe_family-within request V6 (λ second. look.ready (first ∷ second ∷ [])) 5 (omega arith) (λ second. is_ready (first ∷ second ∷ []) 0))
-probe-within request true false = probe_family-within request V4 (λ scan. look.ready (scan ∷ [])) 10 (omega arith) (λ scan. is_ready (scan ∷ []) 5)
-probe-within request false true = probe_family-within request V6 (λ scan. look.ready (scan ∷ [])) 10 (omega arith) (λ scan. is_ready (scan ∷ []) 5)
-probe-within request false false = tt
+probe_families-within : (request : ProbeRequest) (ipv4 ipv6 : Bool) → Within Any (look.probe_each request [] (families_if ipv4 ipv6)) 10
+probe_families-within request true true = probe_each-within request [] (V4 ∷ V6 ∷ []) 10 (omega arith)
+probe_families-within request true false = probe_each-within request [] (V4 ∷ []) 10 (omega arith)
+probe_families-within request false true = probe_each-within request [] (V6 ∷ []) 10 (omega arith)
+probe_families-within request false false = probe_each-within request [] [] 10 (omega arith)
 
 -- ---- all of them
 
 pub bounds : BoundLaw
 unfolding word_of
 bounds = record {
-  add = λ request. told-bound of_add (add_word request) 2000 (add_families-within request request.ipv4 request.ipv6);
-  add_this = λ request address. told-bound of_add_this (add_this_word request address) 2000 (this_rounds-within 127 63 0 request address 2000 (omega arith) (omega arith));
-  del = λ id moment said. told-bound of_del (remove.del_blocks 63 id moment (map (λ (count : Range × ℕ). count.0) (handle_said id said).counts)) (199 + 4 * length (handle_said id said).counts)
-      (del_blocks-within 63 id moment (map (λ (count : Range × ℕ). count.0) (handle_said id said).counts) (199 + 4 * length (handle_said id said).counts) (omega (arith, blocks_of_counts (handle_said id said).counts)));
+  add = λ request. told-bound of_add (add_word request) 2000 (add-within request);
+  add_this = λ request address. told-bound of_add_this (add_this_word request address) 2000 (add_this-within request address);
+  del = λ id moment said.
+      let blocks = map (λ (count : CidrValue × ℕ). count.0) (handle_said id said).counts in
+      let count = 199 + 4 * length (handle_said id said).counts in
+      told-bound of_del _ count (Within-settled Any remove.del_stops (remove.del_blocks id moment blocks all_left) count
+      (del_blocks-within id moment blocks all_left count (omega (arith, blocks_of_counts (handle_said id said).counts))));
   check = λ id addresses. told-bound of_check (look.check_word id addresses) (1 + length addresses) (check-within id addresses);
-  release = λ node cidr. told-bound of_release (affinities.release node cidr) 400 (release-within 63 400 node cidr (omega arith));
-  admin = λ request. told-bound of_admin (change.admin_word request) 200 (admin-within 63 200 request (omega arith));
-  probe = λ request. told-bound of_probe (look.probe_word request) 10 (probe-within request request.ipv4 request.ipv6);
+  release = λ node cidr. told-bound of_release (affinities.release node cidr) 400 (release-within node cidr);
+  admin = λ request. told-bound of_admin (change.admin_word request) 200 (admin-within request);
+  probe = λ request. told-bound of_probe (look.probe_word request) 10 (probe_families-within request request.ipv4 request.ipv6);
 }
 
 pub collect_bounds : CollectBoundLaw
 unfolding word_of
 collect_bounds request b1 b2 first second live =
-    told-bound of_collect (remove.free_leaks 63 b1 b2 [] (remove.leaks (remove.suspects request (rows_said first)) live (rows_said second)))
-    (198 + 4 * length (remove.leaks (remove.suspects request (rows_said first)) live (rows_said second)))
-    (free_leaks-within 63 b1 b2 [] (remove.leaks (remove.suspects request (rows_said first)) live (rows_said second)) (198 + 4 * length (remove.leaks (remove.suspects request (rows_said first)) live (rows_said second))) (omega arith))
+    let leaks = remove.leaks (remove.suspects request (rows_said first)) live (rows_said second) in
+    let done : Collected = record { b1 = b1; b2 = b2; items = [] } in
+    told-bound of_collect _ (198 + 4 * length leaks) (Within-settled Any remove.collect_stops (remove.free_leaks done leaks all_left) (198 + 4 * length leaks)
+    (free_leaks-within done leaks all_left (198 + 4 * length leaks) (omega arith)))

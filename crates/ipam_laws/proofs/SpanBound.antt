@@ -19,11 +19,11 @@ use Rattle.ipam_model.specs.Tries.{calls_of}
 -- ---- what a slot has left
 
 -- the calls that were made, and those that what runs can still make, are at most so many
-Left : Option Running → (calls count : ℕ) → Type 0
+unfoldable pub Left : Option Running → (calls count : ℕ) → Type 0
 Left None calls count = calls ≤ count
 Left (Some running) calls count = (left : ℕ) × AtMost running.word left × (calls + left ≤ count)
 
-left-calls : (running : Option Running) (calls count : ℕ) → Left running calls count → calls ≤ count
+pub left-calls : (running : Option Running) (calls count : ℕ) → Left running calls count → calls ≤ count
 unfolding Left
 left-calls None calls count h = h
 left-calls (Some running) calls count (left, bound, below) = omega arith
@@ -86,7 +86,7 @@ call-left base history c slot count calls may h = from (c.slot == slot) refl
         (λ own. absurd (eqb-false c.slot slot e (sym own)))
         (λ differs. h)
 
-keeps-left : (base : Base) (history later : List Entry) (slot count : ℕ) → Lawful base (later ++ history) → NoneBegins slot later → Left ((cluster_at base history).slots slot) 0 count → Left ((cluster_at base (later ++ history)).slots slot) (length (calls_of slot later)) count
+pub keeps-left : (base : Base) (history later : List Entry) (slot count : ℕ) → Lawful base (later ++ history) → NoneBegins slot later → Left ((cluster_at base history).slots slot) 0 count → Left ((cluster_at base (later ++ history)).slots slot) (length (calls_of slot later)) count
 unfolding Lawful cluster_at after Left
 keeps-left base history [] slot count h none first = first
 keeps-left base history (entry.Began other request ∷ later) slot count h none first =

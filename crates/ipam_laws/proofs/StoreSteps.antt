@@ -17,23 +17,22 @@ use Rattle.ipam_model.specs.declared.entry.Entry.{Entry}
 use Rattle.ipam_model.specs.declared.entry.Entry.TheVariants as entry
 use Rattle.ipam_model.specs.declared.entry.Fate.{Fate}
 use Rattle.ipam_model.specs.declared.entry.Fate.TheVariants.{Well, Before, After}
-use Rattle.ipam_model.specs.Cluster.{new_record, record_written, write_told, write_done, store_with, store_after, called, call_entry, after}
+use Rattle.ipam_model.specs.Cluster.{new_record, record_written, write_told, write_at, call_told, store_with, store_after, called, call_entry, after}
 use Rattle.ipam_model.specs.Named.{name_of, told_of}
 use Rattle.ipam_model.specs.History.{Base, Lawful, cluster_at, store_at}
-use Rattle.ipam_model.specs.AnswerLaw.{FaultLaw}
 use Rattle.ipam_model.specs.ReplyLaw.{IsAnsweredBy, RepliesLaw}
 
 -- ---- the write of an entry is the one that was granted
 
-write_done-new : (asked : Call) (revision : ℕ) → write_done (name_of asked) revision (new_record asked) ≡ write_of asked revision
-write_done-new (call.Get key) revision = refl
-write_done-new (call.List kind) revision = refl
-write_done-new (call.Create new) revision = refl
-write_done-new (call.Update new old) revision = refl
-write_done-new (call.Delete key old) revision = refl
+write_at-new : (asked : Call) (revision : ℕ) → write_at revision (call_told (name_of asked) (new_record asked)) ≡ write_of asked revision
+write_at-new (call.Get key) revision = refl
+write_at-new (call.List kind) revision = refl
+write_at-new (call.Create new) revision = refl
+write_at-new (call.Update new old) revision = refl
+write_at-new (call.Delete key old) revision = refl
 
 pub write_told-granted : (asked : Call) (reply : Said) → write_told (name_of asked) (told_of reply) (record_written asked reply) ≡ write_granted asked reply
-write_told-granted asked (Can revision) = write_done-new asked revision
+write_told-granted asked (Can revision) = write_at-new asked revision
 write_told-granted asked (Found revision found) = refl
 write_told-granted asked Missing = refl
 write_told-granted asked (Listed rows) = refl
@@ -168,6 +167,6 @@ call_entry-fails slot fate store moment (Asks label asked next) c failed e =
     let is : called slot fate asked (reply_of store asked) (ended (next moment (reply_of store asked))) ≡ c = cc in
     ap (λ (x : Called). x.answer) (sym is) ∙ called-fails slot fate asked (reply_of store asked) (ended (next moment (reply_of store asked))) failed
 
-pub faults : FaultLaw
+pub failed-answered : (base : Base) (history : List Entry) (c : Called) → Lawful base (entry.Called c ∷ history) → c.fate ≢ Well → c.answer ≡ Some Fault
 unfolding Lawful
-faults a h failed = call_entry-fails a.call.slot a.call.fate (cluster_at a.base a.earlier).store (cluster_at a.base a.earlier).entries h.1.running.word a.call failed h.1.is_called
+failed-answered base history c h failed = call_entry-fails c.slot c.fate (cluster_at base history).store (cluster_at base history).entries h.1.running.word c failed h.1.is_called

@@ -1,6 +1,5 @@
 //! What the datastore does over a whole history.
 ghost use Rattle.ipam_model.specs.AffinityLaw.{OneRecordLaw};
-ghost use Rattle.ipam_model.specs.AnswerLaw.{FaultLaw};
 ghost use Rattle.ipam_model.specs.ReplyLaw.{RepliesLaw};
 
 /// Each call has the datastore's own reply, and does what the datastore granted; one that failed
@@ -12,9 +11,4 @@ pub fn each_call_has_the_reply_of_the_datastore()
 /// Whenever a key is found at a revision, it has the same record there.
 pub fn one_key_and_one_revision_have_one_record()
     ensures { OneRecordLaw }
-{}
-
-/// A request whose call fails is answered so.
-pub fn a_failed_call_ends_its_request()
-    ensures { FaultLaw }
 {}

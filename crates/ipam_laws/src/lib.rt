@@ -2,7 +2,11 @@
 //! model alone.
 #![tactic(auto)]
 
+pub mod answers;
 pub mod bounds;
 pub mod counts;
 pub mod courses;
 pub mod datastore;
+pub mod faults;
+pub mod opening;
+pub mod stands;

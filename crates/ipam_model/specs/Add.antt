@@ -1,28 +1,25 @@
 -- An ADD without an address.
-use Rattle.std.specs.Prelude.{ℕ, zero, suc, ◌-◌, Bool, true, false, List, [], ◌∷◌, Option, Some, None, map, unwrap_or, slice_get}
+use Rattle.std.specs.Prelude.{ℕ, ◌-◌, Bool, true, false, List, [], ◌∷◌, ◌++◌, Option, Some, None, map, unwrap_or, slice_get, if◌then◌else◌}
 use Rattle.ipam_addr.specs.declared.address.Family.{Family}
-use Rattle.ipam_addr.specs.declared.address.Family.TheVariants.{V4, V6}
-use Rattle.ipam_addr.specs.Shape.{Range}
-use Rattle.ipam_block.specs.Content as block
-use Rattle.ipam_block.specs.Operations.{address_of, is_stamped}
+use Rattle.ipam_addr.specs.Shape.{CidrValue}
+use Rattle.ipam_block.specs.Operations.{address_of}
 use Rattle.ipam_records.specs.declared.key.Key.TheVariants as key
 use Rattle.ipam_records.specs.declared.key.Kind.TheVariants as kind
 use Rattle.ipam_records.specs.declared.call.Call.TheVariants.{Get, List as ListAll}
 use Rattle.ipam_records.specs.Label.{idle}
-use Rattle.ipam_records.specs.Word.{Word, Ends, Asks, bound}
+use Rattle.ipam_records.specs.Word.{Word, Asks, bound}
 use Rattle.ipam_model.specs.declared.answer.Given.{Given}
 use Rattle.ipam_model.specs.declared.answer.Scan.{Scan}
-use Rattle.ipam_model.specs.declared.choice.Choice.{Choice}
-use Rattle.ipam_model.specs.declared.choice.Choice.TheVariants.{Use, Claim, Borrow, Nothing, NoPool}
 use Rattle.ipam_model.specs.declared.outcome.AddAnswer.{AddAnswer}
 use Rattle.ipam_model.specs.declared.outcome.AddAnswer.TheVariants as add
 use Rattle.ipam_model.specs.declared.request.AddRequest.{AddRequest}
-use Rattle.ipam_model.specs.Assigning.{names_for, Assigned, assign, claim_for}
-use Rattle.ipam_model.specs.Choice.{Seen, block_at, choice_of}
-use Rattle.ipam_model.specs.Counting.{free}
+use Rattle.ipam_model.specs.Affinities.{BlockRead}
+use Rattle.ipam_model.specs.Assigning.{names_for, Target, target_in, Assigned, assign, claim_for}
+use Rattle.ipam_model.specs.Choice.{Seen, Rank, Own, Unconfirmed, Unclaimed, Foreign, Pick, Unknown, Lacks, Picks, pick_of}
+use Rattle.ipam_model.specs.Counting.{freeing_one, free}
 use Rattle.ipam_model.specs.Reads.{config_said, pools_said, reservations_said, rows_said}
-use Rattle.ipam_model.specs.Step.{most_lost, most_claims, all_left, lost_with, Outcome, Went, Stops, Stop, OutOfTries, OutOfClaims, NoRoom, CountAtLimit, NoRevisions}
-use Rattle.ipam_model.specs.Usable.{Asked, for_all}
+use Rattle.ipam_model.specs.Step.{Left, all_left, Stop, OutOfTries, OutOfClaims, NoRoom, CountAtLimit, NoRevisions, Outcome, Went, Stops, Part, StopAnswers, stop_answer, goes, stops, followed, in_rounds, settled}
+use Rattle.ipam_model.specs.Usable.{Asked, for_all, families_if}
 
 -- The configuration, the pools and the reservations are read, and the affinities and the blocks are
 -- listed. What follows is given the moments and what was read.
@@ -45,15 +42,6 @@ five_reads family follows =
 
 -- ---- one family
 
--- how the rounds of a family end, with the lost races that are left and the claims so far
-pub data Served : Type 0 where
-  -- the address was given, in this block and with this stamp
-  Gave : (left claims : ℕ) → Given → (cidr : Range) (stamp : ℕ) → Served
-  -- there is no address, so one that was given before is freed first
-  Refused : (left claims : ℕ) → AddAnswer → Served
-  -- the request ends at once
-  Ended : AddAnswer → Served
-
 abbrev pub asked_of : AddRequest → Family → Asked
 asked_of request family = record {
   node = request.node;
@@ -63,118 +51,127 @@ asked_of request family = record {
   one_address = false;
 }
 
-abbrev pub served_stop : (left claims : ℕ) → Stop → Served
-served_stop left claims OutOfTries = Ended (add.Again most_lost claims)
-served_stop left claims OutOfClaims = Ended (add.Again (lost_with left) most_claims)
-served_stop left claims NoRoom = Refused left claims add.Full
-served_stop left claims (CountAtLimit moment) = Refused left claims (add.CountFull moment)
-served_stop left claims NoRevisions = Ended add.Spent
+-- an address that was given, with its block and its stamp
+pub record Gift : Type 0 where
+  pub given : Given
+  pub block : CidrValue
+  pub stamp : ℕ
 
--- the next round, with the lost races that are left and the claims so far
+-- what the rounds of a family come to: an address, or the answer that there is none
+pub data Served : Type 0 where
+  Gave : Gift → Served
+  Refused : AddAnswer → Served
+
 abbrev pub NextRound : Type 0
-NextRound = (left claims : ℕ) → Word Served
+NextRound = Left → Part Served
 
-abbrev pub given_at : Scan → Range → (ordinal moment : ℕ) → Given
-given_at scan cidr ordinal moment = record {
-  address = address_of cidr ordinal;
-  c = scan.c;
-  p = scan.p;
-  r = scan.r;
-  f = scan.f;
-  b = scan.b;
-  w = moment;
+abbrev pub gift_of : Scan → Target → Assigned → Gift
+gift_of scan target done = record {
+  given = record {
+    address = address_of target.block.cidr target.ordinal;
+    c = scan.c;
+    p = scan.p;
+    r = scan.r;
+    f = scan.f;
+    b = scan.b;
+    w = done.moment;
+  };
+  block = target.block.cidr;
+  stamp = done.stamp;
 }
 
-abbrev pub after_assign : NextRound → (claims : ℕ) → Scan → Range → (ordinal : ℕ) → Outcome (Option Assigned) → Word Served
-after_assign next claims scan cidr ordinal (Went left (Some done)) =
-    Ends (Gave left claims (given_at scan cidr ordinal done.moment) cidr done.stamp)
-after_assign next claims scan cidr ordinal (Went left None) = next left claims
-after_assign next claims scan cidr ordinal (Stops left why) = Ends (served_stop left claims why)
+-- a round: what is asked, at which moments was read, and the round that follows
+pub record Round : Type 0 where
+  pub request : AddRequest
+  pub scan : Scan
+  pub next : NextRound
 
--- a block that was chosen was listed
-abbrev pub take_in : NextRound → (left claims : ℕ) → AddRequest → Scan → (ordinal : ℕ) → Option (ℕ × block.Content) → Word Served
-take_in next left claims request scan ordinal None = Ends (Refused left claims (add.Exhausted scan))
-take_in next left claims request scan ordinal (Some found) =
-    bound (assign left request.attributes found ordinal)
-    (after_assign next claims scan found.1.cidr ordinal)
+abbrev pub after_assign : Round → Target → Left → Option Assigned → Part Served
+after_assign round target left (Some done) = goes left (Gave (gift_of round.scan target done))
+after_assign round target left None = round.next left
 
-abbrev pub next_after_claim : NextRound → (claims : ℕ) → Outcome ℕ → Word Served
-next_after_claim next claims (Went left now) = next left now
-next_after_claim next claims (Stops left why) = Ends (served_stop left claims why)
+abbrev pub take_in : Round → Left → Target → Part Served
+take_in round left target =
+    followed (assign round.request.attributes target left) (after_assign round target)
 
 abbrev pub name_at : List (List ℕ) → ℕ → List ℕ
 name_at names place = unwrap_or (slice_get names place) []
 
-abbrev pub follow_choice : NextRound → (left claims : ℕ) → AddRequest → Scan → Seen → Choice → Word Served
-follow_choice next left claims request scan seen (Use cidr ordinal) =
-    take_in next left claims request scan ordinal (block_at seen cidr)
-follow_choice next left claims request scan seen (Borrow cidr ordinal) =
-    take_in next left claims request scan ordinal (block_at seen cidr)
-follow_choice next left claims request scan seen (Claim cidr) =
-    bound (claim_for left claims request.node cidr (block_at seen cidr)) (next_after_claim next claims)
-follow_choice next left claims request scan seen Nothing =
-    Ends (Refused left claims (add.Exhausted scan))
-follow_choice next left claims request scan seen (NoPool place) =
-    Ends (Refused left claims (add.NoPool (name_at (names_for scan.family request) place) scan.p))
+abbrev pub claim_in : Round → Left → CidrValue → BlockRead → Part Served
+claim_in round left slot read =
+    followed (claim_for round.request.node slot read left) (λ now done. round.next now)
 
-abbrev pub round : NextRound → (left claims : ℕ) → AddRequest → Family → Word Served
-round next left claims request family =
+-- what is done at a slot
+abbrev pub follow_rank : Round → Left → CidrValue → Rank → Part Served
+follow_rank round left slot (Own found ordinal) = take_in round left (target_in found ordinal)
+follow_rank round left slot (Unconfirmed found) = claim_in round left slot (Some found)
+follow_rank round left slot (Unclaimed read) = claim_in round left slot read
+follow_rank round left slot (Foreign found ordinal) = take_in round left (target_in found ordinal)
+
+abbrev pub follow_pick : Round → Left → Pick → Part Served
+follow_pick round left (Picks ranked) = follow_rank round left ranked.slot ranked.rank
+follow_pick round left Lacks = goes left (Refused (add.Exhausted round.scan))
+follow_pick round left (Unknown place) =
+    let name = name_at (names_for round.scan.family round.request) place in
+    goes left (Refused (add.NoPool name round.scan.p))
+
+abbrev pub round_of : AddRequest → Family → NextRound → Left → Part Served
+round_of request family next left =
     five_reads family (λ scan seen.
-    follow_choice next left claims request scan seen (choice_of (asked_of request family) seen))
+    follow_pick (record { request = request; scan = scan; next = next }) left (pick_of (asked_of request family) seen))
 
--- Each round but the first follows a lost race or a confirmed claim, so there are no more than these.
-abbrev pub most_rounds : ℕ
-most_rounds = 127
+abbrev pub serve : AddRequest → Family → Left → Part Served
+serve request family left = in_rounds (round_of request family) left
 
-unfoldable pub rounds : (many left claims : ℕ) → AddRequest → Family → Word Served
-rounds zero left claims request family = Ends (Ended (add.Again (lost_with left) claims))
-rounds (suc many) left claims request family =
-    round (λ less now. rounds many less now request family) left claims request family
+-- ---- each wanted family
 
-abbrev pub serve : (left claims : ℕ) → AddRequest → Family → Word Served
-serve left claims request family = rounds most_rounds left claims request family
+abbrev pub add_stops : StopAnswers AddAnswer
+add_stops = record {
+  again = add.Again;
+  full = add.Full;
+  count_full = add.CountFull;
+  spent = add.Spent;
+}
 
--- ---- one or both
+abbrev pub free_gift : AddRequest → Gift → Left → Part ℕ
+free_gift request gift left =
+    free
+    (freeing_one request.attributes.handle gift.block (gift.given.address.number - gift.block.base) gift.stamp)
+    left
 
-abbrev pub add_one : Served → Word AddAnswer
-add_one (Gave left claims given cidr stamp) = Ends (add.Added (given ∷ []))
-add_one (Refused left claims answer) = Ends answer
-add_one (Ended answer) = Ends answer
+-- the answer, once what was given is freed
+abbrev pub refuse : AddRequest → List Gift → AddAnswer → Left → Part AddAnswer
+refuse request [] answer left = goes left answer
+refuse request (gift ∷ gifts) answer left =
+    followed (free_gift request gift left) (λ now amount. refuse request gifts answer now)
 
--- the answer, once the first address is freed
-abbrev pub undone : (claims : ℕ) → AddAnswer → Outcome ℕ → Word AddAnswer
-undone claims answer (Went left amount) = Ends answer
-undone claims answer (Stops left OutOfTries) = Ends (add.Again most_lost claims)
-undone claims answer (Stops left OutOfClaims) = Ends (add.Again (lost_with left) most_claims)
-undone claims answer (Stops left NoRoom) = Ends add.Full
-undone claims answer (Stops left (CountAtLimit moment)) = Ends (add.CountFull moment)
-undone claims answer (Stops left NoRevisions) = Ends add.Spent
+-- whether what was given is freed before the request ends so
+abbrev pub is_refusal : Stop → Bool
+is_refusal OutOfTries = false
+is_refusal OutOfClaims = false
+is_refusal NoRoom = true
+is_refusal (CountAtLimit moment) = true
+is_refusal NoRevisions = false
 
-abbrev pub ordinal_in : Range → Given → ℕ
-ordinal_in cidr given = given.address.number - cidr.base
+abbrev pub after_stop : AddRequest → List Gift → Left → Stop → Part AddAnswer
+after_stop request gifts left why =
+    if is_refusal why then refuse request gifts (stop_answer add_stops left why) left else stops left why
 
-abbrev pub add_second : AddRequest → Given → Range → (stamp : ℕ) → Served → Word AddAnswer
-add_second request first cidr stamp (Gave left claims given other_cidr other_stamp) =
-    Ends (add.Added (first ∷ given ∷ []))
-add_second request first cidr stamp (Refused left claims answer) =
-    bound
-    (free left request.attributes.handle cidr (is_stamped (ordinal_in cidr first) request.attributes.handle stamp))
-    (undone claims answer)
-add_second request first cidr stamp (Ended answer) = Ends answer
+-- what follows the rounds of a family, with what was given before
+abbrev pub after_family : AddRequest → List Gift → (rest : Gift → Left → Part AddAnswer) → Outcome Served → Part AddAnswer
+after_family request gifts rest (Went left (Gave gift)) = rest gift left
+after_family request gifts rest (Went left (Refused answer)) = refuse request gifts answer left
+after_family request gifts rest (Stops left why) = after_stop request gifts left why
 
-abbrev pub add_first : AddRequest → Served → Word AddAnswer
-add_first request (Gave left claims given cidr stamp) =
-    bound (serve left claims request V6) (add_second request given cidr stamp)
-add_first request (Refused left claims answer) = Ends answer
-add_first request (Ended answer) = Ends answer
-
-abbrev pub add_families : AddRequest → (ipv4 ipv6 : Bool) → Word AddAnswer
-add_families request true true = bound (serve all_left 0 request V4) (add_first request)
-add_families request true false = bound (serve all_left 0 request V4) add_one
-add_families request false true = bound (serve all_left 0 request V6) add_one
-add_families request false false = Ends (add.Added [])
+-- an address of each of the families, behind what was given before
+unfoldable pub add_each : AddRequest → List Gift → List Family → Left → Part AddAnswer
+add_each request gifts [] left = goes left (add.Added (map (λ gift. gift.given) gifts))
+add_each request gifts (family ∷ families) left =
+    bound (serve request family left)
+    (after_family request gifts (λ gift now. add_each request (gifts ++ gift ∷ []) families now))
 
 -- An address of each family that is wanted, IPv4 first. Where the second has none, the first is
 -- freed.
 abbrev pub add_word : AddRequest → Word AddAnswer
-add_word request = add_families request request.ipv4 request.ipv6
+add_word request =
+    settled add_stops (add_each request [] (families_if request.ipv4 request.ipv6) all_left)

@@ -1,61 +1,105 @@
 -- What the answers of an ADD say of the history.
-use Rattle.std.specs.Prelude.{◌≡◌, ℕ, ◌+◌, ◌<◌, ◌⊎◌, Bool, true, false, IsTrue, List, [], ◌∷◌, Some, None, map, Contains, slice_get}
+use Rattle.std.specs.Prelude.{◌≡◌, ℕ, ◌+◌, ◌<◌, ◌⊎◌, List, [], ◌∷◌, ◌++◌, Some, None, map, slice_get}
+use Rattle.std.specs.List.{All}
 use Rattle.ipam_addr.specs.declared.address.Family.{Family}
-use Rattle.ipam_addr.specs.declared.address.Family.TheVariants.{V4, V6}
 use Rattle.ipam_addr.specs.Holding.{Holds}
-use Rattle.ipam_addr.specs.Shape.{Address, Range}
+use Rattle.ipam_addr.specs.Shape.{AddrValue, CidrValue}
 use Rattle.ipam_pool.specs.Slots.{IsSlotOf}
-use Rattle.ipam_block.specs.Content as block
+use Rattle.ipam_block.specs.Shape as block
 use Rattle.ipam_block.specs.Operations.{address_of, holder}
 use Rattle.ipam_block.specs.declared.allocation.Allocation.{Allocation}
 use Rattle.ipam_block.specs.declared.allocation.Attributes.{Attributes}
 use Rattle.ipam_records.specs.declared.call.Call.TheVariants.{Get}
 use Rattle.ipam_records.specs.declared.key.Key.TheVariants as key
 use Rattle.ipam_records.specs.declared.record.Record.TheVariants as record_of
+use Rattle.ipam_records.specs.Datastore.{row_of}
 use Rattle.ipam_records.specs.Said.{Said}
 use Rattle.ipam_model.specs.declared.answer.Given.{Given}
 use Rattle.ipam_model.specs.declared.answer.GivenThis.{GivenThis}
 use Rattle.ipam_model.specs.declared.answer.Scan.{Scan}
+use Rattle.ipam_model.specs.declared.choice.Choice.{Choice}
 use Rattle.ipam_model.specs.declared.choice.Choice.TheVariants.{Use, Borrow, Nothing, NoPool}
 use Rattle.ipam_model.specs.declared.entry.CallName.TheVariants as name
 use Rattle.ipam_model.specs.declared.entry.Called.{Called}
-use Rattle.ipam_model.specs.declared.entry.Entry.{Entry}
 use Rattle.ipam_model.specs.declared.entry.Entry.TheVariants as entry
 use Rattle.ipam_model.specs.declared.entry.Told.TheVariants as told
 use Rattle.ipam_model.specs.declared.request.AddRequest.{AddRequest}
 use Rattle.ipam_model.specs.Add.{asked_of}
+use Rattle.ipam_model.specs.Answered.{Answered, span_of}
 use Rattle.ipam_model.specs.AddThis.{asked_of_this}
 use Rattle.ipam_model.specs.Assigning.{names_for}
-use Rattle.ipam_model.specs.Choice.{Seen, IsChoice, block_at, is_node, is_nobodys}
-use Rattle.ipam_model.specs.History.{Base, store_at, store_before, InSpan, Heard}
+use Rattle.ipam_model.specs.Choice.{Seen, IsChoice, Takes, Leaves, share_of}
+use Rattle.ipam_model.specs.History.{Span, seen_at, seen_now, InSpan, Heard}
+use Rattle.ipam_model.specs.Credits.{HasWritten}
 use Rattle.ipam_model.specs.Moments.{IsNext, Owns, Gains, GainedInSpan}
-use Rattle.ipam_model.specs.Owners.{Owner}
+use Rattle.ipam_model.specs.Owners.{Owner, owned_in}
 use Rattle.ipam_model.specs.Reads.{config_said, pools_said, block_said}
 use Rattle.ipam_model.specs.Rounds.{HasScanned}
-use Rattle.ipam_model.specs.Usable.{RuledPool, for_all, usable_pool_of}
+use Rattle.ipam_model.specs.Usable.{RuledPool, for_all, families_if, usable_pool_of}
 
 -- ---- the write that an answer stands on
+
+-- the ordinal of a block as it was read, with its revision, and the attributes that it is to have
+pub record Taking : Type 0 where
+  pub attributes : Attributes
+  pub read : ℕ × block.BlockValue
+  pub ordinal : ℕ
 
 -- At the moment the block was updated at the revision at which it was read, the ordinal is held by
 -- the handle with the request's attributes, and the address, which nobody owned, is the handle's
 -- with the written sequence number as its stamp.
-pub record IsRecordedAt (base : Base) (history : List Entry) (slot moment : ℕ) (attributes : Attributes) (read : ℕ × block.Content) (ordinal : ℕ) : Type 0 where
+pub record IsRecordedAt (span : Span) (moment : ℕ) (taking : Taking) : Type 0 where
   pub call : Called
-  pub in_span : InSpan base history slot moment (entry.Called call)
+  pub in_span : InSpan span moment (entry.Called call)
   pub revision : ℕ
-  pub is_update : call.call ≡ name.Update (key.Block read.1.cidr) read.0
+  pub is_update : call.call ≡ name.Update (key.Block taking.read.1.cidr) taking.read.0
   pub is_done : call.reply ≡ told.Done revision
-  pub written : block.Content
+  pub written : block.BlockValue
   pub is_written : call.written ≡ Some (record_of.Block written)
   pub allocation : Allocation
-  pub is_held : holder written ordinal ≡ Some allocation
-  pub with_attributes : allocation.attributes ≡ attributes
+  pub is_held : holder written taking.ordinal ≡ Some allocation
+  pub with_attributes : allocation.attributes ≡ taking.attributes
   pub with_stamp : allocation.stamp ≡ written.sequence
-  pub gains : Gains (store_before base history moment) (store_before base history (moment + 1)) (record {
-    address = address_of read.1.cidr ordinal;
-    handle = attributes.handle;
+  pub gains : Gains (seen_at span moment) (seen_at span (moment + 1)) (record {
+    address = address_of taking.read.1.cidr taking.ordinal;
+    handle = taking.attributes.handle;
     stamp = written.sequence;
   })
+
+-- ---- for which family a round is
+
+abbrev pub families_of : AddRequest → List Family
+families_of request = families_if request.ipv4 request.ipv6
+
+-- before the moment the span wrote a block of the family so that more of it was owned
+pub record HasGiven (span : Span) (moment : ℕ) (family : Family) : Type 0 where
+  pub given_at : ℕ
+  pub earlier : given_at < moment
+  pub cidr : CidrValue
+  pub of_family : cidr.family ≡ family
+  pub wrote : HasWritten span given_at (key.Block cidr)
+  pub more : owned_in (seen_at span given_at) cidr < owned_in (seen_at span (given_at + 1)) cidr
+
+-- A round that begins at the moment is for this family: it is wanted, each family that is wanted
+-- before it has been given an address, and it has not.
+pub record IsRoundFor (span : Span) (request : AddRequest) (moment : ℕ) (family : Family) : Type 0 where
+  pub earlier : List Family
+  pub later : List Family
+  pub wanted : families_of request ≡ earlier ++ family ∷ later
+  pub have_theirs : All (HasGiven span moment) earlier
+  pub has_not : ¬ (HasGiven span moment family)
+
+-- the request scanned for the family of the scan, and the choice on what it saw is this
+pub record HasChosen (span : Span) (request : AddRequest) (scan : Scan) (choice : Choice) : Type 0 where
+  pub round : IsRoundFor span request scan.c scan.family
+  pub seen : Seen
+  pub scanned : HasScanned span scan seen
+  pub is_choice : IsChoice (asked_of request scan.family) seen choice
+
+-- the choice was the ordinal of the block, whoever has it
+abbrev pub HasChosenOf : Span → AddRequest → Scan → (cidr : CidrValue) → (ordinal : ℕ) → Type 0
+HasChosenOf span request scan cidr ordinal =
+    HasChosen span request scan (Use cidr ordinal) ⊎ HasChosen span request scan (Borrow cidr ordinal)
 
 -- ---- Added
 
@@ -70,130 +114,107 @@ scan_of family given = record {
 }
 
 -- the choice on what was read is an ordinal of this block, and it was recorded later
-pub record IsGivenRight (base : Base) (history : List Entry) (slot : ℕ) (request : AddRequest) (family : Family) (given : Given) : Type 0 where
-  pub seen : Seen
-  pub scanned : HasScanned base history slot (scan_of family given) seen
-  pub cidr : Range
+pub record IsGivenRight (a : Answered) (request : AddRequest) (family : Family) (given : Given) : Type 0 where
+  pub cidr : CidrValue
   pub ordinal : ℕ
-  pub is_choice :
-      IsChoice (asked_of request family) seen (Use cidr ordinal)
-      ⊎ IsChoice (asked_of request family) seen (Borrow cidr ordinal)
+  pub chosen : HasChosenOf (span_of a) request (scan_of family given) cidr ordinal
   pub is_address : given.address ≡ address_of cidr ordinal
-  pub read : ℕ × block.Content
-  pub was_listed : block_at seen cidr ≡ Some read
+  pub read : ℕ × block.BlockValue
+  pub was_listed : row_of (key.Block cidr) (seen_at (span_of a) given.b).rows ≡ Some (read.0, record_of.Block read.1)
   pub later : given.b < given.w
-  pub recorded : IsRecordedAt base history slot given.w request.attributes read ordinal
-
-abbrev pub families_if : (ipv4 ipv6 : Bool) → List Family
-families_if true true = V4 ∷ V6 ∷ []
-families_if true false = V4 ∷ []
-families_if false true = V6 ∷ []
-families_if false false = []
-
-abbrev pub families_of : AddRequest → List Family
-families_of request = families_if request.ipv4 request.ipv6
+  pub recorded : IsRecordedAt (span_of a) given.w (record { attributes = request.attributes; read = read; ordinal = ordinal })
 
 -- one address for each wanted family, in their order
-abbrev pub AreGivenRight : Base → List Entry → ℕ → AddRequest → List Family → List Given → Type 0
-AreGivenRight base history slot request [] [] = Unit {0}
-AreGivenRight base history slot request (family ∷ families) (given ∷ more) =
-    IsGivenRight base history slot request family given
-    × AreGivenRight base history slot request families more
-AreGivenRight base history slot request [] (given ∷ more) = ⊥
-AreGivenRight base history slot request (family ∷ families) [] = ⊥
+abbrev pub AreGivenRight : Answered → AddRequest → List Family → List Given → Type 0
+AreGivenRight a request [] [] = Unit {0}
+AreGivenRight a request (family ∷ families) (given ∷ more) =
+    IsGivenRight a request family given × AreGivenRight a request families more
+AreGivenRight a request [] (given ∷ more) = ⊥
+AreGivenRight a request (family ∷ families) [] = ⊥
 
 -- ---- no address
 
 -- nothing that the request was given is owned any more
-abbrev pub HasNothing : Base → List Entry → ℕ → Type 0
-HasNothing base history slot =
-    (owner : Owner) → GainedInSpan base history slot owner → ¬ (Owns (store_at base history) owner)
+abbrev pub HasNothing : Answered → Type 0
+HasNothing a = (owner : Owner) → GainedInSpan (span_of a) owner → ¬ (Owns (seen_now (span_of a)) owner)
 
 -- for a wanted family the choice on what was read is nothing, so no candidate was left
-pub record IsExhausted (base : Base) (history : List Entry) (slot : ℕ) (request : AddRequest) (scan : Scan) : Type 0 where
-  pub wanted : Contains (families_of request) scan.family
-  pub seen : Seen
-  pub scanned : HasScanned base history slot scan seen
-  pub is_choice : IsChoice (asked_of request scan.family) seen Nothing
-  pub nothing_left : HasNothing base history slot
+pub record IsExhausted (a : Answered) (request : AddRequest) (scan : Scan) : Type 0 where
+  pub chosen : HasChosen (span_of a) request scan Nothing
+  pub nothing_left : HasNothing a
 
 -- no enabled pool of a wanted family had the name
-pub record IsWithoutPool (base : Base) (history : List Entry) (slot : ℕ) (request : AddRequest) (called : List ℕ) (moment : ℕ) : Type 0 where
-  pub seen : Seen
+pub record IsWithoutPool (a : Answered) (request : AddRequest) (called : List ℕ) (moment : ℕ) : Type 0 where
   pub scan : Scan
-  pub wanted : Contains (families_of request) scan.family
-  pub scanned : HasScanned base history slot scan seen
-  pub at_pools : moment ≡ scan.p
   pub place : ℕ
-  pub is_choice : IsChoice (asked_of request scan.family) seen (NoPool place)
+  pub chosen : HasChosen (span_of a) request scan (NoPool place)
+  pub at_pools : moment ≡ scan.p
   pub is_name : slice_get (names_for scan.family request) place ≡ Some called
-  pub nothing_left : HasNothing base history slot
+  pub nothing_left : HasNothing a
 
 -- ---- an ADD of one address
 
--- the configuration, the pools and then the block of the address's slot were read, at these moments
-pub record HasLooked (base : Base) (history : List Entry) (slot : ℕ) (request : AddRequest) (address : Address) (c p b : ℕ) : Type 0 where
+-- the moments at which the configuration, the pools and the block of the address's slot were read
+pub record Looks : Type 0 where
+  pub c : ℕ
+  pub p : ℕ
+  pub b : ℕ
+
+-- they were read at these moments, one after the other
+pub record HasLooked (span : Span) (request : AddRequest) (address : AddrValue) (at : Looks) : Type 0 where
   pub config : Said
   pub pools : Said
   pub block : Said
   pub ruled : RuledPool
-  pub cidr : Range
-  pub at_c : Heard base history slot c (Get key.Config) config
-  pub at_p : Heard base history slot p (Get key.Pools) pools
-  pub at_b : Heard base history slot b (Get (key.Block cidr)) block
-  pub then_p : IsNext base history slot c p
-  pub then_b : IsNext base history slot p b
+  pub cidr : CidrValue
+  pub at_c : Heard span at.c (Get key.Config) config
+  pub at_p : Heard span at.p (Get key.Pools) pools
+  pub at_b : Heard span at.b (Get (key.Block cidr)) block
+  pub then_p : IsNext span at.c at.p
+  pub then_b : IsNext span at.p at.b
   pub is_usable : usable_pool_of (asked_of_this request address) address (map for_all (pools_said pools)) ≡ Some ruled
   pub is_slot : IsSlotOf ruled.pool cidr
   pub holds : Holds cidr address
 
--- the block has the node, or affinity is not strict and it is another's or not empty
-abbrev pub MayTakeFrom : (strict : Bool) → List ℕ → block.Content → Type 0
-MayTakeFrom strict node b =
-    IsTrue (is_node node b.node) ⊎ ((strict ≡ false) × (is_nobodys b ≡ false))
-
-pub record IsThisGivenRight (base : Base) (history : List Entry) (slot : ℕ) (request : AddRequest) (address : Address) (given : GivenThis) : Type 0 where
-  pub is_address : given.address ≡ address
-  pub looked : HasLooked base history slot request address given.c given.p given.b
-  pub read : ℕ × block.Content
+-- the block was there, and this is the address's ordinal in it
+pub record HasFound (a : Answered) (request : AddRequest) (address : AddrValue) (at : Looks) : Type 0 where
+  pub looked : HasLooked (span_of a) request address at
+  pub read : ℕ × block.BlockValue
   pub was_read : block_said looked.block ≡ Some read
   pub ordinal : ℕ
   pub is_ordinal : address ≡ address_of looked.cidr ordinal
-  pub was_free : holder read.1 ordinal ≡ None
-  pub may_take : MayTakeFrom (config_said looked.config).strict request.node read.1
+
+abbrev pub looks_of : GivenThis → Looks
+looks_of given = record { c = given.c; p = given.p; b = given.b }
+
+pub record IsThisGivenRight (a : Answered) (request : AddRequest) (address : AddrValue) (given : GivenThis) : Type 0 where
+  pub is_address : given.address ≡ address
+  pub found : HasFound a request address (looks_of given)
+  pub was_free : holder found.read.1 found.ordinal ≡ None
+  pub may_take : share_of (config_said found.looked.config).strict request.node found.read.1 ≡ Takes
   pub later : given.b < given.w
-  pub recorded : IsRecordedAt base history slot given.w request.attributes read ordinal
+  pub recorded : IsRecordedAt (span_of a) given.w (record { attributes = request.attributes; read = found.read; ordinal = found.ordinal })
 
 -- no usable pool holds the address
-pub record IsNotInPool (base : Base) (history : List Entry) (slot : ℕ) (request : AddRequest) (address : Address) (moment : ℕ) : Type 0 where
+pub record IsNotInPool (a : Answered) (request : AddRequest) (address : AddrValue) (moment : ℕ) : Type 0 where
   pub pools : Said
-  pub at_p : Heard base history slot moment (Get key.Pools) pools
+  pub at_p : Heard (span_of a) moment (Get key.Pools) pools
   pub unusable : usable_pool_of (asked_of_this request address) address (map for_all (pools_said pools)) ≡ None
 
 -- the handle of this id holds the address
-pub record IsTaken (base : Base) (history : List Entry) (slot : ℕ) (request : AddRequest) (address : Address) (id : List ℕ) (moment : ℕ) : Type 0 where
-  pub c : ℕ
-  pub p : ℕ
-  pub looked : HasLooked base history slot request address c p moment
-  pub read : ℕ × block.Content
-  pub was_read : block_said looked.block ≡ Some read
-  pub ordinal : ℕ
-  pub is_ordinal : address ≡ address_of looked.cidr ordinal
+pub record IsTaken (a : Answered) (request : AddRequest) (address : AddrValue) (id : List ℕ) (moment : ℕ) : Type 0 where
+  pub at : Looks
+  pub at_b : at.b ≡ moment
+  pub found : HasFound a request address at
   pub held : Allocation
-  pub is_held : holder read.1 ordinal ≡ Some held
+  pub is_held : holder found.read.1 found.ordinal ≡ Some held
   pub is_holder : held.attributes.handle ≡ id
 
 -- the address is free in a block of another node, or in one of none that is not empty, and affinity is strict
-pub record IsNotAffine (base : Base) (history : List Entry) (slot : ℕ) (request : AddRequest) (address : Address) (cidr : Range) (moment : ℕ) : Type 0 where
-  pub c : ℕ
-  pub p : ℕ
-  pub looked : HasLooked base history slot request address c p moment
-  pub is_block : cidr ≡ looked.cidr
-  pub read : ℕ × block.Content
-  pub was_read : block_said looked.block ≡ Some read
-  pub ordinal : ℕ
-  pub is_ordinal : address ≡ address_of looked.cidr ordinal
-  pub was_free : holder read.1 ordinal ≡ None
-  pub not_own : is_node request.node read.1.node ≡ false
-  pub not_empty : is_nobodys read.1 ≡ false
-  pub strict : (config_said looked.config).strict ≡ true
+pub record IsNotAffine (a : Answered) (request : AddRequest) (address : AddrValue) (cidr : CidrValue) (moment : ℕ) : Type 0 where
+  pub at : Looks
+  pub at_b : at.b ≡ moment
+  pub found : HasFound a request address at
+  pub is_block : cidr ≡ found.looked.cidr
+  pub was_free : holder found.read.1 found.ordinal ≡ None
+  pub is_left : share_of (config_said found.looked.config).strict request.node found.read.1 ≡ Leaves

@@ -1,11 +1,11 @@
 -- Changes of the pools, the reservations and the configuration.
-use Rattle.std.specs.Prelude.{ℕ, zero, suc, Bool, not, ◌&&◌, ◌==◌, nat_le, List, [], ◌∷◌, ◌++◌, Option, Some, None, length, map, bytes_eq, slice_get, option_map, unwrap_or, if◌then◌else◌}
+use Rattle.std.specs.Prelude.{ℕ, Bool, not, ◌&&◌, ◌==◌, nat_le, List, [], ◌∷◌, ◌++◌, Option, Some, None, length, map, bytes_eq, slice_get, option_map, unwrap_or, if◌then◌else◌}
 use Rattle.std.specs.List.{list_any, filter}
 use Rattle.ipam_pool.specs.declared.pools.Pool.{Pool}
 use Rattle.ipam_pool.specs.declared.pools.PoolRefusal.{PoolRefusal}
-use Rattle.ipam_pool.specs.declared.pools.PoolRefusal.TheVariants.{NameTaken, Overlap, Size, Prefix, TooMany, Memory}
+use Rattle.ipam_pool.specs.declared.pools.PoolRefusal.TheVariants.{NameTaken, Overlap, Size, Prefix}
 use Rattle.ipam_pool.specs.Changes.{has_name, refusal_of, with_disabled}
-use Rattle.ipam_reserve.specs.Shape.{NamedRanges}
+use Rattle.ipam_reserve.specs.Shape.{ReservationValue}
 use Rattle.ipam_records.specs.declared.key.Key.{Key}
 use Rattle.ipam_records.specs.declared.key.Key.TheVariants as key
 use Rattle.ipam_records.specs.declared.call.Call.TheVariants.{Get}
@@ -13,14 +13,14 @@ use Rattle.ipam_records.specs.declared.record.Record.{Record}
 use Rattle.ipam_records.specs.declared.record.Record.TheVariants as record_of
 use Rattle.ipam_records.specs.Label.{idle}
 use Rattle.ipam_records.specs.Said.{Said}
-use Rattle.ipam_records.specs.Word.{Word, Ends, Asks}
+use Rattle.ipam_records.specs.Word.{Word, Asks}
 use Rattle.ipam_model.specs.declared.outcome.AdminAnswer.{AdminAnswer}
 use Rattle.ipam_model.specs.declared.outcome.AdminAnswer.TheVariants as admin
 use Rattle.ipam_model.specs.declared.request.Admin.{Admin}
 use Rattle.ipam_model.specs.declared.request.Admin.TheVariants as change
 use Rattle.ipam_model.specs.Reads.{pools_said, reservations_said}
-use Rattle.ipam_model.specs.Step.{most_lost, all_left, write_back, after_write}
-use Rattle.ipam_model.specs.Usable.{same_range}
+use Rattle.ipam_model.specs.Step.{Left, all_left, Part, StopAnswers, goes, write_back, on_write, retried, without_count, settled}
+use Rattle.ipam_model.specs.Usable.{is_same_cidr}
 
 -- what a change makes of the record, or the number of the refusal and the name that it is about
 pub data Changed : Type 0 where
@@ -32,7 +32,7 @@ pub data Changed : Type 0 where
 -- whether this is the pool that the change is about, with the same CIDR and size
 abbrev pub is_same_pool : Pool → Pool → Bool
 is_same_pool pool p =
-    has_name pool.name p && same_range p.cidr pool.cidr && (p.size == pool.size)
+    has_name pool.name p && is_same_cidr p.cidr pool.cidr && (p.size == pool.size)
 
 abbrev pub pool_name_at : List Pool → ℕ → List ℕ
 pool_name_at pools place = unwrap_or (option_map (λ p. p.name) (slice_get pools place)) []
@@ -42,9 +42,8 @@ pool_refused pools pool NameTaken = Refuses 1 pool.name
 pool_refused pools pool (Overlap place) = Refuses 2 (pool_name_at pools place)
 pool_refused pools pool Size = Refuses 3 pool.name
 pool_refused pools pool Prefix = Refuses 4 pool.name
-pool_refused pools pool TooMany = Refuses 5 pool.name
--- a table is not refused for want of memory
-pool_refused pools pool Memory = Refuses 0 pool.name
+-- a want of memory is no refusal of a pool
+pool_refused pools pool _ = Refuses 5 pool.name
 
 abbrev pub pool_appended : List Pool → Pool → Option PoolRefusal → Changed
 pool_appended pools pool None = Becomes (record_of.Pools (pools ++ pool ∷ []))
@@ -67,20 +66,20 @@ disable_changed pools name disabled =
 abbrev pub most_reservations : ℕ
 most_reservations = 256
 
-abbrev pub is_named : List ℕ → NamedRanges → Bool
+abbrev pub is_named : List ℕ → ReservationValue → Bool
 is_named name r = bytes_eq r.name name
 
-abbrev pub with_reservation : NamedRanges → List NamedRanges → List NamedRanges
+abbrev pub with_reservation : ReservationValue → List ReservationValue → List ReservationValue
 with_reservation new list = map (λ r. if is_named new.name r then new else r) list
 
 -- the CIDRs of a name are replaced, and another name is appended
-abbrev pub reserve_changed : List NamedRanges → NamedRanges → Changed
+abbrev pub reserve_changed : List ReservationValue → ReservationValue → Changed
 reserve_changed list new =
     if list_any (is_named new.name) list then Becomes (record_of.Reservations (with_reservation new list))
     else (if nat_le most_reservations (length list) then Refuses 7 new.name
     else Becomes (record_of.Reservations (list ++ new ∷ [])))
 
-abbrev pub unreserve_changed : List NamedRanges → List ℕ → Changed
+abbrev pub unreserve_changed : List ReservationValue → List ℕ → Changed
 unreserve_changed list name =
     if list_any (is_named name) list
     then Becomes (record_of.Reservations (filter (λ r. not (is_named name r)) list))
@@ -103,20 +102,19 @@ changed (change.Reserve reservation) said = reserve_changed (reservations_said s
 changed (change.Unreserve name) said = unreserve_changed (reservations_said said) name
 changed (change.Config config) said = Becomes (record_of.Config config)
 
-abbrev pub admin_write : (again : Word AdminAnswer) → Said → Changed → Word AdminAnswer
-admin_write again said (Becomes new) =
+abbrev pub admin_write : (again : Part AdminAnswer) → Left → Said → Changed → Part AdminAnswer
+admin_write again left said (Becomes new) =
     Asks idle (write_back said new) (λ moment reply.
-    after_write reply (λ revision. Ends (admin.Done revision)) again (Ends admin.Full) (Ends admin.Spent))
-admin_write again said (Refuses number name) = Ends (admin.Refused number name)
+    on_write reply left (λ revision. goes left (admin.Done revision)) again)
+admin_write again left said (Refuses number name) = goes left (admin.Refused number name)
 
-abbrev pub admin_once : (again : Word AdminAnswer) → Admin → Word AdminAnswer
-admin_once again request =
-    Asks idle (Get (key_changed request)) (λ moment said. admin_write again said (changed request said))
+abbrev pub admin_once : Admin → (again : Part AdminAnswer) → Left → Part AdminAnswer
+admin_once request again left =
+    Asks idle (Get (key_changed request)) (λ moment said. admin_write again left said (changed request said))
 
-unfoldable pub admin_with : (left : ℕ) → Admin → Word AdminAnswer
-admin_with zero request = admin_once (Ends (admin.Again most_lost)) request
-admin_with (suc left) request = admin_once (admin_with left request) request
+abbrev pub admin_stops : StopAnswers AdminAnswer
+admin_stops = without_count admin.Again admin.Full admin.Spent
 
 -- The record is read, changed and written, even if the change makes no difference.
 abbrev pub admin_word : Admin → Word AdminAnswer
-admin_word request = admin_with all_left request
+admin_word request = settled admin_stops (retried (admin_once request) all_left)

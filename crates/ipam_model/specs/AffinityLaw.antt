@@ -1,8 +1,7 @@
 -- A block and its affinity agree: no block is confirmed to two nodes.
 use Rattle.std.specs.Prelude.{◌≡◌, ◌≢◌, ℕ, ◌⊎◌, List, Option, Some, None}
-use Rattle.ipam_addr.specs.Shape.{Range}
-use Rattle.ipam_block.specs.Content as block
-use Rattle.ipam_affinity.specs.declared.record.Affinity.{Affinity}
+use Rattle.ipam_addr.specs.Shape.{CidrValue}
+use Rattle.ipam_block.specs.Shape as block
 use Rattle.ipam_affinity.specs.declared.state.State.{State}
 use Rattle.ipam_affinity.specs.declared.state.State.TheVariants.{Confirmed, PendingDeletion}
 use Rattle.ipam_records.specs.declared.key.Key.{Key}
@@ -10,31 +9,30 @@ use Rattle.ipam_records.specs.declared.key.Key.TheVariants as key
 use Rattle.ipam_records.specs.declared.record.Record.{Record}
 use Rattle.ipam_records.specs.declared.record.Record.TheVariants as record_of
 use Rattle.ipam_records.specs.Datastore.{Datastore, row_of}
-use Rattle.ipam_records.specs.Label.{Point, Nowhere, Claiming, Claimed, Releasing, Released}
+use Rattle.ipam_records.specs.Label.{Point, Claiming, Claimed, Releasing, Released}
 use Rattle.ipam_records.specs.Sound.{IsDatastore}
-use Rattle.ipam_records.specs.Word.{label_of}
 use Rattle.ipam_model.specs.declared.entry.Entry.{Entry}
 use Rattle.ipam_model.specs.Affinities.{affinity}
-use Rattle.ipam_model.specs.Cluster.{Running, Slots}
-use Rattle.ipam_model.specs.History.{Base, Lawful, cluster_at, store_at, store_before}
+use Rattle.ipam_model.specs.History.{Base, Lawful, store_at, store_before}
 use Rattle.ipam_model.specs.Moments.{Has, revision_of}
+use Rattle.ipam_model.specs.Points.{StandsAt}
 
 -- ---- the law
 
-abbrev pub HasAffinity : Datastore → List ℕ → Range → State → Type 0
+abbrev pub HasAffinity : Datastore → List ℕ → CidrValue → State → Type 0
 HasAffinity store node cidr state =
     Has store (key.Affinity node cidr) (record_of.Affinity (affinity node cidr state))
 
 -- the block is there with this node
-abbrev pub HasNode : Datastore → Range → List ℕ → Type 0
+abbrev pub HasNode : Datastore → CidrValue → List ℕ → Type 0
 HasNode store cidr node =
-    (b : block.Content) × Has store (key.Block cidr) (record_of.Block b) × (b.node ≡ Some node)
+    (b : block.BlockValue) × Has store (key.Block cidr) (record_of.Block b) × (b.node ≡ Some node)
 
 pub record AgreesWithAffinities (store : Datastore) : Type 0 where
   -- a block with a node has that node's affinity
-  pub of_block : (cidr : Range) (node : List ℕ) → HasNode store cidr node → (state : State) × HasAffinity store node cidr state
+  pub of_block : (cidr : CidrValue) (node : List ℕ) → HasNode store cidr node → (state : State) × HasAffinity store node cidr state
   -- a confirmed affinity's block is there with its node
-  pub of_affinity : (cidr : Range) (node : List ℕ) → HasAffinity store node cidr Confirmed → HasNode store cidr node
+  pub of_affinity : (cidr : CidrValue) (node : List ℕ) → HasAffinity store node cidr Confirmed → HasNode store cidr node
 
 abbrev pub AffinityLaw : Type 0
 AffinityLaw =
@@ -45,7 +43,7 @@ AffinityLaw =
 abbrev pub OneNodeLaw : Type 0
 OneNodeLaw =
     (base : Base) (history : List Entry) → IsDatastore base.store → AgreesWithAffinities base.store
-    → Lawful base history → (cidr : Range) (node other : List ℕ)
+    → Lawful base history → (cidr : CidrValue) (node other : List ℕ)
     → HasAffinity (store_at base history) node cidr Confirmed → HasAffinity (store_at base history) other cidr Confirmed
     → node ≡ other
 
@@ -54,77 +52,85 @@ OneNodeLaw =
 abbrev pub HasAt : Datastore → Key → (revision : ℕ) → Record → Type 0
 HasAt store key revision found = row_of key store.rows ≡ Some (revision, found)
 
-abbrev pub point_of : Option Running → Point
-point_of None = Nowhere
-point_of (Some running) = (label_of running.word).point
+-- the request of the slot stands at the point, by the calls that it has made
+abbrev pub IsAt : Base → List Entry → (slot : ℕ) → Point → Type 0
+IsAt base history slot point = StandsAt (record { base = base; history = history; slot = slot }) point
 
 -- the block, or its absence, is as it was read
-abbrev pub IsBlockCurrent : Datastore → Range → Option ℕ → Type 0
+abbrev pub IsBlockCurrent : Datastore → CidrValue → Option ℕ → Type 0
 IsBlockCurrent store cidr read = revision_of store (key.Block cidr) ≡ read
 
 -- the affinity is at the revision that is kept
-abbrev pub IsAffinityCurrent : Datastore → List ℕ → Range → ℕ → Type 0
+abbrev pub IsAffinityCurrent : Datastore → List ℕ → CidrValue → ℕ → Type 0
 IsAffinityCurrent store node cidr kept = revision_of store (key.Affinity node cidr) ≡ Some kept
 
--- What holds of the points at which the slots stand, by what is current.
-pub record PointsAgree (store : Datastore) (slots : Slots) : Type 0 where
+-- What holds of the points at which the slots' requests stand, by what is current.
+pub record PointsAgree (base : Base) (history : List Entry) : Type 0 where
   -- a claimer whose block is as it read it finds its affinity there, and nobody is about to delete it
-  pub claiming : (slot : ℕ) (node : List ℕ) (cidr : Range) (read : Option ℕ) (kept : ℕ)
-      → point_of (slots slot) ≡ Claiming node cidr read kept → IsBlockCurrent store cidr read
-      → (revision : ℕ) × IsAffinityCurrent store node cidr revision
-  pub claiming_apart : (slot other : ℕ) (node : List ℕ) (cidr : Range) (read : Option ℕ) (kept mark : ℕ)
-      → point_of (slots slot) ≡ Claiming node cidr read kept → IsBlockCurrent store cidr read
-      → point_of (slots other) ≡ Released node cidr mark → ¬ (IsAffinityCurrent store node cidr mark)
+  pub claiming : (slot : ℕ) (node : List ℕ) (cidr : CidrValue) (read : Option ℕ) (kept : ℕ)
+      → IsAt base history slot (Claiming node cidr read kept) → IsBlockCurrent (store_at base history) cidr read
+      → (revision : ℕ) × IsAffinityCurrent (store_at base history) node cidr revision
+  pub claiming_apart : (slot other : ℕ) (node : List ℕ) (cidr : CidrValue) (read : Option ℕ) (kept mark : ℕ)
+      → IsAt base history slot (Claiming node cidr read kept) → IsBlockCurrent (store_at base history) cidr read
+      → IsAt base history other (Released node cidr mark) → ¬ (IsAffinityCurrent (store_at base history) node cidr mark)
   -- a claimer that wrote the block, and whose affinity is as it keeps it, finds its node in the block,
   -- and nobody is about to take it away
-  pub claimed : (slot : ℕ) (node : List ℕ) (cidr : Range) (kept : ℕ)
-      → point_of (slots slot) ≡ Claimed node cidr kept → IsAffinityCurrent store node cidr kept
-      → HasNode store cidr node
-  pub claimed_apart : (slot other : ℕ) (node : List ℕ) (cidr : Range) (kept : ℕ) (read : Option ℕ) (mark : ℕ)
-      → point_of (slots slot) ≡ Claimed node cidr kept → IsAffinityCurrent store node cidr kept
-      → point_of (slots other) ≡ Releasing node cidr read mark → ¬ (IsBlockCurrent store cidr read)
+  pub claimed : (slot : ℕ) (node : List ℕ) (cidr : CidrValue) (kept : ℕ)
+      → IsAt base history slot (Claimed node cidr kept) → IsAffinityCurrent (store_at base history) node cidr kept
+      → HasNode (store_at base history) cidr node
+  pub claimed_apart : (slot other : ℕ) (node : List ℕ) (cidr : CidrValue) (kept : ℕ) (read : Option ℕ) (mark : ℕ)
+      → IsAt base history slot (Claimed node cidr kept) → IsAffinityCurrent (store_at base history) node cidr kept
+      → IsAt base history other (Releasing node cidr read mark) → ¬ (IsBlockCurrent (store_at base history) cidr read)
   -- a releaser whose block is as it read it finds no confirmed affinity
-  pub releasing : (slot : ℕ) (node : List ℕ) (cidr : Range) (read : Option ℕ) (mark : ℕ)
-      → point_of (slots slot) ≡ Releasing node cidr read mark → IsBlockCurrent store cidr read
-      → ¬ (HasAffinity store node cidr Confirmed)
+  pub releasing : (slot : ℕ) (node : List ℕ) (cidr : CidrValue) (read : Option ℕ) (mark : ℕ)
+      → IsAt base history slot (Releasing node cidr read mark) → IsBlockCurrent (store_at base history) cidr read
+      → ¬ (HasAffinity (store_at base history) node cidr Confirmed)
   -- a releaser that wrote the block, and whose mark is current, finds the affinity still to be deleted
   -- and the block without the node
-  pub released : (slot : ℕ) (node : List ℕ) (cidr : Range) (mark : ℕ)
-      → point_of (slots slot) ≡ Released node cidr mark → IsAffinityCurrent store node cidr mark
-      → HasAffinity store node cidr PendingDeletion × ¬ (HasNode store cidr node)
+  pub released : (slot : ℕ) (node : List ℕ) (cidr : CidrValue) (mark : ℕ)
+      → IsAt base history slot (Released node cidr mark) → IsAffinityCurrent (store_at base history) node cidr mark
+      → HasAffinity (store_at base history) node cidr PendingDeletion × ¬ (HasNode (store_at base history) cidr node)
 
 -- at some moment the key had this record at the revision
 abbrev pub WasAt : Base → List Entry → Key → (revision : ℕ) → Record → Type 0
 WasAt base history key revision found =
     (moment : ℕ) × HasAt (store_before base history moment) key revision found
 
--- What holds of the revisions that the points keep, current or not.
-pub record PointsKeep (base : Base) (history : List Entry) (slots : Slots) : Type 0 where
+-- at some moment the block had this revision, and the node or none
+abbrev pub WasOwnOrNobodys : Base → List Entry → List ℕ → CidrValue → (revision : ℕ) → Type 0
+WasOwnOrNobodys base history node cidr revision =
+    (b : block.BlockValue) × WasAt base history (key.Block cidr) revision (record_of.Block b)
+    × ((b.node ≡ None) ⊎ (b.node ≡ Some node))
+
+-- at some moment the affinity had this revision, and was to be deleted; or was not
+abbrev pub WasToBeDeleted : Base → List Entry → List ℕ → CidrValue → (revision : ℕ) → Type 0
+WasToBeDeleted base history node cidr revision =
+    WasAt base history (key.Affinity node cidr) revision (record_of.Affinity (affinity node cidr PendingDeletion))
+
+abbrev pub WasToBeKept : Base → List Entry → List ℕ → CidrValue → (revision : ℕ) → Type 0
+WasToBeKept base history node cidr revision =
+    (state : State) × WasAt base history (key.Affinity node cidr) revision (record_of.Affinity (affinity node cidr state))
+    × (state ≢ PendingDeletion)
+
+-- What the revisions were that the points keep, current or not.
+pub record PointsKeep (base : Base) (history : List Entry) : Type 0 where
   -- a claimer reads only blocks with its node or with none, and keeps no affinity that is to be deleted
-  pub claims_own : (slot : ℕ) (node : List ℕ) (cidr : Range) (read kept : ℕ) (b : block.Content)
-      → point_of (slots slot) ≡ Claiming node cidr (Some read) kept
-      → WasAt base history (key.Block cidr) read (record_of.Block b)
-      → (b.node ≡ None) ⊎ (b.node ≡ Some node)
-  pub claims_kept : (slot : ℕ) (node : List ℕ) (cidr : Range) (read : Option ℕ) (kept : ℕ) (a : Affinity)
-      → point_of (slots slot) ≡ Claiming node cidr read kept
-      → WasAt base history (key.Affinity node cidr) kept (record_of.Affinity a) → a.state ≢ PendingDeletion
-  pub claimed_kept : (slot : ℕ) (node : List ℕ) (cidr : Range) (kept : ℕ) (a : Affinity)
-      → point_of (slots slot) ≡ Claimed node cidr kept
-      → WasAt base history (key.Affinity node cidr) kept (record_of.Affinity a) → a.state ≢ PendingDeletion
+  pub claims_own : (slot : ℕ) (node : List ℕ) (cidr : CidrValue) (read kept : ℕ)
+      → IsAt base history slot (Claiming node cidr (Some read) kept) → WasOwnOrNobodys base history node cidr read
+  pub claims_kept : (slot : ℕ) (node : List ℕ) (cidr : CidrValue) (read : Option ℕ) (kept : ℕ)
+      → IsAt base history slot (Claiming node cidr read kept) → WasToBeKept base history node cidr kept
+  pub claimed_kept : (slot : ℕ) (node : List ℕ) (cidr : CidrValue) (kept : ℕ)
+      → IsAt base history slot (Claimed node cidr kept) → WasToBeKept base history node cidr kept
   -- a mark is an affinity that is to be deleted
-  pub releasing_marks : (slot : ℕ) (node : List ℕ) (cidr : Range) (read : Option ℕ) (mark : ℕ) (a : Affinity)
-      → point_of (slots slot) ≡ Releasing node cidr read mark
-      → WasAt base history (key.Affinity node cidr) mark (record_of.Affinity a) → a.state ≡ PendingDeletion
-  pub released_marks : (slot : ℕ) (node : List ℕ) (cidr : Range) (mark : ℕ) (a : Affinity)
-      → point_of (slots slot) ≡ Released node cidr mark
-      → WasAt base history (key.Affinity node cidr) mark (record_of.Affinity a) → a.state ≡ PendingDeletion
+  pub releasing_marks : (slot : ℕ) (node : List ℕ) (cidr : CidrValue) (read : Option ℕ) (mark : ℕ)
+      → IsAt base history slot (Releasing node cidr read mark) → WasToBeDeleted base history node cidr mark
+  pub released_marks : (slot : ℕ) (node : List ℕ) (cidr : CidrValue) (mark : ℕ)
+      → IsAt base history slot (Released node cidr mark) → WasToBeDeleted base history node cidr mark
 
 abbrev pub PointsLaw : Type 0
 PointsLaw =
     (base : Base) (history : List Entry) → IsDatastore base.store → AgreesWithAffinities base.store
-    → Lawful base history
-    → PointsAgree (store_at base history) (cluster_at base history).slots
-    × PointsKeep base history (cluster_at base history).slots
+    → Lawful base history → PointsAgree base history × PointsKeep base history
 
 -- ---- one key and one revision have one record
 

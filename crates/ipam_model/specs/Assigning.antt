@@ -1,21 +1,21 @@
 -- What both kinds of ADD do once they have chosen: an address is assigned, or a block is claimed.
-use Rattle.std.specs.Prelude.{ℕ, ◌+◌, ◌==◌, List, Option, Some, None, if◌then◌else◌}
+use Rattle.std.specs.Prelude.{ℕ, zero, suc, ◌+◌, List, Option, Some, None}
 use Rattle.ipam_addr.specs.declared.address.Family.{Family}
 use Rattle.ipam_addr.specs.declared.address.Family.TheVariants.{V4, V6}
-use Rattle.ipam_addr.specs.Shape.{Range}
+use Rattle.ipam_addr.specs.Shape.{CidrValue}
 use Rattle.ipam_block.specs.declared.allocation.Attributes.{Attributes}
-use Rattle.ipam_block.specs.Content as block
+use Rattle.ipam_block.specs.Shape as block
 use Rattle.ipam_block.specs.Operations.{next_block, assigned}
 use Rattle.ipam_records.specs.declared.call.Call.TheVariants.{Update}
 use Rattle.ipam_records.specs.declared.record.Record.TheVariants as record_of
 use Rattle.ipam_records.specs.Label.{owing}
-use Rattle.ipam_records.specs.Word.{Word, Ends, Asks, bound}
+use Rattle.ipam_records.specs.Word.{Asks, bound}
 use Rattle.ipam_model.specs.declared.outcome.ClaimAnswer.{ClaimAnswer}
 use Rattle.ipam_model.specs.declared.outcome.ClaimAnswer.TheVariants as claimed
 use Rattle.ipam_model.specs.declared.request.AddRequest.{AddRequest}
 use Rattle.ipam_model.specs.Affinities.{BlockRead, claim}
 use Rattle.ipam_model.specs.Counting.{credit_of, raise, lower}
-use Rattle.ipam_model.specs.Step.{most_claims, Outcome, Went, Stops, OutOfTries, OutOfClaims, NoRoom, NoRevisions, after_lost, on_write}
+use Rattle.ipam_model.specs.Step.{Left, left_of, Part, OutOfClaims, NoRoom, NoRevisions, goes, stops, followed, after_lost, on_write}
 
 -- the pools of the family that the request names
 abbrev pub names_for : Family → AddRequest → List (List ℕ)
@@ -24,49 +24,54 @@ names_for V6 request = request.pools6
 
 -- ---- an address is assigned
 
+-- an ordinal of a block as it was read, with its revision
+pub record Target : Type 0 where
+  pub revision : ℕ
+  pub block : block.BlockValue
+  pub ordinal : ℕ
+
+abbrev pub target_in : ℕ × block.BlockValue → (ordinal : ℕ) → Target
+target_in found ordinal = record { revision = found.0; block = found.1; ordinal = ordinal }
+
 -- the moment of the block's write, and the stamp
 pub record Assigned : Type 0 where
   pub moment : ℕ
   pub stamp : ℕ
 
--- The block was not written and the count is lowered, so another look is needed.
-abbrev pub nothing_assigned : Outcome (Unit {0}) → Word (Outcome (Option Assigned))
-nothing_assigned (Went left done) = Ends (Went left None)
-nothing_assigned (Stops left why) = Ends (Stops left why)
-
-abbrev pub assign_lost : (left : ℕ) (id : List ℕ) (cidr : Range) → Word (Outcome (Option Assigned))
-assign_lost left id cidr =
-    after_lost left (Ends (Stops left OutOfTries)) (λ less. bound (lower less (credit_of id cidr 1)) nothing_assigned)
+-- The block was not written: the count is lowered again, and another look is needed.
+abbrev pub assign_lost : Attributes → Target → Left → Part (Option Assigned)
+assign_lost attributes target left =
+    after_lost left.races left.claims (λ less.
+    followed (lower (credit_of attributes.handle target.block.cidr 1) less) (λ now done. goes now None))
 
 -- the block as it was read, with the ordinal held by the handle
-abbrev pub assign_block : (left : ℕ) → Attributes → ℕ × block.Content → (ordinal : ℕ) → Word (Outcome (Option Assigned))
-assign_block left attributes (revision, b) ordinal =
-    Asks (owing (credit_of attributes.handle b.cidr 1))
-    (Update (record_of.Block (assigned (next_block b) ordinal attributes)) revision)
+abbrev pub assign_block : Attributes → Target → Left → Part (Option Assigned)
+assign_block attributes target left =
+    Asks (owing (credit_of attributes.handle target.block.cidr 1))
+    (Update (record_of.Block (assigned (next_block target.block) target.ordinal attributes)) target.revision)
     (λ moment said. on_write said left
-    (λ taken. Ends (Went left (Some (record { moment = moment; stamp = b.sequence + 1 }))))
-    (assign_lost left attributes.handle b.cidr))
-
-abbrev pub assign_raised : Attributes → ℕ × block.Content → (ordinal : ℕ) → Outcome (Unit {0}) → Word (Outcome (Option Assigned))
-assign_raised attributes found ordinal (Went left done) = assign_block left attributes found ordinal
-assign_raised attributes found ordinal (Stops left why) = Ends (Stops left why)
+    (λ taken. goes left (Some (record { moment = moment; stamp = target.block.sequence + 1 })))
+    (assign_lost attributes target left))
 
 -- The count is raised and the block written at the revision at which it was read. Where that is
--- lost, the count is lowered again and nothing is assigned.
-abbrev pub assign : (left : ℕ) → Attributes → ℕ × block.Content → (ordinal : ℕ) → Word (Outcome (Option Assigned))
-assign left attributes found ordinal =
-    bound (raise left attributes.handle found.1.cidr) (assign_raised attributes found ordinal)
+-- lost, nothing is assigned.
+abbrev pub assign : Attributes → Target → Left → Part (Option Assigned)
+assign attributes target left =
+    followed (raise attributes.handle target.block.cidr left) (λ now done. assign_block attributes target now)
 
 -- ---- a block is claimed
 
--- how many claims were confirmed, unless that ends the request
-abbrev pub after_claim : (left claims : ℕ) → ClaimAnswer → Word (Outcome ℕ)
-after_claim left claims claimed.Confirmed =
-    if claims + 1 == most_claims then Ends (Stops left OutOfClaims) else Ends (Went left (claims + 1))
-after_claim left claims claimed.Lost = after_lost left (Ends (Stops left OutOfTries)) (λ less. Ends (Went less claims))
-after_claim left claims claimed.Full = Ends (Stops left NoRoom)
-after_claim left claims claimed.Spent = Ends (Stops left NoRevisions)
+-- what follows a confirmed claim with one less left, where it was not the last
+abbrev pub after_confirmed : (races claims : ℕ) → Part (Unit {0})
+after_confirmed races zero = stops (left_of races zero) OutOfClaims
+after_confirmed races (suc claims) = goes (left_of races claims) tt
+
+abbrev pub after_claim : Left → ClaimAnswer → Part (Unit {0})
+after_claim left claimed.Confirmed = after_confirmed left.races left.claims
+after_claim left claimed.Lost = after_lost left.races left.claims (λ less. goes less tt)
+after_claim left claimed.Full = stops left NoRoom
+after_claim left claimed.Spent = stops left NoRevisions
 
 -- the node claims the block that was read; confirmed or lost, another look is needed
-abbrev pub claim_for : (left claims : ℕ) → List ℕ → Range → BlockRead → Word (Outcome ℕ)
-claim_for left claims node cidr read = bound (claim node cidr read) (after_claim left claims)
+abbrev pub claim_for : List ℕ → CidrValue → BlockRead → Left → Part (Unit {0})
+claim_for node cidr read left = bound (claim node cidr read) (after_claim left)

@@ -1,14 +1,14 @@
 -- Which address an ADD takes, by what it has read.
-use Rattle.std.specs.Prelude.{◌≡◌, ℕ, zero, suc, ◌+◌, ◌<◌, ◌≤◌, ◌⊎◌, Bool, true, false, not, ◌&&◌, ◌||◌, ◌==◌, nat_lt, IsTrue, List, [], ◌∷◌, Option, Some, None, MatchOption, is_some, slice_get, bytes_eq, if◌then◌else◌}
+use Rattle.std.specs.Prelude.{◌≡◌, ℕ, zero, suc, ◌+◌, ◌<◌, ◌≤◌, ◌⊎◌, Bool, true, false, ◌&&◌, ◌||◌, ◌==◌, nat_lt, IsTrue, List, [], ◌∷◌, Option, Some, None, MatchOption, is_some, slice_get, bytes_eq, if◌then◌else◌}
 use Rattle.std.specs.List.{list_any, find, count_by}
-use Rattle.ipam_addr.specs.Shape.{Address, Range}
-use Rattle.ipam_addr.specs.Width.{range_size}
+use Rattle.ipam_addr.specs.Shape.{AddrValue, CidrValue}
+use Rattle.ipam_addr.specs.Width.{cidr_size}
 use Rattle.ipam_addr.specs.Holding.{is_same_family}
 use Rattle.ipam_addr.specs.Slots.{last_slot_of, slot_of}
 use Rattle.ipam_pool.specs.declared.pools.Pool.{Pool}
-use Rattle.ipam_reserve.specs.Shape.{NamedRanges}
+use Rattle.ipam_reserve.specs.Shape.{ReservationValue}
 use Rattle.ipam_reserve.specs.Union.{is_in_union}
-use Rattle.ipam_block.specs.Content as block
+use Rattle.ipam_block.specs.Shape as block
 use Rattle.ipam_block.specs.Operations.{address_of, room}
 use Rattle.ipam_affinity.specs.declared.state.State.{State}
 use Rattle.ipam_affinity.specs.declared.state.State.TheVariants.{Confirmed}
@@ -17,14 +17,14 @@ use Rattle.ipam_records.specs.declared.record.Record.TheVariants as record_of
 use Rattle.ipam_model.specs.declared.choice.Choice.{Choice}
 use Rattle.ipam_model.specs.declared.choice.Choice.TheVariants.{Use, Claim, Borrow, Nothing, NoPool}
 use Rattle.ipam_model.specs.Reads.{Row}
-use Rattle.ipam_model.specs.Usable.{Asked, RuledPool, same_range, is_usable, unknown_name}
+use Rattle.ipam_model.specs.Usable.{Asked, RuledPool, is_same_cidr, is_usable, unknown_name}
 
 -- what was read: the configuration, the pools and the reservations, and the rows of the affinities
 -- and of the blocks
 pub record Seen : Type 0 where
   pub config : Config
   pub pools : List RuledPool
-  pub reservations : List NamedRanges
+  pub reservations : List ReservationValue
   pub affinities : List Row
   pub blocks : List Row
 
@@ -35,25 +35,25 @@ is_confirmed_state Confirmed = true
 is_confirmed_state _ = false
 
 -- whether the row is a confirmed affinity of the node for the block
-abbrev pub is_confirmed_for : List ℕ → Range → Row → Bool
+abbrev pub is_confirmed_for : List ℕ → CidrValue → Row → Bool
 is_confirmed_for node cidr (revision, record_of.Affinity a) =
-    bytes_eq a.node node && same_range a.cidr cidr && is_confirmed_state a.state
+    bytes_eq a.node node && is_same_cidr a.cidr cidr && is_confirmed_state a.state
 is_confirmed_for node cidr _ = false
 
-abbrev pub is_block_at : Range → Row → Bool
-is_block_at cidr (revision, record_of.Block b) = same_range b.cidr cidr
+abbrev pub is_block_at : CidrValue → Row → Bool
+is_block_at cidr (revision, record_of.Block b) = is_same_cidr b.cidr cidr
 is_block_at cidr _ = false
 
-abbrev pub block_in : Row → Option (ℕ × block.Content)
+abbrev pub block_in : Row → Option (ℕ × block.BlockValue)
 block_in (revision, record_of.Block b) = Some (revision, b)
 block_in _ = None
 
-abbrev pub block_in_found : Option Row → Option (ℕ × block.Content)
+abbrev pub block_in_found : Option Row → Option (ℕ × block.BlockValue)
 block_in_found None = None
 block_in_found (Some row) = block_in row
 
 -- the block of the slot, with its revision, where there is one
-abbrev pub block_at : Seen → Range → Option (ℕ × block.Content)
+abbrev pub block_at : Seen → CidrValue → Option (ℕ × block.BlockValue)
 block_at seen cidr = block_in_found (find (is_block_at cidr) seen.blocks)
 
 -- whether the node is this one
@@ -67,11 +67,11 @@ is_block_of asked (revision, record_of.Block b) =
     is_node asked.node b.node && is_same_family asked.family b.cidr.family
 is_block_of asked _ = false
 
-abbrev pub is_reserved : Seen → Address → Bool
+abbrev pub is_reserved : Seen → AddrValue → Bool
 is_reserved seen = is_in_union seen.reservations
 
-abbrev pub is_nobodys : block.Content → Bool
-is_nobodys b = nobody b.node && nothing b.allocations
+abbrev pub is_unowned_and_empty : block.BlockValue → Bool
+is_unowned_and_empty b = nobody b.node && nothing b.allocations
   where
     nobody : Option (List ℕ) → Bool
     nobody None = true
@@ -81,6 +81,25 @@ is_nobodys b = nobody b.node && nothing b.allocations
     nothing [] = true
     nothing (x ∷ xs) = false
 
+-- what a node may do with a free address of a block
+pub data Share : Type 0 where
+  -- it may take it: the block is its own, or affinity is not strict and the block another's
+  Takes : Share
+  -- the block is nobody's and empty, so it claims the block first
+  Claims : Share
+  -- the block is another's, and affinity is strict
+  Leaves : Share
+
+abbrev pub share_of : (strict : Bool) → (node : List ℕ) → block.BlockValue → Share
+share_of strict node b =
+    if is_node node b.node then Takes
+    else (if is_unowned_and_empty b then Claims else (if strict then Leaves else Takes))
+
+abbrev pub by_share : {A : Type 0} → Share → (takes claims leaves : A) → A
+by_share Takes takes claims leaves = takes
+by_share Claims takes claims leaves = claims
+by_share Leaves takes claims leaves = leaves
+
 -- ---- the rank of a slot, where it is a candidate
 
 -- whether the node may claim one more block of the family
@@ -89,106 +108,117 @@ may_claim asked seen =
     seen.config.auto
     && ((seen.config.max_blocks == 0) || nat_lt (count_by (is_block_of asked) seen.blocks) seen.config.max_blocks)
 
-abbrev pub room_of : Seen → block.Content → Option ℕ
+abbrev pub room_of : Seen → block.BlockValue → Option ℕ
 room_of seen b = room (is_reserved seen) b
 
--- the first number from `from` on, of so many, that passes
-unfoldable pub first_from : (ℕ → Bool) → (many from : ℕ) → Option ℕ
-first_from passes zero from = None
-first_from passes (suc many) from =
-    elim (passes from) [ true ↦ Some from | false ↦ first_from passes many (from + 1) ]
+-- what is found at the first number from `from` on, of so many, at which something is, with the number
+unfoldable pub first_found : {A : Type 0} → (ℕ → Option A) → (many from : ℕ) → Option (ℕ × A)
+first_found finds zero from = None
+first_found finds (suc many) from =
+    elim (finds from) [ Some found ↦ Some (from, found) | None ↦ first_found finds many (from + 1) ]
+
+-- the address of this ordinal, where it is not reserved
+abbrev pub free_address : Seen → CidrValue → (ordinal : ℕ) → Option AddrValue
+free_address seen cidr ordinal =
+    if is_reserved seen (address_of cidr ordinal) then None else Some (address_of cidr ordinal)
 
 -- whether some address of the slot is not reserved
-abbrev pub has_free_address : Seen → Range → Bool
-has_free_address seen cidr =
-    is_some (first_from (λ o. not (is_reserved seen (address_of cidr o))) (range_size cidr) 0)
+abbrev pub has_free_address : Seen → CidrValue → Bool
+has_free_address seen cidr = is_some (first_found (free_address seen cidr) (cidr_size cidr) 0)
 
+-- what makes a slot a candidate, with the block that was listed there
 pub data Rank : Type 0 where
-  -- a block of the node whose affinity is confirmed, with room
-  Own : Rank
+  -- a block of the node whose affinity is confirmed, with room at this ordinal
+  Own : ℕ × block.BlockValue → (ordinal : ℕ) → Rank
   -- a block of the node whose affinity is missing or not confirmed, with room
-  Unconfirmed : Rank
+  Unconfirmed : ℕ × block.BlockValue → Rank
   -- a slot without a block that has an unreserved address, or an empty block without affinity that
   -- has room, where one more block may be claimed
-  Unclaimed : Rank
-  -- any other block that has room, where affinity is not strict
-  Foreign : Rank
+  Unclaimed : Option (ℕ × block.BlockValue) → Rank
+  -- any other block with room at this ordinal, where affinity is not strict
+  Foreign : ℕ × block.BlockValue → (ordinal : ℕ) → Rank
 
 abbrev pub rank_number : Rank → ℕ
-rank_number Own = 0
-rank_number Unconfirmed = 1
-rank_number Unclaimed = 2
-rank_number Foreign = 3
+rank_number (Own found ordinal) = 0
+rank_number (Unconfirmed found) = 1
+rank_number (Unclaimed read) = 2
+rank_number (Foreign found ordinal) = 3
 
-abbrev pub rank_of_block : Asked → Seen → block.Content → Option Rank
-rank_of_block asked seen b =
-    if not (is_some (room_of seen b)) then None
-    else (if is_node asked.node b.node
-    then (if list_any (is_confirmed_for asked.node b.cidr) seen.affinities then Some Own else Some Unconfirmed)
-    else (if is_nobodys b && may_claim asked seen then Some Unclaimed
-    else (if seen.config.strict then None else Some Foreign)))
+-- the rank of a block, by its room
+abbrev pub rank_of_block : Asked → Seen → ℕ × block.BlockValue → (room : Option ℕ) → Option Rank
+rank_of_block asked seen found None = None
+rank_of_block asked seen found (Some ordinal) =
+    if is_node asked.node found.1.node
+    then (if list_any (is_confirmed_for asked.node found.1.cidr) seen.affinities then Some (Own found ordinal) else Some (Unconfirmed found))
+    else (if is_unowned_and_empty found.1 && may_claim asked seen then Some (Unclaimed (Some found))
+    else (if seen.config.strict then None else Some (Foreign found ordinal)))
 
-abbrev pub rank_at : Asked → Seen → Range → Option (ℕ × block.Content) → Option Rank
-rank_at asked seen cidr (Some found) = rank_of_block asked seen found.1
+abbrev pub rank_at : Asked → Seen → CidrValue → Option (ℕ × block.BlockValue) → Option Rank
+rank_at asked seen cidr (Some found) = rank_of_block asked seen found (room_of seen found.1)
 rank_at asked seen cidr None =
-    if may_claim asked seen && has_free_address seen cidr then Some Unclaimed else None
+    if may_claim asked seen && has_free_address seen cidr then Some (Unclaimed None) else None
 
-abbrev pub rank_of : Asked → Seen → Range → Option Rank
+abbrev pub rank_of : Asked → Seen → CidrValue → Option Rank
 rank_of asked seen cidr = rank_at asked seen cidr (block_at seen cidr)
+
+-- a slot with its rank
+pub record Ranked : Type 0 where
+  pub slot : CidrValue
+  pub rank : Rank
+
+-- what is done there
+abbrev pub choice_at : CidrValue → Rank → Choice
+choice_at slot (Own found ordinal) = Use slot ordinal
+choice_at slot (Unconfirmed found) = Claim slot
+choice_at slot (Unclaimed read) = Claim slot
+choice_at slot (Foreign found ordinal) = Borrow slot ordinal
+
+abbrev pub chosen : Ranked → Choice
+chosen ranked = choice_at ranked.slot ranked.rank
 
 -- ---- the choice as a relation
 
--- the slot of this number of the pool at this place among the pools is a candidate of this rank
-pub record IsCandidateOf (asked : Asked) (seen : Seen) (pools : List RuledPool) (rank : Rank) (place number : ℕ) (slot : Range) : Type 0 where
-  pub ruled : RuledPool
-  pub at_place : slice_get pools place ≡ Some ruled
-  pub usable : IsTrue (is_usable asked ruled)
-  pub within : number ≤ last_slot_of ruled.pool.cidr ruled.pool.size
-  pub is_slot : slot ≡ slot_of ruled.pool.cidr ruled.pool.size number
-  pub ranked : rank_of asked seen slot ≡ Some rank
+-- a ranked slot, by the place of its pool and its number in that
+pub record Candidate : Type 0 where
+  pub ranked : Ranked
+  pub place : ℕ
+  pub number : ℕ
 
-abbrev pub IsCandidate : Asked → Seen → Rank → (place number : ℕ) → Range → Type 0
+-- the slot of this number of the pool at this place among the pools has this rank
+pub record IsCandidateOf (asked : Asked) (seen : Seen) (pools : List RuledPool) (c : Candidate) : Type 0 where
+  pub ruled : RuledPool
+  pub at_place : slice_get pools c.place ≡ Some ruled
+  pub usable : IsTrue (is_usable asked ruled)
+  pub within : c.number ≤ last_slot_of ruled.pool.cidr ruled.pool.size
+  pub is_slot : c.ranked.slot ≡ slot_of ruled.pool.cidr ruled.pool.size c.number
+  pub has_rank : rank_of asked seen c.ranked.slot ≡ Some c.ranked.rank
+
+abbrev pub IsCandidate : Asked → Seen → Candidate → Type 0
 IsCandidate asked seen = IsCandidateOf asked seen seen.pools
 
+abbrev pub rank_in : Candidate → ℕ
+rank_in c = rank_number c.ranked.rank
+
 -- by rank, then by the place of the pool, then by the number of the slot
-pub data IsNotBehind (rank : Rank) (place number : ℕ) (other : Rank) (other_place other_number : ℕ) : Type 0 where
-  by_rank : rank_number rank < rank_number other → IsNotBehind rank place number other other_place other_number
-  by_place : rank ≡ other → place < other_place → IsNotBehind rank place number other other_place other_number
-  by_number : rank ≡ other → place ≡ other_place → number ≤ other_number → IsNotBehind rank place number other other_place other_number
+pub data IsNotBehind (c other : Candidate) : Type 0 where
+  by_rank : rank_in c < rank_in other → IsNotBehind c other
+  by_place : rank_in c ≡ rank_in other → c.place < other.place → IsNotBehind c other
+  by_number : rank_in c ≡ rank_in other → c.place ≡ other.place → c.number ≤ other.number → IsNotBehind c other
 
 -- the candidate that no other comes before
 pub record FirstCandidate (asked : Asked) (seen : Seen) : Type 0 where
-  pub rank : Rank
-  pub place : ℕ
-  pub number : ℕ
-  pub slot : Range
-  pub candidate : IsCandidate asked seen rank place number slot
-  pub first : (r : Rank) (p k : ℕ) (s : Range) → IsCandidate asked seen r p k s → IsNotBehind rank place number r p k
+  pub best : Candidate
+  pub candidate : IsCandidate asked seen best
+  pub first : (other : Candidate) → IsCandidate asked seen other → IsNotBehind best other
 
 abbrev pub HasNoCandidate : Asked → Seen → Type 0
-HasNoCandidate asked seen = (rank : Rank) (place number : ℕ) (slot : Range) → ¬ (IsCandidate asked seen rank place number slot)
-
--- what is done at a candidate of this rank, where the block has this room
-abbrev pub chosen_with : Rank → Range → Option ℕ → Choice
-chosen_with Own slot (Some ordinal) = Use slot ordinal
-chosen_with Own slot None = Nothing
-chosen_with Unconfirmed slot room = Claim slot
-chosen_with Unclaimed slot room = Claim slot
-chosen_with Foreign slot (Some ordinal) = Borrow slot ordinal
-chosen_with Foreign slot None = Nothing
-
-abbrev pub room_found : Seen → Option (ℕ × block.Content) → Option ℕ
-room_found seen None = None
-room_found seen (Some found) = room_of seen found.1
-
-abbrev pub chosen : Seen → Rank → Range → Choice
-chosen seen rank slot = chosen_with rank slot (room_found seen (block_at seen slot))
+HasNoCandidate asked seen = (c : Candidate) → ¬ (IsCandidate asked seen c)
 
 -- nothing where there is no candidate, else what is done at the first one
 abbrev pub IsBest : Asked → Seen → Choice → Type 0
 IsBest asked seen choice =
     (HasNoCandidate asked seen × (choice ≡ Nothing))
-    ⊎ ((c : FirstCandidate asked seen) × (choice ≡ chosen seen c.rank c.slot))
+    ⊎ ((c : FirstCandidate asked seen) × (choice ≡ chosen c.best.ranked))
 
 -- the first name that no pool has, else the best choice
 abbrev pub IsChoice : Asked → Seen → Choice → Type 0
@@ -197,40 +227,59 @@ IsChoice asked seen choice =
 
 -- ---- the choice as a function
 
-abbrev pub is_rank : Rank → Option Rank → Bool
-is_rank rank None = false
-is_rank rank (Some other) = rank_number other == rank_number rank
+-- the slot, where its rank has this number
+abbrev pub if_rank : (number : ℕ) → CidrValue → Option Rank → Option Ranked
+if_rank number slot None = None
+if_rank number slot (Some rank) =
+    if rank_number rank == number then Some (record { slot = slot; rank = rank }) else None
 
--- the first slot of the pool with this rank
-abbrev pub first_slot_in : Asked → Seen → Rank → Pool → Option ℕ
-first_slot_in asked seen rank pool =
-    first_from (λ k. is_rank rank (rank_of asked seen (slot_of pool.cidr pool.size k)))
+abbrev pub ranked_at : Asked → Seen → (number : ℕ) → CidrValue → Option Ranked
+ranked_at asked seen number slot = if_rank number slot (rank_of asked seen slot)
+
+-- the first slot of the pool whose rank has this number
+abbrev pub first_slot_in : Asked → Seen → (number : ℕ) → Pool → Option (ℕ × Ranked)
+first_slot_in asked seen number pool =
+    first_found (λ k. ranked_at asked seen number (slot_of pool.cidr pool.size k))
     (last_slot_of pool.cidr pool.size + 1) 0
 
--- the first slot of the pools with this rank
-unfoldable pub first_slot : Asked → Seen → Rank → List RuledPool → Option Range
-first_slot asked seen rank [] = None
-first_slot asked seen rank (ruled ∷ pools) =
+-- the first such slot of the pools
+unfoldable pub first_slot : Asked → Seen → (number : ℕ) → List RuledPool → Option Ranked
+first_slot asked seen number [] = None
+first_slot asked seen number (ruled ∷ pools) =
     elim (is_usable asked ruled) [
-      | true ↦ elim (first_slot_in asked seen rank ruled.pool) [
-        | Some k ↦ Some (slot_of ruled.pool.cidr ruled.pool.size k)
-        | None ↦ first_slot asked seen rank pools
+      | true ↦ elim (first_slot_in asked seen number ruled.pool) [
+        | Some found ↦ Some found.1
+        | None ↦ first_slot asked seen number pools
       ]
-      | false ↦ first_slot asked seen rank pools
+      | false ↦ first_slot asked seen number pools
     ]
 
--- what is done at the first slot of the first of these ranks that has one
-unfoldable pub best_of_ranks : Asked → Seen → List Rank → Choice
-best_of_ranks asked seen [] = Nothing
-best_of_ranks asked seen (rank ∷ ranks) =
-    elim (first_slot asked seen rank seen.pools) [
-      | Some slot ↦ chosen seen rank slot
-      | None ↦ best_of_ranks asked seen ranks
+-- what a request takes: nothing where a name is of no pool or where there is no candidate, else a slot
+pub data Pick : Type 0 where
+  Unknown : (place : ℕ) → Pick
+  Lacks : Pick
+  Picks : Ranked → Pick
+
+-- the first slot of the first of these ranks that has one
+unfoldable pub best_of_ranks : Asked → Seen → (numbers : List ℕ) → Pick
+best_of_ranks asked seen [] = Lacks
+best_of_ranks asked seen (number ∷ numbers) =
+    elim (first_slot asked seen number seen.pools) [
+      | Some ranked ↦ Picks ranked
+      | None ↦ best_of_ranks asked seen numbers
     ]
 
-abbrev pub choice_unless : Asked → Seen → Option ℕ → Choice
-choice_unless asked seen (Some place) = NoPool place
-choice_unless asked seen None = best_of_ranks asked seen (Own ∷ Unconfirmed ∷ Unclaimed ∷ Foreign ∷ [])
+abbrev pub pick_unless : Asked → Seen → Option ℕ → Pick
+pick_unless asked seen (Some place) = Unknown place
+pick_unless asked seen None = best_of_ranks asked seen (0 ∷ 1 ∷ 2 ∷ 3 ∷ [])
 
-unfoldable pub choice_of : Asked → Seen → Choice
-choice_of asked seen = choice_unless asked seen (unknown_name asked seen.pools)
+unfoldable pub pick_of : Asked → Seen → Pick
+pick_of asked seen = pick_unless asked seen (unknown_name asked seen.pools)
+
+abbrev pub choice_in : Pick → Choice
+choice_in (Unknown place) = NoPool place
+choice_in Lacks = Nothing
+choice_in (Picks ranked) = chosen ranked
+
+abbrev pub choice_of : Asked → Seen → Choice
+choice_of asked seen = choice_in (pick_of asked seen)

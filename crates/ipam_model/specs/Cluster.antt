@@ -1,13 +1,12 @@
 -- A cluster: the datastore, and the requests that run in its slots.
-use Rattle.std.specs.Prelude.{ℕ, ◌+◌, ◌==◌, List, Option, Some, None, if◌then◌else◌}
+use Rattle.std.specs.Prelude.{ℕ, ◌+◌, ◌==◌, List, Option, Some, None, option_map, if◌then◌else◌}
 use Rattle.ipam_records.specs.declared.record.Record.{Record}
 use Rattle.ipam_records.specs.declared.call.Call.{Call}
 use Rattle.ipam_records.specs.declared.call.Call.TheVariants as call
 use Rattle.ipam_records.specs.declared.call.Write.{Write}
-use Rattle.ipam_records.specs.declared.call.Write.TheVariants.{Put, Remove}
-use Rattle.ipam_records.specs.Datastore.{Datastore, reply_of, written}
+use Rattle.ipam_records.specs.Datastore.{Datastore, reply_of, write_of, written}
 use Rattle.ipam_records.specs.Said.{Said, Can}
-use Rattle.ipam_records.specs.Word.{Word, Ends, Asks, Waits, ended, fed}
+use Rattle.ipam_records.specs.Word.{Word, Ends, Asks, Waits, ended, fed, waits}
 use Rattle.ipam_model.specs.declared.answer.Answer.{Answer}
 use Rattle.ipam_model.specs.declared.answer.Answer.TheVariants.{Fault}
 use Rattle.ipam_model.specs.declared.entry.CallName.{CallName}
@@ -17,6 +16,8 @@ use Rattle.ipam_model.specs.declared.entry.Entry.{Entry}
 use Rattle.ipam_model.specs.declared.entry.Entry.TheVariants as entry
 use Rattle.ipam_model.specs.declared.entry.Fate.{Fate}
 use Rattle.ipam_model.specs.declared.entry.Fate.TheVariants.{Well, Before, After}
+use Rattle.ipam_model.specs.declared.entry.SlotState.{SlotState}
+use Rattle.ipam_model.specs.declared.entry.SlotState.TheVariants as state
 use Rattle.ipam_model.specs.declared.entry.Told.{Told}
 use Rattle.ipam_model.specs.declared.entry.Told.TheVariants as told
 use Rattle.ipam_model.specs.declared.request.Request.{Request}
@@ -33,6 +34,11 @@ pub record Cluster : Type 0 where
   pub store : Datastore
   pub entries : ℕ
   pub slots : ℕ → Option Running
+
+-- whether a request runs in the slot, and whether it waits
+abbrev pub state_of : Option Running → SlotState
+state_of None = state.Idle
+state_of (Some running) = if waits running.word then state.Waiting else state.Running
 
 abbrev pub Slots : Type 0
 Slots = ℕ → Option Running
@@ -93,15 +99,21 @@ call_entry slot fate store moment (Waits next) = None
 
 -- ---- what an entry makes of the cluster
 
--- the write that an entry tells of
-abbrev pub write_done : CallName → (revision : ℕ) → Option Record → Option Write
-write_done (name.Create key) revision (Some new) = Some (Put revision new)
-write_done (name.Update key old) revision (Some new) = Some (Put revision new)
-write_done (name.Delete key old) revision new = Some (Remove revision key)
-write_done _ _ _ = None
+-- the call that an entry tells of, with the record that it wrote
+abbrev pub call_told : CallName → Option Record → Option Call
+call_told (name.Get key) new = Some (call.Get key)
+call_told (name.List kind) new = Some (call.List kind)
+call_told (name.Create key) new = option_map call.Create new
+call_told (name.Update key revision) new = option_map (λ written. call.Update written revision) new
+call_told (name.Delete key revision) new = Some (call.Delete key revision)
+
+-- the write of that call, where it was done
+abbrev pub write_at : (revision : ℕ) → Option Call → Option Write
+write_at revision None = None
+write_at revision (Some asked) = write_of asked revision
 
 abbrev pub write_told : CallName → Told → Option Record → Option Write
-write_told asked (told.Done revision) new = write_done asked revision new
+write_told asked (told.Done revision) new = write_at revision (call_told asked new)
 write_told asked _ new = None
 
 abbrev pub store_with : Option Write → Datastore → Datastore

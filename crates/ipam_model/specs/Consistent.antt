@@ -1,6 +1,6 @@
 -- What holds of several records at once when a datastore is opened, and at every moment from then on.
 use Rattle.std.specs.Prelude.{◌≡◌, ◌≤◌, List, [], Option, Some, None, Contains, length}
-use Rattle.ipam_addr.specs.Shape.{Range}
+use Rattle.ipam_addr.specs.Shape.{CidrValue}
 use Rattle.ipam_pool.specs.declared.pools.Pool.{Pool}
 use Rattle.ipam_pool.specs.Slots.{IsSlotOf}
 use Rattle.ipam_records.specs.declared.key.Key.{Key}
@@ -24,18 +24,18 @@ abbrev pub pools_in : List Row → List Pool
 pools_in rows = pools_in_row (row_of key.Pools rows)
 
 -- the CIDR that a key names, where it is a block's or an affinity's
-abbrev pub cidr_named : Key → Option Range
+abbrev pub cidr_named : Key → Option CidrValue
 cidr_named (key.Block cidr) = Some cidr
 cidr_named (key.Affinity node cidr) = Some cidr
 cidr_named _ = None
 
-abbrev pub IsSlotOfSome : List Pool → Range → Type 0
+abbrev pub IsSlotOfSome : List Pool → CidrValue → Type 0
 IsSlotOfSome pools cidr = (pool : Pool) × Contains pools pool × IsSlotOf pool cidr
 
 -- each block and each affinity lies at a slot of a pool, so no two blocks overlap
 abbrev pub LiesAtSlots : Datastore → Type 0
 LiesAtSlots store =
-    (row : Row) (cidr : Range) → Contains store.rows row → cidr_named (row_key row) ≡ Some cidr
+    (row : Row) (cidr : CidrValue) → Contains store.rows row → cidr_named (row_key row) ≡ Some cidr
     → IsSlotOfSome (pools_in store.rows) cidr
 
 pub record IsConsistent (store : Datastore) : Type 0 where

@@ -1,7 +1,7 @@
 -- A handle's count of a block covers the addresses that it owns there.
 use Rattle.std.specs.Prelude.{ℕ, ◌+◌, ◌≤◌, ◌&&◌, List, Option, Some, None, bytes_eq, if◌then◌else◌}
 use Rattle.std.specs.List.{range_with_len, sum_by, count_by}
-use Rattle.ipam_addr.specs.Shape.{Range}
+use Rattle.ipam_addr.specs.Shape.{CidrValue}
 use Rattle.ipam_block.specs.Operations.{is_owned}
 use Rattle.ipam_handle.specs.Operations.{count_of}
 use Rattle.ipam_records.specs.declared.key.Key.TheVariants as key
@@ -15,14 +15,14 @@ use Rattle.ipam_model.specs.Cluster.{Running, Slots}
 use Rattle.ipam_model.specs.Course.{slot_count}
 use Rattle.ipam_model.specs.History.{Base, Lawful, cluster_at, store_at}
 use Rattle.ipam_model.specs.Reads.{Row}
-use Rattle.ipam_model.specs.Usable.{same_range}
+use Rattle.ipam_model.specs.Usable.{is_same_cidr}
 
-abbrev pub count_in_row : List ℕ → Range → Option Row → ℕ
+abbrev pub count_in_row : List ℕ → CidrValue → Option Row → ℕ
 count_in_row id cidr (Some (revision, record_of.Handle h)) = count_of h cidr
 count_in_row id cidr _ = 0
 
 -- the count of the block in the handle of this id, 0 where there is none
-abbrev pub handle_count : Datastore → List ℕ → Range → ℕ
+abbrev pub handle_count : Datastore → List ℕ → CidrValue → ℕ
 handle_count store id cidr = count_in_row id cidr (row_of (key.Handle id) store.rows)
 
 abbrev pub held_in_row : List ℕ → Option Row → ℕ
@@ -30,29 +30,29 @@ held_in_row id (Some (revision, record_of.Block b)) = count_by (is_owned id) b.a
 held_in_row id _ = 0
 
 -- how many addresses of the block the handle owns
-abbrev pub held_count : Datastore → List ℕ → Range → ℕ
+abbrev pub held_count : Datastore → List ℕ → CidrValue → ℕ
 held_count store id cidr = held_in_row id (row_of (key.Block cidr) store.rows)
 
 -- ---- credits
 
-abbrev pub amount_for : List ℕ → Range → Option Credit → ℕ
+abbrev pub amount_for : List ℕ → CidrValue → Option Credit → ℕ
 amount_for id cidr None = 0
 amount_for id cidr (Some credit) =
-    if bytes_eq credit.handle id && same_range credit.block cidr then credit.amount else 0
+    if bytes_eq credit.handle id && is_same_cidr credit.block cidr then credit.amount else 0
 
 -- how far the count is ahead on account of the slot's request
-abbrev pub credit_of_slot : List ℕ → Range → Option Running → ℕ
+abbrev pub credit_of_slot : List ℕ → CidrValue → Option Running → ℕ
 credit_of_slot id cidr None = 0
 credit_of_slot id cidr (Some running) = amount_for id cidr (label_of running.word).credit
 
-abbrev pub credits : List ℕ → Range → Slots → ℕ
+abbrev pub credits : List ℕ → CidrValue → Slots → ℕ
 credits id cidr slots = sum_by (λ slot. credit_of_slot id cidr (slots slot)) (range_with_len 0 slot_count)
 
 -- ---- the law
 
 -- the counts of the store cover its owners
 abbrev pub IsCovered : Datastore → Type 0
-IsCovered store = (id : List ℕ) (cidr : Range) → held_count store id cidr ≤ handle_count store id cidr
+IsCovered store = (id : List ℕ) (cidr : CidrValue) → held_count store id cidr ≤ handle_count store id cidr
 
 abbrev pub CountLaw : Type 0
 CountLaw =
@@ -63,6 +63,6 @@ CountLaw =
 abbrev pub CreditLaw : Type 0
 CreditLaw =
     (base : Base) (history : List Entry) → IsDatastore base.store → IsCovered base.store → Lawful base history
-    → (id : List ℕ) (cidr : Range)
+    → (id : List ℕ) (cidr : CidrValue)
     → held_count (store_at base history) id cidr + credits id cidr (cluster_at base history).slots
     ≤ handle_count (store_at base history) id cidr

@@ -1,11 +1,11 @@
 -- Raising and lowering a handle's count of a block, and freeing what a handle holds in a block.
 use Rattle.std.specs.Prelude.{ℕ, zero, suc, ◌-◌, ◌^◌, Bool, nat_le, List, [], ◌∷◌, Option, Some, None, if◌then◌else◌}
 use Rattle.std.specs.List.{count_by}
-use Rattle.ipam_addr.specs.Shape.{Range}
+use Rattle.ipam_addr.specs.Shape.{CidrValue}
 use Rattle.ipam_block.specs.declared.allocation.Allocation.{Allocation}
-use Rattle.ipam_block.specs.Content as block
-use Rattle.ipam_block.specs.Operations.{next_block, freed}
-use Rattle.ipam_handle.specs.Content as handle
+use Rattle.ipam_block.specs.Shape as block
+use Rattle.ipam_block.specs.Operations.{next_block, freed, is_owned, is_stamped}
+use Rattle.ipam_handle.specs.Shape as handle
 use Rattle.ipam_handle.specs.Operations.{count_of, raised, lowered}
 use Rattle.ipam_records.specs.declared.key.Key.TheVariants as key
 use Rattle.ipam_records.specs.declared.call.Call.{Call}
@@ -13,9 +13,9 @@ use Rattle.ipam_records.specs.declared.call.Call.TheVariants.{Get, Update, Delet
 use Rattle.ipam_records.specs.declared.record.Record.TheVariants as record_of
 use Rattle.ipam_records.specs.Said.{Said, Found}
 use Rattle.ipam_records.specs.Label.{Credit, idle, owing}
-use Rattle.ipam_records.specs.Word.{Word, Ends, Asks, bound}
+use Rattle.ipam_records.specs.Word.{Asks}
 use Rattle.ipam_model.specs.Reads.{handle_said, block_said}
-use Rattle.ipam_model.specs.Step.{write_back, Outcome, Went, Stops, OutOfTries, CountAtLimit, on_write}
+use Rattle.ipam_model.specs.Step.{Left, Part, CountAtLimit, goes, stops, followed, write_back, on_write, retried}
 
 -- the highest count of a block in a handle
 abbrev pub most_count : ℕ
@@ -23,22 +23,19 @@ most_count = 2 ^ 32 - 1
 
 -- ---- raising the count by one
 
-abbrev pub raise_write : (again : Word (Outcome (Unit {0}))) (left : ℕ) (id : List ℕ) (cidr : Range) → Said → Word (Outcome (Unit {0}))
-raise_write again left id cidr said =
+abbrev pub raise_write : (id : List ℕ) (cidr : CidrValue) → (again : Part (Unit {0})) → Left → Said → Part (Unit {0})
+raise_write id cidr again left said =
     Asks idle (write_back said (record_of.Handle (raised (handle_said id said) cidr 1)))
-    (λ moment reply. on_write reply left (λ revision. Ends (Went left tt)) again)
+    (λ moment reply. on_write reply left (λ revision. goes left tt) again)
 
-abbrev pub raise_read : (again : Word (Outcome (Unit {0}))) (left : ℕ) (id : List ℕ) (cidr : Range) (moment : ℕ) → Said → Word (Outcome (Unit {0}))
-raise_read again left id cidr moment said =
-    if nat_le most_count (count_of (handle_said id said) cidr) then Ends (Stops left (CountAtLimit moment))
-    else raise_write again left id cidr said
+abbrev pub raise_once : (id : List ℕ) (cidr : CidrValue) → (again : Part (Unit {0})) → Left → Part (Unit {0})
+raise_once id cidr again left =
+    Asks idle (Get (key.Handle id)) (λ moment said.
+    if nat_le most_count (count_of (handle_said id said) cidr) then stops left (CountAtLimit moment)
+    else raise_write id cidr again left said)
 
-abbrev pub raise_once : (again : Word (Outcome (Unit {0}))) (left : ℕ) (id : List ℕ) (cidr : Range) → Word (Outcome (Unit {0}))
-raise_once again left id cidr = Asks idle (Get (key.Handle id)) (raise_read again left id cidr)
-
-unfoldable pub raise : (left : ℕ) (id : List ℕ) (cidr : Range) → Word (Outcome (Unit {0}))
-raise zero id cidr = raise_once (Ends (Stops zero OutOfTries)) zero id cidr
-raise (suc left) id cidr = raise_once (raise left id cidr) (suc left) id cidr
+abbrev pub raise : (id : List ℕ) (cidr : CidrValue) → Left → Part (Unit {0})
+raise id cidr left = retried (raise_once id cidr) left
 
 -- ---- lowering it by what there is a credit for
 
@@ -48,57 +45,63 @@ revision_said (Found revision found) = revision
 revision_said _ = 0
 
 -- a handle without counts is deleted
-abbrev pub written_or_deleted : handle.Content → (counts : List (Range × ℕ)) → ℕ → Call
+abbrev pub written_or_deleted : handle.HandleValue → (counts : List (CidrValue × ℕ)) → ℕ → Call
 written_or_deleted h [] revision = Delete (key.Handle h.id) revision
 written_or_deleted h (count ∷ counts) revision = Update (record_of.Handle h) revision
 
-abbrev pub lowering : handle.Content → ℕ → Call
+abbrev pub lowering : handle.HandleValue → ℕ → Call
 lowering h revision = written_or_deleted h h.counts revision
 
-abbrev pub lower_write : (again : Word (Outcome (Unit {0}))) (left : ℕ) → Credit → Said → Word (Outcome (Unit {0}))
-lower_write again left credit said =
+abbrev pub lower_write : Credit → (again : Part (Unit {0})) → Left → Said → Part (Unit {0})
+lower_write credit again left said =
     Asks (owing credit)
     (lowering (lowered (handle_said credit.handle said) credit.block credit.amount) (revision_said said))
-    (λ moment reply. on_write reply left (λ revision. Ends (Went left tt)) again)
+    (λ moment reply. on_write reply left (λ revision. goes left tt) again)
 
-abbrev pub lower_once : (again : Word (Outcome (Unit {0}))) (left : ℕ) → Credit → Word (Outcome (Unit {0}))
-lower_once again left credit =
-    Asks (owing credit) (Get (key.Handle credit.handle)) (λ moment said. lower_write again left credit said)
+abbrev pub lower_once : Credit → (again : Part (Unit {0})) → Left → Part (Unit {0})
+lower_once credit again left =
+    Asks (owing credit) (Get (key.Handle credit.handle)) (λ moment said. lower_write credit again left said)
 
-unfoldable pub lower : (left : ℕ) → Credit → Word (Outcome (Unit {0}))
-lower zero credit = lower_once (Ends (Stops zero OutOfTries)) zero credit
-lower (suc left) credit = lower_once (lower left credit) (suc left) credit
+abbrev pub lower : Credit → Left → Part (Unit {0})
+lower credit left = retried (lower_once credit) left
 
 -- ---- freeing
 
-abbrev pub credit_of : List ℕ → Range → ℕ → Credit
+abbrev pub credit_of : List ℕ → CidrValue → ℕ → Credit
 credit_of id cidr amount = record { handle = id; block = cidr; amount = amount }
 
--- how many were freed, once the count is lowered by them
-abbrev pub freed_and_lowered : ℕ → Outcome (Unit {0}) → Word (Outcome ℕ)
-freed_and_lowered amount (Went left done) = Ends (Went left amount)
-freed_and_lowered amount (Stops left why) = Ends (Stops left why)
+-- what is freed: the allocations of a block that are picked, which the handle of this id holds
+pub record Freeing : Type 0 where
+  pub handle : List ℕ
+  pub block : CidrValue
+  pub picks : Allocation → Bool
 
--- the block is written without these, unless there are none, and then the count is lowered
-abbrev pub free_these : (again : Word (Outcome ℕ)) (left : ℕ) (id : List ℕ) (cidr : Range) → (Allocation → Bool) → (amount : ℕ) → ℕ × block.Content → Word (Outcome ℕ)
-free_these again left id cidr picks zero found = Ends (Went left 0)
-free_these again left id cidr picks (suc more) (revision, b) =
-    Asks idle (Update (record_of.Block (freed picks (next_block b))) revision)
+-- all that the handle holds
+abbrev pub freeing_all : List ℕ → CidrValue → Freeing
+freeing_all id cidr = record { handle = id; block = cidr; picks = is_owned id }
+
+-- the ordinal, where it is held with this stamp
+abbrev pub freeing_one : List ℕ → CidrValue → (ordinal stamp : ℕ) → Freeing
+freeing_one id cidr ordinal stamp = record { handle = id; block = cidr; picks = is_stamped ordinal id stamp }
+
+-- so many are freed: the block is written without them, and the count is lowered
+abbrev pub free_these : Freeing → (again : Part ℕ) → Left → (amount : ℕ) → ℕ × block.BlockValue → Part ℕ
+free_these what again left zero found = goes left 0
+free_these what again left (suc more) (revision, b) =
+    Asks idle (Update (record_of.Block (freed what.picks (next_block b))) revision)
     (λ moment reply. on_write reply left
-    (λ taken. bound (lower left (credit_of id cidr (suc more))) (freed_and_lowered (suc more)))
+    (λ taken. followed (lower (credit_of what.handle what.block (suc more)) left) (λ now done. goes now (suc more)))
     again)
 
-abbrev pub free_found : (again : Word (Outcome ℕ)) (left : ℕ) (id : List ℕ) (cidr : Range) → (Allocation → Bool) → Option (ℕ × block.Content) → Word (Outcome ℕ)
-free_found again left id cidr picks None = Ends (Went left 0)
-free_found again left id cidr picks (Some found) =
-    free_these again left id cidr picks (count_by picks found.1.allocations) found
+abbrev pub free_found : Freeing → (again : Part ℕ) → Left → Option (ℕ × block.BlockValue) → Part ℕ
+free_found what again left None = goes left 0
+free_found what again left (Some found) =
+    free_these what again left (count_by what.picks found.1.allocations) found
 
-abbrev pub free_once : (again : Word (Outcome ℕ)) (left : ℕ) (id : List ℕ) (cidr : Range) → (Allocation → Bool) → Word (Outcome ℕ)
-free_once again left id cidr picks =
-    Asks idle (Get (key.Block cidr)) (λ moment said. free_found again left id cidr picks (block_said said))
+abbrev pub free_once : Freeing → (again : Part ℕ) → Left → Part ℕ
+free_once what again left =
+    Asks idle (Get (key.Block what.block)) (λ moment said. free_found what again left (block_said said))
 
--- Frees the allocations of the block that are picked, which the handle of this id holds, and answers
--- how many.
-unfoldable pub free : (left : ℕ) (id : List ℕ) (cidr : Range) → (Allocation → Bool) → Word (Outcome ℕ)
-free zero id cidr picks = free_once (Ends (Stops zero OutOfTries)) zero id cidr picks
-free (suc left) id cidr picks = free_once (free left id cidr picks) (suc left) id cidr picks
+-- It comes to how many were freed. Where there are none, nothing is written.
+abbrev pub free : Freeing → Left → Part ℕ
+free what left = retried (free_once what) left

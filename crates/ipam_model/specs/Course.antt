@@ -1,12 +1,12 @@
 -- What happens when one event follows another.
-use Rattle.std.specs.Prelude.{ℕ, ◌+◌, ◌^◌, nat_lt, nat_le, is_some, List, [], ◌∷◌, ◌++◌, map, Option, Some, None, Result, Ok, Err, if◌then◌else◌}
+use Rattle.std.specs.Prelude.{ℕ, Bool, false, ◌+◌, ◌^◌, nat_lt, nat_le, is_some, List, [], ◌∷◌, ◌++◌, map, option_map, Option, Some, None, Result, Ok, Err, if◌then◌else◌}
 use Rattle.std.specs.List.{filter, range_with_len}
-use Rattle.ipam_records.specs.Word.{Word, Ends, Asks, Waits}
-use Rattle.ipam_model.specs.declared.answer.Answer.{Answer}
+use Rattle.ipam_records.specs.Word.{waits}
 use Rattle.ipam_model.specs.declared.entry.Called.{Called}
 use Rattle.ipam_model.specs.declared.entry.Entry.{Entry}
 use Rattle.ipam_model.specs.declared.entry.Entry.TheVariants as entry
 use Rattle.ipam_model.specs.declared.entry.Fate.{Fate}
+use Rattle.ipam_model.specs.declared.request.CollectRequest.{CollectRequest}
 use Rattle.ipam_model.specs.declared.request.Request.{Request}
 use Rattle.ipam_model.specs.declared.request.Request.TheVariants.{Collect}
 use Rattle.ipam_model.specs.Cluster.{Cluster, Running, Slots, call_entry, after}
@@ -57,24 +57,28 @@ turn_entry cluster slot fate None = Err Idle
 turn_entry cluster slot fate (Some running) =
     turn_called cluster (call_entry slot fate cluster.store cluster.entries running.word)
 
--- the time and the grace of a collection
-abbrev pub time_of : Request → ℕ × ℕ
-time_of (Collect request) = (request.at, request.grace)
-time_of _ = (0, 0)
+-- when a collection's second list is due
+abbrev pub due : CollectRequest → ℕ
+due request = request.at + request.grace
 
-abbrev pub feed_in_time : Cluster → (slot at : ℕ) → List (List ℕ) → ℕ × ℕ → Result Entry Refusal
-feed_in_time cluster slot at live (first, grace) =
-    if nat_le (first + grace) at then unless_worn cluster (entry.Fed slot at live)
-    else Err (TooSoon first grace)
+-- whether a second list that was made at this time is not too early; only a collection has one
+abbrev pub is_due : Request → (at : ℕ) → Bool
+is_due (Collect request) at = nat_le (due request) at
+is_due _ at = false
 
-abbrev pub feed_waiting : Cluster → (slot at : ℕ) → List (List ℕ) → Request → Word Answer → Result Entry Refusal
-feed_waiting cluster slot at live request (Ends answer) = Err NotWaiting
-feed_waiting cluster slot at live request (Asks label call next) = Err NotWaiting
-feed_waiting cluster slot at live request (Waits next) = feed_in_time cluster slot at live (time_of request)
+-- the refusal of a list that is too early
+abbrev pub too_soon : Request → Refusal
+too_soon (Collect request) = TooSoon request.at request.grace
+too_soon _ = NotWaiting
+
+abbrev pub feed_waiting : Cluster → (slot at : ℕ) → List (List ℕ) → Request → Result Entry Refusal
+feed_waiting cluster slot at live request =
+    if is_due request at then unless_worn cluster (entry.Fed slot at live) else Err (too_soon request)
 
 abbrev pub feed_entry : Cluster → (slot at : ℕ) → List (List ℕ) → Option Running → Result Entry Refusal
 feed_entry cluster slot at live None = Err NotWaiting
-feed_entry cluster slot at live (Some running) = feed_waiting cluster slot at live running.request running.word
+feed_entry cluster slot at live (Some running) =
+    if waits running.word then feed_waiting cluster slot at live running.request else Err NotWaiting
 
 abbrev pub stop_entry : (slot : ℕ) → Option Running → Result Entry Refusal
 stop_entry slot None = Err Idle
@@ -101,13 +105,26 @@ unfoldable pub after_all : Cluster → List Entry → Cluster
 after_all cluster [] = cluster
 after_all cluster (new ∷ rest) = after_all (after cluster new) rest
 
+-- which event did not happen, by its place among the events, from 0 on, and why
+pub record Refused : Type 0 where
+  pub place : ℕ
+  pub why : Refusal
+
 -- what happened: the entries, the oldest first, and what stopped the events
 pub record Course : Type 0 where
   pub entries : List Entry
-  pub refused : Option Refusal
+  pub refused : Option Refused
 
+-- the same of one event more before it
+abbrev pub one_later : Refused → Refused
+one_later refused = record { place = refused.place + 1; why = refused.why }
+
+-- the entries of the first event, and the course of the others
 abbrev pub behind : List Entry → Course → Course
-behind entries rest = record { entries = entries ++ rest.entries; refused = rest.refused }
+behind entries rest = record { entries = entries ++ rest.entries; refused = option_map one_later rest.refused }
+
+abbrev pub refused_at_once : Refusal → Course
+refused_at_once refusal = record { entries = []; refused = Some (record { place = 0; why = refusal }) }
 
 -- The course of the events, up to the first that is refused.
 unfoldable pub course : Cluster → List Event → Course
@@ -115,5 +132,5 @@ course cluster [] = record { entries = []; refused = None }
 course cluster (event ∷ events) =
     elim (entries_of cluster event) [
       | Ok entries ↦ behind entries (course (after_all cluster entries) events)
-      | Err refusal ↦ record { entries = []; refused = Some refusal }
+      | Err refusal ↦ refused_at_once refusal
     ]

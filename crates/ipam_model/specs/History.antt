@@ -13,7 +13,7 @@ use Rattle.ipam_model.specs.declared.entry.Fate.TheVariants.{Well}
 use Rattle.ipam_model.specs.declared.request.Request.{Request}
 use Rattle.ipam_model.specs.Cluster.{Cluster, Running, call_entry, after}
 use Rattle.ipam_model.specs.Named.{name_of}
-use Rattle.ipam_model.specs.Course.{slot_count, most_entries, time_of}
+use Rattle.ipam_model.specs.Course.{slot_count, most_entries, is_due}
 use Rattle.ipam_model.specs.SoundRequest.{IsSoundRequest}
 
 -- the datastore with which a cluster begins, and how many entries there were before
@@ -46,7 +46,7 @@ pub record MayFeed (cluster : Cluster) (slot at : ℕ) (live : List (List ℕ)) 
   pub running : Running
   pub runs : cluster.slots slot ≡ Some running
   pub waiting : IsTrue (waits running.word)
-  pub due : (time_of running.request).0 + (time_of running.request).1 ≤ at
+  pub due : IsTrue (is_due running.request at)
   pub sound : All IsHandleId live
 
 -- the entry is that of the call that the slot's word asks for
@@ -114,21 +114,51 @@ unfoldable pub since_begin : ℕ → List Entry → List Entry
 since_begin slot [] = []
 since_begin slot (new ∷ history) = new ∷ (if begins slot new then [] else since_begin slot history)
 
--- the moment at which it began
-abbrev pub begin_moment : Base → List Entry → ℕ → ℕ
-begin_moment base history slot = moment_of base history - length (since_begin slot history)
+-- the request that began last in the slot
+abbrev pub begun_in : ℕ → List Entry → Option Request
+begun_in slot [] = None
+begun_in slot (entry.Began other request ∷ history) = if other == slot then Some request else begun_in slot history
+begun_in slot (entry.Fed other at live ∷ history) = begun_in slot history
+begun_in slot (entry.Called c ∷ history) = begun_in slot history
+begun_in slot (entry.Stopped other ∷ history) = begun_in slot history
+
+-- a slot of a history, of which the laws say what its last request has read and done so far
+pub record Span : Type 0 where
+  pub base : Base
+  pub history : List Entry
+  pub slot : ℕ
+
+-- the same as it was before a moment
+abbrev pub span_before : Span → ℕ → Span
+span_before span moment = record span { history = before span.base span.history moment }
+
+-- the store before a moment of it
+abbrev pub seen_at : Span → ℕ → Datastore
+seen_at span moment = store_before span.base span.history moment
+
+-- the store behind its history
+abbrev pub seen_now : Span → Datastore
+seen_now span = store_at span.base span.history
+
+-- the moment of the history's next entry
+abbrev pub now : Span → ℕ
+now span = moment_of span.base span.history
+
+-- the moment at which the request began
+abbrev pub begin_moment : Span → ℕ
+begin_moment span = now span - length (since_begin span.slot span.history)
 
 -- the entry of this moment is one of the slot's since its last request began
-pub record InSpan (base : Base) (history : List Entry) (slot moment : ℕ) (there : Entry) : Type 0 where
-  pub since : begin_moment base history slot ≤ moment
-  pub before_now : moment < moment_of base history
-  pub is_there : entry_at base history moment ≡ Some there
-  pub own : slot_of_entry there ≡ slot
+pub record InSpan (span : Span) (moment : ℕ) (there : Entry) : Type 0 where
+  pub since : begin_moment span ≤ moment
+  pub before_now : moment < now span
+  pub is_there : entry_at span.base span.history moment ≡ Some there
+  pub own : slot_of_entry there ≡ span.slot
 
 -- a call of the slot's request that was answered this
-pub record Heard (base : Base) (history : List Entry) (slot moment : ℕ) (asked : Call) (reply : Said) : Type 0 where
+pub record Heard (span : Span) (moment : ℕ) (asked : Call) (reply : Said) : Type 0 where
   pub entry_of_call : Called
-  pub in_span : InSpan base history slot moment (entry.Called entry_of_call)
+  pub in_span : InSpan span moment (entry.Called entry_of_call)
   pub well : entry_of_call.fate ≡ Well
   pub is_call : entry_of_call.call ≡ name_of asked
-  pub is_reply : reply ≡ reply_of (store_before base history moment) asked
+  pub is_reply : reply ≡ reply_of (seen_at span moment) asked

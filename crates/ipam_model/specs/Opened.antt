@@ -3,8 +3,9 @@ use Rattle.std.specs.Prelude.{◌≡◌, ◌≢◌, ℕ, ◌<◌, ◌≤◌, ◌
 use Rattle.std.specs.declared.cmp.Ordering.TheVariants.{Greater}
 use Rattle.std.specs.Ordering.{nat_cmp}
 use Rattle.std.specs.Cmp.Lexicographic.{slice_cmp}
-use Rattle.std.specs.List.{filter_map}
-use Rattle.ipam_addr.specs.Shape.{Range}
+use Rattle.std.specs.List.{All, filter_map}
+use Rattle.std.specs.List.Sorted.{IsPermutation, IsStrictlySortedBy}
+use Rattle.ipam_addr.specs.Shape.{CidrValue}
 use Rattle.ipam_pool.specs.declared.pools.Pool.{Pool}
 use Rattle.ipam_affinity.specs.declared.state.State.{State}
 use Rattle.ipam_affinity.specs.declared.state.State.TheVariants.{Confirmed}
@@ -53,7 +54,7 @@ abbrev pub pools_read : Texts → List Pool
 pools_read texts = pools_in (readable texts.rows)
 
 -- the CIDR that the text of a key names, where it is a block's or an affinity's
-abbrev pub cidr_of_key : Option Key → Option Range
+abbrev pub cidr_of_key : Option Key → Option CidrValue
 cidr_of_key (Some found) = cidr_named found
 cidr_of_key None = None
 
@@ -79,19 +80,19 @@ pub data Breaks (texts : Texts) : (number : ℕ) (about : List ℕ) → Type 0 w
   -- 3: the pools are no table
   NoTable : (row : RowText) → Contains texts.rows row → reading_of row ≡ Err fault.Table → Breaks texts 3 row.key
   -- 4: the CIDR of a block or an affinity is no slot of a pool
-  NoSlot : (row : RowText) (cidr : Range) → Contains texts.rows row → cidr_of_key (key_read row.key) ≡ Some cidr
+  NoSlot : (row : RowText) (cidr : CidrValue) → Contains texts.rows row → cidr_of_key (key_read row.key) ≡ Some cidr
       → reading_of row ≢ Err fault.Form → reading_of row ≢ Err fault.Key
       → ¬ (IsSlotOfSome (pools_read texts) cidr) → Breaks texts 4 row.key
   -- 5: a block is not sound, or its sequence number is not below its revision
   NoBlock : (row : RowText) → Contains texts.rows row → IsBrokenBlock row.revision (reading_of row) → Breaks texts 5 row.key
   -- 6: a handle's count of a block is below its addresses there
-  CountTooLow : (id : List ℕ) (cidr : Range) → handle_count (read_store texts) id cidr < held_count (read_store texts) id cidr
+  CountTooLow : (id : List ℕ) (cidr : CidrValue) → handle_count (read_store texts) id cidr < held_count (read_store texts) id cidr
       → Breaks texts 6 (key_bytes (key.Handle id))
   -- 7: a block's node has no affinity for it
-  NoAffinityFor : (cidr : Range) (node : List ℕ) → HasNode (read_store texts) cidr node
+  NoAffinityFor : (cidr : CidrValue) (node : List ℕ) → HasNode (read_store texts) cidr node
       → ((state : State) → ¬ (HasAffinity (read_store texts) node cidr state)) → Breaks texts 7 (key_bytes (key.Block cidr))
   -- 8: a confirmed affinity's block is missing or has not the node
-  NoNodeFor : (cidr : Range) (node : List ℕ) → HasAffinity (read_store texts) node cidr Confirmed
+  NoNodeFor : (cidr : CidrValue) (node : List ℕ) → HasAffinity (read_store texts) node cidr Confirmed
       → ¬ (HasNode (read_store texts) cidr node) → Breaks texts 8 (key_bytes (key.Affinity node cidr))
   -- 9: there are too many rows, or too many blocks
   TooManyRows : (row : RowText) → slice_get texts.rows most_rows ≡ Some row → Breaks texts 9 row.key
@@ -121,19 +122,55 @@ pub record OpensAs (texts : Texts) (store : Datastore) : Type 0 where
   pub nothing_else : (revision : ℕ) (found : Record) → Contains store.rows (revision, found)
       → (row : RowText) × Contains texts.rows row × (row.revision ≡ revision) × (reading_of row ≡ Ok found)
 
--- the texts of the datastore's rows
+-- the texts of the datastore's rows, in the datastore's order
 abbrev pub text_of : Row → RowText
 text_of row = record { key = key_bytes (row_key row); body = body_of row.1; revision = row.0 }
 
-abbrev pub texts_of : Datastore → Texts
-texts_of store = record { rows = map text_of store.rows; counter = store.counter }
+abbrev pub texts_of : Datastore → List RowText
+texts_of store = map text_of store.rows
+
+-- ---- how rows are handed over
+
+-- by ascending key, by the bytes of the texts, and each key once: so rows are handed over
+abbrev pub AreByKey : List RowText → Type 0
+AreByKey rows = IsStrictlySortedBy (slice_cmp nat_cmp) (map (λ (row : RowText). row.key) rows)
+
+-- no revision is above the counter, and this is not above the last one: from the greatest revision
+-- on, since a counter that was kept by the rows alone is that
+pub record IsCounterOf (texts : Texts) : Type 0 where
+  pub above : All (λ (row : RowText). row.revision ≤ texts.counter) texts.rows
+  pub below_last : texts.counter ≤ last_revision
+
+-- the rows of the datastore as they are handed over, with a counter
+pub record IsTextOf (texts : Texts) (store : Datastore) : Type 0 where
+  pub by_key : AreByKey texts.rows
+  pub same_rows : IsPermutation (texts_of store) texts.rows
+  pub counter : IsCounterOf texts
+
+-- ---- the laws
 
 -- what was opened is consistent
 abbrev pub OpenedLaw : Type 0
 OpenedLaw = (texts : Texts) (store : Datastore) → OpensAs texts store → IsConsistent store
 
--- So at every moment what is there may be opened again, and it is the same.
+-- rows that may be opened open as a datastore
+abbrev pub OpensLaw : Type 0
+OpensLaw = (texts : Texts) → AreByKey texts.rows → MayBeOpened texts → (store : Datastore) × OpensAs texts store
+
+-- and as one at most
+abbrev pub OneOpenedLaw : Type 0
+OneOpenedLaw = (texts : Texts) (one other : Datastore) → OpensAs texts one → OpensAs texts other → one ≡ other
+
+-- what is opened of a datastore's own rows has the same records at the same revisions
+abbrev pub SameRecordsLaw : Type 0
+SameRecordsLaw =
+    (texts : Texts) (store opened : Datastore) → IsDatastore store → IsTextOf texts store → OpensAs texts opened
+    → opened.rows ≡ store.rows
+
+-- So at every moment what is there may be opened again, and it is the same, with the counter that is
+-- given.
 abbrev pub OpenedAgainLaw : Type 0
 OpenedAgainLaw =
-    (base : Base) (history : List Entry) → IsConsistent base.store → Lawful base history
-    → OpensAs (texts_of (store_at base history)) (store_at base history)
+    (base : Base) (history : List Entry) (texts : Texts) → IsConsistent base.store → Lawful base history
+    → IsTextOf texts (store_at base history)
+    → OpensAs texts (record { rows = (store_at base history).rows; counter = texts.counter })

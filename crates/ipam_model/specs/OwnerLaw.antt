@@ -1,10 +1,11 @@
 -- In which ways owners may change.
 use Rattle.std.specs.Prelude.{◌≡◌, ℕ, ◌+◌, ◌<◌, ◌≤◌, ◌⊎◌, IsTrue, false, List, ◌∷◌, Some}
-use Rattle.ipam_addr.specs.Shape.{Range}
+use Rattle.ipam_addr.specs.Shape.{CidrValue}
 use Rattle.ipam_addr.specs.Holding.{Holds}
 use Rattle.ipam_block.specs.declared.allocation.Allocation.{Allocation}
 use Rattle.ipam_records.specs.declared.call.Call.TheVariants.{List as ListAll}
-use Rattle.ipam_block.specs.Content as block
+use Rattle.ipam_block.specs.Shape as block
+use Rattle.ipam_records.specs.Datastore.{Datastore}
 use Rattle.ipam_records.specs.declared.key.Key.TheVariants as key
 use Rattle.ipam_records.specs.declared.key.Kind.TheVariants as kind
 use Rattle.ipam_records.specs.declared.record.Record.TheVariants as record_of
@@ -16,16 +17,30 @@ use Rattle.ipam_model.specs.declared.request.CollectRequest.{CollectRequest}
 use Rattle.ipam_model.specs.declared.request.Request.{Request}
 use Rattle.ipam_model.specs.declared.request.Request.TheVariants.{Add, AddThis, Del, Collect}
 use Rattle.ipam_model.specs.Consistent.{IsConsistent}
-use Rattle.ipam_model.specs.History.{Base, cluster_at, store_at, store_before, slot_of_entry, Lawful, InSpan, Heard}
+use Rattle.ipam_model.specs.History.{Base, Span, cluster_at, store_at, seen_at, seen_now, slot_of_entry, Lawful, InSpan, Heard}
 use Rattle.ipam_model.specs.Moments.{Has, request_in, Recorded, Owns, Gains, Loses, GainedInSpan}
-use Rattle.ipam_model.specs.Owners.{Owner, owners}
+use Rattle.ipam_model.specs.Owners.{AreInOrder, Owner, owners}
 use Rattle.ipam_model.specs.Remove.{is_live, is_in_scope}
+
+-- ---- no address has two owners
+
+-- In a consistent datastore, and so at every moment, the owners are listed by family and address, and
+-- no address twice.
+abbrev pub OwnersOrderLaw : Type 0
+OwnersOrderLaw = (store : Datastore) → IsConsistent store → AreInOrder (owners store)
+
+-- so whoever own one address at a moment are one owner
+abbrev pub OneOwnerLaw : Type 0
+OneOwnerLaw =
+    (base : Base) (history : List Entry) → IsConsistent base.store → Lawful base history
+    → (one other : Owner) → Owns (store_at base history) one → Owns (store_at base history) other
+    → one.address ≡ other.address → one ≡ other
 
 -- ---- what a collection may take
 
 -- What a collection went by: its two lists of blocks with their moments, and the second list of live
 -- handles, which came between them and late enough.
-pub record Collecting (base : Base) (history : List Entry) (slot : ℕ) (request : CollectRequest) : Type 0 where
+pub record Collecting (span : Span) (request : CollectRequest) : Type 0 where
   pub b1 : ℕ
   pub b2 : ℕ
   pub fed_at : ℕ
@@ -33,19 +48,19 @@ pub record Collecting (base : Base) (history : List Entry) (slot : ℕ) (request
   pub live : List (List ℕ)
   pub first : Said
   pub second : Said
-  pub first_list : Heard base history slot b1 (ListAll kind.Block) first
-  pub second_list : Heard base history slot b2 (ListAll kind.Block) second
-  pub fed : InSpan base history slot fed_at (entry.Fed slot time live)
+  pub first_list : Heard span b1 (ListAll kind.Block) first
+  pub second_list : Heard span b2 (ListAll kind.Block) second
+  pub fed : InSpan span fed_at (entry.Fed span.slot time live)
   pub fed_behind : b1 < fed_at
   pub listed_behind : fed_at < b2
   pub late_enough : request.at + request.grace ≤ time
 
 -- An owner in scope at both moments, whose handle is in neither list of live handles.
-pub record IsLeak (base : Base) (history : List Entry) (slot : ℕ) (request : CollectRequest) (c : Collecting base history slot request) (owner : Owner) : Type 0 where
+pub record IsLeak (span : Span) (request : CollectRequest) (c : Collecting span request) (owner : Owner) : Type 0 where
   pub allocation : Allocation
-  pub at_first : Recorded (store_before base history c.b1) owner allocation
+  pub at_first : Recorded (seen_at span c.b1) owner allocation
   pub in_scope : IsTrue (is_in_scope request.scope allocation)
-  pub at_second : Owns (store_before base history c.b2) owner
+  pub at_second : Owns (seen_at span c.b2) owner
   pub not_live : is_live request.live owner.handle ≡ false
   pub not_live_still : is_live c.live owner.handle ≡ false
 
@@ -59,20 +74,28 @@ MayGain (AddThis request address) owner =
 MayGain _ owner = ⊥
 
 -- all that the handle owns in the block
-pub record IsHeldIn (cidr : Range) (id : List ℕ) (owner : Owner) : Type 0 where
+pub record IsHeldIn (cidr : CidrValue) (id : List ℕ) (owner : Owner) : Type 0 where
   pub inside : Holds cidr owner.address
   pub own : owner.handle ≡ id
 
--- from the store before the entry to the one behind it, while this request runs in its slot
-pub data OwnersChange (base : Base) (history : List Entry) (new : Entry) (request : Request) : Type 0 where
-  Assigned : (owner : Owner) → MayGain request owner → Gains (store_at base history) (store_at base (new ∷ history)) owner → OwnersChange base history new request
-  Deleted : (id : List ℕ) (b : block.Content) → request ≡ Del id → Has (store_at base history) (key.Block b.cidr) (record_of.Block b) → Loses (store_at base history) (store_at base (new ∷ history)) (IsHeldIn b.cidr id) → OwnersChange base history new request
-  Undone : (add : AddRequest) (owner : Owner) → request ≡ Add add → GainedInSpan base history (slot_of_entry new) owner → Loses (store_at base history) (store_at base (new ∷ history)) (λ o. o ≡ owner) → OwnersChange base history new request
-  Collected : (collect : CollectRequest) (owner : Owner) → request ≡ Collect collect → (c : Collecting base history (slot_of_entry new) collect) → IsLeak base history (slot_of_entry new) collect c owner → Loses (store_at base history) (store_at base (new ∷ history)) (λ o. o ≡ owner) → OwnersChange base history new request
+-- from the slot's span, with this request, to the store behind its next entry
+pub data OwnersChange (span : Span) (request : Request) (behind : Datastore) : Type 0 where
+  Assigned : (owner : Owner) → MayGain request owner → Gains (seen_now span) behind owner → OwnersChange span request behind
+  Deleted : (id : List ℕ) (b : block.BlockValue) → request ≡ Del id → Has (seen_now span) (key.Block b.cidr) (record_of.Block b)
+      → Loses (seen_now span) behind (IsHeldIn b.cidr id) → OwnersChange span request behind
+  Undone : (add : AddRequest) (owner : Owner) → request ≡ Add add → GainedInSpan span owner
+      → Loses (seen_now span) behind (λ o. o ≡ owner) → OwnersChange span request behind
+  Collected : (collect : CollectRequest) (owner : Owner) → request ≡ Collect collect
+      → (c : Collecting span collect) → IsLeak span collect c owner
+      → Loses (seen_now span) behind (λ o. o ≡ owner) → OwnersChange span request behind
 
--- The owners stay as they are, or change in one of these ways by a request that runs.
+-- The owners stay as they are, or change in one of these ways by the request that runs.
+abbrev pub OwnersMove : Span → (behind : Datastore) → Type 0
+OwnersMove span behind =
+    (owners behind ≡ owners (seen_now span))
+    ⊎ ((request : Request) × (request_in (cluster_at span.base span.history) span.slot ≡ Some request) × OwnersChange span request behind)
+
 abbrev pub OwnersLaw : Type 0
 OwnersLaw =
     (base : Base) (history : List Entry) (new : Entry) → IsConsistent base.store → Lawful base (new ∷ history)
-    → (owners (store_at base (new ∷ history)) ≡ owners (store_at base history))
-    ⊎ ((request : Request) × (request_in (cluster_at base history) (slot_of_entry new) ≡ Some request) × OwnersChange base history new request)
+    → OwnersMove (record { base = base; history = history; slot = slot_of_entry new }) (store_at base (new ∷ history))

@@ -1,21 +1,23 @@
 -- Who owns which address.
-use Rattle.std.specs.Prelude.{ℕ, Bool, ◌&&◌, ◌==◌, List, [], map, bytes_eq}
+use Rattle.std.specs.Prelude.{◌≡◌, ℕ, ◌<◌, ◌⊎◌, AllPairs, Bool, ◌&&◌, ◌==◌, List, [], length, map, Option, Some, bytes_eq}
 use Rattle.std.specs.List.{list_any, flat_map}
-use Rattle.ipam_addr.specs.Shape.{Address, Range}
+use Rattle.ipam_addr.specs.Shape.{AddrValue, CidrValue}
 use Rattle.ipam_addr.specs.Holding.{is_same_family}
 use Rattle.ipam_block.specs.declared.allocation.Allocation.{Allocation}
 use Rattle.ipam_block.specs.Operations.{address_of}
+use Rattle.ipam_handle.specs.Order.{family_rank}
+use Rattle.ipam_records.specs.declared.key.Key.TheVariants as key
 use Rattle.ipam_records.specs.declared.record.Record.TheVariants as record_of
-use Rattle.ipam_records.specs.Datastore.{Datastore}
+use Rattle.ipam_records.specs.Datastore.{Datastore, row_of}
 use Rattle.ipam_model.specs.Reads.{Row}
 
 -- an address that is recorded to a handle, with the stamp of its assignment
 pub record Owner : Type 0 where
-  pub address : Address
+  pub address : AddrValue
   pub handle : List ℕ
   pub stamp : ℕ
 
-abbrev pub owner_of : Range → Allocation → Owner
+abbrev pub owner_of : CidrValue → Allocation → Owner
 owner_of cidr a = record {
   address = address_of cidr a.ordinal;
   handle = a.attributes.handle;
@@ -34,7 +36,7 @@ owners_in rows = flat_map owners_in_row rows
 abbrev pub owners : Datastore → List Owner
 owners store = owners_in store.rows
 
-abbrev pub same_address : Address → Address → Bool
+abbrev pub same_address : AddrValue → AddrValue → Bool
 same_address a b = is_same_family a.family b.family && (a.number == b.number)
 
 abbrev pub same_owner : Owner → Owner → Bool
@@ -43,3 +45,20 @@ same_owner o p =
 
 abbrev pub is_owner_in : List Row → Owner → Bool
 is_owner_in rows owner = list_any (same_owner owner) (owners_in rows)
+
+abbrev pub owned_in_row : Option Row → ℕ
+owned_in_row (Some (revision, record_of.Block b)) = length b.allocations
+owned_in_row _ = 0
+
+-- how many addresses of the block are owned
+abbrev pub owned_in : Datastore → CidrValue → ℕ
+owned_in store cidr = owned_in_row (row_of (key.Block cidr) store.rows)
+
+-- by family and address
+abbrev pub IsBefore : AddrValue → AddrValue → Type 0
+IsBefore a b =
+    (family_rank a.family < family_rank b.family) ⊎ ((a.family ≡ b.family) × (a.number < b.number))
+
+-- the owners are listed by family and address, strictly, so that no address has two
+abbrev pub AreInOrder : List Owner → Type 0
+AreInOrder list = AllPairs (λ (o p : Owner). IsBefore o.address p.address) list

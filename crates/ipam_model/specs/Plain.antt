@@ -1,17 +1,16 @@
 -- What a request that runs alone comes to, as a function of the records that are there. Revisions and
 -- moments do not matter here: rows are compared by their records.
-use Rattle.std.specs.Prelude.{◌≡◌, ℕ, zero, suc, ◌+◌, ◌-◌, ◌*◌, ◌≤◌, ◌≢◌, Bool, true, false, List, [], ◌∷◌, Option, Some, None, map, filter, length, if◌then◌else◌, ◌==◌}
+use Rattle.std.specs.Prelude.{◌≡◌, ℕ, zero, suc, ◌+◌, ◌-◌, ◌*◌, ◌≤◌, ◌≢◌, Bool, true, false, List, [], ◌∷◌, ◌++◌, Option, Some, None, map, filter, length, if◌then◌else◌, ◌==◌}
 use Rattle.std.specs.List.{All, count_by}
 use Rattle.ipam_addr.specs.declared.address.Family.{Family}
-use Rattle.ipam_addr.specs.declared.address.Family.TheVariants.{V4, V6}
-use Rattle.ipam_addr.specs.Shape.{Address, Range}
+use Rattle.ipam_addr.specs.Shape.{AddrValue, CidrValue}
 use Rattle.ipam_pool.specs.declared.pools.Pool.{Pool}
 use Rattle.ipam_block.specs.declared.allocation.Allocation.{Allocation}
 use Rattle.ipam_block.specs.declared.allocation.Attributes.{Attributes}
-use Rattle.ipam_block.specs.Content as block
-use Rattle.ipam_block.specs.Operations.{address_of, fresh_block, next_block, affine_to, assigned, freed, holder, is_owned, is_stamped}
+use Rattle.ipam_block.specs.Shape as block
+use Rattle.ipam_block.specs.Operations.{address_of, fresh_block, next_block, affine_to, assigned, freed, holder}
 use Rattle.ipam_affinity.specs.declared.state.State.TheVariants.{Confirmed}
-use Rattle.ipam_handle.specs.Content as handle
+use Rattle.ipam_handle.specs.Shape as handle
 use Rattle.ipam_handle.specs.Operations.{raised, lowered}
 use Rattle.ipam_records.specs.declared.key.Key.{Key}
 use Rattle.ipam_records.specs.declared.key.Key.TheVariants as key
@@ -25,28 +24,28 @@ use Rattle.ipam_model.specs.declared.answer.Answer.{Answer}
 use Rattle.ipam_model.specs.declared.answer.Answer.TheVariants as answer
 use Rattle.ipam_model.specs.declared.answer.Given.{Given}
 use Rattle.ipam_model.specs.declared.choice.Choice.{Choice}
-use Rattle.ipam_model.specs.declared.choice.Choice.TheVariants.{Use, Claim, Borrow, Nothing, NoPool}
+use Rattle.ipam_model.specs.declared.choice.Choice.TheVariants.{Nothing, NoPool}
 use Rattle.ipam_model.specs.declared.request.AddRequest.{AddRequest}
 use Rattle.ipam_model.specs.declared.request.CollectRequest.{CollectRequest}
 use Rattle.ipam_model.specs.declared.request.ProbeRequest.{ProbeRequest}
 use Rattle.ipam_model.specs.declared.request.Request.{Request}
 use Rattle.ipam_model.specs.declared.request.Request.TheVariants.{Add, AddThis, Del, Check, Release, Collect, Admin, Probe}
 use Rattle.ipam_model.specs.Add.{asked_of, name_at}
-use Rattle.ipam_model.specs.AddThis.{asked_of_this, slot_holding}
+use Rattle.ipam_model.specs.AddThis.{Wanted, asked_of_this, slot_holding}
 use Rattle.ipam_model.specs.Affinities.{affinity}
 use Rattle.ipam_model.specs.Alone.{alone_over}
 use Rattle.ipam_model.specs.Assigning.{names_for}
-use Rattle.ipam_model.specs.Choice.{Seen, choice_of, is_node, is_nobodys, room_of}
+use Rattle.ipam_model.specs.Choice.{Seen, choice_of, room_of, by_share, share_of, Rank, Own, Unconfirmed, Unclaimed, Foreign, Pick, Unknown, Lacks as NoneLeft, Picks, pick_of}
 use Rattle.ipam_model.specs.Consistent.{IsConsistent}
-use Rattle.ipam_model.specs.Counting.{most_count}
+use Rattle.ipam_model.specs.Counting.{most_count, Freeing, freeing_all, freeing_one}
 use Rattle.ipam_model.specs.History.{Base}
 use Rattle.ipam_model.specs.Look.{asked_of_probe, holds_at}
 use Rattle.ipam_model.specs.OtherLaws.{owner_in}
 use Rattle.ipam_model.specs.Owners.{Owner}
 use Rattle.ipam_model.specs.Reads.{Row, config_said, pools_said, reservations_said, handle_said, block_said}
-use Rattle.ipam_model.specs.Remove.{Leak, is_leak, suspects, leaks}
+use Rattle.ipam_model.specs.Remove.{Leak, freeing_owner, suspects, leaks}
 use Rattle.ipam_model.specs.SoundRequest.{IsSoundRequest}
-use Rattle.ipam_model.specs.Usable.{Asked, RuledPool, for_all, usable_pool_of, pool_of}
+use Rattle.ipam_model.specs.Usable.{Asked, RuledPool, for_all, families_if, usable_pool_of, pool_of}
 
 abbrev pub Rows : Type 0
 Rows = List Row
@@ -59,66 +58,66 @@ put new rows = with_row (0, new) rows
 abbrev pub found_in : Key → Rows → Said
 found_in asked rows = reply_to_get (row_of asked rows)
 
-abbrev pub block_of : Range → Rows → Option (ℕ × block.Content)
+abbrev pub block_of : CidrValue → Rows → Option (ℕ × block.BlockValue)
 block_of cidr rows = block_said (found_in (key.Block cidr) rows)
 
-abbrev pub handle_of : List ℕ → Rows → handle.Content
+abbrev pub handle_of : List ℕ → Rows → handle.HandleValue
 handle_of id rows = handle_said id (found_in (key.Handle id) rows)
 
-abbrev pub kept_or_gone : handle.Content → (counts : List (Range × ℕ)) → Rows → Rows
+abbrev pub kept_or_gone : handle.HandleValue → (counts : List (CidrValue × ℕ)) → Rows → Rows
 kept_or_gone h [] rows = without_row (key.Handle h.id) rows
 kept_or_gone h (count ∷ counts) rows = put (record_of.Handle h) rows
 
 -- the count is one higher, or lower by so many, and a handle without counts goes
-abbrev pub with_raised : List ℕ → Range → Rows → Rows
+abbrev pub with_raised : List ℕ → CidrValue → Rows → Rows
 with_raised id cidr rows = put (record_of.Handle (raised (handle_of id rows) cidr 1)) rows
 
-abbrev pub with_lowered : List ℕ → Range → (amount : ℕ) → Rows → Rows
+abbrev pub with_lowered : List ℕ → CidrValue → (amount : ℕ) → Rows → Rows
 with_lowered id cidr amount rows =
     let h = lowered (handle_of id rows) cidr amount in kept_or_gone h h.counts rows
 
 -- the ordinal of the block is the handle's
-abbrev pub with_assigned : Attributes → block.Content → (ordinal : ℕ) → Rows → Rows
+abbrev pub with_assigned : Attributes → block.BlockValue → (ordinal : ℕ) → Rows → Rows
 with_assigned attributes b ordinal rows =
     put (record_of.Block (assigned (next_block b) ordinal attributes))
     (with_raised attributes.handle b.cidr rows)
 
-abbrev pub claimed_block : List ℕ → Range → Option (ℕ × block.Content) → block.Content
+abbrev pub claimed_block : List ℕ → CidrValue → Option (ℕ × block.BlockValue) → block.BlockValue
 claimed_block node cidr None = fresh_block cidr (Some node)
 claimed_block node cidr (Some found) = affine_to (Some node) (next_block found.1)
 
 -- the block has the node and the affinity is confirmed
-abbrev pub with_claimed : List ℕ → Range → Rows → Rows
+abbrev pub with_claimed : List ℕ → CidrValue → Rows → Rows
 with_claimed node cidr rows =
     put (record_of.Block (claimed_block node cidr (block_of cidr rows)))
     (put (record_of.Affinity (affinity node cidr Confirmed)) rows)
 
-abbrev pub with_these_freed : List ℕ → (Allocation → Bool) → (amount : ℕ) → block.Content → Rows → Rows
-with_these_freed id picks zero b rows = rows
-with_these_freed id picks (suc more) b rows =
-    with_lowered id b.cidr (suc more) (put (record_of.Block (freed picks (next_block b))) rows)
+abbrev pub with_these_freed : Freeing → (amount : ℕ) → block.BlockValue → Rows → Rows
+with_these_freed what zero b rows = rows
+with_these_freed what (suc more) b rows =
+    with_lowered what.handle b.cidr (suc more) (put (record_of.Block (freed what.picks (next_block b))) rows)
 
-abbrev pub with_freed_found : List ℕ → (Allocation → Bool) → Option (ℕ × block.Content) → Rows → Rows
-with_freed_found id picks None rows = rows
-with_freed_found id picks (Some found) rows =
-    with_these_freed id picks (count_by picks found.1.allocations) found.1 rows
+abbrev pub with_freed_found : Freeing → Option (ℕ × block.BlockValue) → Rows → Rows
+with_freed_found what None rows = rows
+with_freed_found what (Some found) rows =
+    with_these_freed what (count_by what.picks found.1.allocations) found.1 rows
 
--- the handle's allocations that are picked are free, and its count is lower by them
-abbrev pub with_freed : List ℕ → Range → (Allocation → Bool) → Rows → Rows
-with_freed id cidr picks rows = with_freed_found id picks (block_of cidr rows) rows
+-- what is picked is free, and the handle's count is lower by as many
+abbrev pub with_freed : Freeing → Rows → Rows
+with_freed what rows = with_freed_found what (block_of what.block rows) rows
 
 -- ---- answers without moments
 
 pub data PlainAnswer : Type 0 where
-  Gives : List Address → PlainAnswer
+  Gives : List AddrValue → PlainAnswer
   Lacks : Family → PlainAnswer
   KnowsNoPool : (name : List ℕ) → PlainAnswer
   IsInNoPool : PlainAnswer
   IsHeldBy : (id : List ℕ) → PlainAnswer
-  IsAnothers : (cidr : Range) → PlainAnswer
+  IsAnothers : (cidr : CidrValue) → PlainAnswer
   Deletes : PlainAnswer
   Holds : PlainAnswer
-  HoldsNot : Address → PlainAnswer
+  HoldsNot : AddrValue → PlainAnswer
   Collects : List Owner → PlainAnswer
   CanGive : PlainAnswer
 
@@ -148,103 +147,131 @@ seen_in rows = record {
   blocks = filter (λ row. is_of_kind kind.Block (row_key row)) rows;
 }
 
--- an address that was given, with its block and stamp, or an answer without one
+-- an address that was given, with its block, ordinal and stamp
+pub record PlainGift : Type 0 where
+  pub address : AddrValue
+  pub block : CidrValue
+  pub ordinal : ℕ
+  pub stamp : ℕ
+
+abbrev pub plain_gift : ℕ × block.BlockValue → (ordinal : ℕ) → PlainGift
+plain_gift found ordinal = record {
+  address = address_of found.1.cidr ordinal;
+  block = found.1.cidr;
+  ordinal = ordinal;
+  stamp = found.1.sequence + 1;
+}
+
+-- an address, or an answer without one
 pub data PlainServed : Type 0 where
-  Served : Address → Range → (ordinal stamp : ℕ) → Rows → PlainServed
+  Served : PlainGift → Rows → PlainServed
   Unserved : PlainAnswer → Rows → PlainServed
 
-abbrev pub plain_take : AddRequest → Family → (ordinal : Option ℕ) → Option (ℕ × block.Content) → Rows → PlainServed
-plain_take request family (Some ordinal) (Some found) rows =
-    Served (address_of found.1.cidr ordinal) found.1.cidr ordinal (found.1.sequence + 1)
-    (with_assigned request.attributes found.1 ordinal rows)
-plain_take request family _ _ rows = Unserved (Lacks family) rows
+abbrev pub plain_take : AddRequest → ℕ × block.BlockValue → (ordinal : ℕ) → Rows → PlainServed
+plain_take request found ordinal rows =
+    Served (plain_gift found ordinal) (with_assigned request.attributes found.1 ordinal rows)
 
-abbrev pub room_in : Seen → Option (ℕ × block.Content) → Option ℕ
+abbrev pub room_in : Seen → Option (ℕ × block.BlockValue) → Option ℕ
 room_in seen None = None
 room_in seen (Some found) = room_of seen found.1
 
-abbrev pub plain_claim : AddRequest → Family → Range → Rows → PlainServed
+-- a block that was claimed has room
+abbrev pub plain_take_claimed : AddRequest → Family → (room : Option ℕ) → Option (ℕ × block.BlockValue) → Rows → PlainServed
+plain_take_claimed request family (Some ordinal) (Some found) rows = plain_take request found ordinal rows
+plain_take_claimed request family _ _ rows = Unserved (Lacks family) rows
+
+abbrev pub plain_claim : AddRequest → Family → CidrValue → Rows → PlainServed
 plain_claim request family cidr rows =
     let claimed = with_claimed request.node cidr rows in
-    plain_take request family (room_in (seen_in claimed) (block_of cidr claimed)) (block_of cidr claimed) claimed
+    plain_take_claimed request family (room_in (seen_in claimed) (block_of cidr claimed)) (block_of cidr claimed) claimed
 
-abbrev pub plain_choice : AddRequest → Family → Choice → Rows → PlainServed
-plain_choice request family (Use cidr ordinal) rows = plain_take request family (Some ordinal) (block_of cidr rows) rows
-plain_choice request family (Borrow cidr ordinal) rows = plain_take request family (Some ordinal) (block_of cidr rows) rows
-plain_choice request family (Claim cidr) rows = plain_claim request family cidr rows
-plain_choice request family Nothing rows = Unserved (Lacks family) rows
-plain_choice request family (NoPool place) rows = Unserved (KnowsNoPool (name_at (names_for family request) place)) rows
+abbrev pub plain_rank : AddRequest → Family → CidrValue → Rank → Rows → PlainServed
+plain_rank request family cidr (Own found ordinal) rows = plain_take request found ordinal rows
+plain_rank request family cidr (Unconfirmed found) rows = plain_claim request family cidr rows
+plain_rank request family cidr (Unclaimed read) rows = plain_claim request family cidr rows
+plain_rank request family cidr (Foreign found ordinal) rows = plain_take request found ordinal rows
+
+abbrev pub plain_pick : AddRequest → Family → Pick → Rows → PlainServed
+plain_pick request family (Picks ranked) rows = plain_rank request family ranked.slot ranked.rank rows
+plain_pick request family NoneLeft rows = Unserved (Lacks family) rows
+plain_pick request family (Unknown place) rows = Unserved (KnowsNoPool (name_at (names_for family request) place)) rows
 
 abbrev pub plain_family : AddRequest → Family → Rows → PlainServed
 plain_family request family rows =
-    plain_choice request family (choice_of (asked_of request family) (seen_in rows)) rows
+    plain_pick request family (pick_of (asked_of request family) (seen_in rows)) rows
 
 abbrev pub Result : Type 0
 Result = PlainAnswer × Rows
 
-abbrev pub plain_one : PlainServed → Result
-plain_one (Served address cidr ordinal stamp rows) = (Gives (address ∷ []), rows)
-plain_one (Unserved why rows) = (why, rows)
+abbrev pub freeing_gift : AddRequest → PlainGift → Freeing
+freeing_gift request gift = freeing_one request.attributes.handle gift.block gift.ordinal gift.stamp
 
--- where the second family has no address, the first is freed and what was claimed stays claimed
-abbrev pub plain_second : AddRequest → Address → Range → (ordinal stamp : ℕ) → PlainServed → Result
-plain_second request first cidr ordinal stamp (Served address other_cidr other_ordinal other_stamp rows) =
-    (Gives (first ∷ address ∷ []), rows)
-plain_second request first cidr ordinal stamp (Unserved why rows) =
-    (why, with_freed request.attributes.handle cidr (is_stamped ordinal request.attributes.handle stamp) rows)
+-- what was given is freed, and what was claimed stays claimed
+abbrev pub with_gifts_freed : AddRequest → List PlainGift → Rows → Rows
+with_gifts_freed request [] rows = rows
+with_gifts_freed request (gift ∷ gifts) rows =
+    with_gifts_freed request gifts (with_freed (freeing_gift request gift) rows)
 
-abbrev pub plain_first : AddRequest → PlainServed → Result
-plain_first request (Served address cidr ordinal stamp rows) =
-    plain_second request address cidr ordinal stamp (plain_family request V6 rows)
-plain_first request (Unserved why rows) = (why, rows)
+abbrev pub plain_after : AddRequest → List PlainGift → (rest : PlainGift → Rows → Result) → PlainServed → Result
+plain_after request gifts rest (Served gift rows) = rest gift rows
+plain_after request gifts rest (Unserved why rows) = (why, with_gifts_freed request gifts rows)
 
-abbrev pub plain_add : AddRequest → (ipv4 ipv6 : Bool) → Rows → Result
-plain_add request true true rows = plain_first request (plain_family request V4 rows)
-plain_add request true false rows = plain_one (plain_family request V4 rows)
-plain_add request false true rows = plain_one (plain_family request V6 rows)
-plain_add request false false rows = (Gives [], rows)
+-- an address of each of the families, behind what was given before
+abbrev pub plain_each : AddRequest → List PlainGift → List Family → Rows → Result
+plain_each request gifts [] rows = (Gives (map (λ (gift : PlainGift). gift.address) gifts), rows)
+plain_each request gifts (family ∷ families) rows =
+    plain_after request gifts (λ gift later. plain_each request (gifts ++ gift ∷ []) families later)
+    (plain_family request family rows)
+
+abbrev pub plain_add : AddRequest → Rows → Result
+plain_add request rows = plain_each request [] (families_if request.ipv4 request.ipv6) rows
 
 -- ---- ADD of one address
 
-abbrev pub plain_this : AddRequest → (ordinal : ℕ) → Option (ℕ × block.Content) → Rows → Result
-plain_this request ordinal None rows = (IsInNoPool, rows)
-plain_this request ordinal (Some found) rows =
-    (Gives (address_of found.1.cidr ordinal ∷ []), with_assigned request.attributes found.1 ordinal rows)
+abbrev pub plain_this : Wanted → CidrValue → Option (ℕ × block.BlockValue) → Rows → Result
+plain_this wanted cidr None rows = (IsInNoPool, rows)
+plain_this wanted cidr (Some found) rows =
+    (Gives (wanted.address ∷ []), with_assigned wanted.request.attributes found.1 (wanted.address.number - cidr.base) rows)
 
-abbrev pub plain_this_claimed : AddRequest → Range → (ordinal : ℕ) → Rows → Result
-plain_this_claimed request cidr ordinal rows =
-    let claimed = with_claimed request.node cidr rows in
-    plain_this request ordinal (block_of cidr claimed) claimed
+abbrev pub plain_this_claimed : Wanted → CidrValue → Rows → Result
+plain_this_claimed wanted cidr rows =
+    let claimed = with_claimed wanted.request.node cidr rows in
+    plain_this wanted cidr (block_of cidr claimed) claimed
 
-abbrev pub plain_this_held : AddRequest → (strict : Bool) → Range → (ordinal : ℕ) → ℕ × block.Content → Option Allocation → Rows → Result
-plain_this_held request strict cidr ordinal found (Some held) rows = (IsHeldBy held.attributes.handle, rows)
-plain_this_held request strict cidr ordinal found None rows =
-    if is_node request.node found.1.node then plain_this request ordinal (Some found) rows
-    else (if is_nobodys found.1 then plain_this_claimed request cidr ordinal rows
-    else (if strict then (IsAnothers cidr, rows) else plain_this request ordinal (Some found) rows))
+abbrev pub plain_this_free : (strict : Bool) → Wanted → CidrValue → ℕ × block.BlockValue → Rows → Result
+plain_this_free strict wanted cidr found rows =
+    by_share (share_of strict wanted.request.node found.1)
+    (plain_this wanted cidr (Some found) rows)
+    (plain_this_claimed wanted cidr rows)
+    (IsAnothers cidr, rows)
 
-abbrev pub plain_this_block : AddRequest → (strict : Bool) → Range → (ordinal : ℕ) → Option (ℕ × block.Content) → Rows → Result
-plain_this_block request strict cidr ordinal None rows = plain_this_claimed request cidr ordinal rows
-plain_this_block request strict cidr ordinal (Some found) rows =
-    plain_this_held request strict cidr ordinal found (holder found.1 ordinal) rows
+abbrev pub plain_this_held : (free : Result) → Rows → Option Allocation → Result
+plain_this_held free rows None = free
+plain_this_held free rows (Some held) = (IsHeldBy held.attributes.handle, rows)
 
-abbrev pub plain_this_pool : AddRequest → Address → (strict : Bool) → Option RuledPool → Rows → Result
-plain_this_pool request address strict None rows = (IsInNoPool, rows)
-plain_this_pool request address strict (Some ruled) rows =
-    let cidr = slot_holding ruled.pool address in
-    plain_this_block request strict cidr (address.number - cidr.base) (block_of cidr rows) rows
+abbrev pub plain_this_block : (strict : Bool) → Wanted → CidrValue → Option (ℕ × block.BlockValue) → Rows → Result
+plain_this_block strict wanted cidr None rows = plain_this_claimed wanted cidr rows
+plain_this_block strict wanted cidr (Some found) rows =
+    plain_this_held (plain_this_free strict wanted cidr found rows) rows
+    (holder found.1 (wanted.address.number - cidr.base))
 
-abbrev pub plain_add_this : AddRequest → Address → Rows → Result
-plain_add_this request address rows =
+abbrev pub plain_this_pool : (strict : Bool) → Wanted → Option RuledPool → Rows → Result
+plain_this_pool strict wanted None rows = (IsInNoPool, rows)
+plain_this_pool strict wanted (Some ruled) rows =
+    let cidr = slot_holding ruled.pool wanted.address in
+    plain_this_block strict wanted cidr (block_of cidr rows) rows
+
+abbrev pub plain_add_this : Wanted → Rows → Result
+plain_add_this wanted rows =
     let seen = seen_in rows in
-    plain_this_pool request address seen.config.strict
-    (usable_pool_of (asked_of_this request address) address seen.pools) rows
+    plain_this_pool seen.config.strict wanted
+    (usable_pool_of (asked_of_this wanted.request wanted.address) wanted.address seen.pools) rows
 
 -- ---- DEL, collection, CHECK and the probe
 
-abbrev pub with_all_freed : List ℕ → List Range → Rows → Rows
+abbrev pub with_all_freed : List ℕ → List CidrValue → Rows → Rows
 with_all_freed id [] rows = rows
-with_all_freed id (cidr ∷ rest) rows = with_all_freed id rest (with_freed id cidr (is_owned id) rows)
+with_all_freed id (cidr ∷ rest) rows = with_all_freed id rest (with_freed (freeing_all id cidr) rows)
 
 abbrev pub plain_del : List ℕ → Rows → Result
 plain_del id rows = (Deletes, with_all_freed id (map (λ count. count.0) (handle_of id rows).counts) rows)
@@ -252,22 +279,22 @@ plain_del id rows = (Deletes, with_all_freed id (map (λ count. count.0) (handle
 abbrev pub with_leaks_freed : List Leak → Rows → Rows
 with_leaks_freed [] rows = rows
 with_leaks_freed (leak ∷ rest) rows =
-    with_leaks_freed rest (with_freed leak.owner.handle leak.block (is_leak leak) rows)
+    with_leaks_freed rest (with_freed (freeing_owner leak.owner leak.block) rows)
 
 abbrev pub plain_collect : CollectRequest → Rows → Result
 plain_collect request rows =
     let found = leaks (suspects request rows) request.live rows in
     (Collects (map (λ (leak : Leak). leak.owner) found), with_leaks_freed found rows)
 
-abbrev pub plain_check_next : (rest : PlainAnswer) → Address → Bool → PlainAnswer
+abbrev pub plain_check_next : (rest : PlainAnswer) → AddrValue → Bool → PlainAnswer
 plain_check_next rest address true = rest
 plain_check_next rest address false = HoldsNot address
 
-abbrev pub holds_in : List ℕ → Address → Option Pool → Rows → Bool
+abbrev pub holds_in : List ℕ → AddrValue → Option Pool → Rows → Bool
 holds_in id address None rows = false
 holds_in id address (Some pool) rows = holds_at id address (block_of (slot_holding pool address) rows)
 
-abbrev pub plain_check : List ℕ → List Address → Rows → PlainAnswer
+abbrev pub plain_check : List ℕ → List AddrValue → Rows → PlainAnswer
 plain_check id [] rows = Holds
 plain_check id (address ∷ rest) rows =
     plain_check_next (plain_check id rest rows) address
@@ -282,12 +309,10 @@ abbrev pub plain_probe_family : ProbeRequest → Family → (rest : PlainAnswer)
 plain_probe_family request family rest rows =
     plain_probe_next rest (asked_of_probe request family) (choice_of (asked_of_probe request family) (seen_in rows))
 
-abbrev pub plain_probe : ProbeRequest → (ipv4 ipv6 : Bool) → Rows → PlainAnswer
-plain_probe request true true rows =
-    plain_probe_family request V4 (plain_probe_family request V6 CanGive rows) rows
-plain_probe request true false rows = plain_probe_family request V4 CanGive rows
-plain_probe request false true rows = plain_probe_family request V6 CanGive rows
-plain_probe request false false rows = CanGive
+abbrev pub plain_probe : ProbeRequest → List Family → Rows → PlainAnswer
+plain_probe request [] rows = CanGive
+plain_probe request (family ∷ families) rows =
+    plain_probe_family request family (plain_probe request families rows) rows
 
 -- ---- all of them
 
@@ -297,14 +322,14 @@ plain_collection request rows = if request.grace == 0 then Some (plain_collect r
 
 -- the release of an affinity and administration are only said by their words
 abbrev pub plain : Request → Rows → Option Result
-plain (Add request) rows = Some (plain_add request request.ipv4 request.ipv6 rows)
-plain (AddThis request address) rows = Some (plain_add_this request address rows)
+plain (Add request) rows = Some (plain_add request rows)
+plain (AddThis request address) rows = Some (plain_add_this (record { request = request; address = address }) rows)
 plain (Del id) rows = Some (plain_del id rows)
 plain (Check id addresses) rows = Some (plain_check id addresses rows, rows)
 plain (Release node cidr) rows = None
 plain (Collect request) rows = plain_collection request rows
 plain (Admin change) rows = None
-plain (Probe request) rows = Some (plain_probe request request.ipv4 request.ipv6 rows, rows)
+plain (Probe request) rows = Some (plain_probe request (families_if request.ipv4 request.ipv6) rows, rows)
 
 -- ---- with spare
 
@@ -325,7 +350,7 @@ pub record HasSpare (store : Datastore) (request : Request) : Type 0 where
   pub for_all_blocks : store.counter + needs request store.rows ≤ last_revision
   pub rows : length store.rows + 5 ≤ most_rows
   pub blocks : length (listed kind.Block store) + 2 ≤ most_blocks
-  pub counts : All (λ (entry : Range × ℕ). entry.1 ≢ most_count) (handle_of (handle_in request) store.rows).counts
+  pub counts : All (λ (entry : CidrValue × ℕ). entry.1 ≢ most_count) (handle_of (handle_in request) store.rows).counts
 
 -- a collection needs revisions alone
 abbrev pub HasSpareFor : Datastore → Request → Type 0

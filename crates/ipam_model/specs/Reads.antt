@@ -1,10 +1,10 @@
 -- What a request reads from a reply.
 use Rattle.std.specs.Prelude.{ℕ, true, false, List, [], Option, Some, None}
 use Rattle.ipam_pool.specs.declared.pools.Pool.{Pool}
-use Rattle.ipam_reserve.specs.Shape.{NamedRanges}
-use Rattle.ipam_block.specs.Content as block
+use Rattle.ipam_reserve.specs.Shape.{ReservationValue}
+use Rattle.ipam_block.specs.Shape as block
 use Rattle.ipam_affinity.specs.declared.record.Affinity.{Affinity}
-use Rattle.ipam_handle.specs.Content as handle
+use Rattle.ipam_handle.specs.Shape as handle
 use Rattle.ipam_handle.specs.Operations.{content}
 use Rattle.ipam_record_text.specs.declared.config.Config.{Config}
 use Rattle.ipam_records.specs.declared.record.Record.{Record}
@@ -27,18 +27,18 @@ abbrev pub pools_said : Said → List Pool
 pools_said (Found revision (record_of.Pools pools)) = pools
 pools_said _ = []
 
-abbrev pub reservations_said : Said → List NamedRanges
+abbrev pub reservations_said : Said → List ReservationValue
 reservations_said (Found revision (record_of.Reservations reservations)) = reservations
 reservations_said _ = []
 
 -- the handle of the id, with no counts where it is missing
-abbrev pub handle_said : List ℕ → Said → handle.Content
+abbrev pub handle_said : List ℕ → Said → handle.HandleValue
 handle_said id (Found revision (record_of.Handle found)) = found
 handle_said id _ = content id []
 
 -- ---- what was found, with its revision
 
-abbrev pub block_said : Said → Option (ℕ × block.Content)
+abbrev pub block_said : Said → Option (ℕ × block.BlockValue)
 block_said (Found revision (record_of.Block found)) = Some (revision, found)
 block_said _ = None
 

@@ -1,55 +1,70 @@
--- DEL, and the collection of what no live handle owns.
-use Rattle.std.specs.Prelude.{ℕ, ◌-◌, Bool, true, not, ◌&&◌, nat_lt, List, [], ◌∷◌, ◌++◌, Option, Some, None, map, bytes_eq, codes}
+-- DEL, the freeing of one address, and the collection of what no live handle owns.
+use Rattle.std.specs.Prelude.{ℕ, zero, suc, ◌-◌, Bool, true, not, ◌&&◌, nat_lt, List, [], ◌∷◌, ◌++◌, Option, Some, None, map, bytes_eq, codes}
 use Rattle.std.specs.List.{list_any, filter, flat_map}
-use Rattle.ipam_addr.specs.Shape.{Range}
+use Rattle.ipam_addr.specs.Shape.{CidrValue}
 use Rattle.ipam_block.specs.declared.allocation.Allocation.{Allocation}
-use Rattle.ipam_block.specs.Operations.{is_owned, is_stamped}
 use Rattle.ipam_records.specs.declared.key.Key.TheVariants as key
 use Rattle.ipam_records.specs.declared.key.Kind.TheVariants as kind
 use Rattle.ipam_records.specs.declared.call.Call.TheVariants.{Get, List as ListAll}
 use Rattle.ipam_records.specs.declared.record.Record.TheVariants as record_of
 use Rattle.ipam_records.specs.Label.{idle}
-use Rattle.ipam_records.specs.Word.{Word, Ends, Asks, Waits, bound}
+use Rattle.ipam_records.specs.Word.{Word, Asks, Waits}
+use Rattle.ipam_model.specs.declared.answer.Collected.{Collected}
 use Rattle.ipam_model.specs.declared.answer.Item.{Item}
 use Rattle.ipam_model.specs.declared.outcome.DelAnswer.{DelAnswer}
 use Rattle.ipam_model.specs.declared.outcome.DelAnswer.TheVariants as del
+use Rattle.ipam_model.specs.declared.outcome.FreeAnswer.{FreeAnswer}
+use Rattle.ipam_model.specs.declared.outcome.FreeAnswer.TheVariants as one
 use Rattle.ipam_model.specs.declared.outcome.CollectAnswer.{CollectAnswer}
 use Rattle.ipam_model.specs.declared.outcome.CollectAnswer.TheVariants as collect
 use Rattle.ipam_model.specs.declared.request.CollectRequest.{CollectRequest}
-use Rattle.ipam_model.specs.Counting.{free}
+use Rattle.ipam_model.specs.Counting.{Freeing, freeing_all, freeing_one, free}
 use Rattle.ipam_model.specs.Owners.{Owner, owner_of, is_owner_in}
 use Rattle.ipam_model.specs.Reads.{Row, handle_said, rows_said}
 use Rattle.ipam_model.specs.Selector.{has_value}
-use Rattle.ipam_model.specs.Step.{most_lost, all_left, Outcome, Went, Stops, Stop, OutOfTries}
+use Rattle.ipam_model.specs.Step.{Left, all_left, Part, StopAnswers, goes, followed, without_count, settled}
+
+-- the owner's address in the block, with its stamp
+abbrev pub freeing_owner : Owner → CidrValue → Freeing
+freeing_owner owner cidr = freeing_one owner.handle cidr (owner.address.number - cidr.base) owner.stamp
 
 -- ---- DEL
 
-abbrev pub del_stop : Stop → DelAnswer
-del_stop OutOfTries = del.Again most_lost
-del_stop _ = del.Spent
+abbrev pub del_stops : StopAnswers DelAnswer
+del_stops = without_count del.Again del.Spent del.Spent
 
--- what follows the freeing of a block
-abbrev pub del_next : (rest : ℕ → Word DelAnswer) → Outcome ℕ → Word DelAnswer
-del_next rest (Went left amount) = rest left
-del_next rest (Stops left why) = Ends (del_stop why)
-
-unfoldable pub del_blocks : (left : ℕ) (id : List ℕ) (moment : ℕ) → List Range → Word DelAnswer
-del_blocks left id moment [] = Ends (del.Deleted moment)
-del_blocks left id moment (cidr ∷ rest) =
-    bound (free left id cidr (is_owned id)) (del_next (λ less. del_blocks less id moment rest))
+unfoldable pub del_blocks : (id : List ℕ) (moment : ℕ) → List CidrValue → Left → Part DelAnswer
+del_blocks id moment [] left = goes left (del.Deleted moment)
+del_blocks id moment (cidr ∷ rest) left =
+    followed (free (freeing_all id cidr) left) (λ now amount. del_blocks id moment rest now)
 
 -- Frees what the handle holds in each of its blocks, by family, base and prefix.
 abbrev pub del_word : List ℕ → Word DelAnswer
 del_word id =
     Asks idle (Get (key.Handle id)) (λ moment said.
-    del_blocks all_left id moment (map (λ count. count.0) (handle_said id said).counts))
+    settled del_stops (del_blocks id moment (map (λ count. count.0) (handle_said id said).counts) all_left))
+
+-- ---- freeing one
+
+-- whether it was still held
+abbrev pub freed_answer : (amount : ℕ) → FreeAnswer
+freed_answer zero = one.Gone
+freed_answer (suc more) = one.Freed
+
+abbrev pub free_stops : StopAnswers FreeAnswer
+free_stops = without_count one.Again one.Spent one.Spent
+
+-- Frees the owner's address in the block.
+abbrev pub free_word : Owner → CidrValue → Word FreeAnswer
+free_word owner cidr =
+    settled free_stops (followed (free (freeing_owner owner cidr) all_left) (λ left amount. goes left (freed_answer amount)))
 
 -- ---- collection
 
 -- an owner that may be collected, and its block
 pub record Leak : Type 0 where
   pub owner : Owner
-  pub block : Range
+  pub block : CidrValue
 
 abbrev pub is_live : List (List ℕ) → List ℕ → Bool
 is_live live id = list_any (bytes_eq id) live
@@ -64,7 +79,7 @@ is_in_scope (Some scope) a =
 abbrev pub may_leak : CollectRequest → Allocation → Bool
 may_leak request a = is_in_scope request.scope a && not (is_live request.live a.attributes.handle)
 
-abbrev pub leak_of : Range → Allocation → Leak
+abbrev pub leak_of : CidrValue → Allocation → Leak
 leak_of cidr a = record { owner = owner_of cidr a; block = cidr }
 
 abbrev pub leaks_in_row : CollectRequest → Row → List Leak
@@ -88,22 +103,17 @@ item_of leak amount = record {
   freed = nat_lt 0 amount;
 }
 
-abbrev pub is_leak : Leak → Allocation → Bool
-is_leak leak = is_stamped (leak.owner.address.number - leak.block.base) leak.owner.handle leak.owner.stamp
+abbrev pub collect_stops : StopAnswers CollectAnswer
+collect_stops = without_count collect.Again collect.Spent collect.Spent
 
-abbrev pub collect_stop : Stop → CollectAnswer
-collect_stop OutOfTries = collect.Again most_lost
-collect_stop _ = collect.Spent
+abbrev pub with_item : Collected → Item → Collected
+with_item done item = record { b1 = done.b1; b2 = done.b2; items = done.items ++ item ∷ [] }
 
-abbrev pub collect_next : (rest : ℕ → Item → Word CollectAnswer) → Leak → Outcome ℕ → Word CollectAnswer
-collect_next rest leak (Went left amount) = rest left (item_of leak amount)
-collect_next rest leak (Stops left why) = Ends (collect_stop why)
-
-unfoldable pub free_leaks : (left b1 b2 : ℕ) (done : List Item) → List Leak → Word CollectAnswer
-free_leaks left b1 b2 done [] = Ends (collect.Collected (record { b1 = b1; b2 = b2; items = done }))
-free_leaks left b1 b2 done (leak ∷ rest) =
-    bound (free left leak.owner.handle leak.block (is_leak leak))
-    (collect_next (λ less item. free_leaks less b1 b2 (done ++ item ∷ []) rest) leak)
+unfoldable pub free_leaks : (done : Collected) → List Leak → Left → Part CollectAnswer
+free_leaks done [] left = goes left (collect.Collected done)
+free_leaks done (leak ∷ rest) left =
+    followed (free (freeing_owner leak.owner leak.block) left)
+    (λ now amount. free_leaks (with_item done (item_of leak amount)) rest now)
 
 -- Lists the blocks, waits for a second list of live handles, lists the blocks again, and frees what
 -- leaks.
@@ -112,4 +122,6 @@ collect_word request =
     Asks idle (ListAll kind.Block) (λ b1 first.
     Waits (λ live.
     Asks idle (ListAll kind.Block) (λ b2 second.
-    free_leaks all_left b1 b2 [] (leaks (suspects request (rows_said first)) live (rows_said second)))))
+    settled collect_stops
+    (free_leaks (record { b1 = b1; b2 = b2; items = [] })
+    (leaks (suspects request (rows_said first)) live (rows_said second)) all_left))))

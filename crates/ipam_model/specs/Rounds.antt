@@ -1,34 +1,33 @@
 -- What a request has read in a round.
-use Rattle.std.specs.Prelude.{◌≡◌, ℕ, List, map}
+use Rattle.std.specs.Prelude.{◌≡◌, map}
 use Rattle.ipam_records.specs.declared.call.Call.TheVariants.{Get, List as ListAll}
 use Rattle.ipam_records.specs.declared.key.Key.TheVariants as key
 use Rattle.ipam_records.specs.declared.key.Kind.TheVariants as kind
 use Rattle.ipam_records.specs.Said.{Said}
 use Rattle.ipam_model.specs.declared.answer.Scan.{Scan}
-use Rattle.ipam_model.specs.declared.entry.Entry.{Entry}
 use Rattle.ipam_model.specs.Choice.{Seen}
-use Rattle.ipam_model.specs.History.{Base, Heard}
+use Rattle.ipam_model.specs.History.{Span, Heard}
 use Rattle.ipam_model.specs.Moments.{IsNext}
 use Rattle.ipam_model.specs.Reads.{config_said, pools_said, reservations_said, rows_said}
 use Rattle.ipam_model.specs.Usable.{for_all}
 
 -- The configuration, the pools and the reservations were read and the affinities and the blocks
 -- listed, at these moments and one after the other, and this was seen.
-pub record HasScanned (base : Base) (history : List Entry) (slot : ℕ) (scan : Scan) (seen : Seen) : Type 0 where
+pub record HasScanned (span : Span) (scan : Scan) (seen : Seen) : Type 0 where
   pub config : Said
   pub pools : Said
   pub reservations : Said
   pub affinities : Said
   pub blocks : Said
-  pub at_c : Heard base history slot scan.c (Get key.Config) config
-  pub at_p : Heard base history slot scan.p (Get key.Pools) pools
-  pub at_r : Heard base history slot scan.r (Get key.Reservations) reservations
-  pub at_f : Heard base history slot scan.f (ListAll kind.Affinity) affinities
-  pub at_b : Heard base history slot scan.b (ListAll kind.Block) blocks
-  pub then_p : IsNext base history slot scan.c scan.p
-  pub then_r : IsNext base history slot scan.p scan.r
-  pub then_f : IsNext base history slot scan.r scan.f
-  pub then_b : IsNext base history slot scan.f scan.b
+  pub at_c : Heard span scan.c (Get key.Config) config
+  pub at_p : Heard span scan.p (Get key.Pools) pools
+  pub at_r : Heard span scan.r (Get key.Reservations) reservations
+  pub at_f : Heard span scan.f (ListAll kind.Affinity) affinities
+  pub at_b : Heard span scan.b (ListAll kind.Block) blocks
+  pub then_p : IsNext span scan.c scan.p
+  pub then_r : IsNext span scan.p scan.r
+  pub then_f : IsNext span scan.r scan.f
+  pub then_b : IsNext span scan.f scan.b
   pub saw_config : seen.config ≡ config_said config
   pub saw_pools : seen.pools ≡ map for_all (pools_said pools)
   pub saw_reservations : seen.reservations ≡ reservations_said reservations

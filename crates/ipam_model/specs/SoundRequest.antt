@@ -5,9 +5,9 @@ use Rattle.std.specs.Char.{is_ascii_alphanumeric}
 use Rattle.std.specs.Ordering.{nat_cmp}
 use Rattle.std.specs.Cmp.Lexicographic.{slice_cmp}
 use Rattle.std.specs.List.Sorted.{IsStrictlySortedBy}
-use Rattle.ipam_addr.specs.Shape.{Range}
-use Rattle.ipam_addr.specs.Text.{range_of}
-use Rattle.ipam_addr.specs.Width.{IsAddress, IsRange}
+use Rattle.ipam_addr.specs.Shape.{CidrValue}
+use Rattle.ipam_addr.specs.Text.{cidr_reading}
+use Rattle.ipam_addr.specs.Width.{IsAddress, IsCidr}
 use Rattle.ipam_pool.specs.declared.pools.Pool.{Pool}
 use Rattle.ipam_records.specs.Sound.{IsName, IsHandleId, AreAttributes, IsReservation}
 use Rattle.ipam_model.specs.declared.request.AddRequest.{AddRequest}
@@ -37,7 +37,7 @@ pub record AreLabels (labels : List Label) : Type 0 where
 
 -- a pool is named by its name or by the text of its CIDR
 abbrev pub IsPoolName : List ℕ → Type 0
-IsPoolName text = IsName text ⊎ ((cidr : Range) × (range_of text ≡ Ok cidr))
+IsPoolName text = IsName text ⊎ ((cidr : CidrValue) × (cidr_reading text ≡ Ok cidr))
 
 pub record ArePoolNames (names : List (List ℕ)) : Type 0 where
   pub few : length names ≤ 64
@@ -70,7 +70,7 @@ pub record IsSoundCollect (request : CollectRequest) : Type 0 where
 -- whether the size is one of the family's is tested against the table
 pub record IsSoundPool (pool : Pool) : Type 0 where
   pub name : IsName pool.name
-  pub cidr : IsRange pool.cidr
+  pub cidr : IsCidr pool.cidr
   pub size : pool.size < 2 ^ 8
 
 abbrev pub IsSoundChange : Admin → Type 0
@@ -85,7 +85,7 @@ IsSoundRequest (Add request) = IsSoundAdd request × IsTrue (request.ipv4 || req
 IsSoundRequest (AddThis request address) = IsSoundAdd request × IsAddress address
 IsSoundRequest (Del id) = IsHandleId id
 IsSoundRequest (Check id addresses) = IsHandleId id × (length addresses ≤ 64) × All IsAddress addresses
-IsSoundRequest (Release node cidr) = IsName node × IsRange cidr
+IsSoundRequest (Release node cidr) = IsName node × IsCidr cidr
 IsSoundRequest (Collect request) = IsSoundCollect request
 IsSoundRequest (Change request) = IsSoundChange request
 IsSoundRequest (Probe request) = IsSoundProbe request

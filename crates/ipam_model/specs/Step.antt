@@ -1,25 +1,40 @@
--- What the parts of a request have in common: how a write ends, and how a part does.
-use Rattle.std.specs.Prelude.{ℕ, zero, suc, ◌-◌}
+-- What the parts of a request have in common: what is left of it, how a write ends, and how a part
+-- does.
+use Rattle.std.specs.Prelude.{ℕ, zero, suc, ◌+◌, ◌-◌}
 use Rattle.ipam_records.specs.declared.call.Call.{Call}
 use Rattle.ipam_records.specs.declared.call.Call.TheVariants.{Create, Update}
 use Rattle.ipam_records.specs.declared.record.Record.{Record}
 use Rattle.ipam_records.specs.Said.{Said, Found, Missing, Listed, Can, Exists, Conflict, Full, Spent}
-use Rattle.ipam_records.specs.Word.{Word, Ends}
+use Rattle.ipam_records.specs.Word.{Word, Ends, bound}
 
--- A request may lose 64 races, or confirm 64 claims. How many races it may still lose and go on is
--- what is `left`: 63 at first.
+-- ---- what is left
+
+-- the lost race and the confirmed claim that end a request
 abbrev pub most_lost : ℕ
 most_lost = 64
 
 abbrev pub most_claims : ℕ
 most_claims = 64
 
-abbrev pub all_left : ℕ
-all_left = 63
+-- how many races a request may still lose and go on, and how many claims it may still confirm
+pub record Left : Type 0 where
+  pub races : ℕ
+  pub claims : ℕ
 
--- the races that were lost where so many are left
-abbrev pub lost_with : ℕ → ℕ
-lost_with left = all_left - left
+abbrev pub left_of : (races claims : ℕ) → Left
+left_of races claims = record { races = races; claims = claims }
+
+abbrev pub all_left : Left
+all_left = left_of 63 63
+
+-- how many races were lost, and how many claims confirmed
+abbrev pub lost_so_far : Left → ℕ
+lost_so_far left = all_left.races - left.races
+
+abbrev pub confirmed_so_far : Left → ℕ
+confirmed_so_far left = all_left.claims - left.claims
+
+-- ---- how a write ends
 
 -- the record is written at the revision at which it was read, and created where it was missing
 abbrev pub write_back : Said → Record → Call
@@ -39,10 +54,7 @@ after_write Spent took lost full spent = spent
 after_write (Found revision found) took lost full spent = lost
 after_write (Listed rows) took lost full spent = lost
 
--- what follows a lost race, where none more is left or with one less left
-abbrev pub after_lost : {A : Type 0} → ℕ → (out : Word A) → (on : ℕ → Word A) → Word A
-after_lost zero out on = out
-after_lost (suc left) out on = on left
+-- ---- how a part ends
 
 -- why a part of a request ends the request
 pub data Stop : Type 0 where
@@ -55,12 +67,87 @@ pub data Stop : Type 0 where
   CountAtLimit : (moment : ℕ) → Stop
   NoRevisions : Stop
 
--- how a part of a request ends, with the lost races that are left
+-- a part comes to something or stops the request, with what is left
 pub data Outcome (A : Type 0) : Type 0 where
-  Went : (left : ℕ) → A → Outcome A
-  Stops : (left : ℕ) → Stop → Outcome A
+  Went : Left → A → Outcome A
+  Stops : Left → Stop → Outcome A
 
--- what follows a write in such a part
-abbrev pub on_write : {A : Type 0} → Said → (left : ℕ) → (took : ℕ → Word (Outcome A)) → (again : Word (Outcome A)) → Word (Outcome A)
-on_write said left took again =
-    after_write said took again (Ends (Stops left NoRoom)) (Ends (Stops left NoRevisions))
+-- a part of a request
+abbrev pub Part : Type 0 → Type 0
+Part A = Word (Outcome A)
+
+abbrev pub goes : {A : Type 0} → Left → A → Part A
+goes left value = Ends (Went left value)
+
+abbrev pub stops : {A : Type 0} → Left → Stop → Part A
+stops left why = Ends (Stops left why)
+
+-- what follows what a part came to; where it stopped, nothing does
+abbrev pub onward : {A B : Type 0} → (Left → A → Part B) → Outcome A → Part B
+onward follows (Went left value) = follows left value
+onward follows (Stops left why) = stops left why
+
+-- one part behind another
+abbrev pub followed : {A B : Type 0} → Part A → (Left → A → Part B) → Part B
+followed part follows = bound part (onward follows)
+
+-- what follows a write in a part
+abbrev pub on_write : {A : Type 0} → Said → Left → (took : ℕ → Part A) → (lost : Part A) → Part A
+on_write said left took lost = after_write said took lost (stops left NoRoom) (stops left NoRevisions)
+
+-- ---- lost races
+
+-- what follows a lost race with one less left, where it was not the last
+abbrev pub after_lost : {A : Type 0} → (races claims : ℕ) → (on : Left → Part A) → Part A
+after_lost zero claims on = stops (left_of zero claims) OutOfTries
+after_lost (suc races) claims on = on (left_of races claims)
+
+-- A part that begins again where it loses a race. Each try is given what then follows, and what is left.
+unfoldable pub tries : {A : Type 0} → (try : Part A → Left → Part A) → (races claims : ℕ) → Part A
+tries try zero claims = try (stops (left_of zero claims) OutOfTries) (left_of zero claims)
+tries try (suc races) claims = try (tries try races claims) (left_of (suc races) claims)
+
+abbrev pub retried : {A : Type 0} → (try : Part A → Left → Part A) → Left → Part A
+retried try left = tries try left.races left.claims
+
+-- Rounds, of which each but the first follows a lost race or a confirmed claim. So with this many more
+-- that may be lost or confirmed there are as many more rounds. Each is given the next, and what is left.
+unfoldable pub rounds : {A : Type 0} → (round : (Left → Part A) → Left → Part A) → (more : ℕ) → Left → Part A
+rounds round zero left = round (λ now. stops now OutOfTries) left
+rounds round (suc more) left = round (rounds round more) left
+
+abbrev pub in_rounds : {A : Type 0} → (round : (Left → Part A) → Left → Part A) → Left → Part A
+in_rounds round left = rounds round (left.races + left.claims) left
+
+-- ---- what a stop is answered
+
+-- the answers of a procedure where it stops
+pub record StopAnswers (A : Type 0) : Type 0 where
+  pub again : (lost claims : ℕ) → A
+  pub full : A
+  pub count_full : (moment : ℕ) → A
+  pub spent : A
+
+abbrev pub stop_answer : {A : Type 0} → StopAnswers A → Left → Stop → A
+stop_answer answers left OutOfTries = answers.again most_lost (confirmed_so_far left)
+stop_answer answers left OutOfClaims = answers.again (lost_so_far left) most_claims
+stop_answer answers left NoRoom = answers.full
+stop_answer answers left (CountAtLimit moment) = answers.count_full moment
+stop_answer answers left NoRevisions = answers.spent
+
+-- those of a procedure that raises no count
+abbrev pub without_count : {A : Type 0} → (again : ℕ → A) → (full spent : A) → StopAnswers A
+without_count again full spent = record {
+  again = λ lost claims. again lost;
+  full = full;
+  count_full = λ moment. full;
+  spent = spent;
+}
+
+abbrev pub answer_of : {A : Type 0} → StopAnswers A → Outcome A → A
+answer_of answers (Went left answer) = answer
+answer_of answers (Stops left why) = stop_answer answers left why
+
+-- a procedure that is one part
+abbrev pub settled : {A : Type 0} → StopAnswers A → Part A → Word A
+settled answers part = bound part (λ outcome. Ends (answer_of answers outcome))

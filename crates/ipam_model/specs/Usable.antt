@@ -3,15 +3,16 @@ use Rattle.std.specs.Prelude.{ℕ, Bool, true, false, not, ◌&&◌, ◌||◌, L
 use Rattle.std.specs.List.{list_any, find}
 use Rattle.std.specs.BTreeMap.{is_at}
 use Rattle.ipam_addr.specs.declared.address.Family.{Family}
-use Rattle.ipam_addr.specs.declared.range.AddrFault.{AddrFault}
-use Rattle.ipam_addr.specs.Shape.{Address, Range}
+use Rattle.ipam_addr.specs.declared.address.Family.TheVariants.{V4, V6}
+use Rattle.ipam_addr.specs.declared.cidrs.AddrFault.{AddrFault}
+use Rattle.ipam_addr.specs.Shape.{AddrValue, CidrValue}
 use Rattle.ipam_addr.specs.Holding.{is_same_family, holds_address}
-use Rattle.ipam_addr.specs.Text.{range_of}
-use Rattle.ipam_handle.specs.Order.{range_cmp}
+use Rattle.ipam_addr.specs.Text.{cidr_reading}
+use Rattle.ipam_handle.specs.Order.{cidr_cmp}
 use Rattle.ipam_pool.specs.declared.pools.Pool.{Pool}
 use Rattle.ipam_model.specs.Selector.{Label, Selector, All, admits}
 
--- how a pool gives its addresses: to whoever asks, or only where it is named
+-- how a pool gives its addresses: to whoever asks, or only where it is named or one of its own is asked for
 pub data Mode : Type 0 where
   Automatic : Mode
   Manual : Mode
@@ -35,17 +36,24 @@ pub record Asked : Type 0 where
   pub labels : List Label
   pub one_address : Bool
 
-abbrev pub same_range : Range → Range → Bool
-same_range r s = is_at (range_cmp r) s
+-- the wanted families, IPv4 first
+abbrev pub families_if : (ipv4 ipv6 : Bool) → List Family
+families_if true true = V4 ∷ V6 ∷ []
+families_if true false = V4 ∷ []
+families_if false true = V6 ∷ []
+families_if false false = []
+
+abbrev pub is_same_cidr : CidrValue → CidrValue → Bool
+is_same_cidr r s = is_at (cidr_cmp r) s
 
 -- whether the text is a CIDR, in whichever spelling, and the pool's
-abbrev pub is_range_read : Range → Result Range AddrFault → Bool
-is_range_read cidr (Ok read) = same_range cidr read
-is_range_read cidr (Err fault) = false
+abbrev pub is_cidr_read : CidrValue → Result CidrValue AddrFault → Bool
+is_cidr_read cidr (Ok read) = is_same_cidr cidr read
+is_cidr_read cidr (Err fault) = false
 
 -- whether the name is the pool's, or the text of its CIDR
 abbrev pub is_name_of : Pool → List ℕ → Bool
-is_name_of pool name = bytes_eq pool.name name || is_range_read pool.cidr (range_of name)
+is_name_of pool name = bytes_eq pool.name name || is_cidr_read pool.cidr (cidr_reading name)
 
 abbrev pub is_named : Asked → Pool → Bool
 is_named asked pool = list_any (is_name_of pool) asked.names
@@ -84,10 +92,10 @@ abbrev pub unknown_name : Asked → List RuledPool → Option ℕ
 unknown_name asked pools = position (λ name. not (is_known asked pools name)) asked.names
 
 -- the usable pool that holds the address
-abbrev pub usable_pool_of : Asked → Address → List RuledPool → Option RuledPool
+abbrev pub usable_pool_of : Asked → AddrValue → List RuledPool → Option RuledPool
 usable_pool_of asked address =
     find (λ ruled. is_usable asked ruled && holds_address ruled.pool.cidr address)
 
 -- the pool that holds the address, usable or not
-abbrev pub pool_of : Address → List Pool → Option Pool
+abbrev pub pool_of : AddrValue → List Pool → Option Pool
 pool_of address = find (λ pool. holds_address pool.cidr address)

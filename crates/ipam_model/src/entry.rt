@@ -17,6 +17,17 @@ pub enum Fate {
     After,
 }
 
+/// What there is to do in a slot.
+#[derive(Clone, Copy, Debug, PartialEq, Eq)]
+pub enum SlotState {
+    /// No request runs.
+    Idle,
+    /// A request's next call is to be made.
+    Running,
+    /// A collection waits for its second list of live handles.
+    Waiting,
+}
+
 /// The name of a call: what it is about, without the record that it writes.
 #[derive(Debug, Drop)]
 pub enum CallName {

@@ -12,7 +12,7 @@ mod request;
 
 pub use answer::{Answer, Collected, Given, GivenThis, Item, Scan};
 pub use choice::Choice;
-pub use entry::{CallName, Called, Entry, Fate, Told};
+pub use entry::{CallName, Called, Entry, Fate, SlotState, Told};
 pub use outcome::{
     AddAnswer, AddThisAnswer, AdminAnswer, CheckAnswer, ClaimAnswer, CollectAnswer, DelAnswer,
     FreeAnswer, ProbeAnswer, ReleaseAnswer,

@@ -3,7 +3,7 @@ use Rattle.std.specs.Prelude.{true, [], ◌∷◌, ◌++◌, Some, None, codes}
 use Rattle.ipam_records.specs.declared.key.Key.TheVariants as key
 use Rattle.ipam_records.specs.declared.key.Kind.TheVariants as kind
 use Rattle.ipam_records.specs.declared.record.Record.TheVariants as record_of
-use Rattle.ipam_reserve.specs.Shape.{NamedRanges}
+use Rattle.ipam_reserve.specs.Shape.{ReservationValue}
 use Rattle.ipam_model.specs.declared.answer.Answer.TheVariants as answer
 use Rattle.ipam_model.specs.declared.entry.CallName.TheVariants as name
 use Rattle.ipam_model.specs.declared.entry.Entry.TheVariants as entry
@@ -14,7 +14,7 @@ use Rattle.ipam_model.specs.declared.request.Request.TheVariants.{Admin}
 use Rattle.ipam_model.specs.Course.{Begin}
 use Rattle.ipam_model_runs.specs.Setting.{v4, v4_range, slot0, slot1, pool, ready_base, block_of, handle_of, held, add, turns, did, did_read, get_handle, created, updated, given, goes}
 
-abbrev pub two_reserved : NamedRanges
+abbrev pub two_reserved : ReservationValue
 two_reserved = record { name = codes "r"; cidrs = v4_range 0 31 ∷ [] }
 
 -- The first two addresses are reserved, and an ADD takes the third.
@@ -62,7 +62,7 @@ PoolDisabled = goes ready_base
     (Some (answer.Done 4))
     ∷ [])
 
-abbrev pub last_reserved : NamedRanges
+abbrev pub last_reserved : ReservationValue
 last_reserved = record { name = codes "s"; cidrs = v4_range 7 32 ∷ [] }
 
 -- a change whose write is lost is made again to what is there

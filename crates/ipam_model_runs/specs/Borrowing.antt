@@ -1,7 +1,7 @@
 -- ADDs on a node whose own block is full and that may have no other.
 use Rattle.std.specs.Prelude.{Bool, true, false, List, [], ◌∷◌, ◌++◌, Some, None, codes}
 use Rattle.ipam_addr.specs.declared.address.Family.TheVariants.{V4}
-use Rattle.ipam_addr.specs.Shape.{Range}
+use Rattle.ipam_addr.specs.Shape.{CidrValue}
 use Rattle.ipam_affinity.specs.declared.state.State.TheVariants.{Confirmed}
 use Rattle.ipam_records.specs.declared.key.Key.TheVariants as key
 use Rattle.ipam_records.specs.declared.key.Kind.TheVariants as kind
@@ -16,10 +16,10 @@ use Rattle.ipam_model.specs.History.{Base}
 use Rattle.ipam_model_runs.specs.Setting.{v4, v4_range, slot0, pool_row, pool, base_of, block_of, affinity_of, handle_of, held, queue4, add, add_this, turns, did, did_read, get_handle, created, updated, scan_from, given, goes}
 
 -- the first of two blocks is a's and full, the second b's with its first address held
-abbrev pub full : Range
+abbrev pub full : CidrValue
 full = v4_range 0 31
 
-abbrev pub with_room : Range
+abbrev pub with_room : CidrValue
 with_room = v4_range 2 31
 
 abbrev pub two_blocks : (strict : Bool) → Base

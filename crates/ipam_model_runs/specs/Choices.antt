@@ -1,7 +1,7 @@
 -- What an ADD chooses in small cases.
 use Rattle.std.specs.Prelude.{◌≡◌, ℕ, ◌+◌, ◌*◌, ◌^◌, true, false, List, [], ◌∷◌, Some, None, codes}
 use Rattle.ipam_addr.specs.declared.address.Family.TheVariants.{V4, V6}
-use Rattle.ipam_addr.specs.Shape.{Range}
+use Rattle.ipam_addr.specs.Shape.{CidrValue}
 use Rattle.ipam_pool.specs.declared.pools.Pool.{Pool}
 use Rattle.ipam_block.specs.Operations.{fresh_block}
 use Rattle.ipam_affinity.specs.declared.state.State.TheVariants.{Pending, Confirmed, PendingDeletion}
@@ -64,16 +64,16 @@ seen_in pools config affinities blocks = record {
 abbrev pub seen : Config → (affinities blocks : List Row) → Seen
 seen = seen_in (for_everyone two_slots ∷ [])
 
-abbrev pub reserving : List Range → Seen → Seen
+abbrev pub reserving : List CidrValue → Seen → Seen
 reserving cidrs all = record all { reservations = record { name = codes "r"; cidrs = cidrs } ∷ [] }
 
 -- ---- rows
 
 -- an empty block of a node
-abbrev pub empty_of : Range → List ℕ → Row
+abbrev pub empty_of : CidrValue → List ℕ → Row
 empty_of cidr node = (3, block_of cidr (Some node) [] queue4 0)
 
-abbrev pub full_of : Range → List ℕ → Row
+abbrev pub full_of : CidrValue → List ℕ → Row
 full_of cidr node = (
   3,
   block_of cidr (Some node)
@@ -81,13 +81,13 @@ full_of cidr node = (
 )
 
 -- a block without affinity that is empty, or of which the first address is held
-abbrev pub empty_bare : Range → Row
+abbrev pub empty_bare : CidrValue → Row
 empty_bare cidr = (3, block_of cidr None [] queue4 1)
 
-abbrev pub held_bare : Range → Row
+abbrev pub held_bare : CidrValue → Row
 held_bare cidr = (3, block_of cidr None (held 0 (codes "n.x") 1 ∷ []) (1 ∷ 2 ∷ 3 ∷ []) 2)
 
-abbrev pub confirmed : Range → List ℕ → Row
+abbrev pub confirmed : CidrValue → List ℕ → Row
 confirmed cidr node = (2, affinity_of node cidr Confirmed)
 
 -- ---- by rank
@@ -196,7 +196,7 @@ BoundOfAnotherNode =
 abbrev pub BoundInAnotherPool : Type 0
 BoundInAnotherPool = choice_of anything (seen bounded [] (full_of (v4_range 64 30) a ∷ [])) ≡ Nothing
 
-abbrev pub ipv6_slot : (offset : ℕ) → Range
+abbrev pub ipv6_slot : (offset : ℕ) → CidrValue
 ipv6_slot offset = record { family = V6; base = 0x20010db8 * 2 ^ 96 + offset; prefix = 122 }
 
 abbrev pub BoundInTheOtherFamily : Type 0
@@ -232,7 +232,7 @@ ReservedPool = choice_of anything (reserving (v4_range 0 24 ∷ []) (seen defaul
 abbrev pub other_slots : Pool
 other_slots = pool (codes "q") (v4_range 8 29) 30
 
-abbrev pub slot_of_other : Range
+abbrev pub slot_of_other : CidrValue
 slot_of_other = v4_range 8 30
 
 -- the first pool comes first, with each of its slots

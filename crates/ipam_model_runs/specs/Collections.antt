@@ -202,3 +202,37 @@ InsideTheScope = goes scoped_base
     ∷ updated 0 (key.Handle (codes "n.c1")) 4 6 (handle_of (codes "n.c1") slot0 2)
     (Some (collected 1 3 (record { address = v4 1; handle = codes "n.c1"; stamp = 2; freed = true } ∷ [])))
     ∷ [])
+
+-- ---- two leaks
+
+-- n.c1 and n.c2 hold the first two addresses
+abbrev pub two_held : Base
+two_held = base_of
+    (pool_row
+    ∷ (3, block_of slot0 (Some (codes "a")) (held 0 (codes "n.c1") 1 ∷ held 1 (codes "n.c2") 2 ∷ []) (2 ∷ 3 ∷ []) 2)
+    ∷ (2, affinity_of (codes "a") slot0 Confirmed)
+    ∷ (4, handle_of (codes "n.c1") slot0 1)
+    ∷ (5, handle_of (codes "n.c2") slot0 1)
+    ∷ []) 5
+
+abbrev pub second_item : Item
+second_item = record { address = v4 1; handle = codes "n.c2"; stamp = 2; freed = true }
+
+-- they are freed, and told, by their addresses
+abbrev pub TwoLeaksFreed : Type 0
+TwoLeaksFreed = goes two_held
+    (Begin 0 collect_all ∷ turns 0 1 ++ Feed 0 0 [] ∷ turns 0 9)
+    (entry.Began 0 collect_all
+    ∷ list_blocks None
+    ∷ entry.Fed 0 0 []
+    ∷ list_blocks None
+    ∷ get_block 0 slot0 (told.Found 3)
+    ∷ updated 0 (key.Block slot0) 3 6
+    (block_of slot0 (Some (codes "a")) (held 1 (codes "n.c2") 2 ∷ []) (2 ∷ 3 ∷ 0 ∷ []) 3) None
+    ∷ get_handle 0 (codes "n.c1") (told.Found 4)
+    ∷ deleted 0 (key.Handle (codes "n.c1")) 4 7 None
+    ∷ get_block 0 slot0 (told.Found 6)
+    ∷ updated 0 (key.Block slot0) 6 8 (block_of slot0 (Some (codes "a")) [] (2 ∷ 3 ∷ 0 ∷ 1 ∷ []) 4) None
+    ∷ get_handle 0 (codes "n.c2") (told.Found 5)
+    ∷ deleted 0 (key.Handle (codes "n.c2")) 5 9 (Some (collected 1 3 (first_item true ∷ second_item ∷ [])))
+    ∷ [])

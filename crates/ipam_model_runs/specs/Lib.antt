@@ -8,6 +8,11 @@ pub mod Collections
 pub mod Borrowing
 pub mod Families
 pub mod Limits
+pub mod LostRaces
+pub mod LargeBlock
+pub mod Dialogue
+pub mod NoRoom
+pub mod Parts
 pub mod OneAddress
 pub mod Deletions
 pub mod Checks

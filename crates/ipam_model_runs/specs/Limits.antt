@@ -94,6 +94,23 @@ SixtyFourClaims =
       refused = None;
     }
 
+-- ---- a claim, and 64 lost races
+
+-- The races that are lost behind a claim are as many.
+abbrev pub ClaimAndLostRaces : Type 0
+ClaimAndLostRaces =
+    excerpt (1047 ∷ 1063 ∷ [])
+    (run bare_base
+    (Begin 0 (add (codes "n.c1") (codes "a")) ∷ claims ++ lost_rounds 31 ++ lost_to_add ++ lowers ++ lost_to_del))
+    ≡ record {
+      entries =
+          Some (lost_update 250 255 None)
+          ∷ Some (lost_update 255 258 (Some (answer.Again 64 1)))
+          ∷ [];
+      count = 1064;
+      refused = None;
+    }
+
 -- ---- the highest count
 
 abbrev pub highest_count : Base

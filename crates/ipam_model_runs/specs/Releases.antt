@@ -178,3 +178,23 @@ DeletionLost = goes ready_base
     ∷ updated 0 (key.Block slot0) 5 7 (block_of slot0 (Some (codes "a")) [] queue4 2) None
     ∷ updated 0 (key.Affinity (codes "a") slot0) 6 8 (affinity_of (codes "a") slot0 Confirmed) None
     ∷ [])
+
+-- Another releases the affinity whole before the second read, which finds nothing any more. So it is
+-- looked for again.
+abbrev pub MarkGone : Type 0
+MarkGone = goes ready_base
+    (Begin 0 release_first ∷ turns 0 2 ++ Begin 1 release_first ∷ turns 1 6 ++ turns 0 3)
+    (entry.Began 0 release_first
+    ∷ get_affinity 0 (codes "a") slot0 (told.Found 2)
+    ∷ updated 0 (key.Affinity (codes "a") slot0) 2 4 (affinity_of (codes "a") slot0 PendingDeletion) None
+    ∷ entry.Began 1 release_first
+    ∷ get_affinity 1 (codes "a") slot0 (told.Found 4)
+    ∷ updated 1 (key.Affinity (codes "a") slot0) 4 5 (affinity_of (codes "a") slot0 PendingDeletion) None
+    ∷ get_block 1 slot0 (told.Found 3)
+    ∷ get_affinity 1 (codes "a") slot0 (told.Found 5)
+    ∷ updated 1 (key.Block slot0) 3 6 (block_of slot0 None [] queue4 1) None
+    ∷ deleted 1 (key.Affinity (codes "a") slot0) 5 7 (Some answer.Released)
+    ∷ get_block 0 slot0 (told.Found 6)
+    ∷ get_affinity 0 (codes "a") slot0 told.Missing
+    ∷ did 0 (name.Get (key.Affinity (codes "a") slot0)) told.Missing None (Some (answer.NoAffinity 12))
+    ∷ [])

@@ -1,8 +1,8 @@
 -- What the runs have in common: bases, requests, events, and entries in short.
-use Rattle.std.specs.Prelude.{◌≡◌, ℕ, ◌+◌, zero, suc, true, false, List, [], ◌∷◌, length, map, slice_get, Option, Some, None, codes}
+use Rattle.std.specs.Prelude.{◌≡◌, ℕ, ◌+◌, ◌-◌, zero, suc, true, false, List, [], ◌∷◌, length, map, slice_get, Option, Some, None, codes}
 use Rattle.ipam_addr.specs.declared.address.Family.{Family}
 use Rattle.ipam_addr.specs.declared.address.Family.TheVariants.{V4}
-use Rattle.ipam_addr.specs.Shape.{Address, Range}
+use Rattle.ipam_addr.specs.Shape.{AddrValue, CidrValue}
 use Rattle.ipam_pool.specs.declared.pools.Pool.{Pool}
 use Rattle.ipam_block.specs.declared.allocation.Allocation.{Allocation}
 use Rattle.ipam_block.specs.declared.allocation.Attributes.{Attributes}
@@ -27,7 +27,7 @@ use Rattle.ipam_model.specs.declared.entry.Told.TheVariants as told
 use Rattle.ipam_model.specs.declared.request.AddRequest.{AddRequest}
 use Rattle.ipam_model.specs.declared.request.Request.{Request}
 use Rattle.ipam_model.specs.declared.request.Request.TheVariants as request
-use Rattle.ipam_model.specs.Course.{Event, Turn, Refusal, Course, course, after_all}
+use Rattle.ipam_model.specs.Course.{Event, Turn, Refusal, Refused, Course, course, after_all}
 use Rattle.ipam_model.specs.History.{Base, start}
 use Rattle.ipam_model.specs.Reads.{Row}
 
@@ -36,15 +36,15 @@ use Rattle.ipam_model.specs.Reads.{Row}
 abbrev pub ten : ℕ
 ten = 167772160
 
-abbrev pub v4_range : (offset prefix : ℕ) → Range
+abbrev pub v4_range : (offset prefix : ℕ) → CidrValue
 v4_range offset prefix = record { family = V4; base = ten + offset; prefix = prefix }
 
-abbrev pub v4 : (offset : ℕ) → Address
+abbrev pub v4 : (offset : ℕ) → AddrValue
 v4 offset = record { family = V4; number = ten + offset }
 
 -- ---- records
 
-abbrev pub pool : List ℕ → Range → (size : ℕ) → Pool
+abbrev pub pool : List ℕ → CidrValue → (size : ℕ) → Pool
 pool called cidr size = record { name = called; cidr = cidr; size = size; disabled = false }
 
 abbrev pub recorded_to : List ℕ → Attributes
@@ -53,7 +53,7 @@ recorded_to id = record { handle = id; secondary = [] }
 abbrev pub held : (ordinal : ℕ) (id : List ℕ) (stamp : ℕ) → Allocation
 held ordinal id stamp = record { ordinal = ordinal; attributes = recorded_to id; stamp = stamp }
 
-abbrev pub block_of : Range → (node : Option (List ℕ)) → List Allocation → (queue : List ℕ) → (sequence : ℕ) → Record
+abbrev pub block_of : CidrValue → (node : Option (List ℕ)) → List Allocation → (queue : List ℕ) → (sequence : ℕ) → Record
 block_of cidr node allocations queue sequence = record_of.Block (record {
   cidr = cidr;
   node = node;
@@ -62,11 +62,11 @@ block_of cidr node allocations queue sequence = record_of.Block (record {
   sequence = sequence;
 })
 
-abbrev pub affinity_of : (node : List ℕ) → Range → State → Record
+abbrev pub affinity_of : (node : List ℕ) → CidrValue → State → Record
 affinity_of node cidr state = record_of.Affinity (record { node = node; cidr = cidr; state = state })
 
 -- a handle with a count of one block
-abbrev pub handle_of : (id : List ℕ) → Range → (count : ℕ) → Record
+abbrev pub handle_of : (id : List ℕ) → CidrValue → (count : ℕ) → Record
 handle_of id cidr count = record_of.Handle (record { id = id; counts = (cidr, count) ∷ [] })
 
 -- ---- bases
@@ -75,10 +75,10 @@ abbrev pub base_of : List Row → (counter : ℕ) → Base
 base_of rows counter = record { store = record { rows = rows; counter = counter }; first = 0 }
 
 -- the pool 10.0.0.0/29 in blocks of four
-abbrev pub slot0 : Range
+abbrev pub slot0 : CidrValue
 slot0 = v4_range 0 30
 
-abbrev pub slot1 : Range
+abbrev pub slot1 : CidrValue
 slot1 = v4_range 4 30
 
 abbrev pub pool_row : Row
@@ -127,7 +127,7 @@ add_request id node = record {
 abbrev pub add : (id node : List ℕ) → Request
 add id node = request.Add (add_request id node)
 
-abbrev pub add_this : (id node : List ℕ) → Address → Request
+abbrev pub add_this : (id node : List ℕ) → AddrValue → Request
 add_this id node address = request.AddThis (add_request id node) address
 
 -- ---- events
@@ -153,10 +153,10 @@ did slot asked reply written answer = entry.Called (record {
 abbrev pub did_read : (slot : ℕ) → CallName → Told → Entry
 did_read slot asked reply = did slot asked reply None None
 
-abbrev pub get_block : (slot : ℕ) → Range → Told → Entry
+abbrev pub get_block : (slot : ℕ) → CidrValue → Told → Entry
 get_block slot cidr reply = did_read slot (name.Get (key.Block cidr)) reply
 
-abbrev pub get_affinity : (slot : ℕ) → (node : List ℕ) → Range → Told → Entry
+abbrev pub get_affinity : (slot : ℕ) → (node : List ℕ) → CidrValue → Told → Entry
 get_affinity slot node cidr reply = did_read slot (name.Get (key.Affinity node cidr)) reply
 
 abbrev pub get_handle : (slot : ℕ) → (id : List ℕ) → Told → Entry
@@ -191,12 +191,12 @@ abbrev pub scan_from : Family → (c : ℕ) → Scan
 scan_from family c = record { family = family; c = c; p = c + 1; r = c + 2; f = c + 3; b = c + 4 }
 
 -- the address was given by the reads from the moment c on, and written at w
-abbrev pub given : Address → (c w : ℕ) → Answer
+abbrev pub given : AddrValue → (c w : ℕ) → Answer
 given address c w = answer.Added
     (record { address = address; c = c; p = c + 1; r = c + 2; f = c + 3; b = c + 4; w = w } ∷ [])
 
 -- the same for an address that was asked for
-abbrev pub given_this : Address → (c w : ℕ) → Answer
+abbrev pub given_this : AddrValue → (c w : ℕ) → Answer
 given_this address c w = answer.AddedThis
     (record { address = address; c = c; p = c + 1; b = c + 2; w = w })
 
@@ -209,9 +209,12 @@ run base events = course (start base) events
 abbrev pub goes : Base → List Event → List Entry → Type 0
 goes base events entries = run base events ≡ record { entries = entries; refused = None }
 
--- the events are these entries, and the next is refused so
+-- the events are these entries, and the last of them is refused so
 abbrev pub stops : Base → List Event → List Entry → Refusal → Type 0
-stops base events entries refusal = run base events ≡ record { entries = entries; refused = Some refusal }
+stops base events entries refusal = run base events ≡ record {
+  entries = entries;
+  refused = Some (record { place = length events - 1; why = refusal });
+}
 
 -- the datastore behind the events
 abbrev pub store_behind : Base → List Event → Datastore
@@ -223,7 +226,7 @@ store_behind base events = (after_all (start base) (run base events).entries).st
 pub record Excerpt : Type 0 where
   pub entries : List (Option Entry)
   pub count : ℕ
-  pub refused : Option Refusal
+  pub refused : Option Refused
 
 abbrev pub excerpt : (places : List ℕ) → Course → Excerpt
 excerpt places all = record {

@@ -3,4 +3,5 @@
 #![tactic(auto)]
 
 pub mod choices;
+pub mod parts;
 pub mod runs;

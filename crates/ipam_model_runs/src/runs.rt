@@ -1,12 +1,15 @@
 //! Whole runs.
 ghost use Rattle.ipam_model_runs.specs.FirstRun.{FirstRun, NinthCall, FifthExhausted};
 ghost use Rattle.ipam_model_runs.specs.Races.{LostBlockWrite, TwoNodesRace, TwoNodesRows, RaceForOneHandle, RaceForOneAddress, DelLosesItsWrite, DelLosesItsLowering};
-ghost use Rattle.ipam_model_runs.specs.Releases.{ReleasedBeforeTheClaim, AffinityTakenBack, ReleasedTwice, ReleasedBesideAnother, MarkTakenBack, DeletionLost};
+ghost use Rattle.ipam_model_runs.specs.Releases.{ReleasedBeforeTheClaim, AffinityTakenBack, ReleasedTwice, ReleasedBesideAnother, MarkTakenBack, DeletionLost, MarkGone};
 ghost use Rattle.ipam_model_runs.specs.Stops.{LostAnswer, LostAnswerRows, FailedWrite, FailedWriteRows, StoppedAdd, StoppedAddRows, RestartOfIdle, RestartOfBusy};
-ghost use Rattle.ipam_model_runs.specs.Collections.{LeakFreed, LiveInFirstList, LiveInSecondList, NotYetWaiting, WaitingHasNoCall, GivenAgainBetweenTheLists, GivenAgainBehindTheLists, FedWithinTheGrace, FedBehindTheGrace, OutsideTheScope, InsideTheScope};
+ghost use Rattle.ipam_model_runs.specs.Collections.{LeakFreed, LiveInFirstList, LiveInSecondList, NotYetWaiting, WaitingHasNoCall, GivenAgainBetweenTheLists, GivenAgainBehindTheLists, FedWithinTheGrace, FedBehindTheGrace, OutsideTheScope, InsideTheScope, TwoLeaksFreed};
 ghost use Rattle.ipam_model_runs.specs.Borrowing.{StrictAdd, BorrowingAdd, StrictAddOfOne, BorrowingFromNobody};
-ghost use Rattle.ipam_model_runs.specs.Families.{SecondFamilyExhausted, NoOwnerIsLeft, GivenAgainBeforeTheSecond};
-ghost use Rattle.ipam_model_runs.specs.Limits.{RevisionsSpent, SixtyFourLostRaces, SixtyFourClaims, CountAtItsLimit, WornAtFirst, WornBehindOne, WornAndStopped};
+ghost use Rattle.ipam_model_runs.specs.Families.{SecondFamilyExhausted, NoOwnerIsLeft, GivenAgainBeforeTheSecond, SecondFamilyUnknown, SecondCountFull, Ipv6Given, BothGiven};
+ghost use Rattle.ipam_model_runs.specs.LostRaces.{ChangeAgain, DelAgain, UndoingAgain, ReleaseAgain, MarkAgain};
+ghost use Rattle.ipam_model_runs.specs.LargeBlock.{FirstAndLast, TheirOwners};
+ghost use Rattle.ipam_model_runs.specs.NoRoom.{FullInARaise, FullInAClaim, FullOfBlocks, FullInTheSecondFamily, FullInARelease};
+ghost use Rattle.ipam_model_runs.specs.Limits.{RevisionsSpent, SixtyFourLostRaces, SixtyFourClaims, ClaimAndLostRaces, CountAtItsLimit, WornAtFirst, WornBehindOne, WornAndStopped};
 ghost use Rattle.ipam_model_runs.specs.OneAddress.{TakenAddress, AddressInNoPool, ReservedAddress, ClaimedForOneAddress, ClaimedFromNobody, NobodysIsNotAffine};
 ghost use Rattle.ipam_model_runs.specs.Deletions.{DelOfTwoBlocks, DelOfMissing};
 ghost use Rattle.ipam_model_runs.specs.Checks.{Recorded, RecordedToAnother, SecondNotRecorded, InNoPool, SecondInNoPool, InDisabledPool};
@@ -40,6 +43,7 @@ pub fn releases()
     ensures released_beside_another { ReleasedBesideAnother }
     ensures mark_taken_back { MarkTakenBack }
     ensures deletion_lost { DeletionLost }
+    ensures mark_gone { MarkGone }
 {}
 
 /// Calls fail before and behind a write, and requests are stopped.
@@ -67,6 +71,7 @@ pub fn collections()
     ensures fed_behind_the_grace { FedBehindTheGrace }
     ensures outside_the_scope { OutsideTheScope }
     ensures inside_the_scope { InsideTheScope }
+    ensures two_leaks_freed { TwoLeaksFreed }
 {}
 
 /// An address is borrowed where the node may have no other block, unless affinity is strict.
@@ -82,6 +87,35 @@ pub fn add_of_both_families()
     ensures second_family_exhausted { SecondFamilyExhausted }
     ensures no_owner_is_left { NoOwnerIsLeft }
     ensures given_again_before_the_second { GivenAgainBeforeTheSecond }
+    ensures second_family_unknown { SecondFamilyUnknown }
+    ensures second_count_full { SecondCountFull }
+    ensures ipv6_given { Ipv6Given }
+    ensures both_given { BothGiven }
+{}
+
+/// The 64th lost race of a change, of a DEL, of the freeing of a first address and of a release ends
+/// the request.
+pub fn requests_that_lose_every_race()
+    ensures change_again { ChangeAgain }
+    ensures del_again { DelAgain }
+    ensures undoing_again { UndoingAgain }
+    ensures release_again { ReleaseAgain }
+    ensures mark_again { MarkAgain }
+{}
+
+/// The first and the last address of a block of 4,096 are given.
+pub fn adds_in_a_large_block()
+    ensures first_and_last { FirstAndLast }
+    ensures their_owners { TheirOwners }
+{}
+
+/// There is no room for a handle, an affinity or a block.
+pub fn requests_without_room()
+    ensures full_in_a_raise { FullInARaise }
+    ensures full_in_a_claim { FullInAClaim }
+    ensures full_of_blocks { FullOfBlocks }
+    ensures full_in_the_second_family { FullInTheSecondFamily }
+    ensures full_in_a_release { FullInARelease }
 {}
 
 /// A request ends at the last revision, the 64th lost race or claim, and the highest count.
@@ -89,6 +123,7 @@ pub fn requests_at_a_limit()
     ensures revisions_spent { RevisionsSpent }
     ensures sixty_four_lost_races { SixtyFourLostRaces }
     ensures sixty_four_claims { SixtyFourClaims }
+    ensures claim_and_lost_races { ClaimAndLostRaces }
     ensures count_at_its_limit { CountAtItsLimit }
     ensures worn_at_first { WornAtFirst }
     ensures worn_behind_one { WornBehindOne }

@@ -10,9 +10,9 @@ use Rattle.std.proofs.lemmas.List.Quantifiers.{all_pairs_push}
 use Rattle.std.proofs.lemmas.Slice.Eq.{bytes_eq-Decides}
 use Rattle.ipam_addr.specs.declared.address.Family.{Family}
 use Rattle.ipam_addr.specs.declared.address.Family.TheVariants.{V4, V6}
-use Rattle.ipam_addr.specs.Shape.{Range}
-use Rattle.ipam_addr.specs.Width.{IsRange}
-use Rattle.ipam_addr.specs.Holding.{Overlap, ranges_overlap, is_same_family}
+use Rattle.ipam_addr.specs.Shape.{CidrValue}
+use Rattle.ipam_addr.specs.Width.{IsCidr}
+use Rattle.ipam_addr.specs.Holding.{Overlap, cidrs_overlap, is_same_family}
 use Rattle.ipam_addr.specs.Slots.{AllowsSize, HasSlots}
 use Rattle.ipam_pool.specs.declared.pools.Pool.{Pool}
 use Rattle.ipam_pool.specs.declared.pools.PoolRefusal.TheVariants.{NameTaken, Size, Prefix, TooMany}
@@ -57,19 +57,19 @@ same_family_test V4 = refl
 same_family_test V6 = refl
 
 -- the test of an overlap that holds
-overlap_test : (r s : Range) → Overlap r s → ranges_overlap r s ≡ true
+overlap_test : (r s : CidrValue) → Overlap r s → cidrs_overlap r s ≡ true
 overlap_test r s h =
     let same : is_same_family r.family s.family ≡ true = subst (λ f. is_same_family r.family f ≡ true) h.same_family (same_family_test r.family) in
     and_from _ _ (and_from _ _ same (lt-ltb _ _ h.first_reaches)) (lt-ltb _ _ h.second_reaches)
 
-pub IsPoolTable-push : (pools : List Pool) (p : Pool) → IsPoolTable pools → IsRange p.cidr → refusal_of pools p ≡ None → IsPoolTable (pools ++ p ∷ [])
+pub IsPoolTable-push : (pools : List Pool) (p : Pool) → IsPoolTable pools → IsCidr p.cidr → refusal_of pools p ≡ None → IsPoolTable (pools ++ p ∷ [])
 IsPoolTable-push pools p h sound none =
     let (fresh, apart, size, prefix, room) = parts _ _ _ _ _ none in
     let long = length-append pools (p ∷ []) in
     let few = leb-false 64 (length pools) room in
     record {
       few = omega arith;
-      ranges = All-push (λ x. IsRange x.cidr) pools p h.ranges sound;
+      ranges = All-push (λ x. IsCidr x.cidr) pools p h.ranges sound;
       sizes = All-push (λ x. HasSlots x.cidr x.size) pools p h.sizes (record {
         allowed = allowed p.cidr.family p.size (not-false _ size);
         fits = ltb-false _ _ prefix;
@@ -79,7 +79,7 @@ IsPoolTable-push pools p h sound none =
           let taken = (bytes_eq-Decides (get_or pools k d).name p.name).1 same in
           cc);
       apart = all_pairs_push (λ x y. ¬ (Overlap x.cidr y.cidr)) pools p h.apart (λ k d within shared.
-          let other = none_found (λ x. ranges_overlap x.cidr p.cidr) pools apart k d within in
+          let other = none_found (λ x. cidrs_overlap x.cidr p.cidr) pools apart k d within in
           let met = overlap_test (get_or pools k d).cidr p.cidr shared in
           cc);
     }

@@ -5,7 +5,7 @@ use Rattle.std.proofs.lemmas.Bool.{false_from_ne_true, cases_order}
 use Rattle.std.proofs.lemmas.List.{length-map, get_or-map}
 use Rattle.std.proofs.lemmas.List.Elements.{All-map}
 use Rattle.std.proofs.lemmas.Slice.Eq.{bytes_eq-Decides}
-use Rattle.ipam_addr.specs.Width.{IsRange}
+use Rattle.ipam_addr.specs.Width.{IsCidr}
 use Rattle.ipam_addr.specs.Holding.{Overlap}
 use Rattle.ipam_addr.specs.Slots.{HasSlots}
 use Rattle.ipam_pool.specs.declared.pools.Pool.{Pool}
@@ -66,7 +66,7 @@ pairs_stay R f pools keeps h i j d before within =
 pub IsPoolTable-with_disabled : (name : List ℕ) (disabled : Bool) (pools : List Pool) → IsPoolTable pools → IsPoolTable (with_disabled name disabled pools)
 IsPoolTable-with_disabled name disabled pools h = record {
   few = rw length-map h.few;
-  ranges = All-map (λ p. IsRange p.cidr) (with_named_disabled name disabled) pools h.ranges;
+  ranges = All-map (λ p. IsCidr p.cidr) (with_named_disabled name disabled) pools h.ranges;
   sizes = All-map (λ p. HasSlots p.cidr p.size) (with_named_disabled name disabled) pools h.sizes;
   names = pairs_stay (λ p q. p.name ≢ q.name) (with_named_disabled name disabled) pools (λ x y k. k) h.names;
   apart = pairs_stay (λ p q. ¬ (Overlap p.cidr q.cidr)) (with_named_disabled name disabled) pools (λ x y k. k) h.apart;

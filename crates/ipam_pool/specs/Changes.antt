@@ -4,8 +4,9 @@ use Rattle.std.specs.List.{list_any}
 use Rattle.std.specs.Option.{option_or}
 use Rattle.ipam_addr.specs.declared.address.Family.{Family}
 use Rattle.ipam_addr.specs.declared.address.Family.TheVariants.{V4, V6}
-use Rattle.ipam_addr.specs.Shape.{Range}
-use Rattle.ipam_addr.specs.Holding.{ranges_overlap}
+use Rattle.ipam_addr.specs.Shape.{CidrValue}
+use Rattle.ipam_addr.specs.Holding.{cidrs_overlap}
+use Rattle.ipam_pool.specs.declared.table.TheConstants.{MOST_POOLS}
 use Rattle.ipam_pool.specs.declared.pools.Pool.{Pool}
 use Rattle.ipam_pool.specs.declared.pools.PoolRefusal.{PoolRefusal}
 use Rattle.ipam_pool.specs.declared.pools.PoolRefusal.TheVariants.{NameTaken, Overlap, Size, Prefix, TooMany}
@@ -14,8 +15,8 @@ abbrev pub has_name : List ℕ → Pool → Bool
 has_name name p = bytes_eq p.name name
 
 -- the first pool that shares an address with the CIDR
-abbrev pub overlap_place : List Pool → Range → Option ℕ
-overlap_place pools r = position (λ p. ranges_overlap p.cidr r) pools
+abbrev pub overlap_place : List Pool → CidrValue → Option ℕ
+overlap_place pools r = position (λ p. cidrs_overlap p.cidr r) pools
 
 -- `AllowsSize`, as a test
 abbrev pub is_size_allowed : Family → ℕ → Bool
@@ -37,7 +38,7 @@ abbrev pub refusal_of : List Pool → Pool → Option PoolRefusal
 refusal_of pools p =
     option_or (refusal_if (list_any (has_name p.name) pools) NameTaken)
     (option_or (option_map Overlap (overlap_place pools p.cidr))
-    (option_or (slots_refusal p) (refusal_if (nat_le 64 (length pools)) TooMany)))
+    (option_or (slots_refusal p) (refusal_if (nat_le MOST_POOLS (length pools)) TooMany)))
 
 -- the pool, disabled or not where it has the name
 abbrev pub with_named_disabled : List ℕ → Bool → Pool → Pool

@@ -2,3 +2,4 @@
 pub mod Sound
 pub mod Changes
 pub mod Slots
+pub mod Printed

@@ -7,7 +7,4 @@ mod table;
 
 pub use pools::{NoSuchPool, Pool, PoolRefusal};
 pub use std::alloc::AllocError as Memory;
-pub use table::PoolTable;
-
-#[cfg(test)]
-mod tests;
+pub use table::{MOST_POOLS, PoolTable};

@@ -49,6 +49,11 @@ pub enum PoolRefusal {
 }
 
 impl fmt::Display for PoolRefusal {
+    ghost use Rattle.std.specs.Prelude.{Some};
+    ghost use Rattle.ipam_pool.specs.Printed.{refusal_text};
+
+    ghost output = { λ refusal. Some (refusal_text refusal) };
+
     fn fmt<W: fmt::Write>(&self, f: &mut fmt::Formatter<W>) -> fmt::Result {
         match self {
             PoolRefusal::NameTaken => f.write_str("a pool of this name exists"),
@@ -68,6 +73,11 @@ impl Error for PoolRefusal {}
 pub struct NoSuchPool;
 
 impl fmt::Display for NoSuchPool {
+    ghost use Rattle.std.specs.Prelude.{Some};
+    ghost use Rattle.ipam_pool.specs.Printed.{no_such_pool_text};
+
+    ghost output = { λ _. Some no_such_pool_text };
+
     fn fmt<W: fmt::Write>(&self, f: &mut fmt::Formatter<W>) -> fmt::Result {
         f.write_str("no pool of this name")
     }

@@ -1,6 +1,6 @@
 ghost use Rattle.std.specs.Prelude.{◌≡◌, ℕ, ◌≤◌, ◌↔◌, [], ◌∷◌, ◌++◌, Any, All, IsTrue, IsNone, IsOkUnless, IfSome, IfOk, OnOk, OnErr, is_err, not, position};
 ghost use Rattle.std.specs.List.{list_any};
-ghost use Rattle.ipam_addr.specs.Width.{IsRange};
+ghost use Rattle.ipam_addr.specs.Width.{IsCidr};
 ghost use Rattle.ipam_addr.specs.Holding.{Holds};
 ghost use Rattle.ipam_pool.specs.Changes.{refusal_of, has_name, overlap_place, is_size_allowed, with_disabled};
 ghost use Rattle.ipam_pool.specs.Slots.{is_slot_of, IsSlotOf, LiesInSlot, AtMostOneSlot};
@@ -11,7 +11,7 @@ use std::alloc::{AllocError, Global};
 use std::marker::Model;
 
 /// The most pools of a table.
-const POOLS_MAX: usize = 64;
+pub const MOST_POOLS: usize = 64;
 
 /// Pools with names of their own that share no address, in the order in which they were added.
 #[derive(Debug, Drop)]
@@ -116,7 +116,7 @@ impl PoolTable {
 // Why the pool cannot stand behind the others, if it cannot.
 fn refusal_of(pools: &[Pool], pool: &Pool) -> Option<PoolRefusal>
     ensures value { result ≡ refusal_of pools.now pool.now }
-    ensures sound { IsNone result → IsRange pool.now.cidr }
+    ensures sound { IsNone result → IsCidr pool.now.cidr }
 {
     if is_name_taken(pools, pool.name.as_str()) {
         return Some(PoolRefusal::NameTaken);
@@ -130,7 +130,7 @@ fn refusal_of(pools: &[Pool], pool: &Pool) -> Option<PoolRefusal>
     if pool.size < pool.cidr.prefix() {
         return Some(PoolRefusal::Prefix);
     }
-    if pools.len() >= POOLS_MAX {
+    if pools.len() >= MOST_POOLS {
         return Some(PoolRefusal::TooMany);
     }
     None
@@ -164,7 +164,7 @@ fn is_size_allowed(cidr: Cidr, size: u8) -> bool
 
 fn is_slot_of_any(pools: &[Pool], cidr: Cidr) -> bool
     ensures value { result ≡ list_any (λ p. is_slot_of p cidr) pools.now }
-    ensures sound { IsRange cidr }
+    ensures sound { IsCidr cidr }
 {
     let base = cidr.base();
     pools.iter().any(|pool| pool.size == cidr.prefix() && pool.cidr.contains(base))

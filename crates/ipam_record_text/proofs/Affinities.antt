@@ -3,7 +3,7 @@ use Rattle.std.proofs.Common.{◌≡◌, ℕ, List, codes, Option, Some, None, o
 use Rattle.std.specs.Option.{ok_or}
 use Rattle.serde_json.specs.Data.{Data}
 use Rattle.serde_json.specs.Read.{read}
-use Rattle.ipam_addr.specs.Shape.{Range}
+use Rattle.ipam_addr.specs.Shape.{CidrValue}
 use Rattle.ipam_affinity.specs.declared.record.Affinity.{Affinity}
 use Rattle.ipam_affinity.specs.declared.state.State.{State}
 use Rattle.ipam_affinity.specs.declared.state.State.TheVariants.{Pending, Confirmed, PendingDeletion}
@@ -13,24 +13,24 @@ use Rattle.ipam_json.proofs.ReadsBack.{read-compact_text}
 use Rattle.ipam_record_text.specs.declared.fault.BodyFault.TheVariants.{Form}
 use Rattle.ipam_record_text.specs.Blocks.{block_at, name_at}
 use Rattle.ipam_record_text.specs.Reading.{◌>>=◌}
-use Rattle.ipam_record_text.specs.Affinity.{affinity_data, affinity_body, affinity_in, affinity_reading, state_at, IsSoundAffinity}
+use Rattle.ipam_record_text.specs.Affinity.{affinity_data, affinity_body, affinity_in, affinity_reading, state_at, IsAffinityRecord}
 use Rattle.ipam_record_text.proofs.Held.{held-was, held-text, reading-held}
 use Rattle.ipam_record_text.proofs.Parts.{block_at-is, block_of-text, name_at-is, name_of-name}
 
 -- the parts of an affinity that was found
-parts : (cidr : Option Range) (name : Option (List ℕ)) (state : Option State) (a : Affinity) → (cidr >>= λ c. name >>= λ n. state >>= λ s. Some (record { node = n; cidr = c; state = s })) ≡ Some a → (cidr ≡ Some a.cidr) × (name ≡ Some a.node)
+parts : (cidr : Option CidrValue) (name : Option (List ℕ)) (state : Option State) (a : Affinity) → (cidr >>= λ c. name >>= λ n. state >>= λ s. Some (record { node = n; cidr = c; state = s })) ≡ Some a → (cidr ≡ Some a.cidr) × (name ≡ Some a.node)
 parts (Some c) (Some n) (Some s) a e = (ap (option_map (λ (k : Affinity). k.cidr)) e, ap (option_map (λ (k : Affinity). k.node)) e)
 parts (Some c) (Some n) None a e = cc
 parts (Some c) None state a e = cc
 parts None name state a e = cc
 
-affinity_in-sound : (d : Data) (a : Affinity) → affinity_in d ≡ Some a → IsSoundAffinity a
+affinity_in-sound : (d : Data) (a : Affinity) → affinity_in d ≡ Some a → IsAffinityRecord a
 unfolding affinity_in
 affinity_in-sound d a e =
     let (cidr, node) = parts (block_at (codes "cidr") d) (name_at (codes "node") d) (state_at (codes "state") d) a e in
-    record { node = name_at-is (codes "node") d a.node node; block = block_at-is (codes "cidr") d a.cidr cidr }
+    record { node = name_at-is (codes "node") d a.node node; range = block_at-is (codes "cidr") d a.cidr cidr }
 
-pub affinity_read : (body : List ℕ) (a : Affinity) → affinity_reading body ≡ Ok a → (body ≡ affinity_body a) × IsSoundAffinity a
+pub affinity_read : (body : List ℕ) (a : Affinity) → affinity_reading body ≡ Ok a → (body ≡ affinity_body a) × IsAffinityRecord a
 unfolding affinity_reading
 affinity_read body a e =
     let was = held-was affinity_in affinity_body body a (reading-held _ a e) in
@@ -48,15 +48,15 @@ state_of-state_text Pending = refl
 state_of-state_text Confirmed = refl
 state_of-state_text PendingDeletion = refl
 
-affinity_in-affinity_data : (a : Affinity) → IsSoundAffinity a → affinity_in (affinity_data a) ≡ Some a
+affinity_in-affinity_data : (a : Affinity) → IsAffinityRecord a → affinity_in (affinity_data a) ≡ Some a
 unfolding affinity_in affinity_data
-affinity_in-affinity_data a h = rw (block_of-text a.cidr h.block, name_of-name a.node h.node, state_of-state_text a.state) refl
+affinity_in-affinity_data a h = rw (block_of-text a.cidr h.range, name_of-name a.node h.node, state_of-state_text a.state) refl
 
 read-affinity_body : (a : Affinity) → read (affinity_body a) ≡ Some (affinity_data a)
 unfolding affinity_body
 read-affinity_body a = read-compact_text (affinity_data a) (affinity_data-IsCanonical a)
 
-pub affinity_reads_back : (a : Affinity) → IsSoundAffinity a → affinity_reading (affinity_body a) ≡ Ok a
+pub affinity_reads_back : (a : Affinity) → IsAffinityRecord a → affinity_reading (affinity_body a) ≡ Ok a
 unfolding affinity_reading
 affinity_reads_back a h =
     ap (λ o. ok_or o Form) (held-text affinity_in affinity_body a (affinity_data a) (read-affinity_body a) (affinity_in-affinity_data a h))

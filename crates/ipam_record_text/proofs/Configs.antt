@@ -8,7 +8,7 @@ use Rattle.ipam_json.proofs.ReadsBack.{read-compact_text}
 use Rattle.ipam_record_text.specs.declared.config.Config.{Config}
 use Rattle.ipam_record_text.specs.declared.fault.BodyFault.TheVariants.{Form}
 use Rattle.ipam_record_text.specs.Reading.{◌>>=◌, truth_at, number_at}
-use Rattle.ipam_record_text.specs.Config.{config_data, config_body, config_in, config_reading, IsSoundConfig}
+use Rattle.ipam_record_text.specs.Config.{config_data, config_body, config_in, config_reading, IsConfigRecord}
 use Rattle.ipam_record_text.proofs.Held.{held-was, held-text, reading-held}
 use Rattle.ipam_record_text.proofs.Parts.{number_at-is}
 
@@ -19,34 +19,34 @@ bound (Some a) (Some m) None c e = cc
 bound (Some a) None strict c e = cc
 bound None most strict c e = cc
 
-config_in-sound : (d : Data) (c : Config) → config_in d ≡ Some c → IsSoundConfig c
+config_in-sound : (d : Data) (c : Config) → config_in d ≡ Some c → IsConfigRecord c
 unfolding config_in
 config_in-sound d c e =
     let most = bound (truth_at (codes "autoAllocateBlocks") d) (number_at (codes "maxBlocksPerHost") d) (truth_at (codes "strictAffinity") d) c e in
-    record { bound = number_at-is (codes "maxBlocksPerHost") d c.max_blocks most }
+    number_at-is (codes "maxBlocksPerHost") d c.max_blocks most
 
-pub config_read : (body : List ℕ) (c : Config) → config_reading body ≡ Ok c → (body ≡ config_body c) × IsSoundConfig c
+pub config_read : (body : List ℕ) (c : Config) → config_reading body ≡ Ok c → (body ≡ config_body c) × IsConfigRecord c
 unfolding config_reading
 config_read body c e =
     let was = held-was config_in config_body body c (reading-held _ c e) in
     (sym was.is_text, config_in-sound was.json c was.was_found)
 
-config_data-IsCanonical : (c : Config) → IsSoundConfig c → IsCanonical (config_data c)
+config_data-IsCanonical : (c : Config) → IsConfigRecord c → IsCanonical (config_data c)
 unfolding config_data
 config_data-IsCanonical c h = record {
-  regular = (refl, tt, (refl, omega (arith, h.bound), (tt, tt, tt)));
+  regular = (refl, tt, (refl, omega (arith, h), (tt, tt, tt)));
   shallow = omega arith;
 }
 
-config_in-config_data : (c : Config) → IsSoundConfig c → config_in (config_data c) ≡ Some c
+config_in-config_data : (c : Config) → IsConfigRecord c → config_in (config_data c) ≡ Some c
 unfolding config_in config_data
-config_in-config_data c h = rw (lt-ltb _ _ h.bound) refl
+config_in-config_data c h = rw (lt-ltb _ _ h) refl
 
-read-config_body : (c : Config) → IsSoundConfig c → read (config_body c) ≡ Some (config_data c)
+read-config_body : (c : Config) → IsConfigRecord c → read (config_body c) ≡ Some (config_data c)
 unfolding config_body
 read-config_body c h = read-compact_text (config_data c) (config_data-IsCanonical c h)
 
-pub config_reads_back : (c : Config) → IsSoundConfig c → config_reading (config_body c) ≡ Ok c
+pub config_reads_back : (c : Config) → IsConfigRecord c → config_reading (config_body c) ≡ Ok c
 unfolding config_reading
 config_reads_back c h =
     ap (λ o. ok_or o Form) (held-text config_in config_body c (config_data c) (read-config_body c h) (config_in-config_data c h))

@@ -3,8 +3,8 @@ pub mod Held
 pub mod Parts
 pub mod Configs
 pub mod Affinities
+pub mod Standing
 pub mod PoolTables
 pub mod Insertions
 pub mod Handles
 pub mod ReservationLists
-pub mod Standing

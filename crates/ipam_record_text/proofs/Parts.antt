@@ -1,44 +1,43 @@
 -- Names and CIDRs that are read of a text are sound, and are read of their own texts.
-use Rattle.std.proofs.Common.{◌≡◌, ℕ, ◌^◌, ◌<◌, true, ltb-true, ◌≤◌, List, Option, Some, None, Result, Ok, Err, nat_le, refl, ap, ◌∙◌, le-leb, inl, inr, arith, option_and_then}
-use Rattle.std.proofs.lemmas.Bool.{leb-true, lt-leb, cases_lt}
-use Rattle.std.proofs.lemmas.Nat.{pow_below}
-use Rattle.std.proofs.Math.Nat.{pow-le-pow_right}
+use Rattle.std.proofs.Common.{◌≡◌, ℕ, ◌^◌, ◌<◌, true, ltb-true, List, Option, Some, None, Result, Ok, Err, refl, ap, ◌∙◌, le-leb, option_and_then}
+use Rattle.std.proofs.lemmas.Bool.{leb-true}
 use Rattle.std.proofs.lemmas.Option.{option_and_then_some, cond_some}
 use Rattle.serde_json.specs.Data.{Data}
-use Rattle.ipam_addr.specs.declared.range.AddrFault.{AddrFault}
-use Rattle.ipam_addr.specs.Shape.{Range}
-use Rattle.ipam_addr.specs.Text.{range_text}
-use Rattle.ipam_addr.specs.Width.{IsRange}
-use Rattle.ipam_addr.specs.Word.{is_name_text, is_handle_text}
-use Rattle.ipam_addr.proofs.RangeTextLemmas.{range_of-range_text, spelled-range_of}
-use Rattle.ipam_record_text.specs.Blocks.{IsSmallRange, value_of, cidr_of, block_of, name_of, id_of, cidr_at, block_at, name_at, id_at}
+use Rattle.ipam_addr.specs.declared.cidrs.AddrFault.{AddrFault}
+use Rattle.ipam_addr.specs.Shape.{CidrValue}
+use Rattle.ipam_addr.specs.Text.{cidr_text_of}
+use Rattle.ipam_addr.specs.Width.{IsCidr}
+use Rattle.ipam_addr.specs.Names.{is_name_text, is_handle_text}
+use Rattle.ipam_addr.proofs.CidrTextLemmas.{cidr_reading-cidr_text_of, spelled-cidr_reading}
+use Rattle.ipam_block.specs.Sound.{IsBlockCidr}
+use Rattle.ipam_record_text.specs.Blocks.{value_of, cidr_of, block_of, name_of, id_of, cidr_at, block_at, name_at, id_at}
 use Rattle.ipam_record_text.specs.Reading.{text_at, whole_at, in_32_bits, number_at}
 
-value_of-some : (r : Result Range AddrFault) (c : Range) → value_of r ≡ Some c → r ≡ Ok c
+value_of-some : (r : Result CidrValue AddrFault) (c : CidrValue) → value_of r ≡ Some c → r ≡ Ok c
 value_of-some (Ok r) c e = cc
 value_of-some (Err fault) c e = cc
 
-pub cidr_of-is : (text : List ℕ) (r : Range) → cidr_of text ≡ Some r → IsRange r
+pub cidr_of-is : (text : List ℕ) (r : CidrValue) → cidr_of text ≡ Some r → IsCidr r
 unfolding cidr_of
-cidr_of-is text r e = (spelled-range_of text r (value_of-some _ r e)).sound
+cidr_of-is text r e = (spelled-cidr_reading text r (value_of-some _ r e)).sound
 
-pub cidr_of-text : (r : Range) → IsRange r → cidr_of (range_text r) ≡ Some r
+pub cidr_of-text : (r : CidrValue) → IsCidr r → cidr_of (cidr_text_of r) ≡ Some r
 unfolding cidr_of
-cidr_of-text r h = ap value_of (range_of-range_text r h)
+cidr_of-text r h = ap value_of (cidr_reading-cidr_text_of r h)
 
-pub block_of-is : (text : List ℕ) (r : Range) → block_of text ≡ Some r → IsSmallRange r
+pub block_of-is : (text : List ℕ) (r : CidrValue) → block_of text ≡ Some r → IsBlockCidr r
 unfolding block_of
 block_of-is text r e =
     option_and_then_some _ _ r e (λ c is_cidr e'.
     let (small, same) = cond_some _ c r e' in
     record {
       range = cidr_of-is text r (is_cidr ∙ ap Some same);
-      few = rw (← same) (leb-true _ _ small);
+      small = rw (← same) (leb-true _ _ small);
     })
 
-pub block_of-text : (r : Range) → IsSmallRange r → block_of (range_text r) ≡ Some r
+pub block_of-text : (r : CidrValue) → IsBlockCidr r → block_of (cidr_text_of r) ≡ Some r
 unfolding block_of
-block_of-text r h = rw (cidr_of-text r h.range, le-leb _ _ h.few) refl
+block_of-text r h = rw (cidr_of-text r h.range, le-leb _ _ h.small) refl
 
 pub name_of-is : (text name : List ℕ) → name_of text ≡ Some name → is_name_text name ≡ true
 unfolding name_of
@@ -56,24 +55,17 @@ pub id_of-id : (id : List ℕ) → is_handle_text id ≡ true → id_of id ≡ S
 unfolding id_of
 id_of-id id h = rw h refl
 
--- a CIDR has at most 4,096 addresses where its bits are at most 12
-pub small_by_bits : (k : ℕ) → nat_le k 12 ≡ nat_le (2 ^ k) 4096
-small_by_bits k = elim (cases_lt 12 k) [
-  | inl more ↦ let above : 4096 < 2 ^ k = pow_below 12 k more in rw (lt-leb k 12 more, lt-leb (2 ^ k) 4096 above) refl
-  | inr few ↦ let below : 2 ^ k ≤ 4096 = pow-le-pow_right (omega arith) few in rw (le-leb k 12 few, le-leb (2 ^ k) 4096 below) refl
-]
-
 -- ---- by name
 
 pub then-is : {A B : Type 0} (f : A → Option B) (P : B → Type 0) → ((x : A) (y : B) → f x ≡ Some y → P y) → (o : Option A) (y : B) → option_and_then f o ≡ Some y → P y
 then-is f P h (Some x) y e = h x y e
 then-is f P h None y e = cc
 
-pub cidr_at-is : (name : List ℕ) (d : Data) (r : Range) → cidr_at name d ≡ Some r → IsRange r
-cidr_at-is name d r e = then-is cidr_of IsRange cidr_of-is (text_at name d) r e
+pub cidr_at-is : (name : List ℕ) (d : Data) (r : CidrValue) → cidr_at name d ≡ Some r → IsCidr r
+cidr_at-is name d r e = then-is cidr_of IsCidr cidr_of-is (text_at name d) r e
 
-pub block_at-is : (name : List ℕ) (d : Data) (r : Range) → block_at name d ≡ Some r → IsSmallRange r
-block_at-is name d r e = then-is block_of IsSmallRange block_of-is (text_at name d) r e
+pub block_at-is : (name : List ℕ) (d : Data) (r : CidrValue) → block_at name d ≡ Some r → IsBlockCidr r
+block_at-is name d r e = then-is block_of IsBlockCidr block_of-is (text_at name d) r e
 
 pub name_at-is : (name : List ℕ) (d : Data) (found : List ℕ) → name_at name d ≡ Some found → is_name_text found ≡ true
 name_at-is name d found e = then-is name_of (λ t. is_name_text t ≡ true) name_of-is (text_at name d) found e

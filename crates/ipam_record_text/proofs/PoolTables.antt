@@ -8,7 +8,7 @@ use Rattle.serde_json.specs.Data.{Data, Items, no_items, item}
 use Rattle.serde_json.specs.Read.{read}
 use Rattle.serde_json.specs.View.{items_of}
 use Rattle.serde_json.specs.Written.{has_float, items_have_float}
-use Rattle.ipam_addr.specs.Shape.{Range}
+use Rattle.ipam_addr.specs.Shape.{CidrValue}
 use Rattle.ipam_json.specs.Canonical.{IsCanonical}
 use Rattle.ipam_json.proofs.ReadsBack.{read-compact_text}
 use Rattle.ipam_json.proofs.Constructors.{IsCanonicalWithin-array}
@@ -21,7 +21,8 @@ use Rattle.ipam_record_text.specs.declared.fault.BodyFault.{BodyFault}
 use Rattle.ipam_record_text.specs.declared.fault.BodyFault.TheVariants.{Form, Table, Memory as NoMemory}
 use Rattle.ipam_record_text.specs.Reading.{◌>>=◌, only_if, truth_at, number_at, items_at, held}
 use Rattle.ipam_record_text.specs.Blocks.{cidr_at, name_at}
-use Rattle.ipam_record_text.specs.Pools.{pool_data, pools_data, pools_body, pool_in, pools_in, pools_after, size_at, are_added, table_of, refusal_fault, pools_reading, IsSoundPool, IsSoundTable, HasRefusedPool}
+use Rattle.ipam_record_text.specs.Pools.{pool_data, pools_data, pools_body, pool_in, pools_in, pools_after, size_at, are_added, table_of, refusal_fault, pools_reading, IsSoundPool, IsPoolsRecord, HasRefusedPool}
+use Rattle.ipam_record_text.proofs.Standing.{standing_table, added_stands}
 use Rattle.ipam_record_text.proofs.Held.{held-was, held-text}
 use Rattle.ipam_record_text.proofs.Parts.{then-is, cidr_at-is, cidr_of-text, name_at-is, name_of-name}
 
@@ -44,7 +45,7 @@ size_at-is name d n e = then-is (λ k. only_if (nat_lt k (2 ^ 8)) k) (λ k. k < 
     small k m e' = let (is, same) = cond_some _ k m e' in rw (← same) (ltb-true _ _ is)
 
 -- the parts of a pool that was found
-parts : (size : Option ℕ) (cidr : Option Range) (disabled : Option Bool) (name : Option (List ℕ)) (p : Pool) → (size >>= λ s. cidr >>= λ c. disabled >>= λ d. name >>= λ n. Some (record { name = n; cidr = c; size = s; disabled = d })) ≡ Some p → (size ≡ Some p.size) × (cidr ≡ Some p.cidr) × (name ≡ Some p.name)
+parts : (size : Option ℕ) (cidr : Option CidrValue) (disabled : Option Bool) (name : Option (List ℕ)) (p : Pool) → (size >>= λ s. cidr >>= λ c. disabled >>= λ d. name >>= λ n. Some (record { name = n; cidr = c; size = s; disabled = d })) ≡ Some p → (size ≡ Some p.size) × (cidr ≡ Some p.cidr) × (name ≡ Some p.name)
 parts (Some s) (Some c) (Some d) (Some n) p e = (ap (option_map (λ (k : Pool). k.size)) e, ap (option_map (λ (k : Pool). k.cidr)) e, ap (option_map (λ (k : Pool). k.name)) e)
 parts (Some s) (Some c) (Some d) None p e = cc
 parts (Some s) (Some c) None name p e = cc
@@ -133,16 +134,16 @@ table_of-is (Some ps) pools e = elim (cases_Bool (are_added [] ps)) [
   | inr refused ↦ let k = rw refused at e in cc
 ]
 
-pub pools_read : (body : List ℕ) (pools : List Pool) → pools_reading body ≡ Ok pools → (body ≡ pools_body pools) × IsSoundTable pools
+pub pools_read : (body : List ℕ) (pools : List Pool) → pools_reading body ≡ Ok pools → (body ≡ pools_body pools) × IsPoolsRecord pools
 unfolding pools_reading
 pools_read body pools e =
     let (is_held, added) = table_of-is (held pools_in pools_body body) pools e in
     let was = held-was pools_in pools_body body pools is_held in
-    (sym was.is_text, record { each = pools_in-sound was.json pools was.was_found; added = added })
+    (sym was.is_text, added_stands pools (record { each = pools_in-sound was.json pools was.was_found; added = added }))
 
-pub pools_reads_back : (pools : List Pool) → IsSoundTable pools → pools_reading (pools_body pools) ≡ Ok pools
+pub pools_reads_back : (pools : List Pool) → IsPoolsRecord pools → pools_reading (pools_body pools) ≡ Ok pools
 unfolding pools_reading table_of
-pools_reads_back pools h = rw (held-pools_body pools h.each, h.added) refl
+pools_reads_back pools h = let is = standing_table pools h in rw (held-pools_body pools is.each, is.added) refl
 
 read_of-pools_body : (body : List ℕ) (pools : List Pool) → AllByRecursion IsSoundPool pools → body ≡ pools_body pools → pools_reading body ≡ table_of (Some pools)
 unfolding pools_reading

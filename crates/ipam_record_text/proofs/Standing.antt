@@ -1,21 +1,26 @@
 -- The pools of a table that stands are added one after the other.
 use Rattle.std.proofs.Common.{◌≡◌, ◌≢◌, ℕ, suc, ◌^◌, ◌<◌, List, [], ◌∷◌, ◌++◌, length, length-append, get_or, Bool, true, false, None, bytes_eq, inl, inr, refl, sym, subst, arith, le-ltb, ltb-true, append_assoc}
-use Rattle.std.specs.Prelude.{position, All}
+use Rattle.std.specs.Prelude.{position}
 use Rattle.std.specs.List.{list_any, position_or_len}
 use Rattle.std.proofs.Math.ListN.{get_or-append}
 use Rattle.std.proofs.Math.Seq.{get_or-append_seam}
 use Rattle.std.proofs.lemmas.Bool.{cases_Bool, and_parts, lt-leb, le-leb}
 use Rattle.ipam_addr.specs.declared.address.Family.{Family}
 use Rattle.ipam_addr.specs.declared.address.Family.TheVariants.{V4, V6}
-use Rattle.ipam_addr.specs.Shape.{Range}
-use Rattle.ipam_addr.specs.Holding.{Overlap, ranges_overlap, range_end, is_same_family}
+use Rattle.ipam_addr.specs.Shape.{CidrValue}
+use Rattle.ipam_addr.specs.Holding.{Overlap, cidrs_overlap, cidr_end, is_same_family}
 use Rattle.ipam_addr.specs.Slots.{HasSlots, AllowsSize}
-use Rattle.ipam_addr.specs.Word.{is_name_text}
 use Rattle.ipam_json.proofs.Constructors.{AllByRecursion-All}
+use Rattle.std.specs.Prelude.{is_none, Option, Some}
+use Rattle.std.specs.List.{AllByRecursion}
+use Rattle.std.proofs.Common.{append-nil}
+use Rattle.std.proofs.lemmas.List.Elements.{All-from_recursion}
+use Rattle.ipam_pool.specs.declared.pools.PoolRefusal.{PoolRefusal}
+use Rattle.ipam_pool.proofs.Accepting.{IsPoolTable-push}
 use Rattle.ipam_pool.specs.Changes.{refusal_of, has_name, is_size_allowed}
 use Rattle.ipam_pool.specs.Sound.{IsPoolTable}
 use Rattle.ipam_pool.specs.declared.pools.Pool.{Pool}
-use Rattle.ipam_record_text.specs.Pools.{are_added, IsSoundPool, IsSoundTable}
+use Rattle.ipam_record_text.specs.Pools.{are_added, IsSoundPool, IsPoolsRecord}
 use Rattle.ipam_record_text.proofs.Held.{bytes_eq-is}
 
 -- a size that the family allows passes the test
@@ -48,15 +53,15 @@ one_family V4 V6 e = cc
 one_family V6 V4 e = cc
 one_family V6 V6 e = refl
 
-no_overlap : (r s : Range) → ¬ (Overlap r s) → ranges_overlap r s ≡ false
-no_overlap r s h = elim (cases_Bool (ranges_overlap r s)) [
+no_overlap : (r s : CidrValue) → ¬ (Overlap r s) → cidrs_overlap r s ≡ false
+no_overlap r s h = elim (cases_Bool (cidrs_overlap r s)) [
   | inl met ↦
       let (front, second) = and_parts _ _ met in
       let (same, first) = and_parts _ _ front in
       absurd (h (record {
         same_family = one_family r.family s.family same;
-        first_reaches = ltb-true s.base (range_end r) first;
-        second_reaches = ltb-true r.base (range_end s) second;
+        first_reaches = ltb-true s.base (cidr_end r) first;
+        second_reaches = ltb-true r.base (cidr_end s) second;
       }))
   | inr apart ↦ apart
 ]
@@ -69,7 +74,7 @@ next_accepted there rest p h =
     let pair = h.names k (length there) d less (omega arith) in
     let differ : (get_or there k d).name ≢ p.name = rw (get_or-append there (p ∷ rest) d k less, get_or-append_seam there p rest d) at pair in
     other_name (get_or there k d).name p.name differ) in
-    let met : position (λ q. ranges_overlap q.cidr p.cidr) there ≡ None = none_at (λ q. ranges_overlap q.cidr p.cidr) there (λ k d less.
+    let met : position (λ q. cidrs_overlap q.cidr p.cidr) there ≡ None = none_at (λ q. cidrs_overlap q.cidr p.cidr) there (λ k d less.
     let pair = h.apart k (length there) d less (omega arith) in
     let apart : ¬ (Overlap (get_or there k d).cidr p.cidr) = rw (get_or-append there (p ∷ rest) d k less, get_or-append_seam there p rest d) at pair in
     no_overlap (get_or there k d).cidr p.cidr apart) in
@@ -87,13 +92,45 @@ small_size : (f : Family) (size : ℕ) → AllowsSize f size → size < 2 ^ 8
 small_size V4 size h = omega arith
 small_size V6 size h = omega arith
 
--- a table whose pools have names is sound
-pub IsSoundTable-standing : (pools : List Pool) → IsPoolTable pools → All (λ p. is_name_text p.name ≡ true) pools → IsSoundTable pools
-IsSoundTable-standing pools h named = record {
+-- sound pools that can be added one after the other to an empty table
+pub record IsSoundTable (pools : List Pool) : Type 0 where
+  pub each : AllByRecursion IsSoundPool pools
+  pub added : are_added [] pools ≡ true
+
+-- a table that stands is added pool by pool
+pub standing_table : (pools : List Pool) → IsPoolsRecord pools → IsSoundTable pools
+standing_table pools h = record {
   each = AllByRecursion-All IsSoundPool pools (λ k d less. record {
-    name = named k d less;
-    cidr = h.ranges k d less;
-    size = small_size _ _ (h.sizes k d less).allowed;
+    name = h.names k d less;
+    cidr = h.table.ranges k d less;
+    size = small_size _ _ (h.table.sizes k d less).allowed;
   });
-  added = standing_added [] pools h;
+  added = standing_added [] pools h.table;
+}
+
+none_is : (o : Option PoolRefusal) → is_none o ≡ true → o ≡ None
+none_is None h = refl
+none_is (Some refusal) h = absurd cc
+
+added_table : (there pools : List Pool) → IsPoolTable there → AllByRecursion IsSoundPool pools → are_added there pools ≡ true → IsPoolTable (there ++ pools)
+added_table there [] h each e = subst IsPoolTable (sym (append-nil there)) h
+added_table there (p ∷ pools) h each e =
+    let parts = and_parts (is_none (refusal_of there p)) (are_added (there ++ p ∷ []) pools) e in
+    let pushed = IsPoolTable-push there p h (each.0).cidr (none_is (refusal_of there p) parts.0) in
+    subst IsPoolTable (append_assoc there (p ∷ []) pools) (added_table (there ++ p ∷ []) pools pushed each.1 parts.1)
+
+empty_table : IsPoolTable []
+empty_table = record {
+  few = omega arith;
+  ranges = λ k d within. absurd (omega arith);
+  sizes = λ k d within. absurd (omega arith);
+  names = λ i j d before within. absurd (omega arith);
+  apart = λ i j d before within. absurd (omega arith);
+}
+
+-- a table that was added pool by pool stands
+pub added_stands : (pools : List Pool) → IsSoundTable pools → IsPoolsRecord pools
+added_stands pools h = record {
+  table = added_table [] pools empty_table h.each h.added;
+  names = λ k d within. (All-from_recursion IsSoundPool pools h.each k d within).name;
 }

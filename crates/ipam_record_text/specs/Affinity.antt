@@ -1,21 +1,22 @@
 -- The body of an affinity.
-use Rattle.std.specs.Prelude.{◌≡◌, ℕ, List, [], ◌∷◌, codes, true, Option, Some, option_and_then, Result}
+use Rattle.std.specs.Prelude.{ℕ, List, [], ◌∷◌, codes, IsTrue, Option, Some, option_and_then, Result}
 use Rattle.serde_json.specs.Data.{Data, string}
 use Rattle.serde_json.specs.Written.{compact_text}
-use Rattle.ipam_addr.specs.Text.{range_text}
-use Rattle.ipam_addr.specs.Word.{is_name_text}
+use Rattle.ipam_addr.specs.Text.{cidr_text_of}
+use Rattle.ipam_addr.specs.Names.{is_name_text}
 use Rattle.ipam_affinity.specs.State.{state_text, state_of}
 use Rattle.ipam_affinity.specs.declared.state.State.{State}
 use Rattle.ipam_affinity.specs.declared.record.Affinity.{Affinity}
 use Rattle.ipam_json.specs.Built.{object_of}
 use Rattle.ipam_record_text.specs.declared.fault.BodyFault.{BodyFault}
 use Rattle.ipam_record_text.specs.Reading.{◌>>=◌, text_at, reading}
-use Rattle.ipam_record_text.specs.Blocks.{block_at, name_at, IsSmallRange}
+use Rattle.ipam_block.specs.Sound.{IsBlockCidr}
+use Rattle.ipam_record_text.specs.Blocks.{block_at, name_at}
 
 -- the JSON of an affinity
 unfoldable pub affinity_data : Affinity → Data
 affinity_data a =
-    object_of ((codes "cidr", string (range_text a.cidr)) ∷ (codes "node", string a.node)
+    object_of ((codes "cidr", string (cidr_text_of a.cidr)) ∷ (codes "node", string a.node)
     ∷ (codes "state", string (state_text a.state)) ∷ [])
 
 -- the body of an affinity
@@ -23,9 +24,9 @@ unfoldable pub affinity_body : Affinity → List ℕ
 affinity_body a = compact_text (affinity_data a)
 
 -- the node has a name, and the CIDR is that of a block
-pub record IsSoundAffinity (a : Affinity) : Type 0 where
-  pub node : is_name_text a.node ≡ true
-  pub block : IsSmallRange a.cidr
+pub record IsAffinityRecord (a : Affinity) : Type 0 where
+  pub node : IsTrue (is_name_text a.node)
+  pub range : IsBlockCidr a.cidr
 
 -- the state whose name has this name
 abbrev pub state_at : List ℕ → Data → Option State

@@ -1,31 +1,27 @@
 -- The names and CIDRs that stand in bodies.
-use Rattle.std.specs.Prelude.{ℕ, ◌≤◌, List, nat_le, Option, Some, None, Result, Ok, Err, option_and_then}
+use Rattle.std.specs.Prelude.{ℕ, List, nat_le, Option, Some, None, Result, Ok, Err, option_and_then}
 use Rattle.serde_json.specs.Data.{Data}
-use Rattle.ipam_addr.specs.declared.range.AddrFault.{AddrFault}
-use Rattle.ipam_addr.specs.Shape.{Range}
-use Rattle.ipam_addr.specs.Text.{range_of}
-use Rattle.ipam_addr.specs.Width.{IsRange, range_size}
-use Rattle.ipam_addr.specs.Word.{is_name_text, is_handle_text}
+use Rattle.ipam_addr.specs.declared.cidrs.AddrFault.{AddrFault}
+use Rattle.ipam_addr.specs.Shape.{CidrValue}
+use Rattle.ipam_addr.specs.Text.{cidr_reading}
+use Rattle.ipam_addr.specs.Width.{cidr_size}
+use Rattle.ipam_addr.specs.Names.{is_name_text, is_handle_text}
+use Rattle.ipam_block.specs.declared.limits.TheConstants.{ADDRESSES_MAX}
 use Rattle.ipam_record_text.specs.Reading.{◌>>=◌, only_if, text_at}
 
--- a CIDR of at most 4,096 addresses
-pub record IsSmallRange (r : Range) : Type 0 where
-  pub range : IsRange r
-  pub few : range_size r ≤ 4096
-
-abbrev pub value_of : Result Range AddrFault → Option Range
+abbrev pub value_of : Result CidrValue AddrFault → Option CidrValue
 value_of (Ok r) = Some r
 value_of (Err fault) = None
 
 -- the CIDR that a text writes
-unfoldable pub cidr_of : List ℕ → Option Range
-cidr_of text = value_of (range_of text)
+unfoldable pub cidr_of : List ℕ → Option CidrValue
+cidr_of text = value_of (cidr_reading text)
 
--- the CIDR that a text writes, where it has at most 4,096 addresses
-unfoldable pub block_of : List ℕ → Option Range
+-- the CIDR that a text writes, where a block may have it
+unfoldable pub block_of : List ℕ → Option CidrValue
 block_of text = do
   r ← cidr_of text
-  only_if (nat_le (range_size r) 4096) r
+  only_if (nat_le (cidr_size r) ADDRESSES_MAX) r
 
 -- the text, where it is a name
 unfoldable pub name_of : List ℕ → Option (List ℕ)
@@ -36,11 +32,11 @@ unfoldable pub id_of : List ℕ → Option (List ℕ)
 id_of text = only_if (is_handle_text text) text
 
 -- the CIDR whose text has this name
-abbrev pub cidr_at : List ℕ → Data → Option Range
+abbrev pub cidr_at : List ℕ → Data → Option CidrValue
 cidr_at name d = option_and_then cidr_of (text_at name d)
 
--- the same, where it has at most 4,096 addresses
-abbrev pub block_at : List ℕ → Data → Option Range
+-- the same, where a block may have it
+abbrev pub block_at : List ℕ → Data → Option CidrValue
 block_at name d = option_and_then block_of (text_at name d)
 
 -- the name that has this name

@@ -19,8 +19,8 @@ unfoldable pub config_body : Config → List ℕ
 config_body c = compact_text (config_data c)
 
 -- the bound fits 32 bits
-pub record IsSoundConfig (c : Config) : Type 0 where
-  pub bound : c.max_blocks < 2 ^ 32
+abbrev pub IsConfigRecord : Config → Type 0
+IsConfigRecord c = c.max_blocks < 2 ^ 32
 
 -- the configuration that the JSON holds
 unfoldable pub config_in : Data → Option Config

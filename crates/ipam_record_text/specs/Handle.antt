@@ -1,43 +1,33 @@
 -- The body of a handle.
-use Rattle.std.specs.Prelude.{◌≡◌, ℕ, ◌<◌, ◌==◌, List, [], ◌∷◌, codes, true, length, nat_lt, Option, Some, Result}
-use Rattle.std.specs.List.{All}
+use Rattle.std.specs.Prelude.{◌≡◌, ℕ, ◌==◌, List, [], ◌∷◌, codes, length, nat_lt, Option, Some, Result}
 use Rattle.std.specs.BTreeMap.{insert_entry}
 use Rattle.serde_json.specs.Data.{Data, number, unsigned, string, object, put, Members, no_members, member}
 use Rattle.serde_json.specs.Written.{compact_text}
-use Rattle.ipam_addr.specs.Shape.{Range}
-use Rattle.ipam_addr.specs.Text.{range_text}
-use Rattle.ipam_addr.specs.Word.{is_handle_text}
-use Rattle.ipam_handle.specs.Content.{Content}
+use Rattle.ipam_addr.specs.Shape.{CidrValue}
+use Rattle.ipam_addr.specs.Text.{cidr_text_of}
+use Rattle.ipam_handle.specs.Shape.{HandleValue}
 use Rattle.ipam_handle.specs.Operations.{content, count_in}
-use Rattle.ipam_handle.specs.Order.{range_cmp}
-use Rattle.ipam_handle.specs.Sound.{AreCounts}
+use Rattle.ipam_handle.specs.Order.{cidr_cmp}
 use Rattle.ipam_json.specs.Built.{object_of}
 use Rattle.ipam_json.specs.Path.{as_whole}
 use Rattle.ipam_record_text.specs.declared.fault.BodyFault.{BodyFault}
 use Rattle.ipam_record_text.specs.Reading.{◌>>=◌, only_if, in_32_bits, members_at, reading}
-use Rattle.ipam_record_text.specs.Blocks.{block_of, id_at, IsSmallRange}
+use Rattle.ipam_record_text.specs.Blocks.{block_of, id_at}
 
 -- the members, and each block's text with its count at its place among them
-abbrev pub with_counts : Members → List (Range × ℕ) → Members
+abbrev pub with_counts : Members → List (CidrValue × ℕ) → Members
 with_counts ms [] = ms
-with_counts ms (c ∷ cs) = with_counts (put (range_text c.0) (number (unsigned c.1)) ms) cs
+with_counts ms (c ∷ cs) = with_counts (put (cidr_text_of c.0) (number (unsigned c.1)) ms) cs
 
 -- the JSON of a handle
-unfoldable pub handle_data : Content → Data
+unfoldable pub handle_data : HandleValue → Data
 handle_data h =
     object_of ((codes "block", object (with_counts no_members h.counts))
     ∷ (codes "handleID", string h.id) ∷ [])
 
 -- the body of a handle
-unfoldable pub handle_body : Content → List ℕ
+unfoldable pub handle_body : HandleValue → List ℕ
 handle_body h = compact_text (handle_data h)
-
--- the id is a handle's, and there is a count, each of a block of at most 4,096 addresses
-pub record IsSoundHandle (h : Content) : Type 0 where
-  pub id : is_handle_text h.id ≡ true
-  pub some : 0 < length h.counts
-  pub counts : AreCounts h.counts
-  pub blocks : All (λ c. IsSmallRange c.0) h.counts
 
 -- the count that the JSON is, from 1 to 4,294,967,295
 unfoldable pub count_of_json : Data → Option ℕ
@@ -47,18 +37,23 @@ count_of_json d = do
   only_if (nat_lt 0 n) n
 
 -- the block and the count that a member is
-unfoldable pub counted : List ℕ → Data → Option (Range × ℕ)
+unfoldable pub counted : List ℕ → Data → Option (CidrValue × ℕ)
 counted name d = do
   block ← block_of name
   n ← count_of_json d
   Some (block, n)
 
 -- the counts with this one, where the block has none
-unfoldable pub with_new : List (Range × ℕ) → Range → ℕ → Option (List (Range × ℕ))
-with_new counts block n = only_if (count_in counts block == 0) (insert_entry range_cmp counts block n)
+unfoldable pub with_new : List (CidrValue × ℕ) → CidrValue → ℕ → Option (List (CidrValue × ℕ))
+with_new counts block n = only_if (count_in counts block == 0) (insert_entry cidr_cmp counts block n)
+
+-- the new counts are the old ones with this one of a block that had none
+pub record AddsCount (old new : List (CidrValue × ℕ)) (block : CidrValue) (count : ℕ) : Type 0 where
+  pub counts : new ≡ insert_entry cidr_cmp old block count
+  pub absent : count_in old block ≡ 0
 
 -- the counts with those that the members are
-abbrev pub counts_after : List (Range × ℕ) → Members → Option (List (Range × ℕ))
+abbrev pub counts_after : List (CidrValue × ℕ) → Members → Option (List (CidrValue × ℕ))
 counts_after counts no_members = Some counts
 counts_after counts (member name d ms) = do
   c ← counted name d
@@ -66,11 +61,11 @@ counts_after counts (member name d ms) = do
   counts_after more ms
 
 -- the handle of these counts, where there are some
-unfoldable pub handle_of_counts : List ℕ → List (Range × ℕ) → Option Content
+unfoldable pub handle_of_counts : List ℕ → List (CidrValue × ℕ) → Option HandleValue
 handle_of_counts id counts = only_if (nat_lt 0 (length counts)) (content id counts)
 
 -- the handle that the JSON holds
-unfoldable pub handle_in : Data → Option Content
+unfoldable pub handle_in : Data → Option HandleValue
 handle_in d = do
   members ← members_at (codes "block") d
   id ← id_at (codes "handleID") d
@@ -78,5 +73,5 @@ handle_in d = do
   handle_of_counts id counts
 
 -- what is read of a handle's body
-unfoldable pub handle_reading : List ℕ → Result Content BodyFault
+unfoldable pub handle_reading : List ℕ → Result HandleValue BodyFault
 handle_reading body = reading handle_in handle_body body

@@ -1,13 +1,14 @@
 -- The body of a pool table.
-use Rattle.std.specs.Prelude.{◌≡◌, ℕ, ◌^◌, ◌<◌, List, [], ◌∷◌, ◌++◌, map, codes, Bool, true, false, ◌&&◌, is_none, nat_lt, Option, Some, None, Result, Ok, Err, if◌then◌else◌}
+use Rattle.std.specs.Prelude.{◌≡◌, ℕ, ◌^◌, ◌<◌, List, [], ◌∷◌, ◌++◌, map, codes, All, IsTrue, Bool, true, false, ◌&&◌, is_none, nat_lt, Option, Some, None, Result, Ok, Err, if◌then◌else◌}
 use Rattle.std.specs.List.{AllByRecursion}
 use Rattle.serde_json.specs.Data.{Data, boolean, number, unsigned, string, Items, no_items, item}
 use Rattle.serde_json.specs.Written.{compact_text}
-use Rattle.ipam_addr.specs.Text.{range_text}
-use Rattle.ipam_addr.specs.Width.{IsRange}
-use Rattle.ipam_addr.specs.Word.{is_name_text}
+use Rattle.ipam_addr.specs.Text.{cidr_text_of}
+use Rattle.ipam_addr.specs.Width.{IsCidr}
+use Rattle.ipam_addr.specs.Names.{is_name_text}
 use Rattle.ipam_json.specs.Built.{object_of, array_of}
 use Rattle.ipam_pool.specs.Changes.{refusal_of}
+use Rattle.ipam_pool.specs.Sound.{IsPoolTable}
 use Rattle.ipam_pool.specs.declared.pools.Pool.{Pool}
 use Rattle.ipam_pool.specs.declared.pools.PoolRefusal.{PoolRefusal}
 use Rattle.ipam_pool.specs.declared.pools.PoolRefusal.TheVariants.{Memory as OutOfMemory}
@@ -20,7 +21,7 @@ use Rattle.ipam_record_text.specs.Blocks.{cidr_at, name_at}
 unfoldable pub pool_data : Pool → Data
 pool_data p =
     object_of ((codes "blockSize", number (unsigned p.size))
-    ∷ (codes "cidr", string (range_text p.cidr))
+    ∷ (codes "cidr", string (cidr_text_of p.cidr))
     ∷ (codes "disabled", boolean p.disabled)
     ∷ (codes "name", string p.name) ∷ [])
 
@@ -35,7 +36,7 @@ pools_body pools = compact_text (pools_data pools)
 -- the pool has a name and a CIDR, and its size fits 8 bits
 pub record IsSoundPool (p : Pool) : Type 0 where
   pub name : is_name_text p.name ≡ true
-  pub cidr : IsRange p.cidr
+  pub cidr : IsCidr p.cidr
   pub size : p.size < 2 ^ 8
 
 -- none of the pools is refused when they are added one after the other behind those that are there
@@ -43,10 +44,10 @@ abbrev pub are_added : List Pool → List Pool → Bool
 are_added there [] = true
 are_added there (p ∷ pools) = is_none (refusal_of there p) && are_added (there ++ p ∷ []) pools
 
--- sound pools that can be added one after the other to an empty table
-pub record IsSoundTable (pools : List Pool) : Type 0 where
-  pub each : AllByRecursion IsSoundPool pools
-  pub added : are_added [] pools ≡ true
+-- a table whose pools have names
+pub record IsPoolsRecord (pools : List Pool) : Type 0 where
+  pub table : IsPoolTable pools
+  pub names : All (λ p. IsTrue (is_name_text p.name)) pools
 
 -- the body is that of sound pools of which one is refused by those before it
 pub record HasRefusedPool (body : List ℕ) : Type 0 where

@@ -1,17 +1,15 @@
 //! The names and CIDRs that stand in bodies.
 ghost use Rattle.std.specs.Prelude.{◌≡◌, ◌≤◌, ◌<◌, IfOk, IsTrue, ◌↔◌, option_map, string_bytes, nat_le};
 ghost use Rattle.serde_json.specs.View.{view};
-ghost use Rattle.ipam_addr.specs.Text.{range_text};
-ghost use Rattle.ipam_addr.specs.Width.{range_size};
+ghost use Rattle.ipam_addr.specs.Text.{cidr_text_of};
+ghost use Rattle.ipam_addr.specs.Width.{cidr_size};
 ghost use Rattle.ipam_record_text.specs.Blocks.{cidr_of, block_of, name_of, id_of, cidr_at, block_at, name_at, id_at};
 
 use crate::members::text_at;
 use ipam_addr::{Cidr, is_handle_id, is_name, push_cidr, read_cidr};
+use ipam_block::ADDRESSES_MAX;
 use serde_json::Value;
 use std::alloc::{AllocError, Global};
-
-/// The most bits behind the prefix of a block.
-const BLOCK_BITS_MAX: u8 = 12;
 
 /// The CIDR that the text writes.
 #[tactic(auto, unfolding(crate::specs::Blocks::cidr_of))]
@@ -24,7 +22,7 @@ pub(crate) fn cidr_of(text: &str) -> Option<Cidr>
     }
 }
 
-/// The CIDR that the text writes, where it has at most 4,096 addresses.
+/// The CIDR that the text writes, where a block may have it.
 #[tactic(auto, unfolding(crate::specs::Blocks::block_of))]
 pub(crate) fn block_of(text: &str) -> Option<Cidr>
     ensures { result ≡ block_of text.now }
@@ -34,9 +32,9 @@ pub(crate) fn block_of(text: &str) -> Option<Cidr>
 }
 
 fn is_small(cidr: Cidr) -> bool
-    ensures { result ≡ nat_le (range_size cidr) 4096 }
+    ensures { result ≡ nat_le (cidr_size cidr) ADDRESSES_MAX }
 {
-    cidr.family().width() - cidr.prefix() <= BLOCK_BITS_MAX
+    cidr.last().number - cidr.base().number < u128::from(ADDRESSES_MAX)
 }
 
 /// The text, where it is a name.
@@ -65,7 +63,7 @@ fn id_of(text: &str) -> Option<&str>
 
 /// The CIDR's text.
 pub(crate) fn cidr_text(alloc: Global, cidr: Cidr) -> Result<String, AllocError>
-    ensures { IfOk result (λ s. string_bytes s ≡ range_text cidr) }
+    ensures { IfOk result (λ s. string_bytes s ≡ cidr_text_of cidr) }
 {
     let mut text = String::new(alloc);
     push_cidr(alloc, &mut text, cidr)?;
@@ -80,7 +78,7 @@ pub(crate) fn cidr_at(value: &Value, name: &str) -> Option<Cidr>
     cidr_of(text)
 }
 
-/// The same, where it has at most 4,096 addresses.
+/// The same, where a block may have it.
 pub(crate) fn block_at(value: &Value, name: &str) -> Option<Cidr>
     ensures { result ≡ block_at name.now (view value.now) }
 {

@@ -1,19 +1,22 @@
-ghost use Rattle.std.specs.Prelude.{◌≡◌, ◌≢◌, [], Ok, Err, Some, IfOk, IfErr, IfSome, ◌<◌, option_and_then, string_bytes};
+ghost use Rattle.std.specs.Prelude.{◌≡◌, ◌≢◌, [], Ok, Err, Some, IfOk, IfErr, IfSome, ◌<◌, option_map, option_and_then, string_bytes};
+ghost use Rattle.std.specs.Bool.{OnTrue, OnFalse};
 ghost use Rattle.serde_json.specs.Data.{no_members};
 ghost use Rattle.serde_json.specs.View.{view, members_view};
-ghost use Rattle.ipam_handle.specs.Content.{Content};
-ghost use Rattle.ipam_handle.specs.Operations.{content};
+ghost use Rattle.ipam_handle.specs.Shape.{HandleValue};
+ghost use Rattle.ipam_handle.specs.Operations.{content, count_in};
+ghost use Rattle.ipam_handle.specs.Sound.{AreCounts, IsHandleRecord};
 ghost use Rattle.ipam_record_text.specs.Reading.{held};
-ghost use Rattle.ipam_record_text.specs.Handle.{handle_data, handle_body, with_counts, count_of_json, counted, counts_after, handle_of_counts, handle_in, handle_reading, IsSoundHandle};
+ghost use Rattle.ipam_record_text.specs.Handle.{handle_data, handle_body, with_counts, count_of_json, counted, AddsCount, counts_after, handle_of_counts, handle_in, handle_reading};
 
 use crate::blocks::{block_of, cidr_text, id_at};
 use crate::fault::BodyFault;
 use crate::members::{in_32_bits, json_of, members_at};
 use ipam_addr::Cidr;
 use ipam_handle::Handle;
-use ipam_text::Text;
+use ipam_text::{Seq, Text};
 use serde_json::{Map, Value, json, put};
 use std::alloc::{AllocError, Global};
+use std::collections::BTreeMap;
 
 /// The body of the handle.
 pub fn handle_text(alloc: Global, handle: &Handle) -> Result<String, AllocError>
@@ -50,9 +53,9 @@ pub fn handle_of(alloc: Global, body: &str) -> Result<Handle, BodyFault>
     ensures read { IfOk result (λ h. handle_reading body.now ≡ Ok h) }
     ensures refused { IfErr result (λ e. e ≢ BodyFault.Memory → handle_reading body.now ≡ Err e) }
     ensures body { IfOk result (λ h. body.now ≡ handle_body h) }
-    ensures sound { IfOk result (λ h. IsSoundHandle h) }
+    ensures sound { IfOk result (λ h. IsHandleRecord h) }
     ensures form { result ≡ Err BodyFault.Form
-        → (h : Content) → IsSoundHandle h → body.now ≢ handle_body h }
+        → (h : HandleValue) → IsHandleRecord h → body.now ≢ handle_body h }
 {
     match held_handle(alloc, body) {
         Ok(Some(handle)) => Ok(handle),
@@ -102,23 +105,57 @@ fn counted_handle(
     ensures { IfOk result (λ found. found ≡ option_and_then (handle_of_counts id)
         (counts_after [] (members_view members.now.entries))) }
 {
-    let mut handle = Handle::new(alloc, id);
+    let Some(counts) = counts_in(alloc, members)? else {
+        return Ok(None);
+    };
+    if counts.is_empty() {
+        return Ok(None);
+    }
+    let counts = listed(alloc, &counts)?;
+    Ok(Handle::of_counts(id, counts))
+}
+
+/// The counts that the members are. The texts of blocks stand in another order than the blocks.
+fn counts_in(
+    alloc: Global,
+    members: &Map<String, Value>,
+) -> Result<Option<BTreeMap<Cidr, u32>>, AllocError>
+    ensures counts { IfOk result (λ found. option_map (λ m. m.entries) found
+        ≡ counts_after [] (members_view members.now.entries)) }
+    ensures sound { IfOk result (λ found. IfSome found (λ m. AreCounts m.entries)) }
+{
+    let mut counts = BTreeMap::new(alloc);
     for (name, value) in members {
-        let Some((block, count)) = counted(name.as_str(), value) else {
+        let Some(entry) = counted(name.as_str(), value) else {
             return Ok(None);
         };
-        if handle.count(block) > 0 {
+        if !add(&mut counts, entry.0, entry.1)? {
             return Ok(None);
         }
-        if handle.raise(block, count).is_err() {
-            return Err(AllocError);
-        }
     }
-    if handle.is_empty() {
-        Ok(None)
-    } else {
-        Ok(Some(handle))
+    Ok(Some(counts))
+}
+
+/// Adds the block's count and answers `true`, or answers `false` where the block has one.
+fn add(counts: &mut BTreeMap<Cidr, u32>, block: Cidr, count: u32) -> Result<bool, AllocError>
+    requires { AreCounts counts.old.entries }
+    ensures added { IfOk result (λ new. OnTrue new (AddsCount counts.old.entries counts.new.entries block count)) }
+    ensures there { IfOk result (λ new. OnFalse new (0 < count_in counts.old.entries block)) }
+{
+    match counts.insert(block, count) {
+        Ok(old) => Ok(old.is_none()),
+        Err(_) => Err(AllocError),
     }
+}
+
+fn listed(alloc: Global, counts: &BTreeMap<Cidr, u32>) -> Result<Seq<(Cidr, u32)>, AllocError>
+    ensures { IfOk result (λ list. list ≡ counts.now.entries) }
+{
+    let mut list = Vec::new(alloc);
+    for (block, count) in counts {
+        list.push((*block, *count))?;
+    }
+    Ok(Seq::of(list))
 }
 
 /// The block and the count that a member is.

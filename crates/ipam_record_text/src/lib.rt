@@ -19,6 +19,3 @@ pub use handle::{handle_of, handle_text};
 pub use pools::{pools_of, pools_text};
 pub use reservations::{reservations_of, reservations_text};
 pub use std::alloc::AllocError as Memory;
-
-#[cfg(test)]
-mod tests;

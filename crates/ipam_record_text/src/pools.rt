@@ -1,7 +1,7 @@
 ghost use Rattle.std.specs.Prelude.{◌≡◌, ◌≢◌, [], Ok, Err, Some, IfOk, IfErr, List, map, option_map, string_bytes};
 ghost use Rattle.serde_json.specs.View.{view, items_view};
 ghost use Rattle.ipam_record_text.specs.Reading.{held};
-ghost use Rattle.ipam_record_text.specs.Pools.{pool_data, pools_data, pools_body, pool_in, pools_in, pools_after, size_at, table_of, refusal_fault, pools_reading, IsSoundPool, IsSoundTable, HasRefusedPool};
+ghost use Rattle.ipam_record_text.specs.Pools.{pool_data, pools_data, pools_body, pool_in, pools_in, pools_after, size_at, table_of, refusal_fault, pools_reading, IsSoundPool, IsPoolsRecord, HasRefusedPool};
 ghost use Rattle.ipam_pool.specs.declared.pools.Pool.{Pool as OnePool};
 ghost use Rattle.std.specs.List.{AllByRecursion};
 
@@ -68,7 +68,7 @@ pub fn pools_of(alloc: Global, body: &str) -> Result<PoolTable, BodyFault>
     ensures read { IfOk result (λ t. pools_reading body.now ≡ Ok t) }
     ensures refused { IfErr result (λ e. e ≢ BodyFault.Memory → pools_reading body.now ≡ Err e) }
     ensures body { IfOk result (λ t. body.now ≡ pools_body t) }
-    ensures sound { IfOk result (λ t. IsSoundTable t) }
+    ensures sound { IfOk result (λ t. IsPoolsRecord t) }
     ensures form { result ≡ Err BodyFault.Form
         → (pools : List OnePool) → AllByRecursion IsSoundPool pools → body.now ≢ pools_body pools }
     ensures table { result ≡ Err BodyFault.Table → HasRefusedPool body.now }

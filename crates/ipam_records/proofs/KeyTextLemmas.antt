@@ -6,32 +6,32 @@ use Rattle.std.proofs.lemmas.Option.{cond_some, none-some}
 use Rattle.std.proofs.lemmas.Slice.Eq.{bytes_eq-Decides}
 use Rattle.std.specs.Cmp.Lexicographic.{nat_list_eq_equiv}
 use Rattle.std.specs.List.{before_first, after_first, position, position_or_len}
-use Rattle.ipam_addr.specs.declared.range.AddrFault.{AddrFault}
-use Rattle.ipam_addr.specs.Shape.{Range}
-use Rattle.ipam_addr.specs.Width.{IsRange}
-use Rattle.ipam_addr.specs.Word.{is_name_text, is_handle_text}
+use Rattle.ipam_addr.specs.declared.cidrs.AddrFault.{AddrFault}
+use Rattle.ipam_addr.specs.Shape.{CidrValue}
+use Rattle.ipam_addr.specs.Width.{IsCidr}
+use Rattle.ipam_addr.specs.Names.{is_name_text, is_handle_text}
 use Rattle.ipam_addr.specs.Holding.{first_address}
-use Rattle.ipam_addr.specs.Text.{is_slash, address_text, range_of, range_text}
-use Rattle.ipam_addr.proofs.RangeTextLemmas.{range_of-range_text, spelled-range_of, range_of-no_slash}
+use Rattle.ipam_addr.specs.Text.{is_slash, address_text, cidr_reading, cidr_text_of}
+use Rattle.ipam_addr.proofs.CidrTextLemmas.{cidr_reading-cidr_text_of, spelled-cidr_reading, cidr_reading-no_slash}
 use Rattle.ipam_records.specs.declared.key.Key.{Key}
 use Rattle.ipam_records.specs.declared.key.Key.TheVariants.{Config, Pools, Reservations, Block, Affinity, Handle}
-use Rattle.ipam_records.specs.KeyText.{key_bytes, IsKey, IsTextOf, range_printed, range_read, block_read, affinity_of_parts, affinity_read, handle_read, behind, key_of_kind, key_read}
-use Rattle.ipam_records.proofs.SlashLemmas.{NoSlash-word, before_slash, after_slash, around_slash}
+use Rattle.ipam_records.specs.KeyText.{key_bytes, IsKey, IsTextOf, cidr_printed, cidr_read, block_read, affinity_of_parts, affinity_read, handle_read, behind, key_of_kind, key_read}
+use Rattle.ipam_addr.proofs.SlashLemmas.{NoSlash-name, before_slash, after_slash, around_slash}
 
 text_is : (xs ys : List ℕ) → bytes_eq xs ys ≡ true → xs ≡ ys
 text_is xs ys e = (bytes_eq-Decides xs ys).0 e
 
 -- ---- a CIDR in its printed spelling
-pub range_read-range_text : (r : Range) → IsRange r → range_read (range_text r) ≡ Some r
-range_read-range_text r h = rw (range_of-range_text r h, nat_list_eq_equiv.refl (range_text r)) refl
+pub cidr_read-cidr_text_of : (r : CidrValue) → IsCidr r → cidr_read (cidr_text_of r) ≡ Some r
+cidr_read-cidr_text_of r h = rw (cidr_reading-cidr_text_of r h, nat_list_eq_equiv.refl (cidr_text_of r)) refl
 
-pub range_text-range_read : (text : List ℕ) (r : Range) → range_read text ≡ Some r → IsRange r × (range_text r ≡ text)
-range_text-range_read text r e = from (range_of text) refl e
+pub cidr_text_of-cidr_read : (text : List ℕ) (r : CidrValue) → cidr_read text ≡ Some r → IsCidr r × (cidr_text_of r ≡ text)
+cidr_text_of-cidr_read text r e = from (cidr_reading text) refl e
   where
-    from : (o : Result Range AddrFault) → range_of text ≡ o → range_printed text o ≡ Some r → IsRange r × (range_text r ≡ text)
+    from : (o : Result CidrValue AddrFault) → cidr_reading text ≡ o → cidr_printed text o ≡ Some r → IsCidr r × (cidr_text_of r ≡ text)
     from (Ok s) read found =
-        let (test, same) = cond_some (bytes_eq (range_text s) text) s r found in
-        (subst (λ (x : Range). IsRange x) same (spelled-range_of text s read).sound, ap range_text (sym same) ∙ text_is (range_text s) text test)
+        let (test, same) = cond_some (bytes_eq (cidr_text_of s) text) s r found in
+        (subst (λ (x : CidrValue). IsCidr x) same (spelled-cidr_reading text s read).sound, ap cidr_text_of (sym same) ∙ text_is (cidr_text_of s) text test)
     from (Err fault) read found = cc
 
 -- ---- what stands behind a beginning
@@ -70,18 +70,18 @@ key_read-kind text a b c = rw (a, b, c) refl
 
 pub affinity_read-parts : (node block : List ℕ) → is_name_text node ≡ true → affinity_read (node ++ (codes "/" ++ block)) ≡ affinity_of_parts node block
 affinity_read-parts node block name =
-    let none = NoSlash-word 253 node name in
+    let none = NoSlash-name 253 node name in
     rw (before_slash node block none, after_slash node block none) refl
 
 pub key_read-key_bytes : (key : Key) → IsKey key → key_read (key_bytes key) ≡ Some key
 key_read-key_bytes Config h = key_read-config
 key_read-key_bytes Pools h = key_read-pools
 key_read-key_bytes Reservations h = key_read-reservations
-key_read-key_bytes (Block cidr) h = key_read-block (range_text cidr) ∙ ap (option_map Block) (range_read-range_text cidr h)
+key_read-key_bytes (Block cidr) h = key_read-block (cidr_text_of cidr) ∙ ap (option_map Block) (cidr_read-cidr_text_of cidr h)
 key_read-key_bytes (Affinity node cidr) h =
-    key_read-affinity (node ++ (codes "/" ++ range_text cidr))
-    ∙ (affinity_read-parts node (range_text cidr) h.0
-    ∙ (rw (h.0, range_read-range_text cidr h.1) refl))
+    key_read-affinity (node ++ (codes "/" ++ cidr_text_of cidr))
+    ∙ (affinity_read-parts node (cidr_text_of cidr) h.0
+    ∙ (rw (h.0, cidr_read-cidr_text_of cidr h.1) refl))
 key_read-key_bytes (Handle id) h = key_read-handle id ∙ (rw h refl)
 
 -- sound keys have texts of their own
@@ -96,29 +96,29 @@ exactly text one key sound spelled e =
     let same : one ≡ key = cc in
     subst (λ (k : Key). IsTextOf text k) same (record { sound = sound; spelled = sym spelled })
 
-range_text_some : (r : Range) → 0 < length (range_text r)
-unfolding range_text
-range_text_some r = omega (arith, length-append (address_text (first_address r) ++ codes "/") (decimal r.prefix), length-append (address_text (first_address r)) (codes "/"))
+cidr_text_some : (r : CidrValue) → 0 < length (cidr_text_of r)
+unfolding cidr_text_of
+cidr_text_some r = omega (arith, length-append (address_text (first_address r) ++ codes "/") (decimal r.prefix), length-append (address_text (first_address r)) (codes "/"))
 
 block_text : (text rest : List ℕ) (key : Key) → text ≡ codes "block/" ++ rest → block_read rest ≡ Some key → IsTextOf text key
-block_text text rest key split e = from (range_read rest) refl e
+block_text text rest key split e = from (cidr_read rest) refl e
   where
-    from : (o : Option Range) → range_read rest ≡ o → option_map Block o ≡ Some key → IsTextOf text key
+    from : (o : Option CidrValue) → cidr_read rest ≡ o → option_map Block o ≡ Some key → IsTextOf text key
     from (Some r) read found =
-        let (sound, printed) = range_text-range_read rest r read in
+        let (sound, printed) = cidr_text_of-cidr_read rest r read in
         exactly text (Block r) key sound (split ∙ ap (λ t. codes "block/" ++ t) (sym printed)) found
     from None read found = cc
 
 affinity_text : (text rest : List ℕ) (key : Key) → text ≡ codes "affinity/" ++ rest → affinity_read rest ≡ Some key → IsTextOf text key
 affinity_text text rest key split e = elim (cases_Bool (is_name_text (before_first is_slash rest))) [
-  | inl name ↦ let k = rw name at e in from name (range_read (after_first is_slash rest)) refl k
+  | inl name ↦ let k = rw name at e in from name (cidr_read (after_first is_slash rest)) refl k
   | inr no_name ↦ let k = rw no_name at e in cc
 ]
   where
-    from : is_name_text (before_first is_slash rest) ≡ true → (o : Option Range) → range_read (after_first is_slash rest) ≡ o → option_map (Affinity (before_first is_slash rest)) o ≡ Some key → IsTextOf text key
+    from : is_name_text (before_first is_slash rest) ≡ true → (o : Option CidrValue) → cidr_read (after_first is_slash rest) ≡ o → option_map (Affinity (before_first is_slash rest)) o ≡ Some key → IsTextOf text key
     from name (Some r) read found =
-        let (sound, printed) = range_text-range_read (after_first is_slash rest) r read in
-        let some : 0 < length (after_first is_slash rest) = omega (arith, range_text_some r, ap length printed) in
+        let (sound, printed) = cidr_text_of-cidr_read (after_first is_slash rest) r read in
+        let some : 0 < length (after_first is_slash rest) = omega (arith, cidr_text_some r, ap length printed) in
         let whole = around_slash rest some in
         exactly text (Affinity (before_first is_slash rest) r) key (name, sound)
         (split ∙ ap (λ t. codes "affinity/" ++ t) (whole ∙ ap (λ t. before_first is_slash rest ++ 47 ∷ t) (sym printed))) found
@@ -168,12 +168,12 @@ affinity_read-at text i e =
     let (within, same) = cond_some (nat_lt (position_or_len is_slash text) (length text)) (position_or_len is_slash text) i e in
     rw same refl
 
-range_read-empty : range_read [] ≡ None
-range_read-empty = rw (range_of-no_slash [] refl) refl
+cidr_read-empty : cidr_read [] ≡ None
+cidr_read-empty = rw (cidr_reading-no_slash [] refl) refl
 
 affinity_of_no_block : (node block : List ℕ) → block ≡ [] → affinity_of_parts node block ≡ None
 affinity_of_no_block node block none =
-    let empty : range_read block ≡ None = ap range_read none ∙ range_read-empty in
+    let empty : cidr_read block ≡ None = ap cidr_read none ∙ cidr_read-empty in
     elim (cases_Bool (is_name_text node)) [
       | inl name ↦ rw (name, empty) refl
       | inr no_name ↦ rw no_name refl

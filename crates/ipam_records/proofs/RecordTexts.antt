@@ -2,8 +2,8 @@
 use Rattle.std.proofs.Common.{◌≡◌, ◌≢◌, ℕ, Bool, true, false, List, Option, Some, None, Result, Ok, Err, bytes_eq, cond, inl, inr, refl, sym, ap, ◌∙◌, subst, arith}
 use Rattle.std.specs.Option.{ok_or}
 use Rattle.std.proofs.lemmas.Slice.Eq.{bytes_eq-Decides}
-use Rattle.ipam_addr.specs.Shape.{Range}
-use Rattle.ipam_block.specs.Content as block
+use Rattle.ipam_addr.specs.Shape.{CidrValue}
+use Rattle.ipam_block.specs.Shape as block
 use Rattle.ipam_block_text.specs.declared.fault.BodyFault as block_fault
 use Rattle.ipam_block_text.specs.declared.fault.BodyFault.TheVariants as in_block
 use Rattle.ipam_block_text.specs.Reading.{block_reading, cidr_said}
@@ -34,7 +34,6 @@ use Rattle.ipam_records.specs.Body.{body_of}
 use Rattle.ipam_records.specs.RecordReading.{unsound_fault, if_key, keyed, keyed_block, reading_of_kind, reading_at, record_reading, SaysAnotherKey, SaysBlock}
 use Rattle.ipam_records.specs.Sound.{IsRecord}
 use Rattle.ipam_records.proofs.KeyTextLemmas.{key_read-key_bytes}
-use Rattle.ipam_records.proofs.SoundTexts.{config_sound, pools_sound, reservations_sound, block_sound, affinity_sound, handle_sound}
 
 text_is : (xs ys : List ℕ) → bytes_eq xs ys ≡ true → xs ≡ ys
 text_is xs ys e = (bytes_eq-Decides xs ys).0 e
@@ -55,17 +54,17 @@ IsKey-key_of (Handle handle) h = h.id
 
 -- a sound record's body is read as the record, by each key of its kind
 pub reading_of_body : (named : Key) (r : Record) (key : List ℕ) → IsRecord r → key_rank (key_of r) ≡ key_rank named → reading_of_kind named key (body_of r) ≡ if_key key r
-reading_of_body key_of_kind.Config (Config config) key h e = ap (keyed Config key) (config_reads_back config ((config_sound config).0 h))
+reading_of_body key_of_kind.Config (Config config) key h e = ap (keyed Config key) (config_reads_back config h)
 reading_of_body key_of_kind.Config _ key h e = absurd (omega arith)
-reading_of_body key_of_kind.Pools (Pools pools) key h e = ap (keyed Pools key) (pools_reads_back pools ((pools_sound pools).0 h))
+reading_of_body key_of_kind.Pools (Pools pools) key h e = ap (keyed Pools key) (pools_reads_back pools h)
 reading_of_body key_of_kind.Pools _ key h e = absurd (omega arith)
-reading_of_body key_of_kind.Reservations (Reservations list) key h e = ap (keyed Reservations key) (reservations_reads_back list ((reservations_sound list).0 h))
+reading_of_body key_of_kind.Reservations (Reservations list) key h e = ap (keyed Reservations key) (reservations_reads_back list h)
 reading_of_body key_of_kind.Reservations _ key h e = absurd (omega arith)
-reading_of_body (key_of_kind.Block cidr) (Block b) key h e = ap (keyed_block key) (sound_block_read b ((block_sound b).0 h))
+reading_of_body (key_of_kind.Block cidr) (Block b) key h e = ap (keyed_block key) (sound_block_read b h)
 reading_of_body (key_of_kind.Block cidr) _ key h e = absurd (omega arith)
-reading_of_body (key_of_kind.Affinity node cidr) (Affinity affinity) key h e = ap (keyed Affinity key) (affinity_reads_back affinity ((affinity_sound affinity).0 h))
+reading_of_body (key_of_kind.Affinity node cidr) (Affinity affinity) key h e = ap (keyed Affinity key) (affinity_reads_back affinity h)
 reading_of_body (key_of_kind.Affinity node cidr) _ key h e = absurd (omega arith)
-reading_of_body (key_of_kind.Handle id) (Handle handle) key h e = ap (keyed Handle key) (handle_reads_back handle ((handle_sound handle).0 h))
+reading_of_body (key_of_kind.Handle id) (Handle handle) key h e = ap (keyed Handle key) (handle_reads_back handle h)
 reading_of_body (key_of_kind.Handle id) _ key h e = absurd (omega arith)
 
 if_key_own : (r : Record) → if_key (key_bytes (key_of r)) r ≡ Ok r
@@ -112,27 +111,27 @@ keyed-ok : {A : Type 0} (make : A → Record) (key body : List ℕ) (o : Result 
 keyed-ok make key body (Ok v) r sound e = let is = sound v refl in has_texts key body (make v) r is.0 is.1 e
 keyed-ok make key body (Err f) r sound e = absurd cc
 
-block-ok : (key body : List ℕ) (o : Result block.Content block_fault.BodyFault) (r : Record) → ((v : block.Content) → o ≡ Ok v → IsRecord (Block v) × (body ≡ body_of (Block v))) → keyed_block key o ≡ Ok r → HasTexts key body r
+block-ok : (key body : List ℕ) (o : Result block.BlockValue block_fault.BodyFault) (r : Record) → ((v : block.BlockValue) → o ≡ Ok v → IsRecord (Block v) × (body ≡ body_of (Block v))) → keyed_block key o ≡ Ok r → HasTexts key body r
 block-ok key body (Ok v) r sound e = let is = sound v refl in has_texts key body (Block v) r is.0 is.1 e
 block-ok key body (Err f) r sound e = absurd cc
 
 config_found : (body : List ℕ) (v : _) → config_reading body ≡ Ok v → IsRecord (Config v) × (body ≡ body_of (Config v))
-config_found body v e = let is = config_read body v e in ((config_sound v).1 is.1, is.0)
+config_found body v e = let is = config_read body v e in (is.1, is.0)
 
 pools_found : (body : List ℕ) (v : _) → pools_reading body ≡ Ok v → IsRecord (Pools v) × (body ≡ body_of (Pools v))
-pools_found body v e = let is = pools_read body v e in ((pools_sound v).1 is.1, is.0)
+pools_found body v e = let is = pools_read body v e in (is.1, is.0)
 
 reservations_found : (body : List ℕ) (v : _) → reservations_reading body ≡ Ok v → IsRecord (Reservations v) × (body ≡ body_of (Reservations v))
-reservations_found body v e = let is = reservations_read body v e in ((reservations_sound v).1 is.1, is.0)
+reservations_found body v e = let is = reservations_read body v e in (is.1, is.0)
 
 block_found : (body : List ℕ) (v : _) → block_reading body ≡ Ok v → IsRecord (Block v) × (body ≡ body_of (Block v))
-block_found body v e = let is = block_reading-ok body v e in ((block_sound v).1 is.1, is.0)
+block_found body v e = let is = block_reading-ok body v e in (is.1, is.0)
 
 affinity_found : (body : List ℕ) (v : _) → affinity_reading body ≡ Ok v → IsRecord (Affinity v) × (body ≡ body_of (Affinity v))
-affinity_found body v e = let is = affinity_read body v e in ((affinity_sound v).1 is.1, is.0)
+affinity_found body v e = let is = affinity_read body v e in (is.1, is.0)
 
 handle_found : (body : List ℕ) (v : _) → handle_reading body ≡ Ok v → IsRecord (Handle v) × (body ≡ body_of (Handle v))
-handle_found body v e = let is = handle_read body v e in ((handle_sound v).1 is.1, is.0)
+handle_found body v e = let is = handle_read body v e in (is.1, is.0)
 
 kind_read : (named : Key) (key body : List ℕ) (r : Record) → reading_of_kind named key body ≡ Ok r → HasTexts key body r
 kind_read key_of_kind.Config key body r e = keyed-ok Config key body (config_reading body) r (config_found body) e
@@ -204,14 +203,14 @@ keyed_told make key body (Err in_body.Form) e sound table k = subst (Told key bo
 keyed_told make key body (Err in_body.Table) e sound table k = subst (Told key body) (fault_same fault.Table e k) (table refl)
 keyed_told make key body (Err in_body.Memory) e sound table k = subst (Told key body) (fault_same fault.Memory e k) tt
 
-unsound_told : (key body : List ℕ) (cidr : Range) → cidr_said body ≡ Some cidr → Told key body (unsound_fault key cidr)
+unsound_told : (key body : List ℕ) (cidr : CidrValue) → cidr_said body ≡ Some cidr → Told key body (unsound_fault key cidr)
 unsound_told key body cidr said = go (bytes_eq (key_bytes (key_of_kind.Block cidr)) key) refl
   where
     go : (t : Bool) → bytes_eq (key_bytes (key_of_kind.Block cidr)) key ≡ t → Told key body (cond t fault.Unsound fault.Key)
     go true test = record { cidr = cidr; said = said; own = text_is _ _ test }
     go false test = record { own = key_of_kind.Block cidr; said = inr (cidr, said, refl); other = differs _ _ test }
 
-block_told : (key body : List ℕ) (o : Result block.Content block_fault.BodyFault) (e : TextFault) → block_reading body ≡ o → keyed_block key o ≡ Err e → Told key body e
+block_told : (key body : List ℕ) (o : Result block.BlockValue block_fault.BodyFault) (e : TextFault) → block_reading body ≡ o → keyed_block key o ≡ Err e → Told key body e
 block_told key body (Ok v) e is k = let found = block_found body v is in told_key key body (Block v) e found.0 found.1 k
 block_told key body (Err in_block.Form) e is k = subst (Told key body) (fault_same fault.Form e k) tt
 block_told key body (Err (in_block.Unsound cidr)) e is k = subst (Told key body) (fault_same (unsound_fault key cidr) e k) (unsound_told key body cidr (unsound_said body cidr is))

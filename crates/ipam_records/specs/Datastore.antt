@@ -1,5 +1,5 @@
 -- The datastore: what it answers to a call, and what a write makes of it.
-use Rattle.std.specs.Prelude.{ℕ, ◌+◌, ◌^◌, Bool, not, ◌&&◌, ◌||◌, ◌==◌, nat_lt, List, [], ◌∷◌, length, filter, find, Option, Some, None, if◌then◌else◌}
+use Rattle.std.specs.Prelude.{ℕ, ◌+◌, Bool, not, ◌&&◌, ◌||◌, ◌==◌, nat_lt, List, [], ◌∷◌, length, filter, find, Option, Some, None, if◌then◌else◌}
 use Rattle.std.specs.declared.cmp.Ordering.{Ordering}
 use Rattle.std.specs.declared.cmp.Ordering.TheVariants.{Less, Equal, Greater}
 use Rattle.ipam_records.specs.declared.key.Key.{Key}
@@ -10,6 +10,7 @@ use Rattle.ipam_records.specs.declared.call.Call.{Call}
 use Rattle.ipam_records.specs.declared.call.Call.TheVariants.{Get, List as ListAll, Create, Update, Delete}
 use Rattle.ipam_records.specs.declared.call.Write.{Write}
 use Rattle.ipam_records.specs.declared.call.Write.TheVariants.{Put, Remove}
+use Rattle.ipam_records.specs.declared.limits.TheConstants.{MOST_ROWS, MOST_BLOCKS, LAST_REVISION}
 use Rattle.ipam_records.specs.Key.{key_of}
 use Rattle.ipam_records.specs.KeyOrder.{key_cmp, keys_equal, is_of_kind}
 use Rattle.ipam_records.specs.Said.{Said, Found, Missing, Listed, Can, Exists, Conflict, Full, Spent}
@@ -22,13 +23,13 @@ pub record Datastore : Type 0 where
 
 -- how many rows there may be, how many of them blocks, and which revision is the last
 abbrev pub most_rows : ℕ
-most_rows = 262144
+most_rows = MOST_ROWS
 
 abbrev pub most_blocks : ℕ
-most_blocks = 16384
+most_blocks = MOST_BLOCKS
 
 abbrev pub last_revision : ℕ
-last_revision = 2 ^ 62
+last_revision = LAST_REVISION
 
 abbrev pub row_key : ℕ × Record → Key
 row_key row = key_of row.1

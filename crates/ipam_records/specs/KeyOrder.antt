@@ -4,8 +4,8 @@ use Rattle.std.specs.declared.cmp.Ordering.{Ordering}
 use Rattle.std.specs.Ordering.{nat_cmp, ordering_then, eq_by_cmp}
 use Rattle.std.specs.Option.{option_cmp}
 use Rattle.std.specs.Cmp.Lexicographic.{slice_cmp}
-use Rattle.ipam_addr.specs.Shape.{Range}
-use Rattle.ipam_handle.specs.Order.{range_cmp}
+use Rattle.ipam_addr.specs.Shape.{CidrValue}
+use Rattle.ipam_handle.specs.Order.{cidr_cmp}
 use Rattle.ipam_records.specs.declared.key.Key.{Key}
 use Rattle.ipam_records.specs.declared.key.Key.TheVariants.{Config, Pools, Reservations, Block, Affinity, Handle}
 use Rattle.ipam_records.specs.declared.key.Kind.{Kind}
@@ -30,7 +30,7 @@ key_name (Affinity node cidr) = node
 key_name (Handle id) = id
 
 -- the block in a key
-abbrev pub key_block : Key → Option Range
+abbrev pub key_block : Key → Option CidrValue
 key_block Config = None
 key_block Pools = None
 key_block Reservations = None
@@ -42,7 +42,7 @@ key_block (Handle id) = None
 abbrev pub key_cmp : Key → Key → Ordering
 key_cmp k l =
     ordering_then (nat_cmp (key_rank k) (key_rank l))
-    (ordering_then (slice_cmp nat_cmp (key_name k) (key_name l)) (option_cmp range_cmp (key_block k) (key_block l)))
+    (ordering_then (slice_cmp nat_cmp (key_name k) (key_name l)) (option_cmp cidr_cmp (key_block k) (key_block l)))
 
 abbrev pub keys_equal : Key → Key → Bool
 keys_equal k l = eq_by_cmp key_cmp k l

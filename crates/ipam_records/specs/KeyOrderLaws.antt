@@ -11,21 +11,21 @@ use Rattle.std.specs.Cmp.Lexicographic.{slice_cmp, nat_list_cmp_total, options_t
 use Rattle.std.proofs.lemmas.Slice.Eq.{bytes_eq-Decides}
 use Rattle.ipam_addr.specs.declared.address.Family.{Family}
 use Rattle.ipam_addr.specs.declared.address.Family.TheVariants.{V4, V6}
-use Rattle.ipam_addr.specs.Shape.{Range}
-use Rattle.ipam_handle.specs.Order.{family_rank, range_cmp}
+use Rattle.ipam_addr.specs.Shape.{CidrValue}
+use Rattle.ipam_handle.specs.Order.{family_rank, cidr_cmp}
 use Rattle.ipam_records.specs.declared.key.Key.{Key}
 use Rattle.ipam_records.specs.declared.key.Key.TheVariants.{Config, Pools, Reservations, Block, Affinity, Handle}
 use Rattle.ipam_records.specs.KeyOrder.{key_rank, key_name, key_block, key_cmp, keys_equal}
 
-pub range_cmp_total : IsTotalOrder range_cmp
-range_cmp_total =
-    then_total (on_total (λ (r : Range). family_rank r.family) nat_cmp_total)
-    (then_total (on_total (λ (r : Range). r.base) nat_cmp_total) (on_total (λ (r : Range). r.prefix) nat_cmp_total))
+pub cidr_cmp_total : IsTotalOrder cidr_cmp
+cidr_cmp_total =
+    then_total (on_total (λ (r : CidrValue). family_rank r.family) nat_cmp_total)
+    (then_total (on_total (λ (r : CidrValue). r.base) nat_cmp_total) (on_total (λ (r : CidrValue). r.prefix) nat_cmp_total))
 
 pub key_cmp_total : IsTotalOrder key_cmp
 key_cmp_total =
     then_total (on_total key_rank nat_cmp_total)
-    (then_total (on_total key_name nat_list_cmp_total) (on_total key_block (options_total range_cmp_total)))
+    (then_total (on_total key_name nat_list_cmp_total) (on_total key_block (options_total cidr_cmp_total)))
 
 pub keys_equal_equiv : IsEquivalence keys_equal
 keys_equal_equiv = eq_by_cmp_equiv key_cmp_total
@@ -48,8 +48,8 @@ families_same V4 V6 e = absurd (omega arith)
 families_same V6 V4 e = absurd (omega arith)
 families_same V6 V6 e = refl
 
-ranges_same : (r s : Range) → range_cmp r s ≡ Equal → r ≡ s
-ranges_same r s e =
+cidrs_same : (r s : CidrValue) → cidr_cmp r s ≡ Equal → r ≡ s
+cidrs_same r s e =
     let (families, rest) = then_equal (nat_cmp (family_rank r.family) (family_rank s.family)) _ e in
     let (bases, prefixes) = then_equal (nat_cmp r.base s.base) _ rest in
     let family = families_same r.family s.family (numbers_same _ _ families) in
@@ -57,14 +57,14 @@ ranges_same r s e =
     let prefix = numbers_same _ _ prefixes in
     λ i. record { family = family i; base = base i; prefix = prefix i }
 
-blocks_same : (o p : Option Range) → option_cmp range_cmp o p ≡ Equal → o ≡ p
+blocks_same : (o p : Option CidrValue) → option_cmp cidr_cmp o p ≡ Equal → o ≡ p
 blocks_same None None e = refl
 blocks_same None (Some s) e = cc
 blocks_same (Some r) None e = cc
-blocks_same (Some r) (Some s) e = ap Some (ranges_same r s e)
+blocks_same (Some r) (Some s) e = ap Some (cidrs_same r s e)
 
 -- the key of this rank, name and block
-abbrev key_from : ℕ → List ℕ → Option Range → Key
+abbrev key_from : ℕ → List ℕ → Option CidrValue → Key
 key_from zero name block = Config
 key_from (suc zero) name block = Pools
 key_from (suc (suc zero)) name block = Reservations

@@ -1,11 +1,11 @@
 -- The texts of keys.
 use Rattle.std.specs.Prelude.{◌≡◌, ℕ, List, ◌++◌, length, take, drop, codes, bytes_eq, Option, Some, None, option_map, Result, Ok, Err, IsTrue, if◌then◌else◌}
 use Rattle.std.specs.List.{before_first, after_first}
-use Rattle.ipam_addr.specs.declared.range.AddrFault.{AddrFault}
-use Rattle.ipam_addr.specs.Shape.{Range}
-use Rattle.ipam_addr.specs.Width.{IsRange}
-use Rattle.ipam_addr.specs.Word.{is_name_text, is_handle_text}
-use Rattle.ipam_addr.specs.Text.{is_slash, range_of, range_text}
+use Rattle.ipam_addr.specs.declared.cidrs.AddrFault.{AddrFault}
+use Rattle.ipam_addr.specs.Shape.{CidrValue}
+use Rattle.ipam_addr.specs.Width.{IsCidr}
+use Rattle.ipam_addr.specs.Names.{is_name_text, is_handle_text}
+use Rattle.ipam_addr.specs.Text.{is_slash, cidr_reading, cidr_text_of}
 use Rattle.ipam_records.specs.declared.key.Key.{Key}
 use Rattle.ipam_records.specs.declared.key.Key.TheVariants.{Config, Pools, Reservations, Block, Affinity, Handle}
 
@@ -14,8 +14,8 @@ abbrev pub key_bytes : Key → List ℕ
 key_bytes Config = codes "config"
 key_bytes Pools = codes "pools"
 key_bytes Reservations = codes "reservations"
-key_bytes (Block cidr) = codes "block/" ++ range_text cidr
-key_bytes (Affinity node cidr) = codes "affinity/" ++ (node ++ (codes "/" ++ range_text cidr))
+key_bytes (Block cidr) = codes "block/" ++ cidr_text_of cidr
+key_bytes (Affinity node cidr) = codes "affinity/" ++ (node ++ (codes "/" ++ cidr_text_of cidr))
 key_bytes (Handle id) = codes "handle/" ++ id
 
 -- the node is a name, the id a handle's, and the block a CIDR
@@ -23,8 +23,8 @@ abbrev pub IsKey : Key → Type 0
 IsKey Config = Unit {0}
 IsKey Pools = Unit {0}
 IsKey Reservations = Unit {0}
-IsKey (Block cidr) = IsRange cidr
-IsKey (Affinity node cidr) = IsTrue (is_name_text node) × IsRange cidr
+IsKey (Block cidr) = IsCidr cidr
+IsKey (Affinity node cidr) = IsTrue (is_name_text node) × IsCidr cidr
 IsKey (Handle id) = IsTrue (is_handle_text id)
 
 -- the text is the key's, and the key's parts are sound
@@ -33,20 +33,20 @@ pub record IsTextOf (text : List ℕ) (key : Key) : Type 0 where
   pub spelled : key_bytes key ≡ text
 
 -- the CIDR, where the text is what is printed of it
-abbrev pub range_printed : List ℕ → Result Range AddrFault → Option Range
-range_printed text (Ok cidr) = if bytes_eq (range_text cidr) text then Some cidr else None
-range_printed text (Err fault) = None
+abbrev pub cidr_printed : List ℕ → Result CidrValue AddrFault → Option CidrValue
+cidr_printed text (Ok cidr) = if bytes_eq (cidr_text_of cidr) text then Some cidr else None
+cidr_printed text (Err fault) = None
 
-abbrev pub range_read : List ℕ → Option Range
-range_read text = range_printed text (range_of text)
+abbrev pub cidr_read : List ℕ → Option CidrValue
+cidr_read text = cidr_printed text (cidr_reading text)
 
 -- the key of a block, of an affinity and of a handle, from what stands behind the kind
 abbrev pub block_read : List ℕ → Option Key
-block_read text = option_map Block (range_read text)
+block_read text = option_map Block (cidr_read text)
 
 abbrev pub affinity_of_parts : List ℕ → List ℕ → Option Key
 affinity_of_parts node block =
-    if is_name_text node then option_map (Affinity node) (range_read block) else None
+    if is_name_text node then option_map (Affinity node) (cidr_read block) else None
 
 abbrev pub affinity_read : List ℕ → Option Key
 affinity_read text = affinity_of_parts (before_first is_slash text) (after_first is_slash text)

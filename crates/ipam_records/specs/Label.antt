@@ -1,11 +1,11 @@
 -- Where a procedure stands before a call.
 use Rattle.std.specs.Prelude.{ℕ, List, Option, Some, None}
-use Rattle.ipam_addr.specs.Shape.{Range}
+use Rattle.ipam_addr.specs.Shape.{CidrValue}
 
 -- how many addresses of a block a handle's count is ahead by, on account of the procedure
 pub record Credit : Type 0 where
   pub handle : List ℕ
-  pub block : Range
+  pub block : CidrValue
   pub amount : ℕ
 
 -- A node's claim of a block, or its release, between two of its writes, with the revisions that the
@@ -14,13 +14,13 @@ pub data Point : Type 0 where
   -- in neither
   Nowhere : Point
   -- the affinity was read or written, and the block is to be
-  Claiming : (node : List ℕ) (block : Range) (block_read : Option ℕ) (affinity : ℕ) → Point
+  Claiming : (node : List ℕ) (block : CidrValue) (block_read : Option ℕ) (affinity : ℕ) → Point
   -- the block was written, and the affinity is to be confirmed
-  Claimed : (node : List ℕ) (block : Range) (affinity : ℕ) → Point
+  Claimed : (node : List ℕ) (block : CidrValue) (affinity : ℕ) → Point
   -- the affinity was marked, and the block is to be written
-  Releasing : (node : List ℕ) (block : Range) (block_read : Option ℕ) (mark : ℕ) → Point
+  Releasing : (node : List ℕ) (block : CidrValue) (block_read : Option ℕ) (mark : ℕ) → Point
   -- the block was written, and the affinity is to be deleted
-  Released : (node : List ℕ) (block : Range) (mark : ℕ) → Point
+  Released : (node : List ℕ) (block : CidrValue) (mark : ℕ) → Point
 
 pub record Label : Type 0 where
   pub credit : Option Credit

@@ -1,5 +1,6 @@
 -- Keys, records, their texts, the datastore's calls, and the words of procedures.
 pub mod Key
+pub mod KeyRef
 pub mod KeyOrder
 pub mod KeyOrderLaws
 pub mod KeyText
@@ -14,4 +15,3 @@ pub mod Label
 pub mod Word
 pub mod Bound
 pub mod Hearing
-pub mod Example

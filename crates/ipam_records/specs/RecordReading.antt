@@ -1,7 +1,7 @@
 -- Reading a record from the text of its key and its body.
 use Rattle.std.specs.Prelude.{◌≡◌, ◌≢◌, ◌⊎◌, ℕ, List, bytes_eq, Option, Some, None, Result, Ok, Err, if◌then◌else◌}
-use Rattle.ipam_addr.specs.Shape.{Range}
-use Rattle.ipam_block.specs.Content as block
+use Rattle.ipam_addr.specs.Shape.{CidrValue}
+use Rattle.ipam_block.specs.Shape as block
 use Rattle.ipam_block_text.specs.declared.fault.BodyFault as block_fault
 use Rattle.ipam_block_text.specs.declared.fault.BodyFault.TheVariants as in_block
 use Rattle.ipam_block_text.specs.Reading.{block_reading, cidr_said}
@@ -29,7 +29,7 @@ fault_of_body in_body.Table = fault.Table
 fault_of_body in_body.Memory = fault.Memory
 
 -- an unsound block has another fault where its key has another text
-abbrev pub unsound_fault : List ℕ → Range → TextFault
+abbrev pub unsound_fault : List ℕ → CidrValue → TextFault
 unsound_fault key cidr =
     if bytes_eq (key_bytes (key_of_kind.Block cidr)) key then fault.Unsound else fault.Key
 
@@ -48,7 +48,7 @@ abbrev pub keyed : {A : Type 0} → (A → Record) → List ℕ → Result A Bod
 keyed make key (Ok value) = if_key key (make value)
 keyed make key (Err body) = Err (fault_of_body body)
 
-abbrev pub keyed_block : List ℕ → Result block.Content block_fault.BodyFault → Result Record TextFault
+abbrev pub keyed_block : List ℕ → Result block.BlockValue block_fault.BodyFault → Result Record TextFault
 keyed_block key (Ok value) = if_key key (Block value)
 keyed_block key (Err body) = Err (fault_of_block key body)
 
@@ -75,7 +75,7 @@ record_reading key body = reading_at (key_read key) key body
 abbrev pub SaysKey : List ℕ → Key → Type 0
 SaysKey body own =
     ((r : Record) × IsRecord r × (body ≡ body_of r) × (key_of r ≡ own))
-    ⊎ ((cidr : Range) × (cidr_said body ≡ Some cidr) × (key_of_kind.Block cidr ≡ own))
+    ⊎ ((cidr : CidrValue) × (cidr_said body ≡ Some cidr) × (key_of_kind.Block cidr ≡ own))
 
 -- the body says a key, and this has another text
 pub record SaysAnotherKey (key body : List ℕ) : Type 0 where
@@ -85,6 +85,6 @@ pub record SaysAnotherKey (key body : List ℕ) : Type 0 where
 
 -- the body has the form of a block, and says the CIDR whose key has this text
 pub record SaysBlock (key body : List ℕ) : Type 0 where
-  pub cidr : Range
+  pub cidr : CidrValue
   pub said : cidr_said body ≡ Some cidr
   pub own : key_bytes (key_of_kind.Block cidr) ≡ key

@@ -5,7 +5,9 @@
 mod call;
 mod fault;
 mod key;
+mod key_ref;
 pub mod laws;
+mod limits;
 mod listing;
 mod procedure;
 mod record;
@@ -16,14 +18,11 @@ pub use call::{Call, Heard, Reply, Row, Write};
 pub use fault::TextFault;
 pub use ipam_record_text::Config;
 pub use key::{Key, Kind};
+pub use key_ref::KeyRef;
+pub use limits::{LAST_REVISION, MOST_BLOCKS, MOST_ROWS};
 pub use listing::Listing;
 pub use procedure::Procedure;
 pub use record::Record;
 pub use spelling::{key_of_text, key_text};
 pub use std::alloc::AllocError as Memory;
 pub use texts::{from_text, to_text};
-
-#[cfg(test)]
-mod tests;
-#[cfg(test)]
-mod text_tests;

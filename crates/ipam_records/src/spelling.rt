@@ -1,7 +1,7 @@
 ghost use Rattle.std.specs.Prelude.{◌≡◌, ◌++◌, ◌↔◌, IfOk, OnOk, bytes_eq, string_bytes};
 ghost use Rattle.std.specs.Option.{option_copied};
 ghost use Rattle.std.specs.Str.{IsAscii};
-ghost use Rattle.ipam_records.specs.KeyText.{IsKey, IsTextOf, key_bytes, key_read, behind, range_read, block_read, affinity_of_parts, affinity_read, handle_read};
+ghost use Rattle.ipam_records.specs.KeyText.{IsKey, IsTextOf, key_bytes, key_read, behind, cidr_read, block_read, affinity_of_parts, affinity_read, handle_read};
 
 use crate::key::Key;
 use ipam_addr::{Cidr, is_handle_id, is_name, push_cidr, read_cidr};
@@ -97,7 +97,7 @@ fn behind<'a>(text: &'a [u8], start: &str) -> Option<&'a [u8]>
 fn read_block(alloc: Global, text: &[u8]) -> Result<Option<Key>, AllocError>
     ensures { IfOk result (λ key. key ≡ block_read text.now) }
 {
-    match read_range(alloc, text)? {
+    match read_cidr_text(alloc, text)? {
         Some(cidr) => Ok(Some(Key::Block(cidr))),
         None => Ok(None),
     }
@@ -119,7 +119,7 @@ fn read_affinity_parts(alloc: Global, node: &[u8], cidr: &[u8]) -> Result<Option
     if !is_name(node) {
         return Ok(None);
     }
-    let Some(cidr) = read_range(alloc, cidr)? else {
+    let Some(cidr) = read_cidr_text(alloc, cidr)? else {
         return Ok(None);
     };
     let node = copied_word(alloc, node)?;
@@ -137,8 +137,8 @@ fn read_handle(alloc: Global, id: &[u8]) -> Result<Option<Key>, AllocError>
 }
 
 // The CIDR whose printed text this is.
-fn read_range(alloc: Global, text: &[u8]) -> Result<Option<Cidr>, AllocError>
-    ensures { IfOk result (λ cidr. cidr ≡ range_read text.now) }
+fn read_cidr_text(alloc: Global, text: &[u8]) -> Result<Option<Cidr>, AllocError>
+    ensures { IfOk result (λ cidr. cidr ≡ cidr_read text.now) }
 {
     let Ok(cidr) = read_cidr(text) else {
         return Ok(None);

@@ -1,5 +1,5 @@
 ghost use Rattle.std.specs.Prelude.{◌≡◌, ◌≢◌, Ok, Err, Some, IfOk, IfErr, bytes_eq, string_bytes};
-ghost use Rattle.ipam_addr.specs.Shape.{Range};
+ghost use Rattle.ipam_addr.specs.Shape.{CidrValue};
 ghost use Rattle.ipam_block_text.specs.Reading.{block_reading};
 ghost use Rattle.ipam_record_text.specs.Config.{config_reading};
 ghost use Rattle.ipam_record_text.specs.Pools.{pools_reading, HasRefusedPool};

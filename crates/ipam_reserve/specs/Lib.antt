@@ -4,3 +4,4 @@ pub mod Spans
 pub mod Union
 pub mod Free
 pub mod Sweep
+pub mod Printed

@@ -3,15 +3,15 @@ use Rattle.std.specs.Prelude.{ℕ, ◌+◌, ◌<◌, ◌≤◌, Bool, IsTrue, �
 use Rattle.std.specs.List.{list_any}
 use Rattle.ipam_addr.specs.declared.address.Family.{Family}
 use Rattle.ipam_addr.specs.declared.address.Family.TheVariants.{V4, V6}
-use Rattle.ipam_addr.specs.Shape.{Address}
+use Rattle.ipam_addr.specs.Shape.{AddrValue}
 use Rattle.ipam_reserve.specs.declared.spans.Span.{Span}
 
 -- the spans of each family
-pub record FamilySpans : Type 0 where
+pub record ReservedValue : Type 0 where
   pub v4 : List Span
   pub v6 : List Span
 
-abbrev pub spans_of : FamilySpans → Family → List Span
+abbrev pub spans_of : ReservedValue → Family → List Span
 spans_of r V4 = r.v4
 spans_of r V6 = r.v6
 
@@ -24,7 +24,7 @@ abbrev pub spans_hold : List Span → ℕ → Bool
 spans_hold spans n = list_any (λ s. span_holds s n) spans
 
 -- whether the address is one of the set
-abbrev pub is_reserved_by : FamilySpans → Address → Bool
+abbrev pub is_reserved_by : ReservedValue → AddrValue → Bool
 is_reserved_by r a = spans_hold (spans_of r a.family) a.number
 
 -- the span has a number

@@ -3,12 +3,9 @@
 #![tactic(auto)]
 
 mod reservations;
-mod sets;
+mod reserved_set;
 mod spans;
 
-pub use reservations::{Reservation, TooManyCidrs};
-pub use sets::Reserved;
+pub use reservations::{MOST_CIDRS, MOST_RESERVATIONS, Reservation, TooManyCidrs};
+pub use reserved_set::Reserved;
 pub use std::alloc::AllocError as Memory;
-
-#[cfg(test)]
-mod tests;

@@ -1,4 +1,5 @@
 ghost use Rattle.std.specs.Prelude.{◌≡◌, ◌≤◌, ◌↔◌, length, IsOk, IfOk};
+ghost use Rattle.ipam_reserve.specs.declared.reservations.TheConstants.{MOST_CIDRS};
 
 use ipam_addr::Cidr;
 use ipam_text::{Seq, Text};
@@ -8,7 +9,10 @@ use std::fmt;
 use std::marker::Model;
 
 /// The most CIDRs of a reservation.
-const CIDRS_MAX: usize = 64;
+pub const MOST_CIDRS: usize = 64;
+
+/// The most reservations that stand side by side.
+pub const MOST_RESERVATIONS: usize = 256;
 
 /// CIDRs that are reserved under one name.
 #[derive(Debug, Drop)]
@@ -19,13 +23,14 @@ pub struct Reservation {
 
 impl Model for Reservation {
     ghost use Rattle.std.specs.Prelude.{◌≤◌, length};
-    ghost use Rattle.ipam_reserve.specs.Shape.{NamedRanges};
+    ghost use Rattle.ipam_reserve.specs.declared.reservations.TheConstants.{MOST_CIDRS};
+    ghost use Rattle.ipam_reserve.specs.Shape.{ReservationValue};
 
-    ghost Value = { NamedRanges };
+    ghost Value = { ReservationValue };
 
     ghost view = { λ r. record { name = r.name; cidrs = r.cidrs } };
 
-    ghost invariant = { λ r. length r.cidrs ≤ 64 };
+    ghost invariant = { λ r. length r.cidrs ≤ MOST_CIDRS };
 }
 
 /// A reservation has at most 64 CIDRs.
@@ -33,6 +38,11 @@ impl Model for Reservation {
 pub struct TooManyCidrs;
 
 impl fmt::Display for TooManyCidrs {
+    ghost use Rattle.std.specs.Prelude.{Some};
+    ghost use Rattle.ipam_reserve.specs.Printed.{too_many_text};
+
+    ghost output = { λ _. Some too_many_text };
+
     fn fmt<W: fmt::Write>(&self, f: &mut fmt::Formatter<W>) -> fmt::Result {
         f.write_str("too many CIDRs in a reservation")
     }
@@ -43,10 +53,10 @@ impl Error for TooManyCidrs {}
 impl Reservation {
     /// The reservation of these CIDRs, where they are at most 64. Takes no memory.
     pub fn new(name: Text, cidrs: Seq<Cidr>) -> Result<Reservation, TooManyCidrs>
-        ensures few { IsOk result ↔ (length cidrs ≤ 64) }
+        ensures few { IsOk result ↔ (length cidrs ≤ MOST_CIDRS) }
         ensures ok { IfOk result (λ r. r ≡ record { name = name; cidrs = cidrs }) }
     {
-        if cidrs.len() > CIDRS_MAX {
+        if cidrs.len() > MOST_CIDRS {
             return Err(TooManyCidrs);
         }
         Ok(Reservation { name, cidrs })
@@ -60,7 +70,7 @@ impl Reservation {
 
     pub fn cidrs(&self) -> &[Cidr]
         ensures value { result.now ≡ self.now.cidrs }
-        ensures few { length result.now ≤ 64 }
+        ensures few { length result.now ≤ MOST_CIDRS }
     {
         self.cidrs.as_slice()
     }

@@ -12,9 +12,9 @@ use Rattle.ipam_records.specs.KeyOrder.{key_cmp, keys_equal}
 use Rattle.ipam_records.specs.Datastore.{row_key, row_at, with_row, without_row}
 use Rattle.ipam_store.specs.Places.{Ascend}
 use Rattle.ipam_store.specs.Lists.{Lists, all_rows, list_on}
-use Rattle.ipam_store.specs.declared.key_ref.Shelf.{Shelf}
-use Rattle.ipam_store.specs.declared.key_ref.Shelf.TheVariants.{Singles, Blocks, Affinities, Handles}
-use Rattle.ipam_store.proofs.Order.{key_total}
+use Rattle.ipam_store.specs.declared.shelf.Shelf.{Shelf}
+use Rattle.ipam_store.specs.declared.shelf.Shelf.TheVariants.{Singles, Blocks, Affinities, Handles}
+use Rattle.ipam_records.specs.KeyOrderLaws.{key_cmp_total}
 
 -- ---- what holds of each row
 All-row_at : (P : ℕ × Record → Type 0) (o : Ordering) (new r : ℕ × Record) (rs further : List (ℕ × Record)) → P new → All P (r ∷ rs) → All P further → All P (row_at o new r rs further)
@@ -49,18 +49,18 @@ keys-with_row P new (r ∷ rs) p all =
 
 later : (x y : Key) → key_cmp x y ≡ Less → (rows : List (ℕ × Record)) → AllByRecursion (λ z. key_cmp y z ≡ Less) (map row_key rows) → AllByRecursion (λ z. key_cmp x z ≡ Less) (map row_key rows)
 later x y h [] all = tt
-later x y h (r ∷ rs) all = (key_total.trans x y (row_key r) h all.0, later x y h rs all.1)
+later x y h (r ∷ rs) all = (key_cmp_total.trans x y (row_key r) h all.0, later x y h rs all.1)
 
 same : (x y : Key) → key_cmp x y ≡ Equal → (rows : List (ℕ × Record)) → AllByRecursion (λ z. key_cmp y z ≡ Less) (map row_key rows) → AllByRecursion (λ z. key_cmp x z ≡ Less) (map row_key rows)
 same x y h [] all = tt
-same x y h (r ∷ rs) all = (key_total.congr x y (row_key r) h ∙ all.0, same x y h rs all.1)
+same x y h (r ∷ rs) all = (key_cmp_total.congr x y (row_key r) h ∙ all.0, same x y h rs all.1)
 
 sorted-row_at : (o : Ordering) (new r : ℕ × Record) (rs : List (ℕ × Record)) → key_cmp (row_key new) (row_key r) ≡ o → IsStrictlySortedBy key_cmp (map row_key (r ∷ rs)) → IsStrictlySortedBy key_cmp (map row_key (with_row new rs)) → IsStrictlySortedBy key_cmp (map row_key (row_at o new r rs (with_row new rs)))
 unfolding IsStrictlySortedBy
 sorted-row_at Less new r rs h s rest = ((h, later (row_key new) (row_key r) h rs s.0), s)
 sorted-row_at Equal new r rs h s rest = (same (row_key new) (row_key r) h rs s.0, s.1)
 sorted-row_at Greater new r rs h s rest =
-    let below : key_cmp (row_key r) (row_key new) ≡ Less = key_total.antisymm (row_key r) (row_key new) ∙ ap ordering_reverse h in
+    let below : key_cmp (row_key r) (row_key new) ≡ Less = key_cmp_total.antisymm (row_key r) (row_key new) ∙ ap ordering_reverse h in
     (keys-with_row (λ y. key_cmp (row_key r) y ≡ Less) new rs below s.0, rest)
 
 sorted-with_row : (new : ℕ × Record) (rows : List (ℕ × Record)) → IsStrictlySortedBy key_cmp (map row_key rows) → IsStrictlySortedBy key_cmp (map row_key (with_row new rows))
@@ -96,12 +96,12 @@ keys-left : (P : Key → Type 0) (xs ys : List (ℕ × Record)) → AllByRecursi
 keys-left P [] ys all = tt
 keys-left P (x ∷ xs) ys all = (all.0, keys-left P xs ys all.1)
 
-sorted-left : (xs ys : List (ℕ × Record)) → IsStrictlySortedBy key_cmp (map row_key (xs ++ ys)) → IsStrictlySortedBy key_cmp (map row_key xs)
+pub sorted-left : (xs ys : List (ℕ × Record)) → IsStrictlySortedBy key_cmp (map row_key (xs ++ ys)) → IsStrictlySortedBy key_cmp (map row_key xs)
 unfolding IsStrictlySortedBy
 sorted-left [] ys s = tt
 sorted-left (x ∷ xs) ys s = (keys-left (λ y. key_cmp (row_key x) y ≡ Less) xs ys s.0, sorted-left xs ys s.1)
 
-sorted-right : (xs ys : List (ℕ × Record)) → IsStrictlySortedBy key_cmp (map row_key (xs ++ ys)) → IsStrictlySortedBy key_cmp (map row_key ys)
+pub sorted-right : (xs ys : List (ℕ × Record)) → IsStrictlySortedBy key_cmp (map row_key (xs ++ ys)) → IsStrictlySortedBy key_cmp (map row_key ys)
 unfolding IsStrictlySortedBy
 sorted-right [] ys s = s
 sorted-right (x ∷ xs) ys s = sorted-right xs ys s.1

@@ -1,5 +1,5 @@
 -- A store that keeps its rows keeps them when one is put in or taken out.
-use Rattle.std.proofs.Common.{Result, Ok, Err, OnOk, OnErr, ◌⊎◌, inl, inr, IsSome, ◌≡◌, ℕ, ◌+◌, ◌^◌, ◌<◌, ◌≤◌, List, [], length, not, ◌&&◌, ◌||◌, nat_lt, Bool, true, ap, sym, ◌∙◌, arith, refl, subst}
+use Rattle.std.proofs.Common.{Result, Ok, Err, OnOk, OnErr, ◌⊎◌, inl, inr, None, IsSome, ◌≡◌, ℕ, ◌+◌, ◌^◌, ◌<◌, ◌≤◌, List, [], length, not, ◌&&◌, ◌||◌, nat_lt, Bool, true, ap, sym, ◌∙◌, arith, refl, subst}
 use Rattle.std.proofs.lemmas.Bool.Decides.{nat_tests}
 use Rattle.std.specs.List.Sorted.{IsStrictlySortedBy}
 use Rattle.std.proofs.lemmas.List.Elements.{All-nil}
@@ -19,9 +19,10 @@ use Rattle.ipam_store.specs.Granted.{IsGranted, IsSoundWrite, HasRoomFor}
 use Rattle.ipam_store.specs.Places.{Ascend}
 use Rattle.ipam_store.proofs.Keeping.{All-with_row, All-without_row, Ascend-with_row, Ascend-without_row}
 use Rattle.ipam_store.proofs.Granting.{facts-from_granted}
+use Rattle.ipam_store.proofs.Paging.{by_cases}
 use Rattle.ipam_store.proofs.Shelves.{row_of-shelved, with_row-shelved, without_row-shelved, listed-shelved}
-use Rattle.ipam_store.specs.declared.key_ref.Shelf.{Shelf}
-use Rattle.ipam_store.specs.declared.key_ref.Shelf.TheVariants.{Singles, Blocks, Affinities, Handles}
+use Rattle.ipam_store.specs.declared.shelf.Shelf.{Shelf}
+use Rattle.ipam_store.specs.declared.shelf.Shelf.TheVariants.{Singles, Blocks, Affinities, Handles}
 use Rattle.ipam_store.specs.Lists.{Lists, all_rows, list_on, with_list, IsOn, AreShelved}
 use Rattle.ipam_store.specs.Keeping.{IsKept}
 
@@ -54,6 +55,13 @@ room_left n blocks block few is =
 -- ---- how many rows there are
 count_of-all : (lists : Lists) → length (all_rows lists) ≡ length lists.singles + (length lists.blocks + (length lists.affinities + length lists.handles))
 count_of-all lists = simp length-append
+
+-- a list has no more rows than there may be
+pub list-few : (lists : Lists) (s : Shelf) → length (all_rows lists) ≤ most_rows → length (list_on s lists) < 2 ^ 32
+list-few lists Singles few = omega (arith, count_of-all lists)
+list-few lists Blocks few = omega (arith, count_of-all lists)
+list-few lists Affinities few = omega (arith, count_of-all lists)
+list-few lists Handles few = omega (arith, count_of-all lists)
 
 length-with_list : (s : Shelf) (rows : List (ℕ × Record)) (lists : Lists) → length (all_rows (with_list s rows lists)) + length (list_on s lists) ≡ length (all_rows lists) + length rows
 length-with_list Singles rows lists = omega (arith, count_of-all lists, count_of-all (with_list Singles rows lists))
@@ -167,8 +175,11 @@ put_fits lists counter kept value s on rows replaced (inl room) = inl room
 put_fits lists counter kept value s on rows replaced (inr there) =
     inr (replaced (subst IsSome (row_of-shelved lists kept.shelved (key_of value) s on) there))
 
-pub put-kept : (lists : Lists) (counter : ℕ) → IsKept lists counter → (revision : ℕ) (value : Record) → IsGranted (store_of lists counter) (Put revision value) → IsSoundWrite (Put revision value) → (s : Shelf) → shelf_of (key_of value) ≡ s → (rows : List (ℕ × Record)) → rows ≡ with_row (revision, value) (list_on s lists) → length rows ≤ length (list_on s lists) + 1 → (IsSome (row_of (key_of value) (list_on s lists)) → length rows ≡ length (list_on s lists)) → IsKept (with_list s rows lists) revision
-put-kept lists counter kept revision value granted sound s on rows e grown replaced =
+pub put-kept : (lists : Lists) (counter : ℕ) → IsKept lists counter → (revision : ℕ) (value : Record) → IsGranted (store_of lists counter) (Put revision value) → IsSoundWrite (Put revision value) → (s : Shelf) → shelf_of (key_of value) ≡ s → (rows : List (ℕ × Record)) → rows ≡ with_row (revision, value) (list_on s lists) → (IsSome (row_of (key_of value) (list_on s lists)) → length rows ≡ length (list_on s lists)) → (row_of (key_of value) (list_on s lists) ≡ None → length rows ≡ length (list_on s lists) + 1) → IsKept (with_list s rows lists) revision
+put-kept lists counter kept revision value granted sound s on rows e replaced added =
+    let grown : length rows ≤ length (list_on s lists) + 1 =
+    by_cases (row_of (key_of value) (list_on s lists))
+    (λ some. let same = replaced some in omega (arith, same)) (λ none. let more = added none in omega (arith, more)) in
     let facts = facts-from_granted (store_of lists counter) (Put revision value) granted in
     let is : revision ≡ counter + 1 = facts.next.is in
     let below : counter < last_revision = facts.next.below in

@@ -1,5 +1,7 @@
 pub mod Order
 pub mod Searching
+pub mod Parts
+pub mod Paging
 pub mod Shelves
 pub mod Keeping
 pub mod Granting

@@ -13,7 +13,7 @@ use Rattle.ipam_records.specs.declared.record.Record.{Record}
 use Rattle.ipam_records.specs.KeyOrder.{key_cmp}
 use Rattle.ipam_records.specs.Datastore.{row_key, row_of, row_at, with_row, without_row}
 use Rattle.ipam_store.specs.Places.{Ascend, IsPlace, IsGap}
-use Rattle.ipam_store.proofs.Order.{key_total}
+use Rattle.ipam_records.specs.KeyOrderLaws.{key_cmp_total}
 
 -- what holds of each key holds of the key at a place
 key_at : (P : Key → Type 0) (rows : List (ℕ × Record)) (i : ℕ) (d : ℕ × Record) → AllByRecursion P (map row_key rows) → i < length rows → P (row_key (get_or rows i d))
@@ -39,9 +39,9 @@ rises x y key less = by_answer (key_cmp y key) refl
   where
     by_answer : (s : Ordering) → key_cmp y key ≡ s → ordering_index (key_cmp x key) ≤ ordering_index s
     by_answer Less h =
-        let e = ap ordering_index (key_total.trans x y key less h) in omega arith
+        let e = ap ordering_index (key_cmp_total.trans x y key less h) in omega arith
     by_answer Equal h =
-        let e = ap ordering_index (sym (alike_right key_total y key x h) ∙ less) in omega arith
+        let e = ap ordering_index (sym (alike_right key_cmp_total y key x h) ∙ less) in omega arith
     by_answer Greater h = index_le_two (key_cmp x key)
 
 module _ (rows : List (ℕ × Record)) (sorted : Ascend rows) (key : Key) where
@@ -79,13 +79,13 @@ without_step key r rs o h = ap (λ v. cond (not (is_eq v)) (r ∷ without_row ke
 
 pub with_step : (new r : ℕ × Record) (rs : List (ℕ × Record)) (o : Ordering) → key_cmp (row_key r) (row_key new) ≡ o → with_row new (r ∷ rs) ≡ row_at (ordering_reverse o) new r rs (with_row new rs)
 with_step new r rs o h =
-    ap (λ v. row_at v new r rs (with_row new rs)) (key_total.antisymm (row_key new) (row_key r) ∙ ap ordering_reverse h)
+    ap (λ v. row_at v new r rs (with_row new rs)) (key_cmp_total.antisymm (row_key new) (row_key r) ∙ ap ordering_reverse h)
 
 -- the first row stands before a key that a later row has
 before_later : (key : Key) (r : ℕ × Record) (rs : List (ℕ × Record)) (i : ℕ) → IsStrictlySortedBy key_cmp (map row_key (r ∷ rs)) → i < length rs → ((d : ℕ × Record) → key_cmp (row_key (get_or rs i d)) key ≡ Equal) → key_cmp (row_key r) key ≡ Less
 before_later key r rs i s l same =
     let less : key_cmp (row_key r) (row_key (get_or rs i r)) ≡ Less = key_at (λ y. key_cmp (row_key r) y ≡ Less) rs i r (sorted_head key_cmp _ _ s) l in
-    sym (alike_right key_total (row_key (get_or rs i r)) key (row_key r) (same r)) ∙ less
+    sym (alike_right key_cmp_total (row_key (get_or rs i r)) key (row_key r) (same r)) ∙ less
 
 -- ---- by places
 found_at : (key : Key) (rows : List (ℕ × Record)) (i : ℕ) (d : ℕ × Record) → IsStrictlySortedBy key_cmp (map row_key rows) → i < length rows → ((d : ℕ × Record) → key_cmp (row_key (get_or rows i d)) key ≡ Equal) → row_of key rows ≡ Some (get_or rows i d)
@@ -135,8 +135,8 @@ remove_at key (r ∷ rs) zero s l same =
     behind : (j : ℕ) (d : ℕ × Record) → j < length rs → key_cmp (row_key (get_or rs j d)) key ≡ Greater
     behind j d m =
         let less : key_cmp (row_key r) (row_key (get_or rs j d)) ≡ Less = key_at (λ y. key_cmp (row_key r) y ≡ Less) rs j d (sorted_head key_cmp _ _ s) m in
-        key_total.antisymm (row_key (get_or rs j d)) key
-        ∙ ap ordering_reverse (sym (key_total.congr (row_key r) key (row_key (get_or rs j d)) (same r)) ∙ less)
+        key_cmp_total.antisymm (row_key (get_or rs j d)) key
+        ∙ ap ordering_reverse (sym (key_cmp_total.congr (row_key r) key (row_key (get_or rs j d)) (same r)) ∙ less)
 remove_at key (r ∷ rs) (suc i) s l same =
     ap (λ x. r ∷ x) (remove_at key rs i (sorted_tail key_cmp _ _ s) (omega arith) same)
     ∙ sym (without_step key r rs Less (before_later key r rs i s (omega arith) same))

@@ -1,33 +1,26 @@
 -- How a store keeps its rows.
-use Rattle.std.specs.Prelude.{ℕ, ◌-◌, ◌≤◌, min, length}
-use Rattle.std.specs.Global.{Vec}
-use Rattle.std.specs.Vec.{vec_len, vec_capacity}
-use Rattle.ipam_records.specs.declared.record.Record.{Record}
+use Rattle.std.specs.Prelude.{ℕ, ◌≤◌, min, length}
 use Rattle.ipam_records.specs.Datastore.{Datastore, most_rows, most_blocks}
 use Rattle.ipam_records.specs.Sound.{IsDatastore}
-use Rattle.ipam_store.specs.Content.{Content}
+use Rattle.ipam_store.specs.Shape.{StoreValue}
 use Rattle.ipam_store.specs.Lists.{Lists, all_rows, AreShelved}
 use Rattle.ipam_store.specs.declared.store.Store.TheInside.{Inside}
 
 abbrev pub lists_in : Inside → Lists
 lists_in a = record {
-  singles = a.singles.items;
-  blocks = a.blocks.items;
-  affinities = a.affinities.items;
-  handles = a.handles.items;
+  singles = a.singles.rows;
+  blocks = a.blocks.rows;
+  affinities = a.affinities.rows;
+  handles = a.handles.rows;
 }
 
 abbrev pub datastore_in : Inside → Datastore
 datastore_in a = record { rows = all_rows (lists_in a); counter = a.counter }
 
--- how many rows go in without memory
-abbrev pub room_in : Vec (ℕ × Record) → ℕ
-room_in rows = vec_capacity rows - vec_len rows
-
-abbrev pub content_in : Inside → Content
+abbrev pub content_in : Inside → StoreValue
 content_in a = record {
   store = datastore_in a;
-  spare = min (min (room_in a.singles) (room_in a.blocks)) (min (room_in a.affinities) (room_in a.handles));
+  spare = min (min a.singles.spare a.blocks.spare) (min a.affinities.spare a.handles.spare);
 }
 
 -- each row is in its list, the datastore is sound, and the limits hold

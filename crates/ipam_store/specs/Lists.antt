@@ -2,8 +2,8 @@
 use Rattle.std.specs.Prelude.{◌≡◌, ℕ, List, ◌++◌, All}
 use Rattle.ipam_records.specs.declared.record.Record.{Record}
 use Rattle.ipam_records.specs.Datastore.{row_key}
-use Rattle.ipam_store.specs.declared.key_ref.Shelf.{Shelf}
-use Rattle.ipam_store.specs.declared.key_ref.Shelf.TheVariants.{Singles, Blocks, Affinities, Handles}
+use Rattle.ipam_store.specs.declared.shelf.Shelf.{Shelf}
+use Rattle.ipam_store.specs.declared.shelf.Shelf.TheVariants.{Singles, Blocks, Affinities, Handles}
 use Rattle.ipam_store.specs.Shelf.{shelf_of}
 
 pub record Lists : Type 0 where

@@ -4,13 +4,12 @@
 //! apart, so that what was answered can be kept elsewhere before it holds here.
 #![tactic(auto)]
 
-mod key_ref;
 pub mod laws;
+mod pages;
 mod rows;
+mod shelf;
 mod store;
 
+pub use pages::PAGE_ROWS;
 pub use std::alloc::AllocError as Memory;
 pub use store::{LoadFault, Store};
-
-#[cfg(test)]
-mod tests;

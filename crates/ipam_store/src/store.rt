@@ -1,18 +1,13 @@
-ghost use Rattle.std.specs.Prelude.{◌≡◌, ◌+◌, ◌≤◌, ◌<◌, ◌^◌, ◌↔◌, [], length, IsTrue, IsSome, OnOk, OnErr, Ok, Err, Some, slice_get};
+ghost use Rattle.std.specs.Prelude.{◌≡◌, ℕ, ◌+◌, ◌≤◌, ◌<◌, ◌^◌, ◌↔◌, [], length, All, IsTrue, IsSome, OnOk, OnErr, Ok, Err, Some, slice_get};
 ghost use Rattle.std.specs.Option.{option_copied};
 
-use crate::key_ref::{KeyRef, Shelf};
-use crate::rows;
-use ipam_records::{Call, Kind, Listing, Record, Reply, Write};
+use crate::pages::Pages;
+use crate::shelf::{Shelf, is_block};
+use ipam_records::{
+    Call, KeyRef, Kind, LAST_REVISION, Listing, MOST_BLOCKS, MOST_ROWS, Record, Reply, Write,
+};
 use std::alloc::{AllocError, Global};
 use std::marker::Model;
-use std::slice;
-
-const MOST_ROWS: usize = 262_144;
-
-const MOST_BLOCKS: usize = 16_384;
-
-const LAST_REVISION: u64 = 1 << 62;
 
 /// Why a row was not loaded.
 #[derive(Clone, Copy, Debug, PartialEq, Eq)]
@@ -36,17 +31,17 @@ impl From<AllocError> for LoadFault {
 /// The datastore in memory: rows in the order of their keys, and the revision of the last write.
 #[derive(Drop)]
 pub struct Store {
-    singles: Vec<(u64, Record)>,
-    blocks: Vec<(u64, Record)>,
-    affinities: Vec<(u64, Record)>,
-    handles: Vec<(u64, Record)>,
+    singles: Pages,
+    blocks: Pages,
+    affinities: Pages,
+    handles: Pages,
     counter: u64,
 }
 
 impl Model for Store {
-    ghost use Rattle.ipam_store.specs.Content.{Content};
+    ghost use Rattle.ipam_store.specs.Shape.{StoreValue};
 
-    ghost Value = { Content };
+    ghost Value = { StoreValue };
 
     ghost use Rattle.ipam_store.specs.Keeping.{content_in, is_kept_in};
 
@@ -58,10 +53,13 @@ impl Model for Store {
 impl Store {
     ghost use Rattle.ipam_records.specs.Key.{key_of};
     ghost use Rattle.ipam_records.specs.Listing.{rows_of};
+    ghost use Rattle.ipam_records.specs.Pages.{rows_of_pages};
+    ghost use Rattle.ipam_records.specs.declared.key.Key.{Key};
+    ghost use Rattle.ipam_store.specs.Page.{IsPage};
     ghost use Rattle.ipam_records.specs.Said.{said};
     ghost use Rattle.ipam_records.specs.Sound.{IsDatastore, IsRow};
     ghost use Rattle.ipam_records.specs.Datastore.{reply_of, reply_to_get, reply_to_create, reply_to_change, granted, has_room, row_of, listed, with_row, without_row, written};
-    ghost use Rattle.ipam_store.specs.Shelf.{named};
+    ghost use Rattle.ipam_records.specs.KeyRef.{named};
     ghost use Rattle.ipam_records.specs.declared.call.Write.TheVariants.{Put, Remove};
     ghost use Rattle.ipam_store.specs.Granted.{IsGranted, IsSoundWrite, HasRoomFor};
 
@@ -69,12 +67,13 @@ impl Store {
     pub fn new(alloc: Global, counter: u64) -> Store
         requires { counter ≤ 2 ^ 62 }
         ensures rows { result.store ≡ record { rows = []; counter = counter } }
+        ensures spare { result.spare ≡ 0 }
     {
         Store {
-            singles: Vec::new(alloc),
-            blocks: Vec::new(alloc),
-            affinities: Vec::new(alloc),
-            handles: Vec::new(alloc),
+            singles: Pages::new(alloc),
+            blocks: Pages::new(alloc),
+            affinities: Pages::new(alloc),
+            handles: Pages::new(alloc),
             counter,
         }
     }
@@ -98,11 +97,11 @@ impl Store {
     fn find(&self, key: &KeyRef<'_>) -> Option<&(u64, Record)>
         ensures { option_copied result ≡ row_of (named key.now) self.now.store.rows }
     {
-        match key.shelf() {
-            Shelf::Singles => rows::find(&self.singles, key),
-            Shelf::Blocks => rows::find(&self.blocks, key),
-            Shelf::Affinities => rows::find(&self.affinities, key),
-            Shelf::Handles => rows::find(&self.handles, key),
+        match Shelf::of(key) {
+            Shelf::Singles => self.singles.find(key),
+            Shelf::Blocks => self.blocks.find(key),
+            Shelf::Affinities => self.affinities.find(key),
+            Shelf::Handles => self.handles.find(key),
         }
     }
 
@@ -177,18 +176,28 @@ impl Store {
     fn has_room(&self, key: &KeyRef<'_>) -> bool
         ensures { result ≡ has_room self.now.store (named key.now) }
     {
-        self.rows() < MOST_ROWS && (!key.is_block() || self.blocks.len() < MOST_BLOCKS)
+        self.rows() < MOST_ROWS && (!is_block(key) || self.blocks.len() < MOST_BLOCKS)
+    }
+
+    /// The rows of the kind in the order of their keys, as they are kept: page after page, each of
+    /// them with 1 to `PAGE_ROWS` rows.
+    pub fn pages(&self, kind: Kind) -> &[Vec<(u64, Record)>]
+        ensures rows { rows_of_pages result.now ≡ listed kind self.now.store }
+        ensures filled { All IsPage result.now }
+    {
+        match kind {
+            Kind::Block => self.blocks.pages(),
+            Kind::Affinity => self.affinities.pages(),
+            Kind::Handle => self.handles.pages(),
+        }
     }
 
     /// The rows of the kind, in the order of their keys.
     fn listed(&self, kind: Kind) -> Listing<'_>
         ensures { rows_of result ≡ listed kind self.now.store }
     {
-        match kind {
-            Kind::Block => Listing::over(slice::from_ref(&self.blocks)),
-            Kind::Affinity => Listing::over(slice::from_ref(&self.affinities)),
-            Kind::Handle => Listing::over(slice::from_ref(&self.handles)),
-        }
+        let _ = &self.counter;
+        Listing::over(self.pages(kind))
     }
 
     /// Takes a row that was kept elsewhere. On `Err` nothing has changed.
@@ -198,13 +207,15 @@ impl Store {
         ensures ok { OnOk result (self.new.store ≡ record self.old.store { rows = with_row (revision, value) self.old.store.rows }) }
         ensures err { OnErr result (self.new.store ≡ self.old.store) }
         ensures there { (result ≡ Err LoadFault.There) ↔ IsSome (row_of (key_of value) self.old.store.rows) }
+        ensures spare { self.old.spare ≤ self.new.spare + 1 }
+        ensures kept { OnErr result (self.old.spare ≤ self.new.spare) }
     {
-        let shelf = KeyRef::of_record(&value).shelf();
+        let shelf = Shelf::of(&KeyRef::of_record(&value));
         match shelf {
-            Shelf::Singles => rows::add(&mut self.singles, (revision, value)),
-            Shelf::Blocks => rows::add(&mut self.blocks, (revision, value)),
-            Shelf::Affinities => rows::add(&mut self.affinities, (revision, value)),
-            Shelf::Handles => rows::add(&mut self.handles, (revision, value)),
+            Shelf::Singles => self.singles.add((revision, value)),
+            Shelf::Blocks => self.blocks.add((revision, value)),
+            Shelf::Affinities => self.affinities.add((revision, value)),
+            Shelf::Handles => self.handles.add((revision, value)),
         }
     }
 
@@ -214,10 +225,10 @@ impl Store {
         ensures spare { OnOk result (1 ≤ self.new.spare) }
         ensures kept { self.old.spare ≤ self.new.spare }
     {
-        self.singles.reserve(1)?;
-        self.blocks.reserve(1)?;
-        self.affinities.reserve(1)?;
-        self.handles.reserve(1)
+        self.singles.reserve()?;
+        self.blocks.reserve()?;
+        self.affinities.reserve()?;
+        self.handles.reserve()
     }
 
     /// Applies a write that the store has just granted. Takes no memory.
@@ -227,6 +238,7 @@ impl Store {
         requires spare { 1 ≤ self.old.spare }
         ensures store { self.new.store ≡ written self.old.store write }
         ensures spare { self.old.spare ≤ self.new.spare + 1 }
+        ensures kept { (revision : ℕ) (key : Key) → write ≡ Remove revision key → self.old.spare ≤ self.new.spare }
     {
         match write {
             Write::Put(revision, value) => self.put(revision, value),
@@ -242,12 +254,12 @@ impl Store {
         ensures spare { self.old.spare ≤ self.new.spare + 1 }
     {
         self.counter = revision;
-        let shelf = KeyRef::of_record(&value).shelf();
+        let shelf = Shelf::of(&KeyRef::of_record(&value));
         match shelf {
-            Shelf::Singles => rows::put(&mut self.singles, (revision, value)),
-            Shelf::Blocks => rows::put(&mut self.blocks, (revision, value)),
-            Shelf::Affinities => rows::put(&mut self.affinities, (revision, value)),
-            Shelf::Handles => rows::put(&mut self.handles, (revision, value)),
+            Shelf::Singles => self.singles.put((revision, value)),
+            Shelf::Blocks => self.blocks.put((revision, value)),
+            Shelf::Affinities => self.affinities.put((revision, value)),
+            Shelf::Handles => self.handles.put((revision, value)),
         }
     }
 
@@ -257,11 +269,11 @@ impl Store {
         ensures spare { self.old.spare ≤ self.new.spare }
     {
         self.counter = revision;
-        match key.shelf() {
-            Shelf::Singles => rows::remove(&mut self.singles, key),
-            Shelf::Blocks => rows::remove(&mut self.blocks, key),
-            Shelf::Affinities => rows::remove(&mut self.affinities, key),
-            Shelf::Handles => rows::remove(&mut self.handles, key),
+        match Shelf::of(key) {
+            Shelf::Singles => self.singles.remove(key),
+            Shelf::Blocks => self.blocks.remove(key),
+            Shelf::Affinities => self.affinities.remove(key),
+            Shelf::Handles => self.handles.remove(key),
         }
     }
 
@@ -273,16 +285,16 @@ impl Store {
     {
         let singles = self.singles.len();
         if place < singles {
-            return rows::at(&self.singles, place);
+            return Listing::over(self.singles.pages()).at(place);
         }
         let blocks = singles + self.blocks.len();
         if place < blocks {
-            return rows::at(&self.blocks, place - singles);
+            return Listing::over(self.blocks.pages()).at(place - singles);
         }
         let affinities = blocks + self.affinities.len();
         if place < affinities {
-            return rows::at(&self.affinities, place - blocks);
+            return Listing::over(self.affinities.pages()).at(place - blocks);
         }
-        rows::at(&self.handles, place - affinities)
+        Listing::over(self.handles.pages()).at(place - affinities)
     }
 }

@@ -1,6 +1,6 @@
 use Rattle.std.proofs.Common.{ap, sym, ◌∙◌}
 use Rattle.std.specs.Option.{ok_or}
-use Rattle.ipam_addr.specs.declared.range.AddrFault.TheVariants.{Text}
+use Rattle.ipam_addr.specs.declared.cidrs.AddrFault.TheVariants.{Text}
 use Rattle.ipam_addr.proofs.TextLemmas.{address_of-spelled, address_of-none, v4_spelled, v6_spelled, none_spelled}
 use Rattle.ipam_addr.proofs.text.read_addr.Goals as goal
 

@@ -1,5 +1,5 @@
 use Rattle.std.proofs.Common.{refl, sym, ◌∙◌}
-use Rattle.ipam_addr.proofs.RangeTextLemmas.{digit_step, digits_read}
+use Rattle.ipam_addr.proofs.CidrTextLemmas.{digit_step, digits_read}
 use Rattle.ipam_addr.proofs.text.read_digits.Goals as goal
 
 pub loop-byte-preserved : goal.loop-byte-preserved

@@ -1,6 +1,6 @@
 use Rattle.std.proofs.Common.{◌≡◌, ◌≢◌, ◌<◌, sym, ◌∙◌, arith, eqb-true, get_or, length, inl, inr}
 use Rattle.std.proofs.lemmas.Bool.{eqb-false}
-use Rattle.ipam_addr.proofs.RangeTextLemmas.{prefix_of-empty, prefix_of-long, prefix_of-zero_first, prefix_of-digits}
+use Rattle.ipam_addr.proofs.CidrTextLemmas.{prefix_of-empty, prefix_of-long, prefix_of-zero_first, prefix_of-digits}
 use Rattle.ipam_addr.proofs.text.read_prefix.Goals as goal
 
 pub returns-then-is_empty : goal.returns-then-is_empty

@@ -1,4 +1,4 @@
-use Rattle.std.proofs.Common.{◌≡◌, ◌<◌, ◌+◌, suc, ℕ, arith, refl, rules, replicate, true, false, set, ap, ◌∙◌, sym, take, length, add-one, subst, List, ◌++◌, ◌∷◌, [], get_or, map}
+use Rattle.std.proofs.Common.{◌≡◌, ◌<◌, ◌+◌, ℕ, arith, rules, replicate, true, false, set, ap, ◌∙◌, take, length, add-one, subst, List, ◌++◌, ◌∷◌, [], get_or, map}
 use Rattle.std.proofs.lemmas.List.{take_all}
 use Rattle.std.proofs.Math.Seq.{take-suc}
 use Rattle.ipam_block.specs.Sound.{ordinals_below}

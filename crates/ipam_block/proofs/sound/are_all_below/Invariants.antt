@@ -1,4 +1,4 @@
-use Rattle.std.proofs.Common.{◌≡◌, ◌==◌, ◌<◌, ℕ, take, map, vec_len}
+use Rattle.std.proofs.Common.{◌≡◌, ◌==◌, take, map}
 use Rattle.std.specs.List.{list_any}
 use Rattle.ipam_block.specs.Sound.{ordinals_below}
 use Rattle.ipam_block.proofs.sound.are_all_below.Given as goal

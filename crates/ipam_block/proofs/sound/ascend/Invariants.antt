@@ -1,4 +1,4 @@
-use Rattle.std.proofs.Common.{◌≡◌, ◌≤◌, ◌^◌, drop}
+use Rattle.std.proofs.Common.{◌≡◌, drop}
 use Rattle.ipam_block.specs.Test.{ascends_from}
 use Rattle.ipam_block.proofs.sound.ascend.Given as goal
 

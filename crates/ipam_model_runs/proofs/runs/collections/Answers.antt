@@ -45,3 +45,7 @@ returns-clause-outside_the_scope c = refl
 pub returns-clause-inside_the_scope : goal.returns-clause-inside_the_scope
 unfolding runs_computed
 returns-clause-inside_the_scope c = refl
+
+pub returns-clause-two_leaks_freed : goal.returns-clause-two_leaks_freed
+unfolding runs_computed
+returns-clause-two_leaks_freed c = refl

@@ -25,3 +25,7 @@ returns-clause-mark_taken_back c = refl
 pub returns-clause-deletion_lost : goal.returns-clause-deletion_lost
 unfolding runs_computed
 returns-clause-deletion_lost c = refl
+
+pub returns-clause-mark_gone : goal.returns-clause-mark_gone
+unfolding runs_computed
+returns-clause-mark_gone c = refl

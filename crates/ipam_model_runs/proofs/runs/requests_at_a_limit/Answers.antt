@@ -30,3 +30,7 @@ returns-clause-worn_behind_one c = refl
 pub returns-clause-worn_and_stopped : goal.returns-clause-worn_and_stopped
 unfolding runs_computed
 returns-clause-worn_and_stopped c = refl
+
+pub returns-clause-claim_and_lost_races : goal.returns-clause-claim_and_lost_races
+unfolding runs_computed lost_rounds
+returns-clause-claim_and_lost_races c = refl

@@ -2,7 +2,7 @@ use Rattle.std.proofs.Common.{rules}
 use Rattle.std.proofs.lemmas.Fn.{always_returns_same}
 use Rattle.ipam_records.specs.KeyOrder.{key_cmp}
 use Rattle.ipam_records.specs.Datastore.{row_key}
-use Rattle.ipam_store.specs.Shelf.{named}
+use Rattle.ipam_records.specs.KeyRef.{named}
 use Rattle.ipam_store.proofs.Searching.{searched}
 use Rattle.ipam_store.proofs.rows.place.Goals as goal
 

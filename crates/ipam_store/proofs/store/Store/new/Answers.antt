@@ -3,4 +3,4 @@ use Rattle.ipam_store.proofs.store.Store.new.Goals as goal
 
 pub invariant_of-result : goal.invariant_of-result
 invariant_of-result c =
-    rw (c.new.ensures.items, c.new-2.ensures.items, c.new-3.ensures.items, c.new-4.ensures.items) (IsKept-none c.args.counter c.requires)
+    rw (c.new.ensures.rows, c.new-2.ensures.rows, c.new-3.ensures.rows, c.new-4.ensures.rows) (IsKept-none c.args.counter c.requires)

@@ -1,0 +1,50 @@
+use ipam_addr::{Addr, Cidr, Family, cidr};
+use ipam_handle::Handle;
+use ipam_record_text::{handle_of, handle_text};
+use ipam_text::Text;
+use std::alloc::{AllocError, Global};
+use std::io;
+use std::time::Instant;
+
+/// The first address of the first block, 10.0.0.0/26.
+const FIRST: u128 = 0x0a00_0000;
+
+const PREFIX: u8 = 26;
+
+/// How many addresses a block has.
+const ADDRESSES: u128 = 64;
+
+/// Prints a handle with a count in each of so many blocks, and reads it.
+pub fn print_and_read(rt: &HostRuntime, count: u32) -> io::Result<()> {
+    let handle = counted_handle(rt.alloc(), count)?;
+    let start = Instant::now(rt)?;
+    let body = handle_text(rt.alloc(), &handle)?;
+    crate::tell(rt, &start)?;
+    let start = Instant::now(rt)?;
+    let found = handle_of(rt.alloc(), body.as_str()).is_ok();
+    crate::tell(rt, &start)?;
+    let bytes = body.len();
+    println!(rt; "printed {count} counts, {bytes} bytes, read: {found}")
+}
+
+fn counted_handle(alloc: Global, count: u32) -> Result<Handle, AllocError> {
+    let mut handle = Handle::new(alloc, Text::copied(alloc, "n.c1")?);
+    for place in 0..count {
+        if handle.raise(block_at(place)?, 1).is_err() {
+            return Err(AllocError);
+        }
+    }
+    Ok(handle)
+}
+
+fn block_at(place: u32) -> Result<Cidr, AllocError> {
+    let number = FIRST + u128::from(place) * ADDRESSES;
+    if number > u128::from(u32::MAX) {
+        return Err(AllocError);
+    }
+    let base = Addr {
+        family: Family::V4,
+        number,
+    };
+    cidr(base, PREFIX).map_err(|_| AllocError)
+}

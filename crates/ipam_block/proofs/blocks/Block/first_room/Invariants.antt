@@ -1,8 +1,0 @@
-use Rattle.std.proofs.Common.{◌≡◌, drop}
-use Rattle.std.specs.Prelude.{not, find}
-use Rattle.ipam_block.specs.Operations.{room, address_of}
-use Rattle.ipam_block.proofs.blocks.Block.first_room.Given as goal
-
--- the room is the first of what is left of the queue
-abbrev pub invariant-loop-place : goal.invariant-loop-place
-invariant-loop-place g l = find (λ o. not (g.R.Spared.reserved l.reserved (address_of l.self.cidr o))) (drop l.place l.self.queue) ≡ room (g.R.Spared.reserved l.reserved) l.self

@@ -1,8 +1,0 @@
-use Rattle.std.proofs.Common.{arith, rules}
-use Rattle.ipam_block.proofs.Ordinals.{ordinals_below-more}
-use Rattle.ipam_block.proofs.blocks.full_queue.Goals as goal
-
-pub loop-ordinal-preserved : goal.loop-ordinal-preserved
-loop-ordinal-preserved c =
-    let more = ordinals_below-more c.loop-ordinal.ordinal in
-    record { queued = cc; count = omega arith; room = omega arith }

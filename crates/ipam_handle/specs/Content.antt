@@ -1,8 +1,0 @@
--- What contracts see of a handle: plain data.
-use Rattle.std.specs.Prelude.{ℕ, List}
-use Rattle.ipam_addr.specs.Shape.{Range}
-
--- a handle: its id, and the blocks that have a count with their counts
-pub record Content : Type 0 where
-  pub id : List ℕ
-  pub counts : List (Range × ℕ)

@@ -1,0 +1,7 @@
+-- What is gone from `rest` was appended.
+use Rattle.std.proofs.Common.{◌≡◌, ℕ, List, ◌++◌}
+use Rattle.std.specs.Io.KnownBytes.{Appends}
+use Rattle.ipam_io.proofs.standard.write_each.Given as goal
+
+abbrev pub invariant-loop : goal.invariant-loop
+invariant-loop g l = (done : List ℕ) × (l.piece ≡ done ++ l.rest) × Appends (g.W.Write.contents l.fn.writer) (g.W.Write.contents l.writer) done

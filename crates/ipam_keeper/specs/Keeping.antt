@@ -1,0 +1,39 @@
+-- What the calls of a keeper do to the rows that it tells, and what its faults mean.
+use Rattle.std.specs.Prelude.{◌≡◌, ℕ, ◌⊎◌, ⊤, List, Option, Result, Ok, Err, IfSome}
+use Rattle.std.specs.Option.{option_map}
+use Rattle.ipam_records.specs.declared.call.Row.{Row}
+use Rattle.ipam_keeper.specs.declared.keeper.KeepFault.{KeepFault}
+use Rattle.ipam_keeper.specs.declared.keeper.KeepFault.TheVariants.{Failed, Memory}
+use Rattle.ipam_keeper.specs.Rows.{rows_with, rows_without}
+
+-- these are the rows, where they are told
+abbrev pub IsTold : Option (List Row) → List Row → Type 0
+IsTold known rows = IfSome known (λ told. rows ≡ told)
+
+-- the rows after a put and after a removal, where they are told
+abbrev pub known_with : Row → Option (List Row) → Option (List Row)
+known_with row = option_map (rows_with row)
+
+abbrev pub known_without : List ℕ → Option (List Row) → Option (List Row)
+known_without key = option_map (rows_without key)
+
+-- the rows are as they were, or as a change leaves them
+abbrev pub IsOldOrNew : (old changed new : Option (List Row)) → Type 0
+IsOldOrNew old changed new = (new ≡ old) ⊎ (new ≡ changed)
+
+-- a fact of a call that failed, and of one that found no memory
+abbrev pub OnFailed : {T : Type 0} → Result T KeepFault → Type 0 → Type 0
+OnFailed (Ok value) p = ⊤
+OnFailed (Err Failed) p = p
+OnFailed (Err Memory) p = ⊤
+
+abbrev pub OnMemory : {T : Type 0} → Result T KeepFault → Type 0 → Type 0
+OnMemory (Ok value) p = ⊤
+OnMemory (Err Failed) p = ⊤
+OnMemory (Err Memory) p = p
+
+-- a fact of a call that did not fail
+abbrev pub UnlessFailed : {T : Type 0} → Result T KeepFault → Type 0 → Type 0
+UnlessFailed (Ok value) p = p
+UnlessFailed (Err Failed) p = ⊤
+UnlessFailed (Err Memory) p = p

@@ -1,0 +1,5 @@
+-- What a keeper keeps, and what its calls do.
+pub mod Rows
+pub mod Keeping
+pub mod MemoryState
+pub mod Places

@@ -1,0 +1,78 @@
+//! What a keeper of rows does.
+ghost use Rattle.std.specs.Prelude.{◌≡◌, ℕ, ◌≤◌, List, Option, IfOk, OnOk};
+ghost use Rattle.ipam_io.specs.Counts.{Rose};
+ghost use Rattle.ipam_records.specs.declared.call.Row.{Row as KeptRow};
+ghost use Rattle.ipam_keeper.specs.Rows.{Ascend, row_with};
+ghost use Rattle.ipam_keeper.specs.Keeping.{IsTold, known_with, known_without, IsOldOrNew, OnFailed, OnMemory, UnlessFailed};
+
+use ipam_records::Row;
+
+/// Why a keeper did not do what it was asked.
+#[derive(Clone, Copy, Debug, PartialEq, Eq)]
+pub enum KeepFault {
+    /// Its count of faults rose. A row that was put or removed is as it was or as it was to be.
+    Failed,
+    /// There was no memory, and nothing has changed.
+    Memory,
+}
+
+/// What rows are kept in, one for each key.
+pub trait Keeper {
+    /// The rows, where the keeper tells them.
+    ghost rows: { Self → Option (List KeptRow) };
+
+    /// How many calls failed. It stays at `u64::MAX` once it is there.
+    ghost faults: { Self → ℕ };
+
+    /// All rows, by ascending bytes of their keys, each key once.
+    fn load(&mut self) -> Result<Vec<Row>, KeepFault>
+        ensures ascending { IfOk result (λ loaded. Ascend loaded.items) }
+        ensures told { IfOk result (λ loaded. IsTold (rows self.old) loaded.items) }
+        ensures kept { rows self.new ≡ rows self.old }
+
+        ensures fault { OnFailed result (Rose (faults self.old) (faults self.new)) }
+        ensures no_fault { UnlessFailed result (faults self.new ≡ faults self.old) }
+        ensures never_falls { faults self.old ≤ faults self.new };
+
+    /// Puts in a row, in place of the one of its key if there is one.
+    fn put(&mut self, key: &str, revision: u64, body: &str) -> Result<(), KeepFault>
+        ensures done { OnOk result
+            (rows self.new ≡ known_with (row_with key.now revision body.now) (rows self.old)) }
+        ensures old_or_new { OnFailed result (IsOldOrNew (rows self.old)
+            (known_with (row_with key.now revision body.now) (rows self.old)) (rows self.new)) }
+        ensures unchanged { OnMemory result (rows self.new ≡ rows self.old) }
+
+        ensures fault { OnFailed result (Rose (faults self.old) (faults self.new)) }
+        ensures no_fault { UnlessFailed result (faults self.new ≡ faults self.old) }
+        ensures never_falls { faults self.old ≤ faults self.new };
+
+    /// Takes out the row of a key. It is no fault that there is none.
+    fn remove(&mut self, key: &str) -> Result<(), KeepFault>
+        ensures done { OnOk result (rows self.new ≡ known_without key.now (rows self.old)) }
+        ensures old_or_new { OnFailed result (IsOldOrNew (rows self.old)
+            (known_without key.now (rows self.old)) (rows self.new)) }
+        ensures unchanged { OnMemory result (rows self.new ≡ rows self.old) }
+
+        ensures fault { OnFailed result (Rose (faults self.old) (faults self.new)) }
+        ensures no_fault { UnlessFailed result (faults self.new ≡ faults self.old) }
+        ensures never_falls { faults self.old ≤ faults self.new };
+}
+
+/// A keeper that is lent is the same keeper.
+impl<K: Keeper> Keeper for &mut K {
+    ghost rows = { λ keeper. K.rows keeper.now };
+
+    ghost faults = { λ keeper. K.faults keeper.now };
+
+    fn load(&mut self) -> Result<Vec<Row>, KeepFault> {
+        Keeper::load(&mut **self)
+    }
+
+    fn put(&mut self, key: &str, revision: u64, body: &str) -> Result<(), KeepFault> {
+        Keeper::put(&mut **self, key, revision, body)
+    }
+
+    fn remove(&mut self, key: &str) -> Result<(), KeepFault> {
+        Keeper::remove(&mut **self, key)
+    }
+}

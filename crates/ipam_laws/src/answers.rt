@@ -1,0 +1,15 @@
+//! Which answers requests have, and what they say.
+ghost use Rattle.ipam_model.specs.CanAnswer.{CanAnswerLaw};
+ghost use Rattle.ipam_model.specs.FamilyLaw.{FamilyLaw};
+
+/// Each answer is one of those that the procedure of its request has, or says that a call failed.
+pub fn each_answer_is_one_of_its_procedure()
+    ensures { CanAnswerLaw }
+{}
+
+/// An ADD tells of families that were wanted, and of rounds that were for them: each family wanted
+/// before had been given an address by then, and this one had not. So of each address that it gives,
+/// of the family that has none, of a name that no pool has, and of a count at its limit.
+pub fn an_add_tells_of_a_round_for_a_wanted_family()
+    ensures { FamilyLaw }
+{}

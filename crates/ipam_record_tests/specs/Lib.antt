@@ -1,0 +1,2 @@
+-- An example of a word.
+pub mod Example

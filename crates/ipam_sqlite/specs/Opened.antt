@@ -1,0 +1,13 @@
+-- What is known of a keeper over a file: how many calls failed, and what they answer where it was not opened.
+use Rattle.std.specs.Prelude.{ℕ, Option}
+use Rattle.std.specs.Result.{result_err}
+use Rattle.ipam_keeper.specs.declared.keeper.KeepFault.{KeepFault}
+use Rattle.ipam_sqlite.specs.declared.keeper.SqliteKeeper.{SqliteKeeper}
+
+-- how many calls failed
+abbrev pub faults_of : {S : Type 0} → SqliteKeeper S → ℕ
+faults_of keeper = keeper.faults
+
+-- what each call answers, where the file could not be opened
+abbrev pub unopened : {S : Type 0} → SqliteKeeper S → Option KeepFault
+unopened keeper = result_err keeper.conn

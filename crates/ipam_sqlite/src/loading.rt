@@ -1,0 +1,88 @@
+//! The rows of the table, read in order.
+ghost use Rattle.std.specs.Prelude.{IfOk, IsTrue};
+ghost use Rattle.ipam_keeper.specs.Rows.{Ascend};
+ghost use Rattle.ipam_sqlite.specs.Order.{IsAboveAll};
+
+use ipam_keeper::{KeepFault, Row};
+use ipam_text::Text;
+use sqlite::{Alter, Connection, Error, ErrorCode, Rows};
+use std::alloc::Global;
+
+const LOAD: &str = "SELECT key, revision, body FROM rows ORDER BY key";
+
+const NO_MEMORY: Error = Error::SqliteFailure(ErrorCode::OutOfMemory);
+
+pub(crate) fn fault_of(error: Error) -> KeepFault {
+    if error == NO_MEMORY {
+        KeepFault::Memory
+    } else {
+        KeepFault::Failed
+    }
+}
+
+/// All rows. It is a fault that a row is no text, whole number and text, that its revision is
+/// negative, or that its key is not above the one before it.
+pub(crate) fn load_rows<S: Alter>(
+    conn: &mut Connection<S>,
+    alloc: Global,
+) -> Result<Vec<Row>, KeepFault>
+    ensures { IfOk result (λ loaded. Ascend loaded.items) }
+{
+    let mut loaded = Vec::new(alloc);
+    let mut rows = match conn.query(LOAD, &[]) {
+        Ok(rows) => rows,
+        Err(error) => return Err(fault_of(error)),
+    };
+    'rows: for _ in 0..u64::MAX {
+        match next_row(&mut rows) {
+            Ok(Some(row)) => push_row(&mut loaded, row)?,
+            Ok(None) => return Ok(loaded),
+            Err(fault) => return Err(fault),
+        }
+    }
+    Err(KeepFault::Failed)
+}
+
+fn next_row<S: Alter>(rows: &mut Rows<'_, S>) -> Result<Option<Row>, KeepFault> {
+    if let Err(error) = rows.advance() {
+        return Err(fault_of(error));
+    }
+    let Some(row) = rows.get() else {
+        return Ok(None);
+    };
+    match read_row(row) {
+        Ok(row) => Ok(Some(row)),
+        Err(error) => Err(fault_of(error)),
+    }
+}
+
+fn read_row(row: &sqlite::Row) -> Result<Row, Error> {
+    Ok(Row {
+        key: Text::of(row.get(0)?),
+        revision: row.get(1)?,
+        body: Text::of(row.get(2)?),
+    })
+}
+
+fn push_row(rows: &mut Vec<Row>, row: Row) -> Result<(), KeepFault>
+    requires { Ascend rows.old.items }
+    ensures { Ascend rows.new.items }
+{
+    if !is_above_all(rows, &row) {
+        return Err(KeepFault::Failed);
+    }
+    match rows.push(row) {
+        Ok(()) => Ok(()),
+        Err(_) => Err(KeepFault::Memory),
+    }
+}
+
+fn is_above_all(rows: &[Row], row: &Row) -> bool
+    requires { Ascend rows.now }
+    ensures { IsTrue result → IsAboveAll rows.now row.now }
+{
+    match rows.last() {
+        Some(last) => last.key < row.key,
+        None => true,
+    }
+}

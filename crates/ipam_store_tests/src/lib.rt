@@ -1,0 +1,11 @@
+//! Tests of the store.
+#![tactic(auto)]
+
+#[cfg(test)]
+mod calls;
+#[cfg(test)]
+mod pair;
+#[cfg(test)]
+mod plain;
+#[cfg(test)]
+mod tests;
