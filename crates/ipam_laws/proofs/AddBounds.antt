@@ -23,11 +23,17 @@ use Rattle.ipam_model.specs.Add as add
 use Rattle.ipam_model.specs.Add.{Served, Gave, Refused, Gift, Round}
 use Rattle.ipam_model.specs.AddThis as this
 use Rattle.ipam_model.specs.Affinities.{BlockRead, on_claim_write, claim, claim_found, claim_kept, claim_block, claim_confirm}
-use Rattle.ipam_model.specs.Assigning.{Target, target_in, Assigned, assign, assign_block, assign_lost, after_claim, claim_for}
+use Rattle.ipam_model.specs.declared.part.Assigned.{Assigned}
+use Rattle.ipam_model.specs.Assigning.{Target, target_in, assign, assign_block, assign_lost, after_claim, claim_for}
 use Rattle.ipam_model.specs.Choice.{Share, Takes, Claims, Leaves as Refuses, by_share, share_of, Rank, Own, Unconfirmed, Unclaimed, Foreign, Pick, Unknown, Lacks, Picks, pick_of}
 use Rattle.ipam_model.specs.Counting.{raise, lower, credit_of}
 use Rattle.ipam_model.specs.Reads.{config_said, pools_said, affinity_said, block_said}
-use Rattle.ipam_model.specs.Step.{Left, left_of, all_left, Outcome, Went, Stops, Stop, OutOfTries, OutOfClaims, NoRoom, CountAtLimit, NoRevisions, Part, goes, stops, rounds, in_rounds}
+use Rattle.ipam_model.specs.declared.part.Left.{Left}
+use Rattle.ipam_model.specs.declared.part.Outcome.{Outcome}
+use Rattle.ipam_model.specs.declared.part.Stop.{Stop}
+use Rattle.ipam_model.specs.declared.part.Stop.TheVariants.{OutOfTries, OutOfClaims, NoRoom, CountAtLimit, NoRevisions}
+use Rattle.ipam_model.specs.declared.part.Outcome.TheVariants.{Went, Stops}
+use Rattle.ipam_model.specs.Step.{left_of, all_left, Part, goes, stops, rounds, in_rounds}
 use Rattle.ipam_model.specs.Usable.{RuledPool, for_all, families_if, usable_pool_of}
 use Rattle.ipam_laws.proofs.Within.{Within, Any, Within-bound, Within-followed, Within-settled, Within-after_write}
 use Rattle.ipam_laws.proofs.PartBounds.{worth, Leaves, raise-within, lower-within, free-within, five_reads-within}

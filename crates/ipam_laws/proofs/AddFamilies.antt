@@ -23,13 +23,19 @@ use Rattle.ipam_model.specs.Add.{gift_of, Gave, Gift, NextRound, Refused, Round,
 use Rattle.ipam_block.specs.Operations.{address_of}
 use Rattle.ipam_model.specs.declared.answer.Given.{Given}
 use Rattle.ipam_model.specs.AddLaw.{families_of, scan_of}
-use Rattle.ipam_model.specs.Assigning.{Assigned, assign, claim_for, target_in}
+use Rattle.ipam_model.specs.declared.part.Assigned.{Assigned}
+use Rattle.ipam_model.specs.Assigning.{assign, claim_for, target_in}
 use Rattle.ipam_model.specs.Affinities.{BlockRead}
 use Rattle.ipam_model.specs.Choice.{IsChoice, Lacks, Own, Unconfirmed, Unclaimed, Foreign, Pick, Picks, Rank, Seen, Unknown, block_at, block_in_found, choice_at, choice_in, is_block_at, pick_of}
 use Rattle.ipam_model.specs.Counting.{freeing_one}
 use Rattle.ipam_model.specs.Reads.{config_said, pools_said, reservations_said, rows_said}
 use Rattle.ipam_model.specs.Requests.{told_as}
-use Rattle.ipam_model.specs.Step.{Left, Outcome, Part, Went, Stops, Stop, OutOfTries, OutOfClaims, NoRoom, CountAtLimit, NoRevisions, all_left, answer_of, onward, rounds, stop_answer, stops}
+use Rattle.ipam_model.specs.declared.part.Left.{Left}
+use Rattle.ipam_model.specs.declared.part.Outcome.{Outcome}
+use Rattle.ipam_model.specs.declared.part.Stop.{Stop}
+use Rattle.ipam_model.specs.declared.part.Stop.TheVariants.{OutOfTries, OutOfClaims, NoRoom, CountAtLimit, NoRevisions}
+use Rattle.ipam_model.specs.declared.part.Outcome.TheVariants.{Went, Stops}
+use Rattle.ipam_model.specs.Step.{Part, all_left, answer_of, onward, rounds, stop_answer, stops}
 use Rattle.ipam_model.specs.Told.{of_add}
 use Rattle.ipam_model.specs.Usable.{families_if, for_all}
 use Rattle.ipam_model.proofs.ChoiceLemmas.{choice_is}

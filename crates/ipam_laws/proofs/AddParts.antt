@@ -23,12 +23,18 @@ use Rattle.ipam_records.specs.Word.{Word, Ends}
 use Rattle.ipam_model.specs.declared.outcome.ClaimAnswer.{ClaimAnswer}
 use Rattle.ipam_model.specs.declared.outcome.ClaimAnswer.TheVariants as claimed
 use Rattle.ipam_model.specs.Affinities.{BlockRead, affinity, claim, claim_block, claim_confirm, claim_found, claim_kept, claiming, on_claim_write}
-use Rattle.ipam_model.specs.Assigning.{Assigned, Target, after_claim, after_confirmed, assign, assign_block, assign_lost, claim_for}
+use Rattle.ipam_model.specs.declared.part.Assigned.{Assigned}
+use Rattle.ipam_model.specs.Assigning.{Target, after_claim, after_confirmed, assign, assign_block, assign_lost, claim_for}
 use Rattle.ipam_model.specs.Counting.{Freeing, credit_of, free, free_found, free_once, free_these, lower, lower_once, lowering, most_count, raise, raise_once, raise_write, revision_said, written_or_deleted}
 use Rattle.ipam_model.specs.declared.entry.CallName.TheVariants as name
 use Rattle.ipam_model.specs.Named.{name_of}
 use Rattle.ipam_model.specs.Reads.{affinity_said, block_said, handle_said}
-use Rattle.ipam_model.specs.Step.{Left, Outcome, Part, Went, Stops, Stop, OutOfTries, OutOfClaims, NoRoom, CountAtLimit, NoRevisions, after_lost, after_write, followed, goes, left_of, on_write, onward, stops, tries, write_back}
+use Rattle.ipam_model.specs.declared.part.Left.{Left}
+use Rattle.ipam_model.specs.declared.part.Outcome.{Outcome}
+use Rattle.ipam_model.specs.declared.part.Stop.{Stop}
+use Rattle.ipam_model.specs.declared.part.Stop.TheVariants.{OutOfTries, OutOfClaims, NoRoom, CountAtLimit, NoRevisions}
+use Rattle.ipam_model.specs.declared.part.Outcome.TheVariants.{Went, Stops}
+use Rattle.ipam_model.specs.Step.{Part, after_lost, after_write, followed, goes, left_of, on_write, onward, stops, tries, write_back}
 use Rattle.ipam_laws.proofs.Trails.{AgreesAll, Comes, Comes-bound, Did, Trail}
 use Rattle.ipam_laws.proofs.AddTrails.{IsGift, IsQuiet, Knows, More, Quietly, Same, assign-gives, assign-only, create-quiet, knows-did, not-block, quietly-knows, update-quiet}
 

@@ -29,7 +29,11 @@ use Rattle.ipam_model.specs.AffinityLaw.{HasAt}
 use Rattle.ipam_model.specs.Choice.{FirstCandidate, IsBest, IsChoice, Picks, Rank, Ranked, Own, Unconfirmed, Unclaimed, Foreign, Seen, block_at, block_in_found, choice_at, chosen, has_free_address, is_block_at, is_confirmed_for, is_node, is_unowned_and_empty, may_claim, pick_of, rank_at, rank_of_block, room_of}
 use Rattle.ipam_model.specs.Affinities.{BlockRead}
 use Rattle.ipam_model.specs.Reads.{Row, config_said, pools_said, reservations_said, rows_said}
-use Rattle.ipam_model.specs.Step.{Left, Outcome, Went, Stops, Stop, OutOfTries, OutOfClaims, NoRoom, CountAtLimit, NoRevisions}
+use Rattle.ipam_model.specs.declared.part.Left.{Left}
+use Rattle.ipam_model.specs.declared.part.Outcome.{Outcome}
+use Rattle.ipam_model.specs.declared.part.Stop.{Stop}
+use Rattle.ipam_model.specs.declared.part.Stop.TheVariants.{OutOfTries, OutOfClaims, NoRoom, CountAtLimit, NoRevisions}
+use Rattle.ipam_model.specs.declared.part.Outcome.TheVariants.{Went, Stops}
 use Rattle.ipam_model.specs.Usable.{Asked, RuledPool, for_all, is_usable, unknown_name}
 use Rattle.ipam_model.proofs.ChoiceLemmas.{pick-ranked}
 use Rattle.ipam_laws.proofs.AddParts.{GivesLast, NotLimit}

@@ -18,7 +18,11 @@ use Rattle.ipam_model.specs.AffinityLaw.{HasAt}
 use Rattle.ipam_model.specs.CountLaw.{count_in_row, handle_count}
 use Rattle.ipam_model.specs.Counting.{most_count, raise, raise_once, raise_write, lower, lower_once, lower_write, written_or_deleted, credit_of}
 use Rattle.ipam_model.specs.Reads.{handle_said}
-use Rattle.ipam_model.specs.Step.{Left, left_of, Outcome, Went, Stops, Part, OutOfTries, CountAtLimit, NoRoom, NoRevisions, goes, stops, onward, followed, tries, write_back, on_write}
+use Rattle.ipam_model.specs.declared.part.Left.{Left}
+use Rattle.ipam_model.specs.declared.part.Outcome.{Outcome}
+use Rattle.ipam_model.specs.declared.part.Stop.TheVariants.{OutOfTries, CountAtLimit, NoRoom, NoRevisions}
+use Rattle.ipam_model.specs.declared.part.Outcome.TheVariants.{Went, Stops}
+use Rattle.ipam_model.specs.Step.{left_of, Part, goes, stops, onward, followed, tries, write_back, on_write}
 use Rattle.ipam_laws.proofs.Lift.{Known, more, Grows, Agrees, label_to, Meets, label_to-bound, Meets-bound}
 use Rattle.ipam_laws.proofs.Calls.{found-key, found-handle, create-can, update-can, delete-can, get-meets, write-meets}
 use Rattle.ipam_laws.proofs.CountLemmas.{cidr_cases, raised-here, lowered-here, count-elsewhere}

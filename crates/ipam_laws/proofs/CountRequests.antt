@@ -56,7 +56,11 @@ use Rattle.ipam_model.specs.Reads.{config_said, pools_said, reservations_said, h
 use Rattle.ipam_model.specs.Remove as remove
 use Rattle.ipam_model.specs.Requests.{word_of, told_as}
 use Rattle.ipam_model.specs.Told.{of_add, of_add_this, of_del, of_check, of_release, of_collect, of_admin, of_probe}
-use Rattle.ipam_model.specs.Step.{Left, left_of, all_left, Went, Stops, Stop, OutOfTries, OutOfClaims, NoRoom, CountAtLimit, NoRevisions, Part, stop_answer, settled, goes, stops, tries, retried, in_rounds, write_back}
+use Rattle.ipam_model.specs.declared.part.Left.{Left}
+use Rattle.ipam_model.specs.declared.part.Stop.{Stop}
+use Rattle.ipam_model.specs.declared.part.Stop.TheVariants.{OutOfTries, OutOfClaims, NoRoom, CountAtLimit, NoRevisions}
+use Rattle.ipam_model.specs.declared.part.Outcome.TheVariants.{Went, Stops}
+use Rattle.ipam_model.specs.Step.{left_of, all_left, Part, stop_answer, settled, goes, stops, tries, retried, in_rounds, write_back}
 use Rattle.ipam_model.specs.Usable.{RuledPool, for_all, families_if, usable_pool_of, pool_of}
 use Rattle.ipam_laws.proofs.Lift.{Known, more, label_to}
 use Rattle.ipam_laws.proofs.Calls.{get-meets, list-meets, write-meets}

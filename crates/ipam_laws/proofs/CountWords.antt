@@ -30,7 +30,11 @@ use Rattle.ipam_model.specs.Choice.{Seen, is_block_at, block_in_found, block_at,
 use Rattle.ipam_model.proofs.ChoiceLemmas.{pick-ranked}
 use Rattle.ipam_model.specs.Counting.{raise}
 use Rattle.ipam_model.specs.Reads.{Row, config_said, pools_said, reservations_said, rows_said}
-use Rattle.ipam_model.specs.Step.{Left, left_of, Outcome, Went, Stops, Part, OutOfTries, StopAnswers, answer_of, settled, stops, onward, followed, rounds}
+use Rattle.ipam_model.specs.declared.part.Left.{Left}
+use Rattle.ipam_model.specs.declared.part.Outcome.{Outcome}
+use Rattle.ipam_model.specs.declared.part.Stop.TheVariants.{OutOfTries}
+use Rattle.ipam_model.specs.declared.part.Outcome.TheVariants.{Went, Stops}
+use Rattle.ipam_model.specs.Step.{left_of, Part, StopAnswers, answer_of, settled, stops, onward, followed, rounds}
 use Rattle.ipam_model.specs.Usable.{Asked, for_all, is_same_cidr}
 use Rattle.ipam_laws.proofs.Lift.{Known, more, Grows, label_to, Meets-bound, label_to-bound}
 use Rattle.ipam_laws.proofs.Calls.{found-block, get-meets, list-meets}

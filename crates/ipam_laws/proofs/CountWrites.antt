@@ -27,12 +27,15 @@ use Rattle.ipam_model.specs.declared.outcome.ReleaseAnswer.TheVariants as releas
 use Rattle.ipam_model.specs.Affinities as affinities
 use Rattle.ipam_model.specs.Affinities.{BlockRead, affinity}
 use Rattle.ipam_model.specs.AffinityLaw.{HasAt}
-use Rattle.ipam_model.specs.Assigning.{Target, Assigned, assign_block, assign_lost}
+use Rattle.ipam_model.specs.declared.part.Assigned.{Assigned}
+use Rattle.ipam_model.specs.Assigning.{Target, assign_block, assign_lost}
 use Rattle.ipam_model.specs.Cluster.{store_with}
 use Rattle.ipam_model.specs.CountLaw.{held_in_row, held_count}
 use Rattle.ipam_model.specs.Counting.{lower, Freeing, free, free_once, free_found, free_these, credit_of}
 use Rattle.ipam_model.specs.Reads.{affinity_said, block_said}
-use Rattle.ipam_model.specs.Step.{Left, left_of, Part, OutOfTries, NoRoom, NoRevisions, goes, stops, followed, tries, retried}
+use Rattle.ipam_model.specs.declared.part.Left.{Left}
+use Rattle.ipam_model.specs.declared.part.Stop.TheVariants.{OutOfTries, NoRoom, NoRevisions}
+use Rattle.ipam_model.specs.Step.{left_of, Part, goes, stops, followed, tries, retried}
 use Rattle.ipam_laws.proofs.Lift.{Known, more, Grows, Agrees, label_to}
 use Rattle.ipam_laws.proofs.Calls.{found-key, found-block, update-can, get-meets, write-meets, write-meets-at}
 use Rattle.ipam_laws.proofs.CountLemmas.{text_cases, held-assigned, held-filter, held-filter_le, same_text}

@@ -14,7 +14,11 @@ use Rattle.ipam_model.specs.Add.{five_reads}
 use Rattle.ipam_model.specs.Choice.{Seen}
 use Rattle.ipam_model.specs.Usable.{for_all}
 use Rattle.ipam_model.specs.Reads.{config_said, pools_said, reservations_said, rows_said, handle_said, block_said}
-use Rattle.ipam_model.specs.Step.{Left, left_of, Outcome, Went, Stops, Part, OutOfTries, NoRoom, NoRevisions, CountAtLimit, goes, stops, tries}
+use Rattle.ipam_model.specs.declared.part.Left.{Left}
+use Rattle.ipam_model.specs.declared.part.Outcome.{Outcome}
+use Rattle.ipam_model.specs.declared.part.Stop.TheVariants.{OutOfTries, NoRoom, NoRevisions, CountAtLimit}
+use Rattle.ipam_model.specs.declared.part.Outcome.TheVariants.{Went, Stops}
+use Rattle.ipam_model.specs.Step.{left_of, Part, goes, stops, tries}
 use Rattle.ipam_model.specs.Counting.{most_count, raise, raise_once, raise_write, lower, lower_once, Freeing, free, free_once, free_found, free_these, credit_of}
 use Rattle.ipam_laws.proofs.Within.{Within, Within-followed, Within-after_write}
 

@@ -34,7 +34,9 @@ use Rattle.ipam_model.specs.Reads.{handle_said, rows_said, affinity_said, block_
 use Rattle.ipam_model.specs.Remove as remove
 use Rattle.ipam_model.specs.Requests.{word_of, told_as}
 use Rattle.ipam_model.specs.Told.{of_add, of_add_this, of_del, of_check, of_release, of_collect, of_admin, of_probe}
-use Rattle.ipam_model.specs.Step.{Left, left_of, all_left, Part, OutOfTries, NoRoom, NoRevisions, goes, stops, tries, retried}
+use Rattle.ipam_model.specs.declared.part.Left.{Left}
+use Rattle.ipam_model.specs.declared.part.Stop.TheVariants.{OutOfTries, NoRoom, NoRevisions}
+use Rattle.ipam_model.specs.Step.{left_of, all_left, Part, goes, stops, tries, retried}
 use Rattle.ipam_model.specs.Usable.{families_if, pool_of}
 use Rattle.ipam_laws.proofs.Within.{Within, Any, AtMost-Within, Within-bound, Within-followed, Within-settled, Within-after_write}
 use Rattle.ipam_laws.proofs.PartBounds.{Leaves, free-within, five_reads-within}

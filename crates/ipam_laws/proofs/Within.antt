@@ -3,7 +3,11 @@ use Rattle.std.proofs.Common.{ℕ, ◌-◌, ◌<◌, List}
 use Rattle.ipam_records.specs.Bound.{AtMost}
 use Rattle.ipam_records.specs.Said.{Said, Found, Missing, Listed, Can, Exists, Conflict, Full, Spent}
 use Rattle.ipam_records.specs.Word.{Word, Ends, Asks, Waits, bound}
-use Rattle.ipam_model.specs.Step.{Left, Stop, Outcome, Went, Stops, Part, StopAnswers, answer_of, settled, after_write, onward, followed}
+use Rattle.ipam_model.specs.declared.part.Left.{Left}
+use Rattle.ipam_model.specs.declared.part.Stop.{Stop}
+use Rattle.ipam_model.specs.declared.part.Outcome.{Outcome}
+use Rattle.ipam_model.specs.declared.part.Outcome.TheVariants.{Went, Stops}
+use Rattle.ipam_model.specs.Step.{Part, StopAnswers, answer_of, settled, after_write, onward, followed}
 
 -- with so many calls left at first, it is true of the answer and of the calls that are left then
 abbrev pub Within : {A : Type 0} → (A → ℕ → Type 0) → Word A → ℕ → Type 0

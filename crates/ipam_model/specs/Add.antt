@@ -14,11 +14,17 @@ use Rattle.ipam_model.specs.declared.outcome.AddAnswer.{AddAnswer}
 use Rattle.ipam_model.specs.declared.outcome.AddAnswer.TheVariants as add
 use Rattle.ipam_model.specs.declared.request.AddRequest.{AddRequest}
 use Rattle.ipam_model.specs.Affinities.{BlockRead}
-use Rattle.ipam_model.specs.Assigning.{names_for, Target, target_in, Assigned, assign, claim_for}
+use Rattle.ipam_model.specs.declared.part.Assigned.{Assigned}
+use Rattle.ipam_model.specs.Assigning.{names_for, Target, target_in, assign, claim_for}
 use Rattle.ipam_model.specs.Choice.{Seen, Rank, Own, Unconfirmed, Unclaimed, Foreign, Pick, Unknown, Lacks, Picks, pick_of}
 use Rattle.ipam_model.specs.Counting.{freeing_one, free}
 use Rattle.ipam_model.specs.Reads.{config_said, pools_said, reservations_said, rows_said}
-use Rattle.ipam_model.specs.Step.{Left, all_left, Stop, OutOfTries, OutOfClaims, NoRoom, CountAtLimit, NoRevisions, Outcome, Went, Stops, Part, StopAnswers, stop_answer, goes, stops, followed, in_rounds, settled}
+use Rattle.ipam_model.specs.declared.part.Left.{Left}
+use Rattle.ipam_model.specs.declared.part.Stop.{Stop}
+use Rattle.ipam_model.specs.declared.part.Outcome.{Outcome}
+use Rattle.ipam_model.specs.declared.part.Stop.TheVariants.{OutOfTries, OutOfClaims, NoRoom, CountAtLimit, NoRevisions}
+use Rattle.ipam_model.specs.declared.part.Outcome.TheVariants.{Went, Stops}
+use Rattle.ipam_model.specs.Step.{all_left, Part, StopAnswers, stop_answer, goes, stops, followed, in_rounds, settled}
 use Rattle.ipam_model.specs.Usable.{Asked, for_all, families_if}
 
 -- The configuration, the pools and the reservations are read, and the affinities and the blocks are

@@ -16,10 +16,12 @@ use Rattle.ipam_model.specs.declared.outcome.AddThisAnswer.{AddThisAnswer}
 use Rattle.ipam_model.specs.declared.outcome.AddThisAnswer.TheVariants as add
 use Rattle.ipam_model.specs.declared.request.AddRequest.{AddRequest}
 use Rattle.ipam_model.specs.Affinities.{BlockRead}
-use Rattle.ipam_model.specs.Assigning.{names_for, target_in, Assigned, assign, claim_for}
+use Rattle.ipam_model.specs.declared.part.Assigned.{Assigned}
+use Rattle.ipam_model.specs.Assigning.{names_for, target_in, assign, claim_for}
 use Rattle.ipam_model.specs.Choice.{by_share, share_of}
 use Rattle.ipam_model.specs.Reads.{config_said, pools_said, block_said}
-use Rattle.ipam_model.specs.Step.{Left, all_left, Part, StopAnswers, goes, followed, in_rounds, settled}
+use Rattle.ipam_model.specs.declared.part.Left.{Left}
+use Rattle.ipam_model.specs.Step.{all_left, Part, StopAnswers, goes, followed, in_rounds, settled}
 use Rattle.ipam_model.specs.Usable.{Asked, RuledPool, for_all, usable_pool_of}
 
 abbrev pub asked_of_this : AddRequest → AddrValue → Asked

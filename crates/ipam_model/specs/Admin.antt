@@ -19,7 +19,8 @@ use Rattle.ipam_model.specs.declared.outcome.AdminAnswer.TheVariants as admin
 use Rattle.ipam_model.specs.declared.request.Admin.{Admin}
 use Rattle.ipam_model.specs.declared.request.Admin.TheVariants as change
 use Rattle.ipam_model.specs.Reads.{pools_said, reservations_said}
-use Rattle.ipam_model.specs.Step.{Left, all_left, Part, StopAnswers, goes, write_back, on_write, retried, without_count, settled}
+use Rattle.ipam_model.specs.declared.part.Left.{Left}
+use Rattle.ipam_model.specs.Step.{all_left, Part, StopAnswers, goes, write_back, on_write, retried, without_count, settled}
 use Rattle.ipam_model.specs.Usable.{is_same_cidr}
 
 -- what a change makes of the record, or the number of the refusal and the name that it is about

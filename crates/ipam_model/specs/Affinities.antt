@@ -19,7 +19,8 @@ use Rattle.ipam_model.specs.declared.outcome.ReleaseAnswer.{ReleaseAnswer}
 use Rattle.ipam_model.specs.declared.outcome.ReleaseAnswer.TheVariants as released
 use Rattle.ipam_model.specs.Choice.{is_node}
 use Rattle.ipam_model.specs.Reads.{affinity_said, block_said}
-use Rattle.ipam_model.specs.Step.{Left, all_left, Part, StopAnswers, goes, after_write, on_write, retried, without_count, settled}
+use Rattle.ipam_model.specs.declared.part.Left.{Left}
+use Rattle.ipam_model.specs.Step.{all_left, Part, StopAnswers, goes, after_write, on_write, retried, without_count, settled}
 
 abbrev pub affinity : List ℕ → CidrValue → State → Affinity
 affinity node cidr state = record { node = node; cidr = cidr; state = state }

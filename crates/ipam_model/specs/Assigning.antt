@@ -10,12 +10,15 @@ use Rattle.ipam_records.specs.declared.call.Call.TheVariants.{Update}
 use Rattle.ipam_records.specs.declared.record.Record.TheVariants as record_of
 use Rattle.ipam_records.specs.Label.{owing}
 use Rattle.ipam_records.specs.Word.{Asks, bound}
+use Rattle.ipam_model.specs.declared.part.Assigned.{Assigned}
 use Rattle.ipam_model.specs.declared.outcome.ClaimAnswer.{ClaimAnswer}
 use Rattle.ipam_model.specs.declared.outcome.ClaimAnswer.TheVariants as claimed
 use Rattle.ipam_model.specs.declared.request.AddRequest.{AddRequest}
 use Rattle.ipam_model.specs.Affinities.{BlockRead, claim}
 use Rattle.ipam_model.specs.Counting.{credit_of, raise, lower}
-use Rattle.ipam_model.specs.Step.{Left, left_of, Part, OutOfClaims, NoRoom, NoRevisions, goes, stops, followed, after_lost, on_write}
+use Rattle.ipam_model.specs.declared.part.Left.{Left}
+use Rattle.ipam_model.specs.declared.part.Stop.TheVariants.{OutOfClaims, NoRoom, NoRevisions}
+use Rattle.ipam_model.specs.Step.{left_of, Part, goes, stops, followed, after_lost, on_write}
 
 -- the pools of the family that the request names
 abbrev pub names_for : Family → AddRequest → List (List ℕ)
@@ -32,11 +35,6 @@ pub record Target : Type 0 where
 
 abbrev pub target_in : ℕ × block.BlockValue → (ordinal : ℕ) → Target
 target_in found ordinal = record { revision = found.0; block = found.1; ordinal = ordinal }
-
--- the moment of the block's write, and the stamp
-pub record Assigned : Type 0 where
-  pub moment : ℕ
-  pub stamp : ℕ
 
 -- The block was not written: the count is lowered again, and another look is needed.
 abbrev pub assign_lost : Attributes → Target → Left → Part (Option Assigned)

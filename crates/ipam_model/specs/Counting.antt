@@ -15,7 +15,9 @@ use Rattle.ipam_records.specs.Said.{Said, Found}
 use Rattle.ipam_records.specs.Label.{Credit, idle, owing}
 use Rattle.ipam_records.specs.Word.{Asks}
 use Rattle.ipam_model.specs.Reads.{handle_said, block_said}
-use Rattle.ipam_model.specs.Step.{Left, Part, CountAtLimit, goes, stops, followed, write_back, on_write, retried}
+use Rattle.ipam_model.specs.declared.part.Left.{Left}
+use Rattle.ipam_model.specs.declared.part.Stop.TheVariants.{CountAtLimit}
+use Rattle.ipam_model.specs.Step.{Part, goes, stops, followed, write_back, on_write, retried}
 
 -- the highest count of a block in a handle
 abbrev pub most_count : ℕ

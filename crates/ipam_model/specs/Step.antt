@@ -6,6 +6,11 @@ use Rattle.ipam_records.specs.declared.call.Call.TheVariants.{Create, Update}
 use Rattle.ipam_records.specs.declared.record.Record.{Record}
 use Rattle.ipam_records.specs.Said.{Said, Found, Missing, Listed, Can, Exists, Conflict, Full, Spent}
 use Rattle.ipam_records.specs.Word.{Word, Ends, bound}
+use Rattle.ipam_model.specs.declared.part.Left.{Left}
+use Rattle.ipam_model.specs.declared.part.Stop.{Stop}
+use Rattle.ipam_model.specs.declared.part.Stop.TheVariants.{OutOfTries, OutOfClaims, NoRoom, CountAtLimit, NoRevisions}
+use Rattle.ipam_model.specs.declared.part.Outcome.{Outcome}
+use Rattle.ipam_model.specs.declared.part.Outcome.TheVariants.{Went, Stops}
 
 -- ---- what is left
 
@@ -15,11 +20,6 @@ most_lost = 64
 
 abbrev pub most_claims : ℕ
 most_claims = 64
-
--- how many races a request may still lose and go on, and how many claims it may still confirm
-pub record Left : Type 0 where
-  pub races : ℕ
-  pub claims : ℕ
 
 abbrev pub left_of : (races claims : ℕ) → Left
 left_of races claims = record { races = races; claims = claims }
@@ -55,22 +55,6 @@ after_write (Found revision found) took lost full spent = lost
 after_write (Listed rows) took lost full spent = lost
 
 -- ---- how a part ends
-
--- why a part of a request ends the request
-pub data Stop : Type 0 where
-  -- the 64th race was lost
-  OutOfTries : Stop
-  -- the 64th claim was confirmed
-  OutOfClaims : Stop
-  NoRoom : Stop
-  -- the handle's count of the block is at its limit, as was read at this moment
-  CountAtLimit : (moment : ℕ) → Stop
-  NoRevisions : Stop
-
--- a part comes to something or stops the request, with what is left
-pub data Outcome (A : Type 0) : Type 0 where
-  Went : Left → A → Outcome A
-  Stops : Left → Stop → Outcome A
 
 -- a part of a request
 abbrev pub Part : Type 0 → Type 0

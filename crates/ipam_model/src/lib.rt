@@ -8,6 +8,7 @@ mod choice;
 mod entry;
 pub mod laws;
 mod outcome;
+mod part;
 mod request;
 
 pub use answer::{Answer, Collected, Given, GivenThis, Item, Scan};
@@ -17,4 +18,5 @@ pub use outcome::{
     AddAnswer, AddThisAnswer, AdminAnswer, CheckAnswer, ClaimAnswer, CollectAnswer, DelAnswer,
     FreeAnswer, ProbeAnswer, ReleaseAnswer,
 };
+pub use part::{Assigned, Left, Outcome, Stop};
 pub use request::{AddRequest, Admin, CollectRequest, ProbeRequest, Request};
