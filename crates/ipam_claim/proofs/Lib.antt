@@ -1,1 +1,2 @@
 mod StageLemmas
+mod ReleaseLemmas

@@ -1,5 +1,5 @@
 -- A claim that goes on has a call to make.
-use Rattle.std.specs.Prelude.{◌≡◌, refl, ℕ, List, Option, None}
+use Rattle.std.specs.Prelude.{◌≡◌, refl, ℕ, List, None}
 use Rattle.ipam_addr.specs.Shape.{CidrValue}
 use Rattle.ipam_records.specs.Word.{ended}
 use Rattle.ipam_model.specs.Affinities.{BlockRead, claim}

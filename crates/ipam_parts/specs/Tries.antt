@@ -3,7 +3,8 @@ use Rattle.std.specs.Prelude.{ℕ, zero, suc, Result, Ok, Err}
 use Rattle.ipam_model.specs.declared.part.Left.{Left}
 use Rattle.ipam_model.specs.declared.part.Stop.{Stop}
 use Rattle.ipam_model.specs.declared.part.Stop.TheVariants.{OutOfTries, OutOfClaims}
-use Rattle.ipam_model.specs.Step.{left_of, Part, stops}
+use Rattle.ipam_records.specs.Word.{Word, Ends}
+use Rattle.ipam_model.specs.Step.{left_of, Part, StopAnswers, stops, stop_answer, settled, after_lost, retried}
 
 abbrev pub less_races : (races claims : ℕ) → Result Left Stop
 less_races zero claims = Err OutOfTries
@@ -25,3 +26,12 @@ less_a_claim left = less_claims left.races left.claims
 abbrev pub on_left : {A : Type 0} → Left → Result Left Stop → (on : Left → Part A) → Part A
 on_left left (Ok now) on = on now
 on_left left (Err why) on = stops left why
+
+-- what follows where a try loses a race
+abbrev pub again_of : {A : Type 0} → (try : Part A → Left → Part A) → Left → Part A
+again_of try left = after_lost left.races left.claims (retried try)
+
+-- what is left where the part is a whole request: its next try, or the answer that it stops with
+abbrev pub settled_try : {A : Type 0} → StopAnswers A → (try : Part A → Left → Part A) → Left → Result Left Stop → Word A
+settled_try answers try left (Ok now) = settled answers (try (again_of try now) now)
+settled_try answers try left (Err why) = Ends (stop_answer answers left why)

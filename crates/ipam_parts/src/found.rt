@@ -1,10 +1,13 @@
-ghost use Rattle.std.specs.Prelude.{◌≡◌, ◌<◌, ◌≤◌, ◌^◌, IfOk};
+ghost use Rattle.std.specs.Prelude.{◌≡◌, ◌<◌, ◌≤◌, ◌^◌, IfOk, IfSome};
+ghost use Rattle.ipam_records.specs.Said.{said};
+ghost use Rattle.ipam_model.specs.Reads.{block_said};
 ghost use Rattle.ipam_addr.specs.Width.{cidr_size};
 ghost use Rattle.ipam_block.specs.declared.limits.TheConstants.{ADDRESSES_MAX};
 ghost use Rattle.ipam_block.specs.Operations.{next_block};
 
 use ipam_addr::Cidr;
 use ipam_block::Block;
+use ipam_records::{Record, Reply};
 use std::alloc::AllocError;
 use std::marker::Model;
 
@@ -88,5 +91,18 @@ impl BlockCidr {
         ensures small { cidr_size result ≤ ADDRESSES_MAX }
     {
         self.cidr
+    }
+}
+
+/// The block that was found, or that it was missing.
+pub fn found_block(reply: &Reply) -> Result<Option<FoundBlock>, AllocError>
+    requires { IfSome (block_said (said reply.now)) (λ found. found.1.sequence < 2 ^ 62) }
+    ensures { IfOk result (λ read. read ≡ block_said (said reply.now)) }
+{
+    match reply {
+        Reply::Found(revision, Record::Block(block)) => {
+            Ok(Some(FoundBlock::of(*revision, block)?))
+        }
+        _ => Ok(None),
     }
 }

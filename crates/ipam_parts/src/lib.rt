@@ -6,7 +6,7 @@ mod found;
 mod left;
 mod write_end;
 
-pub use found::{BlockCidr, FoundBlock};
+pub use found::{BlockCidr, FoundBlock, found_block};
 pub use left::{after_claim, after_lost, all_left};
 pub use std::alloc::AllocError as Memory;
 pub use write_end::WriteEnd;
