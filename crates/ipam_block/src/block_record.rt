@@ -59,7 +59,7 @@ impl Model for Block {
 
 /// Which allocations are freed.
 #[derive(Clone, Copy)]
-enum Which<'a> {
+pub enum Which<'a> {
     /// All of a handle's.
     Owned(&'a str),
     /// That of an ordinal, where the handle holds it with the stamp.
@@ -298,7 +298,8 @@ impl Block {
         self.free(&Which::Stamped(ordinal, handle, stamp)) > 0
     }
 
-    fn free(&mut self, which: &Which) -> usize
+    /// Frees what is picked, and answers how many ordinals that were. Takes no memory.
+    pub fn free(&mut self, which: &Which) -> usize
         ensures freed { self.new ≡ freed (picks which.now) self.old }
         ensures count { result ≡ count_by (picks which.now) self.old.allocations }
         ensures few { result ≤ ADDRESSES_MAX }

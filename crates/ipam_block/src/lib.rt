@@ -10,5 +10,5 @@ mod limits;
 mod sound;
 
 pub use allocation::{Allocation, Attributes, Held, PartsFault};
-pub use block_record::Block;
+pub use block_record::{Block, Which};
 pub use limits::{ADDRESSES_MAX, KEY_BYTES_MAX, PAIRS_MAX, VALUE_BYTES_MAX};

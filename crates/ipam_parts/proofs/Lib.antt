@@ -1,2 +1,3 @@
 pub mod TryLaws
 pub mod HearingFacts
+mod RaisingLemmas

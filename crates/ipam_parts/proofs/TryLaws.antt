@@ -2,7 +2,7 @@
 use Rattle.std.proofs.Common.{◌≡◌, refl, ap, ℕ, zero, suc}
 use Rattle.ipam_model.specs.declared.part.Left.{Left}
 use Rattle.ipam_model.specs.Step.{Part, StopAnswers, settled, left_of, tries, retried}
-use Rattle.ipam_parts.specs.Tries.{again_of, settled_try, less_a_race}
+use Rattle.ipam_parts.specs.Tries.{again_of, next_try, settled_try, less_a_race}
 
 tries_once : {A : Type 0} (try : Part A → Left → Part A) (races claims : ℕ)
     → tries try races claims ≡ try (again_of try (left_of races claims)) (left_of races claims)
@@ -25,3 +25,13 @@ lost_at answers try (suc races) claims = ap (settled answers) (retried_once try 
 pub lost_goes : {A : Type 0} (answers : StopAnswers A) (try : Part A → Left → Part A) (left : Left)
     → settled answers (again_of try left) ≡ settled_try answers try left (less_a_race left)
 lost_goes answers try left = lost_at answers try left.races left.claims
+
+again_at : {A : Type 0} (try : Part A → Left → Part A) (races claims : ℕ)
+    → again_of try (left_of races claims) ≡ next_try try (left_of races claims) (less_a_race (left_of races claims))
+again_at try zero claims = refl
+again_at try (suc races) claims = retried_once try (left_of races claims)
+
+-- what is left of a part that lost a race
+pub again_goes : {A : Type 0} (try : Part A → Left → Part A) (left : Left)
+    → again_of try left ≡ next_try try left (less_a_race left)
+again_goes try left = again_at try left.races left.claims

@@ -1,2 +1,4 @@
 pub mod Writes
 pub mod Tries
+pub mod Reading
+pub mod Raising

@@ -35,3 +35,8 @@ again_of try left = after_lost left.races left.claims (retried try)
 abbrev pub settled_try : {A : Type 0} → StopAnswers A → (try : Part A → Left → Part A) → Left → Result Left Stop → Word A
 settled_try answers try left (Ok now) = settled answers (try (again_of try now) now)
 settled_try answers try left (Err why) = Ends (stop_answer answers left why)
+
+-- what is left of a part: its next try, or that it stopped
+abbrev pub next_try : {A : Type 0} → (try : Part A → Left → Part A) → Left → Result Left Stop → Part A
+next_try try left (Ok now) = try (again_of try now) now
+next_try try left (Err why) = stops left why

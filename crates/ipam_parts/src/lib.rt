@@ -4,9 +4,13 @@
 
 mod found;
 mod left;
+mod raising;
+mod reading;
 mod write_end;
 
 pub use found::{BlockCidr, FoundBlock, found_block};
 pub use left::{after_claim, after_lost, all_left};
+pub use raising::{Raising, RaisingTurned};
+pub use reading::{handle_in, revision_in};
 pub use std::alloc::AllocError as Memory;
 pub use write_end::WriteEnd;
