@@ -1,3 +1,4 @@
 pub mod TryLaws
 pub mod HearingFacts
 mod RaisingLemmas
+mod LoweringLemmas

@@ -2,3 +2,4 @@ pub mod Writes
 pub mod Tries
 pub mod Reading
 pub mod Raising
+pub mod Lowering

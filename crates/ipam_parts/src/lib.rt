@@ -2,14 +2,18 @@
 //! races and claims, and a block as it was read.
 #![tactic(auto)]
 
+mod amount;
 mod found;
 mod left;
+mod lowering;
 mod raising;
 mod reading;
 mod write_end;
 
+pub use amount::Amount;
 pub use found::{BlockCidr, FoundBlock, found_block};
 pub use left::{after_claim, after_lost, all_left};
+pub use lowering::{Lowering, LoweringTurned};
 pub use raising::{Raising, RaisingTurned};
 pub use reading::{handle_in, revision_in};
 pub use std::alloc::AllocError as Memory;
