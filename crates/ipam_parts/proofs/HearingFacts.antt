@@ -1,16 +1,15 @@
 -- What a procedure knows of what it is told.
 use native.Mathlib.Omega.{arith}
-use Rattle.std.proofs.Common.{cond, ◌≡◌, refl, sym, ap, subst, ℕ, ◌<◌, ◌≤◌, ◌^◌, Bool, true, false, List, [], ◌∷◌, Option, Some, None, All, IfSome, find}
+use Rattle.std.proofs.Common.{cond, ◌≡◌, ℕ, ◌<◌, ◌≤◌, ◌^◌, Bool, true, false, List, [], ◌∷◌, Option, Some, None, All, IfSome, find}
 use Rattle.std.proofs.lemmas.List.Elements.{All-head, All-tail}
-use Rattle.ipam_block.specs.Shape.{BlockValue}
 use Rattle.ipam_records.specs.declared.key.Key.{Key}
 use Rattle.ipam_records.specs.declared.call.Call.TheVariants.{Get}
 use Rattle.ipam_records.specs.declared.record.Record.{Record}
 use Rattle.ipam_records.specs.declared.record.Record.TheVariants as record_of
-use Rattle.ipam_records.specs.Datastore.{Datastore, reply_of, reply_to_get, row_of, last_revision}
+use Rattle.ipam_records.specs.Datastore.{reply_to_get, row_of, last_revision}
 use Rattle.ipam_records.specs.Hearing.{CanBeSaid}
-use Rattle.ipam_records.specs.Said.{Said, Found, Missing, Listed}
-use Rattle.ipam_records.specs.Sound.{IsRow, IsDatastore}
+use Rattle.ipam_records.specs.Said.{Said, Found}
+use Rattle.ipam_records.specs.Sound.{IsRow}
 use Rattle.ipam_model.specs.Reads.{block_said}
 
 abbrev Row : Type 0

@@ -3,3 +3,4 @@ pub mod Tries
 pub mod Reading
 pub mod Raising
 pub mod Lowering
+pub mod Freeing

@@ -12,7 +12,6 @@ use Rattle.ipam_model.specs.declared.part.Left.{Left}
 use Rattle.ipam_model.specs.Counting.{raise_once}
 use Rattle.ipam_model.specs.Step.{Part, goes as went, on_write}
 use Rattle.ipam_parts.specs.Tries.{again_of}
-use Rattle.ipam_parts.specs.declared.raising.Raised.{Raised}
 use Rattle.ipam_parts.specs.declared.raising.Stage.{Stage}
 use Rattle.ipam_parts.specs.declared.raising.Stage.TheVariants.{Reads, Writes}
 use Rattle.ipam_parts.specs.declared.raising.Goes.{Goes}

@@ -1,5 +1,4 @@
 -- How a write ended.
-use Rattle.std.specs.Prelude.{ℕ}
 use Rattle.ipam_records.specs.Said.{Said, Found, Missing, Listed, Can, Exists, Conflict, Full as NoRoom, Spent as NoRevisions}
 use Rattle.ipam_parts.specs.declared.write_end.WriteEnd.{WriteEnd}
 use Rattle.ipam_parts.specs.declared.write_end.WriteEnd.TheVariants.{Took, Lost, Full, Spent}

@@ -4,6 +4,7 @@
 
 mod amount;
 mod found;
+mod freeing;
 mod left;
 mod lowering;
 mod raising;
@@ -12,6 +13,7 @@ mod write_end;
 
 pub use amount::Amount;
 pub use found::{BlockCidr, FoundBlock, found_block};
+pub use freeing::{Freeing, FreeingTurned, Picks};
 pub use left::{after_claim, after_lost, all_left};
 pub use lowering::{Lowering, LoweringTurned};
 pub use raising::{Raising, RaisingTurned};

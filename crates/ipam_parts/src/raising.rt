@@ -83,7 +83,12 @@ impl Raising {
     }
 
     /// Where the reply leads.
-    pub fn took(&self, alloc: Global, id: &str, hearing: &Heard) -> Result<RaisingTurned, AllocError>
+    pub fn took(
+        &self,
+        alloc: Global,
+        id: &str,
+        hearing: &Heard,
+    ) -> Result<RaisingTurned, AllocError>
         ensures { IfOk result (λ turned. raising_leaves id.now self.now turned
             ≡ heard (raising_rest id.now self.now) hearing.now.moment (said hearing.now.reply)) }
     {
