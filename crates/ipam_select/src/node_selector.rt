@@ -4,6 +4,7 @@ ghost use Rattle.ipam_select.specs.Admitting.{admits};
 ghost use Rattle.ipam_select.specs.Every.{is_every};
 ghost use Rattle.ipam_select.specs.Sound.{is_sound, IsReadOfSome};
 
+use crate::printing::push_selector;
 use crate::selector::Selector;
 use ipam_text::Text;
 use std::alloc::{AllocError, Global};
@@ -86,8 +87,13 @@ impl Clone for NodeSelector {
     }
 }
 
+/// The printed form.
 impl fmt::Debug for NodeSelector {
     fn fmt<W: fmt::Write>(&self, f: &mut fmt::Formatter<W>) -> fmt::Result {
-        f.write_str("NodeSelector")
+        let mut text = String::new(self.alloc);
+        match push_selector(&mut text, &self.selector) {
+            Ok(()) => f.write_str(text.as_str()),
+            Err(_) => Err(fmt::Error),
+        }
     }
 }
