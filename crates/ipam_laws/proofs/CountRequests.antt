@@ -7,7 +7,7 @@ use Rattle.ipam_addr.specs.Shape.{AddrValue, CidrValue}
 use Rattle.ipam_pool.specs.declared.pools.Pool.{Pool}
 use Rattle.ipam_pool.specs.declared.pools.PoolRefusal.{PoolRefusal}
 use Rattle.ipam_pool.specs.declared.pools.PoolRefusal.TheVariants.{NameTaken, Overlap, Size, Prefix, TooMany, Memory}
-use Rattle.ipam_pool.specs.Changes.{has_name, refusal_of, with_disabled}
+use Rattle.ipam_pool.specs.Changes.{has_name, refusal_of, with_disabled, with_rules}
 use Rattle.ipam_block.specs.declared.allocation.Allocation.{Allocation}
 use Rattle.ipam_block.specs.Shape as block
 use Rattle.ipam_block.specs.Operations.{is_owned, is_stamped, holder}
@@ -61,7 +61,7 @@ use Rattle.ipam_model.specs.declared.part.Stop.{Stop}
 use Rattle.ipam_model.specs.declared.part.Stop.TheVariants.{OutOfTries, OutOfClaims, NoRoom, CountAtLimit, NoRevisions}
 use Rattle.ipam_model.specs.declared.part.Outcome.TheVariants.{Went, Stops}
 use Rattle.ipam_model.specs.Step.{left_of, all_left, Part, stop_answer, settled, goes, stops, tries, retried, in_rounds, write_back}
-use Rattle.ipam_model.specs.Usable.{RuledPool, for_all, families_if, usable_pool_of, pool_of}
+use Rattle.ipam_model.specs.Usable.{families_if, usable_pool_of, pool_of}
 use Rattle.ipam_laws.proofs.Lift.{Known, more, label_to}
 use Rattle.ipam_laws.proofs.Calls.{get-meets, list-meets, write-meets}
 use Rattle.ipam_laws.proofs.CountSteps.{owed, CountsGrow, IsApart, apart-grow, idle-less}
@@ -158,36 +158,36 @@ this_block-keeps wanted next n left looked (Some found) known h =
     this_held-keeps (this.this_free wanted next left looked found) left looked (holder found.1 (wanted.address.number - looked.cidr.base)) known
     (this_free-keeps wanted next n left looked found known h)
 
-this_in_pool-lawful : (wanted : this.Wanted) (next : this.NextRound) → LawfulNext next → (left : Left) (rules : this.Rules) (ruled : Option RuledPool) → Lawful (this.this_in_pool wanted next left rules ruled)
+this_in_pool-lawful : (wanted : this.Wanted) (next : this.NextRound) → LawfulNext next → (left : Left) (rules : this.Rules) (pool : Option Pool) → Lawful (this.this_in_pool wanted next left rules pool)
 this_in_pool-lawful wanted next n left rules None known = (refl, tt)
-this_in_pool-lawful wanted next n left rules (Some ruled) known = (
+this_in_pool-lawful wanted next n left rules (Some pool) known = (
   refl,
   get-meets CountsGrow still Any known idle (key.Block cidr) (λ b said. this.this_block wanted next left (looked b) (block_said said))
       (λ b store agrees. turn b store (this_block-keeps wanted next n left (looked b) (block_said (reply_to_get (row_of (key.Block cidr) store.rows))) (more known store store) (block-read known store cidr))),
 )
   where
     cidr : CidrValue
-    cidr = this.slot_holding ruled.pool wanted.address
+    cidr = this.slot_holding pool wanted.address
 
     looked : ℕ → this.Looked
-    looked b = record { rules = rules; cidr = this.slot_holding ruled.pool wanted.address; b = b }
+    looked b = record { rules = rules; cidr = this.slot_holding pool wanted.address; b = b }
 
-    turn : (b : ℕ) (store : Datastore) → Keeps (more known store store) (this.this_block wanted next left (record { rules = rules; cidr = this.slot_holding ruled.pool wanted.address; b = b }) (block_said (reply_to_get (row_of (key.Block (this.slot_holding ruled.pool wanted.address)) store.rows))))
-        → CountsGrow store store idle (label_to still (this.this_block wanted next left (record { rules = rules; cidr = this.slot_holding ruled.pool wanted.address; b = b }) (block_said (reply_to_get (row_of (key.Block (this.slot_holding ruled.pool wanted.address)) store.rows)))))
-        × Counts still (more known store store) (this.this_block wanted next left (record { rules = rules; cidr = this.slot_holding ruled.pool wanted.address; b = b }) (block_said (reply_to_get (row_of (key.Block (this.slot_holding ruled.pool wanted.address)) store.rows))))
+    turn : (b : ℕ) (store : Datastore) → Keeps (more known store store) (this.this_block wanted next left (record { rules = rules; cidr = this.slot_holding pool wanted.address; b = b }) (block_said (reply_to_get (row_of (key.Block (this.slot_holding pool wanted.address)) store.rows))))
+        → CountsGrow store store idle (label_to still (this.this_block wanted next left (record { rules = rules; cidr = this.slot_holding pool wanted.address; b = b }) (block_said (reply_to_get (row_of (key.Block (this.slot_holding pool wanted.address)) store.rows)))))
+        × Counts still (more known store store) (this.this_block wanted next left (record { rules = rules; cidr = this.slot_holding pool wanted.address; b = b }) (block_said (reply_to_get (row_of (key.Block (this.slot_holding pool wanted.address)) store.rows))))
     turn b store h = (λ id c'. let e = h.0 id c' in omega arith, h.1)
 
 this_round-lawful : (wanted : this.Wanted) (next : this.NextRound) → LawfulNext next → LawfulNext (this.this_round wanted next)
 this_round-lawful wanted next n left known = (
   refl,
   get-meets CountsGrow still Any known idle key.Config
-      (λ c config. Asks idle (call.Get key.Pools) (λ p pools. this.this_in_pool wanted next left (record { config = config_said config; c = c; p = p }) (usable_pool_of (this.asked_of_this wanted.request wanted.address) wanted.address (map for_all (pools_said pools)))))
+      (λ c config. Asks idle (call.Get key.Pools) (λ p pools. this.this_in_pool wanted next left (record { config = config_said config; c = c; p = p }) (usable_pool_of (this.asked_of_this wanted.request wanted.address) wanted.address (pools_said pools))))
       (λ c store agrees. (
         idle-stays store,
         get-meets CountsGrow still Any (more known store store) idle key.Pools
-            (λ p pools. this.this_in_pool wanted next left (record { config = config_said (reply_to_get (row_of key.Config store.rows)); c = c; p = p }) (usable_pool_of (this.asked_of_this wanted.request wanted.address) wanted.address (map for_all (pools_said pools))))
+            (λ p pools. this.this_in_pool wanted next left (record { config = config_said (reply_to_get (row_of key.Config store.rows)); c = c; p = p }) (usable_pool_of (this.asked_of_this wanted.request wanted.address) wanted.address (pools_said pools)))
             (λ p later agrees'.
-            let (label, meets) = this_in_pool-lawful wanted next n left (record { config = config_said (reply_to_get (row_of key.Config store.rows)); c = c; p = p }) (usable_pool_of (this.asked_of_this wanted.request wanted.address) wanted.address (map for_all (pools_said (reply_to_get (row_of key.Pools later.rows))))) (more (more known store store) later later) in
+            let (label, meets) = this_in_pool-lawful wanted next n left (record { config = config_said (reply_to_get (row_of key.Config store.rows)); c = c; p = p }) (usable_pool_of (this.asked_of_this wanted.request wanted.address) wanted.address (pools_said (reply_to_get (row_of key.Pools later.rows)))) (more (more known store store) later later) in
             (subst (λ (x : Label). CountsGrow later later idle x) (sym label) (idle-stays later), meets)),
       )),
 )
@@ -325,7 +325,7 @@ pool_appended-apart pools pool (Some refusal) = pool_refused-apart pools pool re
 changed-apart : (request : Admin) (said : Said) → IsApartChange (change.changed request said)
 changed-apart (change_of.Pool pool) said = from (list_any (change.is_same_pool pool) (pools_said said))
   where
-    from : (b : Bool) → IsApartChange (cond b (change.Becomes (record_of.Pools (with_disabled pool.name pool.disabled (pools_said said)))) (change.pool_appended (pools_said said) pool (refusal_of (pools_said said) pool)))
+    from : (b : Bool) → IsApartChange (cond b (change.Becomes (record_of.Pools (with_rules pool.name pool.disabled pool.mode pool.selector (pools_said said)))) (change.pool_appended (pools_said said) pool (refusal_of (pools_said said) pool)))
     from true = tt
     from false = pool_appended-apart (pools_said said) pool (refusal_of (pools_said said) pool)
 changed-apart (change_of.Disable name disabled) said = from (list_any (has_name name) (pools_said said))

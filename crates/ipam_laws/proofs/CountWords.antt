@@ -1,6 +1,6 @@
 -- Every request keeps the counts above what is held.
 use Rattle.std.proofs.Common.{◌≡◌, ℕ, zero, suc, ◌+◌, inl, inr, Bool, true, false, cond, List, [], ◌∷◌, Option, Some, None, refl, sym, ap, ◌∙◌, subst}
-use Rattle.std.specs.Prelude.{◌&&◌, map}
+use Rattle.std.specs.Prelude.{◌&&◌}
 use Rattle.std.specs.List.{find, filter, list_any}
 use Rattle.ipam_addr.specs.declared.address.Family.{Family}
 use Rattle.ipam_addr.specs.Shape.{CidrValue}
@@ -35,7 +35,7 @@ use Rattle.ipam_model.specs.declared.part.Outcome.{Outcome}
 use Rattle.ipam_model.specs.declared.part.Stop.TheVariants.{OutOfTries}
 use Rattle.ipam_model.specs.declared.part.Outcome.TheVariants.{Went, Stops}
 use Rattle.ipam_model.specs.Step.{left_of, Part, StopAnswers, answer_of, settled, stops, onward, followed, rounds}
-use Rattle.ipam_model.specs.Usable.{Asked, for_all, is_same_cidr}
+use Rattle.ipam_model.specs.Usable.{Asked, is_same_cidr}
 use Rattle.ipam_laws.proofs.Lift.{Known, more, Grows, label_to, Meets-bound, label_to-bound}
 use Rattle.ipam_laws.proofs.Calls.{found-block, get-meets, list-meets}
 use Rattle.ipam_laws.proofs.CountSteps.{owed, CountsGrow, stays-grow}
@@ -143,7 +143,7 @@ behind_4 family follows c p r f config pools reservations affinities =
     (record { family = family; c = c; p = p; r = r; f = f; b = b })
     (record {
       config = config_said config;
-      pools = map for_all (pools_said pools);
+      pools = pools_said pools;
       reservations = reservations_said reservations;
       affinities = rows_said affinities;
       blocks = rows_said blocks;
@@ -169,7 +169,7 @@ counts_4 family follows k c p r f config pools reservations affinities known =
     (record { family = family; c = c; p = p; r = r; f = f; b = b })
     (record {
       config = config_said config;
-      pools = map for_all (pools_said pools);
+      pools = pools_said pools;
       reservations = reservations_said reservations;
       affinities = rows_said affinities;
       blocks = rows_said blocks;
@@ -178,7 +178,7 @@ counts_4 family follows k c p r f config pools reservations affinities known =
     (record { family = family; c = c; p = p; r = r; f = f; b = b })
     (record {
       config = config_said config;
-      pools = map for_all (pools_said pools);
+      pools = pools_said pools;
       reservations = reservations_said reservations;
       affinities = rows_said affinities;
       blocks = listed kind.Block store;
@@ -188,7 +188,7 @@ counts_4 family follows k c p r f config pools reservations affinities known =
     seen_there : Datastore → Seen
     seen_there store = record {
       config = config_said config;
-      pools = map for_all (pools_said pools);
+      pools = pools_said pools;
       reservations = reservations_said reservations;
       affinities = rows_said affinities;
       blocks = listed kind.Block store;

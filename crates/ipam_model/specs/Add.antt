@@ -25,7 +25,7 @@ use Rattle.ipam_model.specs.declared.part.Outcome.{Outcome}
 use Rattle.ipam_model.specs.declared.part.Stop.TheVariants.{OutOfTries, OutOfClaims, NoRoom, CountAtLimit, NoRevisions}
 use Rattle.ipam_model.specs.declared.part.Outcome.TheVariants.{Went, Stops}
 use Rattle.ipam_model.specs.Step.{all_left, Part, StopAnswers, stop_answer, goes, stops, followed, in_rounds, settled}
-use Rattle.ipam_model.specs.Usable.{Asked, for_all, families_if}
+use Rattle.ipam_model.specs.Usable.{Asked, families_if}
 
 -- The configuration, the pools and the reservations are read, and the affinities and the blocks are
 -- listed. What follows is given the moments and what was read.
@@ -40,7 +40,7 @@ five_reads family follows =
     (record { family = family; c = c; p = p; r = r; f = f; b = b })
     (record {
       config = config_said config;
-      pools = map for_all (pools_said pools);
+      pools = pools_said pools;
       reservations = reservations_said reservations;
       affinities = rows_said affinities;
       blocks = rows_said blocks;
