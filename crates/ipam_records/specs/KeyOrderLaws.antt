@@ -48,7 +48,7 @@ families_same V4 V6 e = absurd (omega arith)
 families_same V6 V4 e = absurd (omega arith)
 families_same V6 V6 e = refl
 
-cidrs_same : (r s : CidrValue) → cidr_cmp r s ≡ Equal → r ≡ s
+pub cidrs_same : (r s : CidrValue) → cidr_cmp r s ≡ Equal → r ≡ s
 cidrs_same r s e =
     let (families, rest) = then_equal (nat_cmp (family_rank r.family) (family_rank s.family)) _ e in
     let (bases, prefixes) = then_equal (nat_cmp r.base s.base) _ rest in

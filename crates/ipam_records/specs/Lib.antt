@@ -5,6 +5,8 @@ pub mod KeyOrder
 pub mod KeyOrderLaws
 pub mod KeyText
 pub mod Pages
+pub mod Places
+pub mod BlockLists
 pub mod Listing
 pub mod Said
 pub mod Datastore

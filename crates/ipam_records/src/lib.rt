@@ -11,6 +11,7 @@ mod limits;
 mod listing;
 mod procedure;
 mod record;
+mod search;
 mod spelling;
 mod texts;
 

@@ -47,7 +47,7 @@ keys-with_row P new [] p all = (p, tt)
 keys-with_row P new (r ∷ rs) p all =
     keys-row_at P (key_cmp (row_key new) (row_key r)) new r rs (with_row new rs) p all (keys-with_row P new rs p all.1)
 
-later : (x y : Key) → key_cmp x y ≡ Less → (rows : List (ℕ × Record)) → AllByRecursion (λ z. key_cmp y z ≡ Less) (map row_key rows) → AllByRecursion (λ z. key_cmp x z ≡ Less) (map row_key rows)
+pub later : (x y : Key) → key_cmp x y ≡ Less → (rows : List (ℕ × Record)) → AllByRecursion (λ z. key_cmp y z ≡ Less) (map row_key rows) → AllByRecursion (λ z. key_cmp x z ≡ Less) (map row_key rows)
 later x y h [] all = tt
 later x y h (r ∷ rs) all = (key_cmp_total.trans x y (row_key r) h all.0, later x y h rs all.1)
 

@@ -7,3 +7,8 @@ pub mod Keeping
 pub mod Granting
 pub mod Kept
 pub mod Grants
+pub mod Ordered
+pub mod CidrLemmas
+pub mod NodeLemmas
+pub mod Listed
+pub mod Rewriting

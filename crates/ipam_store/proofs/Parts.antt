@@ -29,7 +29,7 @@ with_row-right new [] back all = refl
 with_row-right new (r ∷ rs) back all =
     with_step new r (rs ++ back) Less (All-head (IsBefore (row_key new)) r rs all) ∙ ap (λ x. r ∷ x) (with_row-right new rs back (All-tail (IsBefore (row_key new)) r rs all))
 
-with_row-front : (new : ℕ × Record) (rows : List (ℕ × Record)) → AllBehind (row_key new) rows → with_row new rows ≡ new ∷ rows
+pub with_row-front : (new : ℕ × Record) (rows : List (ℕ × Record)) → AllBehind (row_key new) rows → with_row new rows ≡ new ∷ rows
 with_row-front new [] all = refl
 with_row-front new (r ∷ rs) all = with_step new r rs Greater (All-head (IsBehind (row_key new)) r rs all)
 
@@ -48,7 +48,7 @@ without-before k [] all = refl
 without-before k (r ∷ rs) all =
     without_step k r rs Less (All-head (IsBefore k) r rs all) ∙ ap (λ x. r ∷ x) (without-before k rs (All-tail (IsBefore k) r rs all))
 
-without-behind : (k : Key) (rows : List (ℕ × Record)) → AllBehind k rows → without_row k rows ≡ rows
+pub without-behind : (k : Key) (rows : List (ℕ × Record)) → AllBehind k rows → without_row k rows ≡ rows
 without-behind k [] all = refl
 without-behind k (r ∷ rs) all =
     without_step k r rs Greater (All-head (IsBehind k) r rs all) ∙ ap (λ x. r ∷ x) (without-behind k rs (All-tail (IsBehind k) r rs all))

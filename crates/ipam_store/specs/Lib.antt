@@ -4,6 +4,14 @@ pub mod Places
 pub mod Shelved
 pub mod Page
 pub mod Paged
+pub mod CidrLists
+pub mod Named
+pub mod NodeNames
+pub mod NodeLists
+pub mod Indexed
+pub mod Index
+pub mod BlockRow
+pub mod BlockShelf
 pub mod Lists
 pub mod Shape
 pub mod Keeping

@@ -4,7 +4,11 @@
 //! apart, so that what was answered can be kept elsewhere before it holds here.
 #![tactic(auto)]
 
+mod blocks;
+mod cidrs;
+mod index;
 pub mod laws;
+mod nodes;
 mod pages;
 mod rows;
 mod shelf;

@@ -1,6 +1,7 @@
 ghost use Rattle.std.specs.Prelude.{◌≡◌, ℕ, ◌+◌, ◌≤◌, ◌<◌, ◌^◌, ◌↔◌, [], length, All, IsTrue, IsSome, OnOk, OnErr, Ok, Err, Some, slice_get};
 ghost use Rattle.std.specs.Option.{option_copied};
 
+use crate::blocks::Blocks;
 use crate::pages::Pages;
 use crate::shelf::{Shelf, is_block};
 use ipam_records::{
@@ -32,7 +33,7 @@ impl From<AllocError> for LoadFault {
 #[derive(Drop)]
 pub struct Store {
     singles: Pages,
-    blocks: Pages,
+    blocks: Blocks,
     affinities: Pages,
     handles: Pages,
     counter: u64,
@@ -76,7 +77,7 @@ impl Store {
     {
         Store {
             singles: Pages::new(alloc),
-            blocks: Pages::new(alloc),
+            blocks: Blocks::new(alloc),
             affinities: Pages::new(alloc),
             handles: Pages::new(alloc),
             counter,
@@ -201,8 +202,11 @@ impl Store {
     fn listed(&self, kind: Kind) -> Listing<'_>
         ensures { rows_of result ≡ listed kind self.now.store }
     {
-        let _ = &self.counter;
-        Listing::over(self.pages(kind))
+        match kind {
+            Kind::Block => self.blocks.listing(),
+            Kind::Affinity => Listing::over(self.affinities.pages()),
+            Kind::Handle => Listing::over(self.handles.pages()),
+        }
     }
 
     /// Takes a row that was kept elsewhere. On `Err` nothing has changed.
@@ -294,7 +298,7 @@ impl Store {
         }
         let blocks = singles + self.blocks.len();
         if place < blocks {
-            return Listing::over(self.blocks.pages()).at(place - singles);
+            return self.blocks.listing().at(place - singles);
         }
         let affinities = blocks + self.affinities.len();
         if place < affinities {

@@ -17,9 +17,6 @@ returns-in-Singles c =
     ∙ sym (row_of-shelved (lists_in c.self.inside) c.self.invariant.shelved _ Singles (sym c.of.ensures ∙ c.in-Singles.is))
     ∙ ap (λ (v : StoreValue). row_of (named c.args.key.now) v.store.rows) c.self.view_is
 
-pub find-requires-in-Blocks : goal.find-requires-in-Blocks
-find-requires-in-Blocks c = Ascend-list (lists_in c.self.inside) c.self.invariant.sound.ascending Blocks
-
 pub returns-in-Blocks : goal.returns-in-Blocks
 returns-in-Blocks c =
     c.find-in-Blocks.ensures

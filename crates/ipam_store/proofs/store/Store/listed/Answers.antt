@@ -1,14 +1,28 @@
-use Rattle.std.proofs.Common.{◌<◌, ◌^◌, length, ap, sym, ◌∙◌, subst}
+use Rattle.std.proofs.Common.{ap, sym, ◌∙◌}
+use Rattle.ipam_records.specs.declared.key.Kind.TheVariants as kind
 use Rattle.ipam_records.specs.Datastore.{listed}
 use Rattle.ipam_store.specs.Shape.{StoreValue}
 use Rattle.ipam_store.specs.Keeping.{lists_in}
-use Rattle.ipam_store.proofs.Shelves.{listed-shelved, shelf_for}
-use Rattle.ipam_store.proofs.Kept.{list-few}
+use Rattle.ipam_store.proofs.Shelves.{listed-shelved}
 use Rattle.ipam_store.proofs.store.Store.listed.Goals as goal
 
-pub over-requires : goal.over-requires
-over-requires c =
-    let kind = c.args.kind in
-    let lists = lists_in c.self.inside in
-    let same = sym (listed-shelved kind lists c.self.invariant.shelved) ∙ ap (λ (v : StoreValue). listed kind v.store) c.self.view_is ∙ sym c.pages.ensures.rows in
-    subst (λ rows. length rows < 2 ^ 32) same (list-few lists (shelf_for kind) c.self.invariant.few)
+pub returns-in-Block : goal.returns-in-Block
+returns-in-Block c =
+    c.listing.ensures
+    ∙ sym (listed-shelved kind.Block (lists_in c.self.inside) c.self.invariant.shelved)
+    ∙ ap (λ (v : StoreValue). listed kind.Block v.store) c.self.view_is
+    ∙ ap (λ k. listed k c.args.self.now.store) (sym c.in-Block.is)
+
+pub returns-in-Affinity : goal.returns-in-Affinity
+returns-in-Affinity c =
+    c.over.ensures ∙ c.pages.ensures.rows
+    ∙ sym (listed-shelved kind.Affinity (lists_in c.self.inside) c.self.invariant.shelved)
+    ∙ ap (λ (v : StoreValue). listed kind.Affinity v.store) c.self.view_is
+    ∙ ap (λ k. listed k c.args.self.now.store) (sym c.in-Affinity.is)
+
+pub returns-in-Handle : goal.returns-in-Handle
+returns-in-Handle c =
+    c.over-in-Handle.ensures ∙ c.pages-in-Handle.ensures.rows
+    ∙ sym (listed-shelved kind.Handle (lists_in c.self.inside) c.self.invariant.shelved)
+    ∙ ap (λ (v : StoreValue). listed kind.Handle v.store) c.self.view_is
+    ∙ ap (λ k. listed k c.args.self.now.store) (sym c.in-Handle.is)

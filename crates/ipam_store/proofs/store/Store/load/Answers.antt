@@ -35,9 +35,6 @@ returns-in-Singles-clause-there c =
     let same = sym (row_of-shelved (lists_in c.self.inside) c.self.invariant.shelved (key_of c.args.value) Singles (ap shelf_of (sym c.of_record.ensures) ∙ sym c.of-shelf.ensures ∙ c.in-Singles.is)) ∙ ap (λ (v : StoreValue). row_of (key_of c.args.value) v.store.rows) c.self.view_is in
     subst (λ o. (c.add.result ≡ Err There) ↔ IsSome o) same c.add.ensures.there
 
-pub add-requires-in-Blocks-clause-ascend : goal.add-requires-in-Blocks-clause-ascend
-add-requires-in-Blocks-clause-ascend c = Ascend-list (lists_in c.self.inside) c.self.invariant.sound.ascending Blocks
-
 pub add-requires-in-Blocks-clause-few : goal.add-requires-in-Blocks-clause-few
 add-requires-in-Blocks-clause-few c = list-few (lists_in c.self.inside) Blocks c.self.invariant.few
 

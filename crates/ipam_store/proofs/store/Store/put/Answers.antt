@@ -27,9 +27,6 @@ returns-in-Singles-clause-store c =
     (λ i. record { rows = stored i; counter = c.args.revision })
     ∙ ap (λ (v : StoreValue). written v.store (Put c.args.revision c.args.value)) c.self.view_is
 
-pub put-requires-in-Blocks-clause-ascend : goal.put-requires-in-Blocks-clause-ascend
-put-requires-in-Blocks-clause-ascend c = Ascend-list (lists_in c.self.inside) c.self.invariant.sound.ascending Blocks
-
 pub put-requires-in-Blocks-clause-few : goal.put-requires-in-Blocks-clause-few
 put-requires-in-Blocks-clause-few c = list-few (lists_in c.self.inside) Blocks c.self.invariant.few
 

@@ -24,9 +24,6 @@ returns-in-Singles-clause-store c =
     (λ i. record { rows = stored i; counter = c.args.revision })
     ∙ ap (λ (v : StoreValue). written v.store (Remove c.args.revision (named c.args.key.now))) c.self.view_is
 
-pub remove-requires-in-Blocks : goal.remove-requires-in-Blocks
-remove-requires-in-Blocks c = Ascend-list (lists_in c.self.inside) c.self.invariant.sound.ascending Blocks
-
 pub invariant_of-self-in-Blocks : goal.invariant_of-self-in-Blocks
 invariant_of-self-in-Blocks c =
     let granted = subst (λ (v : StoreValue). IsGranted v.store (Remove c.args.revision (named c.args.key.now))) (sym c.self.view_is) c.requires.granted in
