@@ -31,6 +31,11 @@ impl Model for Blocks {
 
     ghost Value = { Shelved };
 
+    ghost use Rattle.std.specs.Coded.{codes};
+    ghost use Rattle.ipam_records.specs.contracts.record.Record as kept;
+
+    ghost coded = { Prim.hlevel (codes, kept.the_row.coded) };
+
     ghost use Rattle.ipam_store.specs.BlockShelf.{block_rows_in, are_indexed_in};
 
     ghost view = { block_rows_in };
