@@ -19,7 +19,10 @@ use Rattle.ipam_model.specs.declared.outcome.ClaimAnswer.{ClaimAnswer}
 use Rattle.ipam_model.specs.declared.outcome.ClaimAnswer.TheVariants as claimed
 use Rattle.ipam_model.specs.declared.request.AddRequest.{AddRequest}
 use Rattle.ipam_model.specs.Add as add
-use Rattle.ipam_model.specs.Add.{Served, Gave, Refused, Gift, Round}
+use Rattle.ipam_model.specs.declared.outcome.Served.{Served}
+use Rattle.ipam_model.specs.declared.outcome.Gift.{Gift}
+use Rattle.ipam_model.specs.declared.outcome.Served.TheVariants.{Gave, Refused}
+use Rattle.ipam_model.specs.Add.{Round}
 use Rattle.ipam_model.specs.AddThis as this
 use Rattle.ipam_model.specs.Affinities.{BlockRead, on_claim_write, claim, claim_found, claim_kept, claim_block, claim_confirm}
 use Rattle.ipam_model.specs.declared.part.Assigned.{Assigned}

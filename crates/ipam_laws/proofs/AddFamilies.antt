@@ -19,7 +19,10 @@ use Rattle.ipam_model.specs.declared.choice.Choice.TheVariants.{Use, Borrow, Not
 use Rattle.ipam_model.specs.declared.outcome.AddAnswer.{AddAnswer}
 use Rattle.ipam_model.specs.declared.outcome.AddAnswer.TheVariants as add
 use Rattle.ipam_model.specs.declared.request.AddRequest.{AddRequest}
-use Rattle.ipam_model.specs.Add.{gift_of, Gave, Gift, NextRound, Refused, Round, Served, add_each, add_stops, add_word, after_assign, after_family, after_stop, asked_of, claim_in, follow_pick, follow_rank, free_gift, refuse, round_of, serve, take_in}
+use Rattle.ipam_model.specs.declared.outcome.Gift.{Gift}
+use Rattle.ipam_model.specs.declared.outcome.Served.{Served}
+use Rattle.ipam_model.specs.declared.outcome.Served.TheVariants.{Gave, Refused}
+use Rattle.ipam_model.specs.Add.{gift_of, NextRound, Round, add_each, add_stops, add_word, after_assign, after_family, after_stop, asked_of, claim_in, follow_pick, follow_rank, free_gift, refuse, round_of, serve, take_in}
 use Rattle.ipam_block.specs.Operations.{address_of}
 use Rattle.ipam_model.specs.declared.answer.Given.{Given}
 use Rattle.ipam_model.specs.AddLaw.{families_of, scan_of}

@@ -21,7 +21,9 @@ use Rattle.ipam_model.specs.declared.choice.Choice.TheVariants.{Use, Borrow, Not
 use Rattle.ipam_model.specs.declared.outcome.AddAnswer.{AddAnswer}
 use Rattle.ipam_model.specs.declared.outcome.AddAnswer.TheVariants as add
 use Rattle.ipam_model.specs.declared.request.AddRequest.{AddRequest}
-use Rattle.ipam_model.specs.Add.{Gave, Refused, Served, asked_of}
+use Rattle.ipam_model.specs.declared.outcome.Served.{Served}
+use Rattle.ipam_model.specs.declared.outcome.Served.TheVariants.{Gave, Refused}
+use Rattle.ipam_model.specs.Add.{asked_of}
 use Rattle.ipam_block.specs.Operations.{address_of}
 use Rattle.ipam_model.specs.declared.answer.Given.{Given}
 use Rattle.ipam_model.specs.AddLaw.{families_of, scan_of}

@@ -42,7 +42,8 @@ use Rattle.ipam_model.specs.declared.request.ProbeRequest.{ProbeRequest}
 use Rattle.ipam_model.specs.declared.request.Request.{Request}
 use Rattle.ipam_model.specs.declared.request.Request.TheVariants as request_of
 use Rattle.ipam_model.specs.Add as add
-use Rattle.ipam_model.specs.Add.{Gave, Refused, Gift}
+use Rattle.ipam_model.specs.declared.outcome.Gift.{Gift}
+use Rattle.ipam_model.specs.declared.outcome.Served.TheVariants.{Gave, Refused}
 use Rattle.ipam_model.specs.AddThis as this
 use Rattle.ipam_model.specs.Admin as change
 use Rattle.ipam_model.specs.Affinities as affinities

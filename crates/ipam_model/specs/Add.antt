@@ -11,6 +11,9 @@ use Rattle.ipam_records.specs.Word.{Word, Asks, bound}
 use Rattle.ipam_model.specs.declared.answer.Given.{Given}
 use Rattle.ipam_model.specs.declared.answer.Scan.{Scan}
 use Rattle.ipam_model.specs.declared.outcome.AddAnswer.{AddAnswer}
+use Rattle.ipam_model.specs.declared.outcome.Gift.{Gift}
+use Rattle.ipam_model.specs.declared.outcome.Served.{Served}
+use Rattle.ipam_model.specs.declared.outcome.Served.TheVariants.{Gave, Refused}
 use Rattle.ipam_model.specs.declared.outcome.AddAnswer.TheVariants as add
 use Rattle.ipam_model.specs.declared.request.AddRequest.{AddRequest}
 use Rattle.ipam_model.specs.Affinities.{BlockRead}
@@ -56,17 +59,6 @@ asked_of request family = record {
   labels = request.labels;
   one_address = false;
 }
-
--- an address that was given, with its block and its stamp
-pub record Gift : Type 0 where
-  pub given : Given
-  pub block : CidrValue
-  pub stamp : ℕ
-
--- what the rounds of a family come to: an address, or the answer that there is none
-pub data Served : Type 0 where
-  Gave : Gift → Served
-  Refused : AddAnswer → Served
 
 abbrev pub NextRound : Type 0
 NextRound = Left → Part Served

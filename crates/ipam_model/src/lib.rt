@@ -16,7 +16,7 @@ pub use choice::Choice;
 pub use entry::{CallName, Called, Entry, Fate, SlotState, Told};
 pub use outcome::{
     AddAnswer, AddThisAnswer, AdminAnswer, CheckAnswer, ClaimAnswer, CollectAnswer, DelAnswer,
-    FreeAnswer, ProbeAnswer, ReleaseAnswer,
+    FreeAnswer, Gift, ProbeAnswer, ReleaseAnswer, Served,
 };
 pub use part::{Assigned, Left, Outcome, Stop};
 pub use request::{AddRequest, Admin, CollectRequest, ProbeRequest, Request};

@@ -98,3 +98,19 @@ pub enum ProbeAnswer {
     Exhausted(Scan),
     NoPool(Text, u64),
 }
+
+/// An address that was given, with its block and its stamp.
+#[derive(Clone, Copy, Debug, PartialEq, Eq)]
+pub struct Gift {
+    pub given: Given,
+    pub block: Cidr,
+    pub stamp: u64,
+}
+
+/// What the rounds of a family come to.
+#[derive(Debug, Drop)]
+pub enum Served {
+    Gave(Gift),
+    /// There is no address, and this is the answer.
+    Refused(AddAnswer),
+}
