@@ -8,4 +8,5 @@ pub mod KeyTextLemmas
 pub mod DatastoreLemmas
 pub mod WordLemmas
 pub mod HearingLemmas
+pub mod BlockMembers
 pub mod RecordTexts

@@ -17,36 +17,11 @@ use Rattle.ipam_records.specs.KeyOrder.{key_cmp, keys_equal}
 use Rattle.ipam_records.specs.KeyOrderLaws.{cidr_cmp_total, key_cmp_total}
 use Rattle.ipam_records.specs.Datastore.{row_key, row_of, row_at, with_row, without_row}
 use Rattle.ipam_records.specs.BlockLists.{is_block, is_node, has_queue, cidr_if, cidrs_where, list_under, AreBlocks}
+use Rattle.ipam_records.proofs.BlockMembers.{row_from, rows_from, IsBlockRow, blocks_in, cons_cond, cidrs_where-above}
 use Rattle.ipam_store.specs.CidrLists.{with_cidr, without_cidr}
 use Rattle.ipam_store.specs.Indexed.{Indexed, IsIndexOf}
 use Rattle.ipam_store.proofs.Searching.{without_step}
 use Rattle.ipam_store.proofs.Keeping.{later}
-
--- ---- rows of blocks
-abbrev row_from : ℕ × BlockValue → ℕ × Record
-row_from x = (x.0, record_of.Block x.1)
-
-abbrev rows_from : List (ℕ × BlockValue) → List (ℕ × Record)
-rows_from [] = []
-rows_from (x ∷ xs) = row_from x ∷ rows_from xs
-
-abbrev pub IsBlockRow : ℕ × Record → Type 0
-IsBlockRow row = IsTrue (is_block row.1)
-
-pub blocks_in : (rows : List (ℕ × Record)) → All IsBlockRow rows → (blocks : List (ℕ × BlockValue)) × (rows_from blocks ≡ rows)
-blocks_in [] all = ([], refl)
-blocks_in ((revision, record_of.Block b) ∷ rows) all =
-    let rest = blocks_in rows (All-tail IsBlockRow _ rows all) in
-    ((revision, b) ∷ rest.0, ap (λ (x : List (ℕ × Record)). (revision, record_of.Block b) ∷ x) rest.1)
-blocks_in ((revision, record_of.Config c) ∷ rows) all = let bad = All-head IsBlockRow _ rows all in absurd (cc bad)
-blocks_in ((revision, record_of.Pools p) ∷ rows) all = let bad = All-head IsBlockRow _ rows all in absurd (cc bad)
-blocks_in ((revision, record_of.Reservations r) ∷ rows) all = let bad = All-head IsBlockRow _ rows all in absurd (cc bad)
-blocks_in ((revision, record_of.Affinity a) ∷ rows) all = let bad = All-head IsBlockRow _ rows all in absurd (cc bad)
-blocks_in ((revision, record_of.Handle h) ∷ rows) all = let bad = All-head IsBlockRow _ rows all in absurd (cc bad)
-
-cons_cond : (s : Bool) (c : CidrValue) (xs : List CidrValue) → cons_option (cond s (Some c) None) xs ≡ cond s (c ∷ xs) xs
-cons_cond true c xs = refl
-cons_cond false c xs = refl
 
 cond_same : {X : Type 0} (b : Bool) (x : X) → cond b x x ≡ x
 cond_same true x = refl
@@ -60,16 +35,6 @@ module _ (passes : BlockValue → Bool) (revision : ℕ) (b : BlockValue) where
   front_with : (ys : List CidrValue) → AllByRecursion (λ y. cidr_cmp b.cidr y ≡ Less) ys → with_cidr b.cidr ys ≡ b.cidr ∷ ys
   front_with [] all = refl
   front_with (y ∷ ys) all = ap (λ o. match_ordering o (b.cidr ∷ y ∷ ys) (y ∷ ys) (y ∷ with_cidr b.cidr ys)) all.0
-
-  kept_above : (xs : List (ℕ × BlockValue)) → AllByRecursion (λ k. key_cmp (key.Block b.cidr) k ≡ Less) (map row_key (rows_from xs)) → AllByRecursion (λ y. cidr_cmp b.cidr y ≡ Less) (cidrs_where passes (rows_from xs))
-  kept_above [] all = tt
-  kept_above (x ∷ xs) all =
-      let rest = kept_above xs all.1 in
-      subst (AllByRecursion (λ y. cidr_cmp b.cidr y ≡ Less)) (sym (cons_cond (passes x.1) x.1.cidr (cidrs_where passes (rows_from xs))))
-      (elim (passes x.1) as (λ s. AllByRecursion (λ y. cidr_cmp b.cidr y ≡ Less) (cond s (x.1.cidr ∷ cidrs_where passes (rows_from xs)) (cidrs_where passes (rows_from xs)))) [
-        | true ↦ (all.0, rest)
-        | false ↦ rest
-      ])
 
   shared : (s t : Bool) (c : CidrValue) (ys : List CidrValue) → cidr_cmp b.cidr c ≡ Greater → cons_option (cond t (Some c) None) (cond s (with_cidr b.cidr ys) ys) ≡ cond s (with_cidr b.cidr (cons_option (cond t (Some c) None) ys)) (cons_option (cond t (Some c) None) ys)
   shared true true c ys h = sym (ap (λ o. match_ordering o (b.cidr ∷ c ∷ ys) (c ∷ ys) (c ∷ with_cidr b.cidr ys)) h)
@@ -92,7 +57,7 @@ module _ (passes : BlockValue → Bool) (revision : ℕ) (b : BlockValue) where
       by_order Less h further =
           cons_cond (passes b) b.cidr (cidrs_where passes (row_from x ∷ rows_from xs))
           ∙ ap (λ ys. cond (passes b) ys (cidrs_where passes (row_from x ∷ rows_from xs)))
-          (sym (front_with (cidrs_where passes (row_from x ∷ rows_from xs)) (kept_above (x ∷ xs) (h, later (key.Block b.cidr) (row_key (row_from x)) h (rows_from xs) s.0))))
+          (sym (front_with (cidrs_where passes (row_from x ∷ rows_from xs)) (cidrs_where-above passes b.cidr (x ∷ xs) (h, later (key.Block b.cidr) (row_key (row_from x)) h (rows_from xs) s.0))))
       by_order Equal h further = let bad = looked Equal h in absurd (cc bad)
       by_order Greater h further =
           ap (cons_option (cidr_if passes (row_from x))) (further (looked Greater h))

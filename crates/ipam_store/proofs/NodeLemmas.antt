@@ -15,35 +15,14 @@ use Rattle.std.proofs.lemmas.Slice.Eq.{bytes_eq-Decides}
 use Rattle.ipam_addr.specs.Shape.{CidrValue}
 use Rattle.ipam_records.specs.BlockLists.{name_cmp, named_lists, list_under, AreNamedLists}
 use Rattle.ipam_records.specs.Places.{IsFoundAt, IsGapAt}
-use Rattle.ipam_records.proofs.SearchLemmas.{searched, before_found, behind_found}
-use Rattle.ipam_records.proofs.BlockListLemmas.{names-named_lists}
+use Rattle.ipam_records.proofs.BlockListLemmas.{Entry, plain, length-named, named-get, under-at, under-none, differs, under-gap, name_at, earlier, later, under-found}
 use Rattle.ipam_store.specs.CidrLists.{CidrsAscend, with_cidr, without_cidr}
 use Rattle.ipam_store.specs.Named.{ChangesList}
 use Rattle.ipam_store.specs.NodeNames.{AreNodeLists, IsListAt, IsGapFor}
 use Rattle.ipam_store.proofs.Ordered.{ascends-insert, ascends-remove}
 use Rattle.ipam_store.proofs.Paging.{All-insert, All-remove}
 
-abbrev Entry : Type 0
-Entry = List ℕ × List CidrValue
-
-abbrev plain : Vec ℕ × Vec CidrValue → Entry
-plain entry = (entry.0.items, entry.1.items)
-
 -- ---- entries as plain data
-pub length-named : (owned : List (Vec ℕ × Vec CidrValue)) → length (named_lists owned) ≡ length owned
-length-named [] = refl
-length-named (e ∷ es) = ap suc (length-named es)
-
-pub named-at : (P : Entry → Type 0) (owned : List (Vec ℕ × Vec CidrValue)) (i : ℕ) (d : Entry) → i < length owned → ((e : Vec ℕ × Vec CidrValue) → P (plain (get_or owned i e))) → P (get_or (named_lists owned) i d)
-named-at P [] i d h p = absurd (omega arith)
-named-at P (e ∷ es) zero d h p = p e
-named-at P (e ∷ es) (suc i) d h p = named-at P es i d (omega arith) p
-
-pub named-get : (owned : List (Vec ℕ × Vec CidrValue)) (i : ℕ) (e : Vec ℕ × Vec CidrValue) (d : Entry) → i < length owned → get_or (named_lists owned) i d ≡ plain (get_or owned i e)
-named-get [] i e d h = absurd (omega arith)
-named-get (x ∷ xs) zero e d h = refl
-named-get (x ∷ xs) (suc i) e d h = named-get xs i e d (omega arith)
-
 pub named-set : (owned : List (Vec ℕ × Vec CidrValue)) (i : ℕ) (e : Vec ℕ × Vec CidrValue) → named_lists (set owned i e) ≡ set (named_lists owned) i (plain e)
 named-set [] i e = refl
 named-set (x ∷ xs) zero e = refl
@@ -66,61 +45,27 @@ named-remove [] i h = absurd (omega arith)
 named-remove (x ∷ xs) zero h = refl
 named-remove (x ∷ xs) (suc i) h = ap (λ ys. plain x ∷ ys) (named-remove xs i (omega arith))
 
--- ---- a list is the first of its name
-pub under-at : (node : List ℕ) (lists : List Entry) (i : ℕ) (d : Entry) → i < length lists → ((j : ℕ) (d : Entry) → j < i → bytes_eq (get_or lists j d).0 node ≡ false) → ((d : Entry) → bytes_eq (get_or lists i d).0 node ≡ true) → list_under node lists ≡ (get_or lists i d).1
-under-at node [] i d h before here = absurd (omega arith)
-under-at node (e ∷ es) zero d h before here = ap (λ b. cond b e.1 (list_under node es)) (here e)
-under-at node (e ∷ es) (suc i) d h before here =
-    ap (λ b. cond b e.1 (list_under node es)) (before 0 e (omega arith))
-    ∙ under-at node es i d (omega arith) (λ j x l. before (suc j) x (omega arith)) here
-
-pub under-none : (node : List ℕ) (lists : List Entry) → ((j : ℕ) (d : Entry) → j < length lists → bytes_eq (get_or lists j d).0 node ≡ false) → list_under node lists ≡ []
-under-none node [] none = refl
-under-none node (e ∷ es) none =
-    ap (λ b. cond b e.1 (list_under node es)) (none 0 e (omega arith))
-    ∙ under-none node es (λ j x l. none (suc j) x (omega arith))
-
+-- ---- the list of a node
 module _ (node : List ℕ) (lists : List Entry) where
-  differs : (j : ℕ) (d : Entry) → is_eq (name_cmp (get_or lists j d).0 node) ≡ false → bytes_eq (get_or lists j d).0 node ≡ false
-  differs j d e = texts_ties (get_or lists j d).0 node ∙ e
-
-  pub under-gap : (i : ℕ) → IsGapFor node lists i → list_under node lists ≡ []
-  under-gap i gap = under-none node lists (λ j d h. elim (cases_lt j i) [
-    | inl before ↦ differs j d (ap is_eq (gap.before j d before))
-    | inr behind ↦ differs j d (ap is_eq (gap.behind j d behind h))
-  ])
-
   module _ (named : AreNamedLists lists) (i : ℕ) (here : IsListAt node lists i) where
-    name_at : (d : Entry) → bytes_eq (get_or lists i d).0 node ≡ true
-    name_at d = texts_ties (get_or lists i d).0 node ∙ ap is_eq (here.same d)
-
-    earlier : (j : ℕ) (d : Entry) → j < i → bytes_eq (get_or lists j d).0 node ≡ false
-    earlier j d h = differs j d (ap is_eq (before_found name_cmp nat_list_cmp_total (λ (e : Entry). e.0) lists named.ascending node i here j d h))
-
-    later : (j : ℕ) (d : Entry) → i < j → j < length lists → bytes_eq (get_or lists j d).0 node ≡ false
-    later j d h within = differs j d (ap is_eq (behind_found name_cmp nat_list_cmp_total (λ (e : Entry). e.0) lists named.ascending node i here j d h within))
-
-    pub under-found : (d : Entry) → list_under node lists ≡ (get_or lists i d).1
-    under-found d = under-at node lists i d here.within earlier name_at
-
     pub is_name : (d : Entry) → (get_or lists i d).0 ≡ node
-    is_name d = (bytes_eq-Decides (get_or lists i d).0 node).0 (name_at d)
+    is_name d = (bytes_eq-Decides (get_or lists i d).0 node).0 (name_at node lists named i here d)
 
     pub under-remove : list_under node (remove lists i) ≡ []
     under-remove = under-none node (remove lists i) (λ j d h. elim (cases_lt j i) [
-      | inl before ↦ ap (λ (e : Entry). bytes_eq e.0 node) (get_or-remove_below lists i d j before here.within) ∙ earlier j d before
+      | inl before ↦ ap (λ (e : Entry). bytes_eq e.0 node) (get_or-remove_below lists i d j before here.within) ∙ earlier node lists named i here j d before
       | inr behind ↦
           let count = length-remove lists i here.within in
           let e : j + 1 ≡ suc j = omega arith in
           ap (λ (e : Entry). bytes_eq e.0 node) (get_or-remove_above lists i d j behind here.within)
-          ∙ later (j + 1) d (omega arith) (omega arith)
+          ∙ later node lists named i here (j + 1) d (omega arith) (omega arith)
     ])
 
     pub under-set : (cidrs : List CidrValue) (name : List ℕ) → name ≡ node → list_under node (set lists i (name, cidrs)) ≡ cidrs
     under-set cidrs name is =
         let within : i < length (set lists i (name, cidrs)) = omega (arith, length-set lists i (name, cidrs), here.within) in
         under-at node (set lists i (name, cidrs)) i (name, cidrs) within
-        (λ j d h. ap (λ (e : Entry). bytes_eq e.0 node) (get_or-set_other lists i j (name, cidrs) d (omega arith)) ∙ earlier j d h)
+        (λ j d h. ap (λ (e : Entry). bytes_eq e.0 node) (get_or-set_other lists i j (name, cidrs) d (omega arith)) ∙ earlier node lists named i here j d h)
         (λ d. ap (λ (e : Entry). bytes_eq e.0 node) (get_or-set_same lists i (name, cidrs) d here.within) ∙ ((bytes_eq-Decides name node).1 is))
         ∙ ap (λ (e : Entry). e.1) (get_or-set_same lists i (name, cidrs) (name, cidrs) here.within)
 
@@ -129,7 +74,7 @@ module _ (node : List ℕ) (lists : List Entry) where
       let count = length-insert lists i (node, cidrs) gap.within in
       let bound = gap.within in
       under-at node (insert lists i (node, cidrs)) i (node, cidrs) (omega arith)
-      (λ j d h. ap (λ (e : Entry). bytes_eq e.0 node) (get_or-insert_below lists i (node, cidrs) d j h gap.within) ∙ differs j d (ap is_eq (gap.before j d h)))
+      (λ j d h. ap (λ (e : Entry). bytes_eq e.0 node) (get_or-insert_below lists i (node, cidrs) d j h gap.within) ∙ differs node lists j d (ap is_eq (gap.before j d h)))
       (λ d. ap (λ (e : Entry). bytes_eq e.0 node) (get_or-insert_at lists i (node, cidrs) d gap.within) ∙ (bytes_eq-Decides node node).1 refl)
       ∙ ap (λ (e : Entry). e.1) (get_or-insert_at lists i (node, cidrs) (node, cidrs) gap.within)
 
@@ -208,34 +153,6 @@ AreNodeLists-remove lists kept i h = record {
   };
   ascending = All-remove (λ (e : Entry). CidrsAscend e.1) lists i h kept.ascending;
 }
-
--- ---- what a search by a name finds
-pub nodes_searched : (node : List ℕ) (owned : List (Vec ℕ × Vec CidrValue)) → AreNamedLists (named_lists owned) → (r : Result ℕ ℕ) → IsSearchInRange r (length owned) → IsBinarySearchResult (λ entry. name_cmp entry.0.items node) owned r → record { found : IfOk r (IsListAt node (named_lists owned)); absent : IfErr r (IsGapFor node (named_lists owned)) }
-nodes_searched node owned named r within result =
-    by_answer r (searched name_cmp nat_list_cmp_total (λ (entry : Vec ℕ × Vec CidrValue). entry.0.items) owned (subst (IsStrictlySortedBy name_cmp) (names-named_lists owned) named.ascending) node r within result)
-  where
-    by_answer : (r : Result ℕ ℕ) → record { found : IfOk r (IsFoundAt (λ entry. name_cmp entry.0.items node) owned); absent : IfErr r (IsGapAt (λ entry. name_cmp entry.0.items node) owned) } → record { found : IfOk r (IsListAt node (named_lists owned)); absent : IfErr r (IsGapFor node (named_lists owned)) }
-    by_answer (Ok at) facts = record {
-      found =
-          let within = facts.found.within in
-          record {
-            within = omega (arith, length-named owned);
-            same = λ d. named-at (λ entry. name_cmp entry.0 node ≡ Equal) owned at d within facts.found.same;
-          };
-      absent = tt;
-    }
-    by_answer (Err at) facts = record {
-      found = tt;
-      absent =
-          let within = facts.absent.within in
-          record {
-            within = omega (arith, length-named owned);
-            before = λ i d h. named-at (λ entry. name_cmp entry.0 node ≡ Less) owned i d (omega arith) (λ e. facts.absent.before i e h);
-            behind = λ i d h m.
-                let here : i < length owned = omega (arith, length-named owned) in
-                named-at (λ entry. name_cmp entry.0 node ≡ Greater) owned i d here (λ e. facts.absent.behind i e h here);
-          };
-    }
 
 -- ---- writes to the entries
 pub remove-set : {X : Type 0} (xs : List X) (i : ℕ) (x : X) → remove (set xs i x) i ≡ remove xs i

@@ -12,6 +12,7 @@ use Rattle.ipam_records.specs.KeyOrder.{key_cmp}
 use Rattle.ipam_records.specs.KeyOrderLaws.{key_cmp_total}
 use Rattle.ipam_records.specs.Datastore.{row_key, row_of, with_row, without_row}
 use Rattle.ipam_records.specs.BlockLists.{is_block, AreBlocks}
+use Rattle.ipam_records.proofs.BlockMembers.{IsBlockRow}
 use Rattle.ipam_records.proofs.DatastoreLemmas.{row_of-without_row}
 use Rattle.ipam_store.specs.Places.{IsBehind, AllBehind}
 use Rattle.ipam_store.specs.Indexed.{Indexed, IsIndexOf}
@@ -19,7 +20,6 @@ use Rattle.ipam_store.specs.BlockShelf.{AreIndexed}
 use Rattle.ipam_store.proofs.Searching.{with_step, without_step}
 use Rattle.ipam_store.proofs.Parts.{with_row-front, without-behind}
 use Rattle.ipam_store.proofs.Keeping.{All-with_row, All-without_row, Ascend-with_row, Ascend-without_row}
-use Rattle.ipam_store.proofs.Listed.{IsBlockRow}
 
 -- what is below all rows, and is no lower than the key, has all of them behind the key
 behind_key : (k key r : Key) (o : Ordering) → key_cmp k key ≡ o → (o ≡ Less → ⊥) → key_cmp k r ≡ Less → key_cmp r key ≡ Greater

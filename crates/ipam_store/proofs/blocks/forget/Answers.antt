@@ -6,9 +6,10 @@ use Rattle.ipam_records.specs.Key.{key_of}
 use Rattle.ipam_records.specs.KeyRef.{named}
 use Rattle.ipam_records.specs.Datastore.{row_of, without_row}
 use Rattle.ipam_records.proofs.DatastoreLemmas.{row_key-row_of}
+use Rattle.ipam_records.proofs.BlockMembers.{IsBlockRow}
 use Rattle.ipam_records.proofs.HearingLemmas.{All-row_of}
 use Rattle.ipam_store.specs.Indexed.{IsIndexOf}
-use Rattle.ipam_store.proofs.Listed.{IsBlockRow, not_block, IsIndexOf-without_row, without_row-none}
+use Rattle.ipam_store.proofs.Listed.{not_block, IsIndexOf-without_row, without_row-none}
 use Rattle.ipam_store.proofs.blocks.forget.Goals as goal
 
 pub returns-in_default-clause-index : goal.returns-in_default-clause-index

@@ -2,7 +2,8 @@ use Rattle.std.proofs.Common.{IsOk, ◌≡◌, [], ◌∷◌, length, sym, subst
 use Rattle.std.proofs.lemmas.List.{nil_from_length}
 use Rattle.std.specs.List.Sorted.{IsStrictlySortedBy}
 use Rattle.ipam_store.specs.NodeNames.{IsNext}
-use Rattle.ipam_store.proofs.NodeLemmas.{length-named, ChangesList-open, AreNodeLists-open}
+use Rattle.ipam_records.proofs.BlockListLemmas.{length-named}
+use Rattle.ipam_store.proofs.NodeLemmas.{ChangesList-open, AreNodeLists-open}
 use Rattle.ipam_store.proofs.nodes.open.Goals as goal
 
 pub insert-requires : goal.insert-requires

@@ -1,5 +1,5 @@
 use Rattle.std.proofs.Common.{arith}
-use Rattle.ipam_store.proofs.NodeLemmas.{length-named}
+use Rattle.ipam_records.proofs.BlockListLemmas.{length-named}
 use Rattle.ipam_store.proofs.nodes.NodeLists.insert.Goals as goal
 
 pub put_in-roomy-requires-clause-within : goal.put_in-roomy-requires-clause-within

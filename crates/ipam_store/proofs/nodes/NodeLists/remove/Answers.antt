@@ -1,5 +1,6 @@
 use Rattle.std.proofs.Common.{arith}
-use Rattle.ipam_store.proofs.NodeLemmas.{length-named, ChangesList-none}
+use Rattle.ipam_records.proofs.BlockListLemmas.{length-named}
+use Rattle.ipam_store.proofs.NodeLemmas.{ChangesList-none}
 use Rattle.ipam_store.proofs.nodes.NodeLists.remove.Goals as goal
 
 pub take_out-requires-clause-within : goal.take_out-requires-clause-within
