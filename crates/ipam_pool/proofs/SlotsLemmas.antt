@@ -65,7 +65,7 @@ near k a b first second from below =
       | inr (inr after) ↦ let room = row_fits (b / d) d (a / d) d after (omega arith) in absurd (omega arith)
     ]
 
-slot_from_test : (p : Pool) (r : CidrValue) → IsCidr p.cidr → HasSlots p.cidr p.size → IsCidr r → is_slot_of p r ≡ true → IsSlotOf p r
+pub slot_from_test : (p : Pool) (r : CidrValue) → IsCidr p.cidr → HasSlots p.cidr p.size → IsCidr r → is_slot_of p r ≡ true → IsSlotOf p r
 slot_from_test p r sound slots range test =
     let (size_is, inside) = and_parts _ _ test in
     let size : r.prefix ≡ p.size = eqb-true _ _ size_is in
@@ -83,7 +83,7 @@ slot_from_test p r sound slots range test =
       is = ap₂ (λ f b. made f b r.prefix) held.same_family base ∙ ap (λ s. made p.cidr.family (slot_of p.cidr p.size k).base s) size;
     }
 
-test_of_slot : (p : Pool) (r : CidrValue) → HasSlots p.cidr p.size → IsSlotOf p r → is_slot_of p r ≡ true
+pub test_of_slot : (p : Pool) (r : CidrValue) → HasSlots p.cidr p.size → IsSlotOf p r → is_slot_of p r ≡ true
 test_of_slot p r slots h =
     let s = slot_of p.cidr p.size h.number in
     let some = pow_pos (width p.cidr.family - p.size) in

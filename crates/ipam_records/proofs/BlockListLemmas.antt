@@ -1,21 +1,23 @@
 -- The lists of blocks among rows.
-use Rattle.std.proofs.Common.{◌≡◌, ℕ, zero, suc, ◌<◌, inl, inr, List, [], ◌∷◌, length, get_or, map, Bool, true, false, cond, Some, None, ap, ◌∙◌, arith, refl, subst, bytes_eq, Result, Ok, Err, IfOk, IfErr}
+use Rattle.std.proofs.Common.{◌≡◌, ℕ, zero, suc, ◌<◌, inl, inr, List, [], ◌∷◌, length, get_or, map, Bool, true, false, cond, Some, None, ap, ◌∙◌, arith, refl, subst, bytes_eq, Result, Ok, Err, IfOk, IfErr, sym}
 use Rattle.std.proofs.lemmas.List.Elements.{All-head, All-tail}
 use Rattle.std.specs.Ordering.{is_eq}
 use Rattle.std.specs.Cmp.Lexicographic.{nat_list_cmp_total, texts_ties}
 use Rattle.std.proofs.lemmas.Bool.{cases_lt}
 use Rattle.std.specs.declared.cmp.Ordering.TheVariants.{Less, Equal, Greater}
 use Rattle.std.specs.Global.{Vec}
-use Rattle.std.specs.List.{cons_option}
+use Rattle.std.specs.List.{cons_option, AllByRecursion}
 use Rattle.std.specs.List.Sorted.{IsStrictlySortedBy, IsSearchInRange, IsBinarySearchResult}
+use Rattle.std.specs.declared.cmp.Ordering.TheVariants.{Less}
 use Rattle.ipam_addr.specs.Shape.{CidrValue}
 use Rattle.ipam_block.specs.Shape.{BlockValue}
 use Rattle.ipam_records.specs.declared.key.Key.TheVariants as key
 use Rattle.ipam_records.specs.declared.record.Record.{Record}
 use Rattle.ipam_records.specs.declared.record.Record.TheVariants as record_of
-use Rattle.ipam_records.specs.KeyOrder.{keys_equal}
+use Rattle.ipam_handle.specs.Order.{cidr_cmp}
+use Rattle.ipam_records.specs.KeyOrder.{key_cmp, keys_equal}
 use Rattle.ipam_records.specs.Datastore.{row_key, row_of}
-use Rattle.ipam_records.specs.BlockLists.{is_block, cidr_if, cidrs_where, HasNoBlock, name_cmp, named_lists, list_under, AreNamedLists}
+use Rattle.ipam_records.specs.BlockLists.{is_block, cidr_if, cidrs_where, HasNoBlock, name_cmp, named_lists, list_under, AreNamedLists, AreBlocks}
 use Rattle.ipam_records.specs.Places.{IsFoundAt, IsGapAt}
 use Rattle.ipam_records.proofs.SearchLemmas.{searched, before_found, behind_found}
 
@@ -50,6 +52,42 @@ row_of-none cidr [] none = refl
 row_of-none cidr (row ∷ rows) none =
     ap (λ b. cond b (Some row) (row_of (key.Block cidr) rows)) (other_key cidr row (All-head IsNoBlock row rows none))
     ∙ row_of-none cidr rows (All-tail IsNoBlock row rows none)
+
+-- ---- the lists ascend as their rows do
+module _ (passes : BlockValue → Bool) where
+  behind : (first : CidrValue) (rows : List (ℕ × Record)) → AllByRecursion (λ y. key_cmp (key.Block first) y ≡ Less) (map row_key rows) → AllByRecursion (λ c. cidr_cmp first c ≡ Less) (cidrs_where passes rows)
+  behind first [] all = tt
+  behind first ((revision, record_of.Config c) ∷ rows) all = behind first rows all.1
+  behind first ((revision, record_of.Pools p) ∷ rows) all = behind first rows all.1
+  behind first ((revision, record_of.Reservations r) ∷ rows) all = behind first rows all.1
+  behind first ((revision, record_of.Block b) ∷ rows) all =
+      elim (passes b) as (λ v. AllByRecursion (λ c. cidr_cmp first c ≡ Less) (cons_option (cond v (Some b.cidr) None) (cidrs_where passes rows))) [
+        | true ↦ (all.0, behind first rows all.1)
+        | false ↦ behind first rows all.1
+      ]
+  behind first ((revision, record_of.Affinity a) ∷ rows) all = behind first rows all.1
+  behind first ((revision, record_of.Handle h) ∷ rows) all = behind first rows all.1
+
+  pub cidrs_where-ascends : (rows : List (ℕ × Record)) → IsStrictlySortedBy key_cmp (map row_key rows) → IsStrictlySortedBy cidr_cmp (cidrs_where passes rows)
+  unfolding IsStrictlySortedBy
+  cidrs_where-ascends [] s = tt
+  cidrs_where-ascends ((revision, record_of.Config c) ∷ rows) s = cidrs_where-ascends rows s.1
+  cidrs_where-ascends ((revision, record_of.Pools p) ∷ rows) s = cidrs_where-ascends rows s.1
+  cidrs_where-ascends ((revision, record_of.Reservations r) ∷ rows) s = cidrs_where-ascends rows s.1
+  cidrs_where-ascends ((revision, record_of.Block b) ∷ rows) s =
+      elim (passes b) as (λ v. IsStrictlySortedBy cidr_cmp (cons_option (cond v (Some b.cidr) None) (cidrs_where passes rows))) [
+        | true ↦ (behind b.cidr rows s.0, cidrs_where-ascends rows s.1)
+        | false ↦ cidrs_where-ascends rows s.1
+      ]
+  cidrs_where-ascends ((revision, record_of.Affinity a) ∷ rows) s = cidrs_where-ascends rows s.1
+  cidrs_where-ascends ((revision, record_of.Handle h) ∷ rows) s = cidrs_where-ascends rows s.1
+
+  pub list-ascends : (rows : List (ℕ × Record)) (list : List CidrValue) → list ≡ cidrs_where passes rows → AreBlocks rows → IsStrictlySortedBy cidr_cmp list
+  list-ascends rows list is blocks = subst (IsStrictlySortedBy cidr_cmp) (sym is) (cidrs_where-ascends rows blocks.ascending)
+
+pub none-ascends : IsStrictlySortedBy cidr_cmp []
+unfolding IsStrictlySortedBy
+none-ascends = tt
 
 -- ---- lists under names
 pub names-named_lists : (owned : List (Vec ℕ × Vec CidrValue)) → map (λ entry. entry.0) (named_lists owned) ≡ map (λ entry. entry.0.items) owned

@@ -1,5 +1,7 @@
 ghost use Rattle.std.specs.Prelude.{◌≡◌, ◌<◌, ◌^◌, length, slice_get, option_map, Some};
 ghost use Rattle.std.specs.Option.{ForSome, ForNone};
+ghost use Rattle.std.specs.List.Sorted.{IsStrictlySortedBy};
+ghost use Rattle.ipam_handle.specs.Order.{cidr_cmp};
 ghost use Rattle.std.proofs.Props.{props};
 ghost use Rattle.ipam_records.specs.Pages.{rows_of_pages};
 ghost use Rattle.ipam_records.specs.BlockLists.{cidrs_of_node, cidrs_unowned, cidrs_roomy, named_lists, AreNamedLists, AreListsOf, AreBlocks, HasNoBlock};
@@ -102,7 +104,8 @@ impl<'a> Listing<'a> {
 
     /// The blocks with this node, by family, base and prefix. Takes no memory.
     pub fn of_node(&self, node: &str) -> &'a [Cidr]
-        ensures { result.now ≡ cidrs_of_node node.now (rows_of self.now) }
+        ensures value { result.now ≡ cidrs_of_node node.now (rows_of self.now) }
+        ensures ascending { IsStrictlySortedBy cidr_cmp result.now }
     {
         match self.index {
             Some(lists) => list_of(lists.owned, node),
@@ -112,7 +115,8 @@ impl<'a> Listing<'a> {
 
     /// The blocks without a node, by family, base and prefix. Takes no memory.
     pub fn unowned(&self) -> &'a [Cidr]
-        ensures { result.now ≡ cidrs_unowned (rows_of self.now) }
+        ensures value { result.now ≡ cidrs_unowned (rows_of self.now) }
+        ensures ascending { IsStrictlySortedBy cidr_cmp result.now }
     {
         match self.index {
             Some(lists) => lists.unowned,
@@ -122,7 +126,8 @@ impl<'a> Listing<'a> {
 
     /// The blocks with a free address, by family, base and prefix. Takes no memory.
     pub fn roomy(&self) -> &'a [Cidr]
-        ensures { result.now ≡ cidrs_roomy (rows_of self.now) }
+        ensures value { result.now ≡ cidrs_roomy (rows_of self.now) }
+        ensures ascending { IsStrictlySortedBy cidr_cmp result.now }
     {
         match self.index {
             Some(lists) => lists.roomy,
