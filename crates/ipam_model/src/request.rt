@@ -1,9 +1,12 @@
+ghost use Rattle.std.specs.Prelude.{◌≡◌};
+
 use ipam_addr::{Addr, Cidr};
 use ipam_block::Attributes;
 use ipam_pool::Pool;
 use ipam_records::Config;
 use ipam_reserve::Reservation;
 use ipam_text::{Seq, Text};
+use std::alloc::AllocError;
 
 /// An address for each family that is wanted, or one address that is asked for.
 #[derive(Debug, Drop)]
@@ -21,6 +24,27 @@ pub struct AddRequest {
     pub pools6: Seq<Text>,
 }
 
+impl Clone for AddRequest {
+    ghost is_clone = { λ old new. new ≡ old };
+
+    fn clone(&self) -> Result<AddRequest, AllocError> {
+        let node = self.node.clone()?;
+        let attributes = self.attributes.clone()?;
+        let labels = self.labels.clone()?;
+        let pools4 = self.pools4.clone()?;
+        let pools6 = self.pools6.clone()?;
+        Ok(AddRequest {
+            node,
+            attributes,
+            ipv4: self.ipv4,
+            ipv6: self.ipv6,
+            labels,
+            pools4,
+            pools6,
+        })
+    }
+}
+
 /// Whether an address of each family could be given.
 #[derive(Debug, Drop)]
 pub struct ProbeRequest {
@@ -30,6 +54,25 @@ pub struct ProbeRequest {
     pub ipv6: bool,
     pub pools4: Seq<Text>,
     pub pools6: Seq<Text>,
+}
+
+impl Clone for ProbeRequest {
+    ghost is_clone = { λ old new. new ≡ old };
+
+    fn clone(&self) -> Result<ProbeRequest, AllocError> {
+        let node = self.node.clone()?;
+        let labels = self.labels.clone()?;
+        let pools4 = self.pools4.clone()?;
+        let pools6 = self.pools6.clone()?;
+        Ok(ProbeRequest {
+            node,
+            labels,
+            ipv4: self.ipv4,
+            ipv6: self.ipv6,
+            pools4,
+            pools6,
+        })
+    }
 }
 
 /// A collection of the addresses whose handles are live in neither of two lists.
