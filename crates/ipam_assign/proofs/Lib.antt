@@ -1,1 +1,3 @@
 mod AssigningLemmas
+mod RoundLaws
+mod PlaceLemmas

@@ -1,1 +1,4 @@
 pub mod Assigning
+pub mod Rounds
+pub mod PlaceShape
+pub mod Place
