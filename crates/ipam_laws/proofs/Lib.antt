@@ -6,13 +6,16 @@ pub mod RequestBounds
 pub mod StoreSteps
 pub mod OneRecord
 pub mod Lift
+pub mod Calls
+pub mod Steps
+pub mod PartSteps
+pub mod WriteSteps
+pub mod WordSteps
+pub mod RequestSteps
+pub mod SlotSteps
 pub mod CountLemmas
 pub mod CountSteps
-pub mod Calls
-pub mod CountParts
-pub mod CountWrites
-pub mod CountWords
-pub mod CountRequests
+pub mod CountKinds
 pub mod CountHistory
 pub mod EventHistory
 pub mod AloneHistory
@@ -31,3 +34,5 @@ pub mod AddParts
 pub mod AddRounds
 pub mod AddFamilies
 pub mod FamilyHistory
+pub mod AffinityAt
+pub mod AffinityHolds

@@ -24,7 +24,7 @@ pub AreGiven : Datastore → Type 0
 AreGiven store = (key : Key) (revision : ℕ) (found : Record) → HasAt store key revision found → revision ≤ store.counter
 
 -- a key is the one, or another
-key_cases : (k l : Key) → (k ≡ l) ⊎ (k ≢ l)
+pub key_cases : (k l : Key) → (k ≡ l) ⊎ (k ≢ l)
 key_cases k l = elim (cases_Bool (keys_equal k l)) [
   | inl same ↦ inl (same-keys_equal k l same)
   | inr differ ↦ inr (λ e. let t : keys_equal k l ≡ true = subst (λ (x : Key). keys_equal k x ≡ true) e (keys_equal-itself k) in cc)

@@ -112,7 +112,7 @@ change-next store old (Some row) revision e = from (row.0 == old) e
     from true f = granted-next store revision f
     from false f = cc
 
-can-next : (store : Datastore) (asked : Call) (revision : ℕ) → reply_of store asked ≡ Can revision → revision ≡ store.counter + 1
+pub can-next : (store : Datastore) (asked : Call) (revision : ℕ) → reply_of store asked ≡ Can revision → revision ≡ store.counter + 1
 can-next store (call.Get key) revision e = absurd (get-never (row_of key store.rows) revision e)
 can-next store (call.List kind) revision e = cc
 can-next store (call.Create new) revision e = create-next store (key_of new) (row_of (key_of new) store.rows) revision e

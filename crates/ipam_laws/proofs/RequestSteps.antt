@@ -1,5 +1,5 @@
--- The word of each request keeps the counts above what is held.
-use Rattle.std.proofs.Common.{◌≡◌, ℕ, zero, suc, ◌-◌, Bool, true, false, cond, List, [], ◌∷◌, ◌++◌, Option, Some, None, refl, sym, ap, subst, arith}
+-- The word of each request takes steps of their kinds.
+use Rattle.std.proofs.Common.{◌≡◌, ◌∙◌, ◌⊎◌, inl, inr, ℕ, zero, suc, ◌-◌, Bool, true, false, cond, List, [], ◌∷◌, ◌++◌, Option, Some, None, refl, sym, ap, subst, arith}
 use Rattle.std.specs.Prelude.{◌==◌, ◌&&◌, map, nat_le, not, length}
 use Rattle.std.specs.List.{list_any, filter}
 use Rattle.ipam_addr.specs.declared.address.Family.{Family}
@@ -11,6 +11,7 @@ use Rattle.ipam_pool.specs.Changes.{has_name, refusal_of, with_disabled}
 use Rattle.ipam_block.specs.declared.allocation.Allocation.{Allocation}
 use Rattle.ipam_block.specs.Shape as block
 use Rattle.ipam_block.specs.Operations.{is_owned, is_stamped, holder}
+use Rattle.ipam_records.specs.declared.key.Key.{Key}
 use Rattle.ipam_records.specs.declared.key.Key.TheVariants as key
 use Rattle.ipam_records.specs.declared.key.Kind.TheVariants as kind
 use Rattle.ipam_records.specs.declared.record.Record.{Record}
@@ -48,7 +49,8 @@ use Rattle.ipam_model.specs.Admin as change
 use Rattle.ipam_model.specs.Affinities as affinities
 use Rattle.ipam_model.specs.Affinities.{BlockRead}
 use Rattle.ipam_model.specs.Assigning.{target_in, assign, claim_for}
-use Rattle.ipam_model.specs.Choice.{Share, Takes, Claims, Leaves as Foreign, by_share, share_of, choice_of}
+use Rattle.ipam_model.specs.AffinityLaw.{HasAt}
+use Rattle.ipam_model.specs.Choice.{is_node, is_unowned_and_empty, Share, Takes, Claims, Leaves as Foreign, by_share, share_of, choice_of}
 use Rattle.ipam_model.specs.Cluster.{store_with}
 use Rattle.ipam_model.specs.Counting.{Freeing, freeing_all, freeing_one, free}
 use Rattle.ipam_model.specs.Look as look
@@ -58,12 +60,12 @@ use Rattle.ipam_model.specs.Requests.{word_of, told_as}
 use Rattle.ipam_model.specs.Told.{of_add, of_add_this, of_del, of_check, of_release, of_collect, of_admin, of_probe}
 use Rattle.ipam_model.specs.Step.{Left, left_of, all_left, Went, Stops, Stop, OutOfTries, OutOfClaims, NoRoom, CountAtLimit, NoRevisions, Part, stop_answer, settled, goes, stops, tries, retried, in_rounds, write_back}
 use Rattle.ipam_model.specs.Usable.{RuledPool, for_all, families_if, usable_pool_of, pool_of}
-use Rattle.ipam_laws.proofs.Lift.{Known, more, label_to}
-use Rattle.ipam_laws.proofs.Calls.{get-meets, list-meets, write-meets}
-use Rattle.ipam_laws.proofs.CountSteps.{owed, CountsGrow, IsApart, apart-grow, idle-less}
-use Rattle.ipam_laws.proofs.CountParts.{Any, still, Counts, any-lasts, idle-stays}
-use Rattle.ipam_laws.proofs.CountWrites.{IsKnownBlock, block-read, idle-nothing, OwnPicks, free-counts, free-label, release-counts}
-use Rattle.ipam_laws.proofs.CountWords.{Keeps, Lawful, LawfulAfter, LawfulOn, LawfulNext, lawful-both, followed-keeps, followed-lawful, settled-lawful, rounds-lawful, own-known, assign-keeps, claim_for-keeps, serve-lawful, five_reads-counts}
+use Rattle.ipam_laws.proofs.Lift.{Known, more, Agrees, label_to}
+use Rattle.ipam_laws.proofs.Calls.{create-can, update-can, can-put, get-meets, list-meets, write-meets}
+use Rattle.ipam_laws.proofs.Steps.{IsKnownBlock, OwnPicks, Step, Idles, Changes, step-grows}
+use Rattle.ipam_laws.proofs.PartSteps.{Any, still, Steps, any-lasts}
+use Rattle.ipam_laws.proofs.WriteSteps.{IsClaimable, block-read, free-steps, free-label, release-steps}
+use Rattle.ipam_laws.proofs.WordSteps.{Keeps, Lawful, LawfulAfter, LawfulOn, LawfulNext, unowned-nobodys, lawful-both, followed-keeps, followed-lawful, settled-lawful, rounds-lawful, own-known, assign-keeps, claim_for-keeps, serve-lawful, five_reads-steps}
 
 owned-picks : (id : List ℕ) (a : Allocation) → is_owned id a ≡ true → is_owned id a ≡ true
 owned-picks id a h = h
@@ -79,7 +81,7 @@ stamped-own ordinal id stamp a h = from (a.ordinal == ordinal) (a.stamp == stamp
     from false false d e = cc
 
 free-lawful : (what : Freeing) (left : Left) → OwnPicks what → Lawful (free what left)
-free-lawful what left own known = (free-label what left, free-counts what left own known)
+free-lawful what left own known = (free-label what left, free-steps what left own known)
 
 one-picks : (id : List ℕ) (cidr : CidrValue) (ordinal stamp : ℕ) → OwnPicks (freeing_one id cidr ordinal stamp)
 one-picks id cidr ordinal stamp = stamped-own ordinal id stamp
@@ -131,25 +133,39 @@ this_take-keeps wanted next n left looked found known h =
     (assign-keeps wanted.request.attributes (target_in found ordinal) left known (own-known known looked.cidr found ordinal h))
     (this_assigned-lawful wanted next n looked)
 
-this_claim-keeps : (wanted : this.Wanted) (next : this.NextRound) → LawfulNext next → (left : Left) (looked : this.Looked) (read : BlockRead) (known : Known) → IsKnownBlock known looked.cidr read → Keeps known (this.this_claim wanted next left looked read)
+this_claim-keeps : (wanted : this.Wanted) (next : this.NextRound) → LawfulNext next → (left : Left) (looked : this.Looked) (read : BlockRead) (known : Known) → IsClaimable known wanted.request.node looked.cidr read → Keeps known (this.this_claim wanted next left looked read)
 this_claim-keeps wanted next n left looked read known h =
     followed-keeps (claim_for wanted.request.node looked.cidr read left) (λ now done. next now) known
     (claim_for-keeps wanted.request.node looked.cidr read left known h) (λ now done. n now)
 
-this_free-keeps : (wanted : this.Wanted) (next : this.NextRound) → LawfulNext next → (left : Left) (looked : this.Looked) (found : ℕ × block.BlockValue) (known : Known) → IsKnownBlock known looked.cidr (Some found) → Keeps known (this.this_free wanted next left looked found)
-this_free-keeps wanted next n left looked found known h = from (share_of looked.rules.config.strict wanted.request.node found.1)
+-- what a node claims is nobody's
+claimed-nobodys : (strict : Bool) (node : List ℕ) (b : block.BlockValue) → share_of strict node b ≡ Claims → b.node ≡ None
+claimed-nobodys strict node b e = by (is_node node b.node) (is_unowned_and_empty b) refl strict e
   where
-    from : (share : Share) → Keeps known (by_share share (this.this_take wanted next left looked found) (this.this_claim wanted next left looked (Some found)) (goes left (add_this.NotAffine looked.cidr looked.b)))
-    from Takes = this_take-keeps wanted next n left looked found known h
-    from Claims = this_claim-keeps wanted next n left looked (Some found) known h
-    from Foreign = (idle-nothing, tt)
+    whole : (b : Bool) → b ≡ true → b && true ≡ true
+    whole true f = refl
+    whole false f = absurd (cc f)
+
+    by : (own free : Bool) → is_unowned_and_empty b ≡ free → (strict : Bool) → cond own Takes (cond free Claims (cond strict Foreign Takes)) ≡ Claims → b.node ≡ None
+    by true free n strict f = absurd (cc f)
+    by false true n strict f = unowned-nobodys b true (whole (is_unowned_and_empty b) n)
+    by false false n true f = absurd (cc f)
+    by false false n false f = absurd (cc f)
+
+this_free-keeps : (wanted : this.Wanted) (next : this.NextRound) → LawfulNext next → (left : Left) (looked : this.Looked) (found : ℕ × block.BlockValue) (known : Known) → IsKnownBlock known looked.cidr (Some found) → Keeps known (this.this_free wanted next left looked found)
+this_free-keeps wanted next n left looked found known h = from (share_of looked.rules.config.strict wanted.request.node found.1) refl
+  where
+    from : (share : Share) → share_of looked.rules.config.strict wanted.request.node found.1 ≡ share → Keeps known (by_share share (this.this_take wanted next left looked found) (this.this_claim wanted next left looked (Some found)) (goes left (add_this.NotAffine looked.cidr looked.b)))
+    from Takes e = this_take-keeps wanted next n left looked found known h
+    from Claims e = this_claim-keeps wanted next n left looked (Some found) known (h, inl (claimed-nobodys looked.rules.config.strict wanted.request.node found.1 e))
+    from Foreign e = (refl, tt)
 
 this_held-keeps : (free : Part AddThisAnswer) (left : Left) (looked : this.Looked) (held : Option Allocation) (known : Known) → Keeps known free → Keeps known (this.this_held free left looked held)
 this_held-keeps free left looked None known f = f
-this_held-keeps free left looked (Some held) known f = (idle-nothing, tt)
+this_held-keeps free left looked (Some held) known f = (refl, tt)
 
 this_block-keeps : (wanted : this.Wanted) (next : this.NextRound) → LawfulNext next → (left : Left) (looked : this.Looked) (read : BlockRead) (known : Known) → IsKnownBlock known looked.cidr read → Keeps known (this.this_block wanted next left looked read)
-this_block-keeps wanted next n left looked None known h = this_claim-keeps wanted next n left looked None known tt
+this_block-keeps wanted next n left looked None known h = this_claim-keeps wanted next n left looked None known (tt, tt)
 this_block-keeps wanted next n left looked (Some found) known h =
     this_held-keeps (this.this_free wanted next left looked found) left looked (holder found.1 (wanted.address.number - looked.cidr.base)) known
     (this_free-keeps wanted next n left looked found known h)
@@ -158,7 +174,7 @@ this_in_pool-lawful : (wanted : this.Wanted) (next : this.NextRound) → LawfulN
 this_in_pool-lawful wanted next n left rules None known = (refl, tt)
 this_in_pool-lawful wanted next n left rules (Some ruled) known = (
   refl,
-  get-meets CountsGrow still Any known idle (key.Block cidr) (λ b said. this.this_block wanted next left (looked b) (block_said said))
+  get-meets Step still Any known idle (key.Block cidr) (λ b said. this.this_block wanted next left (looked b) (block_said said))
       (λ b store agrees. turn b store (this_block-keeps wanted next n left (looked b) (block_said (reply_to_get (row_of (key.Block cidr) store.rows))) (more known store store) (block-read known store cidr))),
 )
   where
@@ -169,22 +185,22 @@ this_in_pool-lawful wanted next n left rules (Some ruled) known = (
     looked b = record { rules = rules; cidr = this.slot_holding ruled.pool wanted.address; b = b }
 
     turn : (b : ℕ) (store : Datastore) → Keeps (more known store store) (this.this_block wanted next left (record { rules = rules; cidr = this.slot_holding ruled.pool wanted.address; b = b }) (block_said (reply_to_get (row_of (key.Block (this.slot_holding ruled.pool wanted.address)) store.rows))))
-        → CountsGrow store store idle (label_to still (this.this_block wanted next left (record { rules = rules; cidr = this.slot_holding ruled.pool wanted.address; b = b }) (block_said (reply_to_get (row_of (key.Block (this.slot_holding ruled.pool wanted.address)) store.rows)))))
-        × Counts still (more known store store) (this.this_block wanted next left (record { rules = rules; cidr = this.slot_holding ruled.pool wanted.address; b = b }) (block_said (reply_to_get (row_of (key.Block (this.slot_holding ruled.pool wanted.address)) store.rows))))
-    turn b store h = (λ id c'. let e = h.0 id c' in omega arith, h.1)
+        → Step known store store idle (label_to still (this.this_block wanted next left (record { rules = rules; cidr = this.slot_holding ruled.pool wanted.address; b = b }) (block_said (reply_to_get (row_of (key.Block (this.slot_holding ruled.pool wanted.address)) store.rows)))))
+        × Steps still (more known store store) (this.this_block wanted next left (record { rules = rules; cidr = this.slot_holding ruled.pool wanted.address; b = b }) (block_said (reply_to_get (row_of (key.Block (this.slot_holding ruled.pool wanted.address)) store.rows))))
+    turn b store h = (Idles refl h.0, h.1)
 
 this_round-lawful : (wanted : this.Wanted) (next : this.NextRound) → LawfulNext next → LawfulNext (this.this_round wanted next)
 this_round-lawful wanted next n left known = (
   refl,
-  get-meets CountsGrow still Any known idle key.Config
+  get-meets Step still Any known idle key.Config
       (λ c config. Asks idle (call.Get key.Pools) (λ p pools. this.this_in_pool wanted next left (record { config = config_said config; c = c; p = p }) (usable_pool_of (this.asked_of_this wanted.request wanted.address) wanted.address (map for_all (pools_said pools)))))
       (λ c store agrees. (
-        idle-stays store,
-        get-meets CountsGrow still Any (more known store store) idle key.Pools
+        Idles refl refl,
+        get-meets Step still Any (more known store store) idle key.Pools
             (λ p pools. this.this_in_pool wanted next left (record { config = config_said (reply_to_get (row_of key.Config store.rows)); c = c; p = p }) (usable_pool_of (this.asked_of_this wanted.request wanted.address) wanted.address (map for_all (pools_said pools))))
             (λ p later agrees'.
             let (label, meets) = this_in_pool-lawful wanted next n left (record { config = config_said (reply_to_get (row_of key.Config store.rows)); c = c; p = p }) (usable_pool_of (this.asked_of_this wanted.request wanted.address) wanted.address (map for_all (pools_said (reply_to_get (row_of key.Pools later.rows))))) (more (more known store store) later later) in
-            (subst (λ (x : Label). CountsGrow later later idle x) (sym label) (idle-stays later), meets)),
+            (Idles refl label, meets)),
       )),
 )
 
@@ -209,10 +225,10 @@ del-lawful : (id : List ℕ) → Lawful (remove.del_word id)
 unfolding blocks_said
 del-lawful id known = (
   refl,
-  get-meets CountsGrow still Any known idle (key.Handle id) (λ moment said. settled remove.del_stops (remove.del_blocks id moment (blocks_said id said) all_left)) (λ moment store agrees.
+  get-meets Step still Any known idle (key.Handle id) (λ moment said. settled remove.del_stops (remove.del_blocks id moment (blocks_said id said) all_left)) (λ moment store agrees.
       let blocks = blocks_said id (reply_to_get (row_of (key.Handle id) store.rows)) in
       let (label, meets) = settled-lawful remove.del_stops (remove.del_blocks id moment blocks all_left) (del_blocks-lawful id moment blocks all_left) (more known store store) in
-      (subst (λ (x : Label). CountsGrow store store idle x) (sym label) (idle-stays store), meets)),
+      (Idles refl label, meets)),
 )
 
 -- ---- collection
@@ -235,17 +251,17 @@ collected-lawful b1 b2 leaks = settled-lawful remove.collect_stops _ (free_leaks
 collect-lawful : (request : CollectRequest) → Lawful (remove.collect_word request)
 collect-lawful request known = (
   refl,
-  list-meets CountsGrow still Any known idle kind.Block
+  list-meets Step still Any known idle kind.Block
       (λ b1 first. Waits (λ live. Asks idle (call.List kind.Block) (λ b2 second. collected b1 b2 (remove.leaks (remove.suspects request (rows_said first)) live (rows_said second)))))
       (λ b1 store agrees. (
-        idle-stays store,
+        Idles refl refl,
         λ live. (
           refl,
-          list-meets CountsGrow still Any (more known store store) idle kind.Block
+          list-meets Step still Any (more known store store) idle kind.Block
               (λ b2 second. collected b1 b2 (remove.leaks (remove.suspects request (rows_said (reply_of store (call.List kind.Block)))) live (rows_said second)))
               (λ b2 later agrees'.
               let (label, meets) = collected-lawful b1 b2 (remove.leaks (remove.suspects request (rows_said (reply_of store (call.List kind.Block)))) live (rows_said (reply_of later (call.List kind.Block)))) (more (more known store store) later later) in
-              (subst (λ (x : Label). CountsGrow later later idle x) (sym label) (idle-stays later), meets)),
+              (Idles refl label, meets)),
         ),
       )),
 )
@@ -260,9 +276,9 @@ check_in_pool-lawful : (rest : Word CheckAnswer) (id : List ℕ) (address : Addr
 check_in_pool-lawful rest id address p None r known = (refl, tt)
 check_in_pool-lawful rest id address p (Some pool) r known = (
   refl,
-  get-meets CountsGrow still Any known idle (key.Block (this.slot_holding pool address)) (λ moment said. look.check_held rest address moment (look.holds_at id address (block_said said))) (λ moment store agrees.
+  get-meets Step still Any known idle (key.Block (this.slot_holding pool address)) (λ moment said. look.check_held rest address moment (look.holds_at id address (block_said said))) (λ moment store agrees.
       let (label, meets) = check_held-lawful rest address moment (look.holds_at id address (block_said (reply_to_get (row_of (key.Block (this.slot_holding pool address)) store.rows)))) r (more known store store) in
-      (subst (λ (x : Label). CountsGrow store store idle x) (sym label) (idle-stays store), meets)),
+      (Idles refl label, meets)),
 )
 
 check_each-lawful : (id : List ℕ) (p : ℕ) (pools : List Pool) (addresses : List AddrValue) → Lawful (look.check_each id p pools addresses)
@@ -273,9 +289,9 @@ check_each-lawful id p pools (address ∷ rest) known = check_in_pool-lawful (lo
 check-lawful : (id : List ℕ) (addresses : List AddrValue) → Lawful (look.check_word id addresses)
 check-lawful id addresses known = (
   refl,
-  get-meets CountsGrow still Any known idle key.Pools (λ p said. look.check_each id p (pools_said said) addresses) (λ p store agrees.
+  get-meets Step still Any known idle key.Pools (λ p said. look.check_each id p (pools_said said) addresses) (λ p store agrees.
       let (label, meets) = check_each-lawful id p (pools_said (reply_to_get (row_of key.Pools store.rows))) addresses (more known store store) in
-      (subst (λ (x : Label). CountsGrow store store idle x) (sym label) (idle-stays store), meets)),
+      (Idles refl label, meets)),
 )
 
 -- ---- the probe
@@ -293,83 +309,100 @@ probe_each-lawful request scans [] known = (refl, tt)
 probe_each-lawful request scans (family ∷ families) known =
     let asked = look.asked_of_probe request family in (
       refl,
-      (five_reads-counts family (λ scan seen. look.probe_choice (look.probe_each request (scans ++ scan ∷ []) families) asked scan (choice_of asked seen))
+      (five_reads-steps family (λ scan seen. look.probe_choice (look.probe_each request (scans ++ scan ∷ []) families) asked scan (choice_of asked seen))
           (λ other scan seen h.
           let (label, meets) = probe_choice-lawful (look.probe_each request (scans ++ scan ∷ []) families) request family scan (choice_of asked seen) (probe_each-lawful request (scans ++ scan ∷ []) families) other in
-          (λ id c. ap (owed id c) label, meets)) known).1,
+          (label, meets)) known).1,
     )
 
 -- ---- administration
 
--- a change is of neither a block nor a handle
-abbrev IsApartChange : change.Changed → Type 0
-IsApartChange (change.Becomes new) = IsApart (key_of new)
-IsApartChange (change.Refuses number name) = Unit {0}
+-- the row was read as known, or was missing
+abbrev IsReadOf : Known → Key → Said → Type 0
+IsReadOf known k said = (said ≡ Missing) ⊎ ((revision : ℕ) × (found : Record) × (said ≡ Found revision found) × known k revision found)
 
-pool_refused-apart : (pools : List Pool) (pool : Pool) (refusal : PoolRefusal) → IsApartChange (change.pool_refused pools pool refusal)
-pool_refused-apart pools pool NameTaken = tt
-pool_refused-apart pools pool (Overlap place) = tt
-pool_refused-apart pools pool Size = tt
-pool_refused-apart pools pool Prefix = tt
-pool_refused-apart pools pool TooMany = tt
-pool_refused-apart pools pool Memory = tt
-
-pool_appended-apart : (pools : List Pool) (pool : Pool) (refusal : Option PoolRefusal) → IsApartChange (change.pool_appended pools pool refusal)
-pool_appended-apart pools pool None = tt
-pool_appended-apart pools pool (Some refusal) = pool_refused-apart pools pool refusal
-
-changed-apart : (request : Admin) (said : Said) → IsApartChange (change.changed request said)
-changed-apart (change_of.Pool pool) said = from (list_any (change.is_same_pool pool) (pools_said said))
+row-read : (known : Known) (store : Datastore) (k : Key) → IsReadOf (more known store store) k (reply_to_get (row_of k store.rows))
+row-read known store k = from (row_of k store.rows) refl
   where
-    from : (b : Bool) → IsApartChange (cond b (change.Becomes (record_of.Pools (with_disabled pool.name pool.disabled (pools_said said)))) (change.pool_appended (pools_said said) pool (refusal_of (pools_said said) pool)))
-    from true = tt
-    from false = pool_appended-apart (pools_said said) pool (refusal_of (pools_said said) pool)
-changed-apart (change_of.Disable name disabled) said = from (list_any (has_name name) (pools_said said))
-  where
-    from : (b : Bool) → IsApartChange (cond b (change.Becomes (record_of.Pools (with_disabled name disabled (pools_said said)))) (change.Refuses 6 name))
-    from true = tt
-    from false = tt
-changed-apart (change_of.Reserve new) said = from (list_any (change.is_named new.name) (reservations_said said)) (nat_le change.most_reservations (length (reservations_said said)))
-  where
-    from : (b c : Bool) → IsApartChange (cond b (change.Becomes (record_of.Reservations (change.with_reservation new (reservations_said said)))) (cond c (change.Refuses 7 new.name) (change.Becomes (record_of.Reservations (reservations_said said ++ new ∷ [])))))
-    from true c = tt
-    from false true = tt
-    from false false = tt
-changed-apart (change_of.Unreserve name) said = from (list_any (change.is_named name) (reservations_said said))
-  where
-    from : (b : Bool) → IsApartChange (cond b (change.Becomes (record_of.Reservations (filter (λ r. not (change.is_named name r)) (reservations_said said)))) (change.Refuses 8 name))
-    from true = tt
-    from false = tt
-changed-apart (change_of.Config config) said = tt
+    from : (o : Option (ℕ × Record)) → row_of k store.rows ≡ o → IsReadOf (more known store store) k (reply_to_get o)
+    from None e = inl refl
+    from (Some row) e = inr (row.0, row.1, refl, inr (inl e))
 
--- a record that is written back is put
-back-grow : (said : Said) (new : Record) → IsApart (key_of new) → (store : Datastore) (r : ℕ) → CountsGrow store (store_with (write_of (write_back said new) r) store) idle idle
-back-grow (Found revision found) new apart store r = apart-grow store r new idle idle apart (idle-less idle)
-back-grow Missing new apart store r = apart-grow store r new idle idle apart (idle-less idle)
-back-grow (Listed rows) new apart store r = apart-grow store r new idle idle apart (idle-less idle)
-back-grow (Can revision) new apart store r = apart-grow store r new idle idle apart (idle-less idle)
-back-grow (Exists revision) new apart store r = apart-grow store r new idle idle apart (idle-less idle)
-back-grow (Conflict revision) new apart store r = apart-grow store r new idle idle apart (idle-less idle)
-back-grow Full new apart store r = apart-grow store r new idle idle apart (idle-less idle)
-back-grow Spent new apart store r = apart-grow store r new idle idle apart (idle-less idle)
+becomes-key : (one new : Record) → change.Becomes one ≡ change.Becomes new → key_of new ≡ key_of one
+becomes-key one new e = let same : one ≡ new = cc e in ap key_of (sym same)
 
-admin_write-lawful : (again : Part AdminAnswer) (left : Left) (said : Said) (changed : change.Changed) → Lawful again → IsApartChange changed → Lawful (change.admin_write again left said changed)
-admin_write-lawful again left said (change.Refuses number name) a apart known = (refl, tt)
-admin_write-lawful again left said (change.Becomes new) a apart known = (
+-- a change has the key that it is about
+pub key-changed : (request : Admin) (said : Said) (new : Record) → change.changed request said ≡ change.Becomes new → key_of new ≡ change.key_changed request
+key-changed (change_of.Pool pool) said new e = pools (list_any (change.is_same_pool pool) (pools_said said)) e
+  where
+    refused : (refusal : PoolRefusal) → change.pool_refused (pools_said said) pool refusal ≡ change.Becomes new → key_of new ≡ key.Pools
+    refused NameTaken f = absurd (cc f)
+    refused (Overlap place) f = absurd (cc f)
+    refused Size f = absurd (cc f)
+    refused Prefix f = absurd (cc f)
+    refused TooMany f = absurd (cc f)
+    refused Memory f = absurd (cc f)
+
+    appended : (refusal : Option PoolRefusal) → change.pool_appended (pools_said said) pool refusal ≡ change.Becomes new → key_of new ≡ key.Pools
+    appended None f = becomes-key (record_of.Pools (pools_said said ++ pool ∷ [])) new f
+    appended (Some refusal) f = refused refusal f
+
+    pools : (b : Bool) → cond b (change.Becomes (record_of.Pools (with_disabled pool.name pool.disabled (pools_said said)))) (change.pool_appended (pools_said said) pool (refusal_of (pools_said said) pool)) ≡ change.Becomes new → key_of new ≡ key.Pools
+    pools true f = becomes-key (record_of.Pools (with_disabled pool.name pool.disabled (pools_said said))) new f
+    pools false f = appended (refusal_of (pools_said said) pool) f
+key-changed (change_of.Disable name disabled) said new e = by (list_any (has_name name) (pools_said said)) e
+  where
+    by : (b : Bool) → cond b (change.Becomes (record_of.Pools (with_disabled name disabled (pools_said said)))) (change.Refuses 6 name) ≡ change.Becomes new → key_of new ≡ key.Pools
+    by true f = becomes-key (record_of.Pools (with_disabled name disabled (pools_said said))) new f
+    by false f = absurd (cc f)
+key-changed (change_of.Reserve reserved) said new e = by (list_any (change.is_named reserved.name) (reservations_said said)) (nat_le change.most_reservations (length (reservations_said said))) e
+  where
+    by : (b c : Bool) → cond b (change.Becomes (record_of.Reservations (change.with_reservation reserved (reservations_said said)))) (cond c (change.Refuses 7 reserved.name) (change.Becomes (record_of.Reservations (reservations_said said ++ reserved ∷ [])))) ≡ change.Becomes new → key_of new ≡ key.Reservations
+    by true c f = becomes-key (record_of.Reservations (change.with_reservation reserved (reservations_said said))) new f
+    by false true f = absurd (cc f)
+    by false false f = becomes-key (record_of.Reservations (reservations_said said ++ reserved ∷ [])) new f
+key-changed (change_of.Unreserve name) said new e = by (list_any (change.is_named name) (reservations_said said)) e
+  where
+    by : (b : Bool) → cond b (change.Becomes (record_of.Reservations (filter (λ r. not (change.is_named name r)) (reservations_said said)))) (change.Refuses 8 name) ≡ change.Becomes new → key_of new ≡ key.Reservations
+    by true f = becomes-key (record_of.Reservations (filter (λ r. not (change.is_named name r)) (reservations_said said))) new f
+    by false f = absurd (cc f)
+key-changed (change_of.Config config) said new e = becomes-key (record_of.Config config) new e
+
+-- what was read is still there where the change is written
+admin-done : (known : Known) (request : Admin) (said : Said) (new : Record) → IsReadOf known (change.key_changed request) said → change.changed request said ≡ change.Becomes new → (store : Datastore) → Agrees known store → (r : ℕ) → reply_of store (write_back said new) ≡ Can r → Step known store (store_with (write_of (write_back said new) r) store) idle idle
+admin-done known request said new (inl missing) becomes store agrees r e =
+    let P : Said → Type 0 = λ s. change.changed request s ≡ change.Becomes new → reply_of store (write_back s new) ≡ Can r → Step known store (store_with (write_of (write_back s new) r) store) idle idle in
+    let created : P Missing = λ b f.
+    let none = subst (λ (x : Key). row_of x store.rows ≡ None) (key-changed request Missing new b) (create-can store new r f) in
+    Changes request new (can-put store new (call.Create new) r f) refl refl (ap (λ o. change.changed request (reply_to_get o)) none ∙ b) in
+    subst P (sym missing) created becomes e
+admin-done known request said new (inr (revision, found, is, k)) becomes store agrees r e =
+    let P : Said → Type 0 = λ s. change.changed request s ≡ change.Becomes new → reply_of store (write_back s new) ≡ Can r → Step known store (store_with (write_of (write_back s new) r) store) idle idle in
+    let updated : P (Found revision found) = λ b f.
+    let (old, there) = update-can store new revision r f in
+    let there' = subst (λ (x : Key). HasAt store x revision old) (key-changed request (Found revision found) new b) there in
+    let same = agrees.same (change.key_changed request) revision found old k there' in
+    let now : HasAt store (change.key_changed request) revision found = there' ∙ ap (λ (x : Record). Some (revision, x)) (sym same) in
+    Changes request new (can-put store new (call.Update new revision) r f) refl refl (ap (λ o. change.changed request (reply_to_get o)) now ∙ b) in
+    subst P (sym is) updated becomes e
+
+admin_write-keeps : (request : Admin) (again : Part AdminAnswer) (left : Left) (said : Said) (changed : change.Changed) → change.changed request said ≡ changed → Lawful again → (known : Known) → IsReadOf known (change.key_changed request) said → Keeps known (change.admin_write again left said changed)
+admin_write-keeps request again left said (change.Refuses number name) is a known read = (refl, tt)
+admin_write-keeps request again left said (change.Becomes new) is a known read = (
   refl,
-  write-meets CountsGrow still Any known idle (write_back said new) (λ revision. goes left (admin.Done revision)) again (stops left NoRoom) (stops left NoRevisions) any-lasts
-      (λ store agrees r e. back-grow said new apart store r) (λ other r grows. tt)
-      (λ store. subst (λ (x : Label). CountsGrow store store idle x) (sym (a known).0) (idle-stays store)) (a known).1
-      idle-stays tt idle-stays tt,
+  write-meets Step step-grows still Any known idle (write_back said new) (λ revision. goes left (admin.Done revision)) again (stops left NoRoom) (stops left NoRevisions) any-lasts
+      (admin-done known request said new read is) (λ other r grows w. tt)
+      (λ store. Idles refl (a known).0) (a known).1
+      (λ store. Idles refl refl) tt (λ store. Idles refl refl) tt,
 )
 
 admin_once-lawful : (request : Admin) (again : Part AdminAnswer) (left : Left) → Lawful again → Lawful (change.admin_once request again left)
 admin_once-lawful request again left a known = (
   refl,
-  get-meets CountsGrow still Any known idle (change.key_changed request) (λ moment said. change.admin_write again left said (change.changed request said)) (λ moment store agrees.
+  get-meets Step still Any known idle (change.key_changed request) (λ moment said. change.admin_write again left said (change.changed request said)) (λ moment store agrees.
       let said = reply_to_get (row_of (change.key_changed request) store.rows) in
-      let (label, meets) = admin_write-lawful again left said (change.changed request said) a (changed-apart request said) (more known store store) in
-      (subst (λ (x : Label). CountsGrow store store idle x) (sym label) (idle-stays store), meets)),
+      let (label, meets) = admin_write-keeps request again left said (change.changed request said) refl a (more known store store) (row-read known store (change.key_changed request)) in
+      (Idles refl label, meets)),
 )
 
 admin_tries-lawful : (request : Admin) (races claims : ℕ) → Lawful (tries (change.admin_once request) races claims)
@@ -385,7 +418,7 @@ admin-lawful request = settled-lawful change.admin_stops (retried (change.admin_
 release-lawful : (node : List ℕ) (cidr : CidrValue) → Lawful (affinities.release node cidr)
 release-lawful node cidr =
     let tie : affinities.Tie = record { node = node; block = cidr } in
-    settled-lawful affinities.release_stops (retried (affinities.release_once tie) all_left) (release-counts tie all_left)
+    settled-lawful affinities.release_stops (retried (affinities.release_once tie) all_left) (release-steps tie all_left)
 
 told-lawful : {A : Type 0} → (of_one : A → Answer) (w : Word A) → Lawful w → Lawful (told_as of_one w)
 told-lawful of_one w h = lawful-both w (λ one. Ends (of_one one)) h (λ one known. (refl, tt))

@@ -1,4 +1,5 @@
--- Every request keeps the counts above what is held.
+-- Assigning, claiming and the rounds of an ADD take steps of their kinds.
+use Rattle.std.proofs.lemmas.Slice.Eq.{bytes_eq-Decides}
 use Rattle.std.proofs.Common.{◌≡◌, ℕ, zero, suc, ◌+◌, inl, inr, Bool, true, false, cond, List, [], ◌∷◌, Option, Some, None, refl, sym, ap, ◌∙◌, subst}
 use Rattle.std.specs.Prelude.{◌&&◌, map}
 use Rattle.std.specs.List.{find, filter, list_any}
@@ -34,27 +35,28 @@ use Rattle.ipam_model.specs.Step.{Left, left_of, Outcome, Went, Stops, Part, Out
 use Rattle.ipam_model.specs.Usable.{Asked, for_all, is_same_cidr}
 use Rattle.ipam_laws.proofs.Lift.{Known, more, Grows, label_to, Meets-bound, label_to-bound}
 use Rattle.ipam_laws.proofs.Calls.{found-block, get-meets, list-meets}
-use Rattle.ipam_laws.proofs.CountSteps.{owed, CountsGrow, stays-grow}
-use Rattle.ipam_laws.proofs.CountParts.{Any, still, Counts, idle-stays, raised_label, raise-label, raise-counts}
-use Rattle.ipam_laws.proofs.CountWrites.{IsKnownBlock, OwesNothing, idle-nothing, nothing-less, claim-counts, claim-label, assign_block-counts}
+use Rattle.ipam_laws.proofs.Steps.{IsKnownBlock, Step, Idles}
+use Rattle.ipam_laws.proofs.PartSteps.{Any, still, Steps, raised_label, raise-label, raise-steps}
+use Rattle.ipam_laws.proofs.WriteSteps.{IsClaimable, claim-steps, claim-label, assign_block-steps}
 
--- a word that owes nothing at first, and keeps the law whatever is known beyond this
+-- a word that stands nowhere at first, and takes its steps with this known
 abbrev pub Keeps : {A : Type 0} → Known → Word A → Type 0
-Keeps known word = OwesNothing (label_to still word) × Counts still known word
+Keeps known word = (label_to still word ≡ idle) × Steps still known word
 
-stays : (store : Datastore) (after : Label) → OwesNothing after → CountsGrow store store idle after
-stays store after none = stays-grow store idle after (nothing-less idle after none)
+-- the first label of a word behind another that stands nowhere
+behind-label : {A B : Type 0} → (w : Word A) (follows : A → Word B) → label_to still w ≡ idle → ((a : A) → idle ≡ label_to still (follows a)) → label_to still (bound w follows) ≡ idle
+behind-label w follows label labels = sym (label_to-bound Step still still follows labels w) ∙ label
 
 -- a word behind one that ends idle
-pub bound-keeps : {A B : Type 0} → (w : Word A) (follows : A → Word B) (known : Known) → Keeps known w → ((a : A) → idle ≡ label_to still (follows a)) → ((other : Known) (a : A) → Grows known other → Counts still other (follows a)) → Keeps known (bound w follows)
+pub bound-keeps : {A B : Type 0} → (w : Word A) (follows : A → Word B) (known : Known) → Keeps known w → ((a : A) → idle ≡ label_to still (follows a)) → ((other : Known) (a : A) → Grows known other → Steps still other (follows a)) → Keeps known (bound w follows)
 bound-keeps w follows known h labels k = (
-  λ id cidr. ap (owed id cidr) (sym (label_to-bound CountsGrow still still follows labels w)) ∙ h.0 id cidr,
-  Meets-bound CountsGrow still still Any Any follows labels w known h.1 (λ other a grows t. k other a grows),
+  behind-label w follows h.0 labels,
+  Meets-bound Step still still Any Any follows labels w known h.1 (λ other a grows t. k other a grows),
 )
 
--- a word whose first label is idle, and which keeps the law whatever is known
+-- a word that stands nowhere at first, and takes its steps whatever is known
 abbrev pub Lawful : {A : Type 0} → Word A → Type 1
-Lawful word = (known : Known) → (label_to still word ≡ idle) × Counts still known word
+Lawful word = (known : Known) → (label_to still word ≡ idle) × Steps still known word
 
 -- what follows an answer
 abbrev pub LawfulAfter : {A B : Type 0} → (A → Word B) → Type 1
@@ -79,17 +81,8 @@ pub lawful-behind : {A B : Type 0} → (w : Word A) (follows : A → Word B) (kn
 lawful-behind w follows known h k =
     bound-keeps w follows known h (λ a. sym (k a nothing_known).0) (λ other a grows. (k a other).1)
 
-pub lawful-bound : {A B : Type 0} → (w : Word A) (follows : A → Word B) → Lawful w → LawfulAfter follows → (known : Known) → Keeps known (bound w follows)
-lawful-bound w follows h k known = lawful-behind w follows known (λ id c. ap (owed id c) (h known).0, (h known).1) k
-
--- the first label of a word behind another is that word's
-bound-label : {A B : Type 0} → (w : Word A) (follows : A → Word B) → Lawful w → LawfulAfter follows → label_to still (bound w follows) ≡ idle
-bound-label (Ends answer) follows h k = (k answer nothing_known).0
-bound-label (Asks label asked next) follows h k = (h nothing_known).0
-bound-label (Waits next) follows h k = refl
-
 pub lawful-both : {A B : Type 0} → (w : Word A) (follows : A → Word B) → Lawful w → LawfulAfter follows → Lawful (bound w follows)
-lawful-both w follows h k known = (bound-label w follows h k, (lawful-bound w follows h k known).1)
+lawful-both w follows h k known = lawful-behind w follows known (h known) k
 
 pub followed-keeps : {A B : Type 0} → (part : Part A) (follows : Left → A → Part B) (known : Known) → Keeps known part → LawfulOn follows → Keeps known (followed part follows)
 followed-keeps part follows known h k = lawful-behind part (onward follows) known h (onward-lawful follows k)
@@ -158,9 +151,9 @@ behind_1 family follows c config = Asks idle (call.Get key.Pools) (λ p pools. b
 abbrev Follows : {A : Type 0} → (Scan → Seen → Word A) → Type 1
 Follows follows = (known : Known) (scan : Scan) (seen : Seen) → SeenKnown known seen → Keeps known (follows scan seen)
 
-counts_4 : {A : Type 0} → (family : Family) (follows : Scan → Seen → Word A) → Follows follows → (c p r f : ℕ) (config pools reservations affinities : Said) (known : Known) → Counts still known (behind_4 family follows c p r f config pools reservations affinities)
+counts_4 : {A : Type 0} → (family : Family) (follows : Scan → Seen → Word A) → Follows follows → (c p r f : ℕ) (config pools reservations affinities : Said) (known : Known) → Steps still known (behind_4 family follows c p r f config pools reservations affinities)
 counts_4 family follows k c p r f config pools reservations affinities known =
-    list-meets CountsGrow still Any known idle kind.Block
+    list-meets Step still Any known idle kind.Block
     (λ b blocks. follows
     (record { family = family; c = c; p = p; r = r; f = f; b = b })
     (record {
@@ -190,29 +183,29 @@ counts_4 family follows k c p r f config pools reservations affinities known =
       blocks = listed kind.Block store;
     }
 
-    turn : (b : ℕ) (store : Datastore) → Keeps (more known store store) (follows (record { family = family; c = c; p = p; r = r; f = f; b = b }) (seen_there store)) → CountsGrow store store idle (label_to still (follows (record { family = family; c = c; p = p; r = r; f = f; b = b }) (seen_there store))) × Counts still (more known store store) (follows (record { family = family; c = c; p = p; r = r; f = f; b = b }) (seen_there store))
-    turn b store h = (stays store (label_to still (follows (record { family = family; c = c; p = p; r = r; f = f; b = b }) (seen_there store))) h.0, h.1)
+    turn : (b : ℕ) (store : Datastore) → Keeps (more known store store) (follows (record { family = family; c = c; p = p; r = r; f = f; b = b }) (seen_there store)) → Step known store store idle (label_to still (follows (record { family = family; c = c; p = p; r = r; f = f; b = b }) (seen_there store))) × Steps still (more known store store) (follows (record { family = family; c = c; p = p; r = r; f = f; b = b }) (seen_there store))
+    turn b store h = (Idles refl h.0, h.1)
 
-counts_3 : {A : Type 0} → (family : Family) (follows : Scan → Seen → Word A) → Follows follows → (c p r : ℕ) (config pools reservations : Said) (known : Known) → Counts still known (behind_3 family follows c p r config pools reservations)
+counts_3 : {A : Type 0} → (family : Family) (follows : Scan → Seen → Word A) → Follows follows → (c p r : ℕ) (config pools reservations : Said) (known : Known) → Steps still known (behind_3 family follows c p r config pools reservations)
 counts_3 family follows k c p r config pools reservations known =
-    list-meets CountsGrow still Any known idle kind.Affinity (λ f affinities. behind_4 family follows c p r f config pools reservations affinities)
-    (λ f store agrees. (idle-stays store, counts_4 family follows k c p r f config pools reservations (reply_of store (call.List kind.Affinity)) (more known store store)))
+    list-meets Step still Any known idle kind.Affinity (λ f affinities. behind_4 family follows c p r f config pools reservations affinities)
+    (λ f store agrees. (Idles refl refl, counts_4 family follows k c p r f config pools reservations (reply_of store (call.List kind.Affinity)) (more known store store)))
 
-counts_2 : {A : Type 0} → (family : Family) (follows : Scan → Seen → Word A) → Follows follows → (c p : ℕ) (config pools : Said) (known : Known) → Counts still known (behind_2 family follows c p config pools)
+counts_2 : {A : Type 0} → (family : Family) (follows : Scan → Seen → Word A) → Follows follows → (c p : ℕ) (config pools : Said) (known : Known) → Steps still known (behind_2 family follows c p config pools)
 counts_2 family follows k c p config pools known =
-    get-meets CountsGrow still Any known idle key.Reservations (λ r reservations. behind_3 family follows c p r config pools reservations)
-    (λ r store agrees. (idle-stays store, counts_3 family follows k c p r config pools (reply_to_get (row_of key.Reservations store.rows)) (more known store store)))
+    get-meets Step still Any known idle key.Reservations (λ r reservations. behind_3 family follows c p r config pools reservations)
+    (λ r store agrees. (Idles refl refl, counts_3 family follows k c p r config pools (reply_to_get (row_of key.Reservations store.rows)) (more known store store)))
 
-counts_1 : {A : Type 0} → (family : Family) (follows : Scan → Seen → Word A) → Follows follows → (c : ℕ) (config : Said) (known : Known) → Counts still known (behind_1 family follows c config)
+counts_1 : {A : Type 0} → (family : Family) (follows : Scan → Seen → Word A) → Follows follows → (c : ℕ) (config : Said) (known : Known) → Steps still known (behind_1 family follows c config)
 counts_1 family follows k c config known =
-    get-meets CountsGrow still Any known idle key.Pools (λ p pools. behind_2 family follows c p config pools)
-    (λ p store agrees. (idle-stays store, counts_2 family follows k c p config (reply_to_get (row_of key.Pools store.rows)) (more known store store)))
+    get-meets Step still Any known idle key.Pools (λ p pools. behind_2 family follows c p config pools)
+    (λ p store agrees. (Idles refl refl, counts_2 family follows k c p config (reply_to_get (row_of key.Pools store.rows)) (more known store store)))
 
-pub five_reads-counts : {A : Type 0} → (family : Family) (follows : Scan → Seen → Word A) → ((known : Known) (scan : Scan) (seen : Seen) → SeenKnown known seen → Keeps known (follows scan seen)) → (known : Known) → Keeps known (five_reads family follows)
-five_reads-counts family follows k known = (
-  idle-nothing,
-  get-meets CountsGrow still Any known idle key.Config (λ c config. behind_1 family follows c config)
-      (λ c store agrees. (idle-stays store, counts_1 family follows k c (reply_to_get (row_of key.Config store.rows)) (more known store store))),
+pub five_reads-steps : {A : Type 0} → (family : Family) (follows : Scan → Seen → Word A) → ((known : Known) (scan : Scan) (seen : Seen) → SeenKnown known seen → Keeps known (follows scan seen)) → (known : Known) → Keeps known (five_reads family follows)
+five_reads-steps family follows k known = (
+  refl,
+  get-meets Step still Any known idle key.Config (λ c config. behind_1 family follows c config)
+      (λ c store agrees. (Idles refl refl, counts_1 family follows k c (reply_to_get (row_of key.Config store.rows)) (more known store store))),
 )
 
 -- ---- assigning and claiming
@@ -225,18 +218,18 @@ assigned-label : (attributes : Attributes) (target : Target) (o : Outcome (Unit 
 assigned-label attributes target (Went left done) = refl
 assigned-label attributes target (Stops left why) = refl
 
-assigned-counts : (attributes : Attributes) (target : Target) (o : Outcome (Unit {0})) (known : Known) → IsKnownTarget known target → Counts still known (onward (λ now done. assign_block attributes target now) o)
-assigned-counts attributes target (Went left done) known k = assign_block-counts known attributes target left k
-assigned-counts attributes target (Stops left why) known k = tt
+assigned-steps : (attributes : Attributes) (target : Target) (o : Outcome (Unit {0})) (known : Known) → IsKnownTarget known target → Steps still known (onward (λ now done. assign_block attributes target now) o)
+assigned-steps attributes target (Went left done) known k = assign_block-steps known attributes target left k
+assigned-steps attributes target (Stops left why) known k = tt
 
 pub assign-keeps : (attributes : Attributes) (target : Target) (left : Left) (known : Known) → IsKnownTarget known target → Keeps known (assign attributes target left)
 assign-keeps attributes target left known k =
     let raising = raise attributes.handle target.block.cidr left in
     let labelled = raised_label attributes.handle target.block.cidr in
     let follows = onward (λ now done. assign_block attributes target now) in (
-      λ id cidr. ap (owed id cidr) (sym (label_to-bound CountsGrow labelled still follows (assigned-label attributes target) raising) ∙ raise-label attributes.handle target.block.cidr left),
-      Meets-bound CountsGrow labelled still Any Any follows (assigned-label attributes target) raising known (raise-counts attributes.handle target.block.cidr left known)
-          (λ other o grows t. assigned-counts attributes target o other (grows (key.Block target.block.cidr) target.revision (record_of.Block target.block) k)),
+      sym (label_to-bound Step labelled still follows (assigned-label attributes target) raising) ∙ raise-label attributes.handle target.block.cidr left,
+      Meets-bound Step labelled still Any Any follows (assigned-label attributes target) raising known (raise-steps attributes.handle target.block.cidr left known)
+          (λ other o grows t. assigned-steps attributes target o other (grows (key.Block target.block.cidr) target.revision (record_of.Block target.block) k)),
     )
 
 -- a block that was found at its CIDR
@@ -251,41 +244,52 @@ after_claim-lawful (suc races) claims claimed.Lost known = (refl, tt)
 after_claim-lawful races claims claimed.Full known = (refl, tt)
 after_claim-lawful races claims claimed.Spent known = (refl, tt)
 
-pub claim_for-keeps : (node : List ℕ) (cidr : CidrValue) (read : BlockRead) (left : Left) (known : Known) → IsKnownBlock known cidr read → Keeps known (claim_for node cidr read left)
+pub claim_for-keeps : (node : List ℕ) (cidr : CidrValue) (read : BlockRead) (left : Left) (known : Known) → IsClaimable known node cidr read → Keeps known (claim_for node cidr read left)
 claim_for-keeps node cidr read left known h =
-    lawful-behind (claim node cidr read) (after_claim left) known (λ id c. ap (owed id c) (claim-label node cidr read), claim-counts known node cidr read h)
+    lawful-behind (claim node cidr read) (after_claim left) known (claim-label node cidr read, claim-steps known node cidr read h)
     (λ answer. after_claim-lawful left.races left.claims answer)
 
 -- ---- one family
 
--- what makes a slot a candidate is known
-abbrev pub IsKnownRank : Known → CidrValue → Rank → Type 0
-IsKnownRank known slot (Own found ordinal) = IsKnownBlock known slot (Some found)
-IsKnownRank known slot (Unconfirmed found) = IsKnownBlock known slot (Some found)
-IsKnownRank known slot (Unclaimed read) = IsKnownBlock known slot read
-IsKnownRank known slot (Foreign found ordinal) = IsKnownBlock known slot (Some found)
+-- what makes a slot a candidate is known, and what may be claimed has the node or none
+abbrev pub IsKnownRank : Known → (node : List ℕ) → CidrValue → Rank → Type 0
+IsKnownRank known node slot (Own found ordinal) = IsKnownBlock known slot (Some found)
+IsKnownRank known node slot (Unconfirmed found) = IsClaimable known node slot (Some found)
+IsKnownRank known node slot (Unclaimed read) = IsClaimable known node slot read
+IsKnownRank known node slot (Foreign found ordinal) = IsKnownBlock known slot (Some found)
 
-rank_of_block-known : (known : Known) (asked : Asked) (seen : Seen) (slot : CidrValue) (found : ℕ × block.BlockValue) (room : Option ℕ) (rank : Rank) → IsKnownBlock known slot (Some found) → rank_of_block asked seen found room ≡ Some rank → IsKnownRank known slot rank
+own-node : (node : List ℕ) (held : Option (List ℕ)) → is_node node held ≡ true → held ≡ Some node
+own-node node None e = absurd (cc e)
+own-node node (Some other) e = ap Some ((bytes_eq-Decides other node).0 e)
+
+pub unowned-nobodys : (b : block.BlockValue) (also : Bool) → is_unowned_and_empty b && also ≡ true → b.node ≡ None
+unowned-nobodys b also e = from b.node e
+  where
+    from : (o : Option (List ℕ)) → is_unowned_and_empty (record b { node = o }) && also ≡ true → o ≡ None
+    from None f = refl
+    from (Some other) f = absurd (cc f)
+
+rank_of_block-known : (known : Known) (asked : Asked) (seen : Seen) (slot : CidrValue) (found : ℕ × block.BlockValue) (room : Option ℕ) (rank : Rank) → IsKnownBlock known slot (Some found) → rank_of_block asked seen found room ≡ Some rank → IsKnownRank known asked.node slot rank
 rank_of_block-known known asked seen slot found None rank h e = absurd (cc e)
 rank_of_block-known known asked seen slot found (Some ordinal) rank h e =
-    by (is_node asked.node found.1.node) (list_any (is_confirmed_for asked.node found.1.cidr) seen.affinities) (is_unowned_and_empty found.1 && may_claim asked seen) seen.config.strict e
+    by (is_node asked.node found.1.node) refl (list_any (is_confirmed_for asked.node found.1.cidr) seen.affinities) (is_unowned_and_empty found.1 && may_claim asked seen) refl seen.config.strict e
   where
-    is : (other : Rank) → IsKnownRank known slot other → Some other ≡ Some rank → IsKnownRank known slot rank
-    is other k f = let same : other ≡ rank = cc f in subst (λ (x : Rank). IsKnownRank known slot x) same k
+    is : (other : Rank) → IsKnownRank known asked.node slot other → Some other ≡ Some rank → IsKnownRank known asked.node slot rank
+    is other k f = let same : other ≡ rank = cc f in subst (λ (x : Rank). IsKnownRank known asked.node slot x) same k
 
-    by : (own confirmed free strict : Bool) → cond own (cond confirmed (Some (Own found ordinal)) (Some (Unconfirmed found))) (cond free (Some (Unclaimed (Some found))) (cond strict None (Some (Foreign found ordinal)))) ≡ Some rank → IsKnownRank known slot rank
-    by true true free strict f = is (Own found ordinal) h f
-    by true false free strict f = is (Unconfirmed found) h f
-    by false confirmed true strict f = is (Unclaimed (Some found)) h f
-    by false confirmed false true f = absurd (cc f)
-    by false confirmed false false f = is (Foreign found ordinal) h f
+    by : (own : Bool) → is_node asked.node found.1.node ≡ own → (confirmed free : Bool) → is_unowned_and_empty found.1 && may_claim asked seen ≡ free → (strict : Bool) → cond own (cond confirmed (Some (Own found ordinal)) (Some (Unconfirmed found))) (cond free (Some (Unclaimed (Some found))) (cond strict None (Some (Foreign found ordinal)))) ≡ Some rank → IsKnownRank known asked.node slot rank
+    by true o true free n strict f = is (Own found ordinal) h f
+    by true o false free n strict f = is (Unconfirmed found) (h, inr (own-node asked.node found.1.node o)) f
+    by false o confirmed true n strict f = is (Unclaimed (Some found)) (h, inl (unowned-nobodys found.1 (may_claim asked seen) n)) f
+    by false o confirmed false n true f = absurd (cc f)
+    by false o confirmed false n false f = is (Foreign found ordinal) h f
 
-rank_at-known : (known : Known) (asked : Asked) (seen : Seen) (slot : CidrValue) (read : BlockRead) (rank : Rank) → IsKnownBlock known slot read → rank_at asked seen slot read ≡ Some rank → IsKnownRank known slot rank
+rank_at-known : (known : Known) (asked : Asked) (seen : Seen) (slot : CidrValue) (read : BlockRead) (rank : Rank) → IsKnownBlock known slot read → rank_at asked seen slot read ≡ Some rank → IsKnownRank known asked.node slot rank
 rank_at-known known asked seen slot (Some found) rank h e = rank_of_block-known known asked seen slot found (room_of seen found.1) rank h e
 rank_at-known known asked seen slot None rank h e = by (may_claim asked seen && has_free_address seen slot) e
   where
-    by : (b : Bool) → cond b (Some (Unclaimed None)) None ≡ Some rank → IsKnownRank known slot rank
-    by true f = let same : Unclaimed None ≡ rank = cc f in subst (λ (x : Rank). IsKnownRank known slot x) same tt
+    by : (b : Bool) → cond b (Some (Unclaimed None)) None ≡ Some rank → IsKnownRank known asked.node slot rank
+    by true f = let same : Unclaimed None ≡ rank = cc f in subst (λ (x : Rank). IsKnownRank known asked.node slot x) same (tt, tt)
     by false f = absurd (cc f)
 
 after_assign-lawful : (round : Round) → LawfulNext round.next → (target : Target) → LawfulOn (add.after_assign round target)
@@ -298,29 +302,29 @@ take_in-keeps round n left slot found ordinal known h =
     followed-keeps (assign round.request.attributes target left) (add.after_assign round target) known
     (assign-keeps round.request.attributes target left known (own-known known slot found ordinal h)) (after_assign-lawful round n target)
 
-claim_in-keeps : (round : Round) → LawfulNext round.next → (left : Left) (slot : CidrValue) (read : BlockRead) (known : Known) → IsKnownBlock known slot read → Keeps known (add.claim_in round left slot read)
+claim_in-keeps : (round : Round) → LawfulNext round.next → (left : Left) (slot : CidrValue) (read : BlockRead) (known : Known) → IsClaimable known round.request.node slot read → Keeps known (add.claim_in round left slot read)
 claim_in-keeps round n left slot read known h =
     followed-keeps (claim_for round.request.node slot read left) (λ now done. round.next now) known
     (claim_for-keeps round.request.node slot read left known h) (λ now done. n now)
 
-follow_rank-keeps : (round : Round) → LawfulNext round.next → (left : Left) (slot : CidrValue) (rank : Rank) (known : Known) → IsKnownRank known slot rank → Keeps known (add.follow_rank round left slot rank)
+follow_rank-keeps : (round : Round) → LawfulNext round.next → (left : Left) (slot : CidrValue) (rank : Rank) (known : Known) → IsKnownRank known round.request.node slot rank → Keeps known (add.follow_rank round left slot rank)
 follow_rank-keeps round n left slot (Own found ordinal) known h = take_in-keeps round n left slot found ordinal known h
 follow_rank-keeps round n left slot (Unconfirmed found) known h = claim_in-keeps round n left slot (Some found) known h
 follow_rank-keeps round n left slot (Unclaimed read) known h = claim_in-keeps round n left slot read known h
 follow_rank-keeps round n left slot (Foreign found ordinal) known h = take_in-keeps round n left slot found ordinal known h
 
-follow_pick-keeps : (round : Round) → LawfulNext round.next → (left : Left) (asked : Asked) (seen : Seen) (known : Known) → SeenKnown known seen → (pick : Pick) → pick_of asked seen ≡ pick → Keeps known (add.follow_pick round left pick)
-follow_pick-keeps round n left asked seen known h (Picks ranked) is =
+follow_pick-keeps : (round : Round) → LawfulNext round.next → (left : Left) (family : Family) (seen : Seen) (known : Known) → SeenKnown known seen → (pick : Pick) → pick_of (add.asked_of round.request family) seen ≡ pick → Keeps known (add.follow_pick round left pick)
+follow_pick-keeps round n left family seen known h (Picks ranked) is =
     follow_rank-keeps round n left ranked.slot ranked.rank known
-    (rank_at-known known asked seen ranked.slot (block_at seen ranked.slot) ranked.rank (h ranked.slot) (pick-ranked asked seen ranked is))
-follow_pick-keeps round n left asked seen known h Lacks is = (idle-nothing, tt)
-follow_pick-keeps round n left asked seen known h (Unknown place) is = (idle-nothing, tt)
+    (rank_at-known known (add.asked_of round.request family) seen ranked.slot (block_at seen ranked.slot) ranked.rank (h ranked.slot) (pick-ranked (add.asked_of round.request family) seen ranked is))
+follow_pick-keeps round n left family seen known h Lacks is = (refl, tt)
+follow_pick-keeps round n left family seen known h (Unknown place) is = (refl, tt)
 
 round-lawful : (request : AddRequest) (family : Family) (next : add.NextRound) → LawfulNext next → LawfulNext (add.round_of request family next)
 round-lawful request family next n left known = (
   refl,
-  (five_reads-counts family (λ scan seen. add.follow_pick (record { request = request; scan = scan; next = next }) left (pick_of (add.asked_of request family) seen))
-      (λ other scan seen h. follow_pick-keeps (record { request = request; scan = scan; next = next }) n left (add.asked_of request family) seen other h (pick_of (add.asked_of request family) seen) refl) known).1,
+  (five_reads-steps family (λ scan seen. add.follow_pick (record { request = request; scan = scan; next = next }) left (pick_of (add.asked_of request family) seen))
+      (λ other scan seen h. follow_pick-keeps (record { request = request; scan = scan; next = next }) n left family seen other h (pick_of (add.asked_of request family) seen) refl) known).1,
 )
 
 pub serve-lawful : (request : AddRequest) (family : Family) → LawfulNext (add.serve request family)
