@@ -167,19 +167,19 @@ as_read-own store node cidr None h own = inl (ap node_in_row h)
 as_read-own store node cidr (Some found) h (inl nobodys) = inl (ap node_in_row h.1 ∙ nobodys)
 as_read-own store node cidr (Some found) h (inr own) = inr (ap node_in_row h.1 ∙ own)
 
-taken-cidr : (store : Datastore) (node : List ℕ) (cidr : CidrValue) (read : BlockRead) → IsAsRead store cidr read → (taken node cidr read).cidr ≡ cidr
+pub taken-cidr : (store : Datastore) (node : List ℕ) (cidr : CidrValue) (read : BlockRead) → IsAsRead store cidr read → (taken node cidr read).cidr ≡ cidr
 taken-cidr store node cidr None h = refl
 taken-cidr store node cidr (Some found) h = h.0
 
-taken-node : (node : List ℕ) (cidr : CidrValue) (read : BlockRead) → (taken node cidr read).node ≡ Some node
+pub taken-node : (node : List ℕ) (cidr : CidrValue) (read : BlockRead) → (taken node cidr read).node ≡ Some node
 taken-node node cidr None = refl
 taken-node node cidr (Some found) = refl
 
-bared-cidr : (store : Datastore) (node : List ℕ) (cidr : CidrValue) (read : BlockRead) → IsAsRead store cidr read → (bared node cidr read).cidr ≡ cidr
+pub bared-cidr : (store : Datastore) (node : List ℕ) (cidr : CidrValue) (read : BlockRead) → IsAsRead store cidr read → (bared node cidr read).cidr ≡ cidr
 bared-cidr store node cidr None h = refl
 bared-cidr store node cidr (Some found) h = h.0
 
-bared-node : (store : Datastore) (node : List ℕ) (cidr : CidrValue) (read : BlockRead) → IsAsRead store cidr read → (bared node cidr read).node ≡ other_node node (node_at store cidr)
+pub bared-node : (store : Datastore) (node : List ℕ) (cidr : CidrValue) (read : BlockRead) → IsAsRead store cidr read → (bared node cidr read).node ≡ other_node node (node_at store cidr)
 bared-node store node cidr None h = ap (other_node node) (sym (ap node_in_row h))
 bared-node store node cidr (Some found) h = ap (other_node node) (sym (ap node_in_row h.1))
 

@@ -185,7 +185,7 @@ pub record Holds (known : Known) (store : Datastore) (points : ℕ → Point) : 
 
 -- ---- nodes that are taken out of a block
 
-other-some : (by node : List ℕ) (held : Option (List ℕ)) → other_node by held ≡ Some node → (held ≡ Some node) × (by ≢ node)
+pub other-some : (by node : List ℕ) (held : Option (List ℕ)) → other_node by held ≡ Some node → (held ≡ Some node) × (by ≢ node)
 other-some by node held e = from (is_node by held) refl e
   where
     from : (b : Bool) → is_node by held ≡ b → cond b None held ≡ Some node → (held ≡ Some node) × (by ≢ node)

@@ -36,3 +36,5 @@ pub mod AddFamilies
 pub mod FamilyHistory
 pub mod AffinityAt
 pub mod AffinityHolds
+pub mod AffinityArrivals
+pub mod AffinityHistory

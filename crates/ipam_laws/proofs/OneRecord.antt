@@ -97,6 +97,14 @@ drop-counter base (suc many) (new ∷ history) h =
     let there = drop-counter base many history h.0 in
     omega arith
 
+-- what was there earlier has a revision that was given by now
+pub earlier-below : (base : Base) (many : ℕ) (history : List Entry) → IsDatastore base.store → Lawful base history → (key : Key) (revision : ℕ) (found : Record) → HasAt (store_at base (drop many history)) key revision found → revision ≤ (store_at base history).counter
+unfolding AreGiven
+earlier-below base many history sound h key revision found there =
+    let early = history-given base (drop many history) sound (drop-lawful base many history h) key revision found there in
+    let later = drop-counter base many history h in
+    omega arith
+
 -- ---- an earlier record and a later one
 
 -- a record that was there keeps its revision for itself over one step

@@ -26,7 +26,7 @@ use Rattle.ipam_model.specs.History.{Base, Lawful, cluster_at, store_at, slot_of
 use Rattle.ipam_model.specs.Requests.{word_of}
 use Rattle.ipam_laws.proofs.Lift.{Known, more, Grows, Agrees, behind, label_to, Meets-grows}
 use Rattle.ipam_laws.proofs.StoreSteps.{StoreStep, Stays, Puts, Removes, store-step, write_told-granted}
-use Rattle.ipam_laws.proofs.OneRecord.{put-found, remove-found, later-same}
+use Rattle.ipam_laws.proofs.OneRecord.{put-found, remove-found, later-same, earlier-below}
 use Rattle.ipam_laws.proofs.KeptWords.{own-slot, other-slot}
 use Rattle.ipam_laws.proofs.Steps.{Step, Idles, step-grows}
 use Rattle.ipam_laws.proofs.PartSteps.{Any, still, Steps, any-lasts}
@@ -64,6 +64,18 @@ known-earlier base [] key revision found k = (zero, k)
 known-earlier base (new ∷ history) key revision found (inl k) = let (many, there) = known-earlier base history key revision found k in (suc many, there)
 known-earlier base (new ∷ history) key revision found (inr (inl there)) = (suc zero, there)
 known-earlier base (new ∷ history) key revision found (inr (inr there)) = (zero, there)
+
+-- what is there now is known
+pub known-now : (base : Base) (history : List Entry) (key : Key) (revision : ℕ) (found : Record) → HasAt (store_at base history) key revision found → known_at base history key revision found
+unfolding known_at cluster_at
+known-now base [] key revision found there = there
+known-now base (new ∷ history) key revision found there = inr (inr there)
+
+-- no known revision is above the counter
+pub known-below : (base : Base) (history : List Entry) → IsDatastore base.store → Lawful base history → (key : Key) (revision : ℕ) (found : Record) → known_at base history key revision found → revision ≤ (store_at base history).counter
+known-below base history sound h key revision found k =
+    let (many, there) = known-earlier base history key revision found k in
+    earlier-below base many history sound h key revision found there
 
 pub history-agrees : (base : Base) (history : List Entry) → IsDatastore base.store → Lawful base history → Agrees (known_at base history) (store_at base history)
 unfolding ArePositive

@@ -69,7 +69,7 @@ abbrev IsThere : Datastore → Tie → Option (ℕ × Affinity) → Type 0
 IsThere store tie None = Unit {0}
 IsThere store tie (Some found) = HasAffinityAt store tie found.0 found.1.state
 
-found-affinity : (tie : Tie) (found : Record) → key_of found ≡ key.Affinity tie.node tie.block → (a : Affinity) × (found ≡ record_of.Affinity a) × (a ≡ affinity tie.node tie.block a.state)
+pub found-affinity : (tie : Tie) (found : Record) → key_of found ≡ key.Affinity tie.node tie.block → (a : Affinity) × (found ≡ record_of.Affinity a) × (a ≡ affinity tie.node tie.block a.state)
 found-affinity tie (record_of.Affinity a) e =
     let node : a.node ≡ tie.node = cc in
     let cidr : a.cidr ≡ tie.block = cc in

@@ -2,6 +2,7 @@
 //! model alone.
 #![tactic(auto)]
 
+pub mod affinities;
 pub mod answers;
 pub mod bounds;
 pub mod counts;
