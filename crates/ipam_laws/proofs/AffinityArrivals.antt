@@ -1,5 +1,5 @@
 -- What holds at the points holds of a claimer or releaser that arrives at one, and so over each step.
-use Rattle.std.proofs.Common.{◌≡◌, ◌≢◌, ◌⊎◌, ℕ, ◌+◌, ◌≤◌, inl, inr, suc, Bool, true, false, eqb-true, List, Option, Some, None, refl, sym, ap, ◌∙◌, subst, arith}
+use Rattle.std.proofs.Common.{◌≡◌, ◌≢◌, ◌⊎◌, ℕ, ◌+◌, inl, inr, suc, Bool, true, false, eqb-true, List, Option, Some, None, refl, sym, ap, ◌∙◌, subst, arith}
 use Rattle.std.specs.Prelude.{◌==◌}
 use Rattle.std.proofs.lemmas.Bool.{eqb-false}
 use Rattle.ipam_addr.specs.Shape.{CidrValue}
@@ -15,11 +15,10 @@ use Rattle.ipam_records.specs.Label.{Label, idle, owing, Point, Nowhere, Claimin
 use Rattle.ipam_model.specs.Affinities.{BlockRead, Tie, affinity, revision_read}
 use Rattle.ipam_model.specs.AffinityLaw.{HasAt, IsBlockCurrent, IsAffinityCurrent}
 use Rattle.ipam_model.specs.Counting.{credit_of}
-use Rattle.ipam_model.specs.Moments.{revision_of}
 use Rattle.ipam_laws.proofs.Lift.{Known, Grows, Agrees}
-use Rattle.ipam_laws.proofs.Steps.{HasAffinityAt, IsAsRead, IsKnownBlock, IsOwnOrNobodys, IsPut, taken, bared, at_claiming, at_claimed, at_releasing, at_released, known-block-grows, Step, Idles, Owes, Finds, Starts, Takes, Confirms, Marks, Looks, Bares, Deletes, Raises, Lowers, LowersOut, Frees, Assigns, Changes}
+use Rattle.ipam_laws.proofs.Steps.{HasAffinityAt, IsKnownBlock, IsOwnOrNobodys, IsPut, taken, bared, at_claiming, at_claimed, at_releasing, at_released, known-block-grows, Step, Idles, Owes, Finds, Starts, Takes, Confirms, Marks, Looks, Bares, Deletes, Raises, Lowers, LowersOut, Frees, Assigns, Changes}
 use Rattle.ipam_laws.proofs.AffinityAt.{node_at, state_at, node_in_row, state_in_row, put-at, there-current, taken-cidr, taken-node, bared-cidr, bared-node, step-at}
-use Rattle.ipam_laws.proofs.AffinityHolds.{step-written, IsGiven, AreBelow, WasRead, WasOwn, WasKept, WasMarked, Kept, kept-grows, Agreeing, Own, Apart, Holds, claiming-given, releasing-given, current-there, other-some, written-holds}
+use Rattle.ipam_laws.proofs.AffinityHolds.{step-written, IsGiven, AreBelow, WasRead, WasOwn, WasKept, WasMarked, Kept, Own, Apart, Holds, claiming-given, releasing-given, current-there, other-some, written-holds}
 
 -- ---- a point at which one arrives
 

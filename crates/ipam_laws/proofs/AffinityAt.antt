@@ -1,10 +1,10 @@
 -- What a step makes of a block's node and of an affinity's state, and what was current before it.
-use Rattle.std.proofs.Common.{◌≡◌, ◌≢◌, ◌⊎◌, ℕ, ◌+◌, ◌≤◌, inl, inr, List, Option, Some, None, refl, sym, ap, ◌∙◌, subst, arith}
+use Rattle.std.proofs.Common.{◌≡◌, ◌≢◌, ◌⊎◌, ℕ, ◌+◌, inl, inr, List, Option, Some, None, refl, sym, ap, ◌∙◌, subst}
 use Rattle.ipam_addr.specs.Shape.{CidrValue}
 use Rattle.ipam_affinity.specs.declared.state.State.{State}
 use Rattle.ipam_affinity.specs.declared.state.State.TheVariants.{Pending, Confirmed, PendingDeletion}
 use Rattle.ipam_block.specs.Shape as block
-use Rattle.ipam_records.specs.declared.call.Write.TheVariants.{Put, Remove}
+use Rattle.ipam_records.specs.declared.call.Write.TheVariants.{Remove}
 use Rattle.ipam_records.specs.declared.key.Key.{Key}
 use Rattle.ipam_records.specs.declared.key.Key.TheVariants as key
 use Rattle.ipam_records.specs.declared.record.Record.{Record}
@@ -21,7 +21,7 @@ use Rattle.ipam_model.specs.AffinityLaw.{HasAt, IsBlockCurrent, IsAffinityCurren
 use Rattle.ipam_model.specs.Moments.{revision_of}
 use Rattle.ipam_model.specs.Reads.{Row}
 use Rattle.ipam_laws.proofs.Lift.{Known}
-use Rattle.ipam_laws.proofs.OneRecord.{key_cases, put-found, remove-found}
+use Rattle.ipam_laws.proofs.OneRecord.{key_cases}
 use Rattle.ipam_laws.proofs.RequestSteps.{key-changed}
 use Rattle.ipam_laws.proofs.Steps.{IsAsRead, IsOwnOrNobodys, IsPut, taken, bared, Step, Idles, Owes, Finds, Starts, Takes, Confirms, Marks, Looks, Bares, Deletes, Raises, Lowers, LowersOut, Frees, Assigns, Changes}
 

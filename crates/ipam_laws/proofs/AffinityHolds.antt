@@ -2,11 +2,11 @@
 -- write, while its mover still stands where it stood.
 use Rattle.std.proofs.Common.{◌≡◌, ◌≢◌, ◌⊎◌, ℕ, ◌+◌, ◌≤◌, inl, inr, true, false, List, Option, Some, None, refl, sym, ap, ◌∙◌, subst, arith, bytes_eq}
 use Rattle.std.proofs.lemmas.Slice.Eq.{bytes_eq-Decides}
-use Rattle.std.specs.Prelude.{Bool, if◌then◌else◌, cond}
+use Rattle.std.specs.Prelude.{Bool, cond}
 use Rattle.ipam_addr.specs.Shape.{CidrValue}
 use Rattle.ipam_affinity.specs.declared.state.State.{State}
 use Rattle.ipam_affinity.specs.declared.state.State.TheVariants.{Confirmed, PendingDeletion}
-use Rattle.ipam_records.specs.declared.call.Write.TheVariants.{Put, Remove}
+use Rattle.ipam_records.specs.declared.call.Write.TheVariants.{Remove}
 use Rattle.ipam_records.specs.declared.key.Key.{Key}
 use Rattle.ipam_records.specs.declared.key.Key.TheVariants as key
 use Rattle.ipam_records.specs.declared.record.Record.{Record}

@@ -1,18 +1,17 @@
 -- Over every history the counts stay above what is held.
-use Rattle.std.proofs.Common.{◌≡◌, ◌≢◌, ℕ, zero, suc, ◌+◌, ◌<◌, ◌≤◌, inl, inr, List, [], ◌∷◌, Option, Some, None, refl, sym, ap, ◌∙◌, subst, arith, eqb-true}
+use Rattle.std.proofs.Common.{◌≡◌, ◌≢◌, ℕ, zero, suc, ◌+◌, ◌<◌, ◌≤◌, inl, inr, List, [], ◌∷◌, Option, Some, None, refl, sym, ap, ◌∙◌, arith, eqb-true}
 use Rattle.std.specs.Prelude.{◌==◌}
 use Rattle.std.specs.List.{range_with_len, sum_by}
 use Rattle.std.proofs.lemmas.Bool.{cases_Bool, eqb-false}
 use Rattle.std.proofs.lemmas.List.Sums.{sum_by-cons}
 use Rattle.ipam_addr.specs.Shape.{CidrValue}
-use Rattle.ipam_records.specs.Label.{Label}
 use Rattle.ipam_records.specs.Sound.{IsDatastore}
 use Rattle.ipam_model.specs.declared.entry.Entry.{Entry}
 use Rattle.ipam_model.specs.Cluster.{Running}
 use Rattle.ipam_model.specs.CountLaw.{handle_count, held_count, credit_of_slot, credits, IsCovered, CountLaw, CreditLaw}
 use Rattle.ipam_model.specs.History.{Base, Lawful, cluster_at, store_at, slot_of_entry}
 use Rattle.ipam_laws.proofs.SlotSteps.{Turn, label_in, label_at, known_at, turn-of}
-use Rattle.ipam_laws.proofs.CountSteps.{owed, CountsGrow}
+use Rattle.ipam_laws.proofs.CountSteps.{owed}
 use Rattle.ipam_laws.proofs.CountKinds.{step-counts}
 
 -- ---- a sum over the slots of which one changes

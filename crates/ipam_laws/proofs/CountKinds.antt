@@ -1,5 +1,5 @@
 -- Each kind of step keeps the counts above what is held.
-use Rattle.std.proofs.Common.{◌≡◌, ◌≢◌, ℕ, suc, Bool, ◌+◌, ◌-◌, ◌∷◌, ◌≤◌, inl, inr, true, List, [], Option, Some, None, refl, sym, ap, ◌∙◌, subst, arith, bytes_eq}
+use Rattle.std.proofs.Common.{◌≡◌, ℕ, suc, Bool, ◌+◌, ◌-◌, ◌≤◌, inl, inr, true, List, [], Some, None, refl, sym, ap, ◌∙◌, subst, arith, bytes_eq}
 use Rattle.std.specs.Prelude.{not}
 use Rattle.std.specs.List.{count_by}
 use Rattle.ipam_addr.specs.Shape.{CidrValue}
@@ -58,7 +58,6 @@ raise-does store r h id cidr same counts =
         let at_id : P id = omega arith in
         subst P (sym same) at_id
 
-
 lower-update : (store : Datastore) (r : ℕ) (h : handle.HandleValue) (credit : Credit) → h.id ≡ credit.handle → ((c : CidrValue) → handle_count store credit.handle c ≡ count_of h c) → CountsGrow store (written store (Put r (record_of.Handle (lowered h credit.block credit.amount)))) (owing credit) idle
 lower-update store r h credit same counts =
     handle-grow store r (lowered h credit.block credit.amount) (owing credit) idle here (λ other c differ. omega arith)
@@ -112,7 +111,6 @@ lower-delete store r h credit same empty counts =
         let k = there c in
         let at_id : P credit.handle = omega arith in
         subst P (sym same) at_id
-
 
 -- ---- labels that owe nothing
 

@@ -1,22 +1,20 @@
 -- The parts of requests take steps of their kinds.
-use Rattle.std.proofs.Common.{◌≡◌, ℕ, zero, suc, ◌+◌, ◌-◌, ◌<◌, ◌≤◌, ◌⊎◌, inl, inr, Bool, true, false, cond, List, [], ◌∷◌, Option, Some, None, refl, sym, ap, ◌∙◌, subst, arith}
+use Rattle.std.proofs.Common.{◌≡◌, ℕ, zero, suc, ◌<◌, ◌⊎◌, inl, inr, Bool, true, false, cond, List, [], ◌∷◌, Option, Some, None, refl, sym, ap, ◌∙◌, subst, arith}
 use Rattle.std.specs.Prelude.{nat_le}
 use Rattle.std.proofs.lemmas.Bool.{leb-false}
 use Rattle.ipam_addr.specs.Shape.{CidrValue}
 use Rattle.ipam_handle.specs.Shape as handle
-use Rattle.ipam_handle.specs.Operations.{content, count_of, count_in, raised, lowered}
+use Rattle.ipam_handle.specs.Operations.{content, count_of, raised, lowered}
 use Rattle.ipam_records.specs.declared.key.Key.TheVariants as key
 use Rattle.ipam_records.specs.declared.record.Record.{Record}
 use Rattle.ipam_records.specs.declared.record.Record.TheVariants as record_of
 use Rattle.ipam_records.specs.declared.call.Call.TheVariants as call
-use Rattle.ipam_records.specs.declared.call.Write.TheVariants.{Put, Remove}
-use Rattle.ipam_records.specs.Datastore.{Datastore, reply_of, reply_to_get, row_of, written, write_of}
+use Rattle.ipam_records.specs.Datastore.{Datastore, reply_of, reply_to_get, row_of, write_of}
 use Rattle.ipam_model.specs.Cluster.{store_with}
 use Rattle.ipam_records.specs.Label.{Label, Credit, idle, owing}
 use Rattle.ipam_records.specs.Said.{Said, Found, Missing, Can}
 use Rattle.ipam_records.specs.Word.{Word, Asks}
 use Rattle.ipam_model.specs.AffinityLaw.{HasAt}
-use Rattle.ipam_model.specs.CountLaw.{count_in_row, handle_count}
 use Rattle.ipam_model.specs.Counting.{most_count, raise, raise_once, raise_write, lower, lower_once, lower_write, written_or_deleted, credit_of}
 use Rattle.ipam_model.specs.Reads.{handle_said}
 use Rattle.ipam_model.specs.Step.{Left, left_of, Outcome, Went, Stops, Part, OutOfTries, CountAtLimit, NoRoom, NoRevisions, goes, stops, onward, followed, tries, write_back, on_write}

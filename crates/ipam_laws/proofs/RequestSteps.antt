@@ -1,5 +1,5 @@
 -- The word of each request takes steps of their kinds.
-use Rattle.std.proofs.Common.{◌≡◌, ◌∙◌, ◌⊎◌, inl, inr, ℕ, zero, suc, ◌-◌, Bool, true, false, cond, List, [], ◌∷◌, ◌++◌, Option, Some, None, refl, sym, ap, subst, arith}
+use Rattle.std.proofs.Common.{◌≡◌, ◌∙◌, ◌⊎◌, inl, inr, ℕ, zero, suc, ◌-◌, Bool, true, false, cond, List, [], ◌∷◌, ◌++◌, Option, Some, None, refl, sym, ap, subst}
 use Rattle.std.specs.Prelude.{◌==◌, ◌&&◌, map, nat_le, not, length}
 use Rattle.std.specs.List.{list_any, filter}
 use Rattle.ipam_addr.specs.declared.address.Family.{Family}
@@ -19,8 +19,8 @@ use Rattle.ipam_records.specs.declared.record.Record.TheVariants as record_of
 use Rattle.ipam_records.specs.declared.call.Call.TheVariants as call
 use Rattle.ipam_records.specs.Datastore.{Datastore, reply_of, reply_to_get, row_of, write_of}
 use Rattle.ipam_records.specs.Key.{key_of}
-use Rattle.ipam_records.specs.Label.{Label, idle}
-use Rattle.ipam_records.specs.Said.{Said, Found, Missing, Listed, Can, Exists, Conflict, Full, Spent}
+use Rattle.ipam_records.specs.Label.{idle}
+use Rattle.ipam_records.specs.Said.{Said, Found, Missing, Can}
 use Rattle.ipam_records.specs.Word.{Word, Ends, Asks, Waits}
 use Rattle.ipam_model.specs.declared.answer.Answer.{Answer}
 use Rattle.ipam_model.specs.declared.answer.Collected.{Collected}

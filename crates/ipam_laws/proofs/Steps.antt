@@ -1,6 +1,6 @@
 -- What a call of a request may do: the kinds of steps, from where the request stands before the call
 -- to where it stands behind it.
-use Rattle.std.proofs.Common.{◌≡◌, ◌≢◌, ◌⊎◌, ℕ, suc, ◌+◌, ◌<◌, inl, inr, true, List, [], ◌∷◌, Option, Some, None}
+use Rattle.std.proofs.Common.{◌≡◌, ◌≢◌, ◌⊎◌, ℕ, suc, ◌+◌, ◌<◌, true, List, [], ◌∷◌, Some, None}
 use Rattle.std.specs.List.{count_by}
 use Rattle.ipam_addr.specs.Shape.{CidrValue}
 use Rattle.ipam_affinity.specs.declared.state.State.{State}
@@ -16,7 +16,6 @@ use Rattle.ipam_records.specs.declared.key.Key.TheVariants as key
 use Rattle.ipam_records.specs.declared.record.Record.{Record}
 use Rattle.ipam_records.specs.declared.record.Record.TheVariants as record_of
 use Rattle.ipam_records.specs.Datastore.{Datastore, reply_to_get, row_of, written}
-use Rattle.ipam_records.specs.Key.{key_of}
 use Rattle.ipam_records.specs.Label.{Label, Credit, idle, owing, standing, Claiming, Claimed, Releasing, Released}
 use Rattle.ipam_model.specs.declared.request.Admin.{Admin}
 use Rattle.ipam_model.specs.Admin.{Becomes, changed, key_changed}

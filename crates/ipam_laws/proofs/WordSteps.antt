@@ -14,9 +14,9 @@ use Rattle.ipam_records.specs.declared.record.Record.TheVariants as record_of
 use Rattle.ipam_records.specs.declared.call.Call.TheVariants as call
 use Rattle.ipam_records.specs.Datastore.{Datastore, reply_of, reply_to_get, row_of, row_key, listed}
 use Rattle.ipam_records.specs.KeyOrder.{is_of_kind}
-use Rattle.ipam_records.specs.Label.{Label, idle}
+use Rattle.ipam_records.specs.Label.{idle}
 use Rattle.ipam_records.specs.Said.{Said, Listed}
-use Rattle.ipam_records.specs.Word.{Word, Ends, Asks, Waits, bound}
+use Rattle.ipam_records.specs.Word.{Word, Ends, Asks, bound}
 use Rattle.ipam_records.proofs.DatastoreLemmas.{row_key-row_of}
 use Rattle.ipam_model.specs.declared.answer.Scan.{Scan}
 use Rattle.ipam_model.specs.declared.outcome.ClaimAnswer.{ClaimAnswer}

@@ -19,7 +19,6 @@ use Rattle.ipam_records.specs.Key.{key_of}
 use Rattle.ipam_records.specs.Label.{idle, owing}
 use Rattle.ipam_records.specs.Said.{Found, Can}
 use Rattle.ipam_records.specs.Word.{Word, Ends, Asks}
-use Rattle.ipam_model.specs.declared.outcome.ClaimAnswer.{ClaimAnswer}
 use Rattle.ipam_model.specs.declared.outcome.ClaimAnswer.TheVariants as claimed
 use Rattle.ipam_model.specs.declared.outcome.ReleaseAnswer.{ReleaseAnswer}
 use Rattle.ipam_model.specs.declared.outcome.ReleaseAnswer.TheVariants as released
