@@ -240,35 +240,35 @@ step-arrives old known store next label after step grows agrees seen below kept 
     from : Step old store next label after → Arrives old known next after.point
     from (Idles a b) = nowhere (point_of after idle b)
     from (Owes credit a b c) = nowhere (point_of after (owing credit) c)
-    from (Finds tie read k state a b c d e f g) =
+    from (Finds tie read k state a b c d e f) =
         let there : HasAffinityAt next tie k state = subst (λ (s : Datastore). HasAffinityAt s tie k state) (sym a) d in
         at (Claiming tie.node tie.block (revision_read read) k) (point_of after (at_claiming tie read k) c)
-        (arrives-claiming old known next grows agrees tie read k state there (seen _ _ _ there) e (known-block-grows old known tie.block read grows f) g)
-    from (Starts tie read a b c d e) =
+        (arrives-claiming old known next grows agrees tie read k state there (seen _ _ _ there) e (known-block-grows old known tie.block read grows f.was_read) f.own)
+    from (Starts tie read a b c d) =
         let there : HasAffinityAt next tie (store.counter + 1) Pending = put-at store next (record_of.Affinity (affinity tie.node tie.block Pending)) a in
         at (Claiming tie.node tie.block (revision_read read) (store.counter + 1)) (point_of after (at_claiming tie read (store.counter + 1)) c)
-        (arrives-claiming old known next grows agrees tie read (store.counter + 1) Pending there (seen _ _ _ there) (λ f. cc f) (known-block-grows old known tie.block read grows d) e)
+        (arrives-claiming old known next grows agrees tie read (store.counter + 1) Pending there (seen _ _ _ there) (λ f. cc f) (known-block-grows old known tie.block read grows d.was_read) d.own)
     from (Takes tie read k a b c d e) =
         let (state, was, differs) = kept.claims_kept tie.node tie.block (revision_read read) k (point_of label (at_claiming tie read k) b) in
         at (Claimed tie.node tie.block k) (point_of after (at_claimed tie k) c)
         (arrives-claimed old known store next below tie k (taken tie.node tie.block read) (state, grows _ _ _ was, differs) a (taken-cidr store tie.node tie.block read d) (taken-node tie.node tie.block read))
     from (Confirms tie k found a b c d) = nowhere (point_of after idle c)
-    from (Marks tie a b c) = nowhere (point_of after idle c)
+    from (Marks tie revision found a b c d) = nowhere (point_of after idle c)
     from (Looks tie read mark a b c d e) =
         let there : HasAffinityAt next tie mark PendingDeletion = subst (λ (s : Datastore). HasAffinityAt s tie mark PendingDeletion) (sym a) d in
         at (Releasing tie.node tie.block (revision_read read) mark) (point_of after (at_releasing tie read mark) c)
         (arrives-releasing old known next grows agrees tie read mark there (seen _ _ _ there) (known-block-grows old known tie.block read grows e))
-    from (Bares tie read mark a b c d) =
+    from (Bares tie read mark a b c d e) =
         let was = kept.releasing_marks tie.node tie.block (revision_read read) mark (point_of label (at_releasing tie read mark) b) in
         at (Released tie.node tie.block mark) (point_of after (at_released tie mark) c)
         (arrives-released old known store next below tie mark (bared tie.node tie.block read) (grows _ _ _ was) a (bared-cidr store tie.node tie.block read d) (λ e. let (held, differs) = other-some tie.node tie.node (node_at store tie.block) (sym (bared-node store tie.node tie.block read d) ∙ e) in differs refl))
     from (Deletes tie mark found a b c d) = nowhere (point_of after idle c)
-    from (Raises id cidr h a b c d e) = nowhere (point_of after (owing (credit_of id cidr 1)) c)
+    from (Raises id cidr h a b c d e f) = nowhere (point_of after (owing (credit_of id cidr 1)) c)
     from (Lowers credit h revision first rest a b c d e f) = nowhere (point_of after idle c)
     from (LowersOut credit h revision a b c d e f) = nowhere (point_of after idle c)
     from (Frees what amount revision b s t u v w x y) = nowhere (point_of after (owing (credit_of what.handle what.block (suc amount))) u)
-    from (Assigns attributes target a b c d) = nowhere (point_of after idle c)
-    from (Changes request new a b c d) = nowhere (point_of after idle c)
+    from (Assigns attributes target a b c d e f) = nowhere (point_of after idle c)
+    from (Changes request new a b c d e) = nowhere (point_of after idle c)
 
 -- ---- a step
 

@@ -244,20 +244,20 @@ point-is label other e = ap (λ (l : Label). l.point) e
 pub step-at : (known : Known) (store next : Datastore) (label after : Label) → Step known store next label after → (node : List ℕ) (cidr : CidrValue) → At store next label.point node cidr
 step-at known store next label after (Idles a b) node cidr = same-at store next label.point node cidr a
 step-at known store next label after (Owes credit a b c) node cidr = same-at store next label.point node cidr a
-step-at known store next label after (Finds tie read kept state a b c d e f g) node cidr = same-at store next label.point node cidr a
-step-at known store next label after (Starts tie read a b c d e) node cidr = set-at store next label.point node cidr tie Pending (λ f. cc f) a
-step-at known store next label after (Takes tie read kept a b c d e) node cidr = take-at store next label.point node cidr tie read kept a (point-is label _ b) d e
+step-at known store next label after (Finds tie read kept state a b c d e f) node cidr = same-at store next label.point node cidr a
+step-at known store next label after (Starts tie read a b c d) node cidr = set-at store next label.point node cidr tie Pending (λ f. cc f) a
+step-at known store next label after (Takes tie read kept a b c d e) node cidr = take-at store next label.point node cidr tie read kept a (point-is label _ b) d e.own
 step-at known store next label after (Confirms tie kept found a b c d) node cidr = confirm-at store next label.point node cidr tie kept found a (point-is label _ b) d
-step-at known store next label after (Marks tie a b c) node cidr = set-at store next label.point node cidr tie PendingDeletion (λ f. cc f) a
+step-at known store next label after (Marks tie revision found a b c d) node cidr = set-at store next label.point node cidr tie PendingDeletion (λ f. cc f) a
 step-at known store next label after (Looks tie read mark a b c d e) node cidr = same-at store next label.point node cidr a
-step-at known store next label after (Bares tie read mark a b c d) node cidr = bare-at store next label.point node cidr tie read mark a (point-is label _ b) d
+step-at known store next label after (Bares tie read mark a b c d e) node cidr = bare-at store next label.point node cidr tie read mark a (point-is label _ b) d
 step-at known store next label after (Deletes tie mark found a b c d) node cidr = delete-at store next label.point node cidr tie mark found a (point-is label _ b) d
-step-at known store next label after (Raises id block_cidr h a b c d e) node cidr = setting-at store next label.point node cidr _ a tt
+step-at known store next label after (Raises id block_cidr h a b c d e f) node cidr = setting-at store next label.point node cidr _ a tt
 step-at known store next label after (Lowers credit h revision first rest a b c d e f) node cidr = setting-at store next label.point node cidr _ a tt
 step-at known store next label after (LowersOut credit h revision a b c d e f) node cidr =
     beside-at store next label.point node cidr (gone-beside store next (key.Handle h.id) (key.Block cidr) a (λ g. cc g)) (gone-beside store next (key.Handle h.id) (key.Affinity node cidr) a (λ g. cc g))
 step-at known store next label after (Frees what amount revision b s t u v w x y) node cidr =
     touch-at store next label.point node cidr revision b _ s (subst (λ (z : CidrValue). HasAt store (key.Block z) revision (record_of.Block b)) (sym w) v) refl refl
-step-at known store next label after (Assigns attributes target a b c d) node cidr = touch-at store next label.point node cidr target.revision target.block _ a d refl refl
-step-at known store next label after (Changes request new a b c d) node cidr =
+step-at known store next label after (Assigns attributes target a b c d e f) node cidr = touch-at store next label.point node cidr target.revision target.block _ a d refl refl
+step-at known store next label after (Changes request new a b c d e) node cidr =
     setting-at store next label.point node cidr new a (subst (λ (k : Key). IsSetting k) (sym (key-changed request (reply_to_get (row_of (key_changed request) store.rows)) new d)) (setting-changed request))

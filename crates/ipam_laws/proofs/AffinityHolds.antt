@@ -35,20 +35,20 @@ pub data Written (store next : Datastore) : Type 0 where
 pub step-written : (known : Known) (store next : Datastore) (label after : Label) → Step known store next label after → Written store next
 step-written known store next label after (Idles a b) = Nothing a
 step-written known store next label after (Owes credit a b c) = Nothing a
-step-written known store next label after (Finds tie read kept state a b c d e f g) = Nothing a
-step-written known store next label after (Starts tie read a b c d e) = Puts _ a
+step-written known store next label after (Finds tie read kept state a b c d e f) = Nothing a
+step-written known store next label after (Starts tie read a b c d) = Puts _ a
 step-written known store next label after (Takes tie read kept a b c d e) = Puts _ a
 step-written known store next label after (Confirms tie kept found a b c d) = Puts _ a
-step-written known store next label after (Marks tie a b c) = Puts _ a
+step-written known store next label after (Marks tie revision found a b c d) = Puts _ a
 step-written known store next label after (Looks tie read mark a b c d e) = Nothing a
-step-written known store next label after (Bares tie read mark a b c d) = Puts _ a
+step-written known store next label after (Bares tie read mark a b c d e) = Puts _ a
 step-written known store next label after (Deletes tie mark found a b c d) = Removes (key.Affinity tie.node tie.block) a (λ cidr e. cc e)
-step-written known store next label after (Raises id cidr h a b c d e) = Puts _ a
+step-written known store next label after (Raises id cidr h a b c d e f) = Puts _ a
 step-written known store next label after (Lowers credit h revision first rest a b c d e f) = Puts _ a
 step-written known store next label after (LowersOut credit h revision a b c d e f) = Removes (key.Handle h.id) a (λ cidr g. cc g)
 step-written known store next label after (Frees what amount revision b s t u v w x y) = Puts _ s
-step-written known store next label after (Assigns attributes target a b c d) = Puts _ a
-step-written known store next label after (Changes request new a b c d) = Puts new a
+step-written known store next label after (Assigns attributes target a b c d e f) = Puts _ a
+step-written known store next label after (Changes request new a b c d e) = Puts new a
 
 -- what is at a revision is there
 pub current-there : (store : Datastore) (k : Key) (revision : ℕ) → revision_of store k ≡ Some revision → (found : Record) × HasAt store k revision found

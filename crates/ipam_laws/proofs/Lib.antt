@@ -7,6 +7,7 @@ pub mod StoreSteps
 pub mod OneRecord
 pub mod Lift
 pub mod Calls
+pub mod Members
 pub mod Steps
 pub mod PartSteps
 pub mod WriteSteps

@@ -16,35 +16,7 @@ use Rattle.ipam_records.specs.Sound.{IsDatastore, IsRow}
 use Rattle.ipam_records.proofs.RecordTexts.{record_reads_back}
 use Rattle.ipam_model.specs.Opened.{IsTextOf, OneOpenedLaw, OpensAs, SameRecordsLaw, Texts, reading_of, text_of, texts_of}
 use Rattle.ipam_model.specs.Reads.{Row}
-
--- ---- members of a list
-
-in-cons : {X : Type 0} → (x y : X) (ys : List X) → Contains (y ∷ ys) x → (y ≡ x) ⊎ Contains ys x
-in-cons x y ys (zero, below, e) = inl e
-in-cons x y ys (suc k, below, e) = inr (k, omega arith, e)
-
-in-here : {X : Type 0} → (x : X) (xs : List X) → Contains (x ∷ xs) x
-in-here x xs = (zero, omega arith, refl)
-
-in-there : {X : Type 0} → (x y : X) (ys : List X) → Contains ys x → Contains (y ∷ ys) x
-in-there x y ys (k, below, e) = (suc k, omega arith, e)
-
-in-nothing : {X : Type 0} → (x : X) → Contains [] x → ⊥
-in-nothing x (k, below, e) = absurd (omega arith)
-
-in-map : {X Y : Type 0} → (f : X → Y) (x : X) (xs : List X) → Contains xs x → Contains (map f xs) (f x)
-in-map f x [] h = absurd (in-nothing x h)
-in-map f x (y ∷ ys) h = elim (in-cons x y ys h) [
-  | inl is ↦ subst (λ z. Contains (f y ∷ map f ys) (f z)) is (in-here (f y) (map f ys))
-  | inr rest ↦ in-there (f x) (f y) (map f ys) (in-map f x ys rest)
-]
-
-out-map : {X Y : Type 0} → (f : X → Y) (z : Y) (xs : List X) → Contains (map f xs) z → (x : X) × Contains xs x × (f x ≡ z)
-out-map f z [] h = absurd (in-nothing z h)
-out-map f z (y ∷ ys) h = elim (in-cons z (f y) (map f ys) h) [
-  | inl is ↦ (y, in-here y ys, is)
-  | inr rest ↦ let (x, there, e) = out-map f z ys rest in (x, in-there x y ys there, e)
-]
+use Rattle.ipam_laws.proofs.Members.{in-cons, in-here, in-there, in-nothing, in-map, out-map}
 
 -- ---- rows by ascending keys with the same members are the same
 

@@ -20,7 +20,7 @@ use Rattle.ipam_model.specs.Reads.{handle_said}
 use Rattle.ipam_model.specs.Step.{Left, left_of, Outcome, Went, Stops, Part, OutOfTries, CountAtLimit, NoRoom, NoRevisions, goes, stops, onward, followed, tries, write_back, on_write}
 use Rattle.ipam_laws.proofs.Lift.{Known, more, Grows, Agrees, label_to, Meets, label_to-bound, Meets-bound}
 use Rattle.ipam_laws.proofs.Calls.{found-key, found-handle, create-can, update-can, delete-can, can-put, can-remove, get-meets, write-meets}
-use Rattle.ipam_laws.proofs.Steps.{Step, Idles, Owes, Raises, Lowers, LowersOut, step-grows}
+use Rattle.ipam_laws.proofs.Steps.{IsCountable, countable-grows, Step, Idles, Owes, Raises, Lowers, LowersOut, step-grows}
 
 -- nothing is said of an answer
 abbrev pub Any : {A : Type 0} → Known → A → Type 0
@@ -65,39 +65,39 @@ known-handle known store id revision h old agrees k there =
 IsBelow : List ℕ → CidrValue → Said → Type 0
 IsBelow id cidr said = count_of (handle_said id said) cidr < most_count
 
-raise-done : (known : Known) (id : List ℕ) (cidr : CidrValue) (said : Said) → IsHandleRead known id said → IsBelow id cidr said → (store : Datastore) → Agrees known store → (r : ℕ) → reply_of store (write_back said (record_of.Handle (raised (handle_said id said) cidr 1))) ≡ Can r → Step known store (store_with (write_of (write_back said (record_of.Handle (raised (handle_said id said) cidr 1))) r) store) idle (owing (credit_of id cidr 1))
+raise-done : (known : Known) (id : List ℕ) (cidr : CidrValue) (said : Said) → IsHandleRead known id said → IsCountable known id cidr → IsBelow id cidr said → (store : Datastore) → Agrees known store → (r : ℕ) → reply_of store (write_back said (record_of.Handle (raised (handle_said id said) cidr 1))) ≡ Can r → Step known store (store_with (write_of (write_back said (record_of.Handle (raised (handle_said id said) cidr 1))) r) store) idle (owing (credit_of id cidr 1))
 unfolding IsBelow
-raise-done known id cidr said (inl missing) below store agrees r e =
+raise-done known id cidr said (inl missing) countable below store agrees r e =
     let P : Said → Type 0 = λ s. IsBelow id cidr s → reply_of store (write_back s (record_of.Handle (raised (handle_said id s) cidr 1))) ≡ Can r → Step known store (store_with (write_of (write_back s (record_of.Handle (raised (handle_said id s) cidr 1))) r) store) idle (owing (credit_of id cidr 1)) in
     let new = record_of.Handle (raised (content id []) cidr 1) in
-    let created : P Missing = λ l f. Raises id cidr (content id []) (can-put store new (call.Create new) r f) refl refl (inl (create-can store new r f, refl)) l in
+    let created : P Missing = λ l f. Raises id cidr (content id []) (can-put store new (call.Create new) r f) refl refl (inl (create-can store new r f, refl)) l countable in
     subst P (sym missing) created below e
-raise-done known id cidr said (inr (revision, h, is, same, k)) below store agrees r e =
+raise-done known id cidr said (inr (revision, h, is, same, k)) countable below store agrees r e =
     let P : Said → Type 0 = λ s. IsBelow id cidr s → reply_of store (write_back s (record_of.Handle (raised (handle_said id s) cidr 1))) ≡ Can r → Step known store (store_with (write_of (write_back s (record_of.Handle (raised (handle_said id s) cidr 1))) r) store) idle (owing (credit_of id cidr 1)) in
     let new = record_of.Handle (raised h cidr 1) in
     let updated : P (Found revision (record_of.Handle h)) = λ l f.
     let (old, there) = update-can store new revision r f in
     let there' = subst (λ (x : List ℕ). HasAt store (key.Handle x) revision old) same there in
-    Raises id cidr h (can-put store new (call.Update new revision) r f) refl refl (inr (revision, known-handle known store id revision h old agrees k there', same)) l in
+    Raises id cidr h (can-put store new (call.Update new revision) r f) refl refl (inr (revision, known-handle known store id revision h old agrees k there', same)) l countable in
     subst P (sym is) updated below e
 
-raise_write-steps : (known : Known) (again : Part (Unit {0})) (left : Left) (id : List ℕ) (cidr : CidrValue) (said : Said) → IsHandleRead known id said → ((other : Known) → Steps (raised_label id cidr) other again) → label_to (raised_label id cidr) again ≡ idle → IsBelow id cidr said → Steps (raised_label id cidr) known (raise_write id cidr again left said)
-raise_write-steps known again left id cidr said read a l below =
+raise_write-steps : (known : Known) (again : Part (Unit {0})) (left : Left) (id : List ℕ) (cidr : CidrValue) (said : Said) → IsHandleRead known id said → ((other : Known) → IsCountable other id cidr → Steps (raised_label id cidr) other again) → label_to (raised_label id cidr) again ≡ idle → IsCountable known id cidr → IsBelow id cidr said → Steps (raised_label id cidr) known (raise_write id cidr again left said)
+raise_write-steps known again left id cidr said read a l countable below =
     write-meets Step step-grows (raised_label id cidr) Any known idle (write_back said (record_of.Handle (raised (handle_said id said) cidr 1))) (λ revision. goes left tt) again (stops left NoRoom) (stops left NoRevisions) any-lasts
-    (raise-done known id cidr said read below) (λ other r grows w. tt)
-    (λ store. Idles refl l) (a known)
+    (raise-done known id cidr said read countable below) (λ other r grows w. tt)
+    (λ store. Idles refl l) (a known countable)
     (λ store. Idles refl refl) tt (λ store. Idles refl refl) tt
 
-raise_read-steps : (known : Known) (again : Part (Unit {0})) (left : Left) (id : List ℕ) (cidr : CidrValue) (moment : ℕ) (said : Said) → IsHandleRead known id said → ((other : Known) → Steps (raised_label id cidr) other again) → label_to (raised_label id cidr) again ≡ idle → (b : Bool) → nat_le most_count (count_of (handle_said id said) cidr) ≡ b
+raise_read-steps : (known : Known) (again : Part (Unit {0})) (left : Left) (id : List ℕ) (cidr : CidrValue) (moment : ℕ) (said : Said) → IsHandleRead known id said → ((other : Known) → IsCountable other id cidr → Steps (raised_label id cidr) other again) → label_to (raised_label id cidr) again ≡ idle → IsCountable known id cidr → (b : Bool) → nat_le most_count (count_of (handle_said id said) cidr) ≡ b
     → (label_to (raised_label id cidr) (cond b (stops left (CountAtLimit moment)) (raise_write id cidr again left said)) ≡ idle) × Steps (raised_label id cidr) known (cond b (stops left (CountAtLimit moment)) (raise_write id cidr again left said))
 unfolding IsBelow
-raise_read-steps known again left id cidr moment said read a l true e = (refl, tt)
-raise_read-steps known again left id cidr moment said read a l false e = (refl, raise_write-steps known again left id cidr said read a l (leb-false most_count (count_of (handle_said id said) cidr) e))
+raise_read-steps known again left id cidr moment said read a l countable true e = (refl, tt)
+raise_read-steps known again left id cidr moment said read a l countable false e = (refl, raise_write-steps known again left id cidr said read a l countable (leb-false most_count (count_of (handle_said id said) cidr) e))
 
-raise_once-steps : (known : Known) (id : List ℕ) (cidr : CidrValue) (again : Part (Unit {0})) (left : Left) → ((other : Known) → Steps (raised_label id cidr) other again) → label_to (raised_label id cidr) again ≡ idle → Steps (raised_label id cidr) known (raise_once id cidr again left)
-raise_once-steps known id cidr again left a l =
+raise_once-steps : (known : Known) (id : List ℕ) (cidr : CidrValue) (again : Part (Unit {0})) (left : Left) → ((other : Known) → IsCountable other id cidr → Steps (raised_label id cidr) other again) → label_to (raised_label id cidr) again ≡ idle → IsCountable known id cidr → Steps (raised_label id cidr) known (raise_once id cidr again left)
+raise_once-steps known id cidr again left a l countable =
     get-meets Step (raised_label id cidr) Any known idle (key.Handle id) (λ moment said. cond (nat_le most_count (count_of (handle_said id said) cidr)) (stops left (CountAtLimit moment)) (raise_write id cidr again left said)) (λ moment store agrees.
-    let (label, meets) = raise_read-steps (more known store store) again left id cidr moment (reply_to_get (row_of (key.Handle id) store.rows)) (handle-read known store id) a l (nat_le most_count (count_of (handle_said id (reply_to_get (row_of (key.Handle id) store.rows))) cidr)) refl in
+    let (label, meets) = raise_read-steps (more known store store) again left id cidr moment (reply_to_get (row_of (key.Handle id) store.rows)) (handle-read known store id) a l (countable-grows known (more known store store) id cidr (λ k r f there. inl there) countable) (nat_le most_count (count_of (handle_said id (reply_to_get (row_of (key.Handle id) store.rows))) cidr)) refl in
     (Idles refl label, meets))
 
 raise_tries-label : (id : List ℕ) (cidr : CidrValue) (races claims : ℕ) → label_to (raised_label id cidr) (tries (raise_once id cidr) races claims) ≡ idle
@@ -108,15 +108,15 @@ raise_tries-label id cidr (suc races) claims = refl
 pub raise-label : (id : List ℕ) (cidr : CidrValue) (left : Left) → label_to (raised_label id cidr) (raise id cidr left) ≡ idle
 raise-label id cidr left = raise_tries-label id cidr left.races left.claims
 
-raise_tries-steps : (id : List ℕ) (cidr : CidrValue) (races claims : ℕ) (known : Known) → Steps (raised_label id cidr) known (tries (raise_once id cidr) races claims)
+raise_tries-steps : (id : List ℕ) (cidr : CidrValue) (races claims : ℕ) (known : Known) → IsCountable known id cidr → Steps (raised_label id cidr) known (tries (raise_once id cidr) races claims)
 unfolding tries
-raise_tries-steps id cidr zero claims known = raise_once-steps known id cidr (stops (left_of zero claims) OutOfTries) (left_of zero claims) (λ other. tt) refl
-raise_tries-steps id cidr (suc races) claims known =
+raise_tries-steps id cidr zero claims known countable = raise_once-steps known id cidr (stops (left_of zero claims) OutOfTries) (left_of zero claims) (λ other c. tt) refl countable
+raise_tries-steps id cidr (suc races) claims known countable =
     raise_once-steps known id cidr (tries (raise_once id cidr) races claims) (left_of (suc races) claims)
-    (λ other. raise_tries-steps id cidr races claims other) (raise_tries-label id cidr races claims)
+    (λ other c. raise_tries-steps id cidr races claims other c) (raise_tries-label id cidr races claims) countable
 
-pub raise-steps : (id : List ℕ) (cidr : CidrValue) (left : Left) (known : Known) → Steps (raised_label id cidr) known (raise id cidr left)
-raise-steps id cidr left known = raise_tries-steps id cidr left.races left.claims known
+pub raise-steps : (id : List ℕ) (cidr : CidrValue) (left : Left) (known : Known) → IsCountable known id cidr → Steps (raised_label id cidr) known (raise id cidr left)
+raise-steps id cidr left known countable = raise_tries-steps id cidr left.races left.claims known countable
 
 -- ---- lowering
 

@@ -4,6 +4,7 @@ use Rattle.std.specs.Prelude.{◌==◌, ◌&&◌, map, nat_le, not, length}
 use Rattle.std.specs.List.{list_any, filter}
 use Rattle.ipam_addr.specs.declared.address.Family.{Family}
 use Rattle.ipam_addr.specs.Shape.{AddrValue, CidrValue}
+use Rattle.ipam_addr.specs.Holding.{holds_address}
 use Rattle.ipam_pool.specs.declared.pools.Pool.{Pool}
 use Rattle.ipam_pool.specs.declared.pools.PoolRefusal.{PoolRefusal}
 use Rattle.ipam_pool.specs.declared.pools.PoolRefusal.TheVariants.{NameTaken, Overlap, Size, Prefix, TooMany, Memory}
@@ -56,16 +57,18 @@ use Rattle.ipam_model.specs.Counting.{Freeing, freeing_all, freeing_one, free}
 use Rattle.ipam_model.specs.Look as look
 use Rattle.ipam_model.specs.Reads.{config_said, pools_said, reservations_said, handle_said, rows_said, block_said}
 use Rattle.ipam_model.specs.Remove as remove
+use Rattle.ipam_model.specs.SoundRequest.{IsSoundAdd, IsSoundChange, IsSoundRequest}
 use Rattle.ipam_model.specs.Requests.{word_of, told_as}
 use Rattle.ipam_model.specs.Told.{of_add, of_add_this, of_del, of_check, of_release, of_collect, of_admin, of_probe}
 use Rattle.ipam_model.specs.Step.{Left, left_of, all_left, Went, Stops, Stop, OutOfTries, OutOfClaims, NoRoom, CountAtLimit, NoRevisions, Part, stop_answer, settled, goes, stops, tries, retried, in_rounds, write_back}
-use Rattle.ipam_model.specs.Usable.{RuledPool, for_all, families_if, usable_pool_of, pool_of}
+use Rattle.ipam_model.specs.Usable.{RuledPool, for_all, is_usable, families_if, usable_pool_of, pool_of}
 use Rattle.ipam_laws.proofs.Lift.{Known, more, Agrees, label_to}
 use Rattle.ipam_laws.proofs.Calls.{create-can, update-can, can-put, get-meets, list-meets, write-meets}
-use Rattle.ipam_laws.proofs.Steps.{IsKnownBlock, OwnPicks, Step, Idles, Changes, step-grows}
+use Rattle.ipam_laws.proofs.Members.{in-find}
+use Rattle.ipam_laws.proofs.Steps.{IsKnownBlock, IsOwnOrNobodys, IsKnownPool, IsClaimable, known-pool-grows, OwnPicks, Step, Idles, Changes, step-grows}
 use Rattle.ipam_laws.proofs.PartSteps.{Any, still, Steps, any-lasts}
-use Rattle.ipam_laws.proofs.WriteSteps.{IsClaimable, block-read, free-steps, free-label, release-steps}
-use Rattle.ipam_laws.proofs.WordSteps.{Keeps, Lawful, LawfulAfter, LawfulOn, LawfulNext, unowned-nobodys, lawful-both, followed-keeps, followed-lawful, settled-lawful, rounds-lawful, own-known, assign-keeps, claim_for-keeps, serve-lawful, five_reads-steps}
+use Rattle.ipam_laws.proofs.WriteSteps.{block-read, free-steps, free-label, release-steps}
+use Rattle.ipam_laws.proofs.WordSteps.{ArePoolsKnown, pools-read, ruled-known, Keeps, Lawful, LawfulAfter, LawfulOn, LawfulNext, unowned-nobodys, lawful-both, followed-keeps, followed-lawful, settled-lawful, rounds-lawful, own-known, assign-keeps, claim_for-keeps, serve-lawful, five_reads-steps}
 
 owned-picks : (id : List ℕ) (a : Allocation) → is_owned id a ≡ true → is_owned id a ≡ true
 owned-picks id a h = h
@@ -107,18 +110,18 @@ after_family-lawful request gifts rest r (Went left (Gave gift)) = r gift left
 after_family-lawful request gifts rest r (Went left (Refused answer)) = refuse-lawful request gifts answer left
 after_family-lawful request gifts rest r (Stops left why) = after_stop-lawful request gifts left why
 
-add_each-lawful : (request : AddRequest) (gifts : List Gift) (families : List Family) → LawfulNext (add.add_each request gifts families)
+add_each-lawful : (request : AddRequest) → IsSoundAdd request → (gifts : List Gift) (families : List Family) → LawfulNext (add.add_each request gifts families)
 unfolding add.add_each
-add_each-lawful request gifts [] left known = (refl, tt)
-add_each-lawful request gifts (family ∷ families) left known =
+add_each-lawful request sound gifts [] left known = (refl, tt)
+add_each-lawful request sound gifts (family ∷ families) left known =
     let rest : Gift → Left → Part AddAnswer = λ gift now. add.add_each request (gifts ++ gift ∷ []) families now in
-    lawful-both (add.serve request family left) (add.after_family request gifts rest) (serve-lawful request family left)
-    (after_family-lawful request gifts rest (λ gift now. add_each-lawful request (gifts ++ gift ∷ []) families now)) known
+    lawful-both (add.serve request family left) (add.after_family request gifts rest) (serve-lawful request sound family left)
+    (after_family-lawful request gifts rest (λ gift now. add_each-lawful request sound (gifts ++ gift ∷ []) families now)) known
 
-add-lawful : (request : AddRequest) → Lawful (add.add_word request)
-add-lawful request =
+add-lawful : (request : AddRequest) → IsSoundAdd request → Lawful (add.add_word request)
+add-lawful request sound =
     let families = families_if request.ipv4 request.ipv6 in
-    settled-lawful add.add_stops (add.add_each request [] families all_left) (add_each-lawful request [] families all_left)
+    settled-lawful add.add_stops (add.add_each request [] families all_left) (add_each-lawful request sound [] families all_left)
 
 -- ---- ADD of one address
 
@@ -126,11 +129,20 @@ this_assigned-lawful : (wanted : this.Wanted) (next : this.NextRound) → Lawful
 this_assigned-lawful wanted next n looked left (Some done) known = (refl, tt)
 this_assigned-lawful wanted next n looked left None known = n left known
 
-this_take-keeps : (wanted : this.Wanted) (next : this.NextRound) → LawfulNext next → (left : Left) (looked : this.Looked) (found : ℕ × block.BlockValue) (known : Known) → IsKnownBlock known looked.cidr (Some found) → Keeps known (this.this_take wanted next left looked found)
-this_take-keeps wanted next n left looked found known h =
+-- the pool that holds the address that is wanted, as it was read
+pub record IsHolding (known : Known) (wanted : this.Wanted) (looked : this.Looked) : Type 0 where
+  pub pool : Pool
+  pub was_read : IsKnownPool known pool
+  pub holds : holds_address pool.cidr wanted.address ≡ true
+  pub slot : looked.cidr ≡ this.slot_holding pool wanted.address
+
+this_take-keeps : (wanted : this.Wanted) → IsSoundAdd wanted.request → (next : this.NextRound) → LawfulNext next → (left : Left) (looked : this.Looked) (found : ℕ × block.BlockValue) (known : Known) → IsHolding known wanted looked → IsKnownBlock known looked.cidr (Some found) → holder found.1 (wanted.address.number - looked.cidr.base) ≡ None → Keeps known (this.this_take wanted next left looked found)
+this_take-keeps wanted sound next n left looked found known at h free =
     let ordinal = wanted.address.number - looked.cidr.base in
+    let own : ordinal ≡ wanted.address.number - found.1.cidr.base = ap (λ (x : CidrValue). wanted.address.number - x.base) (sym h.0) in
     followed-keeps (assign wanted.request.attributes (target_in found ordinal) left) (this.this_assigned wanted next looked) known
-    (assign-keeps wanted.request.attributes (target_in found ordinal) left known (own-known known looked.cidr found ordinal h))
+    (assign-keeps wanted.request.attributes (target_in found ordinal) left known (own-known known looked.cidr found ordinal h) sound.attributes
+    (inr (free, at.pool, wanted.address, at.was_read, at.holds, h.0 ∙ at.slot, own)))
     (this_assigned-lawful wanted next n looked)
 
 this_claim-keeps : (wanted : this.Wanted) (next : this.NextRound) → LawfulNext next → (left : Left) (looked : this.Looked) (read : BlockRead) (known : Known) → IsClaimable known wanted.request.node looked.cidr read → Keeps known (this.this_claim wanted next left looked read)
@@ -152,30 +164,59 @@ claimed-nobodys strict node b e = by (is_node node b.node) (is_unowned_and_empty
     by false false n true f = absurd (cc f)
     by false false n false f = absurd (cc f)
 
-this_free-keeps : (wanted : this.Wanted) (next : this.NextRound) → LawfulNext next → (left : Left) (looked : this.Looked) (found : ℕ × block.BlockValue) (known : Known) → IsKnownBlock known looked.cidr (Some found) → Keeps known (this.this_free wanted next left looked found)
-this_free-keeps wanted next n left looked found known h = from (share_of looked.rules.config.strict wanted.request.node found.1) refl
+-- what may be claimed of it
+holding-claimable : (known : Known) (wanted : this.Wanted) (looked : this.Looked) (read : BlockRead) → IsSoundAdd wanted.request → IsHolding known wanted looked → IsKnownBlock known looked.cidr read → IsOwnOrNobodys wanted.request.node read → IsClaimable known wanted.request.node looked.cidr read
+holding-claimable known wanted looked read sound at h own = record {
+  was_read = h;
+  own = own;
+  name = sound.node;
+  slot = (at.pool, at.was_read, inr (wanted.address, at.holds, at.slot));
+}
+
+this_free-keeps : (wanted : this.Wanted) → IsSoundAdd wanted.request → (next : this.NextRound) → LawfulNext next → (left : Left) (looked : this.Looked) (found : ℕ × block.BlockValue) (known : Known) → IsHolding known wanted looked → IsKnownBlock known looked.cidr (Some found) → holder found.1 (wanted.address.number - looked.cidr.base) ≡ None → Keeps known (this.this_free wanted next left looked found)
+this_free-keeps wanted sound next n left looked found known at h free = from (share_of looked.rules.config.strict wanted.request.node found.1) refl
   where
     from : (share : Share) → share_of looked.rules.config.strict wanted.request.node found.1 ≡ share → Keeps known (by_share share (this.this_take wanted next left looked found) (this.this_claim wanted next left looked (Some found)) (goes left (add_this.NotAffine looked.cidr looked.b)))
-    from Takes e = this_take-keeps wanted next n left looked found known h
-    from Claims e = this_claim-keeps wanted next n left looked (Some found) known (h, inl (claimed-nobodys looked.rules.config.strict wanted.request.node found.1 e))
+    from Takes e = this_take-keeps wanted sound next n left looked found known at h free
+    from Claims e =
+        this_claim-keeps wanted next n left looked (Some found) known
+        (holding-claimable known wanted looked (Some found) sound at h (inl (claimed-nobodys looked.rules.config.strict wanted.request.node found.1 e)))
     from Foreign e = (refl, tt)
 
-this_held-keeps : (free : Part AddThisAnswer) (left : Left) (looked : this.Looked) (held : Option Allocation) (known : Known) → Keeps known free → Keeps known (this.this_held free left looked held)
-this_held-keeps free left looked None known f = f
+this_held-keeps : (free : Part AddThisAnswer) (left : Left) (looked : this.Looked) (held : Option Allocation) (known : Known) → (held ≡ None → Keeps known free) → Keeps known (this.this_held free left looked held)
+this_held-keeps free left looked None known f = f refl
 this_held-keeps free left looked (Some held) known f = (refl, tt)
 
-this_block-keeps : (wanted : this.Wanted) (next : this.NextRound) → LawfulNext next → (left : Left) (looked : this.Looked) (read : BlockRead) (known : Known) → IsKnownBlock known looked.cidr read → Keeps known (this.this_block wanted next left looked read)
-this_block-keeps wanted next n left looked None known h = this_claim-keeps wanted next n left looked None known (tt, tt)
-this_block-keeps wanted next n left looked (Some found) known h =
+this_block-keeps : (wanted : this.Wanted) → IsSoundAdd wanted.request → (next : this.NextRound) → LawfulNext next → (left : Left) (looked : this.Looked) (read : BlockRead) (known : Known) → IsHolding known wanted looked → IsKnownBlock known looked.cidr read → Keeps known (this.this_block wanted next left looked read)
+this_block-keeps wanted sound next n left looked None known at h = this_claim-keeps wanted next n left looked None known (holding-claimable known wanted looked None sound at tt tt)
+this_block-keeps wanted sound next n left looked (Some found) known at h =
     this_held-keeps (this.this_free wanted next left looked found) left looked (holder found.1 (wanted.address.number - looked.cidr.base)) known
-    (this_free-keeps wanted next n left looked found known h)
+    (λ free. this_free-keeps wanted sound next n left looked found known at h free)
 
-this_in_pool-lawful : (wanted : this.Wanted) (next : this.NextRound) → LawfulNext next → (left : Left) (rules : this.Rules) (ruled : Option RuledPool) → Lawful (this.this_in_pool wanted next left rules ruled)
-this_in_pool-lawful wanted next n left rules None known = (refl, tt)
-this_in_pool-lawful wanted next n left rules (Some ruled) known = (
+-- the usable pool that holds the address was read
+abbrev IsRead : Known → this.Wanted → Option RuledPool → Type 0
+IsRead known wanted None = Unit {0}
+IsRead known wanted (Some ruled) = IsKnownPool known ruled.pool × (holds_address ruled.pool.cidr wanted.address ≡ true)
+
+usable-read : (known : Known) (wanted : this.Wanted) (said : Said) → ArePoolsKnown known said → IsRead known wanted (usable_pool_of (this.asked_of_this wanted.request wanted.address) wanted.address (map for_all (pools_said said)))
+usable-read known wanted said h = from (usable_pool_of (this.asked_of_this wanted.request wanted.address) wanted.address (map for_all (pools_said said))) refl
+  where
+    both : (a b : Bool) → a && b ≡ true → b ≡ true
+    both true b e = e
+    both false b e = absurd (cc e)
+
+    from : (o : Option RuledPool) → usable_pool_of (this.asked_of_this wanted.request wanted.address) wanted.address (map for_all (pools_said said)) ≡ o → IsRead known wanted o
+    from None e = tt
+    from (Some ruled) e =
+        let (there, passes) = in-find (λ (r : RuledPool). is_usable (this.asked_of_this wanted.request wanted.address) r && holds_address r.pool.cidr wanted.address) ruled (map for_all (pools_said said)) e in
+        (ruled-known known said h ruled there, both (is_usable (this.asked_of_this wanted.request wanted.address) ruled) (holds_address ruled.pool.cidr wanted.address) passes)
+
+this_in_pool-keeps : (wanted : this.Wanted) → IsSoundAdd wanted.request → (next : this.NextRound) → LawfulNext next → (left : Left) (rules : this.Rules) (ruled : Option RuledPool) (known : Known) → IsRead known wanted ruled → Keeps known (this.this_in_pool wanted next left rules ruled)
+this_in_pool-keeps wanted sound next n left rules None known at = (refl, tt)
+this_in_pool-keeps wanted sound next n left rules (Some ruled) known at = (
   refl,
   get-meets Step still Any known idle (key.Block cidr) (λ b said. this.this_block wanted next left (looked b) (block_said said))
-      (λ b store agrees. turn b store (this_block-keeps wanted next n left (looked b) (block_said (reply_to_get (row_of (key.Block cidr) store.rows))) (more known store store) (block-read known store cidr))),
+      (λ b store agrees. turn b store (this_block-keeps wanted sound next n left (looked b) (block_said (reply_to_get (row_of (key.Block cidr) store.rows))) (more known store store) (holding b store) (block-read known store cidr))),
 )
   where
     cidr : CidrValue
@@ -184,13 +225,16 @@ this_in_pool-lawful wanted next n left rules (Some ruled) known = (
     looked : ℕ → this.Looked
     looked b = record { rules = rules; cidr = this.slot_holding ruled.pool wanted.address; b = b }
 
+    holding : (b : ℕ) (store : Datastore) → IsHolding (more known store store) wanted (record { rules = rules; cidr = this.slot_holding ruled.pool wanted.address; b = b })
+    holding b store = record { pool = ruled.pool; was_read = known-pool-grows known (more known store store) ruled.pool (λ k r f there. inl there) at.0; holds = at.1; slot = refl }
+
     turn : (b : ℕ) (store : Datastore) → Keeps (more known store store) (this.this_block wanted next left (record { rules = rules; cidr = this.slot_holding ruled.pool wanted.address; b = b }) (block_said (reply_to_get (row_of (key.Block (this.slot_holding ruled.pool wanted.address)) store.rows))))
         → Step known store store idle (label_to still (this.this_block wanted next left (record { rules = rules; cidr = this.slot_holding ruled.pool wanted.address; b = b }) (block_said (reply_to_get (row_of (key.Block (this.slot_holding ruled.pool wanted.address)) store.rows)))))
         × Steps still (more known store store) (this.this_block wanted next left (record { rules = rules; cidr = this.slot_holding ruled.pool wanted.address; b = b }) (block_said (reply_to_get (row_of (key.Block (this.slot_holding ruled.pool wanted.address)) store.rows))))
     turn b store h = (Idles refl h.0, h.1)
 
-this_round-lawful : (wanted : this.Wanted) (next : this.NextRound) → LawfulNext next → LawfulNext (this.this_round wanted next)
-this_round-lawful wanted next n left known = (
+this_round-lawful : (wanted : this.Wanted) → IsSoundAdd wanted.request → (next : this.NextRound) → LawfulNext next → LawfulNext (this.this_round wanted next)
+this_round-lawful wanted sound next n left known = (
   refl,
   get-meets Step still Any known idle key.Config
       (λ c config. Asks idle (call.Get key.Pools) (λ p pools. this.this_in_pool wanted next left (record { config = config_said config; c = c; p = p }) (usable_pool_of (this.asked_of_this wanted.request wanted.address) wanted.address (map for_all (pools_said pools)))))
@@ -199,15 +243,17 @@ this_round-lawful wanted next n left known = (
         get-meets Step still Any (more known store store) idle key.Pools
             (λ p pools. this.this_in_pool wanted next left (record { config = config_said (reply_to_get (row_of key.Config store.rows)); c = c; p = p }) (usable_pool_of (this.asked_of_this wanted.request wanted.address) wanted.address (map for_all (pools_said pools))))
             (λ p later agrees'.
-            let (label, meets) = this_in_pool-lawful wanted next n left (record { config = config_said (reply_to_get (row_of key.Config store.rows)); c = c; p = p }) (usable_pool_of (this.asked_of_this wanted.request wanted.address) wanted.address (map for_all (pools_said (reply_to_get (row_of key.Pools later.rows))))) (more (more known store store) later later) in
+            let wide = more (more known store store) later later in
+            let said = reply_to_get (row_of key.Pools later.rows) in
+            let (label, meets) = this_in_pool-keeps wanted sound next n left (record { config = config_said (reply_to_get (row_of key.Config store.rows)); c = c; p = p }) (usable_pool_of (this.asked_of_this wanted.request wanted.address) wanted.address (map for_all (pools_said said))) wide (usable-read wide wanted said (pools-read (more known store store) later)) in
             (Idles refl label, meets)),
       )),
 )
 
-add_this-lawful : (request : AddRequest) (address : AddrValue) → Lawful (this.add_this_word request address)
-add_this-lawful request address =
+add_this-lawful : (request : AddRequest) → IsSoundAdd request → (address : AddrValue) → Lawful (this.add_this_word request address)
+add_this-lawful request sound address =
     let wanted : this.Wanted = record { request = request; address = address } in
-    settled-lawful this.add_this_stops (in_rounds (this.this_round wanted) all_left) (rounds-lawful (this.this_round wanted) (this_round-lawful wanted) 126 all_left)
+    settled-lawful this.add_this_stops (in_rounds (this.this_round wanted) all_left) (rounds-lawful (this.this_round wanted) (this_round-lawful wanted sound) 126 all_left)
 
 -- ---- DEL
 
@@ -369,49 +415,49 @@ key-changed (change_of.Unreserve name) said new e = by (list_any (change.is_name
 key-changed (change_of.Config config) said new e = becomes-key (record_of.Config config) new e
 
 -- what was read is still there where the change is written
-admin-done : (known : Known) (request : Admin) (said : Said) (new : Record) → IsReadOf known (change.key_changed request) said → change.changed request said ≡ change.Becomes new → (store : Datastore) → Agrees known store → (r : ℕ) → reply_of store (write_back said new) ≡ Can r → Step known store (store_with (write_of (write_back said new) r) store) idle idle
-admin-done known request said new (inl missing) becomes store agrees r e =
+admin-done : (known : Known) (request : Admin) → IsSoundChange request → (said : Said) (new : Record) → IsReadOf known (change.key_changed request) said → change.changed request said ≡ change.Becomes new → (store : Datastore) → Agrees known store → (r : ℕ) → reply_of store (write_back said new) ≡ Can r → Step known store (store_with (write_of (write_back said new) r) store) idle idle
+admin-done known request sound said new (inl missing) becomes store agrees r e =
     let P : Said → Type 0 = λ s. change.changed request s ≡ change.Becomes new → reply_of store (write_back s new) ≡ Can r → Step known store (store_with (write_of (write_back s new) r) store) idle idle in
     let created : P Missing = λ b f.
     let none = subst (λ (x : Key). row_of x store.rows ≡ None) (key-changed request Missing new b) (create-can store new r f) in
-    Changes request new (can-put store new (call.Create new) r f) refl refl (ap (λ o. change.changed request (reply_to_get o)) none ∙ b) in
+    Changes request new (can-put store new (call.Create new) r f) refl refl (ap (λ o. change.changed request (reply_to_get o)) none ∙ b) sound in
     subst P (sym missing) created becomes e
-admin-done known request said new (inr (revision, found, is, k)) becomes store agrees r e =
+admin-done known request sound said new (inr (revision, found, is, k)) becomes store agrees r e =
     let P : Said → Type 0 = λ s. change.changed request s ≡ change.Becomes new → reply_of store (write_back s new) ≡ Can r → Step known store (store_with (write_of (write_back s new) r) store) idle idle in
     let updated : P (Found revision found) = λ b f.
     let (old, there) = update-can store new revision r f in
     let there' = subst (λ (x : Key). HasAt store x revision old) (key-changed request (Found revision found) new b) there in
     let same = agrees.same (change.key_changed request) revision found old k there' in
     let now : HasAt store (change.key_changed request) revision found = there' ∙ ap (λ (x : Record). Some (revision, x)) (sym same) in
-    Changes request new (can-put store new (call.Update new revision) r f) refl refl (ap (λ o. change.changed request (reply_to_get o)) now ∙ b) in
+    Changes request new (can-put store new (call.Update new revision) r f) refl refl (ap (λ o. change.changed request (reply_to_get o)) now ∙ b) sound in
     subst P (sym is) updated becomes e
 
-admin_write-keeps : (request : Admin) (again : Part AdminAnswer) (left : Left) (said : Said) (changed : change.Changed) → change.changed request said ≡ changed → Lawful again → (known : Known) → IsReadOf known (change.key_changed request) said → Keeps known (change.admin_write again left said changed)
-admin_write-keeps request again left said (change.Refuses number name) is a known read = (refl, tt)
-admin_write-keeps request again left said (change.Becomes new) is a known read = (
+admin_write-keeps : (request : Admin) → IsSoundChange request → (again : Part AdminAnswer) (left : Left) (said : Said) (changed : change.Changed) → change.changed request said ≡ changed → Lawful again → (known : Known) → IsReadOf known (change.key_changed request) said → Keeps known (change.admin_write again left said changed)
+admin_write-keeps request sound again left said (change.Refuses number name) is a known read = (refl, tt)
+admin_write-keeps request sound again left said (change.Becomes new) is a known read = (
   refl,
   write-meets Step step-grows still Any known idle (write_back said new) (λ revision. goes left (admin.Done revision)) again (stops left NoRoom) (stops left NoRevisions) any-lasts
-      (admin-done known request said new read is) (λ other r grows w. tt)
+      (admin-done known request sound said new read is) (λ other r grows w. tt)
       (λ store. Idles refl (a known).0) (a known).1
       (λ store. Idles refl refl) tt (λ store. Idles refl refl) tt,
 )
 
-admin_once-lawful : (request : Admin) (again : Part AdminAnswer) (left : Left) → Lawful again → Lawful (change.admin_once request again left)
-admin_once-lawful request again left a known = (
+admin_once-lawful : (request : Admin) → IsSoundChange request → (again : Part AdminAnswer) (left : Left) → Lawful again → Lawful (change.admin_once request again left)
+admin_once-lawful request sound again left a known = (
   refl,
   get-meets Step still Any known idle (change.key_changed request) (λ moment said. change.admin_write again left said (change.changed request said)) (λ moment store agrees.
       let said = reply_to_get (row_of (change.key_changed request) store.rows) in
-      let (label, meets) = admin_write-keeps request again left said (change.changed request said) refl a (more known store store) (row-read known store (change.key_changed request)) in
+      let (label, meets) = admin_write-keeps request sound again left said (change.changed request said) refl a (more known store store) (row-read known store (change.key_changed request)) in
       (Idles refl label, meets)),
 )
 
-admin_tries-lawful : (request : Admin) (races claims : ℕ) → Lawful (tries (change.admin_once request) races claims)
+admin_tries-lawful : (request : Admin) → IsSoundChange request → (races claims : ℕ) → Lawful (tries (change.admin_once request) races claims)
 unfolding tries
-admin_tries-lawful request zero claims = admin_once-lawful request (stops (left_of zero claims) OutOfTries) (left_of zero claims) (λ known. (refl, tt))
-admin_tries-lawful request (suc races) claims = admin_once-lawful request (tries (change.admin_once request) races claims) (left_of (suc races) claims) (admin_tries-lawful request races claims)
+admin_tries-lawful request sound zero claims = admin_once-lawful request sound (stops (left_of zero claims) OutOfTries) (left_of zero claims) (λ known. (refl, tt))
+admin_tries-lawful request sound (suc races) claims = admin_once-lawful request sound (tries (change.admin_once request) races claims) (left_of (suc races) claims) (admin_tries-lawful request sound races claims)
 
-admin-lawful : (request : Admin) → Lawful (change.admin_word request)
-admin-lawful request = settled-lawful change.admin_stops (retried (change.admin_once request) all_left) (admin_tries-lawful request 63 63)
+admin-lawful : (request : Admin) → IsSoundChange request → Lawful (change.admin_word request)
+admin-lawful request sound = settled-lawful change.admin_stops (retried (change.admin_once request) all_left) (admin_tries-lawful request sound 63 63)
 
 -- ---- all of them
 
@@ -423,13 +469,13 @@ release-lawful node cidr =
 told-lawful : {A : Type 0} → (of_one : A → Answer) (w : Word A) → Lawful w → Lawful (told_as of_one w)
 told-lawful of_one w h = lawful-both w (λ one. Ends (of_one one)) h (λ one known. (refl, tt))
 
-pub word-lawful : (request : Request) → Lawful (word_of request)
+pub word-lawful : (request : Request) → IsSoundRequest request → Lawful (word_of request)
 unfolding word_of
-word-lawful (request_of.Add request) = told-lawful of_add (add.add_word request) (add-lawful request)
-word-lawful (request_of.AddThis request address) = told-lawful of_add_this (this.add_this_word request address) (add_this-lawful request address)
-word-lawful (request_of.Del id) = told-lawful of_del (remove.del_word id) (del-lawful id)
-word-lawful (request_of.Check id addresses) = told-lawful of_check (look.check_word id addresses) (check-lawful id addresses)
-word-lawful (request_of.Release node cidr) = told-lawful of_release (affinities.release node cidr) (release-lawful node cidr)
-word-lawful (request_of.Collect request) = told-lawful of_collect (remove.collect_word request) (collect-lawful request)
-word-lawful (request_of.Admin request) = told-lawful of_admin (change.admin_word request) (admin-lawful request)
-word-lawful (request_of.Probe request) = told-lawful of_probe (look.probe_word request) (probe_each-lawful request [] (families_if request.ipv4 request.ipv6))
+word-lawful (request_of.Add request) sound = told-lawful of_add (add.add_word request) (add-lawful request sound.0)
+word-lawful (request_of.AddThis request address) sound = told-lawful of_add_this (this.add_this_word request address) (add_this-lawful request sound.0 address)
+word-lawful (request_of.Del id) sound = told-lawful of_del (remove.del_word id) (del-lawful id)
+word-lawful (request_of.Check id addresses) sound = told-lawful of_check (look.check_word id addresses) (check-lawful id addresses)
+word-lawful (request_of.Release node cidr) sound = told-lawful of_release (affinities.release node cidr) (release-lawful node cidr)
+word-lawful (request_of.Collect request) sound = told-lawful of_collect (remove.collect_word request) (collect-lawful request)
+word-lawful (request_of.Admin request) sound = told-lawful of_admin (change.admin_word request) (admin-lawful request sound)
+word-lawful (request_of.Probe request) sound = told-lawful of_probe (look.probe_word request) (probe_each-lawful request [] (families_if request.ipv4 request.ipv6))

@@ -24,6 +24,7 @@ use Rattle.ipam_model.specs.Cluster.{Running, Slots, store_with, with_slot, call
 use Rattle.ipam_model.specs.Course.{slot_count}
 use Rattle.ipam_model.specs.History.{Base, Lawful, cluster_at, store_at, slot_of_entry}
 use Rattle.ipam_model.specs.Requests.{word_of}
+use Rattle.ipam_model.specs.SoundRequest.{IsSoundRequest}
 use Rattle.ipam_laws.proofs.Lift.{Known, more, Grows, Agrees, behind, label_to, Meets-grows}
 use Rattle.ipam_laws.proofs.StoreSteps.{StoreStep, Stays, Puts, Removes, store-step, write_told-granted}
 use Rattle.ipam_laws.proofs.OneRecord.{put-found, remove-found, later-same, earlier-below}
@@ -194,8 +195,8 @@ fed-keeps (Ends answer) live known e h = absurd (cc e)
 fed-keeps (Asks label asked next) live known e h = absurd (cc e)
 fed-keeps (Waits next) live known e h = (sym (label-is (next live)) ∙ (h live).0, (h live).1)
 
-begun-label : (request : Request) → label_in (begun request) ≡ idle
-begun-label request = sym (label-is (word_of request)) ∙ (word-lawful request (λ k r f. ⊥)).0
+begun-label : (request : Request) → IsSoundRequest request → label_in (begun request) ≡ idle
+begun-label request sound = sym (label-is (word_of request)) ∙ (word-lawful request sound (λ k r f. ⊥)).0
 
 -- the entry is a step of its slot, and other slots stand where they stood
 pub record Turn (base : Base) (history : List Entry) (new : Entry) : Type 0 where
@@ -214,14 +215,14 @@ entry-keeps base history (entry.Began slot request) sound h i = (
   λ other r e. elim (changed-slot (cluster_at base history).slots slot (begun request) other r e) [
     | inl own ↦
         let same : record { request = request; word = word_of request } ≡ r = cc own.1 in
-        subst (λ (x : Running). Steps still (known_at base (entry.Began slot request ∷ history)) x.word) same (word-lawful request (known_at base (entry.Began slot request ∷ history))).1
+        subst (λ (x : Running). Steps still (known_at base (entry.Began slot request ∷ history)) x.word) same (word-lawful request h.1.sound (known_at base (entry.Began slot request ∷ history))).1
     | inr stays ↦ keep-others base history (entry.Began slot request) i other r stays
   ],
   record {
     below = h.1.turn.slot_exists;
     reached = idle;
     step = Idles refl refl;
-    now = inl (ap label_in (own-slot slot (begun request) (cluster_at base history).slots) ∙ begun-label request);
+    now = inl (ap label_in (own-slot slot (begun request) (cluster_at base history).slots) ∙ begun-label request h.1.sound);
     others = λ other differ. ap label_in (other-slot slot other (begun request) (cluster_at base history).slots differ);
   },
 )

@@ -17,6 +17,7 @@ use Rattle.ipam_records.specs.declared.call.Write.TheVariants.{Put}
 use Rattle.ipam_records.specs.Datastore.{Datastore, reply_of, reply_to_get, row_of, written, write_of}
 use Rattle.ipam_records.specs.Key.{key_of}
 use Rattle.ipam_records.specs.Label.{idle, owing}
+use Rattle.ipam_records.specs.Sound.{AreAttributes}
 use Rattle.ipam_records.specs.Said.{Found, Can}
 use Rattle.ipam_records.specs.Word.{Word, Ends, Asks}
 use Rattle.ipam_model.specs.declared.outcome.ClaimAnswer.TheVariants as claimed
@@ -33,7 +34,7 @@ use Rattle.ipam_model.specs.Step.{Left, left_of, Part, OutOfTries, NoRoom, NoRev
 use Rattle.ipam_laws.proofs.Lift.{Known, more, Grows, Agrees, label_to}
 use Rattle.ipam_laws.proofs.StoreSteps.{can-next}
 use Rattle.ipam_laws.proofs.Calls.{found-key, found-block, create-can, update-can, delete-can, can-put, can-remove, get-meets, write-meets, write-meets-at}
-use Rattle.ipam_laws.proofs.Steps.{IsKnownBlock, IsOwnOrNobodys, IsAsRead, HasAffinityAt, OwnPicks, at_claiming, at_claimed, at_releasing, at_released, Step, Idles, Finds, Starts, Takes, Confirms, Marks, Looks, Bares, Deletes, Frees, Assigns, known-block-grows, step-grows}
+use Rattle.ipam_laws.proofs.Steps.{IsKnownBlock, IsClaimable, IsMarked, IsFree, claimable-grows, IsAsRead, HasAffinityAt, OwnPicks, at_claiming, at_claimed, at_releasing, at_released, Step, Idles, Finds, Starts, Takes, Confirms, Marks, Looks, Bares, Deletes, Frees, Assigns, known-block-grows, step-grows}
 use Rattle.ipam_laws.proofs.PartSteps.{Any, still, Steps, any-lasts, GoesOn, goes-on, lowered-steps}
 
 -- ---- blocks that were read
@@ -91,13 +92,6 @@ affinity-read store tie = from (row_of (key.Affinity tie.node tie.block) store.r
 
 -- ---- a claim
 
--- the block was read as known, with the node or with none
-abbrev pub IsClaimable : Known → List ℕ → CidrValue → BlockRead → Type 0
-IsClaimable known node cidr read = IsKnownBlock known cidr read × IsOwnOrNobodys node read
-
-claimable-grows : (known other : Known) (node : List ℕ) (cidr : CidrValue) (read : BlockRead) → Grows known other → IsClaimable known node cidr read → IsClaimable other node cidr read
-claimable-grows known other node cidr read grows h = (known-block-grows known other cidr read grows h.0, h.1)
-
 claim_confirm-steps : (known : Known) (tie : Tie) (kept : ℕ) → Steps still known (affinities.claim_confirm tie.node tie.block kept)
 claim_confirm-steps known tie kept =
     let new = record_of.Affinity (affinity tie.node tie.block Confirmed) in
@@ -112,11 +106,11 @@ claim-taken : (known : Known) (tie : Tie) (read : BlockRead) (kept : ℕ) → Is
     → Step known store (store_with (write_of (affinities.claiming tie.node tie.block read) r) store) (at_claiming tie read kept) (at_claimed tie kept)
 claim-taken known tie None kept h store agrees r e =
     let new = record_of.Block (fresh_block tie.block (Some tie.node)) in
-    Takes tie None kept (can-put store new (call.Create new) r e) refl refl (create-can store new r e) h.1
+    Takes tie None kept (can-put store new (call.Create new) r e) refl refl (create-can store new r e) h
 claim-taken known tie (Some (revision, b)) kept h store agrees r e =
     let new = affine_to (Some tie.node) (next_block b) in
     Takes tie (Some (revision, b)) kept (can-put store (record_of.Block new) (call.Update (record_of.Block new) revision) r e) refl refl
-    (update-as_read known store tie.block (revision, b) new r refl agrees h.0 e) h.1
+    (update-as_read known store tie.block (revision, b) new r refl agrees h.was_read e) h
 
 claim_block-steps : (known : Known) (tie : Tie) (read : BlockRead) (kept : ℕ) → IsClaimable known tie.node tie.block read → Steps still known (affinities.claim_block tie.node tie.block read kept)
 claim_block-steps known tie read kept h =
@@ -136,12 +130,12 @@ claim-started known tie read asked (inl is) h store r e =
     let new = record_of.Affinity (affinity tie.node tie.block Pending) in
     let next = can-next store asked r e in
     let put = ap (λ (x : Call). store_with (write_of x r) store) is ∙ ap (λ (n : ℕ). written store (Put n new)) next in
-    Starts tie read put refl (ap (at_claiming tie read) next) h.0 h.1
+    Starts tie read put refl (ap (at_claiming tie read) next) h
 claim-started known tie read asked (inr (revision, is)) h store r e =
     let new = record_of.Affinity (affinity tie.node tie.block Pending) in
     let next = can-next store asked r e in
     let put = ap (λ (x : Call). store_with (write_of x r) store) is ∙ ap (λ (n : ℕ). written store (Put n new)) next in
-    Starts tie read put refl (ap (at_claiming tie read) next) h.0 h.1
+    Starts tie read put refl (ap (at_claiming tie read) next) h
 
 claim_first-steps : (known : Known) (tie : Tie) (read : BlockRead) (asked : Call) → IsFirstWrite tie asked → IsClaimable known tie.node tie.block read → Steps still known (Asks idle asked (λ moment said. affinities.on_claim_write said (affinities.claim_block tie.node tie.block read)))
 claim_first-steps known tie read asked is h =
@@ -155,8 +149,8 @@ claim_kept-steps : (known : Known) (tie : Tie) (read : BlockRead) (revision : �
     → Step known store store idle (label_to still (affinities.claim_kept tie.node tie.block read revision state)) × Steps still known (affinities.claim_kept tie.node tie.block read revision state)
 unfolding IsFirstWrite
 claim_kept-steps known tie read revision PendingDeletion store there h = (Idles refl refl, claim_first-steps known tie read (call.Update (record_of.Affinity (affinity tie.node tie.block Pending)) revision) (inr (revision, refl)) h)
-claim_kept-steps known tie read revision Pending store there h = (Finds tie read revision Pending refl refl refl there (λ e. cc e) h.0 h.1, claim_block-steps known tie read revision h)
-claim_kept-steps known tie read revision Confirmed store there h = (Finds tie read revision Confirmed refl refl refl there (λ e. cc e) h.0 h.1, claim_block-steps known tie read revision h)
+claim_kept-steps known tie read revision Pending store there h = (Finds tie read revision Pending refl refl refl there (λ e. cc e) h, claim_block-steps known tie read revision h)
+claim_kept-steps known tie read revision Confirmed store there h = (Finds tie read revision Confirmed refl refl refl there (λ e. cc e) h, claim_block-steps known tie read revision h)
 
 claim_found-steps : (known : Known) (tie : Tie) (read : BlockRead) (found : Option (ℕ × Affinity)) (store : Datastore) → IsThere store tie found → IsClaimable known tie.node tie.block read
     → Step known store store idle (label_to still (affinities.claim_found tie.node tie.block read found)) × Steps still known (affinities.claim_found tie.node tie.block read found)
@@ -194,26 +188,22 @@ release_delete-steps known tie again left mark a =
     (λ other r grows w. tt)
     (λ store. Idles refl a.1) (a.0 known) (λ store. Idles refl refl) tt (λ store. Idles refl refl) tt
 
-release-bared : (known : Known) (tie : Tie) (read : BlockRead) (mark : ℕ) → IsKnownBlock known tie.block read → (store : Datastore) → Agrees known store → (r : ℕ) → reply_of store (affinities.baring tie.node tie.block read) ≡ Can r
+release-bared : (known : Known) (tie : Tie) (read : BlockRead) (mark : ℕ) → IsKnownBlock known tie.block read → IsMarked known tie mark → (store : Datastore) → Agrees known store → (r : ℕ) → reply_of store (affinities.baring tie.node tie.block read) ≡ Can r
     → Step known store (store_with (write_of (affinities.baring tie.node tie.block read) r) store) (at_releasing tie read mark) (at_released tie mark)
-release-bared known tie None mark h store agrees r e =
+release-bared known tie None mark h k store agrees r e =
     let new = record_of.Block (fresh_block tie.block None) in
-    Bares tie None mark (can-put store new (call.Create new) r e) refl refl (create-can store new r e)
-release-bared known tie (Some (revision, b)) mark h store agrees r e =
+    Bares tie None mark (can-put store new (call.Create new) r e) refl refl (create-can store new r e) k
+release-bared known tie (Some (revision, b)) mark h k store agrees r e =
     let new = affine_to (affinities.other_node tie.node b.node) (next_block b) in
     Bares tie (Some (revision, b)) mark (can-put store (record_of.Block new) (call.Update (record_of.Block new) revision) r e) refl refl
-    (update-as_read known store tie.block (revision, b) new r refl agrees h e)
+    (update-as_read known store tie.block (revision, b) new r refl agrees h e) k
 
-release_block-steps : (known : Known) (tie : Tie) (again : Part ReleaseAnswer) (left : Left) (mark : ℕ) (read : BlockRead) → Tries again → IsKnownBlock known tie.block read → Steps still known (affinities.release_block tie again left mark read)
-release_block-steps known tie again left mark read a h =
+release_block-steps : (known : Known) (tie : Tie) (again : Part ReleaseAnswer) (left : Left) (mark : ℕ) (read : BlockRead) → Tries again → IsKnownBlock known tie.block read → IsMarked known tie mark → Steps still known (affinities.release_block tie again left mark read)
+release_block-steps known tie again left mark read a h k =
     write-meets Step step-grows still Any known (at_releasing tie read mark) (affinities.baring tie.node tie.block read) (λ revision. affinities.release_delete tie again left mark) again (stops left NoRoom) (stops left NoRevisions) any-lasts
-    (release-bared known tie read mark h)
+    (release-bared known tie read mark h k)
     (λ other r grows w. release_delete-steps other tie again left mark a)
     (λ store. Idles refl a.1) (a.0 known) (λ store. Idles refl refl) tt (λ store. Idles refl refl) tt
-
--- the affinity is known to have been marked
-abbrev IsMarked : Known → Tie → (mark : ℕ) → Type 0
-IsMarked known tie mark = known (key.Affinity tie.node tie.block) mark (record_of.Affinity (affinity tie.node tie.block PendingDeletion))
 
 marked-there : (known : Known) (tie : Tie) (mark : ℕ) (found : Option (ℕ × Affinity)) (store : Datastore) → Agrees known store → IsMarked known tie mark → IsThere store tie found → affinities.is_at_mark mark found ≡ true → HasAffinityAt store tie mark PendingDeletion
 marked-there known tie mark None store agrees k there e = absurd (cc e)
@@ -223,10 +213,10 @@ marked-there known tie mark (Some (revision, a)) store agrees k there e =
     let is = agrees.same (key.Affinity tie.node tie.block) mark (record_of.Affinity (affinity tie.node tie.block PendingDeletion)) (record_of.Affinity (affinity tie.node tie.block a.state)) k at_mark in
     at_mark ∙ ap (λ (x : Record). Some (mark, x)) (sym is)
 
-release_marked-steps : (known other : Known) (tie : Tie) (again : Part ReleaseAnswer) (left : Left) (mark : ℕ) (read : BlockRead) (same : Bool) (store : Datastore) → Tries again → IsKnownBlock known tie.block read → IsKnownBlock other tie.block read → (same ≡ true → HasAffinityAt store tie mark PendingDeletion)
+release_marked-steps : (known other : Known) (tie : Tie) (again : Part ReleaseAnswer) (left : Left) (mark : ℕ) (read : BlockRead) (same : Bool) (store : Datastore) → Tries again → IsKnownBlock known tie.block read → IsKnownBlock other tie.block read → IsMarked other tie mark → (same ≡ true → HasAffinityAt store tie mark PendingDeletion)
     → Step known store store idle (label_to still (cond same (affinities.release_block tie again left mark read) again)) × Steps still other (cond same (affinities.release_block tie again left mark read) again)
-release_marked-steps known other tie again left mark read true store a h h' there = (Looks tie read mark refl refl refl (there refl) h, release_block-steps other tie again left mark read a h')
-release_marked-steps known other tie again left mark read false store a h h' there = (Idles refl a.1, a.0 other)
+release_marked-steps known other tie again left mark read true store a h h' k there = (Looks tie read mark refl refl refl (there refl) h, release_block-steps other tie again left mark read a h' k)
+release_marked-steps known other tie again left mark read false store a h h' k there = (Idles refl a.1, a.0 other)
 
 release_look-steps : (known : Known) (tie : Tie) (again : Part ReleaseAnswer) (left : Left) (mark : ℕ) → Tries again → IsMarked known tie mark → Steps still known (affinities.release_look tie again left mark)
 release_look-steps known tie again left mark a k =
@@ -243,7 +233,7 @@ release_look-steps known tie again left mark a k =
         let found = affinity_said (reply_to_get (row_of (key.Affinity tie.node tie.block) later.rows)) in
         let here = block-read known store tie.block in
         release_marked-steps (more known store store) (more (more known store store) later later) tie again left mark read (affinities.is_at_mark mark found) later a here
-        (known-block-grows (more known store store) (more (more known store store) later later) tie.block read (λ k r f there. inl there) here)
+        (known-block-grows (more known store store) (more (more known store store) later later) tie.block read (λ k r f there. inl there) here) (inl (inl k))
         (marked-there (more known store store) tie mark found later agrees (inl k) (affinity-read later tie)))
 
 release_found-steps : (known : Known) (tie : Tie) (again : Part ReleaseAnswer) (left : Left) (moment : ℕ) (found : Option (ℕ × Affinity)) → Tries again → (label_to still (affinities.release_found tie again left moment found) ≡ idle) × Steps still known (affinities.release_found tie again left moment found)
@@ -252,7 +242,9 @@ release_found-steps known tie again left moment (Some (revision, found)) a =
     let new = record_of.Affinity (affinity tie.node tie.block PendingDeletion) in (
       refl,
       write-meets Step step-grows still Any known idle (call.Update new revision) (affinities.release_look tie again left) again (stops left NoRoom) (stops left NoRevisions) any-lasts
-          (λ store agrees r e. Marks tie (can-put store new (call.Update new revision) r e) refl refl)
+          (λ store agrees r e.
+          let (old, there) = update-can store new revision r e in
+          Marks tie revision old (can-put store new (call.Update new revision) r e) refl refl there)
           (λ other r grows w. release_look-steps other tie again left r a w)
           (λ store. Idles refl a.1) (a.0 known) (λ store. Idles refl refl) tt (λ store. Idles refl refl) tt,
     )
@@ -330,15 +322,15 @@ assign_lost-steps attributes target (suc races) claims known =
     let (label, steps) = lowered-steps {A = Option Assigned} (credit_of attributes.handle target.block.cidr 1) (left_of races claims) None known in
     (inr label, steps)
 
-pub assign_block-steps : (known : Known) (attributes : Attributes) (target : Target) (left : Left) → known (key.Block target.block.cidr) target.revision (record_of.Block target.block) → Steps still known (assign_block attributes target left)
-assign_block-steps known attributes target left k =
+pub assign_block-steps : (known : Known) (attributes : Attributes) (target : Target) (left : Left) → known (key.Block target.block.cidr) target.revision (record_of.Block target.block) → AreAttributes attributes → IsFree known target → Steps still known (assign_block attributes target left)
+assign_block-steps known attributes target left k sound free =
     let credit = credit_of attributes.handle target.block.cidr 1 in
     let new = assigned (next_block target.block) target.ordinal attributes in
     let (label, lost) = assign_lost-steps attributes target left.races left.claims known in
     write-meets-at Step step-grows still Any known (owing credit) (call.Update (record_of.Block new) target.revision) (λ moment taken. goes left (Some (record { moment = moment; stamp = target.block.sequence + 1 }))) (assign_lost attributes target left) (stops left NoRoom) (stops left NoRevisions) any-lasts
     (λ moment store agrees r f.
     let there = update-as_read known store target.block.cidr (target.revision, target.block) new r refl agrees (refl, k) f in
-    Assigns attributes target (can-put store (record_of.Block new) (call.Update (record_of.Block new) target.revision) r f) refl refl there.1)
+    Assigns attributes target (can-put store (record_of.Block new) (call.Update (record_of.Block new) target.revision) r f) refl refl there.1 sound free)
     (λ moment other r grows w. tt)
     (λ store. goes-on known store credit (label_to still (assign_lost attributes target left)) label) lost
     (λ store. Idles refl refl) tt (λ store. Idles refl refl) tt
