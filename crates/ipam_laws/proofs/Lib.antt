@@ -3,11 +3,12 @@ pub mod Within
 pub mod PartBounds
 pub mod AddBounds
 pub mod RequestBounds
+pub mod Members
+pub mod RowOrder
 pub mod StoreSteps
 pub mod OneRecord
 pub mod Lift
 pub mod Calls
-pub mod Members
 pub mod Steps
 pub mod PartSteps
 pub mod WriteSteps

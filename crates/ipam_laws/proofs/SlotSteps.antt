@@ -41,11 +41,11 @@ ArePositive store = (key : Key) (revision : ℕ) (found : Record) → HasAt stor
 step-positive : (store next : Datastore) → StoreStep store next → ArePositive store → ArePositive next
 unfolding ArePositive
 step-positive store next (Stays e) h = subst (λ (s : Datastore). ArePositive s) (sym e) h
-step-positive store next (Puts new e) h = subst (λ (s : Datastore). ArePositive s) (sym e) (λ key revision found f. elim (put-found store (store.counter + 1) new key revision found f) [
+step-positive store next (Puts new e left place) h = subst (λ (s : Datastore). ArePositive s) (sym e) (λ key revision found f. elim (put-found store (store.counter + 1) new key revision found f) [
   | inl is ↦ omega (arith, is.1)
   | inr old ↦ h key revision found old
 ])
-step-positive store next (Removes gone e) h = subst (λ (s : Datastore). ArePositive s) (sym e) (λ key revision found f. h key revision found (remove-found store (store.counter + 1) gone key revision found f))
+step-positive store next (Removes gone e left) h = subst (λ (s : Datastore). ArePositive s) (sym e) (λ key revision found f. h key revision found (remove-found store (store.counter + 1) gone key revision found f))
 
 history-positive : (base : Base) (history : List Entry) → IsDatastore base.store → Lawful base history → ArePositive (store_at base history)
 unfolding Lawful cluster_at ArePositive
