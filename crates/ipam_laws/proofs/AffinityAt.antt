@@ -13,8 +13,6 @@ use Rattle.ipam_records.specs.Datastore.{Datastore, reply_to_get, row_of, writte
 use Rattle.ipam_records.specs.Key.{key_of}
 use Rattle.ipam_records.specs.Label.{Label, Point, Claiming, Claimed, Releasing, Released}
 use Rattle.ipam_records.proofs.DatastoreLemmas.{row_of-with_row, row_of-with_row-other, row_of-without_row, row_of-without_row-other}
-use Rattle.ipam_model.specs.declared.request.Admin.{Admin}
-use Rattle.ipam_model.specs.declared.request.Admin.TheVariants as change_of
 use Rattle.ipam_model.specs.Admin.{key_changed}
 use Rattle.ipam_model.specs.Affinities.{BlockRead, Tie, affinity, other_node, revision_read}
 use Rattle.ipam_model.specs.AffinityLaw.{HasAt, IsBlockCurrent, IsAffinityCurrent}
@@ -22,7 +20,7 @@ use Rattle.ipam_model.specs.Moments.{revision_of}
 use Rattle.ipam_model.specs.Reads.{Row}
 use Rattle.ipam_laws.proofs.Lift.{Known}
 use Rattle.ipam_laws.proofs.OneRecord.{key_cases}
-use Rattle.ipam_laws.proofs.RequestSteps.{key-changed}
+use Rattle.ipam_laws.proofs.RequestSteps.{IsSetting, changed-setting}
 use Rattle.ipam_laws.proofs.Steps.{IsAsRead, IsOwnOrNobodys, IsPut, taken, bared, Step, Idles, Owes, Finds, Starts, Takes, Confirms, Marks, Looks, Bares, Deletes, Raises, Lowers, LowersOut, Frees, Assigns, Changes}
 
 -- ---- a block's node, and an affinity's state
@@ -118,26 +116,11 @@ beside-at store next from node cidr b a = Stays (ap node_in_row b) (ap state_in_
 same-at : (store next : Datastore) (from : Point) (node : List ℕ) (cidr : CidrValue) → next ≡ store → At store next from node cidr
 same-at store next from node cidr e = beside-at store next from node cidr (ap (λ (s : Datastore). row_of (key.Block cidr) s.rows) e) (ap (λ (s : Datastore). row_of (key.Affinity node cidr) s.rows) e)
 
-abbrev IsSetting : Key → Type 0
-IsSetting key.Config = Unit {0}
-IsSetting key.Pools = Unit {0}
-IsSetting key.Reservations = Unit {0}
-IsSetting (key.Block cidr) = ⊥
-IsSetting (key.Affinity node cidr) = ⊥
-IsSetting (key.Handle id) = Unit {0}
-
 setting-at : (store next : Datastore) (from : Point) (node : List ℕ) (cidr : CidrValue) (new : Record) → IsPut store next new → IsSetting (key_of new) → At store next from node cidr
 setting-at store next from node cidr new e setting =
     beside-at store next from node cidr
     (put-beside store next new (key.Block cidr) e (λ f. subst (λ (k : Key). IsSetting k) f setting))
     (put-beside store next new (key.Affinity node cidr) e (λ f. subst (λ (k : Key). IsSetting k) f setting))
-
-setting-changed : (request : Admin) → IsSetting (key_changed request)
-setting-changed (change_of.Pool pool) = tt
-setting-changed (change_of.Disable name disabled) = tt
-setting-changed (change_of.Reserve new) = tt
-setting-changed (change_of.Unreserve name) = tt
-setting-changed (change_of.Config config) = tt
 
 set-at : (store next : Datastore) (from : Point) (node : List ℕ) (cidr : CidrValue) (tie : Tie) (state : State) → state ≢ Confirmed → IsPut store next (record_of.Affinity (affinity tie.node tie.block state)) → At store next from node cidr
 set-at store next from node cidr tie state other e =
@@ -260,4 +243,4 @@ step-at known store next label after (Frees what amount revision b s t u v w x y
     touch-at store next label.point node cidr revision b _ s (subst (λ (z : CidrValue). HasAt store (key.Block z) revision (record_of.Block b)) (sym w) v) refl refl
 step-at known store next label after (Assigns attributes target a b c d e f) node cidr = touch-at store next label.point node cidr target.revision target.block _ a d refl refl
 step-at known store next label after (Changes request new a b c d e) node cidr =
-    setting-at store next label.point node cidr new a (subst (λ (k : Key). IsSetting k) (sym (key-changed request (reply_to_get (row_of (key_changed request) store.rows)) new d)) (setting-changed request))
+    setting-at store next label.point node cidr new a (changed-setting request (reply_to_get (row_of (key_changed request) store.rows)) new d)

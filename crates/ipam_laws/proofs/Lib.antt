@@ -40,3 +40,9 @@ pub mod AffinityAt
 pub mod AffinityHolds
 pub mod AffinityArrivals
 pub mod AffinityHistory
+pub mod SoundBlocks
+pub mod SoundHandles
+pub mod SoundSettings
+pub mod SoundSteps
+pub mod SoundHistory
+pub mod SlotsHistory

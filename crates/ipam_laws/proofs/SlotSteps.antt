@@ -55,7 +55,7 @@ history-positive base (new ∷ history) sound h = step-positive (store_at base h
 -- ---- what is known of a history
 
 -- the rows of all its stores
-pub known_at : Base → List Entry → Known
+unfoldable pub known_at : Base → List Entry → Known
 known_at base [] = λ key revision found. HasAt base.store key revision found
 known_at base (new ∷ history) = more (known_at base history) (store_at base history) (store_at base (new ∷ history))
 

@@ -34,7 +34,7 @@ use Rattle.ipam_model.specs.Add.{five_reads, Round}
 use Rattle.ipam_model.specs.Affinities.{BlockRead, claim}
 use Rattle.ipam_model.specs.AffinityLaw.{HasAt}
 use Rattle.ipam_model.specs.Assigning.{Target, target_in, assign, assign_block, after_claim, claim_for}
-use Rattle.ipam_model.specs.Choice.{Ranked, Candidate, IsBest, FirstCandidate, chosen, choice_in, choice_of, is_reserved, Seen, is_block_at, block_in_found, block_at, is_node, is_unowned_and_empty, is_confirmed_for, may_claim, room_of, has_free_address, Rank, Own, Unconfirmed, Unclaimed, Foreign, rank_of_block, rank_at, Pick, Unknown, Lacks, Picks, pick_of}
+use Rattle.ipam_model.specs.Choice.{Ranked, IsBest, chosen, choice_in, choice_of, is_reserved, Seen, is_block_at, block_in_found, block_at, is_node, is_unowned_and_empty, is_confirmed_for, may_claim, room_of, has_free_address, Rank, Own, Unconfirmed, Unclaimed, Foreign, rank_of_block, rank_at, Pick, Unknown, Lacks, Picks, pick_of}
 use Rattle.ipam_model.proofs.ChoiceLemmas.{choice_is, pick-ranked}
 use Rattle.ipam_model.specs.Counting.{raise}
 use Rattle.ipam_model.specs.Reads.{Row, config_said, pools_said, reservations_said, rows_said}
@@ -372,9 +372,11 @@ picked-slot asked seen found e = by (unknown_name asked seen.pools) (choice_is a
     by None (inr (first, is)) =
         let best = first.best.ranked in
         let slots : Some best.slot ≡ Some found.slot = sym (chosen-slot best.slot best.rank) ∙ (sym (ap slot_in is) ∙ chosen_is) in
-        let same : best.slot ≡ found.slot = cc slots in
-        (first.candidate.ruled, in-place seen.pools first.best.place first.candidate.ruled first.candidate.at_place,
-        record { number = first.best.number; within = first.candidate.within; is = sym same ∙ first.candidate.is_slot })
+        let same : best.slot ≡ found.slot = cc slots in (
+          first.candidate.ruled,
+          in-place seen.pools first.best.place first.candidate.ruled first.candidate.at_place,
+          record { number = first.best.number; within = first.candidate.within; is = sym same ∙ first.candidate.is_slot },
+        )
 
 -- ---- one family, round by round
 

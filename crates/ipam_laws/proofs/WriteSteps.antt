@@ -31,7 +31,7 @@ use Rattle.ipam_model.specs.Cluster.{store_with}
 use Rattle.ipam_model.specs.Counting.{lower, Freeing, free, free_once, free_found, free_these, credit_of}
 use Rattle.ipam_model.specs.Reads.{affinity_said, block_said}
 use Rattle.ipam_model.specs.Step.{Left, left_of, Part, OutOfTries, NoRoom, NoRevisions, goes, stops, followed, tries, retried}
-use Rattle.ipam_laws.proofs.Lift.{Known, more, Grows, Agrees, label_to}
+use Rattle.ipam_laws.proofs.Lift.{Known, more, Agrees, label_to}
 use Rattle.ipam_laws.proofs.StoreSteps.{can-next}
 use Rattle.ipam_laws.proofs.Calls.{found-key, found-block, create-can, update-can, delete-can, can-put, can-remove, get-meets, write-meets, write-meets-at}
 use Rattle.ipam_laws.proofs.Steps.{IsKnownBlock, IsClaimable, IsMarked, IsFree, claimable-grows, IsAsRead, HasAffinityAt, OwnPicks, at_claiming, at_claimed, at_releasing, at_released, Step, Idles, Finds, Starts, Takes, Confirms, Marks, Looks, Bares, Deletes, Frees, Assigns, known-block-grows, step-grows}

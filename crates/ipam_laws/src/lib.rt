@@ -10,4 +10,5 @@ pub mod courses;
 pub mod datastore;
 pub mod faults;
 pub mod opening;
+pub mod records;
 pub mod stands;
