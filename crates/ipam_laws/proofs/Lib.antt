@@ -46,3 +46,4 @@ pub mod SoundSettings
 pub mod SoundSteps
 pub mod SoundHistory
 pub mod SlotsHistory
+pub mod OwnersOrder

@@ -1,5 +1,5 @@
 -- Members of a list.
-use Rattle.std.proofs.Common.{◌≡◌, ℕ, zero, suc, ◌⊎◌, inl, inr, Bool, true, false, cond, List, [], ◌∷◌, ◌++◌, map, Some, refl, sym, ap, ◌∙◌, subst, arith}
+use Rattle.std.proofs.Common.{◌≡◌, ℕ, zero, suc, ◌⊎◌, inl, inr, Bool, true, false, cond, List, [], ◌∷◌, map, Some, refl, sym, ap, ◌∙◌, subst, arith}
 use Rattle.std.specs.Prelude.{Contains, slice_get}
 use Rattle.std.specs.List.{find}
 
@@ -44,10 +44,3 @@ pub in-place : {X : Type 0} → (xs : List X) (k : ℕ) (x : X) → slice_get xs
 in-place [] k x e = absurd (cc e)
 in-place (y ∷ ys) zero x e = let same : y ≡ x = cc e in subst (λ z. Contains (y ∷ ys) z) same (in-here y ys)
 in-place (y ∷ ys) (suc k) x e = in-there x y ys (in-place ys k x e)
-
-pub in-left : {X : Type 0} → (x : X) (xs ys : List X) → Contains xs x → Contains (xs ++ ys) x
-in-left x [] ys h = absurd (in-nothing x h)
-in-left x (z ∷ zs) ys h = elim (in-cons x z zs h) [
-  | inl is ↦ subst (λ w. Contains (z ∷ (zs ++ ys)) w) is (in-here z (zs ++ ys))
-  | inr rest ↦ in-there x z (zs ++ ys) (in-left x zs ys rest)
-]

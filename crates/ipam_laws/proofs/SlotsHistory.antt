@@ -3,6 +3,7 @@
 use Rattle.std.proofs.Common.{◌≡◌, ◌≢◌, ℕ, ◌+◌, inl, inr, Bool, true, false, cond, List, [], ◌∷◌, ◌++◌, Option, Some, None, refl, sym, ap, ◌∙◌, subst}
 use Rattle.std.specs.Prelude.{Contains}
 use Rattle.std.specs.List.{list_any}
+use Rattle.std.proofs.lemmas.List.Elements.{Contains-append_left}
 use Rattle.ipam_addr.specs.Shape.{CidrValue}
 use Rattle.ipam_pool.specs.declared.pools.Pool.{Pool}
 use Rattle.ipam_pool.specs.declared.pools.PoolRefusal.{PoolRefusal}
@@ -26,7 +27,7 @@ use Rattle.ipam_model.specs.AffinityLaw.{HasAt}
 use Rattle.ipam_model.specs.Consistent.{pools_in, pools_in_row, cidr_named, IsSlotOfSome, LiesAtSlots, SlotsLaw, ConsistentLaw}
 use Rattle.ipam_model.specs.History.{Base, Lawful, cluster_at, store_at, slot_of_entry}
 use Rattle.ipam_model.specs.Reads.{Row, pools_said}
-use Rattle.ipam_laws.proofs.Members.{in-map, in-left}
+use Rattle.ipam_laws.proofs.Members.{in-map}
 use Rattle.ipam_laws.proofs.Lift.{Known}
 use Rattle.ipam_laws.proofs.Calls.{found-key}
 use Rattle.ipam_laws.proofs.OneRecord.{put-found, remove-found}
@@ -52,7 +53,7 @@ covers-itself pools cidr h = h
 
 covers-pushed : (pools : List Pool) (pool : Pool) → Covers pools (pools ++ pool ∷ [])
 unfolding Covers
-covers-pushed pools pool cidr (p, among, at) = (p, in-left p pools (pool ∷ []) among, at)
+covers-pushed pools pool cidr (p, among, at) = (p, Contains-append_left pools (pool ∷ []) p among, at)
 
 -- a pool that is disabled or enabled has the same slots
 covers-disabled : (name : List ℕ) (disabled : Bool) (pools : List Pool) → Covers pools (with_disabled name disabled pools)

@@ -10,5 +10,6 @@ pub mod courses;
 pub mod datastore;
 pub mod faults;
 pub mod opening;
+pub mod owners;
 pub mod records;
 pub mod stands;
