@@ -58,13 +58,13 @@ has-state store node cidr state e = from (row_of (key.Affinity node cidr) store.
         let state_is : a.state ≡ state = cc states in
         (revision, is ∙ ap (λ (x : Record). Some (revision, x)) (same ∙ ap record_of.Affinity (whole ∙ ap (affinity node cidr) state_is)))
 
-agreeing-of : (store : Datastore) → AgreesWithAffinities store → Agreeing store
+pub agreeing-of : (store : Datastore) → AgreesWithAffinities store → Agreeing store
 agreeing-of store h = record {
   of_block = λ node cidr e. let (state, there) = h.of_block cidr node (has-node store cidr node e) in (state, state-has store node cidr state there);
   of_affinity = λ node cidr e. node-has store cidr node (h.of_affinity cidr node (has-state store node cidr Confirmed e));
 }
 
-of-agreeing : (store : Datastore) → Agreeing store → AgreesWithAffinities store
+pub of-agreeing : (store : Datastore) → Agreeing store → AgreesWithAffinities store
 of-agreeing store h = record {
   of_block = λ cidr node there. let (state, e) = h.of_block node cidr (node-has store cidr node there) in (state, has-state store node cidr state e);
   of_affinity = λ cidr node there. has-node store cidr node (h.of_affinity node cidr (state-has store node cidr Confirmed there));

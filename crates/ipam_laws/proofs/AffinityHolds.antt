@@ -199,7 +199,7 @@ other-stays by node differ = from (bytes_eq node by) refl
     from true is = absurd (differ (sym ((bytes_eq-Decides node by).0 is)))
     from false is = refl
 
-same_or_other : (one other : List ℕ) → (one ≡ other) ⊎ (one ≢ other)
+pub same_or_other : (one other : List ℕ) → (one ≡ other) ⊎ (one ≢ other)
 same_or_other one other = from (bytes_eq one other) refl
   where
     from : (b : Bool) → bytes_eq one other ≡ b → (one ≡ other) ⊎ (one ≢ other)

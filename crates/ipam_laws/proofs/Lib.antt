@@ -47,3 +47,5 @@ pub mod SoundSteps
 pub mod SoundHistory
 pub mod SlotsHistory
 pub mod OwnersOrder
+pub mod OpenedRows
+pub mod OpenedHistory

@@ -1,6 +1,7 @@
 -- Members of a list.
 use Rattle.std.proofs.Common.{◌≡◌, ℕ, zero, suc, ◌⊎◌, inl, inr, Bool, true, false, cond, List, [], ◌∷◌, map, Some, refl, sym, ap, ◌∙◌, subst, arith}
-use Rattle.std.specs.Prelude.{Contains, slice_get}
+use Rattle.std.specs.Prelude.{All, Contains, slice_get}
+use Rattle.std.proofs.lemmas.List.Elements.{All-cons}
 use Rattle.std.specs.List.{find}
 
 pub in-cons : {X : Type 0} → (x y : X) (ys : List X) → Contains (y ∷ ys) x → (y ≡ x) ⊎ Contains ys x
@@ -44,3 +45,8 @@ pub in-place : {X : Type 0} → (xs : List X) (k : ℕ) (x : X) → slice_get xs
 in-place [] k x e = absurd (cc e)
 in-place (y ∷ ys) zero x e = let same : y ≡ x = cc e in subst (λ z. Contains (y ∷ ys) z) same (in-here y ys)
 in-place (y ∷ ys) (suc k) x e = in-there x y ys (in-place ys k x e)
+
+-- what holds of each member holds of all
+pub all-of : {X : Type 0} (P : X → Type 0) (xs : List X) → ((x : X) → Contains xs x → P x) → All P xs
+all-of P [] h = λ k d within. absurd (omega arith)
+all-of P (x ∷ xs) h = All-cons P x xs (h x (in-here x xs)) (all-of P xs (λ y there. h y (in-there y x xs there)))

@@ -20,14 +20,14 @@ use Rattle.ipam_laws.proofs.Members.{in-cons, in-here, in-there, in-nothing, in-
 
 -- ---- rows by ascending keys with the same members are the same
 
-less-than : (k : Key) (rows : List Row) (row : Row) → AllByRecursion (λ other. key_cmp k other ≡ Less) (map row_key rows) → Contains rows row → key_cmp k (row_key row) ≡ Less
+pub less-than : (k : Key) (rows : List Row) (row : Row) → AllByRecursion (λ other. key_cmp k other ≡ Less) (map row_key rows) → Contains rows row → key_cmp k (row_key row) ≡ Less
 less-than k [] row all h = absurd (in-nothing row h)
 less-than k (first ∷ rest) row all h = elim (in-cons row first rest h) [
   | inl is ↦ ap (λ (r : Row). key_cmp k (row_key r)) (sym is) ∙ all.0
   | inr there ↦ less-than k rest row all.1 there
 ]
 
-never-less : (k : Key) → key_cmp k k ≢ Less
+pub never-less : (k : Key) → key_cmp k k ≢ Less
 never-less k e = let t = tied_itself key_cmp_total k in cc
 
 Within : List Row → List Row → Type 0
@@ -83,7 +83,7 @@ opens_as_one texts one other a b =
 
 -- ---- a datastore's own rows
 
-reads-back : (store : Datastore) → IsDatastore store → (row : Row) → Contains store.rows row → reading_of (text_of row) ≡ Ok row.1
+pub reads-back : (store : Datastore) → IsDatastore store → (row : Row) → Contains store.rows row → reading_of (text_of row) ≡ Ok row.1
 reads-back store sound row h = record_reads_back row.1 (All-contains (IsRow store.counter) store.rows row sound.rows h).is_record
 
 opened-own : (texts : Texts) (store opened : Datastore) → IsDatastore store → IsTextOf texts store → OpensAs texts opened → Within opened.rows store.rows

@@ -1,6 +1,6 @@
 -- Owners are listed strictly by family and address, so no address has two.
 use Rattle.std.proofs.Common.{◌≡◌, ◌≢◌, ◌⊎◌, ℕ, zero, suc, ◌+◌, ◌-◌, ◌<◌, ◌≤◌, inl, inr, List, [], ◌∷◌, ◌++◌, map, Option, Some, None, refl, sym, ap, ◌∙◌, subst, arith}
-use Rattle.std.specs.Prelude.{All, AllPairs, Contains, slice_get}
+use Rattle.std.specs.Prelude.{AllPairs, Contains, slice_get}
 use Rattle.std.specs.declared.cmp.Ordering.TheVariants.{Less, Equal, Greater}
 use Rattle.std.specs.Cmp.{nat_cmp_is, tied_itself}
 use Rattle.std.specs.List.{AllByRecursion}
@@ -8,7 +8,7 @@ use Rattle.std.specs.List.Sorted.{IsStrictlySortedBy}
 use Rattle.std.specs.Ordering.{nat_cmp}
 use Rattle.std.proofs.Math.Nat.{one-le-pow}
 use Rattle.std.proofs.lemmas.Bool.{cases_lt}
-use Rattle.std.proofs.lemmas.List.Elements.{All-cons, All-contains, Contains-append_cases, Contains-append_left}
+use Rattle.std.proofs.lemmas.List.Elements.{All-contains, Contains-append_cases, Contains-append_left}
 use Rattle.std.proofs.lemmas.List.Kept.{AllPairs-cons}
 use Rattle.ipam_addr.specs.declared.address.Family.{Family}
 use Rattle.ipam_addr.specs.declared.address.Family.TheVariants.{V4, V6}
@@ -37,7 +37,7 @@ use Rattle.ipam_model.specs.History.{store_at}
 use Rattle.ipam_model.specs.OwnerLaw.{OwnersOrderLaw, OneOwnerLaw}
 use Rattle.ipam_model.specs.Owners.{Owner, owner_of, owners_in_row, owners_in, owners, IsBefore, AreInOrder}
 use Rattle.ipam_model.specs.Reads.{Row}
-use Rattle.ipam_laws.proofs.Members.{in-cons, in-here, in-there, in-nothing, in-map, out-map}
+use Rattle.ipam_laws.proofs.Members.{all-of, in-cons, in-here, in-there, in-nothing, in-map, out-map}
 use Rattle.ipam_laws.proofs.SlotsHistory.{consistent_law}
 use Rattle.ipam_laws.proofs.SoundSteps.{row-there}
 
@@ -48,10 +48,6 @@ pairs-head R x xs h y (k, below, is) = subst (λ z. R x z) is (h zero (suc k) y 
 
 pairs-tail : {X : Type 0} (R : X → X → Type 0) (x : X) (xs : List X) → AllPairs R (x ∷ xs) → AllPairs R xs
 pairs-tail R x xs h = λ i j d below within. h (suc i) (suc j) d (omega arith) (omega arith)
-
-all-of : {X : Type 0} (P : X → Type 0) (xs : List X) → ((x : X) → Contains xs x → P x) → All P xs
-all-of P [] h = λ k d within. absurd (omega arith)
-all-of P (x ∷ xs) h = All-cons P x xs (h x (in-here x xs)) (all-of P xs (λ y there. h y (in-there y x xs there)))
 
 pairs-map : {X Y : Type 0} (R : X → X → Type 0) (S : Y → Y → Type 0) (f : X → Y) → ((x y : X) → R x y → S (f x) (f y)) → (xs : List X) → AllPairs R xs → AllPairs S (map f xs)
 pairs-map R S f keeps [] h = λ i j d below within. absurd (omega arith)
@@ -241,7 +237,7 @@ rows-order pools ((revision, found) ∷ rows) table sorted placed =
     by (record_of.Handle handle) less sound slot rest = rest
 
 -- the pools of a sound datastore are a table
-pools-table : (store : Datastore) → IsDatastore store → IsPoolTable (pools_in store.rows)
+pub pools-table : (store : Datastore) → IsDatastore store → IsPoolTable (pools_in store.rows)
 pools-table store sound = from (row_of key.Pools store.rows) refl
   where
     none : IsPoolTable []

@@ -1,5 +1,5 @@
 //! Rows that are opened.
-ghost use Rattle.ipam_model.specs.Opened.{OneOpenedLaw, SameRecordsLaw};
+ghost use Rattle.ipam_model.specs.Opened.{OneOpenedLaw, SameRecordsLaw, OpenedLaw, OpenedAgainLaw};
 
 /// Rows and a counter open as one datastore at most.
 pub fn rows_open_as_one_datastore_at_most()
@@ -10,4 +10,15 @@ pub fn rows_open_as_one_datastore_at_most()
 /// may be theirs, has the same records at the same revisions.
 pub fn the_rows_of_a_datastore_open_as_the_same()
     ensures { SameRecordsLaw }
+{}
+
+/// What was opened is consistent.
+pub fn what_was_opened_is_consistent()
+    ensures { OpenedLaw }
+{}
+
+/// At each moment, the rows that are there may be opened again, by ascending key and with any counter
+/// from the greatest revision on, and they open as the same records at the same revisions.
+pub fn what_is_there_may_be_opened_again()
+    ensures { OpenedAgainLaw }
 {}
