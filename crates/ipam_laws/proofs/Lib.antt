@@ -49,3 +49,4 @@ pub mod SlotsHistory
 pub mod OwnersOrder
 pub mod OpenedRows
 pub mod OpenedHistory
+pub mod OpensRows

@@ -28,10 +28,12 @@ use Rattle.ipam_records.specs.Key.{key_of}
 use Rattle.ipam_records.specs.KeyOrder.{is_of_kind}
 use Rattle.ipam_records.specs.KeyText.{key_read}
 use Rattle.ipam_records.specs.Sound.{IsDatastore, IsRecord, IsRow}
+use Rattle.ipam_model.specs.declared.entry.Entry.TheVariants as entry
+use Rattle.ipam_model.specs.declared.entry.Fate.TheVariants.{After}
 use Rattle.ipam_model.specs.Consistent.{IsConsistent, IsSlotOfSome, cidr_named, pools_in, pools_in_row}
 use Rattle.ipam_model.specs.CountLaw.{count_in_row, handle_count, held_in_row, held_count}
-use Rattle.ipam_model.specs.History.{store_at}
-use Rattle.ipam_model.specs.Opened.{Texts, Breaks, NoText, AnotherKey, NoTable, NoSlot, NoBlock, CountTooLow, NoAffinityFor, NoNodeFor, TooManyRows, TooManyBlocks, NoRevision, AboveCounter, AboveLast, CounterAboveLast, IsBrokenBlock, IsCounterOf, IsTextOf, OpensAs, OpenedLaw, OpenedAgainLaw, cidr_of_key, is_block_text, pools_read, read_store, readable, reading_of, text_of, texts_of}
+use Rattle.ipam_model.specs.History.{Lawful, store_at}
+use Rattle.ipam_model.specs.Opened.{Texts, Breaks, NoText, AnotherKey, NoTable, NoSlot, NoBlock, CountTooLow, NoAffinityFor, NoNodeFor, TooManyRows, TooManyBlocks, NoRevision, AboveCounter, AboveLast, CounterAboveLast, IsBrokenBlock, IsCounterOf, IsTextOf, OpensAs, OpensAsItself, OpenedLaw, OpenedAgainLaw, InDoubtLaw, cidr_of_key, is_block_text, pools_read, read_store, readable, reading_of, text_of, texts_of}
 use Rattle.ipam_model.specs.Reads.{Row}
 use Rattle.ipam_laws.proofs.Members.{all-of, in-cons, in-here, in-there, in-nothing, in-map, out-map}
 use Rattle.ipam_laws.proofs.Openings.{reads-back}
@@ -40,6 +42,7 @@ use Rattle.ipam_laws.proofs.OwnersOrder.{pools-table}
 use Rattle.ipam_laws.proofs.AffinityAt.{node_at, node_in_row, state_at, state_in_row}
 use Rattle.ipam_laws.proofs.AffinityHolds.{same_or_other}
 use Rattle.ipam_laws.proofs.AffinityHistory.{node-has, has-node, state-has, has-state, agreeing-of, of-agreeing}
+use Rattle.ipam_laws.proofs.Fates.{any_fate}
 use Rattle.ipam_laws.proofs.SlotsHistory.{consistent_law}
 
 -- ---- what is read is what the store has
@@ -310,10 +313,8 @@ recounted texts store sound is = record {
   counted = is.counter.below_last;
 }
 
-pub opened_again : OpenedAgainLaw
-opened_again base history texts c h is =
-    let store = store_at base history in
-    let now = consistent_law base history c h in
+opens-itself : (store : Datastore) → IsConsistent store → OpensAsItself store
+opens-itself store now texts is =
     let rows = own-rows texts store now.sound is in
     record {
       may_be_opened = may-open texts store now rows (own-readable texts store now.sound is now.few_rows now.few_blocks) is.counter;
@@ -322,3 +323,12 @@ opened_again base history texts c h is =
       all_read = rows.all_read;
       nothing_else = rows.nothing_else;
     }
+
+pub opened_again : OpenedAgainLaw
+opened_again base history c h = opens-itself (store_at base history) (consistent_law base history c h)
+
+pub in_doubt : InDoubtLaw
+unfolding Lawful
+in_doubt base history c consistent h =
+    let (other, same, lawful) = any_fate base history c After h in
+    (opened_again base history consistent h.0, (other, same, opened_again base (entry.Called other ∷ history) consistent lawful))

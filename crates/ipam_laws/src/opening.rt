@@ -1,5 +1,10 @@
 //! Rows that are opened.
-ghost use Rattle.ipam_model.specs.Opened.{OneOpenedLaw, SameRecordsLaw, OpenedLaw, OpenedAgainLaw};
+ghost use Rattle.ipam_model.specs.Opened.{OneOpenedLaw, SameRecordsLaw, OpenedLaw, OpenedAgainLaw, OpensLaw, InDoubtLaw};
+
+/// Rows by ascending keys that nothing breaks open as a datastore.
+pub fn rows_that_nothing_breaks_open()
+    ensures { OpensLaw }
+{}
 
 /// Rows and a counter open as one datastore at most.
 pub fn rows_open_as_one_datastore_at_most()
@@ -21,4 +26,10 @@ pub fn what_was_opened_is_consistent()
 /// from the greatest revision on, and they open as the same records at the same revisions.
 pub fn what_is_there_may_be_opened_again()
     ensures { OpenedAgainLaw }
+{}
+
+/// With a write in doubt, whose call failed, what is there may be opened whether the write was done
+/// or not.
+pub fn a_write_in_doubt_may_be_opened_either_way()
+    ensures { InDoubtLaw }
 {}
