@@ -50,3 +50,6 @@ pub mod OwnersOrder
 pub mod OpenedRows
 pub mod OpenedHistory
 pub mod OpensRows
+pub mod FaultLists
+pub mod FirstFault
+pub mod AllRead

@@ -1,5 +1,5 @@
 -- What was opened is consistent, and what is there at every moment may be opened again.
-use Rattle.std.proofs.Common.{◌≡◌, ◌≢◌, ◌⊎◌, ℕ, suc, ◌≤◌, inl, inr, Bool, true, false, cond, List, [], ◌∷◌, map, length, Option, Some, None, Result, Ok, Err, refl, sym, ap, ◌∙◌, subst, arith}
+use Rattle.std.proofs.Common.{◌≡◌, ◌≢◌, ℕ, suc, ◌≤◌, inl, inr, Bool, true, false, cond, List, [], ◌∷◌, map, length, Option, Some, None, Result, Ok, Err, refl, sym, ap, ◌∙◌, subst, arith}
 use Rattle.std.specs.Prelude.{Contains}
 use Rattle.std.specs.List.{filter, list_any}
 use Rattle.std.proofs.lemmas.Bool.{cases_Bool, cases_lt}
@@ -35,7 +35,7 @@ use Rattle.ipam_model.specs.CountLaw.{count_in_row, handle_count, held_in_row, h
 use Rattle.ipam_model.specs.History.{Lawful, store_at}
 use Rattle.ipam_model.specs.Opened.{Texts, Breaks, NoText, AnotherKey, NoTable, NoSlot, NoBlock, CountTooLow, NoAffinityFor, NoNodeFor, TooManyRows, TooManyBlocks, NoRevision, AboveCounter, AboveLast, CounterAboveLast, IsBrokenBlock, IsCounterOf, IsTextOf, OpensAs, OpensAsItself, OpenedLaw, OpenedAgainLaw, InDoubtLaw, cidr_of_key, is_block_text, pools_read, read_store, readable, reading_of, text_of, texts_of}
 use Rattle.ipam_model.specs.Reads.{Row}
-use Rattle.ipam_laws.proofs.Members.{all-of, in-cons, in-here, in-there, in-nothing, in-map, out-map}
+use Rattle.ipam_laws.proofs.Members.{all-of, in-here, in-there, in-map, out-map, in-filter, filter-in}
 use Rattle.ipam_laws.proofs.Openings.{reads-back}
 use Rattle.ipam_laws.proofs.OpenedRows.{AreRowsOf, in-readable, readable-fewer, key-is-read, read-found, fewer-members, rows-differ, few-places, places-few}
 use Rattle.ipam_laws.proofs.OwnersOrder.{pools-table}
@@ -143,28 +143,6 @@ block-texts (row ∷ rows) reads = by (is_of_kind kind.Block (row_key row)) (rw 
         → length (cond (is_block_text (text_of row)) (text_of row ∷ filter is_block_text (map text_of rows)) (filter is_block_text (map text_of rows))) ≡ length (cond b (row ∷ filter (λ row. is_of_kind kind.Block (row_key row)) rows) (filter (λ row. is_of_kind kind.Block (row_key row)) rows))
     by true e rest = rw e (ap suc rest)
     by false e rest = rw e rest
-
--- the members that pass a test
-in-filter : {X : Type 0} → (test : X → Bool) (x : X) (xs : List X) → Contains (filter test xs) x → Contains xs x × (test x ≡ true)
-in-filter test x [] h = absurd (in-nothing x h)
-in-filter test x (y ∷ ys) h = by (test y) refl h (in-filter test x ys)
-  where
-    by : (b : Bool) → test y ≡ b → Contains (cond b (y ∷ filter test ys) (filter test ys)) x → (Contains (filter test ys) x → Contains ys x × (test x ≡ true)) → Contains (y ∷ ys) x × (test x ≡ true)
-    by true e there rest = elim (in-cons x y (filter test ys) there) [
-      | inl is ↦ (subst (λ z. Contains (y ∷ ys) z) is (in-here y ys), ap test (sym is) ∙ e)
-      | inr more ↦ let (among, passes) = rest more in (in-there x y ys among, passes)
-    ]
-    by false e there rest = let (among, passes) = rest there in (in-there x y ys among, passes)
-
-filter-in : {X : Type 0} → (test : X → Bool) (x : X) (xs : List X) → Contains xs x → test x ≡ true → Contains (filter test xs) x
-filter-in test x [] h e = absurd (in-nothing x h)
-filter-in test x (y ∷ ys) h e = by (test y) refl (in-cons x y ys h) (filter-in test x ys)
-  where
-    by : (b : Bool) → test y ≡ b → (y ≡ x) ⊎ Contains ys x → (Contains ys x → test x ≡ true → Contains (filter test ys) x) → Contains (cond b (y ∷ filter test ys) (filter test ys)) x
-    by true f (inl is) rest = subst (λ z. Contains (y ∷ filter test ys) z) is (in-here y (filter test ys))
-    by true f (inr there) rest = in-there x y (filter test ys) (rest there e)
-    by false f (inl is) rest = let g : test x ≡ false = ap test (sym is) ∙ f in absurd (cc (e, g))
-    by false f (inr there) rest = rest there e
 
 -- a row that is read of one of the texts
 rows-read : (texts : List RowText) (row : Row) → (text : RowText) × Contains texts text × (text.revision ≡ row.0) × (reading_of text ≡ Ok row.1) → Contains (readable texts) row

@@ -1,5 +1,16 @@
 //! Rows that are opened.
-ghost use Rattle.ipam_model.specs.Opened.{OneOpenedLaw, SameRecordsLaw, OpenedLaw, OpenedAgainLaw, OpensLaw, InDoubtLaw};
+ghost use Rattle.ipam_model.specs.Opened.{OneOpenedLaw, SameRecordsLaw, OpenedLaw, OpenedAgainLaw, OpensLaw, InDoubtLaw, FirstFaultLaw, AllReadLaw};
+
+/// Either nothing breaks the rows, or one fault is the first: by the least number of a rule, and then
+/// by the bytes of the key that it is told of.
+pub fn rows_have_a_first_fault_or_none()
+    ensures { FirstFaultLaw }
+{}
+
+/// Each of the rows that nothing breaks can be read.
+pub fn rows_that_nothing_breaks_are_all_read()
+    ensures { AllReadLaw }
+{}
 
 /// Rows by ascending keys that nothing breaks open as a datastore.
 pub fn rows_that_nothing_breaks_open()

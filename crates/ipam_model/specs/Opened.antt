@@ -157,6 +157,16 @@ pub record IsTextOf (texts : Texts) (store : Datastore) : Type 0 where
 abbrev pub OpenedLaw : Type 0
 OpenedLaw = (texts : Texts) (store : Datastore) → OpensAs texts store → IsConsistent store
 
+-- Either nothing breaks the rows, or there is a first fault to be told.
+abbrev pub FirstFaultLaw : Type 0
+FirstFaultLaw = (texts : Texts) → MayBeOpened texts ⊎ ((number : ℕ) × (about : List ℕ) × IsRefusedBy texts number about)
+
+-- each of the rows that nothing breaks can be read
+abbrev pub AllReadLaw : Type 0
+AllReadLaw =
+    (texts : Texts) → MayBeOpened texts → (row : RowText) → Contains texts.rows row
+    → (found : Record) × (reading_of row ≡ Ok found)
+
 -- rows that may be opened open as a datastore
 abbrev pub OpensLaw : Type 0
 OpensLaw = (texts : Texts) → AreByKey texts.rows → MayBeOpened texts → (store : Datastore) × OpensAs texts store
