@@ -1,7 +1,6 @@
 -- Both kinds of ADD: each lost race costs ten calls at most, and each confirmed claim nine.
 use Rattle.std.proofs.Common.{ℕ, zero, suc, ◌+◌, ◌*◌, ◌-◌, ◌≤◌, true, false, Bool, List, [], ◌∷◌, ◌++◌, length, Option, Some, None, arith}
 use Rattle.std.proofs.lemmas.List.{length-append}
-use Rattle.std.specs.Prelude.{map}
 use Rattle.ipam_addr.specs.declared.address.Family.{Family}
 use Rattle.ipam_addr.specs.Shape.{AddrValue, CidrValue}
 use Rattle.ipam_block.specs.declared.allocation.Allocation.{Allocation}
@@ -28,7 +27,8 @@ use Rattle.ipam_model.specs.Choice.{Share, Takes, Claims, Leaves as Refuses, by_
 use Rattle.ipam_model.specs.Counting.{raise, lower, credit_of}
 use Rattle.ipam_model.specs.Reads.{config_said, pools_said, affinity_said, block_said}
 use Rattle.ipam_model.specs.Step.{Left, left_of, all_left, Outcome, Went, Stops, Stop, OutOfTries, OutOfClaims, NoRoom, CountAtLimit, NoRevisions, Part, goes, stops, rounds, in_rounds}
-use Rattle.ipam_model.specs.Usable.{RuledPool, for_all, families_if, usable_pool_of}
+use Rattle.ipam_model.specs.Usable.{families_if, usable_pool_of}
+use Rattle.ipam_pool.specs.declared.pools.Pool.{Pool}
 use Rattle.ipam_laws.proofs.Within.{Within, Any, Within-bound, Within-followed, Within-settled, Within-after_write}
 use Rattle.ipam_laws.proofs.PartBounds.{worth, Leaves, raise-within, lower-within, free-within, five_reads-within}
 
@@ -267,11 +267,11 @@ this_block-within wanted next left looked (Some found) count n h =
     this_held-within (this.this_free wanted next left looked found) left looked (holder found.1 (wanted.address.number - looked.cidr.base)) count
     (this_free-within wanted next left looked found count n h)
 
-this_in_pool-within : (wanted : this.Wanted) (next : this.NextRound) (left : Left) (rules : this.Rules) (ruled : Option RuledPool) (count : ℕ) → ThisWithin next → pays left + 6 ≤ count → Within Any (this.this_in_pool wanted next left rules ruled) count
+this_in_pool-within : (wanted : this.Wanted) (next : this.NextRound) (left : Left) (rules : this.Rules) (pool : Option Pool) (count : ℕ) → ThisWithin next → pays left + 6 ≤ count → Within Any (this.this_in_pool wanted next left rules pool) count
 this_in_pool-within wanted next left rules None count n h = tt
-this_in_pool-within wanted next left rules (Some ruled) count n h = (
+this_in_pool-within wanted next left rules (Some pool) count n h = (
   omega arith,
-  λ b said. this_block-within wanted next left (record { rules = rules; cidr = this.slot_holding ruled.pool wanted.address; b = b }) (block_said said) (count - 1) n (omega arith),
+  λ b said. this_block-within wanted next left (record { rules = rules; cidr = this.slot_holding pool wanted.address; b = b }) (block_said said) (count - 1) n (omega arith),
 )
 
 this_round-within : (wanted : this.Wanted) (next : this.NextRound) → ThisWithin next → ThisWithin (this.this_round wanted next)
@@ -279,7 +279,7 @@ this_round-within wanted next n left count h = (
   omega arith,
   λ c config. (
     omega arith,
-    λ p pools. this_in_pool-within wanted next left (record { config = config_said config; c = c; p = p }) (usable_pool_of (this.asked_of_this wanted.request wanted.address) wanted.address (map for_all (pools_said pools))) (count - 1 - 1) n (omega arith),
+    λ p pools. this_in_pool-within wanted next left (record { config = config_said config; c = c; p = p }) (usable_pool_of (this.asked_of_this wanted.request wanted.address) wanted.address (pools_said pools)) (count - 1 - 1) n (omega arith),
   ),
 )
 

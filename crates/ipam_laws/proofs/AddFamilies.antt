@@ -31,7 +31,7 @@ use Rattle.ipam_model.specs.Reads.{config_said, pools_said, reservations_said, r
 use Rattle.ipam_model.specs.Requests.{told_as}
 use Rattle.ipam_model.specs.Step.{Left, Outcome, Part, Went, Stops, Stop, OutOfTries, OutOfClaims, NoRoom, CountAtLimit, NoRevisions, all_left, answer_of, onward, rounds, stop_answer, stops}
 use Rattle.ipam_model.specs.Told.{of_add}
-use Rattle.ipam_model.specs.Usable.{families_if, for_all}
+use Rattle.ipam_model.specs.Usable.{families_if}
 use Rattle.ipam_model.proofs.ChoiceLemmas.{choice_is}
 use Rattle.ipam_laws.proofs.AddParts.{AssignEnds, GivesLast, GoesQuietly, KnowsRead, NotLimit, StopsOtherwise, assign-comes, claim-for, free-comes}
 use Rattle.ipam_laws.proofs.AddRounds.{AreGivenBy, IsGivenBy, all-given-more, one-given-more, quietly-chosen, Among, FiveRead, IsAimed, IsChosen, IsFor, IsRefusal, ServedEnds, aimed-more, chosen-more, chosen-family, picked-read, HasRead, for-did, get-gives-none, otherwise-served, quietly-for, seen-at}
@@ -185,7 +185,7 @@ round-comes request family next after left trail is_for = λ c config a1 p pools
     let scan : Scan = record { family = family; c = c; p = p; r = r; f = f; b = b } in
     let seen : Seen = record {
       config = config_said (reply_of config (Get key.Config));
-      pools = map for_all (pools_said (reply_of pools (Get key.Pools)));
+      pools = pools_said (reply_of pools (Get key.Pools));
       reservations = reservations_said (reply_of reservations (Get key.Reservations));
       affinities = rows_said (reply_of affinities (ListAll kind.Affinity));
       blocks = rows_said (reply_of blocks (ListAll kind.Block));

@@ -1,5 +1,5 @@
 -- For which family a round of an ADD is, by the trail that led to it.
-use Rattle.std.proofs.Common.{◌≡◌, ℕ, ◌⊎◌, inl, inr, Bool, true, false, cond, List, [], ◌∷◌, ◌++◌, map, Option, Some, None, refl, sym, ap, ◌∙◌, subst}
+use Rattle.std.proofs.Common.{◌≡◌, ℕ, ◌⊎◌, inl, inr, Bool, true, false, cond, List, [], ◌∷◌, ◌++◌, Option, Some, None, refl, sym, ap, ◌∙◌, subst}
 use Rattle.std.specs.Prelude.{◌&&◌, not, IsTrue, MatchOption}
 use Rattle.std.specs.List.{All, find, list_any}
 use Rattle.ipam_addr.specs.declared.address.Family.{Family}
@@ -30,7 +30,8 @@ use Rattle.ipam_model.specs.Choice.{FirstCandidate, IsBest, IsChoice, Picks, Ran
 use Rattle.ipam_model.specs.Affinities.{BlockRead}
 use Rattle.ipam_model.specs.Reads.{Row, config_said, pools_said, reservations_said, rows_said}
 use Rattle.ipam_model.specs.Step.{Left, Outcome, Went, Stops, Stop, OutOfTries, OutOfClaims, NoRoom, CountAtLimit, NoRevisions}
-use Rattle.ipam_model.specs.Usable.{Asked, RuledPool, for_all, is_usable, unknown_name}
+use Rattle.ipam_model.specs.Usable.{Asked, is_usable, unknown_name}
+use Rattle.ipam_pool.specs.declared.pools.Pool.{Pool}
 use Rattle.ipam_model.proofs.ChoiceLemmas.{pick-ranked}
 use Rattle.ipam_laws.proofs.AddParts.{GivesLast, NotLimit}
 use Rattle.ipam_laws.proofs.AddTrails.{HasGift, IsGift, More, Quietly, Same}
@@ -51,7 +52,7 @@ pub record FiveRead (scan : Scan) (seen : Seen) (before five : Trail) : Type 0 w
       ∷ Did scan.r reservations (Get key.Reservations) ∷ Did scan.p pools (Get key.Pools)
       ∷ Did scan.c config (Get key.Config) ∷ before
   pub saw_config : seen.config ≡ config_said (reply_of config (Get key.Config))
-  pub saw_pools : seen.pools ≡ map for_all (pools_said (reply_of pools (Get key.Pools)))
+  pub saw_pools : seen.pools ≡ pools_said (reply_of pools (Get key.Pools))
   pub saw_reservations : seen.reservations ≡ reservations_said (reply_of reservations (Get key.Reservations))
   pub saw_affinities : seen.affinities ≡ rows_said (reply_of affinities (ListAll kind.Affinity))
   pub saw_blocks : seen.blocks ≡ rows_said (reply_of blocks (ListAll kind.Block))
@@ -256,17 +257,17 @@ at-slot slot (Unclaimed read) cidr ordinal (inr e) = absurd (cc e)
 at-slot slot (Foreign found o) cidr ordinal (inl e) = absurd (cc e)
 at-slot slot (Foreign found o) cidr ordinal (inr e) = cc e
 
-usable-family : (asked : Asked) (ruled : RuledPool) → IsTrue (is_usable asked ruled) → asked.family ≡ ruled.pool.cidr.family
-usable-family asked ruled h =
-    family-same asked.family ruled.pool.cidr.family
-    (and-right (not ruled.pool.disabled) (is_same_family asked.family ruled.pool.cidr.family)
-    (and-left (not ruled.pool.disabled && is_same_family asked.family ruled.pool.cidr.family) _ (and-left _ _ (and-left _ _ h))))
+usable-family : (asked : Asked) (pool : Pool) → IsTrue (is_usable asked pool) → asked.family ≡ pool.cidr.family
+usable-family asked pool h =
+    family-same asked.family pool.cidr.family
+    (and-right (not pool.disabled) (is_same_family asked.family pool.cidr.family)
+    (and-left (not pool.disabled && is_same_family asked.family pool.cidr.family) _ (and-left _ _ (and-left _ _ h))))
 
 -- the block is of the family
 candidate-family : (asked : Asked) (seen : Seen) (c : FirstCandidate asked seen) (cidr : CidrValue) (ordinal : ℕ) → IsOf (chosen c.best.ranked) cidr ordinal → cidr.family ≡ asked.family
 candidate-family asked seen c cidr ordinal is =
     let same = at-slot c.best.ranked.slot c.best.ranked.rank cidr ordinal is in
-    ap (λ (r : CidrValue). r.family) (sym same ∙ c.candidate.is_slot) ∙ sym (usable-family asked c.candidate.ruled c.candidate.usable)
+    ap (λ (r : CidrValue). r.family) (sym same ∙ c.candidate.is_slot) ∙ sym (usable-family asked c.candidate.pool c.candidate.usable)
 
 pub chosen-family : (asked : Asked) (seen : Seen) (choice : Choice) → IsChoice asked seen choice → (cidr : CidrValue) (ordinal : ℕ) → IsOf choice cidr ordinal → cidr.family ≡ asked.family
 chosen-family asked seen choice is cidr ordinal of = by (unknown_name asked seen.pools) is

@@ -1,6 +1,6 @@
 -- The parts of requests: each lost race costs so many calls, and each part leaves what it does not need.
 use Rattle.std.proofs.Common.{ℕ, zero, suc, ◌+◌, ◌*◌, ◌-◌, ◌≤◌, true, false, Bool, cond, List, Option, Some, None, arith}
-use Rattle.std.specs.Prelude.{nat_le, map}
+use Rattle.std.specs.Prelude.{nat_le}
 use Rattle.std.specs.List.{count_by}
 use Rattle.ipam_addr.specs.Shape.{CidrValue}
 use Rattle.ipam_block.specs.Shape as block
@@ -12,7 +12,6 @@ use Rattle.ipam_addr.specs.declared.address.Family.{Family}
 use Rattle.ipam_model.specs.declared.answer.Scan.{Scan}
 use Rattle.ipam_model.specs.Add.{five_reads}
 use Rattle.ipam_model.specs.Choice.{Seen}
-use Rattle.ipam_model.specs.Usable.{for_all}
 use Rattle.ipam_model.specs.Reads.{config_said, pools_said, reservations_said, rows_said, handle_said, block_said}
 use Rattle.ipam_model.specs.Step.{Left, left_of, Outcome, Went, Stops, Part, OutOfTries, NoRoom, NoRevisions, CountAtLimit, goes, stops, tries}
 use Rattle.ipam_model.specs.Counting.{most_count, raise, raise_once, raise_write, lower, lower_once, Freeing, free, free_once, free_found, free_these, credit_of}
@@ -132,7 +131,7 @@ five_reads-within P family follows count h k = (
               k (record { family = family; c = c; p = p; r = r; f = f; b = b })
               (record {
                 config = config_said config;
-                pools = map for_all (pools_said pools);
+                pools = pools_said pools;
                 reservations = reservations_said reservations;
                 affinities = rows_said affinities;
                 blocks = rows_said blocks;

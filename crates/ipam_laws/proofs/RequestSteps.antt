@@ -8,7 +8,7 @@ use Rattle.ipam_addr.specs.Holding.{holds_address}
 use Rattle.ipam_pool.specs.declared.pools.Pool.{Pool}
 use Rattle.ipam_pool.specs.declared.pools.PoolRefusal.{PoolRefusal}
 use Rattle.ipam_pool.specs.declared.pools.PoolRefusal.TheVariants.{NameTaken, Overlap, Size, Prefix, TooMany, Memory}
-use Rattle.ipam_pool.specs.Changes.{has_name, refusal_of, with_disabled}
+use Rattle.ipam_pool.specs.Changes.{has_name, refusal_of, with_disabled, with_rules}
 use Rattle.ipam_block.specs.declared.allocation.Allocation.{Allocation}
 use Rattle.ipam_block.specs.Shape as block
 use Rattle.ipam_block.specs.Operations.{is_owned, is_stamped, holder}
@@ -61,14 +61,14 @@ use Rattle.ipam_model.specs.SoundRequest.{IsSoundAdd, IsSoundChange, IsSoundRequ
 use Rattle.ipam_model.specs.Requests.{word_of, told_as}
 use Rattle.ipam_model.specs.Told.{of_add, of_add_this, of_del, of_check, of_release, of_collect, of_admin, of_probe}
 use Rattle.ipam_model.specs.Step.{Left, left_of, all_left, Went, Stops, Stop, OutOfTries, OutOfClaims, NoRoom, CountAtLimit, NoRevisions, Part, stop_answer, settled, goes, stops, tries, retried, in_rounds, write_back}
-use Rattle.ipam_model.specs.Usable.{RuledPool, for_all, is_usable, families_if, usable_pool_of, pool_of}
+use Rattle.ipam_model.specs.Usable.{is_usable, families_if, usable_pool_of, pool_of}
 use Rattle.ipam_laws.proofs.Lift.{Known, more, Agrees, label_to}
 use Rattle.ipam_laws.proofs.Calls.{create-can, update-can, can-put, get-meets, list-meets, write-meets}
 use Rattle.ipam_laws.proofs.Members.{in-find}
 use Rattle.ipam_laws.proofs.Steps.{IsKnownBlock, IsOwnOrNobodys, IsKnownPool, IsClaimable, known-pool-grows, OwnPicks, Step, Idles, Changes, step-grows}
 use Rattle.ipam_laws.proofs.PartSteps.{Any, still, Steps, any-lasts}
 use Rattle.ipam_laws.proofs.WriteSteps.{block-read, free-steps, free-label, release-steps}
-use Rattle.ipam_laws.proofs.WordSteps.{ArePoolsKnown, pools-read, ruled-known, Keeps, Lawful, LawfulAfter, LawfulOn, LawfulNext, unowned-nobodys, lawful-both, followed-keeps, followed-lawful, settled-lawful, rounds-lawful, own-known, assign-keeps, claim_for-keeps, serve-lawful, five_reads-steps}
+use Rattle.ipam_laws.proofs.WordSteps.{ArePoolsKnown, pools-read, Keeps, Lawful, LawfulAfter, LawfulOn, LawfulNext, unowned-nobodys, lawful-both, followed-keeps, followed-lawful, settled-lawful, rounds-lawful, own-known, assign-keeps, claim_for-keeps, serve-lawful, five_reads-steps}
 
 owned-picks : (id : List ℕ) (a : Allocation) → is_owned id a ≡ true → is_owned id a ≡ true
 owned-picks id a h = h
@@ -194,58 +194,58 @@ this_block-keeps wanted sound next n left looked (Some found) known at h =
     (λ free. this_free-keeps wanted sound next n left looked found known at h free)
 
 -- the usable pool that holds the address was read
-abbrev IsRead : Known → this.Wanted → Option RuledPool → Type 0
+abbrev IsRead : Known → this.Wanted → Option Pool → Type 0
 IsRead known wanted None = Unit {0}
-IsRead known wanted (Some ruled) = IsKnownPool known ruled.pool × (holds_address ruled.pool.cidr wanted.address ≡ true)
+IsRead known wanted (Some pool) = IsKnownPool known pool × (holds_address pool.cidr wanted.address ≡ true)
 
-usable-read : (known : Known) (wanted : this.Wanted) (said : Said) → ArePoolsKnown known said → IsRead known wanted (usable_pool_of (this.asked_of_this wanted.request wanted.address) wanted.address (map for_all (pools_said said)))
-usable-read known wanted said h = from (usable_pool_of (this.asked_of_this wanted.request wanted.address) wanted.address (map for_all (pools_said said))) refl
+usable-read : (known : Known) (wanted : this.Wanted) (said : Said) → ArePoolsKnown known said → IsRead known wanted (usable_pool_of (this.asked_of_this wanted.request wanted.address) wanted.address (pools_said said))
+usable-read known wanted said h = from (usable_pool_of (this.asked_of_this wanted.request wanted.address) wanted.address (pools_said said)) refl
   where
     both : (a b : Bool) → a && b ≡ true → b ≡ true
     both true b e = e
     both false b e = absurd (cc e)
 
-    from : (o : Option RuledPool) → usable_pool_of (this.asked_of_this wanted.request wanted.address) wanted.address (map for_all (pools_said said)) ≡ o → IsRead known wanted o
+    from : (o : Option Pool) → usable_pool_of (this.asked_of_this wanted.request wanted.address) wanted.address (pools_said said) ≡ o → IsRead known wanted o
     from None e = tt
-    from (Some ruled) e =
-        let (there, passes) = in-find (λ (r : RuledPool). is_usable (this.asked_of_this wanted.request wanted.address) r && holds_address r.pool.cidr wanted.address) ruled (map for_all (pools_said said)) e in
-        (ruled-known known said h ruled there, both (is_usable (this.asked_of_this wanted.request wanted.address) ruled) (holds_address ruled.pool.cidr wanted.address) passes)
+    from (Some pool) e =
+        let (there, passes) = in-find (λ (r : Pool). is_usable (this.asked_of_this wanted.request wanted.address) r && holds_address r.cidr wanted.address) pool (pools_said said) e in
+        (h pool there, both (is_usable (this.asked_of_this wanted.request wanted.address) pool) (holds_address pool.cidr wanted.address) passes)
 
-this_in_pool-keeps : (wanted : this.Wanted) → IsSoundAdd wanted.request → (next : this.NextRound) → LawfulNext next → (left : Left) (rules : this.Rules) (ruled : Option RuledPool) (known : Known) → IsRead known wanted ruled → Keeps known (this.this_in_pool wanted next left rules ruled)
+this_in_pool-keeps : (wanted : this.Wanted) → IsSoundAdd wanted.request → (next : this.NextRound) → LawfulNext next → (left : Left) (rules : this.Rules) (pool : Option Pool) (known : Known) → IsRead known wanted pool → Keeps known (this.this_in_pool wanted next left rules pool)
 this_in_pool-keeps wanted sound next n left rules None known at = (refl, tt)
-this_in_pool-keeps wanted sound next n left rules (Some ruled) known at = (
+this_in_pool-keeps wanted sound next n left rules (Some pool) known at = (
   refl,
   get-meets Step still Any known idle (key.Block cidr) (λ b said. this.this_block wanted next left (looked b) (block_said said))
       (λ b store agrees. turn b store (this_block-keeps wanted sound next n left (looked b) (block_said (reply_to_get (row_of (key.Block cidr) store.rows))) (more known store store) (holding b store) (block-read known store cidr))),
 )
   where
     cidr : CidrValue
-    cidr = this.slot_holding ruled.pool wanted.address
+    cidr = this.slot_holding pool wanted.address
 
     looked : ℕ → this.Looked
-    looked b = record { rules = rules; cidr = this.slot_holding ruled.pool wanted.address; b = b }
+    looked b = record { rules = rules; cidr = this.slot_holding pool wanted.address; b = b }
 
-    holding : (b : ℕ) (store : Datastore) → IsHolding (more known store store) wanted (record { rules = rules; cidr = this.slot_holding ruled.pool wanted.address; b = b })
-    holding b store = record { pool = ruled.pool; was_read = known-pool-grows known (more known store store) ruled.pool (λ k r f there. inl there) at.0; holds = at.1; slot = refl }
+    holding : (b : ℕ) (store : Datastore) → IsHolding (more known store store) wanted (record { rules = rules; cidr = this.slot_holding pool wanted.address; b = b })
+    holding b store = record { pool = pool; was_read = known-pool-grows known (more known store store) pool (λ k r f there. inl there) at.0; holds = at.1; slot = refl }
 
-    turn : (b : ℕ) (store : Datastore) → Keeps (more known store store) (this.this_block wanted next left (record { rules = rules; cidr = this.slot_holding ruled.pool wanted.address; b = b }) (block_said (reply_to_get (row_of (key.Block (this.slot_holding ruled.pool wanted.address)) store.rows))))
-        → Step known store store idle (label_to still (this.this_block wanted next left (record { rules = rules; cidr = this.slot_holding ruled.pool wanted.address; b = b }) (block_said (reply_to_get (row_of (key.Block (this.slot_holding ruled.pool wanted.address)) store.rows)))))
-        × Steps still (more known store store) (this.this_block wanted next left (record { rules = rules; cidr = this.slot_holding ruled.pool wanted.address; b = b }) (block_said (reply_to_get (row_of (key.Block (this.slot_holding ruled.pool wanted.address)) store.rows))))
+    turn : (b : ℕ) (store : Datastore) → Keeps (more known store store) (this.this_block wanted next left (record { rules = rules; cidr = this.slot_holding pool wanted.address; b = b }) (block_said (reply_to_get (row_of (key.Block (this.slot_holding pool wanted.address)) store.rows))))
+        → Step known store store idle (label_to still (this.this_block wanted next left (record { rules = rules; cidr = this.slot_holding pool wanted.address; b = b }) (block_said (reply_to_get (row_of (key.Block (this.slot_holding pool wanted.address)) store.rows)))))
+        × Steps still (more known store store) (this.this_block wanted next left (record { rules = rules; cidr = this.slot_holding pool wanted.address; b = b }) (block_said (reply_to_get (row_of (key.Block (this.slot_holding pool wanted.address)) store.rows))))
     turn b store h = (Idles refl h.0, h.1)
 
 this_round-lawful : (wanted : this.Wanted) → IsSoundAdd wanted.request → (next : this.NextRound) → LawfulNext next → LawfulNext (this.this_round wanted next)
 this_round-lawful wanted sound next n left known = (
   refl,
   get-meets Step still Any known idle key.Config
-      (λ c config. Asks idle (call.Get key.Pools) (λ p pools. this.this_in_pool wanted next left (record { config = config_said config; c = c; p = p }) (usable_pool_of (this.asked_of_this wanted.request wanted.address) wanted.address (map for_all (pools_said pools)))))
+      (λ c config. Asks idle (call.Get key.Pools) (λ p pools. this.this_in_pool wanted next left (record { config = config_said config; c = c; p = p }) (usable_pool_of (this.asked_of_this wanted.request wanted.address) wanted.address (pools_said pools))))
       (λ c store agrees. (
         Idles refl refl,
         get-meets Step still Any (more known store store) idle key.Pools
-            (λ p pools. this.this_in_pool wanted next left (record { config = config_said (reply_to_get (row_of key.Config store.rows)); c = c; p = p }) (usable_pool_of (this.asked_of_this wanted.request wanted.address) wanted.address (map for_all (pools_said pools))))
+            (λ p pools. this.this_in_pool wanted next left (record { config = config_said (reply_to_get (row_of key.Config store.rows)); c = c; p = p }) (usable_pool_of (this.asked_of_this wanted.request wanted.address) wanted.address (pools_said pools)))
             (λ p later agrees'.
             let wide = more (more known store store) later later in
             let said = reply_to_get (row_of key.Pools later.rows) in
-            let (label, meets) = this_in_pool-keeps wanted sound next n left (record { config = config_said (reply_to_get (row_of key.Config store.rows)); c = c; p = p }) (usable_pool_of (this.asked_of_this wanted.request wanted.address) wanted.address (map for_all (pools_said said))) wide (usable-read wide wanted said (pools-read (more known store store) later)) in
+            let (label, meets) = this_in_pool-keeps wanted sound next n left (record { config = config_said (reply_to_get (row_of key.Config store.rows)); c = c; p = p }) (usable_pool_of (this.asked_of_this wanted.request wanted.address) wanted.address (pools_said said)) wide (usable-read wide wanted said (pools-read (more known store store) later)) in
             (Idles refl label, meets)),
       )),
 )
@@ -393,8 +393,8 @@ key-changed (change_of.Pool pool) said new e = pools (list_any (change.is_same_p
     appended None f = becomes-key (record_of.Pools (pools_said said ++ pool ∷ [])) new f
     appended (Some refusal) f = refused refusal f
 
-    pools : (b : Bool) → cond b (change.Becomes (record_of.Pools (with_disabled pool.name pool.disabled (pools_said said)))) (change.pool_appended (pools_said said) pool (refusal_of (pools_said said) pool)) ≡ change.Becomes new → key_of new ≡ key.Pools
-    pools true f = becomes-key (record_of.Pools (with_disabled pool.name pool.disabled (pools_said said))) new f
+    pools : (b : Bool) → cond b (change.Becomes (record_of.Pools (with_rules pool.name pool.disabled pool.mode pool.selector (pools_said said)))) (change.pool_appended (pools_said said) pool (refusal_of (pools_said said) pool)) ≡ change.Becomes new → key_of new ≡ key.Pools
+    pools true f = becomes-key (record_of.Pools (with_rules pool.name pool.disabled pool.mode pool.selector (pools_said said))) new f
     pools false f = appended (refusal_of (pools_said said) pool) f
 key-changed (change_of.Disable name disabled) said new e = by (list_any (has_name name) (pools_said said)) e
   where

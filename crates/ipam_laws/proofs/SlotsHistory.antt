@@ -5,10 +5,12 @@ use Rattle.std.specs.Prelude.{Contains}
 use Rattle.std.specs.List.{list_any}
 use Rattle.std.proofs.lemmas.List.Elements.{Contains-append_left}
 use Rattle.ipam_addr.specs.Shape.{CidrValue}
+use Rattle.ipam_select.specs.Formula.{Formula}
+use Rattle.ipam_pool.specs.declared.pools.Mode.{Mode}
 use Rattle.ipam_pool.specs.declared.pools.Pool.{Pool}
 use Rattle.ipam_pool.specs.declared.pools.PoolRefusal.{PoolRefusal}
 use Rattle.ipam_pool.specs.declared.pools.PoolRefusal.TheVariants.{NameTaken, Overlap, Size, Prefix, TooMany, Memory}
-use Rattle.ipam_pool.specs.Changes.{has_name, refusal_of, with_disabled, with_named_disabled}
+use Rattle.ipam_pool.specs.Changes.{has_name, refusal_of, with_disabled, with_named_disabled, with_rules, with_named_rules}
 use Rattle.ipam_pool.specs.Slots.{IsSlotOf}
 use Rattle.ipam_records.specs.declared.call.Write.TheVariants.{Remove}
 use Rattle.ipam_records.specs.declared.key.Key.{Key}
@@ -61,6 +63,11 @@ unfolding Covers
 covers-disabled name disabled pools cidr (p, among, at) =
     (with_named_disabled name disabled p, in-map (with_named_disabled name disabled) p pools among, record { number = at.number; within = at.within; is = at.is })
 
+covers-ruled : (name : List ℕ) (disabled : Bool) (mode : Mode) (selector : Formula) (pools : List Pool) → Covers pools (with_rules name disabled mode selector pools)
+unfolding Covers
+covers-ruled name disabled mode selector pools cidr (p, among, at) =
+    (with_named_rules name disabled mode selector p, in-map (with_named_rules name disabled mode selector) p pools among, record { number = at.number; within = at.within; is = at.is })
+
 pools-becomes : (pools others : List Pool) (new : Record) → Covers pools others → change.Becomes (record_of.Pools others) ≡ change.Becomes new → (revision : ℕ) → Covers pools (pools_in_row (Some (revision, new)))
 pools-becomes pools others new covers e revision =
     let same : record_of.Pools others ≡ new = cc e in
@@ -82,8 +89,8 @@ changed-covers (change_of.Pool pool) o new k e revision = by (list_any (change.i
     appended None f = pools-becomes (pools_said (reply_to_get o)) (pools_said (reply_to_get o) ++ pool ∷ []) new (covers-pushed (pools_said (reply_to_get o)) pool) f revision
     appended (Some refusal) f = refused refusal f
 
-    by : (b : Bool) → cond b (change.Becomes (record_of.Pools (with_disabled pool.name pool.disabled (pools_said (reply_to_get o))))) (change.pool_appended (pools_said (reply_to_get o)) pool (refusal_of (pools_said (reply_to_get o)) pool)) ≡ change.Becomes new → Covers (pools_said (reply_to_get o)) (pools_in_row (Some (revision, new)))
-    by true f = pools-becomes (pools_said (reply_to_get o)) (with_disabled pool.name pool.disabled (pools_said (reply_to_get o))) new (covers-disabled pool.name pool.disabled (pools_said (reply_to_get o))) f revision
+    by : (b : Bool) → cond b (change.Becomes (record_of.Pools (with_rules pool.name pool.disabled pool.mode pool.selector (pools_said (reply_to_get o))))) (change.pool_appended (pools_said (reply_to_get o)) pool (refusal_of (pools_said (reply_to_get o)) pool)) ≡ change.Becomes new → Covers (pools_said (reply_to_get o)) (pools_in_row (Some (revision, new)))
+    by true f = pools-becomes (pools_said (reply_to_get o)) (with_rules pool.name pool.disabled pool.mode pool.selector (pools_said (reply_to_get o))) new (covers-ruled pool.name pool.disabled pool.mode pool.selector (pools_said (reply_to_get o))) f revision
     by false f = appended (refusal_of (pools_said (reply_to_get o)) pool) f
 changed-covers (change_of.Disable name disabled) o new k e revision = by (list_any (has_name name) (pools_said (reply_to_get o))) e
   where

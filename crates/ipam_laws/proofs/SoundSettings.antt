@@ -1,5 +1,5 @@
 -- Which pools and reservations that an operator's change writes are sound.
-use Rattle.std.proofs.Common.{◌≡◌, ◌≢◌, ℕ, zero, suc, ◌<◌, Bool, true, false, cond, List, [], ◌∷◌, ◌++◌, length, get_or, Option, Some, None, refl, sym, ◌∙◌, subst, arith, bytes_eq}
+use Rattle.std.proofs.Common.{◌≡◌, ◌≢◌, ℕ, zero, suc, ◌<◌, Bool, true, false, cond, List, [], ◌∷◌, ◌++◌, map, length, get_or, Option, Some, None, refl, sym, ◌∙◌, subst, arith, bytes_eq}
 use Rattle.std.specs.Prelude.{All, AllPairs, not, nat_le, IsTrue}
 use Rattle.std.specs.List.{list_any, filter}
 use Rattle.std.proofs.lemmas.Bool.{leb-false}
@@ -13,9 +13,12 @@ use Rattle.ipam_addr.specs.Names.{is_name_text}
 use Rattle.ipam_pool.specs.declared.pools.Pool.{Pool}
 use Rattle.ipam_pool.specs.declared.pools.PoolRefusal.{PoolRefusal}
 use Rattle.ipam_pool.specs.declared.pools.PoolRefusal.TheVariants.{NameTaken, Overlap, Size, Prefix, TooMany, Memory}
-use Rattle.ipam_pool.specs.Changes.{has_name, refusal_of, with_disabled, with_named_disabled}
+use Rattle.ipam_pool.specs.Changes.{has_name, refusal_of, with_disabled, with_named_disabled, with_rules, with_named_rules}
 use Rattle.ipam_pool.proofs.Accepting.{IsPoolTable-push, none_passes}
-use Rattle.ipam_pool.proofs.Disabling.{IsPoolTable-with_disabled}
+use Rattle.ipam_pool.proofs.Changing.{IsPoolTable-with_disabled, IsPoolTable-with_rules}
+use Rattle.ipam_select.specs.Formula.{Formula}
+use Rattle.ipam_select.specs.Sound.{is_sound}
+use Rattle.ipam_pool.specs.declared.pools.Mode.{Mode}
 use Rattle.ipam_reserve.specs.Shape.{ReservationValue}
 use Rattle.ipam_records.specs.declared.record.Record.{Record}
 use Rattle.ipam_records.specs.declared.record.Record.TheVariants as record_of
@@ -25,7 +28,8 @@ use Rattle.ipam_model.specs.declared.request.Admin.{Admin}
 use Rattle.ipam_model.specs.declared.request.Admin.TheVariants as change_of
 use Rattle.ipam_model.specs.Admin as change
 use Rattle.ipam_model.specs.Reads.{Row, pools_said, reservations_said}
-use Rattle.ipam_model.specs.SoundRequest.{IsSoundChange, IsSoundPool}
+use Rattle.ipam_model.specs.SoundRequest.{IsSoundChange}
+use Rattle.ipam_record_text.specs.Pools.{IsSoundPool}
 
 -- ---- pools
 
@@ -39,24 +43,41 @@ no-pools = record {
     apart = λ i j d below within. absurd (omega arith);
   };
   names = λ k d within. absurd (omega arith);
+  selectors = λ k d within. absurd (omega arith);
 }
 
 pushed-pools : (pools : List Pool) (pool : Pool) → IsPoolsRecord pools → IsSoundPool pool → refusal_of pools pool ≡ None → IsPoolsRecord (pools ++ pool ∷ [])
 pushed-pools pools pool h sound none = record {
   table = IsPoolTable-push pools pool h.table sound.cidr none;
   names = All-append (λ (p : Pool). IsTrue (is_name_text p.name)) pools (pool ∷ []) h.names (All-cons (λ (p : Pool). IsTrue (is_name_text p.name)) pool [] sound.name (λ k d within. absurd (omega arith)));
+  selectors = All-append (λ (p : Pool). IsTrue (is_sound p.selector)) pools (pool ∷ []) h.selectors (All-cons (λ (p : Pool). IsTrue (is_sound p.selector)) pool [] sound.selector (λ k d within. absurd (omega arith)));
 }
 
-disabled-names : (name : List ℕ) (disabled : Bool) (pools : List Pool) → All (λ (p : Pool). IsTrue (is_name_text p.name)) pools → All (λ (p : Pool). IsTrue (is_name_text p.name)) (with_disabled name disabled pools)
-disabled-names name disabled [] h = λ k d within. absurd (omega arith)
-disabled-names name disabled (p ∷ pools) h =
-    All-cons (λ (q : Pool). IsTrue (is_name_text q.name)) (with_named_disabled name disabled p) (with_disabled name disabled pools)
-    (All-head (λ (q : Pool). IsTrue (is_name_text q.name)) p pools h) (disabled-names name disabled pools (All-tail (λ (q : Pool). IsTrue (is_name_text q.name)) p pools h))
+-- what a change of each pool keeps of it holds of all
+kept-each : (P : Pool → Type 0) (change : Pool → Pool) → ((p : Pool) → P p → P (change p)) → (pools : List Pool) → All P pools → All P (map change pools)
+kept-each P change keeps [] h = λ k d within. absurd (omega arith)
+kept-each P change keeps (p ∷ pools) h = All-cons P (change p) (map change pools) (keeps p (All-head P p pools h)) (kept-each P change keeps pools (All-tail P p pools h))
 
 disabled-pools : (name : List ℕ) (disabled : Bool) (pools : List Pool) → IsPoolsRecord pools → IsPoolsRecord (with_disabled name disabled pools)
 disabled-pools name disabled pools h = record {
   table = IsPoolTable-with_disabled name disabled pools h.table;
-  names = disabled-names name disabled pools h.names;
+  names = kept-each (λ (p : Pool). IsTrue (is_name_text p.name)) (with_named_disabled name disabled) (λ p named. named) pools h.names;
+  selectors = kept-each (λ (p : Pool). IsTrue (is_sound p.selector)) (with_named_disabled name disabled) (λ p sound. sound) pools h.selectors;
+}
+
+-- a selector that is given is sound, or the one that was there is
+given-selector : (name : List ℕ) (disabled : Bool) (mode : Mode) (selector : Formula) → is_sound selector ≡ true → (p : Pool) → IsTrue (is_sound p.selector) → IsTrue (is_sound (with_named_rules name disabled mode selector p).selector)
+given-selector name disabled mode selector sound p h = by (has_name name p)
+  where
+    by : (b : Bool) → IsTrue (is_sound (cond b selector p.selector))
+    by true = sound
+    by false = h
+
+ruled-pools : (name : List ℕ) (disabled : Bool) (mode : Mode) (selector : Formula) (pools : List Pool) → is_sound selector ≡ true → IsPoolsRecord pools → IsPoolsRecord (with_rules name disabled mode selector pools)
+ruled-pools name disabled mode selector pools sound h = record {
+  table = IsPoolTable-with_rules name disabled mode selector pools h.table;
+  names = kept-each (λ (p : Pool). IsTrue (is_name_text p.name)) (with_named_rules name disabled mode selector) (λ p named. named) pools h.names;
+  selectors = kept-each (λ (p : Pool). IsTrue (is_sound p.selector)) (with_named_rules name disabled mode selector) (given-selector name disabled mode selector sound) pools h.selectors;
 }
 
 -- ---- reservations
@@ -174,8 +195,8 @@ pool-change pool pools new sound h e = by (list_any (change.is_same_pool pool) p
     appended None none f = becomes-sound (record_of.Pools (pools ++ pool ∷ [])) new (pushed-pools pools pool h sound none) f
     appended (Some refusal) none f = refused refusal f
 
-    by : (b : Bool) → cond b (change.Becomes (record_of.Pools (with_disabled pool.name pool.disabled pools))) (change.pool_appended pools pool (refusal_of pools pool)) ≡ change.Becomes new → IsRecord new
-    by true f = becomes-sound (record_of.Pools (with_disabled pool.name pool.disabled pools)) new (disabled-pools pool.name pool.disabled pools h) f
+    by : (b : Bool) → cond b (change.Becomes (record_of.Pools (with_rules pool.name pool.disabled pool.mode pool.selector pools))) (change.pool_appended pools pool (refusal_of pools pool)) ≡ change.Becomes new → IsRecord new
+    by true f = becomes-sound (record_of.Pools (with_rules pool.name pool.disabled pool.mode pool.selector pools)) new (ruled-pools pool.name pool.disabled pool.mode pool.selector pools sound.selector h) f
     by false f = appended (refusal_of pools pool) refl f
 
 disable-change : (name : List ℕ) (disabled : Bool) (pools : List Pool) (new : Record) → IsPoolsRecord pools → change.disable_changed pools name disabled ≡ change.Becomes new → IsRecord new

@@ -1,7 +1,7 @@
 -- Assigning, claiming and the rounds of an ADD take steps of their kinds.
 use Rattle.std.proofs.lemmas.Slice.Eq.{bytes_eq-Decides}
 use Rattle.std.proofs.Common.{◌≡◌, ◌⊎◌, ℕ, zero, suc, ◌+◌, inl, inr, Bool, true, false, cond, List, [], ◌∷◌, Option, Some, None, refl, sym, ap, ◌∙◌, subst}
-use Rattle.std.specs.Prelude.{Contains, MatchOption, not, ◌&&◌, map}
+use Rattle.std.specs.Prelude.{Contains, MatchOption, not, ◌&&◌}
 use Rattle.std.specs.List.{find, filter, list_any}
 use Rattle.ipam_addr.specs.declared.address.Family.{Family}
 use Rattle.ipam_addr.specs.Shape.{CidrValue}
@@ -39,10 +39,10 @@ use Rattle.ipam_model.proofs.ChoiceLemmas.{choice_is, pick-ranked}
 use Rattle.ipam_model.specs.Counting.{raise}
 use Rattle.ipam_model.specs.Reads.{Row, config_said, pools_said, reservations_said, rows_said}
 use Rattle.ipam_model.specs.Step.{Left, left_of, Outcome, Went, Stops, Part, OutOfTries, StopAnswers, answer_of, settled, stops, onward, followed, rounds}
-use Rattle.ipam_model.specs.Usable.{Asked, RuledPool, for_all, unknown_name, is_same_cidr}
+use Rattle.ipam_model.specs.Usable.{Asked, unknown_name, is_same_cidr}
 use Rattle.ipam_laws.proofs.Lift.{Known, more, Grows, label_to, Meets-bound, label_to-bound}
 use Rattle.ipam_laws.proofs.Calls.{found-block, get-meets, list-meets}
-use Rattle.ipam_laws.proofs.Members.{in-find, in-nothing, in-place, out-map}
+use Rattle.ipam_laws.proofs.Members.{in-find, in-nothing, in-place}
 use Rattle.ipam_laws.proofs.Steps.{IsKnownBlock, IsKnownPool, IsKnownSlot, IsClaimable, IsFree, IsCountable, known-pool-grows, free-grows, Step, Idles}
 use Rattle.ipam_laws.proofs.PartSteps.{Any, still, Steps, raised_label, raise-label, raise-steps}
 use Rattle.ipam_laws.proofs.WriteSteps.{claim-steps, claim-label, assign_block-steps}
@@ -120,7 +120,7 @@ listed-block ((revision, record_of.Handle h) ∷ rows) cidr = listed-block rows 
 -- each block and each pool that was seen is known
 pub record SeenKnown (known : Known) (seen : Seen) : Type 0 where
   pub blocks : (cidr : CidrValue) → IsKnownBlock known cidr (block_at seen cidr)
-  pub pools : (ruled : RuledPool) → Contains seen.pools ruled → IsKnownPool known ruled.pool
+  pub pools : (pool : Pool) → Contains seen.pools pool → IsKnownPool known pool
 
 -- the pools that were read are known
 abbrev pub ArePoolsKnown : Known → Said → Type 0
@@ -141,12 +141,6 @@ pools-read known store = from (row_of key.Pools store.rows) refl
     from (Some (revision, record_of.Affinity a)) e pool there = absurd (in-nothing pool there)
     from (Some (revision, record_of.Handle h)) e pool there = absurd (in-nothing pool there)
 
--- each pool with its rules is one of them
-pub ruled-known : (known : Known) (said : Said) → ArePoolsKnown known said → (ruled : RuledPool) → Contains (map for_all (pools_said said)) ruled → IsKnownPool known ruled.pool
-ruled-known known said h ruled there =
-    let (pool, among, is) = out-map for_all ruled (pools_said said) there in
-    subst (λ (r : RuledPool). IsKnownPool known r.pool) is (h pool among)
-
 found-known : (known : Known) (store : Datastore) (cidr : CidrValue) (o : Option Row) → row_of (key.Block cidr) store.rows ≡ o → IsKnownBlock (more known store store) cidr (block_in_found o)
 found-known known store cidr None e = tt
 found-known known store cidr (Some row) e =
@@ -166,7 +160,7 @@ behind_4 family follows c p r f config pools reservations affinities =
     (record { family = family; c = c; p = p; r = r; f = f; b = b })
     (record {
       config = config_said config;
-      pools = map for_all (pools_said pools);
+      pools = pools_said pools;
       reservations = reservations_said reservations;
       affinities = rows_said affinities;
       blocks = rows_said blocks;
@@ -192,7 +186,7 @@ steps_4 family follows k c p r f config pools reservations affinities known h =
     (record { family = family; c = c; p = p; r = r; f = f; b = b })
     (record {
       config = config_said config;
-      pools = map for_all (pools_said pools);
+      pools = pools_said pools;
       reservations = reservations_said reservations;
       affinities = rows_said affinities;
       blocks = rows_said blocks;
@@ -201,20 +195,20 @@ steps_4 family follows k c p r f config pools reservations affinities known h =
     (record { family = family; c = c; p = p; r = r; f = f; b = b })
     (record {
       config = config_said config;
-      pools = map for_all (pools_said pools);
+      pools = pools_said pools;
       reservations = reservations_said reservations;
       affinities = rows_said affinities;
       blocks = listed kind.Block store;
     })
     (record {
       blocks = λ cidr. listed-known known store cidr;
-      pools = ruled-known (more known store store) pools (pools-known-grow known (more known store store) pools (λ k r f there. inl there) h);
+      pools = pools-known-grow known (more known store store) pools (λ k r f there. inl there) h;
     })))
   where
     seen_there : Datastore → Seen
     seen_there store = record {
       config = config_said config;
-      pools = map for_all (pools_said pools);
+      pools = pools_said pools;
       reservations = reservations_said reservations;
       affinities = rows_said affinities;
       blocks = listed kind.Block store;
@@ -360,21 +354,21 @@ chosen-slot slot (Unclaimed read) = refl
 chosen-slot slot (Foreign found ordinal) = refl
 
 -- it is a slot of a pool that was seen
-picked-slot : (asked : Asked) (seen : Seen) (found : Ranked) → pick_of asked seen ≡ Picks found → (ruled : RuledPool) × Contains seen.pools ruled × IsSlotOf ruled.pool found.slot
+picked-slot : (asked : Asked) (seen : Seen) (found : Ranked) → pick_of asked seen ≡ Picks found → (pool : Pool) × Contains seen.pools pool × IsSlotOf pool found.slot
 picked-slot asked seen found e = by (unknown_name asked seen.pools) (choice_is asked seen)
   where
     chosen_is : slot_in (choice_of asked seen) ≡ Some found.slot
     chosen_is = ap (λ pick. slot_in (choice_in pick)) e ∙ chosen-slot found.slot found.rank
 
-    by : (o : Option ℕ) → MatchOption o (IsBest asked seen (choice_of asked seen)) (λ place. choice_of asked seen ≡ NoPool place) → (ruled : RuledPool) × Contains seen.pools ruled × IsSlotOf ruled.pool found.slot
+    by : (o : Option ℕ) → MatchOption o (IsBest asked seen (choice_of asked seen)) (λ place. choice_of asked seen ≡ NoPool place) → (pool : Pool) × Contains seen.pools pool × IsSlotOf pool found.slot
     by (Some place) h = let none = ap slot_in h in absurd (cc (none, chosen_is))
     by None (inl (nothing, is)) = let none = ap slot_in is in absurd (cc (none, chosen_is))
     by None (inr (first, is)) =
         let best = first.best.ranked in
         let slots : Some best.slot ≡ Some found.slot = sym (chosen-slot best.slot best.rank) ∙ (sym (ap slot_in is) ∙ chosen_is) in
         let same : best.slot ≡ found.slot = cc slots in (
-          first.candidate.ruled,
-          in-place seen.pools first.best.place first.candidate.ruled first.candidate.at_place,
+          first.candidate.pool,
+          in-place seen.pools first.best.place first.candidate.pool first.candidate.at_place,
           record { number = first.best.number; within = first.candidate.within; is = sym same ∙ first.candidate.is_slot },
         )
 
@@ -404,9 +398,9 @@ follow_rank-keeps round sound n left slot (Foreign found ordinal) known h = take
 follow_pick-keeps : (round : Round) → IsSoundAdd round.request → LawfulNext round.next → (left : Left) (family : Family) (seen : Seen) (known : Known) → SeenKnown known seen → (pick : Pick) → pick_of (add.asked_of round.request family) seen ≡ pick → Keeps known (add.follow_pick round left pick)
 follow_pick-keeps round sound n left family seen known h (Picks ranked) is =
     let asked = add.asked_of round.request family in
-    let (ruled, there, at) = picked-slot asked seen ranked is in
+    let (pool, there, at) = picked-slot asked seen ranked is in
     follow_rank-keeps round sound n left ranked.slot ranked.rank known
-    (rank_at-known known asked seen ranked.slot (block_at seen ranked.slot) ranked.rank sound.node (ruled.pool, h.pools ruled there, inl at) (h.blocks ranked.slot) (pick-ranked asked seen ranked is))
+    (rank_at-known known asked seen ranked.slot (block_at seen ranked.slot) ranked.rank sound.node (pool, h.pools pool there, inl at) (h.blocks ranked.slot) (pick-ranked asked seen ranked is))
 follow_pick-keeps round sound n left family seen known h Lacks is = (refl, tt)
 follow_pick-keeps round sound n left family seen known h (Unknown place) is = (refl, tt)
 

@@ -1,5 +1,6 @@
 use ipam_addr::{read_addr, read_cidr};
-use ipam_pool::{NoSuchPool, Pool, PoolRefusal, PoolTable};
+use ipam_pool::{Mode, NoSuchPool, Pool, PoolRefusal, PoolTable};
+use ipam_select::{NodeSelector, Selector};
 use ipam_text::Text;
 use std::alloc::Global;
 use std::test::Fail;
@@ -10,6 +11,8 @@ fn pool(alloc: Global, name: &str, cidr: &str, size: u8) -> Result<Pool, Fail> {
         cidr: read_cidr(cidr.as_bytes())?,
         size,
         disabled: false,
+        mode: Mode::Automatic,
+        selector: NodeSelector::all(alloc),
     })
 }
 
@@ -103,6 +106,33 @@ fn disables(rt: HostRuntime) -> Result<(), Fail> {
     }
     for pool in table.pools() {
         assert!(rt; !pool.disabled);
+    }
+    Ok(())
+}
+
+#[test]
+fn sets_rules(rt: HostRuntime) -> Result<(), Fail> {
+    let alloc = rt.alloc();
+    let mut table = PoolTable::new(alloc);
+    table.add(pool(alloc, "a", "10.0.0.0/24", 26)?)?;
+    table.add(pool(alloc, "b", "10.0.1.0/24", 26)?)?;
+    let western = Selector::read(alloc, b"zone == 'west'")?;
+    table.set("b", true, Mode::Manual, NodeSelector::new(alloc, western))?;
+    let all = NodeSelector::all(alloc);
+    assert_eq!(rt; table.set("c", true, Mode::Manual, all), Err(NoSuchPool));
+    let copy = table.copy()?;
+    let all = NodeSelector::all(alloc);
+    table.set("b", false, Mode::Automatic, all)?;
+    let modes = [Mode::Automatic, Mode::Manual];
+    for (pool, mode) in copy.pools().iter().zip(modes.iter()) {
+        let is_manual = *mode == Mode::Manual;
+        assert_eq!(rt; pool.mode, *mode);
+        assert_eq!(rt; pool.disabled, is_manual);
+        assert_eq!(rt; pool.selector.is_all(), !is_manual);
+    }
+    for pool in table.pools() {
+        assert_eq!(rt; pool.mode, Mode::Automatic);
+        assert!(rt; !pool.disabled && pool.selector.is_all());
     }
     Ok(())
 }

@@ -6,7 +6,8 @@ use Rattle.ipam_addr.specs.Shape.{CidrValue}
 use Rattle.ipam_addr.specs.Slots.{last_slot_of, slot_of}
 use Rattle.ipam_model.specs.declared.choice.Choice.{Choice}
 use Rattle.ipam_model.specs.declared.choice.Choice.TheVariants.{NoPool}
-use Rattle.ipam_model.specs.Usable.{Asked, RuledPool, is_usable, unknown_name}
+use Rattle.ipam_model.specs.Usable.{Asked, is_usable, unknown_name}
+use Rattle.ipam_pool.specs.declared.pools.Pool.{Pool}
 use Rattle.ipam_model.specs.Choice.{Seen, Rank, Own, Unconfirmed, Unclaimed, Foreign, rank_number, rank_of, Ranked, Candidate, IsCandidateOf, IsCandidate, rank_in, IsNotBehind, by_rank, by_place, by_number, FirstCandidate, IsBest, IsChoice, first_found, if_rank, ranked_at, first_slot_in, first_slot, Pick, Picks, best_of_ranks, pick_unless, pick_of, choice_in, choice_of, chosen}
 
 -- ---- what is found first
@@ -89,11 +90,11 @@ ranked-there asked seen slot rank is =
 -- ---- the first slot of a rank
 
 -- no candidate of the rank
-abbrev NoneOf : Asked → Seen → List RuledPool → (number : ℕ) → Type 0
+abbrev NoneOf : Asked → Seen → List Pool → (number : ℕ) → Type 0
 NoneOf asked seen pools number = (c : Candidate) → rank_in c ≡ number → ¬ (IsCandidateOf asked seen pools c)
 
 -- the first of the pools' candidates of the rank
-record IsFirstOf (asked : Asked) (seen : Seen) (pools : List RuledPool) (number : ℕ) (found : Ranked) : Type 0 where
+record IsFirstOf (asked : Asked) (seen : Seen) (pools : List Pool) (number : ℕ) (found : Ranked) : Type 0 where
   best : Candidate
   is_found : best.ranked ≡ found
   numbered : rank_in best ≡ number
@@ -104,9 +105,9 @@ record IsFirstOf (asked : Asked) (seen : Seen) (pools : List RuledPool) (number 
 abbrev one_further : Candidate → Candidate
 one_further c = record { ranked = c.ranked; place = suc c.place; number = c.number }
 
-further : (asked : Asked) (seen : Seen) (head : RuledPool) (pools : List RuledPool) (c : Candidate) → IsCandidateOf asked seen pools c → IsCandidateOf asked seen (head ∷ pools) (one_further c)
+further : (asked : Asked) (seen : Seen) (head : Pool) (pools : List Pool) (c : Candidate) → IsCandidateOf asked seen pools c → IsCandidateOf asked seen (head ∷ pools) (one_further c)
 further asked seen head pools c h = record {
-  ruled = h.ruled;
+  pool = h.pool;
   at_place = h.at_place;
   usable = h.usable;
   within = h.within;
@@ -118,9 +119,9 @@ further asked seen head pools c h = record {
 abbrev at_place_of : Ranked → (place number : ℕ) → Candidate
 at_place_of ranked place number = record { ranked = ranked; place = place; number = number }
 
-nearer : (asked : Asked) (seen : Seen) (head : RuledPool) (pools : List RuledPool) (ranked : Ranked) (place number : ℕ) → IsCandidateOf asked seen (head ∷ pools) (at_place_of ranked (suc place) number) → IsCandidateOf asked seen pools (at_place_of ranked place number)
+nearer : (asked : Asked) (seen : Seen) (head : Pool) (pools : List Pool) (ranked : Ranked) (place number : ℕ) → IsCandidateOf asked seen (head ∷ pools) (at_place_of ranked (suc place) number) → IsCandidateOf asked seen pools (at_place_of ranked place number)
 nearer asked seen head pools ranked place number h = record {
-  ruled = h.ruled;
+  pool = h.pool;
   at_place = h.at_place;
   usable = h.usable;
   within = h.within;
@@ -129,28 +130,28 @@ nearer asked seen head pools ranked place number h = record {
 }
 
 -- a candidate in the first pool is found there
-record IsInHead (asked : Asked) (seen : Seen) (head : RuledPool) (ranked : Ranked) (number : ℕ) : Type 0 where
+record IsInHead (asked : Asked) (seen : Seen) (head : Pool) (ranked : Ranked) (number : ℕ) : Type 0 where
   usable : IsTrue (is_usable asked head)
-  below : number < zero + (last_slot_of head.pool.cidr head.pool.size + 1)
-  there : ranked_at asked seen (rank_number ranked.rank) (slot_of head.pool.cidr head.pool.size number) ≡ Some (record { slot = slot_of head.pool.cidr head.pool.size number; rank = ranked.rank })
+  below : number < zero + (last_slot_of head.cidr head.size + 1)
+  there : ranked_at asked seen (rank_number ranked.rank) (slot_of head.cidr head.size number) ≡ Some (record { slot = slot_of head.cidr head.size number; rank = ranked.rank })
 
-in_head : (asked : Asked) (seen : Seen) (head : RuledPool) (pools : List RuledPool) (ranked : Ranked) (number : ℕ) → IsCandidateOf asked seen (head ∷ pools) (at_place_of ranked zero number) → IsInHead asked seen head ranked number
+in_head : (asked : Asked) (seen : Seen) (head : Pool) (pools : List Pool) (ranked : Ranked) (number : ℕ) → IsCandidateOf asked seen (head ∷ pools) (at_place_of ranked zero number) → IsInHead asked seen head ranked number
 in_head asked seen head pools ranked number h =
-    let same : head ≡ h.ruled = cc h.at_place in
-    let within : number ≤ last_slot_of head.pool.cidr head.pool.size = subst (λ (r : RuledPool). number ≤ last_slot_of r.pool.cidr r.pool.size) (sym same) h.within in
-    let is_slot : ranked.slot ≡ slot_of head.pool.cidr head.pool.size number = subst (λ (r : RuledPool). ranked.slot ≡ slot_of r.pool.cidr r.pool.size number) (sym same) h.is_slot in
+    let same : head ≡ h.pool = cc h.at_place in
+    let within : number ≤ last_slot_of head.cidr head.size = subst (λ (r : Pool). number ≤ last_slot_of r.cidr r.size) (sym same) h.within in
+    let is_slot : ranked.slot ≡ slot_of head.cidr head.size number = subst (λ (r : Pool). ranked.slot ≡ slot_of r.cidr r.size number) (sym same) h.is_slot in
     record {
-      usable = subst (λ (r : RuledPool). IsTrue (is_usable asked r)) (sym same) h.usable;
+      usable = subst (λ (r : Pool). IsTrue (is_usable asked r)) (sym same) h.usable;
       below = omega arith;
-      there = ranked-there asked seen (slot_of head.pool.cidr head.pool.size number) ranked.rank (ap (rank_of asked seen) (sym is_slot) ∙ h.has_rank);
+      there = ranked-there asked seen (slot_of head.cidr head.size number) ranked.rank (ap (rank_of asked seen) (sym is_slot) ∙ h.has_rank);
     }
 
 -- none in the first pool
-abbrev NoneInHead : Asked → Seen → RuledPool → List RuledPool → (number : ℕ) → Type 0
+abbrev NoneInHead : Asked → Seen → Pool → List Pool → (number : ℕ) → Type 0
 NoneInHead asked seen head pools number = (ranked : Ranked) (k : ℕ) → rank_number ranked.rank ≡ number → ¬ (IsCandidateOf asked seen (head ∷ pools) (at_place_of ranked zero k))
 
 -- then the first of the others
-behind_head : (asked : Asked) (seen : Seen) (head : RuledPool) (pools : List RuledPool) (number : ℕ) (found : Ranked) → NoneInHead asked seen head pools number → IsFirstOf asked seen pools number found → IsFirstOf asked seen (head ∷ pools) number found
+behind_head : (asked : Asked) (seen : Seen) (head : Pool) (pools : List Pool) (number : ℕ) (found : Ranked) → NoneInHead asked seen head pools number → IsFirstOf asked seen pools number found → IsFirstOf asked seen (head ∷ pools) number found
 behind_head asked seen head pools number found none f = record {
   best = one_further f.best;
   is_found = f.is_found;
@@ -166,7 +167,7 @@ behind_head asked seen head pools number found none f = record {
       | inr same ↦ inr (ap suc same.0, same.1)
     ]
 
-nowhere : (asked : Asked) (seen : Seen) (head : RuledPool) (pools : List RuledPool) (number : ℕ) → NoneInHead asked seen head pools number → NoneOf asked seen pools number → NoneOf asked seen (head ∷ pools) number
+nowhere : (asked : Asked) (seen : Seen) (head : Pool) (pools : List Pool) (number : ℕ) → NoneInHead asked seen head pools number → NoneOf asked seen pools number → NoneOf asked seen (head ∷ pools) number
 nowhere asked seen head pools number here there = λ c numbered h. at c.ranked c.place c.number numbered h
   where
     at : (ranked : Ranked) (p k : ℕ) → rank_number ranked.rank ≡ number → ¬ (IsCandidateOf asked seen (head ∷ pools) (at_place_of ranked p k))
@@ -174,32 +175,32 @@ nowhere asked seen head pools number here there = λ c numbered h. at c.ranked c
     at ranked (suc p) k numbered h = there (at_place_of ranked p k) numbered (nearer asked seen head pools ranked p k h)
 
 -- a pool that is not usable, or whose slots do not have the rank, has no candidate
-not_usable : (asked : Asked) (seen : Seen) (head : RuledPool) (pools : List RuledPool) (number : ℕ) → is_usable asked head ≡ false → NoneInHead asked seen head pools number
+not_usable : (asked : Asked) (seen : Seen) (head : Pool) (pools : List Pool) (number : ℕ) → is_usable asked head ≡ false → NoneInHead asked seen head pools number
 not_usable asked seen head pools number unusable = λ ranked k numbered h.
     let usable : is_usable asked head ≡ true = (in_head asked seen head pools ranked k h).usable in cc
 
 -- where it finds the slots of the rank
-abbrev finds_in : Asked → Seen → (number : ℕ) → RuledPool → ℕ → Option Ranked
-finds_in asked seen number head k = ranked_at asked seen number (slot_of head.pool.cidr head.pool.size k)
+abbrev finds_in : Asked → Seen → (number : ℕ) → Pool → ℕ → Option Ranked
+finds_in asked seen number head k = ranked_at asked seen number (slot_of head.cidr head.size k)
 
-not_ranked : (asked : Asked) (seen : Seen) (head : RuledPool) (pools : List RuledPool) (number : ℕ) → first_slot_in asked seen number head.pool ≡ None → NoneInHead asked seen head pools number
+not_ranked : (asked : Asked) (seen : Seen) (head : Pool) (pools : List Pool) (number : ℕ) → first_slot_in asked seen number head ≡ None → NoneInHead asked seen head pools number
 not_ranked asked seen head pools number none = λ ranked k numbered h.
     let inside = in_head asked seen head pools ranked k h in
-    let fails = first_found-none (finds_in asked seen number head) (last_slot_of head.pool.cidr head.pool.size + 1) 0 none k (omega arith) inside.below in
-    let there = subst (λ (n : ℕ). finds_in asked seen n head k ≡ Some (record { slot = slot_of head.pool.cidr head.pool.size k; rank = ranked.rank })) numbered inside.there in
+    let fails = first_found-none (finds_in asked seen number head) (last_slot_of head.cidr head.size + 1) 0 none k (omega arith) inside.below in
+    let there = subst (λ (n : ℕ). finds_in asked seen n head k ≡ Some (record { slot = slot_of head.cidr head.size k; rank = ranked.rank })) numbered inside.there in
     absurd (cc (there, fails))
 
 -- the first slot of the first pool
-head_first : (asked : Asked) (seen : Seen) (head : RuledPool) (pools : List RuledPool) (number : ℕ) (found : ℕ × Ranked) → is_usable asked head ≡ true → first_slot_in asked seen number head.pool ≡ Some found → IsFirstOf asked seen (head ∷ pools) number found.1
+head_first : (asked : Asked) (seen : Seen) (head : Pool) (pools : List Pool) (number : ℕ) (found : ℕ × Ranked) → is_usable asked head ≡ true → first_slot_in asked seen number head ≡ Some found → IsFirstOf asked seen (head ∷ pools) number found.1
 head_first asked seen head pools number found usable e =
-    let there = first_found-some (finds_in asked seen number head) (last_slot_of head.pool.cidr head.pool.size + 1) 0 found e in
-    let ranked = ranked-some asked seen number (slot_of head.pool.cidr head.pool.size found.0) found.1 there.there in
+    let there = first_found-some (finds_in asked seen number head) (last_slot_of head.cidr head.size + 1) 0 found e in
+    let ranked = ranked-some asked seen number (slot_of head.cidr head.size found.0) found.1 there.there in
     record {
       best = at_place_of found.1 zero found.0;
       is_found = refl;
       numbered = ranked.numbered;
       candidate = record {
-        ruled = head;
+        pool = head;
         at_place = refl;
         usable = usable;
         within = omega (arith, there.below);
@@ -215,18 +216,18 @@ head_first asked seen head pools number found usable e =
       | inl less ↦
           let fails = least k (omega arith) (ltb-true k found.0 less) in
           let inside = in_head asked seen head pools ranked k h in
-          let there = subst (λ (n : ℕ). finds_in asked seen n head k ≡ Some (record { slot = slot_of head.pool.cidr head.pool.size k; rank = ranked.rank })) numbered inside.there in
+          let there = subst (λ (n : ℕ). finds_in asked seen n head k ≡ Some (record { slot = slot_of head.cidr head.size k; rank = ranked.rank })) numbered inside.there in
           absurd (cc (there, fails))
       | inr not_less ↦ inr (refl, ltb-false k found.0 not_less)
     ]
 
-first_slot-some : (asked : Asked) (seen : Seen) (number : ℕ) (pools : List RuledPool) (found : Ranked) → first_slot asked seen number pools ≡ Some found → IsFirstOf asked seen pools number found
+first_slot-some : (asked : Asked) (seen : Seen) (number : ℕ) (pools : List Pool) (found : Ranked) → first_slot asked seen number pools ≡ Some found → IsFirstOf asked seen pools number found
 unfolding first_slot
 first_slot-some asked seen number [] found e = absurd (cc e)
 first_slot-some asked seen number (head ∷ pools) found e =
-    by (λ f. first_slot-some asked seen number pools found f) (is_usable asked head) refl (first_slot_in asked seen number head.pool) refl e
+    by (λ f. first_slot-some asked seen number pools found f) (is_usable asked head) refl (first_slot_in asked seen number head) refl e
   where
-    by : (first_slot asked seen number pools ≡ Some found → IsFirstOf asked seen pools number found) → (b : Bool) → is_usable asked head ≡ b → (o : Option (ℕ × Ranked)) → first_slot_in asked seen number head.pool ≡ o
+    by : (first_slot asked seen number pools ≡ Some found → IsFirstOf asked seen pools number found) → (b : Bool) → is_usable asked head ≡ b → (o : Option (ℕ × Ranked)) → first_slot_in asked seen number head ≡ o
         → elim b as (λ b. Option Ranked) [ true ↦ elim o as (λ o. Option Ranked) [ Some f ↦ Some f.1 | None ↦ first_slot asked seen number pools ] | false ↦ first_slot asked seen number pools ] ≡ Some found
         → IsFirstOf asked seen (head ∷ pools) number found
     by rest true usable (Some there) is e =
@@ -235,13 +236,13 @@ first_slot-some asked seen number (head ∷ pools) found e =
     by rest true usable None is e = behind_head asked seen head pools number found (not_ranked asked seen head pools number is) (rest e)
     by rest false usable o is e = behind_head asked seen head pools number found (not_usable asked seen head pools number usable) (rest e)
 
-first_slot-none : (asked : Asked) (seen : Seen) (number : ℕ) (pools : List RuledPool) → first_slot asked seen number pools ≡ None → NoneOf asked seen pools number
+first_slot-none : (asked : Asked) (seen : Seen) (number : ℕ) (pools : List Pool) → first_slot asked seen number pools ≡ None → NoneOf asked seen pools number
 unfolding first_slot
 first_slot-none asked seen number [] e = λ c numbered h. absurd (cc h.at_place)
 first_slot-none asked seen number (head ∷ pools) e =
-    by (λ f. first_slot-none asked seen number pools f) (is_usable asked head) refl (first_slot_in asked seen number head.pool) refl e
+    by (λ f. first_slot-none asked seen number pools f) (is_usable asked head) refl (first_slot_in asked seen number head) refl e
   where
-    by : (first_slot asked seen number pools ≡ None → NoneOf asked seen pools number) → (b : Bool) → is_usable asked head ≡ b → (o : Option (ℕ × Ranked)) → first_slot_in asked seen number head.pool ≡ o
+    by : (first_slot asked seen number pools ≡ None → NoneOf asked seen pools number) → (b : Bool) → is_usable asked head ≡ b → (o : Option (ℕ × Ranked)) → first_slot_in asked seen number head ≡ o
         → elim b as (λ b. Option Ranked) [ true ↦ elim o as (λ o. Option Ranked) [ Some f ↦ Some f.1 | None ↦ first_slot asked seen number pools ] | false ↦ first_slot asked seen number pools ] ≡ None
         → NoneOf asked seen (head ∷ pools) number
     by rest true usable (Some there) is e = absurd (cc e)
@@ -340,8 +341,8 @@ pick-ranked asked seen found e = by (unknown_name asked seen.pools) e
 -- at one place and number there is one ranked slot
 ranked-same : (asked : Asked) (seen : Seen) (c d : Candidate) → c.place ≡ d.place → c.number ≡ d.number → IsCandidate asked seen c → IsCandidate asked seen d → c.ranked ≡ d.ranked
 ranked-same asked seen c d place number h k =
-    let ruled : h.ruled ≡ k.ruled = cc (h.at_place, k.at_place, place) in
-    let slots : slot_of h.ruled.pool.cidr h.ruled.pool.size c.number ≡ slot_of k.ruled.pool.cidr k.ruled.pool.size d.number = λ i. slot_of (ruled i).pool.cidr (ruled i).pool.size (number i) in
+    let same : h.pool ≡ k.pool = cc (h.at_place, k.at_place, place) in
+    let slots : slot_of h.pool.cidr h.pool.size c.number ≡ slot_of k.pool.cidr k.pool.size d.number = λ i. slot_of (same i).cidr (same i).size (number i) in
     let slot : c.ranked.slot ≡ d.ranked.slot = h.is_slot ∙ (slots ∙ sym k.is_slot) in
     let somes : Some c.ranked.rank ≡ Some d.ranked.rank = sym h.has_rank ∙ (ap (rank_of asked seen) slot ∙ k.has_rank) in
     let rank : c.ranked.rank ≡ d.ranked.rank = cc somes in

@@ -19,7 +19,7 @@ use Rattle.ipam_model.specs.Choice.{Seen, Rank, Own, Unconfirmed, Unclaimed, For
 use Rattle.ipam_model.specs.Counting.{freeing_one, free}
 use Rattle.ipam_model.specs.Reads.{config_said, pools_said, reservations_said, rows_said}
 use Rattle.ipam_model.specs.Step.{Left, all_left, Stop, OutOfTries, OutOfClaims, NoRoom, CountAtLimit, NoRevisions, Outcome, Went, Stops, Part, StopAnswers, stop_answer, goes, stops, followed, in_rounds, settled}
-use Rattle.ipam_model.specs.Usable.{Asked, for_all, families_if}
+use Rattle.ipam_model.specs.Usable.{Asked, families_if}
 
 -- The configuration, the pools and the reservations are read, and the affinities and the blocks are
 -- listed. What follows is given the moments and what was read.
@@ -34,7 +34,7 @@ five_reads family follows =
     (record { family = family; c = c; p = p; r = r; f = f; b = b })
     (record {
       config = config_said config;
-      pools = map for_all (pools_said pools);
+      pools = pools_said pools;
       reservations = reservations_said reservations;
       affinities = rows_said affinities;
       blocks = rows_said blocks;

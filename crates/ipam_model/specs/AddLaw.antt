@@ -1,5 +1,5 @@
 -- What the answers of an ADD say of the history.
-use Rattle.std.specs.Prelude.{◌≡◌, ℕ, ◌+◌, ◌<◌, ◌⊎◌, List, [], ◌∷◌, ◌++◌, Some, None, map, slice_get}
+use Rattle.std.specs.Prelude.{◌≡◌, ℕ, ◌+◌, ◌<◌, ◌⊎◌, List, [], ◌∷◌, ◌++◌, Some, None, slice_get}
 use Rattle.std.specs.List.{All}
 use Rattle.ipam_addr.specs.declared.address.Family.{Family}
 use Rattle.ipam_addr.specs.Holding.{Holds}
@@ -35,7 +35,8 @@ use Rattle.ipam_model.specs.Moments.{IsNext, Owns, Gains, GainedInSpan}
 use Rattle.ipam_model.specs.Owners.{Owner, owned_in}
 use Rattle.ipam_model.specs.Reads.{config_said, pools_said, block_said}
 use Rattle.ipam_model.specs.Rounds.{HasScanned}
-use Rattle.ipam_model.specs.Usable.{RuledPool, for_all, families_if, usable_pool_of}
+use Rattle.ipam_model.specs.Usable.{families_if, usable_pool_of}
+use Rattle.ipam_pool.specs.declared.pools.Pool.{Pool}
 
 -- ---- the write that an answer stands on
 
@@ -165,15 +166,15 @@ pub record HasLooked (span : Span) (request : AddRequest) (address : AddrValue) 
   pub config : Said
   pub pools : Said
   pub block : Said
-  pub ruled : RuledPool
+  pub pool : Pool
   pub cidr : CidrValue
   pub at_c : Heard span at.c (Get key.Config) config
   pub at_p : Heard span at.p (Get key.Pools) pools
   pub at_b : Heard span at.b (Get (key.Block cidr)) block
   pub then_p : IsNext span at.c at.p
   pub then_b : IsNext span at.p at.b
-  pub is_usable : usable_pool_of (asked_of_this request address) address (map for_all (pools_said pools)) ≡ Some ruled
-  pub is_slot : IsSlotOf ruled.pool cidr
+  pub is_usable : usable_pool_of (asked_of_this request address) address (pools_said pools) ≡ Some pool
+  pub is_slot : IsSlotOf pool cidr
   pub holds : Holds cidr address
 
 -- the block was there, and this is the address's ordinal in it
@@ -199,7 +200,7 @@ pub record IsThisGivenRight (a : Answered) (request : AddRequest) (address : Add
 pub record IsNotInPool (a : Answered) (request : AddRequest) (address : AddrValue) (moment : ℕ) : Type 0 where
   pub pools : Said
   pub at_p : Heard (span_of a) moment (Get key.Pools) pools
-  pub unusable : usable_pool_of (asked_of_this request address) address (map for_all (pools_said pools)) ≡ None
+  pub unusable : usable_pool_of (asked_of_this request address) address (pools_said pools) ≡ None
 
 -- the handle of this id holds the address
 pub record IsTaken (a : Answered) (request : AddRequest) (address : AddrValue) (id : List ℕ) (moment : ℕ) : Type 0 where

@@ -1,5 +1,5 @@
 -- An ADD of one address.
-use Rattle.std.specs.Prelude.{ℕ, ◌-◌, true, Option, Some, None, map, unwrap_or}
+use Rattle.std.specs.Prelude.{ℕ, ◌-◌, true, Option, Some, None, unwrap_or}
 use Rattle.ipam_addr.specs.Shape.{AddrValue, CidrValue}
 use Rattle.ipam_addr.specs.Slots.{slot_of, slot_number_of}
 use Rattle.ipam_pool.specs.declared.pools.Pool.{Pool}
@@ -20,7 +20,7 @@ use Rattle.ipam_model.specs.Assigning.{names_for, target_in, Assigned, assign, c
 use Rattle.ipam_model.specs.Choice.{by_share, share_of}
 use Rattle.ipam_model.specs.Reads.{config_said, pools_said, block_said}
 use Rattle.ipam_model.specs.Step.{Left, all_left, Part, StopAnswers, goes, followed, in_rounds, settled}
-use Rattle.ipam_model.specs.Usable.{Asked, RuledPool, for_all, usable_pool_of}
+use Rattle.ipam_model.specs.Usable.{Asked, usable_pool_of}
 
 abbrev pub asked_of_this : AddRequest → AddrValue → Asked
 asked_of_this request address = record {
@@ -98,10 +98,10 @@ abbrev pub slot_holding : Pool → AddrValue → CidrValue
 slot_holding pool address =
     slot_of pool.cidr pool.size (unwrap_or (slot_number_of pool.cidr pool.size address) 0)
 
-abbrev pub this_in_pool : Wanted → NextRound → Left → Rules → Option RuledPool → Part AddThisAnswer
+abbrev pub this_in_pool : Wanted → NextRound → Left → Rules → Option Pool → Part AddThisAnswer
 this_in_pool wanted next left rules None = goes left (add.NotInPool rules.p)
-this_in_pool wanted next left rules (Some ruled) =
-    let cidr = slot_holding ruled.pool wanted.address in
+this_in_pool wanted next left rules (Some pool) =
+    let cidr = slot_holding pool wanted.address in
     Asks idle (Get (key.Block cidr)) (λ b said.
     this_block wanted next left (record { rules = rules; cidr = cidr; b = b }) (block_said said))
 
@@ -110,7 +110,7 @@ this_round wanted next left =
     Asks idle (Get key.Config) (λ c config.
     Asks idle (Get key.Pools) (λ p pools.
     this_in_pool wanted next left (record { config = config_said config; c = c; p = p })
-    (usable_pool_of (asked_of_this wanted.request wanted.address) wanted.address (map for_all (pools_said pools)))))
+    (usable_pool_of (asked_of_this wanted.request wanted.address) wanted.address (pools_said pools))))
 
 abbrev pub add_this_stops : StopAnswers AddThisAnswer
 add_this_stops = record {

@@ -4,7 +4,7 @@ use Rattle.std.specs.List.{list_any, filter}
 use Rattle.ipam_pool.specs.declared.pools.Pool.{Pool}
 use Rattle.ipam_pool.specs.declared.pools.PoolRefusal.{PoolRefusal}
 use Rattle.ipam_pool.specs.declared.pools.PoolRefusal.TheVariants.{NameTaken, Overlap, Size, Prefix}
-use Rattle.ipam_pool.specs.Changes.{has_name, refusal_of, with_disabled}
+use Rattle.ipam_pool.specs.Changes.{has_name, refusal_of, with_disabled, with_rules}
 use Rattle.ipam_reserve.specs.Shape.{ReservationValue}
 use Rattle.ipam_records.specs.declared.key.Key.{Key}
 use Rattle.ipam_records.specs.declared.key.Key.TheVariants as key
@@ -49,11 +49,11 @@ abbrev pub pool_appended : List Pool → Pool → Option PoolRefusal → Changed
 pool_appended pools pool None = Becomes (record_of.Pools (pools ++ pool ∷ []))
 pool_appended pools pool (Some refusal) = pool_refused pools pool refusal
 
--- a pool that is there is disabled or enabled, and another is appended
+-- a pool that is there is disabled or not and has the mode and the selector, and another is appended
 abbrev pub pool_changed : List Pool → Pool → Changed
 pool_changed pools pool =
     if list_any (is_same_pool pool) pools
-    then Becomes (record_of.Pools (with_disabled pool.name pool.disabled pools))
+    then Becomes (record_of.Pools (with_rules pool.name pool.disabled pool.mode pool.selector pools))
     else pool_appended pools pool (refusal_of pools pool)
 
 abbrev pub disable_changed : List Pool → List ℕ → Bool → Changed

@@ -17,13 +17,13 @@ use Rattle.ipam_records.specs.declared.record.Record.TheVariants as record_of
 use Rattle.ipam_model.specs.declared.choice.Choice.{Choice}
 use Rattle.ipam_model.specs.declared.choice.Choice.TheVariants.{Use, Claim, Borrow, Nothing, NoPool}
 use Rattle.ipam_model.specs.Reads.{Row}
-use Rattle.ipam_model.specs.Usable.{Asked, RuledPool, is_same_cidr, is_usable, unknown_name}
+use Rattle.ipam_model.specs.Usable.{Asked, is_same_cidr, is_usable, unknown_name}
 
 -- what was read: the configuration, the pools and the reservations, and the rows of the affinities
 -- and of the blocks
 pub record Seen : Type 0 where
   pub config : Config
-  pub pools : List RuledPool
+  pub pools : List Pool
   pub reservations : List ReservationValue
   pub affinities : List Row
   pub blocks : List Row
@@ -185,12 +185,12 @@ pub record Candidate : Type 0 where
   pub number : ℕ
 
 -- the slot of this number of the pool at this place among the pools has this rank
-pub record IsCandidateOf (asked : Asked) (seen : Seen) (pools : List RuledPool) (c : Candidate) : Type 0 where
-  pub ruled : RuledPool
-  pub at_place : slice_get pools c.place ≡ Some ruled
-  pub usable : IsTrue (is_usable asked ruled)
-  pub within : c.number ≤ last_slot_of ruled.pool.cidr ruled.pool.size
-  pub is_slot : c.ranked.slot ≡ slot_of ruled.pool.cidr ruled.pool.size c.number
+pub record IsCandidateOf (asked : Asked) (seen : Seen) (pools : List Pool) (c : Candidate) : Type 0 where
+  pub pool : Pool
+  pub at_place : slice_get pools c.place ≡ Some pool
+  pub usable : IsTrue (is_usable asked pool)
+  pub within : c.number ≤ last_slot_of pool.cidr pool.size
+  pub is_slot : c.ranked.slot ≡ slot_of pool.cidr pool.size c.number
   pub has_rank : rank_of asked seen c.ranked.slot ≡ Some c.ranked.rank
 
 abbrev pub IsCandidate : Asked → Seen → Candidate → Type 0
@@ -243,11 +243,11 @@ first_slot_in asked seen number pool =
     (last_slot_of pool.cidr pool.size + 1) 0
 
 -- the first such slot of the pools
-unfoldable pub first_slot : Asked → Seen → (number : ℕ) → List RuledPool → Option Ranked
+unfoldable pub first_slot : Asked → Seen → (number : ℕ) → List Pool → Option Ranked
 first_slot asked seen number [] = None
-first_slot asked seen number (ruled ∷ pools) =
-    elim (is_usable asked ruled) [
-      | true ↦ elim (first_slot_in asked seen number ruled.pool) [
+first_slot asked seen number (pool ∷ pools) =
+    elim (is_usable asked pool) [
+      | true ↦ elim (first_slot_in asked seen number pool) [
         | Some found ↦ Some found.1
         | None ↦ first_slot asked seen number pools
       ]

@@ -1,5 +1,5 @@
 -- What is true of the allocator.
-pub mod Selector
+pub mod Pairs
 pub mod Usable
 pub mod Reads
 pub mod Choice

@@ -45,7 +45,7 @@ use Rattle.ipam_model.specs.Owners.{Owner}
 use Rattle.ipam_model.specs.Reads.{Row, config_said, pools_said, reservations_said, handle_said, block_said}
 use Rattle.ipam_model.specs.Remove.{Leak, freeing_owner, suspects, leaks}
 use Rattle.ipam_model.specs.SoundRequest.{IsSoundRequest}
-use Rattle.ipam_model.specs.Usable.{Asked, RuledPool, for_all, families_if, usable_pool_of, pool_of}
+use Rattle.ipam_model.specs.Usable.{Asked, families_if, usable_pool_of, pool_of}
 
 abbrev pub Rows : Type 0
 Rows = List Row
@@ -141,7 +141,7 @@ plain_of _ = None
 abbrev pub seen_in : Rows → Seen
 seen_in rows = record {
   config = config_said (found_in key.Config rows);
-  pools = map for_all (pools_said (found_in key.Pools rows));
+  pools = pools_said (found_in key.Pools rows);
   reservations = reservations_said (found_in key.Reservations rows);
   affinities = filter (λ row. is_of_kind kind.Affinity (row_key row)) rows;
   blocks = filter (λ row. is_of_kind kind.Block (row_key row)) rows;
@@ -255,10 +255,10 @@ plain_this_block strict wanted cidr (Some found) rows =
     plain_this_held (plain_this_free strict wanted cidr found rows) rows
     (holder found.1 (wanted.address.number - cidr.base))
 
-abbrev pub plain_this_pool : (strict : Bool) → Wanted → Option RuledPool → Rows → Result
+abbrev pub plain_this_pool : (strict : Bool) → Wanted → Option Pool → Rows → Result
 plain_this_pool strict wanted None rows = (IsInNoPool, rows)
-plain_this_pool strict wanted (Some ruled) rows =
-    let cidr = slot_holding ruled.pool wanted.address in
+plain_this_pool strict wanted (Some pool) rows =
+    let cidr = slot_holding pool wanted.address in
     plain_this_block strict wanted cidr (block_of cidr rows) rows
 
 abbrev pub plain_add_this : Wanted → Rows → Result

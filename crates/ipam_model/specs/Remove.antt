@@ -21,7 +21,7 @@ use Rattle.ipam_model.specs.declared.request.CollectRequest.{CollectRequest}
 use Rattle.ipam_model.specs.Counting.{Freeing, freeing_all, freeing_one, free}
 use Rattle.ipam_model.specs.Owners.{Owner, owner_of, is_owner_in}
 use Rattle.ipam_model.specs.Reads.{Row, handle_said, rows_said}
-use Rattle.ipam_model.specs.Selector.{has_value}
+use Rattle.ipam_model.specs.Pairs.{has_value}
 use Rattle.ipam_model.specs.Step.{Left, all_left, Part, StopAnswers, goes, followed, without_count, settled}
 
 -- the owner's address in the block, with its stamp

@@ -1,5 +1,5 @@
 -- What a request has read in a round.
-use Rattle.std.specs.Prelude.{◌≡◌, map}
+use Rattle.std.specs.Prelude.{◌≡◌}
 use Rattle.ipam_records.specs.declared.call.Call.TheVariants.{Get, List as ListAll}
 use Rattle.ipam_records.specs.declared.key.Key.TheVariants as key
 use Rattle.ipam_records.specs.declared.key.Kind.TheVariants as kind
@@ -9,7 +9,6 @@ use Rattle.ipam_model.specs.Choice.{Seen}
 use Rattle.ipam_model.specs.History.{Span, Heard}
 use Rattle.ipam_model.specs.Moments.{IsNext}
 use Rattle.ipam_model.specs.Reads.{config_said, pools_said, reservations_said, rows_said}
-use Rattle.ipam_model.specs.Usable.{for_all}
 
 -- The configuration, the pools and the reservations were read and the affinities and the blocks
 -- listed, at these moments and one after the other, and this was seen.
@@ -29,7 +28,7 @@ pub record HasScanned (span : Span) (scan : Scan) (seen : Seen) : Type 0 where
   pub then_f : IsNext span scan.r scan.f
   pub then_b : IsNext span scan.f scan.b
   pub saw_config : seen.config ≡ config_said config
-  pub saw_pools : seen.pools ≡ map for_all (pools_said pools)
+  pub saw_pools : seen.pools ≡ pools_said pools
   pub saw_reservations : seen.reservations ≡ reservations_said reservations
   pub saw_affinities : seen.affinities ≡ rows_said affinities
   pub saw_blocks : seen.blocks ≡ rows_said blocks

@@ -8,7 +8,7 @@ use Rattle.std.specs.List.Sorted.{IsStrictlySortedBy}
 use Rattle.ipam_addr.specs.Shape.{CidrValue}
 use Rattle.ipam_addr.specs.Text.{cidr_reading}
 use Rattle.ipam_addr.specs.Width.{IsAddress, IsCidr}
-use Rattle.ipam_pool.specs.declared.pools.Pool.{Pool}
+use Rattle.ipam_record_text.specs.Pools.{IsSoundPool}
 use Rattle.ipam_records.specs.Sound.{IsName, IsHandleId, AreAttributes, IsReservation}
 use Rattle.ipam_model.specs.declared.request.AddRequest.{AddRequest}
 use Rattle.ipam_model.specs.declared.request.Admin.{Admin}
@@ -17,20 +17,20 @@ use Rattle.ipam_model.specs.declared.request.CollectRequest.{CollectRequest}
 use Rattle.ipam_model.specs.declared.request.ProbeRequest.{ProbeRequest}
 use Rattle.ipam_model.specs.declared.request.Request.{Request}
 use Rattle.ipam_model.specs.declared.request.Request.TheVariants.{Add, AddThis, Del, Check, Release, Collect, Admin as Change, Probe}
-use Rattle.ipam_model.specs.Selector.{Label}
+use Rattle.ipam_model.specs.Pairs.{Pair}
 
 -- a letter, a digit, `_`, `.`, `-` or `/`
 abbrev pub is_label_byte : ℕ → Bool
 is_label_byte c = is_ascii_alphanumeric c || c == 95 || c == 46 || c == 45 || c == 47
 
-pub record IsLabel (label : Label) : Type 0 where
+pub record IsLabel (label : Pair) : Type 0 where
   pub key_some : 0 < length label.0
   pub key_small : length label.0 ≤ 317
   pub key_bytes : IsTrue (list_all is_label_byte label.0)
   pub value_small : length label.1 ≤ 253
 
 -- at most 64 labels whose keys ascend by their bytes
-pub record AreLabels (labels : List Label) : Type 0 where
+pub record AreLabels (labels : List Pair) : Type 0 where
   pub few : length labels ≤ 64
   pub each : All IsLabel labels
   pub ascending : IsStrictlySortedBy (slice_cmp nat_cmp) (map (λ label. label.0) labels)
@@ -67,12 +67,7 @@ pub record IsSoundCollect (request : CollectRequest) : Type 0 where
   pub grace : request.grace < 2 ^ 64
   pub scope : IsScope request.scope
 
--- whether the size is one of the family's is tested against the table
-pub record IsSoundPool (pool : Pool) : Type 0 where
-  pub name : IsName pool.name
-  pub cidr : IsCidr pool.cidr
-  pub size : pool.size < 2 ^ 8
-
+-- whether a pool's size is one of the family's is tested against the table
 abbrev pub IsSoundChange : Admin → Type 0
 IsSoundChange (change.Pool pool) = IsSoundPool pool
 IsSoundChange (change.Disable name disabled) = IsName name

@@ -9,23 +9,10 @@ use Rattle.ipam_addr.specs.Shape.{AddrValue, CidrValue}
 use Rattle.ipam_addr.specs.Holding.{is_same_family, holds_address}
 use Rattle.ipam_addr.specs.Text.{cidr_reading}
 use Rattle.ipam_handle.specs.Order.{cidr_cmp}
+use Rattle.ipam_pool.specs.declared.pools.Mode.{Mode}
+use Rattle.ipam_pool.specs.declared.pools.Mode.TheVariants.{Automatic, Manual}
 use Rattle.ipam_pool.specs.declared.pools.Pool.{Pool}
-use Rattle.ipam_model.specs.Selector.{Label, Selector, All, admits}
-
--- how a pool gives its addresses: to whoever asks, or only where it is named or one of its own is asked for
-pub data Mode : Type 0 where
-  Automatic : Mode
-  Manual : Mode
-
--- a pool with its mode and its selector
-pub record RuledPool : Type 0 where
-  pub pool : Pool
-  pub mode : Mode
-  pub selector : Selector
-
--- The record of a pool does not have a mode and a selector yet, so each pool is for all.
-abbrev pub for_all : Pool → RuledPool
-for_all pool = record { pool = pool; mode = Automatic; selector = All }
+use Rattle.ipam_select.specs.Admitting.{Labels, admits}
 
 -- what a request says about one family: the node that it is for with its labels, the pools that it
 -- names, and whether it asks for one address
@@ -33,7 +20,7 @@ pub record Asked : Type 0 where
   pub node : List ℕ
   pub family : Family
   pub names : List (List ℕ)
-  pub labels : List Label
+  pub labels : Labels
   pub one_address : Bool
 
 -- the wanted families, IPv4 first
@@ -76,25 +63,25 @@ is_enabled asked pool = not pool.disabled && is_same_family asked.family pool.ci
 
 -- Whether the request may take addresses from the pool: it is enabled, of the family, admits the
 -- node, is named where any is, and a manual one is named or asked for an address of its own.
-abbrev pub is_usable : Asked → RuledPool → Bool
-is_usable asked ruled =
-    is_enabled asked ruled.pool && admits ruled.selector asked.labels
-    && (names_none asked || is_named asked ruled.pool)
-    && (is_automatic ruled.mode || is_named asked ruled.pool || asked.one_address)
+abbrev pub is_usable : Asked → Pool → Bool
+is_usable asked pool =
+    is_enabled asked pool && admits pool.selector asked.labels
+    && (names_none asked || is_named asked pool)
+    && (is_automatic pool.mode || is_named asked pool || asked.one_address)
 
 -- whether some enabled pool of the family has the name
-abbrev pub is_known : Asked → List RuledPool → List ℕ → Bool
+abbrev pub is_known : Asked → List Pool → List ℕ → Bool
 is_known asked pools name =
-    list_any (λ ruled. is_enabled asked ruled.pool && is_name_of ruled.pool name) pools
+    list_any (λ pool. is_enabled asked pool && is_name_of pool name) pools
 
 -- the place of the first name that no enabled pool of the family has
-abbrev pub unknown_name : Asked → List RuledPool → Option ℕ
+abbrev pub unknown_name : Asked → List Pool → Option ℕ
 unknown_name asked pools = position (λ name. not (is_known asked pools name)) asked.names
 
 -- the usable pool that holds the address
-abbrev pub usable_pool_of : Asked → AddrValue → List RuledPool → Option RuledPool
+abbrev pub usable_pool_of : Asked → AddrValue → List Pool → Option Pool
 usable_pool_of asked address =
-    find (λ ruled. is_usable asked ruled && holds_address ruled.pool.cidr address)
+    find (λ pool. is_usable asked pool && holds_address pool.cidr address)
 
 -- the pool that holds the address, usable or not
 abbrev pub pool_of : AddrValue → List Pool → Option Pool

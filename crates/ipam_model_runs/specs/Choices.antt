@@ -2,7 +2,9 @@
 use Rattle.std.specs.Prelude.{◌≡◌, ℕ, ◌+◌, ◌*◌, ◌^◌, true, false, List, [], ◌∷◌, Some, None, codes}
 use Rattle.ipam_addr.specs.declared.address.Family.TheVariants.{V4, V6}
 use Rattle.ipam_addr.specs.Shape.{CidrValue}
+use Rattle.ipam_pool.specs.declared.pools.Mode.TheVariants.{Manual}
 use Rattle.ipam_pool.specs.declared.pools.Pool.{Pool}
+use Rattle.ipam_select.specs.Formula.{is}
 use Rattle.ipam_block.specs.Operations.{fresh_block}
 use Rattle.ipam_affinity.specs.declared.state.State.TheVariants.{Pending, Confirmed, PendingDeletion}
 use Rattle.ipam_record_text.specs.declared.config.Config.{Config}
@@ -10,8 +12,7 @@ use Rattle.ipam_records.specs.declared.record.Record.TheVariants as record_of
 use Rattle.ipam_model.specs.declared.choice.Choice.TheVariants.{Use, Claim, Borrow, Nothing, NoPool}
 use Rattle.ipam_model.specs.Choice.{Seen, choice_of}
 use Rattle.ipam_model.specs.Reads.{Row}
-use Rattle.ipam_model.specs.Selector.{Selector, All, Is}
-use Rattle.ipam_model.specs.Usable.{Asked, RuledPool, Mode, Automatic, Manual, usable_pool_of}
+use Rattle.ipam_model.specs.Usable.{Asked, usable_pool_of}
 use Rattle.ipam_model_runs.specs.Setting.{v4_range, v4, slot0, slot1, queue4, pool, held, block_of, affinity_of}
 
 -- ---- what is asked and seen
@@ -29,15 +30,9 @@ anything = record { node = a; family = V4; names = []; labels = []; one_address 
 abbrev pub naming : List (List ℕ) → Asked
 naming names = record anything { names = names }
 
--- a pool of two blocks of four addresses, which is for all
+-- a pool of two blocks of four addresses
 abbrev pub two_slots : Pool
 two_slots = pool (codes "p") (v4_range 0 29) 30
-
-abbrev pub ruled : Mode → Selector → Pool → RuledPool
-ruled mode selector one = record { pool = one; mode = mode; selector = selector }
-
-abbrev pub for_everyone : Pool → RuledPool
-for_everyone = ruled Automatic All
 
 -- by default affinity is not strict, and blocks are allocated without a bound
 abbrev pub defaults : Config
@@ -52,7 +47,7 @@ bounded = record defaults { max_blocks = 1 }
 abbrev pub not_allocating : Config
 not_allocating = record defaults { auto = false }
 
-abbrev pub seen_in : List RuledPool → Config → (affinities blocks : List Row) → Seen
+abbrev pub seen_in : List Pool → Config → (affinities blocks : List Row) → Seen
 seen_in pools config affinities blocks = record {
   config = config;
   pools = pools;
@@ -62,7 +57,7 @@ seen_in pools config affinities blocks = record {
 }
 
 abbrev pub seen : Config → (affinities blocks : List Row) → Seen
-seen = seen_in (for_everyone two_slots ∷ [])
+seen = seen_in (two_slots ∷ [])
 
 abbrev pub reserving : List CidrValue → Seen → Seen
 reserving cidrs all = record all { reservations = record { name = codes "r"; cidrs = cidrs } ∷ [] }
@@ -238,25 +233,25 @@ slot_of_other = v4_range 8 30
 -- the first pool comes first, with each of its slots
 abbrev pub FirstPool : Type 0
 FirstPool =
-    choice_of anything (seen_in (for_everyone other_slots ∷ for_everyone two_slots ∷ []) defaults [] [])
+    choice_of anything (seen_in (other_slots ∷ two_slots ∷ []) defaults [] [])
     ≡ Claim slot_of_other
 
 abbrev pub LastSlotOfTheFirstPool : Type 0
 LastSlotOfTheFirstPool =
-    choice_of anything (seen_in (for_everyone two_slots ∷ for_everyone other_slots ∷ []) defaults []
+    choice_of anything (seen_in (two_slots ∷ other_slots ∷ []) defaults []
     (full_of slot0 b ∷ []))
     ≡ Claim slot1
 
 -- the rank comes before the place of the pool
 abbrev pub RankBeforePool : Type 0
 RankBeforePool =
-    choice_of anything (seen_in (for_everyone two_slots ∷ for_everyone other_slots ∷ []) defaults
+    choice_of anything (seen_in (two_slots ∷ other_slots ∷ []) defaults
     (confirmed slot_of_other a ∷ []) (empty_of slot_of_other a ∷ []))
     ≡ Use slot_of_other 0
 
 abbrev pub DisabledPool : Type 0
 DisabledPool =
-    choice_of anything (seen_in (for_everyone (record two_slots { disabled = true }) ∷ for_everyone other_slots ∷ [])
+    choice_of anything (seen_in ((record two_slots { disabled = true }) ∷ other_slots ∷ [])
     defaults (confirmed slot0 a ∷ []) (empty_of slot0 a ∷ []))
     ≡ Claim slot_of_other
 
@@ -264,8 +259,8 @@ abbrev pub OtherFamily : Type 0
 OtherFamily = choice_of (record anything { family = V6 }) (seen defaults [] []) ≡ Nothing
 
 -- a manual pool is used where it is named
-abbrev pub manual_pool : List RuledPool
-manual_pool = ruled Manual All two_slots ∷ []
+abbrev pub manual_pool : List Pool
+manual_pool = record two_slots { mode = Manual } ∷ []
 
 abbrev pub ManualNotNamed : Type 0
 ManualNotNamed = choice_of anything (seen_in manual_pool defaults [] []) ≡ Nothing
@@ -276,7 +271,7 @@ ManualNamed = choice_of (naming (codes "p" ∷ [])) (seen_in manual_pool default
 -- or where one of its addresses is asked for
 abbrev pub ManualForOneAddress : Type 0
 ManualForOneAddress =
-    usable_pool_of (record anything { one_address = true }) (v4 1) manual_pool ≡ Some (ruled Manual All two_slots)
+    usable_pool_of (record anything { one_address = true }) (v4 1) manual_pool ≡ Some (record two_slots { mode = Manual })
 
 abbrev pub ManualForAny : Type 0
 ManualForAny = usable_pool_of anything (v4 1) manual_pool ≡ None
@@ -285,8 +280,8 @@ abbrev pub AddressOfNoPool : Type 0
 AddressOfNoPool = usable_pool_of (record anything { one_address = true }) (v4 8) manual_pool ≡ None
 
 -- a pool is for the nodes that its selector admits
-abbrev pub western_pool : List RuledPool
-western_pool = ruled Automatic (Is (codes "zone") (codes "west")) two_slots ∷ []
+abbrev pub western_pool : List Pool
+western_pool = record two_slots { selector = is (codes "zone") (codes "west") } ∷ []
 
 abbrev pub in_zone : List ℕ → Asked
 in_zone zone = record anything { labels = (codes "zone", zone) ∷ [] }
@@ -315,7 +310,7 @@ OneAddressNotAdmitted =
 abbrev pub NamedPool : Type 0
 NamedPool =
     choice_of (naming (codes "q" ∷ []))
-    (seen_in (for_everyone two_slots ∷ for_everyone other_slots ∷ []) defaults
+    (seen_in (two_slots ∷ other_slots ∷ []) defaults
     (confirmed slot0 a ∷ []) (empty_of slot0 a ∷ []))
     ≡ Claim slot_of_other
 
@@ -323,13 +318,13 @@ NamedPool =
 abbrev pub NamedInTableOrder : Type 0
 NamedInTableOrder =
     choice_of (naming (codes "q" ∷ codes "p" ∷ []))
-    (seen_in (for_everyone two_slots ∷ for_everyone other_slots ∷ []) defaults [] [])
+    (seen_in (two_slots ∷ other_slots ∷ []) defaults [] [])
     ≡ Claim slot0
 
 abbrev pub NamedByCidr : Type 0
 NamedByCidr =
     choice_of (naming (codes "10.0.0.8/29" ∷ []))
-    (seen_in (for_everyone two_slots ∷ for_everyone other_slots ∷ []) defaults [] [])
+    (seen_in (two_slots ∷ other_slots ∷ []) defaults [] [])
     ≡ Claim slot_of_other
 
 -- in whichever spelling
@@ -339,7 +334,7 @@ ipv6_pool = pool (codes "six") (record { family = V6; base = 0x20010db8 * 2 ^ 96
 abbrev pub NamedByOtherSpelling : Type 0
 NamedByOtherSpelling =
     choice_of (record (naming (codes "2001:DB8:0:0::/48" ∷ [])) { family = V6 })
-    (seen_in (for_everyone ipv6_pool ∷ []) defaults
+    (seen_in (ipv6_pool ∷ []) defaults
     (confirmed (ipv6_slot 0) a ∷ []) ((3, record_of.Block (fresh_block (ipv6_slot 0) (Some a))) ∷ []))
     ≡ Use (ipv6_slot 0) 0
 
@@ -350,9 +345,9 @@ UnknownName = choice_of (naming (codes "p" ∷ codes "x" ∷ codes "y" ∷ [])) 
 abbrev pub NameOfDisabled : Type 0
 NameOfDisabled =
     choice_of (naming (codes "p" ∷ []))
-    (seen_in (for_everyone (record two_slots { disabled = true }) ∷ []) defaults [] [])
+    (seen_in ((record two_slots { disabled = true }) ∷ []) defaults [] [])
     ≡ NoPool 0
 
 abbrev pub NameOfOtherFamily : Type 0
 NameOfOtherFamily =
-    choice_of (naming (codes "six" ∷ [])) (seen_in (for_everyone ipv6_pool ∷ []) defaults [] []) ≡ NoPool 0
+    choice_of (naming (codes "six" ∷ [])) (seen_in (ipv6_pool ∷ []) defaults [] []) ≡ NoPool 0

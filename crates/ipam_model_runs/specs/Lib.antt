@@ -19,5 +19,6 @@ pub mod Checks
 pub mod Administration
 pub mod Refusals
 pub mod Probes
+pub mod ManualPools
 pub mod Choices
 pub mod Selectors

@@ -3,7 +3,9 @@ use Rattle.std.specs.Prelude.{◌≡◌, ℕ, ◌+◌, ◌-◌, zero, suc, true,
 use Rattle.ipam_addr.specs.declared.address.Family.{Family}
 use Rattle.ipam_addr.specs.declared.address.Family.TheVariants.{V4}
 use Rattle.ipam_addr.specs.Shape.{AddrValue, CidrValue}
+use Rattle.ipam_pool.specs.declared.pools.Mode.TheVariants.{Automatic}
 use Rattle.ipam_pool.specs.declared.pools.Pool.{Pool}
+use Rattle.ipam_select.specs.Formula.{every}
 use Rattle.ipam_block.specs.declared.allocation.Allocation.{Allocation}
 use Rattle.ipam_block.specs.declared.allocation.Attributes.{Attributes}
 use Rattle.ipam_affinity.specs.declared.state.State.{State}
@@ -44,8 +46,16 @@ v4 offset = record { family = V4; number = ten + offset }
 
 -- ---- records
 
+-- a pool that gives to all that ask, on all nodes
 abbrev pub pool : List ℕ → CidrValue → (size : ℕ) → Pool
-pool called cidr size = record { name = called; cidr = cidr; size = size; disabled = false }
+pool called cidr size = record {
+  name = called;
+  cidr = cidr;
+  size = size;
+  disabled = false;
+  mode = Automatic;
+  selector = every;
+}
 
 abbrev pub recorded_to : List ℕ → Attributes
 recorded_to id = record { handle = id; secondary = [] }

@@ -15,6 +15,7 @@ ghost use Rattle.ipam_model_runs.specs.Deletions.{DelOfTwoBlocks, DelOfMissing};
 ghost use Rattle.ipam_model_runs.specs.Checks.{Recorded, RecordedToAnother, SecondNotRecorded, InNoPool, SecondInNoPool, InDisabledPool};
 ghost use Rattle.ipam_model_runs.specs.Administration.{ReservationMade, PoolOverlaps, PoolDisabled, ChangesRace};
 ghost use Rattle.ipam_model_runs.specs.Refusals.{CallOfIdle, StopOfIdle, BeginOfBusy};
+ghost use Rattle.ipam_model_runs.specs.ManualPools.{ProbeOfNone, ProbeOfTheName, OneAddressGiven, MadeManual, AutomaticSaid};
 ghost use Rattle.ipam_model_runs.specs.Probes.{ReadyFromAny, ReadyFromNamed, ReadyForAnotherNode, ProbeOfUnknownName, ExhaustedInOneFamily};
 
 /// An ADD takes the next address of the node's own block, until there is none.
@@ -178,4 +179,13 @@ pub fn probes()
     ensures ready_for_another_node { ReadyForAnotherNode }
     ensures probe_of_unknown_name { ProbeOfUnknownName }
     ensures exhausted_in_one_family { ExhaustedInOneFamily }
+{}
+
+/// A manual pool gives addresses to those that name it or ask for one of its own.
+pub fn requests_over_a_manual_pool()
+    ensures probe_of_none { ProbeOfNone }
+    ensures probe_of_the_name { ProbeOfTheName }
+    ensures one_address_given { OneAddressGiven }
+    ensures made_manual { MadeManual }
+    ensures automatic_said { AutomaticSaid }
 {}

@@ -1,4 +1,4 @@
 -- Lemmas on pools.
 pub mod Accepting
-pub mod Disabling
+pub mod Changing
 pub mod SlotsLemmas

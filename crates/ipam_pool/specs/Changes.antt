@@ -6,7 +6,9 @@ use Rattle.ipam_addr.specs.declared.address.Family.{Family}
 use Rattle.ipam_addr.specs.declared.address.Family.TheVariants.{V4, V6}
 use Rattle.ipam_addr.specs.Shape.{CidrValue}
 use Rattle.ipam_addr.specs.Holding.{cidrs_overlap}
+use Rattle.ipam_select.specs.Formula.{Formula}
 use Rattle.ipam_pool.specs.declared.table.TheConstants.{MOST_POOLS}
+use Rattle.ipam_pool.specs.declared.pools.Mode.{Mode}
 use Rattle.ipam_pool.specs.declared.pools.Pool.{Pool}
 use Rattle.ipam_pool.specs.declared.pools.PoolRefusal.{PoolRefusal}
 use Rattle.ipam_pool.specs.declared.pools.PoolRefusal.TheVariants.{NameTaken, Overlap, Size, Prefix, TooMany}
@@ -48,3 +50,16 @@ with_named_disabled name disabled p =
 -- the pools, of which that of the name is disabled, or is not
 abbrev pub with_disabled : List ℕ → Bool → List Pool → List Pool
 with_disabled name disabled pools = map (with_named_disabled name disabled) pools
+
+-- the pool, with these rules where it has the name
+abbrev pub with_named_rules : List ℕ → Bool → Mode → Formula → Pool → Pool
+with_named_rules name disabled mode selector p =
+    record p {
+      disabled = if has_name name p then disabled else p.disabled;
+      mode = if has_name name p then mode else p.mode;
+      selector = if has_name name p then selector else p.selector;
+    }
+
+-- the pools, of which that of the name has these rules
+abbrev pub with_rules : List ℕ → Bool → Mode → Formula → List Pool → List Pool
+with_rules name disabled mode selector pools = map (with_named_rules name disabled mode selector) pools

@@ -5,6 +5,6 @@
 mod pools;
 mod table;
 
-pub use pools::{NoSuchPool, Pool, PoolRefusal};
+pub use pools::{Mode, NoSuchPool, Pool, PoolRefusal};
 pub use std::alloc::AllocError as Memory;
 pub use table::{MOST_POOLS, PoolTable};

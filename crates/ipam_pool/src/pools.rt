@@ -1,10 +1,20 @@
 ghost use Rattle.std.specs.Prelude.{◌≡◌};
 
 use ipam_addr::Cidr;
+use ipam_select::NodeSelector;
 use ipam_text::Text;
 use std::alloc::AllocError;
 use std::error::Error;
 use std::fmt;
+
+/// Which requests a pool gives addresses to.
+#[derive(Clone, Copy, Debug, PartialEq, Eq)]
+pub enum Mode {
+    /// All that it is there for.
+    Automatic,
+    /// Those that name it or ask for an address in it.
+    Manual,
+}
 
 /// A CIDR whose addresses are given out, cut into slots of one size.
 #[derive(Debug, Drop)]
@@ -15,6 +25,20 @@ pub struct Pool {
     pub size: u8,
     /// Whether no address of it is to be given any more. What is recorded stays.
     pub disabled: bool,
+    pub mode: Mode,
+    /// Which nodes it is for.
+    pub selector: NodeSelector,
+}
+
+impl Pool {
+    /// Sets what a change of the pool may set: its name, CIDR and size stay.
+    pub(crate) fn set_rules(&mut self, disabled: bool, mode: Mode, selector: NodeSelector)
+        ensures value { self.new ≡ record self.old { disabled = disabled; mode = mode; selector = selector } }
+    {
+        self.disabled = disabled;
+        self.mode = mode;
+        self.selector = selector;
+    }
 }
 
 impl Clone for Pool {
@@ -22,11 +46,14 @@ impl Clone for Pool {
 
     fn clone(&self) -> Result<Pool, AllocError> {
         let name = self.name.clone()?;
+        let selector = self.selector.clone()?;
         Ok(Pool {
             name,
             cidr: self.cidr,
             size: self.size,
             disabled: self.disabled,
+            mode: self.mode,
+            selector,
         })
     }
 }

@@ -2,11 +2,12 @@ ghost use Rattle.std.specs.Prelude.{◌≡◌, ℕ, ◌≤◌, ◌↔◌, [], �
 ghost use Rattle.std.specs.List.{list_any};
 ghost use Rattle.ipam_addr.specs.Width.{IsCidr};
 ghost use Rattle.ipam_addr.specs.Holding.{Holds};
-ghost use Rattle.ipam_pool.specs.Changes.{refusal_of, has_name, overlap_place, is_size_allowed, with_disabled};
+ghost use Rattle.ipam_pool.specs.Changes.{refusal_of, has_name, overlap_place, is_size_allowed, with_disabled, with_rules};
 ghost use Rattle.ipam_pool.specs.Slots.{is_slot_of, IsSlotOf, LiesInSlot, AtMostOneSlot};
 
-use crate::pools::{NoSuchPool, Pool, PoolRefusal};
+use crate::pools::{Mode, NoSuchPool, Pool, PoolRefusal};
 use ipam_addr::{Addr, Cidr, allows_size, slot_number};
+use ipam_select::NodeSelector;
 use std::alloc::{AllocError, Global};
 use std::marker::Model;
 
@@ -24,6 +25,11 @@ impl Model for PoolTable {
     ghost use Rattle.ipam_pool.specs.declared.pools.Pool.{Pool};
 
     ghost Value = { List Pool };
+
+    ghost use Rattle.std.specs.Coded.{codes};
+    ghost use Rattle.ipam_select.specs.contracts.node_selector.NodeSelector as selector;
+
+    ghost coded = { Prim.hlevel (codes, selector.the_row.coded) };
 
     ghost use Rattle.ipam_pool.specs.Sound.{IsPoolTable};
 
@@ -77,6 +83,27 @@ impl PoolTable {
         match named_place(self.pools.as_slice(), name) {
             Some(place) => {
                 self.pools[place].disabled = disabled;
+                Ok(())
+            }
+            None => Err(NoSuchPool),
+        }
+    }
+
+    /// Sets whether the pool of this name is disabled, its mode and its selector. Takes no memory.
+    pub fn set(
+        &mut self,
+        name: &str,
+        disabled: bool,
+        mode: Mode,
+        selector: NodeSelector,
+    ) -> Result<(), NoSuchPool>
+        ensures missing { is_err result ≡ not (list_any (has_name name.now) self.old) }
+        ensures ok { OnOk result (self.new ≡ with_rules name.now disabled mode selector self.old) }
+        ensures err { OnErr result (self.new ≡ self.old) }
+    {
+        match named_place(self.pools.as_slice(), name) {
+            Some(place) => {
+                self.pools[place].set_rules(disabled, mode, selector);
                 Ok(())
             }
             None => Err(NoSuchPool),

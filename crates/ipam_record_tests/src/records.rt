@@ -8,11 +8,29 @@ const CONFIG: &str = r#"{"autoAllocateBlocks":true,"maxBlocksPerHost":0,"strictA
 const POOLS: &str =
     r#"{"pools":[{"blockSize":26,"cidr":"10.0.0.0/24","disabled":false,"name":"p"}]}"#;
 
+const MORE_POOLS: &str =
+    r#"{"pools":[{"blockSize":26,"cidr":"10.0.0.0/24","disabled":false,"name":"p"},{"blockSize":122,"cidr":"2001:db8::/64","disabled":true,"name":"q"}]}"#;
+
+const MANUAL_POOL: &str =
+    r#"{"pools":[{"assignmentMode":"Manual","blockSize":26,"cidr":"10.0.0.0/24","disabled":false,"name":"p"}]}"#;
+
+const WESTERN_POOL: &str =
+    r#"{"pools":[{"blockSize":26,"cidr":"10.0.0.0/24","disabled":false,"name":"w","nodeSelector":"zone == 'west' && !has(gpu)"}]}"#;
+
+const MANUAL_POOL_OF_NODES: &str =
+    r#"{"pools":[{"assignmentMode":"Manual","blockSize":26,"cidr":"10.0.0.0/24","disabled":true,"name":"p","nodeSelector":"!a in {'x', \"y's\"}"},{"blockSize":26,"cidr":"10.0.1.0/24","disabled":false,"name":"q"}]}"#;
+
 const RESERVATIONS: &str = r#"{"reservations":[{"name":"r","reservedCIDRs":["10.0.0.0/30"]}]}"#;
+
+const MORE_RESERVATIONS: &str =
+    r#"{"reservations":[{"name":"r","reservedCIDRs":["10.0.0.0/30","::/0"]},{"name":"s","reservedCIDRs":[]}]}"#;
 
 const AFFINITY: &str = r#"{"cidr":"10.0.0.0/31","node":"a","state":"pending"}"#;
 
 const HANDLE: &str = r#"{"block":{"10.0.0.0/31":1},"handleID":"n.c1"}"#;
+
+const MORE_COUNTS: &str =
+    r#"{"block":{"10.0.0.0/31":1,"9.0.0.0/31":4294967295,"::/116":2},"handleID":"n.c1"}"#;
 
 const BLOCK: &str =
     r#"{"affinity":"host:a","allocations":[0,null],"attributes":[{"handle_id":"n.c1","secondary":{"node":"a"}}],"cidr":"10.0.0.0/31","sequenceNumber":1,"sequenceNumberForAllocation":{"0":1},"unallocated":[1]}"#;
@@ -20,15 +38,30 @@ const BLOCK: &str =
 const HELD_TWICE: &str =
     r#"{"affinity":null,"allocations":[0,1,null,null],"attributes":[{"handle_id":"n.c1","secondary":{}},{"handle_id":"n.c2","secondary":{}}],"cidr":"10.0.0.0/30","sequenceNumber":2,"sequenceNumberForAllocation":{"0":1,"1":2},"unallocated":[2,3]}"#;
 
+const BLOCK_OF_ONE: &str =
+    r#"{"affinity":null,"allocations":[null],"attributes":[],"cidr":"::1/128","sequenceNumber":0,"sequenceNumberForAllocation":{},"unallocated":[0]}"#;
+
+const BLOCK_OF_16: &str =
+    r#"{"affinity":"host:b.c","allocations":[null,null,0,null,null,null,null,null,null,null,1,0,null,null,null,null],"attributes":[{"handle_id":"n.c1","secondary":{}},{"handle_id":"n.c2","secondary":{"a":"","b":"x"}}],"cidr":"2001:db8::/124","sequenceNumber":7,"sequenceNumberForAllocation":{"10":7,"11":1,"2":5},"unallocated":[15,14,13,12,9,8,7,6,5,4,3,1,0]}"#;
+
 /// Sound records: the text of the key, and the body.
-const SOUND: [(&str, &str); 9] = [
+const SOUND: [(&str, &str); 18] = [
     ("config", CONFIG),
     ("pools", POOLS),
+    ("pools", MORE_POOLS),
+    ("pools", MANUAL_POOL),
+    ("pools", WESTERN_POOL),
+    ("pools", MANUAL_POOL_OF_NODES),
+    ("pools", r#"{"pools":[]}"#),
     ("reservations", RESERVATIONS),
+    ("reservations", MORE_RESERVATIONS),
     ("affinity/a/10.0.0.0/31", AFFINITY),
     ("handle/n.c1", HANDLE),
+    ("handle/n.c1", MORE_COUNTS),
     ("block/10.0.0.0/31", BLOCK),
     ("block/10.0.0.0/30", HELD_TWICE),
+    ("block/::1/128", BLOCK_OF_ONE),
+    ("block/2001:db8::/124", BLOCK_OF_16),
     (
         "affinity/a/10.0.0.0/31",
         r#"{"cidr":"10.0.0.0/31","node":"a","state":"confirmed"}"#,
@@ -68,7 +101,25 @@ const OTHER_POOLS: &str = r#"{|{|Form|config
 "name":"p"|"name":"p","zone":1|Form|pools
 "disabled":false|"disabled":false,"disabled":false|Form|pools
 "blockSize":26,"cidr":"10.0.0.0/24"|"cidr":"10.0.0.0/24","blockSize":26|Form|pools
+{"blockSize"|{"assignmentMode":"Automatic","blockSize"|Form|pools
+{"blockSize"|{"assignmentMode":"manual","blockSize"|Form|pools
+{"blockSize"|{"assignmentMode":"","blockSize"|Form|pools
+{"blockSize"|{"assignmentMode":null,"blockSize"|Form|pools
+"blockSize":26|"blockSize":26,"assignmentMode":"Manual"|Form|pools
+"name":"p"|"name":"p","nodeSelector":"all()"|Form|pools
+"name":"p"|"name":"p","nodeSelector":""|Form|pools
+"name":"p"|"name":"p","nodeSelector":" "|Form|pools
+"name":"p"|"name":"p","nodeSelector":null|Form|pools
+"name":"p"|"name":"p","nodeSelector":"zone =="|Form|pools
+"name":"p"|"name":"p","nodeSelector":"zone=='west'"|Form|pools
+"name":"p"|"name":"p","nodeSelector":"zone == \"west\""|Form|pools
+"name":"p"|"name":"p","nodeSelector":"a != 'x'"|Form|pools
+"name":"p"|"name":"p","nodeSelector":"a in {'y', 'x'}"|Form|pools
+"name":"p"|"name":"p","nodeSelector":"(has(a) && has(b))"|Form|pools
+"name":"p"|"nodeSelector":"has(a)","name":"p"|Form|pools
 false|0|Form|pools
+false|null|Form|pools
+10.0.0.0/24|10.0.0.0/27|Table|pools
 26|"26"|Form|pools
 26|256|Form|pools
 10.0.0.0/24|10.0.0.0/024|Form|pools
@@ -131,6 +182,9 @@ const OTHER_HANDLES: &str = r#","handleID":"n.c1"||Form|handle/n.c1
 10.0.0.0/31|::0/128|Form|handle/n.c1
 "10.0.0.0/31":1|"9.0.0.0/31":1,"10.0.0.0/31":1|Form|handle/n.c1
 "10.0.0.0/31":1|"10.0.0.0/31":1,"10.0.0.0/31":1|Form|handle/n.c1
+"10.0.0.0/31":1|"::/128":1,"::0/128":1|Form|handle/n.c1
+"10.0.0.0/31":1|"10.0.0.1/31":1|Form|handle/n.c1
+1}|-1}|Form|handle/n.c1
 n.c1|n/c1|Form|handle/n.c1
 {|{|Form|handle/
 {|{|Form|handle/n.c1/x
@@ -143,7 +197,19 @@ const OTHER_BLOCKS: &str = r#"{|{|Form|affinity/a/10.0.0.0/31
 [1]}|[1],"zone":1}|Form|block/10.0.0.0/31
 "sequenceNumber":1|"sequenceNumber":1,"sequenceNumber":1|Form|block/10.0.0.0/31
 "affinity":"host:a","allocations":[0,null]|"allocations":[0,null],"affinity":"host:a"|Form|block/10.0.0.0/31
+{"aff|{ "aff|Form|block/10.0.0.0/31
 [0,null]|[0,"1"]|Form|block/10.0.0.0/31
+[0,null]|[0,""]|Form|block/10.0.0.0/31
+[0,null]|[false,null]|Form|block/10.0.0.0/31
+host:a|node:a|Form|block/10.0.0.0/31
+host:a|host:-|Form|block/10.0.0.0/31
+"n.c1"|""|Form|block/10.0.0.0/31
+"handle_id"|"handle"|Form|block/10.0.0.0/31
+"sequenceNumber":1|"sequenceNumber":1.0|Form|block/10.0.0.0/31
+"0":1|"00":1|Form|block/10.0.0.0/31
+10.0.0.0/31|10.0.0.1/31|Form|block/10.0.0.0/31
+10.0.0.0/31|0:0::/127|Form|block/10.0.0.0/31
+[1]}|[-1]}|Form|block/10.0.0.0/31
 [0,null]|[0, null]|Form|block/10.0.0.0/31
 host:a|a|Form|block/10.0.0.0/31
 host:a|host:|Form|block/10.0.0.0/31
@@ -178,6 +244,8 @@ n.c1|n c1|Form|block/10.0.0.0/31
 [0,null]|[0]|Unsound|block/10.0.0.0/31
 [0,null]|[0,null,null]|Unsound|block/10.0.0.0/31
 [0,null]|[1,null]|Unsound|block/10.0.0.0/31
+[0,null]|[null,null]|Unsound|block/10.0.0.0/31
+"0":1|"0":1,"9":1|Unsound|block/10.0.0.0/31
 "attributes":[|"attributes":[{"handle_id":"n.c2","secondary":{}},|Unsound|block/10.0.0.0/31
 10.0.0.0/31|10.0.0.0/30|Unsound|block/10.0.0.0/30
 "#;
@@ -253,14 +321,14 @@ fn records_are_read_and_printed(rt: HostRuntime) -> Result<(), Fail> {
 #[test]
 fn other_texts_are_refused(rt: HostRuntime) -> Result<(), Fail> {
     assert_eq!(&rt; refusals(&rt, rt.alloc(), CONFIG, OTHER_CONFIGS)?, 19);
-    assert_eq!(&rt; refusals(&rt, rt.alloc(), POOLS, OTHER_POOLS)?, 21);
+    assert_eq!(&rt; refusals(&rt, rt.alloc(), POOLS, OTHER_POOLS)?, 39);
     assert_eq!(&rt;
         refusals(&rt, rt.alloc(), RESERVATIONS, OTHER_RESERVATIONS)?,
         10
     );
     assert_eq!(&rt; refusals(&rt, rt.alloc(), AFFINITY, OTHER_AFFINITIES)?, 19);
-    assert_eq!(&rt; refusals(&rt, rt.alloc(), HANDLE, OTHER_HANDLES)?, 17);
-    assert_eq!(&rt; refusals(&rt, rt.alloc(), BLOCK, OTHER_BLOCKS)?, 42);
+    assert_eq!(&rt; refusals(&rt, rt.alloc(), HANDLE, OTHER_HANDLES)?, 20);
+    assert_eq!(&rt; refusals(&rt, rt.alloc(), BLOCK, OTHER_BLOCKS)?, 56);
     assert_eq!(&rt;
         refusals(&rt, rt.alloc(), HELD_TWICE, OTHER_BLOCKS_HELD_TWICE)?,
         3

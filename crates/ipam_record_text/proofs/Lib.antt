@@ -4,6 +4,7 @@ pub mod Parts
 pub mod Configs
 pub mod Affinities
 pub mod Standing
+pub mod RuleLemmas
 pub mod PoolTables
 pub mod Insertions
 pub mod Handles

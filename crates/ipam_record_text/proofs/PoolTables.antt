@@ -3,8 +3,9 @@ use Rattle.std.proofs.Common.{◌≡◌, ℕ, ◌^◌, ◌<◌, List, [], ◌∷
 use Rattle.std.specs.Prelude.{is_none, IsNone, IsOkUnless, ◌≢◌}
 use Rattle.std.specs.List.{AllByRecursion}
 use Rattle.std.proofs.lemmas.Bool.{cases_Bool}
-use Rattle.std.proofs.lemmas.Option.{cond_some, same_Some}
-use Rattle.serde_json.specs.Data.{Data, Items, no_items, item}
+use Rattle.std.proofs.lemmas.Option.{cond_some, same_Some, option_and_then_some}
+use Rattle.std.specs.Prelude.{if◌then◌else◌}
+use Rattle.serde_json.specs.Data.{Data, Items, no_items, item, object}
 use Rattle.serde_json.specs.Read.{read}
 use Rattle.serde_json.specs.View.{items_of}
 use Rattle.serde_json.specs.Written.{has_float, items_have_float}
@@ -21,15 +22,47 @@ use Rattle.ipam_record_text.specs.declared.fault.BodyFault.{BodyFault}
 use Rattle.ipam_record_text.specs.declared.fault.BodyFault.TheVariants.{Form, Table, Memory as NoMemory}
 use Rattle.ipam_record_text.specs.Reading.{◌>>=◌, only_if, truth_at, number_at, items_at, held}
 use Rattle.ipam_record_text.specs.Blocks.{cidr_at, name_at}
-use Rattle.ipam_record_text.specs.Pools.{pool_data, pools_data, pools_body, pool_in, pools_in, pools_after, size_at, are_added, table_of, refusal_fault, pools_reading, IsSoundPool, IsPoolsRecord, HasRefusedPool}
+use Rattle.ipam_json.specs.Built.{Field, members_from, object_of}
+use Rattle.ipam_pool.specs.declared.pools.Mode.{Mode}
+use Rattle.ipam_pool.specs.declared.pools.Mode.TheVariants.{Automatic, Manual}
+use Rattle.ipam_select.specs.Formula.{Formula, every}
+use Rattle.ipam_select.specs.Every.{is_every}
+use Rattle.ipam_select.specs.Sound.{is_sound}
+use Rattle.ipam_record_text.specs.Rules.{mode_fields, selector_fields_unless, selector_fields, with_fields, mode_in, selector_in, selector_said}
+use Rattle.ipam_record_text.proofs.RuleLemmas.{selector_of-is, selector_of-printed, every_or}
+use Rattle.ipam_record_text.specs.Pools.{plain_fields, pool_data, pools_data, pools_body, plain_in, pool_in, pools_in, pools_after, size_at, are_added, table_of, refusal_fault, pools_reading, IsSoundPool, IsPoolsRecord, HasRefusedPool}
 use Rattle.ipam_record_text.proofs.Standing.{standing_table, added_stands}
 use Rattle.ipam_record_text.proofs.Held.{held-was, held-text}
 use Rattle.ipam_record_text.proofs.Parts.{then-is, cidr_at-is, cidr_of-text, name_at-is, name_of-name}
 
-items_have_float-pools : (pools : List Pool) → items_have_float (items_of (map pool_data pools)) ≡ false
+-- the fields of a pool, by its mode and whether it is for all nodes
+abbrev fields_by : Mode → Bool → Pool → List Field
+fields_by mode all p = mode_fields mode ++ (plain_fields p ++ selector_fields_unless all p.selector)
+
+has_float-fields_by : (mode : Mode) (all : Bool) (p : Pool) → has_float (object_of (fields_by mode all p)) ≡ false
+has_float-fields_by Automatic true p = refl
+has_float-fields_by Automatic false p = refl
+has_float-fields_by Manual true p = refl
+has_float-fields_by Manual false p = refl
+
+has_float-pool_data : (p : Pool) → has_float (pool_data p) ≡ false
 unfolding pool_data
+has_float-pool_data p = has_float-fields_by p.mode (is_every p.selector) p
+
+put_fields_by : (mode : Mode) (all : Bool) (p : Pool) → with_fields (selector_fields_unless all p.selector) (with_fields (mode_fields mode) (members_from (plain_fields p))) ≡ members_from (fields_by mode all p)
+put_fields_by Automatic true p = refl
+put_fields_by Automatic false p = refl
+put_fields_by Manual true p = refl
+put_fields_by Manual false p = refl
+
+-- the mode and the selector that are put among the other members make the pool's object
+pub put_fields : (p : Pool) → object (with_fields (selector_fields p.selector) (with_fields (mode_fields p.mode) (members_from (plain_fields p)))) ≡ pool_data p
+unfolding pool_data
+put_fields p = ap object (put_fields_by p.mode (is_every p.selector) p)
+
+items_have_float-pools : (pools : List Pool) → items_have_float (items_of (map pool_data pools)) ≡ false
 items_have_float-pools [] = refl
-items_have_float-pools (p ∷ pools) = items_have_float-pools pools
+items_have_float-pools (p ∷ pools) = rw (has_float-pool_data p) (items_have_float-pools pools)
 
 pub has_float-pools_data : (pools : List Pool) → has_float (pools_data pools) ≡ false
 unfolding pools_data
@@ -45,22 +78,34 @@ size_at-is name d n e = then-is (λ k. only_if (nat_lt k (2 ^ 8)) k) (λ k. k < 
     small k m e' = let (is, same) = cond_some _ k m e' in rw (← same) (ltb-true _ _ is)
 
 -- the parts of a pool that was found
-parts : (size : Option ℕ) (cidr : Option CidrValue) (disabled : Option Bool) (name : Option (List ℕ)) (p : Pool) → (size >>= λ s. cidr >>= λ c. disabled >>= λ d. name >>= λ n. Some (record { name = n; cidr = c; size = s; disabled = d })) ≡ Some p → (size ≡ Some p.size) × (cidr ≡ Some p.cidr) × (name ≡ Some p.name)
-parts (Some s) (Some c) (Some d) (Some n) p e = (ap (option_map (λ (k : Pool). k.size)) e, ap (option_map (λ (k : Pool). k.cidr)) e, ap (option_map (λ (k : Pool). k.name)) e)
-parts (Some s) (Some c) (Some d) None p e = cc
-parts (Some s) (Some c) None name p e = cc
-parts (Some s) None disabled name p e = cc
-parts None cidr disabled name p e = cc
+parts : (mode : Mode) (size : Option ℕ) (cidr : Option CidrValue) (disabled : Option Bool) (name : Option (List ℕ)) (p : Pool) → (size >>= λ s. cidr >>= λ c. disabled >>= λ d. name >>= λ n. Some (record { name = n; cidr = c; size = s; disabled = d; mode = mode; selector = every })) ≡ Some p → (size ≡ Some p.size) × (cidr ≡ Some p.cidr) × (name ≡ Some p.name)
+parts mode (Some s) (Some c) (Some d) (Some n) p e = (ap (option_map (λ (k : Pool). k.size)) e, ap (option_map (λ (k : Pool). k.cidr)) e, ap (option_map (λ (k : Pool). k.name)) e)
+parts mode (Some s) (Some c) (Some d) None p e = cc
+parts mode (Some s) (Some c) None name p e = cc
+parts mode (Some s) None disabled name p e = cc
+parts mode None cidr disabled name p e = cc
 
-pub pool_in-sound : (d : Data) (p : Pool) → pool_in d ≡ Some p → IsSoundPool p
-unfolding pool_in
-pool_in-sound d p e =
-    let (size, cidr, name) = parts (size_at (codes "blockSize") d) (cidr_at (codes "cidr") d) (truth_at (codes "disabled") d) (name_at (codes "name") d) p e in
+plain_in-sound : (d : Data) (p : Pool) (selector : Formula) → plain_in d ≡ Some p → is_sound selector ≡ true → IsSoundPool (record p { selector = selector })
+unfolding plain_in
+plain_in-sound d p selector e sound =
+    let (size, cidr, name) = parts (mode_in d) (size_at (codes "blockSize") d) (cidr_at (codes "cidr") d) (truth_at (codes "disabled") d) (name_at (codes "name") d) p e in
     record {
       name = name_at-is (codes "name") d p.name name;
       cidr = cidr_at-is (codes "cidr") d p.cidr cidr;
       size = size_at-is (codes "blockSize") d p.size size;
+      selector = sound;
     }
+
+selector_said-is : (text : Option (List ℕ)) (f : Formula) → selector_said text ≡ Some f → is_sound f ≡ true
+selector_said-is (Some text) f e = selector_of-is text f e
+selector_said-is None f e = rw (← same_Some every f e) refl
+
+pub pool_in-sound : (d : Data) (p : Pool) → pool_in d ≡ Some p → IsSoundPool p
+unfolding pool_in
+pool_in-sound d p e =
+    option_and_then_some _ (plain_in d) p e (λ plain is_plain e'. option_and_then_some _ (selector_in d) p e' (λ f is_selector e''.
+    let sound = plain_in-sound d plain f is_plain (selector_said-is _ f is_selector) in
+    rw (← same_Some (record plain { selector = f }) p e'') sound))
 
 AllByRecursion-push : {A : Type 0} (P : A → Type 0) (xs : List A) (x : A) → AllByRecursion P xs → P x → AllByRecursion P (xs ++ x ∷ [])
 AllByRecursion-push P [] x h k = (k, tt)
@@ -81,11 +126,28 @@ pools_in-sound d pools e = then-is (pools_after []) (AllByRecursion IsSoundPool)
 
 -- ---- a sound table is found in its JSON
 
+-- what is found in the fields of a sound pool, by its mode and whether it is for all nodes
+abbrev FindsBy : Mode → Bool → Pool → Type 0
+FindsBy mode all p =
+    pool_in (object_of (fields_by mode all p)) ≡ Some (record p { mode = mode; selector = if all then every else p.selector })
+
+found_by : (mode : Mode) (all : Bool) (p : Pool) → IsSoundPool p → FindsBy mode all p
+unfolding pool_in plain_in size_at
+found_by mode all p h = by mode all
+  where
+    bound : p.size < 2 ^ 32
+    bound = omega (arith, h.size)
+
+    by : (m : Mode) (a : Bool) → FindsBy m a p
+    by Automatic true = rw (lt-ltb p.size (2 ^ 32) bound, lt-ltb p.size (2 ^ 8) h.size, cidr_of-text p.cidr h.cidr, name_of-name p.name h.name) refl
+    by Automatic false = rw (lt-ltb p.size (2 ^ 32) bound, lt-ltb p.size (2 ^ 8) h.size, cidr_of-text p.cidr h.cidr, name_of-name p.name h.name, selector_of-printed p.selector h.selector) refl
+    by Manual true = rw (lt-ltb p.size (2 ^ 32) bound, lt-ltb p.size (2 ^ 8) h.size, cidr_of-text p.cidr h.cidr, name_of-name p.name h.name) refl
+    by Manual false = rw (lt-ltb p.size (2 ^ 32) bound, lt-ltb p.size (2 ^ 8) h.size, cidr_of-text p.cidr h.cidr, name_of-name p.name h.name, selector_of-printed p.selector h.selector) refl
+
 pool_in-pool_data : (p : Pool) → IsSoundPool p → pool_in (pool_data p) ≡ Some p
-unfolding pool_in pool_data size_at
+unfolding pool_data
 pool_in-pool_data p h =
-    let bound : p.size < 2 ^ 32 = omega (arith, h.size) in
-    rw (lt-ltb p.size (2 ^ 32) bound, lt-ltb p.size (2 ^ 8) h.size, cidr_of-text p.cidr h.cidr, name_of-name p.name h.name) refl
+    found_by p.mode (is_every p.selector) p h ∙ ap (λ (f : Formula). Some (record p { selector = f })) (every_or p.selector)
 
 pools_after-pools_data : (there pools : List Pool) → AllByRecursion IsSoundPool pools → pools_after there (items_of (map pool_data pools)) ≡ Some (there ++ pools)
 pools_after-pools_data there [] h = ap Some (sym (append-nil there))
@@ -96,12 +158,27 @@ pools_in-pools_data : (pools : List Pool) → AllByRecursion IsSoundPool pools �
 unfolding pools_in pools_data
 pools_in-pools_data pools h = pools_after-pools_data [] pools h
 
-pool_data-IsCanonical : (p : Pool) → IsSoundPool p → IsCanonicalWithin 1 (pool_data p)
-unfolding pool_data
-pool_data-IsCanonical p h = record {
+canonical_by : (mode : Mode) (all : Bool) (p : Pool) → IsSoundPool p → IsCanonicalWithin 1 (object_of (fields_by mode all p))
+canonical_by Automatic true p h = record {
   regular = (refl, omega (arith, h.size), (refl, tt, (refl, tt, (tt, tt, tt))));
   shallow = omega arith;
 }
+canonical_by Automatic false p h = record {
+  regular = (refl, omega (arith, h.size), (refl, tt, (refl, tt, (refl, tt, (tt, tt, tt)))));
+  shallow = omega arith;
+}
+canonical_by Manual true p h = record {
+  regular = (refl, tt, (refl, omega (arith, h.size), (refl, tt, (refl, tt, (tt, tt, tt)))));
+  shallow = omega arith;
+}
+canonical_by Manual false p h = record {
+  regular = (refl, tt, (refl, omega (arith, h.size), (refl, tt, (refl, tt, (refl, tt, (tt, tt, tt))))));
+  shallow = omega arith;
+}
+
+pool_data-IsCanonical : (p : Pool) → IsSoundPool p → IsCanonicalWithin 1 (pool_data p)
+unfolding pool_data
+pool_data-IsCanonical p h = canonical_by p.mode (is_every p.selector) p h
 
 pools_canonical : (pools : List Pool) → AllByRecursion IsSoundPool pools → AllByRecursion (IsCanonicalWithin 1) (map pool_data pools)
 pools_canonical [] h = tt

@@ -104,6 +104,7 @@ standing_table pools h = record {
     name = h.names k d less;
     cidr = h.table.ranges k d less;
     size = small_size _ _ (h.table.sizes k d less).allowed;
+    selector = h.selectors k d less;
   });
   added = standing_added [] pools h.table;
 }
@@ -133,4 +134,5 @@ pub added_stands : (pools : List Pool) → IsSoundTable pools → IsPoolsRecord 
 added_stands pools h = record {
   table = added_table [] pools empty_table h.each h.added;
   names = λ k d within. (All-from_recursion IsSoundPool pools h.each k d within).name;
+  selectors = λ k d within. (All-from_recursion IsSoundPool pools h.each k d within).selector;
 }

@@ -3,6 +3,7 @@ pub mod Reading
 pub mod Blocks
 pub mod Config
 pub mod Affinity
+pub mod Rules
 pub mod Pools
 pub mod Handle
 pub mod Reservations

@@ -6,7 +6,9 @@ use Rattle.serde_json.specs.Written.{compact_text}
 use Rattle.ipam_addr.specs.Text.{cidr_text_of}
 use Rattle.ipam_addr.specs.Width.{IsCidr}
 use Rattle.ipam_addr.specs.Names.{is_name_text}
-use Rattle.ipam_json.specs.Built.{object_of, array_of}
+use Rattle.ipam_json.specs.Built.{Field, object_of, array_of}
+use Rattle.ipam_select.specs.Formula.{every}
+use Rattle.ipam_select.specs.Sound.{is_sound}
 use Rattle.ipam_pool.specs.Changes.{refusal_of}
 use Rattle.ipam_pool.specs.Sound.{IsPoolTable}
 use Rattle.ipam_pool.specs.declared.pools.Pool.{Pool}
@@ -16,14 +18,19 @@ use Rattle.ipam_record_text.specs.declared.fault.BodyFault.{BodyFault}
 use Rattle.ipam_record_text.specs.declared.fault.BodyFault.TheVariants.{Form, Table, Memory as NoMemory}
 use Rattle.ipam_record_text.specs.Reading.{◌>>=◌, only_if, truth_at, number_at, items_at, held}
 use Rattle.ipam_record_text.specs.Blocks.{cidr_at, name_at}
+use Rattle.ipam_record_text.specs.Rules.{mode_fields, selector_fields, mode_in, selector_in}
+
+-- what stands in the object of each pool
+abbrev pub plain_fields : Pool → List Field
+plain_fields p =
+    (codes "blockSize", number (unsigned p.size))
+    ∷ (codes "cidr", string (cidr_text_of p.cidr))
+    ∷ (codes "disabled", boolean p.disabled)
+    ∷ (codes "name", string p.name) ∷ []
 
 -- the JSON of one pool
 unfoldable pub pool_data : Pool → Data
-pool_data p =
-    object_of ((codes "blockSize", number (unsigned p.size))
-    ∷ (codes "cidr", string (cidr_text_of p.cidr))
-    ∷ (codes "disabled", boolean p.disabled)
-    ∷ (codes "name", string p.name) ∷ [])
+pool_data p = object_of (mode_fields p.mode ++ (plain_fields p ++ selector_fields p.selector))
 
 -- the JSON of a table
 unfoldable pub pools_data : List Pool → Data
@@ -33,21 +40,23 @@ pools_data pools = object_of ((codes "pools", array_of (map pool_data pools)) �
 unfoldable pub pools_body : List Pool → List ℕ
 pools_body pools = compact_text (pools_data pools)
 
--- the pool has a name and a CIDR, and its size fits 8 bits
+-- the pool has a name and a CIDR, its size fits 8 bits, and its selector is read of some text
 pub record IsSoundPool (p : Pool) : Type 0 where
   pub name : is_name_text p.name ≡ true
   pub cidr : IsCidr p.cidr
   pub size : p.size < 2 ^ 8
+  pub selector : is_sound p.selector ≡ true
 
 -- none of the pools is refused when they are added one after the other behind those that are there
 abbrev pub are_added : List Pool → List Pool → Bool
 are_added there [] = true
 are_added there (p ∷ pools) = is_none (refusal_of there p) && are_added (there ++ p ∷ []) pools
 
--- a table whose pools have names
+-- a table whose pools have names, and selectors that are read of some text
 pub record IsPoolsRecord (pools : List Pool) : Type 0 where
   pub table : IsPoolTable pools
   pub names : All (λ p. IsTrue (is_name_text p.name)) pools
+  pub selectors : All (λ p. IsTrue (is_sound p.selector)) pools
 
 -- the body is that of sound pools of which one is refused by those before it
 pub record HasRefusedPool (body : List ℕ) : Type 0 where
@@ -62,14 +71,21 @@ size_at name d = do
   n ← number_at name d
   only_if (nat_lt n (2 ^ 8)) n
 
--- the pool that the JSON holds
-unfoldable pub pool_in : Data → Option Pool
-pool_in d = do
+-- the pool that the JSON holds, but for its selector
+unfoldable pub plain_in : Data → Option Pool
+plain_in d = do
   size ← size_at (codes "blockSize") d
   cidr ← cidr_at (codes "cidr") d
   disabled ← truth_at (codes "disabled") d
   name ← name_at (codes "name") d
-  Some (record { name = name; cidr = cidr; size = size; disabled = disabled })
+  Some (record { name = name; cidr = cidr; size = size; disabled = disabled; mode = mode_in d; selector = every })
+
+-- the pool that the JSON holds
+unfoldable pub pool_in : Data → Option Pool
+pool_in d = do
+  plain ← plain_in d
+  selector ← selector_in d
+  Some (record plain { selector = selector })
 
 -- the pools, and behind them those that the items hold
 abbrev pub pools_after : List Pool → Items → Option (List Pool)

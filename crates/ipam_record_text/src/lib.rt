@@ -11,6 +11,7 @@ pub mod laws;
 mod members;
 mod pools;
 mod reservations;
+mod rules;
 
 pub use affinity::{affinity_of, affinity_text};
 pub use config::{Config, config_of, config_text};

@@ -1,17 +1,21 @@
 ghost use Rattle.std.specs.Prelude.{◌≡◌, ◌≢◌, [], Ok, Err, Some, IfOk, IfErr, List, map, option_map, string_bytes};
-ghost use Rattle.serde_json.specs.View.{view, items_view};
+ghost use Rattle.serde_json.specs.View.{view, items_view, members_view};
+ghost use Rattle.ipam_json.specs.Built.{members_from};
+ghost use Rattle.ipam_select.specs.Formula.{every};
+ghost use Rattle.ipam_record_text.specs.Rules.{mode_in};
 ghost use Rattle.ipam_record_text.specs.Reading.{held};
-ghost use Rattle.ipam_record_text.specs.Pools.{pool_data, pools_data, pools_body, pool_in, pools_in, pools_after, size_at, table_of, refusal_fault, pools_reading, IsSoundPool, IsPoolsRecord, HasRefusedPool};
+ghost use Rattle.ipam_record_text.specs.Pools.{plain_fields, pool_data, pools_data, pools_body, plain_in, pool_in, pools_in, pools_after, size_at, table_of, refusal_fault, pools_reading, IsSoundPool, IsPoolsRecord, HasRefusedPool};
 ghost use Rattle.ipam_pool.specs.declared.pools.Pool.{Pool as OnePool};
 ghost use Rattle.std.specs.List.{AllByRecursion};
 
 use crate::blocks::{cidr_at, cidr_text, name_at};
 use crate::fault::BodyFault;
 use crate::members::{items_at, json_of, number_at, truth_at};
+use crate::rules::{mode_in, put_mode, put_selector, selector_in};
 use ipam_addr::Cidr;
 use ipam_pool::{Pool, PoolRefusal, PoolTable};
 use ipam_text::Text;
-use serde_json::{Value, json};
+use serde_json::{Map, Value, json, put};
 use std::alloc::{AllocError, Global};
 
 /// The body of the table.
@@ -49,18 +53,28 @@ fn pools_list(alloc: Global, pools: &[Pool]) -> Result<Vec<Value>, AllocError>
     Ok(list)
 }
 
-#[tactic(auto, unfolding(crate::specs::Pools::pool_data))]
 fn pool_json(alloc: Global, pool: &Pool) -> Result<Value, AllocError>
     ensures { IfOk result (λ v. view v ≡ pool_data pool.now) }
 {
+    let mut members = plain_members(alloc, pool)?;
+    put_mode(alloc, &mut members, pool.mode)?;
+    put_selector(alloc, &mut members, &pool.selector)?;
+    Ok(Value::Object(members))
+}
+
+/// What stands in each pool's object.
+fn plain_members(alloc: Global, pool: &Pool) -> Result<Map<String, Value>, AllocError>
+    ensures { IfOk result
+        (λ m. members_view m.entries ≡ members_from (plain_fields pool.now)) }
+{
+    let mut members = Map::new(alloc);
     let cidr = cidr_text(alloc, pool.cidr)?;
-    let name = pool.name.as_str();
-    json!(in alloc; {
-        "blockSize": pool.size,
-        "cidr": cidr,
-        "disabled": pool.disabled,
-        "name": name
-    })
+    put(&mut members, alloc, "blockSize", Value::from(pool.size))?;
+    put(&mut members, alloc, "cidr", Value::String(cidr))?;
+    put(&mut members, alloc, "disabled", Value::from(pool.disabled))?;
+    let name = Value::try_from_str(alloc, pool.name.as_str())?;
+    put(&mut members, alloc, "name", name)?;
+    Ok(members)
 }
 
 /// The table whose body this is.
@@ -148,26 +162,33 @@ fn pools_of_items(alloc: Global, items: &[Value]) -> Result<Option<Vec<Pool>>, A
     Ok(Some(pools))
 }
 
+#[tactic(auto, unfolding(crate::specs::Pools::pool_in))]
 fn pool_in(alloc: Global, json: &Value) -> Result<Option<Pool>, AllocError>
     ensures { IfOk result (λ found. found ≡ pool_in (view json.now)) }
 {
     let Some((size, cidr, disabled, name)) = parts_in(json) else {
         return Ok(None);
     };
+    let Some(selector) = selector_in(alloc, json)? else {
+        return Ok(None);
+    };
     let name = Text::copied(alloc, name)?;
+    let mode = mode_in(json);
     Ok(Some(Pool {
         name,
         cidr,
         size,
         disabled,
+        mode,
+        selector,
     }))
 }
 
-#[tactic(auto, unfolding(crate::specs::Pools::pool_in))]
+#[tactic(auto, unfolding(crate::specs::Pools::plain_in))]
 fn parts_in(json: &Value) -> Option<(u8, Cidr, bool, &str)>
     ensures { option_map
-        (λ p. record { name = p.3.now; cidr = p.1; size = p.0; disabled = p.2 }) result
-        ≡ pool_in (view json.now) }
+        (λ p. record { name = p.3.now; cidr = p.1; size = p.0; disabled = p.2; mode = mode_in (view json.now); selector = every }) result
+        ≡ plain_in (view json.now) }
 {
     let size = size_at(json, "blockSize")?;
     let cidr = cidr_at(json, "cidr")?;

@@ -7,3 +7,4 @@ pub mod Grammar
 pub mod Printing
 pub mod Sound
 pub mod Stored
+pub mod Every

@@ -9,6 +9,7 @@ mod front;
 mod labels;
 mod laws;
 mod lexing;
+mod node_selector;
 mod printing;
 mod read;
 mod reading;
@@ -18,6 +19,7 @@ mod token;
 mod values;
 
 pub use laws::readings;
+pub use node_selector::NodeSelector;
 pub use printing::push_selector;
 pub use read::SelectFault;
 pub use selector::Selector;

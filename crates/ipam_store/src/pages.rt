@@ -36,6 +36,11 @@ impl Model for Pages {
 
     ghost Value = { Shelved };
 
+    ghost use Rattle.std.specs.Coded.{codes};
+    ghost use Rattle.ipam_records.specs.contracts.record.Record as kept;
+
+    ghost coded = { Prim.hlevel (codes, kept.the_row.coded) };
+
     ghost use Rattle.ipam_store.specs.Paged.{shelved_in, is_paged_in};
 
     ghost view = { shelved_in };

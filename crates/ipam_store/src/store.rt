@@ -43,6 +43,11 @@ impl Model for Store {
 
     ghost Value = { StoreValue };
 
+    ghost use Rattle.std.specs.Coded.{codes};
+    ghost use Rattle.ipam_records.specs.contracts.record.Record as kept;
+
+    ghost coded = { Prim.hlevel (codes, kept.the_row.coded) };
+
     ghost use Rattle.ipam_store.specs.Keeping.{content_in, is_kept_in};
 
     ghost view = { content_in };

@@ -4,7 +4,7 @@ use Rattle.std.proofs.lemmas.List.Quantifiers.{position-Some}
 use Rattle.std.proofs.lemmas.List.Folds.{list_any_at, list_any_none}
 use Rattle.ipam_pool.specs.Changes.{has_name}
 use Rattle.ipam_pool.proofs.Accepting.{none_found}
-use Rattle.ipam_pool.proofs.Disabling.{set-with_disabled, IsPoolTable-with_disabled}
+use Rattle.ipam_pool.proofs.Changing.{set-with_disabled, IsPoolTable-with_disabled}
 use Rattle.ipam_pool.proofs.table.PoolTable.set_disabled.Goals as goal
 
 pub invariant_of-self : goal.invariant_of-self
