@@ -272,7 +272,7 @@ step-arrives old known store next label after step grows agrees seen below kept 
 
 -- ---- a step
 
-number-cases : (one other : ℕ) → (one ≡ other) ⊎ (one ≢ other)
+pub number-cases : (one other : ℕ) → (one ≡ other) ⊎ (one ≢ other)
 number-cases one other = from (one == other) refl
   where
     from : (b : Bool) → (one == other) ≡ b → (one ≡ other) ⊎ (one ≢ other)

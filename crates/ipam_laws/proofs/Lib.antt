@@ -53,3 +53,4 @@ pub mod OpensRows
 pub mod FaultLists
 pub mod FirstFault
 pub mod AllRead
+pub mod MayHear
