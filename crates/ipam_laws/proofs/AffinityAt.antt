@@ -20,7 +20,7 @@ use Rattle.ipam_model.specs.Moments.{revision_of}
 use Rattle.ipam_model.specs.Reads.{Row}
 use Rattle.ipam_laws.proofs.Lift.{Known}
 use Rattle.ipam_laws.proofs.OneRecord.{key_cases}
-use Rattle.ipam_laws.proofs.RequestSteps.{IsSetting, changed-setting}
+use Rattle.ipam_laws.proofs.RequestSteps.{IsUntied, changed-untied}
 use Rattle.ipam_laws.proofs.Steps.{IsAsRead, IsOwnOrNobodys, IsPut, taken, bared, Step, Idles, Owes, Finds, Starts, Takes, Confirms, Marks, Looks, Bares, Deletes, Raises, Lowers, LowersOut, Frees, Assigns, Changes}
 
 -- ---- a block's node, and an affinity's state
@@ -116,11 +116,11 @@ beside-at store next from node cidr b a = Stays (ap node_in_row b) (ap state_in_
 same-at : (store next : Datastore) (from : Point) (node : List ℕ) (cidr : CidrValue) → next ≡ store → At store next from node cidr
 same-at store next from node cidr e = beside-at store next from node cidr (ap (λ (s : Datastore). row_of (key.Block cidr) s.rows) e) (ap (λ (s : Datastore). row_of (key.Affinity node cidr) s.rows) e)
 
-setting-at : (store next : Datastore) (from : Point) (node : List ℕ) (cidr : CidrValue) (new : Record) → IsPut store next new → IsSetting (key_of new) → At store next from node cidr
-setting-at store next from node cidr new e setting =
+untied-at : (store next : Datastore) (from : Point) (node : List ℕ) (cidr : CidrValue) (new : Record) → IsPut store next new → IsUntied (key_of new) → At store next from node cidr
+untied-at store next from node cidr new e setting =
     beside-at store next from node cidr
-    (put-beside store next new (key.Block cidr) e (λ f. subst (λ (k : Key). IsSetting k) f setting))
-    (put-beside store next new (key.Affinity node cidr) e (λ f. subst (λ (k : Key). IsSetting k) f setting))
+    (put-beside store next new (key.Block cidr) e (λ f. subst (λ (k : Key). IsUntied k) f setting))
+    (put-beside store next new (key.Affinity node cidr) e (λ f. subst (λ (k : Key). IsUntied k) f setting))
 
 set-at : (store next : Datastore) (from : Point) (node : List ℕ) (cidr : CidrValue) (tie : Tie) (state : State) → state ≢ Confirmed → IsPut store next (record_of.Affinity (affinity tie.node tie.block state)) → At store next from node cidr
 set-at store next from node cidr tie state other e =
@@ -235,12 +235,12 @@ step-at known store next label after (Marks tie revision found a b c d) node cid
 step-at known store next label after (Looks tie read mark a b c d e) node cidr = same-at store next label.point node cidr a
 step-at known store next label after (Bares tie read mark a b c d e) node cidr = bare-at store next label.point node cidr tie read mark a (point-is label _ b) d
 step-at known store next label after (Deletes tie mark found a b c d) node cidr = delete-at store next label.point node cidr tie mark found a (point-is label _ b) d
-step-at known store next label after (Raises id block_cidr h a b c d e f) node cidr = setting-at store next label.point node cidr _ a tt
-step-at known store next label after (Lowers credit h revision first rest a b c d e f) node cidr = setting-at store next label.point node cidr _ a tt
+step-at known store next label after (Raises id block_cidr h a b c d e f) node cidr = untied-at store next label.point node cidr _ a tt
+step-at known store next label after (Lowers credit h revision first rest a b c d e f) node cidr = untied-at store next label.point node cidr _ a tt
 step-at known store next label after (LowersOut credit h revision a b c d e f) node cidr =
     beside-at store next label.point node cidr (gone-beside store next (key.Handle h.id) (key.Block cidr) a (λ g. cc g)) (gone-beside store next (key.Handle h.id) (key.Affinity node cidr) a (λ g. cc g))
 step-at known store next label after (Frees what amount revision b s t u v w x y) node cidr =
     touch-at store next label.point node cidr revision b _ s (subst (λ (z : CidrValue). HasAt store (key.Block z) revision (record_of.Block b)) (sym w) v) refl refl
 step-at known store next label after (Assigns attributes target a b c d e f) node cidr = touch-at store next label.point node cidr target.revision target.block _ a d refl refl
 step-at known store next label after (Changes request new a b c d e) node cidr =
-    setting-at store next label.point node cidr new a (changed-setting request (reply_to_get (row_of (key_changed request) store.rows)) new d)
+    untied-at store next label.point node cidr new a (changed-untied request (reply_to_get (row_of (key_changed request) store.rows)) new d)

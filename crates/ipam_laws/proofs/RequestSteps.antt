@@ -415,23 +415,23 @@ key-changed (change_of.Unreserve name) said new e = by (list_any (change.is_name
 key-changed (change_of.Config config) said new e = becomes-key (record_of.Config config) new e
 
 -- a key of neither a block nor an affinity
-abbrev pub IsSetting : Key → Type 0
-IsSetting key.Config = Unit {0}
-IsSetting key.Pools = Unit {0}
-IsSetting key.Reservations = Unit {0}
-IsSetting (key.Block cidr) = ⊥
-IsSetting (key.Affinity node cidr) = ⊥
-IsSetting (key.Handle id) = Unit {0}
+abbrev pub IsUntied : Key → Type 0
+IsUntied key.Config = Unit {0}
+IsUntied key.Pools = Unit {0}
+IsUntied key.Reservations = Unit {0}
+IsUntied (key.Block cidr) = ⊥
+IsUntied (key.Affinity node cidr) = ⊥
+IsUntied (key.Handle id) = Unit {0}
 
-setting-changed : (request : Admin) → IsSetting (change.key_changed request)
-setting-changed (change_of.Pool pool) = tt
-setting-changed (change_of.Disable name disabled) = tt
-setting-changed (change_of.Reserve new) = tt
-setting-changed (change_of.Unreserve name) = tt
-setting-changed (change_of.Config config) = tt
+untied-changed : (request : Admin) → IsUntied (change.key_changed request)
+untied-changed (change_of.Pool pool) = tt
+untied-changed (change_of.Disable name disabled) = tt
+untied-changed (change_of.Reserve new) = tt
+untied-changed (change_of.Unreserve name) = tt
+untied-changed (change_of.Config config) = tt
 
-pub changed-setting : (request : Admin) (said : Said) (new : Record) → change.changed request said ≡ change.Becomes new → IsSetting (key_of new)
-changed-setting request said new e = subst (λ (k : Key). IsSetting k) (sym (key-changed request said new e)) (setting-changed request)
+pub changed-untied : (request : Admin) (said : Said) (new : Record) → change.changed request said ≡ change.Becomes new → IsUntied (key_of new)
+changed-untied request said new e = subst (λ (k : Key). IsUntied k) (sym (key-changed request said new e)) (untied-changed request)
 
 -- what was read is still there where the change is written
 admin-done : (known : Known) (request : Admin) → IsSoundChange request → (said : Said) (new : Record) → IsReadOf known (change.key_changed request) said → change.changed request said ≡ change.Becomes new → (store : Datastore) → Agrees known store → (r : ℕ) → reply_of store (write_back said new) ≡ Can r → Step known store (store_with (write_of (write_back said new) r) store) idle idle

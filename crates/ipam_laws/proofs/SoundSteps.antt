@@ -23,7 +23,7 @@ use Rattle.ipam_model.specs.Counting.{most_count}
 use Rattle.ipam_model.specs.Reads.{Row}
 use Rattle.ipam_laws.proofs.Calls.{found-key}
 use Rattle.ipam_laws.proofs.WriteSteps.{found-affinity}
-use Rattle.ipam_laws.proofs.RequestSteps.{IsSetting, changed-setting}
+use Rattle.ipam_laws.proofs.RequestSteps.{IsUntied, changed-untied}
 use Rattle.ipam_laws.proofs.Lift.{Known}
 use Rattle.ipam_laws.proofs.Steps.{IsAsRead, IsCountable, IsHandle, IsPut, taken, bared, Step, Idles, Owes, Finds, Starts, Takes, Confirms, Marks, Looks, Bares, Deletes, Raises, Lowers, LowersOut, Frees, Assigns, Changes}
 use Rattle.ipam_laws.proofs.SoundBlocks.{IsSoundKnown, IsSoundRead, known-slot-sound, free-sound, taken-record, bared-record, freed-record, assigned-record}
@@ -69,13 +69,13 @@ pub record IsSoundPut (store : Datastore) (new : Record) : Type 0 where
   pub sound : IsRecord new
   pub counted : IsCountedBelow (store.counter + 1) new
 
-setting-counted : (n : ℕ) (new : Record) → IsSetting (key_of new) → IsCountedBelow n new
-setting-counted n (record_of.Config config) h = tt
-setting-counted n (record_of.Pools pools) h = tt
-setting-counted n (record_of.Reservations reservations) h = tt
-setting-counted n (record_of.Block b) h = absurd h
-setting-counted n (record_of.Affinity a) h = tt
-setting-counted n (record_of.Handle handle) h = tt
+untied-counted : (n : ℕ) (new : Record) → IsUntied (key_of new) → IsCountedBelow n new
+untied-counted n (record_of.Config config) h = tt
+untied-counted n (record_of.Pools pools) h = tt
+untied-counted n (record_of.Reservations reservations) h = tt
+untied-counted n (record_of.Block b) h = absurd h
+untied-counted n (record_of.Affinity a) h = tt
+untied-counted n (record_of.Handle handle) h = tt
 
 -- what a step writes, if anything
 pub data SoundStep (store next : Datastore) : Type 0 where
@@ -147,4 +147,4 @@ step-sound known store next label after (Assigns attributes target a b c d e f) 
     Puts _ a (record { sound = assigned-record target.block target.ordinal attributes is small e within free; counted = omega arith })
 step-sound known store next label after (Changes request new a b c d e) k sound =
     let good = changed-sound request (row_of (key_changed request) store.rows) new e (row-found store (key_changed request) sound) d in
-    Puts new a (record { sound = good; counted = setting-counted (store.counter + 1) new (changed-setting request (reply_to_get (row_of (key_changed request) store.rows)) new d) })
+    Puts new a (record { sound = good; counted = untied-counted (store.counter + 1) new (changed-untied request (reply_to_get (row_of (key_changed request) store.rows)) new d) })

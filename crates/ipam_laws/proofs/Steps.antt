@@ -54,7 +54,8 @@ IsSlotIn pool cidr = IsSlotOf pool cidr ⊎ ((address : AddrValue) × (holds_add
 abbrev pub IsKnownSlot : Known → CidrValue → Type 0
 IsKnownSlot known cidr = (pool : Pool) × IsKnownPool known pool × IsSlotIn pool cidr
 
--- what is claimed is a slot for a node that has a name, and its block was read as known, with the node or with none
+-- What is claimed is a slot, for a node that has a name. Its block was read as known, with the node or
+-- with none.
 pub record IsClaimable (known : Known) (node : List ℕ) (cidr : CidrValue) (read : BlockRead) : Type 0 where
   pub was_read : IsKnownBlock known cidr read
   pub own : IsOwnOrNobodys node read
