@@ -42,7 +42,7 @@ use Rattle.ipam_model.proofs.ChoiceLemmas.{pick-ranked}
 use Rattle.ipam_laws.proofs.AddParts.{GivesLast, NotLimit}
 use Rattle.ipam_laws.proofs.AddTrails.{HasGift, IsGift, More, Quietly, Same}
 use Rattle.ipam_laws.proofs.Calls.{found-block}
-use Rattle.ipam_laws.proofs.CountWords.{listed-block}
+use Rattle.ipam_laws.proofs.WordSteps.{listed-block}
 use Rattle.ipam_laws.proofs.Trails.{Did, Step, Trail}
 
 -- ---- what was read in a round

@@ -1,5 +1,5 @@
 -- Reads and writes of a word that is to meet a law.
-use Rattle.std.proofs.Common.{◌≡◌, ℕ, inl, Bool, true, false, cond, List, Option, Some, None, refl, sym, ap, ◌∙◌, subst, eqb-true}
+use Rattle.std.proofs.Common.{◌≡◌, ℕ, ◌+◌, inl, inr, Bool, true, false, cond, List, Option, Some, None, refl, sym, ap, ◌∙◌, subst, eqb-true}
 use Rattle.std.specs.Prelude.{◌==◌}
 use Rattle.ipam_addr.specs.Shape.{CidrValue}
 use Rattle.ipam_block.specs.Shape as block
@@ -11,15 +11,18 @@ use Rattle.ipam_records.specs.declared.record.Record.{Record}
 use Rattle.ipam_records.specs.declared.record.Record.TheVariants as record_of
 use Rattle.ipam_records.specs.declared.call.Call.{Call}
 use Rattle.ipam_records.specs.declared.call.Call.TheVariants as call
-use Rattle.ipam_records.specs.Datastore.{Datastore, reply_of, reply_to_get, reply_to_create, reply_to_change, granted, row_of, write_granted, write_of}
+use Rattle.ipam_records.specs.Datastore.{Datastore, reply_of, reply_to_get, reply_to_create, reply_to_change, granted, row_of, write_granted, write_of, written}
+use Rattle.ipam_records.specs.declared.call.Write.{Write}
+use Rattle.ipam_records.specs.declared.call.Write.TheVariants.{Put, Remove}
 use Rattle.ipam_records.specs.Key.{key_of}
 use Rattle.ipam_records.specs.Label.{Label}
 use Rattle.ipam_records.specs.Said.{Said, Found, Missing, Listed, Can, Exists, Conflict, Full, Spent}
 use Rattle.ipam_records.specs.Word.{Word, Asks}
-use Rattle.ipam_records.proofs.DatastoreLemmas.{row_key-row_of}
+use Rattle.ipam_records.proofs.DatastoreLemmas.{row_key-row_of, row_of-with_row}
 use Rattle.ipam_model.specs.AffinityLaw.{HasAt}
 use Rattle.ipam_model.specs.Cluster.{store_with}
 use Rattle.ipam_model.specs.Step.{after_write}
+use Rattle.ipam_laws.proofs.StoreSteps.{can-next}
 use Rattle.ipam_laws.proofs.Lift.{Known, more, Grows, Agrees, behind, label_to, Meets, Meets-grows}
 
 -- ---- what is found has its key
@@ -69,6 +72,14 @@ update-can store new old r e = change-can store (key_of new) old r e
 pub delete-can : (store : Datastore) (k : Key) (old r : ℕ) → reply_of store (call.Delete k old) ≡ Can r → (found : Record) × HasAt store k old found
 delete-can store k old r e = change-can store k old r e
 
+-- ---- a write that is granted takes the next revision
+
+pub can-put : (store : Datastore) (new : Record) (asked : Call) (r : ℕ) → reply_of store asked ≡ Can r → written store (Put r new) ≡ written store (Put (store.counter + 1) new)
+can-put store new asked r e = ap (λ n. written store (Put n new)) (can-next store asked r e)
+
+pub can-remove : (store : Datastore) (k : Key) (asked : Call) (r : ℕ) → reply_of store asked ≡ Can r → written store (Remove r k) ≡ written store (Remove (store.counter + 1) k)
+can-remove store k asked r e = ap (λ n. written store (Remove n k)) (can-next store asked r e)
+
 -- ---- reads change nothing
 
 granted-get : (k : Key) (reply : Said) → write_granted (call.Get k) reply ≡ None
@@ -97,42 +108,54 @@ behind-get store k = ap (λ w. store_with w store) (granted-get k (reply_of stor
 behind-list : (store : Datastore) (kind : Kind) → behind store (call.List kind) ≡ store
 behind-list store kind = ap (λ w. store_with w store) (granted-list kind (reply_of store (call.List kind)))
 
-module _ (Does : Datastore → Datastore → Label → Label → Type 0) where
+-- the record of a write is known
+abbrev pub IsWritten : Known → Option Write → Type 0
+IsWritten known (Some (Put revision new)) = known (key_of new) revision new
+IsWritten known _ = Unit {0}
+
+written-known : (asked : Call) (r : ℕ) (store : Datastore) (known : Known) → IsWritten (more known store (store_with (write_of asked r) store)) (write_of asked r)
+written-known (call.Get k) r store known = tt
+written-known (call.List kind) r store known = tt
+written-known (call.Create new) r store known = inr (inr (row_of-with_row (r, new) store.rows))
+written-known (call.Update new old) r store known = inr (inr (row_of-with_row (r, new) store.rows))
+written-known (call.Delete k old) r store known = tt
+
+module _ (Does : Known → Datastore → Datastore → Label → Label → Type 0) where
   -- a read, after which nothing has changed and the rows that there are are known
   pub get-meets : {A : Type 0} → (following : A → Label) (P : Known → A → Type 0) (known : Known) (label : Label) (k : Key) (next : ℕ → Said → Word A)
-      → ((moment : ℕ) (store : Datastore) → Agrees known store → Does store store label (label_to following (next moment (reply_to_get (row_of k store.rows)))) × Meets Does following P (more known store store) (next moment (reply_to_get (row_of k store.rows))))
+      → ((moment : ℕ) (store : Datastore) → Agrees known store → Does known store store label (label_to following (next moment (reply_to_get (row_of k store.rows)))) × Meets Does following P (more known store store) (next moment (reply_to_get (row_of k store.rows))))
       → Meets Does following P known (Asks label (call.Get k) next)
   get-meets following P known label k next h = λ moment store agrees.
-      subst (λ (s : Datastore). Does store s label (label_to following (next moment (reply_of store (call.Get k)))) × Meets Does following P (more known store s) (next moment (reply_of store (call.Get k))))
+      subst (λ (s : Datastore). Does known store s label (label_to following (next moment (reply_of store (call.Get k)))) × Meets Does following P (more known store s) (next moment (reply_of store (call.Get k))))
       (sym (behind-get store k)) (h moment store agrees)
 
   pub list-meets : {A : Type 0} → (following : A → Label) (P : Known → A → Type 0) (known : Known) (label : Label) (kind : Kind) (next : ℕ → Said → Word A)
-      → ((moment : ℕ) (store : Datastore) → Agrees known store → Does store store label (label_to following (next moment (reply_of store (call.List kind)))) × Meets Does following P (more known store store) (next moment (reply_of store (call.List kind))))
+      → ((moment : ℕ) (store : Datastore) → Agrees known store → Does known store store label (label_to following (next moment (reply_of store (call.List kind)))) × Meets Does following P (more known store store) (next moment (reply_of store (call.List kind))))
       → Meets Does following P known (Asks label (call.List kind) next)
   list-meets following P known label kind next h = λ moment store agrees.
-      subst (λ (s : Datastore). Does store s label (label_to following (next moment (reply_of store (call.List kind)))) × Meets Does following P (more known store s) (next moment (reply_of store (call.List kind))))
+      subst (λ (s : Datastore). Does known store s label (label_to following (next moment (reply_of store (call.List kind)))) × Meets Does following P (more known store s) (next moment (reply_of store (call.List kind))))
       (sym (behind-list store kind)) (h moment store agrees)
 
   -- a write, which is done or changes nothing
-  pub write-meets-at : {A : Type 0} → (following : A → Label) (P : Known → A → Type 0) (known : Known) (label : Label) (asked : Call) (took : (moment revision : ℕ) → Word A) (lost full spent : Word A)
+  pub write-meets-at : {A : Type 0} → ((known other : Known) (store next : Datastore) (label after : Label) → Grows known other → Does known store next label after → Does other store next label after) → (following : A → Label) (P : Known → A → Type 0) (known : Known) (label : Label) (asked : Call) (took : (moment revision : ℕ) → Word A) (lost full spent : Word A)
       → ((one other : Known) (a : A) → Grows one other → P one a → P other a)
-      → ((moment : ℕ) (store : Datastore) → Agrees known store → (r : ℕ) → reply_of store asked ≡ Can r → Does store (store_with (write_of asked r) store) label (label_to following (took moment r)))
-      → ((moment : ℕ) (other : Known) (r : ℕ) → Grows known other → Meets Does following P other (took moment r))
-      → ((store : Datastore) → Does store store label (label_to following lost)) → Meets Does following P known lost
-      → ((store : Datastore) → Does store store label (label_to following full)) → Meets Does following P known full
-      → ((store : Datastore) → Does store store label (label_to following spent)) → Meets Does following P known spent
+      → ((moment : ℕ) (store : Datastore) → Agrees known store → (r : ℕ) → reply_of store asked ≡ Can r → Does known store (store_with (write_of asked r) store) label (label_to following (took moment r)))
+      → ((moment : ℕ) (other : Known) (r : ℕ) → Grows known other → IsWritten other (write_of asked r) → Meets Does following P other (took moment r))
+      → ((store : Datastore) → Does known store store label (label_to following lost)) → Meets Does following P known lost
+      → ((store : Datastore) → Does known store store label (label_to following full)) → Meets Does following P known full
+      → ((store : Datastore) → Does known store store label (label_to following spent)) → Meets Does following P known spent
       → Meets Does following P known (Asks label asked (λ moment reply. after_write reply (took moment) lost full spent))
-  write-meets-at {A} following P known label asked took lost full spent lasts done after_done on_lost after_lost on_full after_full on_spent after_spent = λ moment store agrees.
+  write-meets-at {A} does_grow following P known label asked took lost full spent lasts done after_done on_lost after_lost on_full after_full on_spent after_spent = λ moment store agrees.
       from moment store agrees (reply_of store asked) refl
     where
       grows : (old new : Datastore) → Grows known (more known old new)
       grows old new key revision found there = inl there
 
       wider : (w : Word A) (old new : Datastore) → Meets Does following P known w → Meets Does following P (more known old new) w
-      wider w old new h = Meets-grows Does following P lasts w known (more known old new) (grows old new) h
+      wider w old new h = Meets-grows Does does_grow following P lasts w known (more known old new) (grows old new) h
 
-      from : (moment : ℕ) (store : Datastore) → Agrees known store → (reply : Said) → reply_of store asked ≡ reply → Does store (store_with (write_granted asked reply) store) label (label_to following (after_write reply (took moment) lost full spent)) × Meets Does following P (more known store (store_with (write_granted asked reply) store)) (after_write reply (took moment) lost full spent)
-      from moment store agrees (Can r) e = (done moment store agrees r e, after_done moment (more known store (store_with (write_of asked r) store)) r (grows store (store_with (write_of asked r) store)))
+      from : (moment : ℕ) (store : Datastore) → Agrees known store → (reply : Said) → reply_of store asked ≡ reply → Does known store (store_with (write_granted asked reply) store) label (label_to following (after_write reply (took moment) lost full spent)) × Meets Does following P (more known store (store_with (write_granted asked reply) store)) (after_write reply (took moment) lost full spent)
+      from moment store agrees (Can r) e = (done moment store agrees r e, after_done moment (more known store (store_with (write_of asked r) store)) r (grows store (store_with (write_of asked r) store)) (written-known asked r store known))
       from moment store agrees Missing e = (on_lost store, wider lost store store after_lost)
       from moment store agrees (Exists r) e = (on_lost store, wider lost store store after_lost)
       from moment store agrees (Conflict r) e = (on_lost store, wider lost store store after_lost)
@@ -142,13 +165,13 @@ module _ (Does : Datastore → Datastore → Label → Label → Type 0) where
       from moment store agrees Spent e = (on_spent store, wider spent store store after_spent)
 
   -- the same where what follows does not depend on the moment
-  pub write-meets : {A : Type 0} → (following : A → Label) (P : Known → A → Type 0) (known : Known) (label : Label) (asked : Call) (took : ℕ → Word A) (lost full spent : Word A)
+  pub write-meets : {A : Type 0} → ((known other : Known) (store next : Datastore) (label after : Label) → Grows known other → Does known store next label after → Does other store next label after) → (following : A → Label) (P : Known → A → Type 0) (known : Known) (label : Label) (asked : Call) (took : ℕ → Word A) (lost full spent : Word A)
       → ((one other : Known) (a : A) → Grows one other → P one a → P other a)
-      → ((store : Datastore) → Agrees known store → (r : ℕ) → reply_of store asked ≡ Can r → Does store (store_with (write_of asked r) store) label (label_to following (took r)))
-      → ((other : Known) (r : ℕ) → Grows known other → Meets Does following P other (took r))
-      → ((store : Datastore) → Does store store label (label_to following lost)) → Meets Does following P known lost
-      → ((store : Datastore) → Does store store label (label_to following full)) → Meets Does following P known full
-      → ((store : Datastore) → Does store store label (label_to following spent)) → Meets Does following P known spent
+      → ((store : Datastore) → Agrees known store → (r : ℕ) → reply_of store asked ≡ Can r → Does known store (store_with (write_of asked r) store) label (label_to following (took r)))
+      → ((other : Known) (r : ℕ) → Grows known other → IsWritten other (write_of asked r) → Meets Does following P other (took r))
+      → ((store : Datastore) → Does known store store label (label_to following lost)) → Meets Does following P known lost
+      → ((store : Datastore) → Does known store store label (label_to following full)) → Meets Does following P known full
+      → ((store : Datastore) → Does known store store label (label_to following spent)) → Meets Does following P known spent
       → Meets Does following P known (Asks label asked (λ moment reply. after_write reply took lost full spent))
-  write-meets following P known label asked took lost full spent lasts done after_done on_lost after_lost on_full after_full on_spent after_spent =
-      write-meets-at following P known label asked (λ moment r. took r) lost full spent lasts (λ moment. done) (λ moment. after_done) on_lost after_lost on_full after_full on_spent after_spent
+  write-meets does_grow following P known label asked took lost full spent lasts done after_done on_lost after_lost on_full after_full on_spent after_spent =
+      write-meets-at does_grow following P known label asked (λ moment r. took r) lost full spent lasts (λ moment. done) (λ moment. after_done) on_lost after_lost on_full after_full on_spent after_spent

@@ -50,7 +50,8 @@ label_to following (Waits next) = idle
 
 -- ---- a word that meets a law
 
-module _ (Does : Datastore → Datastore → Label → Label → Type 0) where
+-- The law says what a call may do to the store, from one label to the next, by what is known before it.
+module _ (Does : Known → Datastore → Datastore → Label → Label → Type 0) where
   -- Whatever store agrees with what is known, the call does what it may, and what follows meets the
   -- law with more known. At an answer something is true of it and of what is known. What waits goes on
   -- with an idle label.
@@ -58,16 +59,16 @@ module _ (Does : Datastore → Datastore → Label → Label → Type 0) where
   Meets following P known (Ends answer) = P known answer
   Meets following P known (Asks label asked next) =
       (moment : ℕ) (store : Datastore) → Agrees known store
-      → Does store (behind store asked) label (label_to following (next moment (reply_of store asked)))
+      → Does known store (behind store asked) label (label_to following (next moment (reply_of store asked)))
       × Meets following P (more known store (behind store asked)) (next moment (reply_of store asked))
   Meets following P known (Waits next) = (live : List (List ℕ)) → (label_to following (next live) ≡ idle) × Meets following P known (next live)
 
-  pub Meets-grows : {A : Type 0} → (following : A → Label) (P : Known → A → Type 0) → ((known other : Known) (a : A) → Grows known other → P known a → P other a) → (w : Word A) (known other : Known) → Grows known other → Meets following P known w → Meets following P other w
-  Meets-grows following P lasts (Ends answer) known other grows h = lasts known other answer grows h
-  Meets-grows following P lasts (Asks label asked next) known other grows h = λ moment store agrees.
+  pub Meets-grows : {A : Type 0} → ((known other : Known) (store next : Datastore) (label after : Label) → Grows known other → Does known store next label after → Does other store next label after) → (following : A → Label) (P : Known → A → Type 0) → ((known other : Known) (a : A) → Grows known other → P known a → P other a) → (w : Word A) (known other : Known) → Grows known other → Meets following P known w → Meets following P other w
+  Meets-grows does_grow following P lasts (Ends answer) known other grows h = lasts known other answer grows h
+  Meets-grows does_grow following P lasts (Asks label asked next) known other grows h = λ moment store agrees.
       let here = h moment store (Agrees-less known other store grows agrees) in
-      (here.0, Meets-grows following P lasts (next moment (reply_of store asked)) (more known store (behind store asked)) (more other store (behind store asked)) (more-grows known other store (behind store asked) grows) here.1)
-  Meets-grows following P lasts (Waits next) known other grows h = λ live. ((h live).0, Meets-grows following P lasts (next live) known other grows (h live).1)
+      (does_grow known other store (behind store asked) label (label_to following (next moment (reply_of store asked))) grows here.0, Meets-grows does_grow following P lasts (next moment (reply_of store asked)) (more known store (behind store asked)) (more other store (behind store asked)) (more-grows known other store (behind store asked) grows) here.1)
+  Meets-grows does_grow following P lasts (Waits next) known other grows h = λ live. ((h live).0, Meets-grows does_grow following P lasts (next live) known other grows (h live).1)
 
   pub label_to-bound : {A B : Type 0} → (following : A → Label) (further : B → Label) (follows : A → Word B) → ((a : A) → following a ≡ label_to further (follows a)) → (w : Word A) → label_to following w ≡ label_to further (bound w follows)
   label_to-bound following further follows labels (Ends answer) = labels answer
@@ -78,7 +79,7 @@ module _ (Does : Datastore → Datastore → Label → Label → Type 0) where
   Meets-bound following further P Q follows labels (Ends answer) known h k = k known answer (λ key revision found there. there) h
   Meets-bound following further P Q follows labels (Asks label asked next) known h k = λ moment store agrees.
       let here = h moment store agrees in (
-        subst (λ (l : Label). Does store (behind store asked) label l) (label_to-bound following further follows labels (next moment (reply_of store asked))) here.0,
+        subst (λ (l : Label). Does known store (behind store asked) label l) (label_to-bound following further follows labels (next moment (reply_of store asked))) here.0,
         Meets-bound following further P Q follows labels (next moment (reply_of store asked)) (more known store (behind store asked)) here.1
             (λ other a grows p. k other a (λ key revision found there. grows key revision found (inl there)) p),
       )

@@ -24,7 +24,7 @@ pub AreGiven : Datastore → Type 0
 AreGiven store = (key : Key) (revision : ℕ) (found : Record) → HasAt store key revision found → revision ≤ store.counter
 
 -- a key is the one, or another
-key_cases : (k l : Key) → (k ≡ l) ⊎ (k ≢ l)
+pub key_cases : (k l : Key) → (k ≡ l) ⊎ (k ≢ l)
 key_cases k l = elim (cases_Bool (keys_equal k l)) [
   | inl same ↦ inl (same-keys_equal k l same)
   | inr differ ↦ inr (λ e. let t : keys_equal k l ≡ true = subst (λ (x : Key). keys_equal k x ≡ true) e (keys_equal-itself k) in cc)
@@ -53,22 +53,22 @@ remove-found store r gone key revision found e = elim (key_cases gone key) [
 step-given : (store behind : Datastore) → StoreStep store behind → AreGiven store → AreGiven behind
 unfolding AreGiven
 step-given store behind (Stays e) h = subst (λ (s : Datastore). AreGiven s) (sym e) h
-step-given store behind (Puts new e) h = subst (λ (s : Datastore). AreGiven s) (sym e) given
+step-given store behind (Puts new e left place) h = subst (λ (s : Datastore). AreGiven s) (sym e) given
   where
     given : AreGiven (written store (Put (store.counter + 1) new))
     given key revision found f = elim (put-found store (store.counter + 1) new key revision found f) [
       | inl is ↦ omega (arith, is.1)
       | inr old ↦ let k = h key revision found old in omega arith
     ]
-step-given store behind (Removes gone e) h = subst (λ (s : Datastore). AreGiven s) (sym e) given
+step-given store behind (Removes gone e left) h = subst (λ (s : Datastore). AreGiven s) (sym e) given
   where
     given : AreGiven (written store (Remove (store.counter + 1) gone))
     given key revision found f = let k = h key revision found (remove-found store (store.counter + 1) gone key revision found f) in omega arith
 
 step-counter : (store behind : Datastore) → StoreStep store behind → store.counter ≤ behind.counter
 step-counter store behind (Stays e) = omega (arith, ap (λ (s : Datastore). s.counter) e)
-step-counter store behind (Puts new e) = omega (arith, ap (λ (s : Datastore). s.counter) e)
-step-counter store behind (Removes gone e) = omega (arith, ap (λ (s : Datastore). s.counter) e)
+step-counter store behind (Puts new e left place) = omega (arith, ap (λ (s : Datastore). s.counter) e)
+step-counter store behind (Removes gone e left) = omega (arith, ap (λ (s : Datastore). s.counter) e)
 
 base-given : (base : Base) → IsDatastore base.store → AreGiven base.store
 unfolding AreGiven
@@ -97,19 +97,27 @@ drop-counter base (suc many) (new ∷ history) h =
     let there = drop-counter base many history h.0 in
     omega arith
 
+-- what was there earlier has a revision that was given by now
+pub earlier-below : (base : Base) (many : ℕ) (history : List Entry) → IsDatastore base.store → Lawful base history → (key : Key) (revision : ℕ) (found : Record) → HasAt (store_at base (drop many history)) key revision found → revision ≤ (store_at base history).counter
+unfolding AreGiven
+earlier-below base many history sound h key revision found there =
+    let early = history-given base (drop many history) sound (drop-lawful base many history h) key revision found there in
+    let later = drop-counter base many history h in
+    omega arith
+
 -- ---- an earlier record and a later one
 
 -- a record that was there keeps its revision for itself over one step
 step-same : (store behind : Datastore) → StoreStep store behind → (earlier : Datastore) → AreGiven earlier → earlier.counter ≤ store.counter → (key : Key) (revision : ℕ) (one other : Record) → HasAt earlier key revision one → HasAt behind key revision other → (HasAt store key revision other → one ≡ other) → one ≡ other
 unfolding AreGiven
 step-same store behind (Stays e) earlier given below key revision one other h k same = same (subst (λ (s : Datastore). HasAt s key revision other) e k)
-step-same store behind (Puts new e) earlier given below key revision one other h k same =
+step-same store behind (Puts new e left place) earlier given below key revision one other h k same =
     let there = subst (λ (s : Datastore). HasAt s key revision other) e k in
     elim (put-found store (store.counter + 1) new key revision other there) [
       | inl is ↦ let old = given key revision one h in absurd (omega (arith, is.1))
       | inr before ↦ same before
     ]
-step-same store behind (Removes gone e) earlier given below key revision one other h k same =
+step-same store behind (Removes gone e left) earlier given below key revision one other h k same =
     let there = subst (λ (s : Datastore). HasAt s key revision other) e k in
     same (remove-found store (store.counter + 1) gone key revision other there)
 

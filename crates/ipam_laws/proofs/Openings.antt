@@ -1,5 +1,5 @@
 -- Rows that may be opened open as one datastore, and a datastore's own rows as that datastore.
-use Rattle.std.proofs.Common.{◌≡◌, ◌≢◌, ℕ, zero, suc, ◌⊎◌, inl, inr, List, [], ◌∷◌, map, Ok, refl, sym, ap, ◌∙◌, subst, arith}
+use Rattle.std.proofs.Common.{◌≡◌, ◌≢◌, ℕ, inl, inr, List, [], ◌∷◌, map, Ok, refl, sym, ap, ◌∙◌, subst}
 use Rattle.std.specs.Prelude.{Contains}
 use Rattle.std.specs.declared.cmp.Ordering.TheVariants.{Less}
 use Rattle.std.specs.List.{AllByRecursion}
@@ -16,46 +16,18 @@ use Rattle.ipam_records.specs.Sound.{IsDatastore, IsRow}
 use Rattle.ipam_records.proofs.RecordTexts.{record_reads_back}
 use Rattle.ipam_model.specs.Opened.{IsTextOf, OneOpenedLaw, OpensAs, SameRecordsLaw, Texts, reading_of, text_of, texts_of}
 use Rattle.ipam_model.specs.Reads.{Row}
-
--- ---- members of a list
-
-in-cons : {X : Type 0} → (x y : X) (ys : List X) → Contains (y ∷ ys) x → (y ≡ x) ⊎ Contains ys x
-in-cons x y ys (zero, below, e) = inl e
-in-cons x y ys (suc k, below, e) = inr (k, omega arith, e)
-
-in-here : {X : Type 0} → (x : X) (xs : List X) → Contains (x ∷ xs) x
-in-here x xs = (zero, omega arith, refl)
-
-in-there : {X : Type 0} → (x y : X) (ys : List X) → Contains ys x → Contains (y ∷ ys) x
-in-there x y ys (k, below, e) = (suc k, omega arith, e)
-
-in-nothing : {X : Type 0} → (x : X) → Contains [] x → ⊥
-in-nothing x (k, below, e) = absurd (omega arith)
-
-in-map : {X Y : Type 0} → (f : X → Y) (x : X) (xs : List X) → Contains xs x → Contains (map f xs) (f x)
-in-map f x [] h = absurd (in-nothing x h)
-in-map f x (y ∷ ys) h = elim (in-cons x y ys h) [
-  | inl is ↦ subst (λ z. Contains (f y ∷ map f ys) (f z)) is (in-here (f y) (map f ys))
-  | inr rest ↦ in-there (f x) (f y) (map f ys) (in-map f x ys rest)
-]
-
-out-map : {X Y : Type 0} → (f : X → Y) (z : Y) (xs : List X) → Contains (map f xs) z → (x : X) × Contains xs x × (f x ≡ z)
-out-map f z [] h = absurd (in-nothing z h)
-out-map f z (y ∷ ys) h = elim (in-cons z (f y) (map f ys) h) [
-  | inl is ↦ (y, in-here y ys, is)
-  | inr rest ↦ let (x, there, e) = out-map f z ys rest in (x, in-there x y ys there, e)
-]
+use Rattle.ipam_laws.proofs.Members.{in-cons, in-here, in-there, in-nothing, in-map, out-map}
 
 -- ---- rows by ascending keys with the same members are the same
 
-less-than : (k : Key) (rows : List Row) (row : Row) → AllByRecursion (λ other. key_cmp k other ≡ Less) (map row_key rows) → Contains rows row → key_cmp k (row_key row) ≡ Less
+pub less-than : (k : Key) (rows : List Row) (row : Row) → AllByRecursion (λ other. key_cmp k other ≡ Less) (map row_key rows) → Contains rows row → key_cmp k (row_key row) ≡ Less
 less-than k [] row all h = absurd (in-nothing row h)
 less-than k (first ∷ rest) row all h = elim (in-cons row first rest h) [
   | inl is ↦ ap (λ (r : Row). key_cmp k (row_key r)) (sym is) ∙ all.0
   | inr there ↦ less-than k rest row all.1 there
 ]
 
-never-less : (k : Key) → key_cmp k k ≢ Less
+pub never-less : (k : Key) → key_cmp k k ≢ Less
 never-less k e = let t = tied_itself key_cmp_total k in cc
 
 Within : List Row → List Row → Type 0
@@ -111,7 +83,7 @@ opens_as_one texts one other a b =
 
 -- ---- a datastore's own rows
 
-reads-back : (store : Datastore) → IsDatastore store → (row : Row) → Contains store.rows row → reading_of (text_of row) ≡ Ok row.1
+pub reads-back : (store : Datastore) → IsDatastore store → (row : Row) → Contains store.rows row → reading_of (text_of row) ≡ Ok row.1
 reads-back store sound row h = record_reads_back row.1 (All-contains (IsRow store.counter) store.rows row sound.rows h).is_record
 
 opened-own : (texts : Texts) (store opened : Datastore) → IsDatastore store → IsTextOf texts store → OpensAs texts opened → Within opened.rows store.rows

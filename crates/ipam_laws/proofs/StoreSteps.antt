@@ -1,5 +1,5 @@
 -- What an entry makes of the store.
-use Rattle.std.proofs.Common.{◌≡◌, ◌≢◌, ℕ, ◌+◌, true, false, Bool, cond, List, ◌∷◌, Option, Some, None, refl, sym, ap, ◌∙◌, subst}
+use Rattle.std.proofs.Common.{◌≡◌, ◌≢◌, ℕ, ◌+◌, ◌<◌, ◌⊎◌, inl, inr, ltb-true, true, false, Bool, cond, List, ◌∷◌, Option, Some, None, refl, sym, ap, ◌∙◌, subst}
 use Rattle.std.specs.Prelude.{◌==◌, nat_lt}
 use Rattle.ipam_records.specs.declared.key.Key.{Key}
 use Rattle.ipam_records.specs.declared.record.Record.{Record}
@@ -79,55 +79,71 @@ replies base history c h = call_entry-answered c.slot c.fate (cluster_at base hi
 
 -- ---- a step of the store: it stays, or takes a write at the next revision
 
+-- a record is put where one is, or where none is and there is room
+abbrev pub HasPlace : Datastore → Record → Type 0
+HasPlace store new =
+    ((row_of (key_of new) store.rows ≡ None) × (has_room store (key_of new) ≡ true))
+    ⊎ ((row : ℕ × Record) × (row_of (key_of new) store.rows ≡ Some row))
+
 pub data StoreStep (store behind : Datastore) : Type 0 where
   Stays : behind ≡ store → StoreStep store behind
-  Puts : (new : Record) → behind ≡ written store (Put (store.counter + 1) new) → StoreStep store behind
-  Removes : (key : Key) → behind ≡ written store (Remove (store.counter + 1) key) → StoreStep store behind
+  Puts : (new : Record) → behind ≡ written store (Put (store.counter + 1) new) → store.counter < last_revision → HasPlace store new → StoreStep store behind
+  Removes : (key : Key) → behind ≡ written store (Remove (store.counter + 1) key) → store.counter < last_revision → StoreStep store behind
 
--- what may be applied takes the next revision
-granted-next : (store : Datastore) (revision : ℕ) → granted store ≡ Can revision → revision ≡ store.counter + 1
-granted-next store revision e = from (nat_lt store.counter last_revision) e
+-- what may be applied takes the next revision, of which there is one
+record IsNextOf (store : Datastore) (revision : ℕ) : Type 0 where
+  next : revision ≡ store.counter + 1
+  left : store.counter < last_revision
+
+granted-next : (store : Datastore) (revision : ℕ) → granted store ≡ Can revision → IsNextOf store revision
+granted-next store revision e = from (nat_lt store.counter last_revision) refl e
   where
-    from : (b : Bool) → cond b (Can (store.counter + 1)) Spent ≡ Can revision → revision ≡ store.counter + 1
-    from true f = cc
-    from false f = cc
+    from : (b : Bool) → nat_lt store.counter last_revision ≡ b → cond b (Can (store.counter + 1)) Spent ≡ Can revision → IsNextOf store revision
+    from true left f = record { next = cc f; left = ltb-true store.counter last_revision left }
+    from false left f = absurd (cc f)
 
 get-never : (row : Option (ℕ × Record)) (revision : ℕ) → reply_to_get row ≡ Can revision → ⊥
 get-never None revision e = cc
 get-never (Some row) revision e = cc
 
-create-next : (store : Datastore) (key : Key) (row : Option (ℕ × Record)) (revision : ℕ) → reply_to_create store key row ≡ Can revision → revision ≡ store.counter + 1
-create-next store key (Some row) revision e = cc
-create-next store key None revision e = from (has_room store key) e
+create-next : (store : Datastore) (key : Key) (row : Option (ℕ × Record)) (revision : ℕ) → reply_to_create store key row ≡ Can revision → IsNextOf store revision × (row ≡ None) × (has_room store key ≡ true)
+create-next store key (Some row) revision e = absurd (cc e)
+create-next store key None revision e = let (is, room) = from (has_room store key) refl e in (is, refl, room)
   where
-    from : (b : Bool) → cond b (granted store) Full ≡ Can revision → revision ≡ store.counter + 1
-    from true f = granted-next store revision f
-    from false f = cc
+    from : (b : Bool) → has_room store key ≡ b → cond b (granted store) Full ≡ Can revision → IsNextOf store revision × (has_room store key ≡ true)
+    from true room f = (granted-next store revision f, room)
+    from false room f = absurd (cc f)
 
-change-next : (store : Datastore) (old : ℕ) (row : Option (ℕ × Record)) (revision : ℕ) → reply_to_change store old row ≡ Can revision → revision ≡ store.counter + 1
-change-next store old None revision e = cc
+change-next : (store : Datastore) (old : ℕ) (row : Option (ℕ × Record)) (revision : ℕ) → reply_to_change store old row ≡ Can revision → IsNextOf store revision × ((there : ℕ × Record) × (row ≡ Some there))
+change-next store old None revision e = absurd (cc e)
 change-next store old (Some row) revision e = from (row.0 == old) e
   where
-    from : (b : Bool) → cond b (granted store) (Conflict row.0) ≡ Can revision → revision ≡ store.counter + 1
-    from true f = granted-next store revision f
-    from false f = cc
+    from : (b : Bool) → cond b (granted store) (Conflict row.0) ≡ Can revision → IsNextOf store revision × ((there : ℕ × Record) × (Some row ≡ Some there))
+    from true f = (granted-next store revision f, (row, refl))
+    from false f = absurd (cc f)
 
-can-next : (store : Datastore) (asked : Call) (revision : ℕ) → reply_of store asked ≡ Can revision → revision ≡ store.counter + 1
+pub can-next : (store : Datastore) (asked : Call) (revision : ℕ) → reply_of store asked ≡ Can revision → revision ≡ store.counter + 1
 can-next store (call.Get key) revision e = absurd (get-never (row_of key store.rows) revision e)
 can-next store (call.List kind) revision e = cc
-can-next store (call.Create new) revision e = create-next store (key_of new) (row_of (key_of new) store.rows) revision e
-can-next store (call.Update new old) revision e = change-next store old (row_of (key_of new) store.rows) revision e
-can-next store (call.Delete key old) revision e = change-next store old (row_of key store.rows) revision e
+can-next store (call.Create new) revision e = (create-next store (key_of new) (row_of (key_of new) store.rows) revision e).0.next
+can-next store (call.Update new old) revision e = (change-next store old (row_of (key_of new) store.rows) revision e).0.next
+can-next store (call.Delete key old) revision e = (change-next store old (row_of key store.rows) revision e).0.next
 
-write-step : (store : Datastore) (asked : Call) (revision : ℕ) → revision ≡ store.counter + 1 → StoreStep store (store_with (write_of asked revision) store)
+write-step : (store : Datastore) (asked : Call) (revision : ℕ) → reply_of store asked ≡ Can revision → StoreStep store (store_with (write_of asked revision) store)
 write-step store (call.Get key) revision e = Stays refl
 write-step store (call.List kind) revision e = Stays refl
-write-step store (call.Create new) revision e = Puts new (ap (λ r. written store (Put r new)) e)
-write-step store (call.Update new old) revision e = Puts new (ap (λ r. written store (Put r new)) e)
-write-step store (call.Delete key old) revision e = Removes key (ap (λ r. written store (Remove r key)) e)
+write-step store (call.Create new) revision e =
+    let (is, none, room) = create-next store (key_of new) (row_of (key_of new) store.rows) revision e in
+    Puts new (ap (λ r. written store (Put r new)) is.next) is.left (inl (none, room))
+write-step store (call.Update new old) revision e =
+    let (is, there) = change-next store old (row_of (key_of new) store.rows) revision e in
+    Puts new (ap (λ r. written store (Put r new)) is.next) is.left (inr there)
+write-step store (call.Delete key old) revision e =
+    let (is, there) = change-next store old (row_of key store.rows) revision e in
+    Removes key (ap (λ r. written store (Remove r key)) is.next) is.left
 
 granted-step : (store : Datastore) (asked : Call) (reply : Said) → reply_of store asked ≡ reply → StoreStep store (store_with (write_granted asked reply) store)
-granted-step store asked (Can revision) e = write-step store asked revision (can-next store asked revision e)
+granted-step store asked (Can revision) e = write-step store asked revision e
 granted-step store asked (Found revision found) e = Stays refl
 granted-step store asked Missing e = Stays refl
 granted-step store asked (Listed rows) e = Stays refl

@@ -2,6 +2,7 @@
 //! model alone.
 #![tactic(auto)]
 
+pub mod affinities;
 pub mod answers;
 pub mod bounds;
 pub mod counts;
@@ -9,4 +10,6 @@ pub mod courses;
 pub mod datastore;
 pub mod faults;
 pub mod opening;
+pub mod owners;
+pub mod records;
 pub mod stands;

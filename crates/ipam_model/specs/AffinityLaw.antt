@@ -11,9 +11,11 @@ use Rattle.ipam_records.specs.declared.record.Record.TheVariants as record_of
 use Rattle.ipam_records.specs.Datastore.{Datastore, row_of}
 use Rattle.ipam_records.specs.Label.{Point, Claiming, Claimed, Releasing, Released}
 use Rattle.ipam_records.specs.Sound.{IsDatastore}
+use Rattle.ipam_records.specs.Word.{label_of}
 use Rattle.ipam_model.specs.declared.entry.Entry.{Entry}
 use Rattle.ipam_model.specs.Affinities.{affinity}
-use Rattle.ipam_model.specs.History.{Base, Lawful, store_at, store_before}
+use Rattle.ipam_model.specs.Cluster.{Running}
+use Rattle.ipam_model.specs.History.{Base, Lawful, cluster_at, store_at, store_before}
 use Rattle.ipam_model.specs.Moments.{Has, revision_of}
 use Rattle.ipam_model.specs.Points.{StandsAt}
 
@@ -56,6 +58,11 @@ HasAt store key revision found = row_of key store.rows ≡ Some (revision, found
 abbrev pub IsAt : Base → List Entry → (slot : ℕ) → Point → Type 0
 IsAt base history slot point = StandsAt (record { base = base; history = history; slot = slot }) point
 
+-- the label of what runs in the slot has the point
+abbrev pub IsLabelled : Base → List Entry → (slot : ℕ) → Point → Type 0
+IsLabelled base history slot point =
+    (running : Running) × ((cluster_at base history).slots slot ≡ Some running) × ((label_of running.word).point ≡ point)
+
 -- the block, or its absence, is as it was read
 abbrev pub IsBlockCurrent : Datastore → CidrValue → Option ℕ → Type 0
 IsBlockCurrent store cidr read = revision_of store (key.Block cidr) ≡ read
@@ -64,31 +71,32 @@ IsBlockCurrent store cidr read = revision_of store (key.Block cidr) ≡ read
 abbrev pub IsAffinityCurrent : Datastore → List ℕ → CidrValue → ℕ → Type 0
 IsAffinityCurrent store node cidr kept = revision_of store (key.Affinity node cidr) ≡ Some kept
 
--- What holds of the points at which the slots' requests stand, by what is current.
-pub record PointsAgree (base : Base) (history : List Entry) : Type 0 where
+-- What holds of the points at which the slots' requests stand, by what is current. A slot stands at a
+-- point by the calls that its request has made, or by its label.
+pub record PointsAgree (stands : (slot : ℕ) → Point → Type 0) (base : Base) (history : List Entry) : Type 0 where
   -- a claimer whose block is as it read it finds its affinity there, and nobody is about to delete it
   pub claiming : (slot : ℕ) (node : List ℕ) (cidr : CidrValue) (read : Option ℕ) (kept : ℕ)
-      → IsAt base history slot (Claiming node cidr read kept) → IsBlockCurrent (store_at base history) cidr read
+      → stands slot (Claiming node cidr read kept) → IsBlockCurrent (store_at base history) cidr read
       → (revision : ℕ) × IsAffinityCurrent (store_at base history) node cidr revision
   pub claiming_apart : (slot other : ℕ) (node : List ℕ) (cidr : CidrValue) (read : Option ℕ) (kept mark : ℕ)
-      → IsAt base history slot (Claiming node cidr read kept) → IsBlockCurrent (store_at base history) cidr read
-      → IsAt base history other (Released node cidr mark) → ¬ (IsAffinityCurrent (store_at base history) node cidr mark)
+      → stands slot (Claiming node cidr read kept) → IsBlockCurrent (store_at base history) cidr read
+      → stands other (Released node cidr mark) → ¬ (IsAffinityCurrent (store_at base history) node cidr mark)
   -- a claimer that wrote the block, and whose affinity is as it keeps it, finds its node in the block,
   -- and nobody is about to take it away
   pub claimed : (slot : ℕ) (node : List ℕ) (cidr : CidrValue) (kept : ℕ)
-      → IsAt base history slot (Claimed node cidr kept) → IsAffinityCurrent (store_at base history) node cidr kept
+      → stands slot (Claimed node cidr kept) → IsAffinityCurrent (store_at base history) node cidr kept
       → HasNode (store_at base history) cidr node
   pub claimed_apart : (slot other : ℕ) (node : List ℕ) (cidr : CidrValue) (kept : ℕ) (read : Option ℕ) (mark : ℕ)
-      → IsAt base history slot (Claimed node cidr kept) → IsAffinityCurrent (store_at base history) node cidr kept
-      → IsAt base history other (Releasing node cidr read mark) → ¬ (IsBlockCurrent (store_at base history) cidr read)
+      → stands slot (Claimed node cidr kept) → IsAffinityCurrent (store_at base history) node cidr kept
+      → stands other (Releasing node cidr read mark) → ¬ (IsBlockCurrent (store_at base history) cidr read)
   -- a releaser whose block is as it read it finds no confirmed affinity
   pub releasing : (slot : ℕ) (node : List ℕ) (cidr : CidrValue) (read : Option ℕ) (mark : ℕ)
-      → IsAt base history slot (Releasing node cidr read mark) → IsBlockCurrent (store_at base history) cidr read
+      → stands slot (Releasing node cidr read mark) → IsBlockCurrent (store_at base history) cidr read
       → ¬ (HasAffinity (store_at base history) node cidr Confirmed)
   -- a releaser that wrote the block, and whose mark is current, finds the affinity still to be deleted
   -- and the block without the node
   pub released : (slot : ℕ) (node : List ℕ) (cidr : CidrValue) (mark : ℕ)
-      → IsAt base history slot (Released node cidr mark) → IsAffinityCurrent (store_at base history) node cidr mark
+      → stands slot (Released node cidr mark) → IsAffinityCurrent (store_at base history) node cidr mark
       → HasAffinity (store_at base history) node cidr PendingDeletion × ¬ (HasNode (store_at base history) cidr node)
 
 -- at some moment the key had this record at the revision
@@ -113,24 +121,30 @@ WasToBeKept base history node cidr revision =
     × (state ≢ PendingDeletion)
 
 -- What the revisions were that the points keep, current or not.
-pub record PointsKeep (base : Base) (history : List Entry) : Type 0 where
+pub record PointsKeep (stands : (slot : ℕ) → Point → Type 0) (base : Base) (history : List Entry) : Type 0 where
   -- a claimer reads only blocks with its node or with none, and keeps no affinity that is to be deleted
   pub claims_own : (slot : ℕ) (node : List ℕ) (cidr : CidrValue) (read kept : ℕ)
-      → IsAt base history slot (Claiming node cidr (Some read) kept) → WasOwnOrNobodys base history node cidr read
+      → stands slot (Claiming node cidr (Some read) kept) → WasOwnOrNobodys base history node cidr read
   pub claims_kept : (slot : ℕ) (node : List ℕ) (cidr : CidrValue) (read : Option ℕ) (kept : ℕ)
-      → IsAt base history slot (Claiming node cidr read kept) → WasToBeKept base history node cidr kept
+      → stands slot (Claiming node cidr read kept) → WasToBeKept base history node cidr kept
   pub claimed_kept : (slot : ℕ) (node : List ℕ) (cidr : CidrValue) (kept : ℕ)
-      → IsAt base history slot (Claimed node cidr kept) → WasToBeKept base history node cidr kept
+      → stands slot (Claimed node cidr kept) → WasToBeKept base history node cidr kept
   -- a mark is an affinity that is to be deleted
   pub releasing_marks : (slot : ℕ) (node : List ℕ) (cidr : CidrValue) (read : Option ℕ) (mark : ℕ)
-      → IsAt base history slot (Releasing node cidr read mark) → WasToBeDeleted base history node cidr mark
+      → stands slot (Releasing node cidr read mark) → WasToBeDeleted base history node cidr mark
   pub released_marks : (slot : ℕ) (node : List ℕ) (cidr : CidrValue) (mark : ℕ)
-      → IsAt base history slot (Released node cidr mark) → WasToBeDeleted base history node cidr mark
+      → stands slot (Released node cidr mark) → WasToBeDeleted base history node cidr mark
 
 abbrev pub PointsLaw : Type 0
 PointsLaw =
     (base : Base) (history : List Entry) → IsDatastore base.store → AgreesWithAffinities base.store
-    → Lawful base history → PointsAgree base history × PointsKeep base history
+    → Lawful base history → PointsAgree (IsAt base history) base history × PointsKeep (IsAt base history) base history
+
+-- the same of the points that the labels say
+abbrev pub LabelPointsLaw : Type 0
+LabelPointsLaw =
+    (base : Base) (history : List Entry) → IsDatastore base.store → AgreesWithAffinities base.store
+    → Lawful base history → PointsAgree (IsLabelled base history) base history × PointsKeep (IsLabelled base history) base history
 
 -- ---- one key and one revision have one record
 

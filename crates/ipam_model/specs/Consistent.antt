@@ -46,6 +46,28 @@ pub record IsConsistent (store : Datastore) : Type 0 where
   pub few_rows : length store.rows ≤ most_rows
   pub few_blocks : length (listed kind.Block store) ≤ most_blocks
 
+-- there are not too many rows, nor too many blocks
+pub record IsWithinLimits (store : Datastore) : Type 0 where
+  pub few_rows : length store.rows ≤ most_rows
+  pub few_blocks : length (listed kind.Block store) ≤ most_blocks
+
+-- ---- the laws
+
+-- The records stay sound, by ascending keys, at revisions that were given.
+abbrev pub SoundLaw : Type 0
+SoundLaw = (base : Base) (history : List Entry) → IsDatastore base.store → Lawful base history → IsDatastore (store_at base history)
+
+abbrev pub LimitsLaw : Type 0
+LimitsLaw =
+    (base : Base) (history : List Entry) → IsDatastore base.store → IsWithinLimits base.store → Lawful base history
+    → IsWithinLimits (store_at base history)
+
+-- Pools only grow, so blocks and affinities stay at slots.
+abbrev pub SlotsLaw : Type 0
+SlotsLaw =
+    (base : Base) (history : List Entry) → IsDatastore base.store → LiesAtSlots base.store → Lawful base history
+    → LiesAtSlots (store_at base history)
+
 -- Whatever happens, the records stay consistent.
 abbrev pub ConsistentLaw : Type 0
 ConsistentLaw =

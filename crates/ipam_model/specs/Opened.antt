@@ -1,5 +1,5 @@
 -- Which rows may be opened.
-use Rattle.std.specs.Prelude.{◌≡◌, ◌≢◌, ℕ, ◌<◌, ◌≤◌, ◌⊎◌, List, Option, Some, None, Result, Ok, Err, Contains, slice_get, codes, filter, map, Bool, false}
+use Rattle.std.specs.Prelude.{◌≡◌, ◌≢◌, ℕ, ◌<◌, ◌≤◌, ◌⊎◌, List, ◌∷◌, Option, Some, None, Result, Ok, Err, Contains, slice_get, codes, filter, map, Bool, false}
 use Rattle.std.specs.declared.cmp.Ordering.TheVariants.{Greater}
 use Rattle.std.specs.Ordering.{nat_cmp}
 use Rattle.std.specs.Cmp.Lexicographic.{slice_cmp}
@@ -24,7 +24,11 @@ use Rattle.ipam_records.specs.RecordReading.{record_reading}
 use Rattle.ipam_records.specs.Sound.{IsDatastore}
 use Rattle.ipam_model.specs.AffinityLaw.{HasAffinity, HasNode}
 use Rattle.ipam_model.specs.Consistent.{IsConsistent, IsSlotOfSome, cidr_named, pools_in}
+use Rattle.ipam_model.specs.declared.entry.Called.{Called}
 use Rattle.ipam_model.specs.declared.entry.Entry.{Entry}
+use Rattle.ipam_model.specs.declared.entry.Entry.TheVariants as entry
+use Rattle.ipam_model.specs.declared.entry.Fate.TheVariants.{After}
+use Rattle.ipam_model.specs.FateLaw.{IsSameCall}
 use Rattle.ipam_model.specs.History.{Base, Lawful, store_at}
 use Rattle.ipam_records.specs.Body.{body_of}
 use Rattle.ipam_model.specs.CountLaw.{handle_count, held_count}
@@ -153,6 +157,16 @@ pub record IsTextOf (texts : Texts) (store : Datastore) : Type 0 where
 abbrev pub OpenedLaw : Type 0
 OpenedLaw = (texts : Texts) (store : Datastore) → OpensAs texts store → IsConsistent store
 
+-- Either nothing breaks the rows, or there is a first fault to be told.
+abbrev pub FirstFaultLaw : Type 0
+FirstFaultLaw = (texts : Texts) → MayBeOpened texts ⊎ ((number : ℕ) × (about : List ℕ) × IsRefusedBy texts number about)
+
+-- each of the rows that nothing breaks can be read
+abbrev pub AllReadLaw : Type 0
+AllReadLaw =
+    (texts : Texts) → MayBeOpened texts → (row : RowText) → Contains texts.rows row
+    → (found : Record) × (reading_of row ≡ Ok found)
+
 -- rows that may be opened open as a datastore
 abbrev pub OpensLaw : Type 0
 OpensLaw = (texts : Texts) → AreByKey texts.rows → MayBeOpened texts → (store : Datastore) × OpensAs texts store
@@ -167,10 +181,20 @@ SameRecordsLaw =
     (texts : Texts) (store opened : Datastore) → IsDatastore store → IsTextOf texts store → OpensAs texts opened
     → opened.rows ≡ store.rows
 
--- So at every moment what is there may be opened again, and it is the same, with the counter that is
--- given.
+-- however the rows are handed over, they open as the same, with the counter that is given
+abbrev pub OpensAsItself : Datastore → Type 0
+OpensAsItself store =
+    (texts : Texts) → IsTextOf texts store → OpensAs texts (record { rows = store.rows; counter = texts.counter })
+
+-- So at every moment what is there may be opened again.
 abbrev pub OpenedAgainLaw : Type 0
 OpenedAgainLaw =
-    (base : Base) (history : List Entry) (texts : Texts) → IsConsistent base.store → Lawful base history
-    → IsTextOf texts (store_at base history)
-    → OpensAs texts (record { rows = (store_at base history).rows; counter = texts.counter })
+    (base : Base) (history : List Entry) → IsConsistent base.store → Lawful base history → OpensAsItself (store_at base history)
+
+-- So is it with a write in doubt, whose call failed: whether it was done or not, what is there may be
+-- opened.
+abbrev pub InDoubtLaw : Type 0
+InDoubtLaw =
+    (base : Base) (history : List Entry) (c : Called) → IsConsistent base.store → Lawful base (entry.Called c ∷ history)
+    → OpensAsItself (store_at base history)
+    × ((other : Called) × IsSameCall c other After × OpensAsItself (store_at base (entry.Called other ∷ history)))

@@ -1,16 +1,20 @@
 -- Each call has the datastore's own reply.
-use Rattle.std.specs.Prelude.{◌≡◌, List, ◌∷◌, None}
+use Rattle.std.specs.Prelude.{◌≡◌, ℕ, List, ◌∷◌, Some, None}
 use Rattle.ipam_records.specs.declared.call.Call.{Call}
 use Rattle.ipam_records.specs.Datastore.{Datastore, reply_of, write_granted}
+use Rattle.ipam_records.specs.Hearing.{MayHear}
+use Rattle.ipam_records.specs.Sound.{IsDatastore}
+use Rattle.ipam_records.specs.Word.{asked}
 use Rattle.ipam_model.specs.declared.entry.Called.{Called}
 use Rattle.ipam_model.specs.declared.entry.Entry.{Entry}
 use Rattle.ipam_model.specs.declared.entry.Entry.TheVariants as entry
 use Rattle.ipam_model.specs.declared.entry.Fate.{Fate}
 use Rattle.ipam_model.specs.declared.entry.Fate.TheVariants.{Well, Before, After}
 use Rattle.ipam_model.specs.declared.entry.Told.TheVariants as told
-use Rattle.ipam_model.specs.Cluster.{record_written, store_with}
+use Rattle.ipam_model.specs.Cluster.{Running, record_written, store_with}
+use Rattle.ipam_model.specs.CountLaw.{IsCovered}
 use Rattle.ipam_model.specs.Named.{name_of, told_of}
-use Rattle.ipam_model.specs.History.{Base, Lawful, store_at}
+use Rattle.ipam_model.specs.History.{Base, Lawful, cluster_at, store_at}
 
 -- the reply and the written record are those of the datastore, and what it granted is done
 pub record IsDoneBy (store behind : Datastore) (asked : Call) (c : Called) : Type 0 where
@@ -34,3 +38,12 @@ RepliesLaw =
     (base : Base) (history : List Entry) (c : Called) → Lawful base (entry.Called c ∷ history)
     → (asked : Call) × (c.call ≡ name_of asked)
     × IsAnsweredBy (store_at base history) (store_at base (entry.Called c ∷ history)) asked c c.fate
+
+-- What runs may be told the datastore's reply to its call: some sound datastore answers so, and a read
+-- of the handle that there is a credit for finds the credit covered.
+abbrev pub MayHearLaw : Type 0
+MayHearLaw =
+    (base : Base) (history : List Entry) (slot : ℕ) (running : Running) (call : Call)
+    → IsDatastore base.store → IsCovered base.store → Lawful base history
+    → (cluster_at base history).slots slot ≡ Some running → asked running.word ≡ Some call
+    → MayHear running.word (reply_of (store_at base history) call)

@@ -7,7 +7,7 @@ use Rattle.ipam_model.specs.declared.entry.Called.{Called}
 use Rattle.ipam_model.specs.declared.entry.Entry.{Entry}
 use Rattle.ipam_model.specs.declared.entry.Entry.TheVariants as entry
 use Rattle.ipam_model.specs.declared.request.Request.{Request}
-use Rattle.ipam_model.specs.AffinityLaw.{PointsAgree, PointsKeep}
+use Rattle.ipam_model.specs.AffinityLaw.{IsAt, PointsAgree, PointsKeep}
 use Rattle.ipam_model.specs.AnswerLaw.{IsAnsweredRight}
 use Rattle.ipam_model.specs.BoundLaw.{CollectSpan, DelSpan, IsCollectSpan, IsDelSpan, NoneBegins, counts_read, kept_to_free, whole_collect, whole_del}
 use Rattle.ipam_model.specs.Cluster.{Running}
@@ -29,8 +29,8 @@ pub record IsRightAt (base : Base) (history : List Entry) : Type 0 where
   pub consistent : IsConsistent (store_at base history)
   pub owners_in_order : AreInOrder (owners (store_at base history))
   pub credits : AreCreditsCovered base history
-  pub points : PointsAgree base history
-  pub kept : PointsKeep base history
+  pub points : PointsAgree (IsAt base history) base history
+  pub kept : PointsKeep (IsAt base history) base history
   pub labels : (slot : ℕ) (running : Running) → (cluster_at base history).slots slot ≡ Some running
       → IsLabelOf (record { base = base; history = history; slot = slot }) (label_of running.word)
 
