@@ -1,3 +1,4 @@
 mod AssigningLemmas
 mod RoundLaws
 mod PlaceLemmas
+mod UsableLemmas

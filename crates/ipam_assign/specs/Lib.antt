@@ -2,3 +2,7 @@ pub mod Assigning
 pub mod Rounds
 pub mod PlaceShape
 pub mod Place
+pub mod Claiming
+pub mod Viewed
+pub mod Usable
+pub mod AddThis

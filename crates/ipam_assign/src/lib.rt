@@ -1,11 +1,23 @@
 //! How an address is assigned.
 #![tactic(auto)]
 
+mod add_this;
 mod assigning;
+mod claiming;
 mod place;
+mod reading;
 mod rounds;
+mod stopping;
+mod usable;
+mod wanted;
 
+pub use add_this::{AddThisProc, AddThisTurned};
 pub use assigning::{Assigning, AssigningTurned};
+pub use claiming::claimed;
 pub use place::Place;
+pub use reading::config_in;
 pub use rounds::Rounds;
+pub use stopping::{add_stopped, add_this_stopped};
+pub use usable::{names_for, usable_place};
+pub use wanted::Wanted;
 pub use std::alloc::AllocError as Memory;

@@ -17,6 +17,6 @@ pub use freeing::{Freeing, FreeingTurned, Picks};
 pub use left::{after_claim, after_lost, all_left};
 pub use lowering::{Lowering, LoweringTurned};
 pub use raising::{Raising, RaisingTurned};
-pub use reading::{handle_in, revision_in};
+pub use reading::{block_in, handle_in, revision_in};
 pub use std::alloc::AllocError as Memory;
 pub use write_end::WriteEnd;
