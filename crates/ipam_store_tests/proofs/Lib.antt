@@ -1,2 +1,1 @@
--- Lemmas on what the tests ask.
-pub mod SoundWrites
+-- no lemmas
