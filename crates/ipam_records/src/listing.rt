@@ -86,6 +86,13 @@ impl<'a> Listing<'a> {
         count
     }
 
+    /// The pages of rows, one after the other. Takes no memory.
+    pub fn pages(&self) -> &'a [Vec<(u64, Record)>]
+        ensures { rows_of_pages result.now ≡ rows_of self.now }
+    {
+        self.pages
+    }
+
     /// The revision and the record of the row at this place.
     pub fn at(&self, place: usize) -> (u64, &'a Record)
         requires { place < length (rows_of self.now) }
