@@ -4,3 +4,6 @@ mod RaisingLemmas
 mod LoweringLemmas
 pub mod BoundLaws
 pub mod FreeingLemmas
+pub mod SettledLaws
+pub mod FreeingAsks
+pub mod QueueFacts

@@ -1,5 +1,5 @@
 ghost use Rattle.std.specs.Prelude.{◌≡◌};
-ghost use Rattle.ipam_model.specs.Step.{all_left as every_try};
+ghost use Rattle.ipam_model.specs.Step.{all_left as every_try, lost_so_far};
 ghost use Rattle.ipam_parts.specs.Tries.{less_a_race, less_a_claim};
 
 use ipam_model::{Left, Stop};
@@ -32,4 +32,11 @@ pub fn after_claim(left: Left) -> Result<Left, Stop>
         Some(claims) => Ok(Left { claims, ..left }),
         None => Err(Stop::OutOfClaims),
     }
+}
+
+/// How many races were lost.
+pub fn lost_so_far(left: Left) -> u32
+    ensures { result ≡ lost_so_far left }
+{
+    63u32.saturating_sub(left.races)
 }

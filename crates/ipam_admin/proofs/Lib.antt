@@ -1,0 +1,2 @@
+mod AdminLemmas
+mod PoolLemmas

@@ -1,0 +1,3 @@
+mod FreeLemmas
+mod DelLemmas
+mod CheckLemmas
