@@ -1,5 +1,5 @@
 -- What is asked and seen, as the specification has it.
-use Rattle.std.specs.Prelude.{◌≡◌, List, false}
+use Rattle.std.specs.Prelude.{◌≡◌, List}
 use Rattle.ipam_addr.specs.Shape.{AddrValue}
 use Rattle.ipam_reserve.specs.Shape.{ReservationValue}
 use Rattle.ipam_reserve.specs.Spans.{ReservedValue, is_reserved_by}
@@ -10,14 +10,14 @@ use Rattle.ipam_model.specs.Choice.{Seen}
 use Rattle.ipam_choice.specs.declared.view.Wanted.{Wanted}
 use Rattle.ipam_choice.specs.declared.view.View.{View}
 
--- what is asked, where the request asks for no one address
+-- what is asked
 abbrev pub asked_of : Wanted → Asked
 asked_of wanted = record {
   node = wanted.node.now;
   family = wanted.family;
   names = wanted.names.now;
   labels = wanted.labels.now;
-  one_address = false;
+  one_address = wanted.one_address;
 }
 
 -- what is seen, with these reservations

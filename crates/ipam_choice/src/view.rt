@@ -19,6 +19,8 @@ pub struct Wanted<'a> {
     pub names: &'a [Text],
     /// The labels of the node.
     pub labels: &'a [(Text, Text)],
+    /// Whether one address is asked for, and no other.
+    pub one_address: bool,
 }
 
 /// What was read.
@@ -52,7 +54,7 @@ impl Wanted<'_> {
     }
 
     /// Whether addresses may be taken from the pool. Takes no memory.
-    pub(crate) fn may_use(&self, pool: &Pool) -> bool
+    pub fn may_use(&self, pool: &Pool) -> bool
         ensures { result ≡ is_usable (asked_of self.now) pool.now }
     {
         self.is_enabled(pool) && pool.selector.admits(self.labels) && self.is_meant(pool)
@@ -61,10 +63,10 @@ impl Wanted<'_> {
     // Whether the names and the mode of the pool allow it.
     fn is_meant(&self, pool: &Pool) -> bool
         ensures { result ≡ ((names_none (asked_of self.now) || is_named (asked_of self.now) pool.now)
-            && (is_automatic pool.now.mode || is_named (asked_of self.now) pool.now)) }
+            && (is_automatic pool.now.mode || is_named (asked_of self.now) pool.now || self.now.one_address)) }
     {
         if self.names.is_empty() {
-            pool.mode == Mode::Automatic
+            pool.mode == Mode::Automatic || self.one_address
         } else {
             self.is_named(pool)
         }
