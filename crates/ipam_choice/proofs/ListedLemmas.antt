@@ -1,6 +1,7 @@
 -- Each slot with a block that has a rank is in the list that is looked through for it.
 use Rattle.std.proofs.Common.{◌≡◌, ℕ, ◌&&◌, inl, inr, Bool, true, false, cond, List, [], ◌∷◌, Option, Some, None, is_none, refl, sym, ap, ◌∙◌, subst, find}
 use Rattle.std.specs.Prelude.{not}
+use Rattle.std.proofs.lemmas.Bool.{and_parts}
 use Rattle.std.specs.List.{cons_option}
 use Rattle.std.specs.declared.cmp.Ordering.{Ordering}
 use Rattle.std.specs.declared.cmp.Ordering.TheVariants.{Less, Equal, Greater}
@@ -11,7 +12,7 @@ use Rattle.ipam_block.specs.Shape as block
 use Rattle.ipam_block.specs.declared.allocation.Allocation.{Allocation}
 use Rattle.ipam_block.specs.Operations.{address_of, room}
 use Rattle.ipam_records.specs.declared.record.Record.TheVariants as record_of
-use Rattle.ipam_records.specs.BlockLists.{is_node, has_queue, cidrs_where}
+use Rattle.ipam_records.specs.BlockLists.{is_node, has_queue, cidrs_where, cidrs_unowned, cidrs_roomy}
 use Rattle.ipam_records.specs.KeyOrderLaws.{cidrs_same}
 use Rattle.ipam_model.specs.Reads.{Row}
 use Rattle.ipam_model.specs.Usable.{is_same_cidr}
@@ -65,11 +66,11 @@ unowned : (cidr : CidrValue) (node : Option (List ℕ)) (allocations : List Allo
 unowned cidr None allocations queue sequence may e = refl
 unowned cidr (Some node) allocations queue sequence may e = absurd (cc e)
 
-abbrev passes_for : Sight → Level → block.BlockValue → Bool
-passes_for sight Own b = is_node sight.node b.node
-passes_for sight Unconfirmed b = is_node sight.node b.node
-passes_for sight Unclaimed b = is_none b.node
-passes_for sight Foreign b = has_queue b.queue
+abbrev PassesFor : Sight → Level → block.BlockValue → Type 0
+PassesFor sight Own b = is_node sight.node b.node ≡ true
+PassesFor sight Unconfirmed b = is_node sight.node b.node ≡ true
+PassesFor sight Unclaimed b = (is_none b.node ≡ true) × (sight.may_claim ≡ true)
+PassesFor sight Foreign b = (has_queue b.queue ≡ true) × (sight.strict ≡ false)
 
 module _ (sight : Sight) (slot : CidrValue) (x : Ranked) (found : ℕ × block.BlockValue) where
   abbrev rank_from : (own confirmed free strict : Bool) → ℕ → Option Rank
@@ -97,20 +98,32 @@ module _ (sight : Sight) (slot : CidrValue) (x : Ranked) (found : ℕ × block.B
   unclaimed_free false confirmed false true ordinal e = absurd (cc e)
   unclaimed_free false confirmed false false ordinal e = absurd (cc e)
 
-  ranked_passes : (level : Level) (r : Option ℕ) → room sight.reserved found.1 ≡ r → if_rank (level_number level) slot (rank_by_room sight found r) ≡ Some x → passes_for sight level found.1 ≡ true
+  foreign_lax : (own confirmed free strict : Bool) (ordinal : ℕ) → if_rank 3 slot (rank_from own confirmed free strict ordinal) ≡ Some x → strict ≡ false
+  foreign_lax true true free strict ordinal e = absurd (cc e)
+  foreign_lax true false free strict ordinal e = absurd (cc e)
+  foreign_lax false confirmed true strict ordinal e = absurd (cc e)
+  foreign_lax false confirmed false true ordinal e = absurd (cc e)
+  foreign_lax false confirmed false false ordinal e = refl
+
+  ranked_passes : (level : Level) (r : Option ℕ) → room sight.reserved found.1 ≡ r → if_rank (level_number level) slot (rank_by_room sight found r) ≡ Some x → PassesFor sight level found.1
   ranked_passes level None is e = absurd (cc e)
   ranked_passes Own (Some ordinal) is e = own_node _ _ _ _ ordinal e
   ranked_passes Unconfirmed (Some ordinal) is e = unconfirmed_node _ _ _ _ ordinal e
   ranked_passes Unclaimed (Some ordinal) is e =
       let b = found.1 in
-      unowned b.cidr b.node b.allocations b.queue b.sequence sight.may_claim (unclaimed_free (is_node sight.node b.node) (sight.confirmed b.cidr) (is_unowned_and_empty b && sight.may_claim) sight.strict ordinal e)
-  ranked_passes Foreign (Some ordinal) is e = queued sight.reserved found.1.cidr found.1.queue ordinal is
+      let free = unclaimed_free (is_node sight.node b.node) (sight.confirmed b.cidr) (is_unowned_and_empty b && sight.may_claim) sight.strict ordinal e in
+      (unowned b.cidr b.node b.allocations b.queue b.sequence sight.may_claim free, (and_parts (is_unowned_and_empty b) sight.may_claim free).1)
+  ranked_passes Foreign (Some ordinal) is e =
+      let b = found.1 in
+      (queued sight.reserved b.cidr b.queue ordinal is, foreign_lax (is_node sight.node b.node) (sight.confirmed b.cidr) (is_unowned_and_empty b && sight.may_claim) sight.strict ordinal e)
 
-  in_list_for : (level : Level) → passes_for sight level found.1 ≡ true → block_under sight.blocks slot ≡ Some found → Has slot (list_for sight level)
+  in_list_for : (level : Level) → PassesFor sight level found.1 → block_under sight.blocks slot ≡ Some found → Has slot (list_for sight level)
   in_list_for Own ok is = block_in_list (λ b. is_node sight.node b.node) slot found ok sight.blocks is
   in_list_for Unconfirmed ok is = block_in_list (λ b. is_node sight.node b.node) slot found ok sight.blocks is
-  in_list_for Unclaimed ok is = block_in_list (λ b. is_none b.node) slot found ok sight.blocks is
-  in_list_for Foreign ok is = block_in_list (λ b. has_queue b.queue) slot found ok sight.blocks is
+  in_list_for Unclaimed ok is =
+      subst (λ (b : Bool). Has slot (cond b (cidrs_unowned sight.blocks) [])) (sym ok.1) (block_in_list (λ b. is_none b.node) slot found ok.0 sight.blocks is)
+  in_list_for Foreign ok is =
+      subst (λ (b : Bool). Has slot (cond b [] (cidrs_roomy sight.blocks))) (sym ok.1) (block_in_list (λ b. has_queue b.queue) slot found ok.0 sight.blocks is)
 
 pub complete : (sight : Sight) (level : Level) (slot : CidrValue) (x : Ranked) → if_rank (level_number level) slot (rank_listed sight slot) ≡ Some x → Has slot (list_for sight level)
 complete sight level slot x e = by (block_under sight.blocks slot) refl e

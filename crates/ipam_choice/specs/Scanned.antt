@@ -1,5 +1,5 @@
 -- What a scan sees, and what it finds.
-use Rattle.std.specs.Prelude.{◌≡◌, ℕ, ◌<◌, ◌≤◌, Bool, true, false, ◌&&◌, nat_le, List, Option, Some, None, is_none, if◌then◌else◌}
+use Rattle.std.specs.Prelude.{◌≡◌, ℕ, ◌<◌, ◌≤◌, Bool, true, false, ◌&&◌, nat_le, List, [], Option, Some, None, is_none, if◌then◌else◌}
 use Rattle.ipam_addr.specs.Shape.{AddrValue, CidrValue}
 use Rattle.ipam_addr.specs.Slots.{last_slot_of, slot_of}
 use Rattle.ipam_pool.specs.declared.pools.Pool.{Pool}
@@ -30,8 +30,8 @@ sight_of scan = record {
 abbrev pub list_for : Sight → Level → List CidrValue
 list_for sight Own = cidrs_of_node sight.node sight.blocks
 list_for sight Unconfirmed = cidrs_of_node sight.node sight.blocks
-list_for sight Unclaimed = cidrs_unowned sight.blocks
-list_for sight Foreign = cidrs_roomy sight.blocks
+list_for sight Unclaimed = if sight.may_claim then cidrs_unowned sight.blocks else []
+list_for sight Foreign = if sight.strict then [] else cidrs_roomy sight.blocks
 
 -- whether the first is there, and the other not or at a higher base
 abbrev pub is_lower : Option Ranked → Option Ranked → Bool

@@ -68,8 +68,9 @@ impl<'a> Scan<'a, '_> {
     {
         match level {
             Level::Own | Level::Unconfirmed => self.blocks.of_node(self.node),
-            Level::Unclaimed => self.blocks.unowned(),
-            Level::Foreign => self.blocks.roomy(),
+            Level::Unclaimed if self.may_claim => self.blocks.unowned(),
+            Level::Foreign if !self.strict => self.blocks.roomy(),
+            _ => &[],
         }
     }
 
