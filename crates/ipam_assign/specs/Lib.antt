@@ -3,6 +3,5 @@ pub mod Rounds
 pub mod PlaceShape
 pub mod Place
 pub mod Claiming
-pub mod Viewed
 pub mod Usable
 pub mod AddThis

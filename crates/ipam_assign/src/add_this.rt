@@ -98,6 +98,7 @@ pub struct AddThisTurned {
 
 impl AddThisProc {
     /// The ADD of this address. The flags of the families are not read.
+    #[tactic(auto, using(crate::proofs::AddThisLemmas::begins))]
     pub fn new(add: &AddRequest, address: Addr) -> Result<AddThisProc, AllocError>
         ensures { IfOk result (λ p. this_rest p ≡ add_this_word add.now address) }
     {
@@ -113,6 +114,7 @@ impl AddThisProc {
     }
 
     /// Where the pools that were read lead.
+    #[tactic(auto, using(crate::proofs::AddThisLemmas::pools_lead))]
     fn in_pools(&self, configured: Configured, hearing: &Heard) -> Goes
         ensures { this_goes self.now result
             ≡ heard (this_at (pools_part (going self.now) self.now.left configured)) hearing.now.moment (said hearing.now.reply) }
@@ -164,7 +166,7 @@ impl AddThisProc {
             ≡ this_at (this_free (wanted_at self.now.request ruled.now.place.address) (next_for (going self.now)) self.now.left
                 (looked_in ruled.now moment) (revision, block.now))) }
     {
-        match share(ruled.rules.config.strict, self.request.node.as_str(), block) {
+        match share_in(ruled.rules.config.strict, self.request.node.as_str(), block) {
             Share::Takes => self.takes(ruled, moment, revision, block),
             Share::Claims => self.claims(alloc, ruled.place.cidr(), Some((revision, block))),
             Share::Leaves => Ok(Goes::Answers(AddThisAnswer::NotAffine(
@@ -191,7 +193,7 @@ impl AddThisProc {
         let ordinal = ruled.place.ordinal();
         let attributes = &self.request.attributes;
         let assigning = Assigning::new(revision, block, ordinal, attributes, self.left)?;
-        let looked = looked(ruled, moment);
+        let looked = looked_with(ruled, moment);
         Ok(Goes::To(Stage::Assigns(looked, assigning)))
     }
 
@@ -211,6 +213,7 @@ impl AddThisProc {
     }
 
     /// Begins the next round, with so much left, where there is one more.
+    #[tactic(auto, using(crate::proofs::AddThisLemmas::next_begins, crate::proofs::AddThisLemmas::next_asks))]
     fn next_round(&mut self, now: Left) -> Option<AddThisAnswer>
         ensures answer { result ≡ ended (this_at (next_for (going self.old) now)) }
         ensures on { IfNone result (this_rest self.new ≡ this_at (next_for (going self.old) now)) }
@@ -255,7 +258,7 @@ enum Share {
     Leaves,
 }
 
-fn share(strict: bool, node: &str, block: &Block) -> Share
+fn share_in(strict: bool, node: &str, block: &Block) -> Share
     ensures { share_as result ≡ share_of strict node.now block.now }
 {
     let of_node = match block.node() {
@@ -273,7 +276,7 @@ fn share(strict: bool, node: &str, block: &Block) -> Share
     }
 }
 
-fn looked(ruled: &Ruled, b: u64) -> Looked
+fn looked_with(ruled: &Ruled, b: u64) -> Looked
     ensures looked { looked_of result ≡ looked_in ruled.now b }
     ensures address { result.address ≡ ruled.now.place.address }
 {
@@ -327,10 +330,10 @@ fn assign_goes(stage: &mut Stage, turned: AssigningTurned) -> Option<(Looked, Ou
     ensures asks { IfNone result ((g : Going) (left : Left) → None ≡ ended (this_at (assigns_leaves g left stage.old turned))) }
 {
     match stage {
-        Stage::Assigns(looked, assigning) => {
-            let outcome = assigning.go(turned)?;
-            Some((*looked, outcome))
-        }
+        Stage::Assigns(looked, assigning) => match assigning.go(turned) {
+            Some(outcome) => Some((*looked, outcome)),
+            None => None,
+        },
         _ => None,
     }
 }
@@ -346,6 +349,7 @@ impl Procedure for AddThisProc {
 
     ghost fits = { λ p turned. Unit {0} };
 
+    #[tactic(auto, using(crate::proofs::AddThisLemmas::claim_asks, crate::proofs::AddThisLemmas::asks_claim, crate::proofs::AddThisLemmas::asks_assign))]
     fn call(&self, alloc: Global) -> Result<Call, AllocError> {
         match &self.stage {
             Stage::ReadsConfig => Ok(Call::Get(Key::Config)),
@@ -358,6 +362,7 @@ impl Procedure for AddThisProc {
         }
     }
 
+    #[tactic(auto, using(crate::proofs::AddThisLemmas::may_hear_claim, crate::proofs::AddThisLemmas::may_hear_assign))]
     fn took(&self, alloc: Global, hearing: &Heard) -> Result<AddThisTurned, AllocError> {
         match &self.stage {
             Stage::ReadsConfig => {
@@ -387,6 +392,7 @@ impl Procedure for AddThisProc {
         }
     }
 
+    #[tactic(auto, using(crate::proofs::AddThisLemmas::stage_goes_on))]
     fn go(&mut self, turned: AddThisTurned) -> Option<AddThisAnswer> {
         match turned.goes {
             Goes::To(stage) => {

@@ -9,7 +9,6 @@ mod reading;
 mod rounds;
 mod stopping;
 mod usable;
-mod wanted;
 
 pub use add_this::{AddThisProc, AddThisTurned};
 pub use assigning::{Assigning, AssigningTurned};
@@ -19,5 +18,4 @@ pub use reading::config_in;
 pub use rounds::Rounds;
 pub use stopping::{add_stopped, add_this_stopped};
 pub use usable::{names_for, usable_place};
-pub use wanted::Wanted;
 pub use std::alloc::AllocError as Memory;

@@ -5,12 +5,12 @@ ghost use Rattle.ipam_model.specs.AddThis.{asked_of_this};
 ghost use Rattle.ipam_model.specs.Assigning.{names_for};
 ghost use Rattle.ipam_model.specs.Usable.{usable_pool_of};
 ghost use Rattle.ipam_assign.specs.Usable.{place_of_pool};
-ghost use Rattle.ipam_assign.specs.Viewed.{asked_of};
+ghost use Rattle.ipam_choice.specs.Viewed.{asked_of};
 ghost use Rattle.std.specs.Option.{option_copied};
 
 use crate::place::Place;
-use crate::wanted::Wanted;
 use ipam_addr::{Addr, Family};
+use ipam_choice::Wanted;
 use ipam_model::AddRequest;
 use ipam_pool::{Pool, PoolTable};
 use ipam_text::Text;

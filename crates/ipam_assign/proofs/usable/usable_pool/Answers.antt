@@ -1,6 +1,6 @@
 use Rattle.std.proofs.Common.{subst, sym}
 use Rattle.ipam_pool.specs.Sound.{IsPoolTable}
-use Rattle.ipam_assign.specs.Viewed.{asked_of}
+use Rattle.ipam_choice.specs.Viewed.{asked_of}
 use Rattle.ipam_assign.proofs.UsableLemmas.{found_holds}
 use Rattle.ipam_assign.proofs.usable.usable_pool.Goals as goal
 
