@@ -1,1 +1,2 @@
 mod SuspectLemmas
+mod FreesLemmas
