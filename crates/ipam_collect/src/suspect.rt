@@ -71,12 +71,6 @@ impl Suspect {
         self.stamp
     }
 
-    pub(crate) fn block(&self) -> Cidr
-        ensures { result ≡ self.now.block }
-    {
-        self.block
-    }
-
     /// Where the address lies in its block.
     fn ordinal(&self) -> u16
         ensures { result ≡ self.now.owner.address.number - self.now.block.base }
