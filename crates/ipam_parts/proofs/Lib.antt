@@ -7,3 +7,5 @@ pub mod FreeingLemmas
 pub mod SettledLaws
 pub mod FreeingAsks
 pub mod QueueFacts
+pub mod HeldFacts
+pub mod PlaceFacts

@@ -1,7 +1,7 @@
 -- What is left of a CHECK, and what it finds.
 use native.Mathlib.Omega.{arith}
 use Rattle.std.proofs.Common.{◌≡◌, ◌≢◌, ◌<◌, ◌≤◌, cond, refl, sym, ap, ◌∙◌, subst, ℕ, zero, suc, Bool, true, false, List, [], ◌∷◌, length, get_or, map, Option, Some, None, All, find, inl, inr, ne_eqb}
-use Rattle.std.specs.Prelude.{slice_get, position, nat_lt, ◌==◌, ◌++◌}
+use Rattle.std.specs.Prelude.{slice_get, position, nat_lt, ◌==◌}
 use Rattle.std.specs.List.{position_or_len}
 use Rattle.std.proofs.lemmas.Bool.{cases_Bool, cases_lt}
 use Rattle.std.proofs.lemmas.List.Folds.{find_at}
@@ -11,9 +11,10 @@ use Rattle.ipam_addr.specs.Holding.{holds_address}
 use Rattle.ipam_addr.specs.Width.{cidr_size}
 use Rattle.ipam_block.specs.Operations.{holder}
 use Rattle.ipam_block.specs.Shape.{BlockValue}
-use Rattle.ipam_block.specs.Sound.{IsBlock, held_ordinals}
+use Rattle.ipam_block.specs.Sound.{IsBlock}
 use Rattle.ipam_block.specs.declared.allocation.Allocation.{Allocation}
-use Rattle.ipam_block.proofs.Ordinals.{shared-below}
+use Rattle.ipam_parts.proofs.HeldFacts.{held_below}
+use Rattle.ipam_parts.proofs.PlaceFacts.{find_placed, find_nowhere}
 use Rattle.ipam_pool.specs.declared.pools.Pool.{Pool}
 use Rattle.ipam_records.specs.Word.{Word, heard}
 use Rattle.ipam_records.specs.Said.{Said}
@@ -46,25 +47,6 @@ pub is_next : (id : List ℕ) (stage : Stage) (l : Looking) → stage ≡ Looks 
     → next_at id stage ≡ visit_each id l.moment l.others.items
 is_next id stage l is = ap (next_at id) is
 
--- ---- the pool of an address
-
-at_position : {A : Type 0} (test : A → Bool) (list : List A) (place : ℕ) (b : Bool)
-    → cond b (Some (position_or_len test list)) None ≡ Some place → position_or_len test list ≡ place
-at_position test list place true is = cc
-at_position test list place false is = absurd (cc is)
-
-slice_get_at : {A : Type 0} (list : List A) (place : ℕ) (d : A) → place < length list → slice_get list place ≡ Some (get_or list place d)
-slice_get_at [] place d within = absurd (omega arith)
-slice_get_at (first ∷ rest) zero d within = refl
-slice_get_at (first ∷ rest) (suc place) d within = slice_get_at rest place d (omega arith)
-
--- the first that passes stands at its place
-pub find_placed : {A : Type 0} (test : A → Bool) (list : List A) (place : ℕ) (d : A) → position test list ≡ Some place → place < length list
-    → find test list ≡ Some (get_or list place d)
-find_placed test list place d is within =
-    find_at test list ∙ ap (slice_get list) (at_position test list place (nat_lt (position_or_len test list) (length list)) is)
-    ∙ slice_get_at list place d within
-
 -- ---- an ordinal beyond the block
 
 none_held : (n : ℕ) (list : List Allocation) → All (λ a. a.ordinal < n) list → (ordinal : ℕ) → n ≤ ordinal
@@ -75,50 +57,26 @@ none_held n (a ∷ rest) below ordinal beyond =
     let other : a.ordinal ≢ ordinal = λ same. omega arith in
     rw (ne_eqb a.ordinal ordinal other) (none_held n rest (λ k d within. below (suc k) d (omega arith)) ordinal beyond)
 
-held_below : (n : ℕ) (list : List Allocation) (queue : List ℕ) → All (λ o. o < n) (held_ordinals list ++ queue)
-    → All (λ a. a.ordinal < n) list
-held_below n [] queue all i d within = absurd (omega arith)
-held_below n (a ∷ rest) queue all zero d within = all 0 a.ordinal (omega arith)
-held_below n (a ∷ rest) queue all (suc i) d within =
-    held_below n rest queue (λ k o inside. all (suc k) o (omega arith)) i d (omega arith)
-
 -- no block has an address for an ordinal of 4,096 or more
 pub beyond : (id : List ℕ) (b : BlockValue) (ordinal : ℕ) → IsBlock b → 4096 ≤ ordinal
     → false ≡ is_recorded_to id (holder b ordinal)
 beyond id b ordinal sound over =
     let small = sound.small in
-    let below = held_below (cidr_size b.cidr) b.allocations b.queue (shared-below b sound) in
+    let below = held_below b sound in
     ap (is_recorded_to id) (sym (none_held (cidr_size b.cidr) b.allocations below ordinal (omega arith)))
 
 -- ---- the slot of an address
-
-inside : {A : Type 0} (test : A → Bool) (list : List A) (place : ℕ)
-    → cond (nat_lt (position_or_len test list) (length list)) (Some (position_or_len test list)) None ≡ Some place
-    → place < length list
-inside test list place is = elim (cases_lt (position_or_len test list) (length list)) [
-  | inl within ↦ grind arith
-  | inr over ↦ absurd (grind arith)
-]
 
 pub found_at : (address : AddrValue) (pools : List Pool) (place : ℕ) (pool : Pool) (cidr : CidrValue)
     → position (λ p. holds_address p.cidr address) pools ≡ Some place → pool ≡ get_or pools place pool
     → cidr ≡ slot_holding pool address → Slot address cidr ≡ visit_of pools address
 found_at address pools place pool cidr is at slot =
     let test : Pool → Bool = λ p. holds_address p.cidr address in
-    let found = find_placed test pools place pool is (inside test pools place is) in
+    let found = find_placed test pools place pool is in
     ap (Slot address) (slot ∙ ap (λ p. slot_holding p address) at) ∙ ap (visit_in address) (sym found)
-
-past : {A : Type 0} (test : A → Bool) (list : List A)
-    → cond (nat_lt (position_or_len test list) (length list)) (Some (position_or_len test list)) None ≡ None
-    → length list ≤ position_or_len test list
-past test list none = elim (cases_lt (position_or_len test list) (length list)) [
-  | inl within ↦ absurd (grind arith)
-  | inr over ↦ over
-]
 
 pub not_found : (address : AddrValue) (pools : List Pool)
     → position (λ p. holds_address p.cidr address) pools ≡ None → Outside address ≡ visit_of pools address
 not_found address pools none =
     let test : Pool → Bool = λ p. holds_address p.cidr address in
-    ap (visit_in address)
-    (sym (find_at test pools ∙ slice_get_past pools (position_or_len test pools) (past test pools none)))
+    ap (visit_in address) (sym (find_nowhere test pools none))

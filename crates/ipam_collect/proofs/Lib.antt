@@ -1,0 +1,2 @@
+mod SuspectLemmas
+mod FreesLemmas

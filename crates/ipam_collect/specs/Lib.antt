@@ -1,0 +1,4 @@
+pub mod Suspects
+pub mod Tally
+pub mod Frees
+pub mod Collect

@@ -1,0 +1,12 @@
+//! How the addresses are collected that no live handle holds: one procedure.
+#![tactic(auto)]
+
+mod collect;
+mod frees;
+mod leaks;
+mod suspect;
+mod suspects;
+mod tally;
+
+pub use collect::{CollectProc, CollectTurned};
+pub use std::alloc::AllocError as Memory;
