@@ -47,6 +47,10 @@ pub mod SoundSteps
 pub mod SoundHistory
 pub mod SlotsHistory
 pub mod OwnersOrder
+pub mod BlockSteps
+pub mod BlockHistory
+pub mod Owned
+pub mod NoReturn
 pub mod OpenedRows
 pub mod OpenedHistory
 pub mod OpensRows

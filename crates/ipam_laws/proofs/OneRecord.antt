@@ -23,6 +23,10 @@ use Rattle.ipam_laws.proofs.StoreSteps.{StoreStep, Stays, Puts, Removes, store-s
 pub AreGiven : Datastore → Type 0
 AreGiven store = (key : Key) (revision : ℕ) (found : Record) → HasAt store key revision found → revision ≤ store.counter
 
+pub given-row : (store : Datastore) → AreGiven store → (key : Key) (revision : ℕ) (found : Record) → HasAt store key revision found → revision ≤ store.counter
+unfolding AreGiven
+given-row store h key revision found e = h key revision found e
+
 -- a key is the one, or another
 pub key_cases : (k l : Key) → (k ≡ l) ⊎ (k ≢ l)
 key_cases k l = elim (cases_Bool (keys_equal k l)) [

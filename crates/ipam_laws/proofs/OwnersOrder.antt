@@ -135,7 +135,7 @@ slot-holds pools cidr address holds (pool, among, at) =
     )
 
 -- two slots that hold an address are the same
-same-slot : (pools : List Pool) (one other : CidrValue) (address : AddrValue) → IsPoolTable pools → IsSlotOfSome pools one → IsSlotOfSome pools other → Holds one address → Holds other address → one ≡ other
+pub same-slot : (pools : List Pool) (one other : CidrValue) (address : AddrValue) → IsPoolTable pools → IsSlotOfSome pools one → IsSlotOfSome pools other → Holds one address → Holds other address → one ≡ other
 same-slot pools one other address table first second holds also =
     let (slot, lies, is) = slot-holds pools one address holds first in
     let (slot', lies', is') = slot-holds pools other address also second in
@@ -164,7 +164,7 @@ block-order b h =
     (λ x y less. inr (refl, omega arith)) b.allocations h.ascending
 
 -- an address of a block lies in it
-owned-inside : (b : block.BlockValue) (o : Owner) → IsBlock b → Contains (map (owner_of b.cidr) b.allocations) o → (o.address.family ≡ b.cidr.family) × (b.cidr.base ≤ o.address.number) × (o.address.number < cidr_end b.cidr)
+pub owned-inside : (b : block.BlockValue) (o : Owner) → IsBlock b → Contains (map (owner_of b.cidr) b.allocations) o → (o.address.family ≡ b.cidr.family) × (b.cidr.base ≤ o.address.number) × (o.address.number < cidr_end b.cidr)
 owned-inside b o h there =
     let (a, among, is) = out-map (owner_of b.cidr) o b.allocations there in
     let all = shared-below b h in

@@ -4,6 +4,7 @@
 
 pub mod affinities;
 pub mod answers;
+pub mod blocks;
 pub mod bounds;
 pub mod counts;
 pub mod courses;

@@ -32,6 +32,7 @@ pub mod Consistent
 pub mod Stands
 pub mod FateLaw
 pub mod OwnerLaw
+pub mod BlockLaw
 pub mod Rounds
 pub mod Answered
 pub mod AddLaw
