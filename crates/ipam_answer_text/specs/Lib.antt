@@ -1,0 +1,2 @@
+-- The JSON of answers.
+pub mod Answers
