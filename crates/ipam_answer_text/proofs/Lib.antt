@@ -1,0 +1,2 @@
+-- No answer's JSON has a float.
+pub mod Floats

@@ -1,0 +1,121 @@
+ghost use Rattle.std.specs.Prelude.{◌≡◌, ◌++◌, [], ◌∷◌, codes, IfOk, OnOk, OnErr, string_bytes};
+ghost use Rattle.serde_json.specs.View.{view};
+ghost use Rattle.ipam_answer_text.specs.Answers.{tagged, moment_data, answer_data, answer_text, collected_data, no_pool_data, taken_data, not_affine_data, not_recorded_data, refused_data, again_data};
+
+use crate::parts::{
+    address_string, cidr_string, given_this_value, givens_value, items_value, scan_value,
+    scans_value, tagged,
+};
+use ipam_addr::{Addr, Cidr};
+use ipam_model::{Answer, Collected};
+use ipam_text::Text;
+use serde_json::{Value, json};
+use std::alloc::{AllocError, Global};
+
+/// Appends the answer's text, which is one line.
+pub fn push_answer(alloc: Global, out: &mut String, answer: &Answer) -> Result<(), AllocError>
+    ensures ok { OnOk result
+        (string_bytes out.new ≡ string_bytes out.old ++ answer_text answer.now) }
+    ensures err { OnErr result (string_bytes out.new ≡ string_bytes out.old) }
+{
+    let text = answer_string(alloc, answer)?;
+    out.push_str(text.as_str())
+}
+
+fn answer_string(alloc: Global, answer: &Answer) -> Result<String, AllocError>
+    ensures { IfOk result (λ s. string_bytes s ≡ answer_text answer.now) }
+{
+    let json = answer_value(alloc, answer)?;
+    json.to_string(alloc)
+}
+
+fn answer_value(alloc: Global, answer: &Answer) -> Result<Value, AllocError>
+    ensures { IfOk result (λ v. view v ≡ answer_data answer.now) }
+{
+    match answer {
+        Answer::Added(givens) => tagged(alloc, "added", givens_value(alloc, givens.as_slice())?),
+        Answer::AddedThis(given) => tagged(alloc, "addedThis", given_this_value(alloc, given)?),
+        Answer::Exhausted(scan) => tagged(alloc, "exhausted", scan_value(alloc, scan)?),
+        Answer::NoPool(name, moment) => no_pool(alloc, name, *moment),
+        Answer::NotInPool(moment) => moment_of(alloc, "notInPool", "p", *moment),
+        Answer::Taken(holder, moment) => taken(alloc, holder, *moment),
+        Answer::NotAffine(cidr, moment) => not_affine(alloc, *cidr, *moment),
+        Answer::Deleted(moment) => moment_of(alloc, "deleted", "k", *moment),
+        Answer::Checked => Value::try_from_str(alloc, "checked"),
+        Answer::NotRecorded(address, moment) => not_recorded(alloc, *address, *moment),
+        Answer::Released => Value::try_from_str(alloc, "released"),
+        Answer::NoAffinity(moment) => moment_of(alloc, "noAffinity", "moment", *moment),
+        Answer::Collected(collected) => collected_value(alloc, collected),
+        Answer::Done(revision) => moment_of(alloc, "done", "revision", *revision),
+        Answer::Refused(number, name) => refused(alloc, *number, name),
+        Answer::Again(lost, claims) => again(alloc, *lost, *claims),
+        Answer::Full => Value::try_from_str(alloc, "full"),
+        Answer::CountFull(moment) => moment_of(alloc, "countFull", "moment", *moment),
+        Answer::Spent => Value::try_from_str(alloc, "spent"),
+        Answer::Fault => Value::try_from_str(alloc, "fault"),
+        Answer::Ready(scans) => tagged(alloc, "ready", scans_value(alloc, scans.as_slice())?),
+    }
+}
+
+/// The object of this name that holds one number.
+fn moment_of(alloc: Global, name: &str, member: &str, moment: u64) -> Result<Value, AllocError>
+    ensures { IfOk result (λ v. view v ≡ moment_data name.now member.now moment) }
+{
+    let inner = tagged(alloc, member, Value::from(moment))?;
+    tagged(alloc, name, inner)
+}
+
+fn no_pool(alloc: Global, name: &Text, moment: u64) -> Result<Value, AllocError>
+    ensures { IfOk result (λ v. view v ≡ no_pool_data name.now moment) }
+{
+    let name = name.as_str();
+    let inner = json!(in alloc; {"name": name, "p": moment})?;
+    tagged(alloc, "noPool", inner)
+}
+
+fn taken(alloc: Global, holder: &Text, moment: u64) -> Result<Value, AllocError>
+    ensures { IfOk result (λ v. view v ≡ taken_data holder.now moment) }
+{
+    let holder = holder.as_str();
+    let inner = json!(in alloc; {"b": moment, "holder": holder})?;
+    tagged(alloc, "taken", inner)
+}
+
+fn not_affine(alloc: Global, cidr: Cidr, moment: u64) -> Result<Value, AllocError>
+    ensures { IfOk result (λ v. view v ≡ not_affine_data cidr moment) }
+{
+    let cidr = cidr_string(alloc, cidr)?;
+    let inner = json!(in alloc; {"b": moment, "cidr": cidr})?;
+    tagged(alloc, "notAffine", inner)
+}
+
+fn not_recorded(alloc: Global, address: Addr, moment: u64) -> Result<Value, AllocError>
+    ensures { IfOk result (λ v. view v ≡ not_recorded_data address moment) }
+{
+    let address = address_string(alloc, address)?;
+    let inner = json!(in alloc; {"address": address, "moment": moment})?;
+    tagged(alloc, "notRecorded", inner)
+}
+
+fn collected_value(alloc: Global, collected: &Collected) -> Result<Value, AllocError>
+    ensures { IfOk result (λ v. view v ≡ collected_data collected.now) }
+{
+    let items = items_value(alloc, collected.items.as_slice())?;
+    let inner = json!(in alloc; {"b1": collected.b1, "b2": collected.b2, "items": items})?;
+    tagged(alloc, "collected", inner)
+}
+
+fn refused(alloc: Global, number: u8, name: &Text) -> Result<Value, AllocError>
+    ensures { IfOk result (λ v. view v ≡ refused_data number name.now) }
+{
+    let name = name.as_str();
+    let inner = json!(in alloc; {"name": name, "number": number})?;
+    tagged(alloc, "refused", inner)
+}
+
+fn again(alloc: Global, lost: u32, claims: u32) -> Result<Value, AllocError>
+    ensures { IfOk result (λ v. view v ≡ again_data lost claims) }
+{
+    let inner = json!(in alloc; {"claims": claims, "lost": lost})?;
+    tagged(alloc, "again", inner)
+}

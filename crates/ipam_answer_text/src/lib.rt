@@ -1,0 +1,9 @@
+//! The texts of answers, as JSON, and of the entries of a history, as the lines of a journal.
+#![tactic(auto)]
+
+mod answer;
+mod entry;
+mod parts;
+
+pub use answer::push_answer;
+pub use entry::push_entry;

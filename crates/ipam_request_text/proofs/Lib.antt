@@ -1,0 +1,2 @@
+-- No request's JSON has a float.
+pub mod Floats

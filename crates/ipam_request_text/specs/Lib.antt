@@ -1,0 +1,4 @@
+-- The JSON of requests.
+pub mod Parts
+pub mod Members
+pub mod Requests

@@ -1,0 +1,86 @@
+//! The JSON of what requests are made of.
+ghost use Rattle.std.specs.Prelude.{◌≡◌, map, fold, IfOk, string_bytes};
+ghost use Rattle.serde_json.specs.Data.{string, no_members, object};
+ghost use Rattle.serde_json.specs.View.{view, members_view};
+ghost use Rattle.ipam_json.specs.Built.{array_of};
+ghost use Rattle.ipam_select.specs.Printing.{printed};
+ghost use Rattle.ipam_request_text.specs.Parts.{texts_data, pairs_data, with_pair, addresses_data, address_data, cidrs_data, cidr_data, scope_data, selector_data};
+
+use ipam_addr::{Addr, Cidr, push_addr, push_cidr};
+use ipam_select::{NodeSelector, push_selector};
+use ipam_text::Text;
+use serde_json::{Map, Value, json, put};
+use std::alloc::{AllocError, Global};
+
+pub(crate) fn texts_value(alloc: Global, texts: &[Text]) -> Result<Value, AllocError>
+    ensures { IfOk result (λ v. view v ≡ texts_data texts.now) }
+{
+    let mut list = Vec::new(alloc);
+    for text in texts {
+        list.push(Value::try_from_str(alloc, text.as_str())?)?;
+    }
+    Ok(Value::Array(list))
+}
+
+pub(crate) fn pairs_value(alloc: Global, pairs: &[(Text, Text)]) -> Result<Value, AllocError>
+    ensures { IfOk result (λ v. view v ≡ pairs_data pairs.now) }
+{
+    let mut members = Map::new(alloc);
+    for pair in pairs {
+        let value = Value::try_from_str(alloc, pair.1.as_str())?;
+        put(&mut members, alloc, pair.0.as_str(), value)?;
+    }
+    Ok(Value::Object(members))
+}
+
+pub(crate) fn address_value(alloc: Global, address: Addr) -> Result<Value, AllocError>
+    ensures { IfOk result (λ v. view v ≡ address_data address) }
+{
+    let mut text = String::new(alloc);
+    push_addr(alloc, &mut text, address)?;
+    Ok(Value::String(text))
+}
+
+pub(crate) fn addresses_value(alloc: Global, addresses: &[Addr]) -> Result<Value, AllocError>
+    ensures { IfOk result (λ v. view v ≡ addresses_data addresses.now) }
+{
+    let mut list = Vec::new(alloc);
+    for address in addresses {
+        list.push(address_value(alloc, *address)?)?;
+    }
+    Ok(Value::Array(list))
+}
+
+pub(crate) fn cidr_value(alloc: Global, cidr: Cidr) -> Result<Value, AllocError>
+    ensures { IfOk result (λ v. view v ≡ cidr_data cidr) }
+{
+    let mut text = String::new(alloc);
+    push_cidr(alloc, &mut text, cidr)?;
+    Ok(Value::String(text))
+}
+
+pub(crate) fn cidrs_value(alloc: Global, cidrs: &[Cidr]) -> Result<Value, AllocError>
+    ensures { IfOk result (λ v. view v ≡ cidrs_data cidrs.now) }
+{
+    let mut list = Vec::new(alloc);
+    for cidr in cidrs {
+        list.push(cidr_value(alloc, *cidr)?)?;
+    }
+    Ok(Value::Array(list))
+}
+
+pub(crate) fn scope_value(alloc: Global, scope: &(Text, Text)) -> Result<Value, AllocError>
+    ensures { IfOk result (λ v. view v ≡ scope_data scope.now) }
+{
+    let network = scope.0.as_str();
+    let node = scope.1.as_str();
+    json!(in alloc; {"network": network, "node": node})
+}
+
+pub(crate) fn selector_value(alloc: Global, selector: &NodeSelector) -> Result<Value, AllocError>
+    ensures { IfOk result (λ v. view v ≡ selector_data selector.now) }
+{
+    let mut text = String::new(alloc);
+    push_selector(&mut text, selector.selector())?;
+    Ok(Value::String(text))
+}
