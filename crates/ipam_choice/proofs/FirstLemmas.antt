@@ -1,6 +1,6 @@
 -- What comes first, among numbers and in a list that ascends.
 use native.Mathlib.Omega.{arith}
-use Rattle.std.proofs.Common.{◌≡◌, ℕ, zero, suc, ◌+◌, ◌<◌, ◌≤◌, ◌⊎◌, Bool, true, false, cond, List, [], ◌∷◌, Option, Some, None, refl, sym, ap, ◌∙◌, subst, inl, inr, nat_le, eqb-true}
+use Rattle.std.proofs.Common.{◌≡◌, ℕ, zero, suc, ◌+◌, ◌<◌, ◌≤◌, Bool, true, false, cond, List, [], ◌∷◌, Option, Some, None, refl, sym, ap, ◌∙◌, subst, inl, inr, nat_le, eqb-true}
 use Rattle.std.proofs.lemmas.Bool.{cases_Bool}
 use Rattle.std.proofs.lemmas.Map.Keys.{sorted_head, sorted_tail}
 use Rattle.std.specs.Prelude.{◌==◌}
@@ -11,7 +11,7 @@ use Rattle.std.specs.List.{AllByRecursion}
 use Rattle.std.specs.List.Sorted.{IsStrictlySortedBy}
 use Rattle.std.specs.Option.{option_or}
 use Rattle.ipam_model.specs.Choice.{first_found}
-use Rattle.ipam_choice.specs.First.{first_of, earlier}
+use Rattle.ipam_choice.specs.First.{first_of, earlier, Has}
 
 -- ---- what is found at the first number
 
@@ -122,11 +122,6 @@ earlier-none None = refl
 earlier-none (Some a) = refl
 
 -- ---- what is found at the first item
-
--- the item is one of the list's
-abbrev pub Has : {X : Type 0} → X → List X → Type 0
-Has x [] = ⊥
-Has x (y ∷ ys) = (y ≡ x) ⊎ Has x ys
 
 pub first_of-none : {X B : Type 0} (finds : X → Option B) (xs : List X) → first_of finds xs ≡ None → (x : X) → Has x xs → finds x ≡ None
 first_of-none finds [] e x has = absurd has

@@ -6,3 +6,4 @@ pub mod CountLemmas
 pub mod ListedLemmas
 pub mod PoolLemmas
 pub mod PickLemmas
+pub mod PartLemmas

@@ -22,7 +22,7 @@ use Rattle.ipam_choice.specs.declared.level.Level.TheVariants.{Own, Unconfirmed,
 use Rattle.ipam_choice.specs.Level.{level_number}
 use Rattle.ipam_choice.specs.Sight.{Sight, block_under, rank_by_room, rank_of_found, rank_listed}
 use Rattle.ipam_choice.specs.Scanned.{list_for}
-use Rattle.ipam_choice.proofs.FirstLemmas.{Has}
+use Rattle.ipam_choice.specs.First.{Has}
 
 is_equal : (o : Ordering) → is_eq o ≡ true → o ≡ Equal
 is_equal Less e = absurd (cc e)

@@ -25,10 +25,10 @@ use Rattle.ipam_choice.specs.Picked.{ranked_as, ranked_in}
 use Rattle.ipam_choice.specs.declared.level.Level.{Level}
 use Rattle.ipam_choice.specs.declared.level.Level.TheVariants.{Own, Unconfirmed, Unclaimed, Foreign}
 use Rattle.ipam_choice.specs.Level.{level_number}
-use Rattle.ipam_choice.specs.First.{first_of, earlier, found_there}
+use Rattle.ipam_choice.specs.First.{first_of, earlier, found_there, Has}
 use Rattle.ipam_choice.specs.Sight.{Sight, IsSlotted, block_under, rank_of_found, rank_listed, has_free, rank_bare, rank_in_sight, if_slot, first_ranked, first_in}
 use Rattle.ipam_choice.specs.Scanned.{list_for, is_lower, lower, IsFirstBare, is_bare_slot}
-use Rattle.ipam_choice.proofs.FirstLemmas.{first_found-is, first_found-nothing, first_found-some, first_found-either, earlier-none, Has, first_of-none, first_of-some}
+use Rattle.ipam_choice.proofs.FirstLemmas.{first_found-is, first_found-nothing, first_found-some, first_found-either, earlier-none, first_of-none, first_of-some}
 use Rattle.ipam_choice.proofs.ListedLemmas.{complete}
 
 -- ---- the order of slots
@@ -39,7 +39,7 @@ slot_bases pool size j k less =
     let some = pow_pos (width pool.family - size) in
     omega (arith, row_fits j d k d less (omega arith))
 
-slots_ascend : (pool : CidrValue) (size j k : ℕ) → j < k → cidr_cmp (slot_of pool size j) (slot_of pool size k) ≡ Less
+pub slots_ascend : (pool : CidrValue) (size j k : ℕ) → j < k → cidr_cmp (slot_of pool size j) (slot_of pool size k) ≡ Less
 slots_ascend pool size j k less =
     let family : nat_cmp (family_rank pool.family) (family_rank pool.family) ≡ Equal = sym (nat_cmp_is (family_rank pool.family) (family_rank pool.family) Equal refl) in
     let base : nat_cmp (slot_of pool size j).base (slot_of pool size k).base ≡ Less = sym (nat_cmp_is (slot_of pool size j).base (slot_of pool size k).base Less (slot_bases pool size j k less)) in
@@ -59,7 +59,7 @@ if_rank-slot number slot (Some rank) x e = by (rank_number rank == number) e
 -- ---- the first of a list that has all slots of the rank
 module _ (rank : CidrValue → Option Rank) (number : ℕ) (pool : Pool) (list : List CidrValue)
     (range : IsCidr pool.cidr) (slots : HasSlots pool.cidr pool.size) (ascends : IsStrictlySortedBy cidr_cmp list)
-    (has_all : (slot : CidrValue) (x : Ranked) → if_rank number slot (rank slot) ≡ Some x → Has slot list) where
+    (has_all : (k : ℕ) (x : Ranked) → k ≤ last_slot_of pool.cidr pool.size → if_rank number (slot_of pool.cidr pool.size k) (rank (slot_of pool.cidr pool.size k)) ≡ Some x → Has (slot_of pool.cidr pool.size k) list) where
   abbrev at : ℕ → CidrValue
   at k = slot_of pool.cidr pool.size k
 
@@ -78,7 +78,7 @@ module _ (rank : CidrValue → Option Rank) (number : ℕ) (pool : Pool) (list :
     where
       by : (o : Option Ranked) → finds k ≡ o → finds k ≡ None
       by None is = is
-      by (Some x) is = sym (slot_passes k within) ∙ none (has_all (at k) x is)
+      by (Some x) is = sym (slot_passes k within) ∙ none (has_all k x within is)
 
   from_slot : (x : Ranked) (item : CidrValue) → (if_rank number item (rank item) ≡ Some x) → IsSlotOf pool item → ((c : CidrValue) → Has c list → cidr_cmp c item ≡ Less → in_list c ≡ None) → found_there (first_ranked rank number pool) ≡ Some x
   from_slot x item is slot least =
@@ -104,11 +104,14 @@ module _ (rank : CidrValue → Option Rank) (number : ℕ) (pool : Pool) (list :
           is ∙ sym (ap found_there (first_found-nothing finds (last_slot_of pool.cidr pool.size + 1) 0 (λ j up below.
           nothing_there j (omega arith) (λ has. first_of-none in_list list is (at j) has))))
 
-pub with_block : (sight : Sight) (level : Level) (pool : Pool) → IsSlotted pool → IsStrictlySortedBy cidr_cmp (list_for sight level)
-    → ((x : Ranked) → first_of (if_slot (rank_listed sight) (level_number level) pool) (list_for sight level) ≡ Some x → IsCidr x.slot)
-    → first_of (if_slot (rank_listed sight) (level_number level) pool) (list_for sight level) ≡ found_there (first_ranked (rank_listed sight) (level_number level) pool)
-with_block sight level pool slotted ascends sound =
-    first_of_list (rank_listed sight) (level_number level) pool (list_for sight level) slotted.range slotted.slots ascends (complete sight level) sound
+-- the blocks of which some may have the rank, as far as they may lie in the pool
+pub with_block : (sight : Sight) (level : Level) (pool : Pool) (list : List CidrValue) → IsSlotted pool → IsStrictlySortedBy cidr_cmp list
+    → ((k : ℕ) → k ≤ last_slot_of pool.cidr pool.size → Has (slot_of pool.cidr pool.size k) (list_for sight level) → Has (slot_of pool.cidr pool.size k) list)
+    → ((x : Ranked) → first_of (if_slot (rank_listed sight) (level_number level) pool) list ≡ Some x → IsCidr x.slot)
+    → first_of (if_slot (rank_listed sight) (level_number level) pool) list ≡ found_there (first_ranked (rank_listed sight) (level_number level) pool)
+with_block sight level pool list slotted ascends kept sound =
+    first_of_list (rank_listed sight) (level_number level) pool list slotted.range slotted.slots ascends
+    (λ k x within is. kept k within (complete sight level (slot_of pool.cidr pool.size k) x is)) sound
 
 -- ---- slots without a block
 module _ (sight : Sight) (pool : Pool) where

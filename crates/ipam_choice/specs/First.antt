@@ -1,5 +1,5 @@
 -- What comes first.
-use Rattle.std.specs.Prelude.{ℕ, nat_le, List, [], ◌∷◌, Option, Some, None, if◌then◌else◌}
+use Rattle.std.specs.Prelude.{◌≡◌, ◌⊎◌, ℕ, nat_le, List, [], ◌∷◌, Option, Some, None, if◌then◌else◌}
 use Rattle.std.specs.Option.{option_or}
 
 -- what is found at the first item at which something is
@@ -17,3 +17,8 @@ earlier (Some found) (Some other) = if nat_le found.0 other.0 then Some found el
 abbrev pub found_there : {A : Type 0} → Option (ℕ × A) → Option A
 found_there None = None
 found_there (Some found) = Some found.1
+
+-- the item is one of the list's
+abbrev pub Has : {X : Type 0} → X → List X → Type 0
+Has x [] = ⊥
+Has x (y ∷ ys) = (y ≡ x) ⊎ Has x ys

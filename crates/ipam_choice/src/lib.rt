@@ -7,6 +7,7 @@
 mod choosing;
 mod confirmed;
 mod level;
+mod part;
 mod picked;
 mod scan;
 mod slots;

@@ -12,6 +12,7 @@ ghost use Rattle.ipam_choice.specs.Scanned.{sight_of, is_lower, list_for};
 
 use crate::confirmed::Confirmed;
 use crate::level::Level;
+use crate::part::part_in;
 use crate::picked::{Candidate, Listed, Rank};
 use crate::slots::{is_slot, listed_at, next_bare};
 use ipam_addr::{Cidr, slot};
@@ -58,7 +59,8 @@ impl<'a> Scan<'a, '_> {
         ensures { ranked_in result
             ≡ found_there (first_ranked (rank_listed (sight_of self.now)) (level_number level) pool.now) }
     {
-        self.first_listed(level, pool, self.blocks_for(level))
+        let blocks = part_in(pool, self.blocks_for(level));
+        self.first_listed(level, pool, blocks)
     }
 
     // The blocks of which some may have a rank of the level.
