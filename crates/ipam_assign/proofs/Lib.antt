@@ -2,5 +2,3 @@ mod AssigningLemmas
 mod RoundLaws
 mod PlaceLemmas
 mod UsableLemmas
-mod AddThisLemmas
-mod FoundLemmas

@@ -1,7 +1,6 @@
 //! How an address is assigned.
 #![tactic(auto)]
 
-mod add_this;
 mod assigning;
 mod claiming;
 mod place;
@@ -10,12 +9,11 @@ mod rounds;
 mod stopping;
 mod usable;
 
-pub use add_this::{AddThisProc, AddThisTurned};
 pub use assigning::{Assigning, AssigningTurned};
 pub use claiming::claimed;
 pub use place::Place;
 pub use reading::config_in;
 pub use rounds::Rounds;
+pub use std::alloc::AllocError as Memory;
 pub use stopping::{add_stopped, add_this_stopped};
 pub use usable::{names_for, usable_place};
-pub use std::alloc::AllocError as Memory;
