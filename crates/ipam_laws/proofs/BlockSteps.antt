@@ -47,7 +47,7 @@ stays : (store next : Datastore) → next ≡ store → BlockStep store next
 stays store next e = Leaves (λ cidr. ap (λ (s : Datastore). row_of (key.Block cidr) s.rows) e)
 
 -- a key that is no block's
-abbrev IsNoBlock : Key → Type 0
+abbrev pub IsNoBlock : Key → Type 0
 IsNoBlock (key.Block cidr) = ⊥
 IsNoBlock _ = Unit {0}
 
@@ -102,7 +102,7 @@ assigned-next b ordinal attributes = record {
 
 -- ---- all kinds
 
-changed-no-block : (request : Admin) → IsNoBlock (key_changed request)
+pub changed-no-block : (request : Admin) → IsNoBlock (key_changed request)
 changed-no-block (change_of.Pool pool) = tt
 changed-no-block (change_of.Disable name disabled) = tt
 changed-no-block (change_of.Reserve new) = tt

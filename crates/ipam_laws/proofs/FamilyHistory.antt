@@ -150,7 +150,7 @@ gift-given span moment family (Got m at live ∷ trail) upto h early gift =
 
 -- ---- what was read and chosen
 
-heard : (span : Span) (moment : ℕ) (store : Datastore) (asked : Call) → DidAt span moment store asked → Heard span moment asked (reply_of store asked)
+pub heard : (span : Span) (moment : ℕ) (store : Datastore) (asked : Call) → DidAt span moment store asked → Heard span moment asked (reply_of store asked)
 heard span moment store asked did = record {
   entry_of_call = did.c;
   in_span = did.in_span;

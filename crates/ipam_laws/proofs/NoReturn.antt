@@ -26,12 +26,12 @@ held-between base history sound h first second third order further cidr old owne
     let among = stamps base history sound h second third further cidr mid held.holding held.a held.among (omega arith) in
     subst (λ (o : Owner). HeldIn (store_before base history second) cidr o) held.is_owner (held-in (store_before base history second) cidr mid held.a among)
 
-consistent-before : (base : Base) (history : List Entry) (moment : ℕ) → IsConsistent base.store → Lawful base history → IsConsistent (store_before base history moment)
+pub consistent-before : (base : Base) (history : List Entry) (moment : ℕ) → IsConsistent base.store → Lawful base history → IsConsistent (store_before base history moment)
 consistent-before base history moment c h =
     consistent_law base (before base history moment) c (drop-lawful base (moment_of base history - moment) history h)
 
 -- a stamp that is held was given
-held-stamped : (store : Datastore) (cidr : CidrValue) (o : Owner) → IsDatastore store → (held : HeldIn store cidr o) → o.stamp ≤ held.holding.b.sequence
+pub held-stamped : (store : Datastore) (cidr : CidrValue) (o : Owner) → IsDatastore store → (held : HeldIn store cidr o) → o.stamp ≤ held.holding.b.sequence
 held-stamped store cidr o sound held =
     let block = block-sound store cidr held.holding sound in
     let given : (0 < held.a.stamp) × (held.a.stamp ≤ held.holding.b.sequence) = All-contains (λ (a : Allocation). (0 < a.stamp) × (a.stamp ≤ held.holding.b.sequence)) held.holding.b.allocations held.a block.stamped held.among in

@@ -26,14 +26,14 @@ use Rattle.ipam_laws.proofs.SoundSteps.{row-there}
 
 -- ---- owners of rows
 
-owner-row : (rows : List Row) (o : Owner) → Contains (owners_in rows) o → (row : Row) × Contains rows row × Contains (owners_in_row row) o
+pub owner-row : (rows : List Row) (o : Owner) → Contains (owners_in rows) o → (row : Row) × Contains rows row × Contains (owners_in_row row) o
 owner-row [] o h = absurd (in-nothing o h)
 owner-row (row ∷ rows) o h = elim (Contains-append_cases (owners_in_row row) (owners_in rows) o h) [
   | inl own ↦ (row, in-here row rows, own)
   | inr other ↦ let (found, among, own) = owner-row rows o other in (found, in-there found row rows among, own)
 ]
 
-row-owner : (rows : List Row) (row : Row) (o : Owner) → Contains rows row → Contains (owners_in_row row) o → Contains (owners_in rows) o
+pub row-owner : (rows : List Row) (row : Row) (o : Owner) → Contains rows row → Contains (owners_in_row row) o → Contains (owners_in rows) o
 row-owner [] row o among own = absurd (in-nothing row among)
 row-owner (first ∷ rows) row o among own = elim (in-cons row first rows among) [
   | inl same ↦ Contains-append_left (owners_in_row first) (owners_in rows) o (subst (λ (r : Row). Contains (owners_in_row r) o) (sym same) own)
