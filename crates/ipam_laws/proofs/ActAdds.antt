@@ -1,29 +1,15 @@
 -- What an ADD calls, by the trail that led there.
-use Rattle.std.proofs.Common.{◌≡◌, ◌≢◌, ℕ, zero, suc, ◌+◌, ◌-◌, ◌*◌, ◌/◌, ◌^◌, ◌≤◌, Bool, true, false, cond, List, [], ◌∷◌, ◌++◌, map, Option, Some, None, refl, sym, ap, ◌∙◌, subst, arith}
-use Rattle.std.specs.Prelude.{Contains}
+use Rattle.std.proofs.Common.{◌≡◌, ℕ, zero, suc, ◌+◌, ◌-◌, List, [], ◌∷◌, ◌++◌, Option, Some, None, refl, ap, ◌∙◌, arith}
 use Rattle.ipam_addr.specs.declared.address.Family.{Family}
-use Rattle.ipam_addr.specs.Shape.{AddrValue, CidrValue}
-use Rattle.ipam_pool.specs.declared.pools.Pool.{Pool}
+use Rattle.ipam_addr.specs.Shape.{CidrValue}
 use Rattle.ipam_block.specs.Shape.{BlockValue}
-use Rattle.ipam_records.specs.declared.call.Call.{Call}
 use Rattle.ipam_records.specs.declared.call.Call.TheVariants.{Get, List as ListAll}
 use Rattle.ipam_records.specs.declared.key.Key.TheVariants as key
 use Rattle.ipam_records.specs.declared.key.Kind.TheVariants as kind
-use Rattle.ipam_records.specs.Datastore.{Datastore, reply_of}
-use Rattle.ipam_records.specs.Label.{Label, Nowhere, idle}
-use Rattle.ipam_records.specs.Said.{Said}
-use Rattle.ipam_records.specs.Word.{Word, Ends, bound}
-use Rattle.ipam_model.specs.declared.answer.Answer.{Answer}
-use Rattle.ipam_model.specs.declared.answer.Collected.{Collected}
+use Rattle.ipam_records.specs.Datastore.{reply_of}
 use Rattle.ipam_model.specs.declared.answer.Scan.{Scan}
-use Rattle.ipam_model.specs.declared.choice.Choice.{Choice}
-use Rattle.ipam_model.specs.declared.choice.Choice.TheVariants.{Use, Borrow, Claim, Nothing, NoPool}
 use Rattle.ipam_model.specs.declared.outcome.AddAnswer.{AddAnswer}
-use Rattle.ipam_model.specs.declared.outcome.CheckAnswer.{CheckAnswer}
-use Rattle.ipam_model.specs.declared.outcome.CollectAnswer.{CollectAnswer}
-use Rattle.ipam_model.specs.declared.outcome.DelAnswer.{DelAnswer}
 use Rattle.ipam_model.specs.declared.outcome.Gift.{Gift}
-use Rattle.ipam_model.specs.declared.outcome.ProbeAnswer.{ProbeAnswer}
 use Rattle.ipam_model.specs.declared.outcome.Served.{Served}
 use Rattle.ipam_model.specs.declared.outcome.Served.TheVariants.{Gave, Refused}
 use Rattle.ipam_model.specs.declared.part.Assigned.{Assigned}
@@ -33,29 +19,22 @@ use Rattle.ipam_model.specs.declared.part.Outcome.TheVariants.{Went, Stops}
 use Rattle.ipam_model.specs.declared.part.Stop.{Stop}
 use Rattle.ipam_model.specs.declared.part.Stop.TheVariants.{OutOfTries, OutOfClaims, NoRoom, CountAtLimit, NoRevisions}
 use Rattle.ipam_model.specs.declared.request.AddRequest.{AddRequest}
-use Rattle.ipam_model.specs.declared.request.CollectRequest.{CollectRequest}
-use Rattle.ipam_model.specs.declared.request.ProbeRequest.{ProbeRequest}
-use Rattle.ipam_model.specs.declared.request.Request.{Request}
-use Rattle.ipam_model.specs.declared.request.Request.TheVariants.{Add, AddThis, Del, Check, Release, Collect, Admin, Probe}
+use Rattle.ipam_model.specs.declared.request.Request.TheVariants.{Add}
 use Rattle.ipam_model.specs.Affinities.{BlockRead}
 use Rattle.ipam_model.specs.Add.{add_word, NextRound, Round, add_each, add_stops, after_assign, after_family, after_stop, asked_of, claim_in, follow_pick, follow_rank, free_gift, gift_of, refuse, round_of, serve, take_in}
 use Rattle.ipam_model.specs.Assigning.{Target, assign, claim_for, target_in}
 use Rattle.ipam_model.specs.Choice.{Foreign, Lacks, Own, Pick, Picks, Rank, Seen, Unclaimed, Unconfirmed, Unknown, block_at, pick_of}
-use Rattle.ipam_model.specs.Counting.{freeing_all, freeing_one, free}
+use Rattle.ipam_model.specs.Counting.{freeing_one}
 use Rattle.ipam_model.specs.Reads.{config_said, pools_said, reservations_said, rows_said}
-use Rattle.ipam_model.specs.Remove.{Leak, del_blocks, free_leaks, freeing_owner, item_of, leaks, suspects, with_item}
-use Rattle.ipam_model.specs.Requests.{word_of}
-use Rattle.ipam_model.specs.Step.{Part, StopAnswers, all_left, answer_of, followed, goes, onward, rounds, settled, stop_answer, stops}
+use Rattle.ipam_model.specs.Step.{Part, all_left, onward, rounds, stop_answer, stops}
 use Rattle.ipam_model.specs.Usable.{families_if}
 use Rattle.ipam_laws.proofs.ActWords.{apart-acts, settles, stands-acts}
-use Rattle.ipam_laws.proofs.Acting.{Act, Apart, Assigns, Frees, HasListed, MayLose, OfAdd, OfCollect, OfDel, Stands}
-use Rattle.ipam_laws.proofs.ActParts.{ActsAnyway, Any, AssignDone, DidAssign, IsApart, MayAssign, MayFree, assign-acts, assigning_call, claim_for-acts, free-acts}
-use Rattle.ipam_laws.proofs.Acts.{Acts, Acts-bound, Later, Same, Since, since-agrees, since-since}
+use Rattle.ipam_laws.proofs.Acting.{Act, Apart, Assigns, Frees, OfAdd}
+use Rattle.ipam_laws.proofs.ActParts.{Any, AssignDone, DidAssign, MayAssign, MayFree, assign-acts, assigning_call, claim_for-acts, free-acts}
+use Rattle.ipam_laws.proofs.Acts.{Acts, Acts-bound, Since, since-agrees, since-since}
 use Rattle.ipam_laws.proofs.AddFamilies.{KnownAt, listed-known}
 use Rattle.ipam_laws.proofs.AddRounds.{HasRead, picked-read}
-use Rattle.ipam_laws.proofs.AddTrails.{Knows}
-use Rattle.ipam_laws.proofs.Members.{in-here, in-there}
-use Rattle.ipam_laws.proofs.Trails.{AgreesAll, Did, Got, Trail}
+use Rattle.ipam_laws.proofs.Trails.{Did, Trail}
 
 -- ---- one family
 

@@ -1,6 +1,6 @@
 -- What the parts of a request call, by the trail that led there.
 use Rattle.std.proofs.Common.{◌≡◌, ◌≢◌, ℕ, zero, suc, ◌+◌, Bool, true, false, cond, List, [], ◌∷◌, Option, Some, None, refl, sym, ap, ◌∙◌, subst}
-use Rattle.std.specs.Prelude.{nat_le, ◌==◌}
+use Rattle.std.specs.Prelude.{nat_le}
 use Rattle.std.specs.List.{count_by}
 use Rattle.ipam_addr.specs.Shape.{CidrValue}
 use Rattle.ipam_affinity.specs.declared.record.Affinity.{Affinity}
@@ -18,9 +18,9 @@ use Rattle.ipam_records.specs.declared.record.Record.{Record}
 use Rattle.ipam_records.specs.declared.record.Record.TheVariants as record_of
 use Rattle.ipam_records.specs.Datastore.{Datastore, reply_of, reply_to_get, row_of}
 use Rattle.ipam_records.specs.Key.{key_of}
-use Rattle.ipam_records.specs.Label.{Credit, Label, Nowhere, idle, owing, standing}
+use Rattle.ipam_records.specs.Label.{Credit, Label, Nowhere, idle, owing}
 use Rattle.ipam_records.specs.Said.{Said, Found, Missing, Listed, Can, Exists, Conflict, Full, Spent}
-use Rattle.ipam_records.specs.Word.{Word, Ends, Asks}
+use Rattle.ipam_records.specs.Word.{Word, Ends}
 use Rattle.ipam_model.specs.declared.outcome.ClaimAnswer.{ClaimAnswer}
 use Rattle.ipam_model.specs.declared.outcome.ClaimAnswer.TheVariants as claimed
 use Rattle.ipam_model.specs.declared.outcome.ReleaseAnswer.{ReleaseAnswer}
@@ -33,12 +33,12 @@ use Rattle.ipam_model.specs.Reads.{affinity_said, block_said, handle_said}
 use Rattle.ipam_model.specs.declared.part.Left.{Left}
 use Rattle.ipam_model.specs.declared.part.Outcome.{Outcome}
 use Rattle.ipam_model.specs.declared.part.Outcome.TheVariants.{Went, Stops}
-use Rattle.ipam_model.specs.declared.part.Stop.TheVariants.{OutOfTries, OutOfClaims, NoRoom, CountAtLimit, NoRevisions}
-use Rattle.ipam_model.specs.Step.{Part, after_lost, after_write, followed, goes, left_of, on_write, onward, stops, tries, write_back}
+use Rattle.ipam_model.specs.declared.part.Stop.TheVariants.{OutOfTries, NoRoom, CountAtLimit, NoRevisions}
+use Rattle.ipam_model.specs.Step.{Part, after_lost, after_write, followed, goes, left_of, onward, stops, tries, write_back}
 use Rattle.ipam_laws.proofs.Acts.{Acts, Acts-bound, Later, Same, Since}
 use Rattle.ipam_laws.proofs.BlockSteps.{IsNoBlock}
 use Rattle.ipam_laws.proofs.Calls.{found-block, found-key}
-use Rattle.ipam_laws.proofs.Trails.{AgreesAll, Did, Step, Trail}
+use Rattle.ipam_laws.proofs.Trails.{AgreesAll, Did, Trail}
 
 -- ---- calls
 

@@ -1,6 +1,6 @@
 -- What the other requests call, by the trail that led there, and all of them.
-use Rattle.std.proofs.Common.{◌≡◌, ◌≢◌, ℕ, zero, suc, ◌+◌, ◌-◌, ◌*◌, ◌/◌, ◌^◌, ◌≤◌, Bool, true, false, cond, List, [], ◌∷◌, ◌++◌, map, Option, Some, None, refl, sym, ap, ◌∙◌, subst, arith}
-use Rattle.std.specs.Prelude.{Contains, ◌&&◌}
+use Rattle.std.proofs.Common.{◌≡◌, ℕ, zero, suc, ◌+◌, ◌-◌, ◌/◌, Bool, true, false, List, [], ◌∷◌, ◌++◌, map, Option, Some, None, refl, sym, ap, ◌∙◌, subst, arith}
+use Rattle.std.specs.Prelude.{◌&&◌}
 use Rattle.ipam_addr.specs.declared.address.Family.{Family}
 use Rattle.ipam_addr.specs.Shape.{AddrValue, CidrValue}
 use Rattle.ipam_pool.specs.declared.pools.Pool.{Pool}
@@ -11,51 +11,33 @@ use Rattle.ipam_records.specs.declared.key.Key.{Key}
 use Rattle.ipam_records.specs.declared.key.Key.TheVariants as key
 use Rattle.ipam_records.specs.declared.key.Kind.TheVariants as kind
 use Rattle.ipam_records.specs.Datastore.{Datastore, reply_of}
-use Rattle.ipam_records.specs.Label.{Label, Nowhere, idle}
 use Rattle.ipam_records.specs.Said.{Said}
-use Rattle.ipam_records.specs.Word.{Word, Ends, bound}
+use Rattle.ipam_records.specs.Word.{Word, Ends}
 use Rattle.ipam_model.specs.declared.answer.Answer.{Answer}
-use Rattle.ipam_model.specs.declared.answer.Collected.{Collected}
 use Rattle.ipam_model.specs.declared.answer.Scan.{Scan}
 use Rattle.ipam_model.specs.declared.choice.Choice.{Choice}
 use Rattle.ipam_model.specs.declared.choice.Choice.TheVariants.{Use, Borrow, Claim, Nothing, NoPool}
-use Rattle.ipam_model.specs.declared.outcome.AddAnswer.{AddAnswer}
-use Rattle.ipam_model.specs.declared.outcome.CheckAnswer.{CheckAnswer}
-use Rattle.ipam_model.specs.declared.outcome.CollectAnswer.{CollectAnswer}
-use Rattle.ipam_model.specs.declared.outcome.DelAnswer.{DelAnswer}
-use Rattle.ipam_model.specs.declared.outcome.Gift.{Gift}
-use Rattle.ipam_model.specs.declared.outcome.ProbeAnswer.{ProbeAnswer}
-use Rattle.ipam_model.specs.declared.outcome.Served.{Served}
-use Rattle.ipam_model.specs.declared.outcome.Served.TheVariants.{Gave, Refused}
 use Rattle.ipam_model.specs.declared.part.Assigned.{Assigned}
 use Rattle.ipam_model.specs.declared.part.Left.{Left}
 use Rattle.ipam_model.specs.declared.part.Outcome.{Outcome}
 use Rattle.ipam_model.specs.declared.part.Outcome.TheVariants.{Went, Stops}
-use Rattle.ipam_model.specs.declared.part.Stop.{Stop}
-use Rattle.ipam_model.specs.declared.part.Stop.TheVariants.{OutOfTries, OutOfClaims, NoRoom, CountAtLimit, NoRevisions}
+use Rattle.ipam_model.specs.declared.part.Stop.TheVariants.{OutOfTries, NoRoom, NoRevisions}
 use Rattle.ipam_model.specs.declared.request.AddRequest.{AddRequest}
-use Rattle.ipam_model.specs.declared.request.CollectRequest.{CollectRequest}
 use Rattle.ipam_model.specs.declared.request.ProbeRequest.{ProbeRequest}
 use Rattle.ipam_model.specs.declared.request.Request.{Request}
 use Rattle.ipam_model.specs.declared.request.Request.TheVariants.{Add, AddThis, Del, Check, Release, Collect, Admin, Probe}
 use Rattle.ipam_model.specs.Affinities.{BlockRead}
-use Rattle.ipam_model.specs.Add.{add_word, NextRound, Round, add_each, add_stops, after_assign, after_family, after_stop, asked_of, claim_in, follow_pick, follow_rank, free_gift, gift_of, refuse, round_of, serve, take_in}
-use Rattle.ipam_model.specs.Assigning.{Target, assign, claim_for, target_in}
-use Rattle.ipam_model.specs.Choice.{Foreign, Lacks, Own, Pick, Picks, Rank, Seen, Unclaimed, Unconfirmed, Unknown, block_at, pick_of}
-use Rattle.ipam_model.specs.Counting.{freeing_all, freeing_one, free}
+use Rattle.ipam_model.specs.Add.{add_word}
+use Rattle.ipam_model.specs.Assigning.{assign, claim_for, target_in}
 use Rattle.ipam_model.specs.Reads.{config_said, pools_said, reservations_said, rows_said}
-use Rattle.ipam_model.specs.Remove.{Leak, del_blocks, free_leaks, freeing_owner, item_of, leaks, suspects, with_item}
+use Rattle.ipam_model.specs.Remove.{del_blocks}
 use Rattle.ipam_model.specs.Requests.{word_of}
-use Rattle.ipam_model.specs.Step.{Part, StopAnswers, all_left, answer_of, followed, goes, onward, rounds, settled, stop_answer, stops}
+use Rattle.ipam_model.specs.Step.{Part, all_left, goes, onward, rounds, stops}
 use Rattle.ipam_model.specs.Usable.{families_if}
-use Rattle.ipam_laws.proofs.Acting.{Act, Apart, Assigns, Frees, HasListed, MayLose, OfAdd, OfCollect, OfDel, Stands}
-use Rattle.ipam_laws.proofs.ActParts.{ActsAnyway, Any, AssignDone, DidAssign, IsApart, MayAssign, MayFree, assign-acts, assigning_call, claim_for-acts, free-acts}
-use Rattle.ipam_laws.proofs.Acts.{Acts, Acts-bound, Later, Same, Since, since-agrees, since-since}
-use Rattle.ipam_laws.proofs.AddFamilies.{KnownAt, listed-known}
-use Rattle.ipam_laws.proofs.AddRounds.{HasRead, picked-read}
-use Rattle.ipam_laws.proofs.AddTrails.{Knows}
-use Rattle.ipam_laws.proofs.Members.{in-here, in-there}
-use Rattle.ipam_laws.proofs.Trails.{AgreesAll, Did, Got, Trail}
+use Rattle.ipam_laws.proofs.Acting.{Act, Apart, Assigns}
+use Rattle.ipam_laws.proofs.ActParts.{Any, AssignDone, assign-acts, claim_for-acts}
+use Rattle.ipam_laws.proofs.Acts.{Acts, Acts-bound, since-agrees}
+use Rattle.ipam_laws.proofs.Trails.{AgreesAll, Did, Trail}
 use Rattle.ipam_addr.specs.Holding.{holds_address}
 use Rattle.ipam_addr.proofs.HoldingLemmas.{holds_from}
 use Rattle.ipam_addr.proofs.SlotLemmas.{slot_number_holds}
@@ -64,7 +46,6 @@ use Rattle.ipam_addr.specs.Width.{size_of}
 use Rattle.ipam_block.specs.Operations.{address_of, holder}
 use Rattle.ipam_block.specs.declared.allocation.Allocation.{Allocation}
 use Rattle.ipam_records.specs.declared.record.Record.{Record}
-use Rattle.ipam_records.specs.Datastore.{row_of, reply_to_get}
 use Rattle.ipam_records.specs.Key.{key_of}
 use Rattle.ipam_model.specs.declared.outcome.AddThisAnswer.{AddThisAnswer}
 use Rattle.ipam_model.specs.declared.outcome.AddThisAnswer.TheVariants as add_this
@@ -85,11 +66,9 @@ use Rattle.ipam_laws.proofs.ActAdds.{add-acts}
 use Rattle.ipam_laws.proofs.ActParts.{IsCurrent, back-apart, read-current, release-tries, wrote}
 use Rattle.ipam_laws.proofs.ActWords.{apart-acts, collect-acts, del-blocks, settles, stands-acts}
 use Rattle.ipam_laws.proofs.BlockSteps.{IsNoBlock, changed-no-block}
-use Rattle.ipam_laws.proofs.Calls.{found-block, found-key}
 use Rattle.ipam_laws.proofs.Members.{in-find}
 use Rattle.ipam_laws.proofs.RequestSteps.{key-changed}
 use Rattle.ipam_laws.proofs.SoundBlocks.{holding-number}
-use Rattle.ipam_model.specs.AffinityLaw.{HasAt}
 
 -- ---- requests that only look
 

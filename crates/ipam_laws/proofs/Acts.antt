@@ -1,14 +1,10 @@
 -- Words of which each call is such as it may be by the trail that led to it.
-use Rattle.std.proofs.Common.{◌≡◌, ℕ, ◌⊎◌, inl, inr, List, [], ◌∷◌, Option, Some, None, refl, sym, ap, ◌∙◌, subst}
+use Rattle.std.proofs.Common.{ℕ, List, ◌∷◌}
 use Rattle.ipam_records.specs.declared.call.Call.{Call}
-use Rattle.ipam_records.specs.declared.key.Key.{Key}
-use Rattle.ipam_records.specs.declared.record.Record.{Record}
 use Rattle.ipam_records.specs.Datastore.{Datastore, reply_of}
 use Rattle.ipam_records.specs.Label.{Label}
-use Rattle.ipam_records.specs.Said.{Said}
 use Rattle.ipam_records.specs.Word.{Word, Ends, Asks, Waits, bound}
-use Rattle.ipam_model.specs.AffinityLaw.{HasAt}
-use Rattle.ipam_laws.proofs.Trails.{AgreesAll, AgreesWith, Comes, Did, Got, Step, Trail}
+use Rattle.ipam_laws.proofs.Trails.{AgreesAll, Did, Got, Step, Trail}
 
 -- ---- longer trails
 

@@ -304,7 +304,7 @@ Tells (Collect request) trail told = Unit {0}
 Tells (Admin request) trail told = Unit {0}
 Tells (Probe request) trail told = Unit {0}
 
-comes-any : {A : Type 0} → (Q : Trail → A → Type 0) → ((trail : Trail) (a : A) → Q trail a) → (w : Word A) (trail : Trail) → Comes Q trail w
+pub comes-any : {A : Type 0} → (Q : Trail → A → Type 0) → ((trail : Trail) (a : A) → Q trail a) → (w : Word A) (trail : Trail) → Comes Q trail w
 comes-any Q all (Ends answer) trail = all trail answer
 comes-any Q all (Asks label asked next) trail = λ moment store agrees. comes-any Q all (next moment (reply_of store asked)) (Did moment store asked ∷ trail)
 comes-any Q all (Waits next) trail = λ moment at live. comes-any Q all (next live) (Got moment at live ∷ trail)

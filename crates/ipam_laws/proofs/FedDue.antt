@@ -1,8 +1,7 @@
 -- A second list of live handles was fed to a collection late enough.
-use Rattle.std.proofs.Common.{◌≡◌, ◌≢◌, ℕ, ◌+◌, ◌<◌, ◌≤◌, ◌⊎◌, inl, inr, Bool, true, false, List, [], ◌∷◌, Option, Some, None, refl, sym, ap, ◌∙◌, subst, arith, nat_lt, ltb-true, ltb-false}
+use Rattle.std.proofs.Common.{◌≡◌, ◌≢◌, ℕ, ◌⊎◌, inl, inr, false, List, [], ◌∷◌, Option, Some, None, refl, sym, ◌∙◌, subst, arith, nat_lt, ltb-true, ltb-false}
 use Rattle.std.specs.Prelude.{IsTrue}
 use Rattle.std.proofs.lemmas.Bool.{cases_Bool}
-use Rattle.ipam_records.specs.Word.{fed}
 use Rattle.ipam_model.specs.declared.answer.Answer.{Answer}
 use Rattle.ipam_model.specs.declared.entry.Called.{Called}
 use Rattle.ipam_model.specs.declared.entry.Entry.{Entry}
@@ -10,9 +9,9 @@ use Rattle.ipam_model.specs.declared.entry.Entry.TheVariants as entry
 use Rattle.ipam_model.specs.declared.request.Request.{Request}
 use Rattle.ipam_model.specs.Cluster.{Running, after, begun, fed_with, goes_on}
 use Rattle.ipam_model.specs.Course.{is_due}
-use Rattle.ipam_model.specs.History.{Base, InSpan, Lawful, MayFeed, Span, begin_moment, begins, cluster_at, moment_of, now, slot_of_entry, store_at}
+use Rattle.ipam_model.specs.History.{Base, InSpan, Lawful, MayFeed, Span, begin_moment, begins, cluster_at, now, store_at}
 use Rattle.ipam_laws.proofs.KeptWords.{slot-is}
-use Rattle.ipam_laws.proofs.Trails.{IsBegun, IsTrail, begins-not, grown, in-span-earlier, now-is, span_at, trail-begins}
+use Rattle.ipam_laws.proofs.Trails.{IsTrail, begins-not, grown, in-span-earlier, now-is, span_at, trail-begins}
 
 -- each list that was fed since was fed late enough
 abbrev pub AreDue : Base → List Entry → ℕ → Request → Type 0

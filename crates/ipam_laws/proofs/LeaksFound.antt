@@ -1,5 +1,5 @@
 -- What the leaks that a collection found are, by its lists.
-use Rattle.std.proofs.Common.{◌≡◌, ℕ, ◌+◌, ◌≤◌, ◌⊎◌, inl, inr, Bool, true, false, not, List, [], ◌∷◌, ◌++◌, map, refl, sym, ap, ◌∙◌, subst, arith, eqb-true}
+use Rattle.std.proofs.Common.{◌≡◌, ℕ, inl, inr, Bool, true, false, not, List, [], ◌∷◌, refl, sym, subst, eqb-true}
 use Rattle.std.specs.Prelude.{Contains, IsTrue, ◌&&◌, ◌==◌, bytes_eq}
 use Rattle.std.specs.List.{filter, list_any}
 use Rattle.std.proofs.lemmas.Bool.{cases_Bool}
@@ -15,11 +15,11 @@ use Rattle.ipam_records.specs.Datastore.{Datastore, listed, row_key}
 use Rattle.ipam_records.specs.KeyOrder.{is_of_kind}
 use Rattle.ipam_model.specs.declared.request.CollectRequest.{CollectRequest}
 use Rattle.ipam_model.specs.Moments.{Owns, Recorded}
-use Rattle.ipam_model.specs.Owners.{Owner, is_owner_in, owner_of, owners_in, owners_in_row, same_address, same_owner}
+use Rattle.ipam_model.specs.Owners.{Owner, is_owner_in, owners_in, same_address, same_owner}
 use Rattle.ipam_model.specs.Reads.{Row}
 use Rattle.ipam_model.specs.Remove.{Leak, is_in_scope, is_live, leak_of, leaks, leaks_in_row, may_leak, suspects}
 use Rattle.ipam_laws.proofs.CountLemmas.{text_cases}
-use Rattle.ipam_laws.proofs.Members.{in-cons, in-filter, in-here, in-nothing, in-there, out-map}
+use Rattle.ipam_laws.proofs.Members.{in-filter, in-here, in-nothing, in-there, out-map}
 use Rattle.ipam_laws.proofs.Owned.{owner-row, row-owner}
 
 -- ---- tests

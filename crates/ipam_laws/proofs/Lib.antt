@@ -70,3 +70,4 @@ pub mod FedDue
 pub mod OwnersMoves
 pub mod LeaksFound
 pub mod OwnersHistory
+pub mod CheckAnswers

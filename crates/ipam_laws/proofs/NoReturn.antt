@@ -1,6 +1,5 @@
 -- An owner that is gone never comes back with the same stamp.
-use Rattle.std.proofs.Common.{◌≡◌, ℕ, ◌+◌, ◌-◌, ◌<◌, ◌≤◌, List, Option, Some, sym, ap, ◌∙◌, subst, arith}
-use Rattle.std.specs.Prelude.{Contains}
+use Rattle.std.proofs.Common.{◌≡◌, ℕ, ◌-◌, ◌<◌, ◌≤◌, List, ap, subst, arith}
 use Rattle.std.proofs.lemmas.List.Elements.{All-contains}
 use Rattle.ipam_addr.specs.Shape.{CidrValue}
 use Rattle.ipam_block.specs.declared.allocation.Allocation.{Allocation}
@@ -10,7 +9,7 @@ use Rattle.ipam_model.specs.declared.entry.Entry.{Entry}
 use Rattle.ipam_model.specs.BlockLaw.{BlockAt, NoReturnLaw}
 use Rattle.ipam_model.specs.Consistent.{IsConsistent}
 use Rattle.ipam_model.specs.History.{Base, Lawful, before, moment_of, store_before}
-use Rattle.ipam_model.specs.Owners.{Owner, owner_of}
+use Rattle.ipam_model.specs.Owners.{Owner}
 use Rattle.ipam_laws.proofs.BlockHistory.{block-later, not-behind, stamps}
 use Rattle.ipam_laws.proofs.OneRecord.{drop-lawful}
 use Rattle.ipam_laws.proofs.Owned.{HeldIn, block-sound, held-in, held-inside, held-owns, one-block, owns-held}

@@ -1,23 +1,21 @@
 -- In every lawful history owners change in five ways and no other.
-use Rattle.std.proofs.Common.{◌≡◌, ◌≢◌, ℕ, suc, ◌+◌, ◌-◌, ◌<◌, ◌≤◌, ◌⊎◌, inl, inr, List, [], ◌∷◌, Option, Some, None, refl, sym, ap, ◌∙◌, subst, arith}
-use Rattle.std.specs.Prelude.{Contains, option_map, IsTrue}
+use Rattle.std.proofs.Common.{◌≡◌, ◌≢◌, ℕ, suc, ◌+◌, ◌-◌, inl, inr, List, [], ◌∷◌, Option, Some, refl, sym, ap, ◌∙◌, subst, arith}
+use Rattle.std.specs.Prelude.{option_map}
 use Rattle.std.specs.List.{count_by}
 use Rattle.std.proofs.lemmas.Bool.{leb-true}
 use Rattle.ipam_addr.specs.Shape.{CidrValue}
-use Rattle.ipam_block.specs.declared.allocation.Allocation.{Allocation}
 use Rattle.ipam_block.specs.declared.allocation.Attributes.{Attributes}
-use Rattle.ipam_block.specs.Operations.{assigned, freed, is_owned, is_stamped, next_block}
+use Rattle.ipam_block.specs.Operations.{assigned, freed, next_block}
 use Rattle.ipam_block.specs.Shape.{BlockValue}
 use Rattle.ipam_records.specs.declared.call.Call.{Call}
-use Rattle.ipam_records.specs.declared.call.Call.TheVariants.{List as ListAll, Update}
+use Rattle.ipam_records.specs.declared.call.Call.TheVariants.{List as ListAll}
 use Rattle.ipam_records.specs.declared.key.Key.TheVariants as key
 use Rattle.ipam_records.specs.declared.key.Kind.TheVariants as kind
 use Rattle.ipam_records.specs.declared.record.Record.TheVariants as record_of
-use Rattle.ipam_records.specs.Datastore.{Datastore, listed, reply_of, row_of}
-use Rattle.ipam_records.specs.Label.{Label, Nowhere, Point, idle, owing}
+use Rattle.ipam_records.specs.Datastore.{Datastore, reply_of, row_of}
+use Rattle.ipam_records.specs.Label.{Label, Nowhere}
 use Rattle.ipam_records.specs.Said.{Can}
 use Rattle.ipam_records.specs.Word.{Asks, ended, label_of}
-use Rattle.ipam_records.specs.Sound.{IsDatastore}
 use Rattle.ipam_records.proofs.DatastoreLemmas.{row_of-with_row}
 use Rattle.ipam_model.specs.declared.answer.Answer.{Answer}
 use Rattle.ipam_model.specs.declared.entry.Called.{Called}
@@ -25,43 +23,41 @@ use Rattle.ipam_model.specs.declared.entry.Entry.{Entry}
 use Rattle.ipam_model.specs.declared.entry.Entry.TheVariants as entry
 use Rattle.ipam_model.specs.declared.entry.Fate.{Fate}
 use Rattle.ipam_model.specs.declared.entry.Fate.TheVariants.{Well, Before, After}
-use Rattle.ipam_model.specs.declared.request.AddRequest.{AddRequest}
 use Rattle.ipam_model.specs.declared.request.CollectRequest.{CollectRequest}
 use Rattle.ipam_model.specs.declared.request.Request.{Request}
-use Rattle.ipam_model.specs.declared.request.Request.TheVariants.{Add, Collect, Del}
+use Rattle.ipam_model.specs.declared.request.Request.TheVariants.{Collect}
 use Rattle.ipam_model.specs.AffinityLaw.{HasAt}
 use Rattle.ipam_model.specs.Assigning.{Target}
 use Rattle.ipam_model.specs.Cluster.{Running, after, called, store_after}
 use Rattle.ipam_model.specs.Consistent.{IsConsistent}
-use Rattle.ipam_model.specs.Counting.{Freeing, freeing_all, freeing_one}
-use Rattle.ipam_model.specs.Course.{is_due}
-use Rattle.ipam_model.specs.History.{Base, Heard, InSpan, Lawful, Span, cluster_at, now, seen_at, seen_now, slot_of_entry, store_at}
-use Rattle.ipam_model.specs.Moments.{Gains, GainedInSpan, Loses, Owns, Recorded, request_in}
-use Rattle.ipam_model.specs.Owners.{Owner, owner_of, owners}
-use Rattle.ipam_model.specs.OwnerLaw.{Assigned, Collected, Collecting, Deleted, IsHeldIn, IsLeak, MayGain, OwnersChange, OwnersLaw, OwnersMove, Undone}
-use Rattle.ipam_model.specs.Remove.{Leak, freeing_owner}
+use Rattle.ipam_model.specs.Counting.{Freeing}
+use Rattle.ipam_model.specs.History.{Base, Lawful, Span, cluster_at, now, seen_at, seen_now, store_at}
+use Rattle.ipam_model.specs.Moments.{GainedInSpan, Loses, Owns, Recorded, request_in}
+use Rattle.ipam_model.specs.Owners.{Owner, owners}
+use Rattle.ipam_model.specs.OwnerLaw.{Assigned, Collected, Collecting, Deleted, IsLeak, MayGain, OwnersLaw, OwnersMove, Undone}
+use Rattle.ipam_model.specs.Remove.{Leak}
 use Rattle.ipam_laws.proofs.Acting.{Act, Apart, Assigns, Frees, HasListed, MayLose, OfAdd, OfCollect, OfDel, Stands}
 use Rattle.ipam_laws.proofs.ActParts.{Any, DidAssign, IsApart, IsCurrent, assigning_call, freeing_call}
 use Rattle.ipam_laws.proofs.ActRequests.{all-acts}
 use Rattle.ipam_laws.proofs.Acts.{Acts, Later, Same, Since}
 use Rattle.ipam_laws.proofs.FamilyHistory.{heard}
 use Rattle.ipam_laws.proofs.FedDue.{AreDue, DueIn, fed-due}
-use Rattle.ipam_laws.proofs.LeaksFound.{IsFoundLeak, found-leak}
+use Rattle.ipam_laws.proofs.LeaksFound.{found-leak}
 use Rattle.ipam_laws.proofs.Lift.{behind}
 use Rattle.ipam_laws.proofs.NoReturn.{consistent-before}
 use Rattle.ipam_laws.proofs.OneRecord.{AreGiven, given-row, history-given}
 use Rattle.ipam_laws.proofs.OwnersEffects.{Rewrites, assigned-gains, new_owner}
 use Rattle.ipam_laws.proofs.OwnersKept.{ByIdle, ByOwing, OwnersStep, Stay, step-owners}
-use Rattle.ipam_laws.proofs.OwnersMoves.{Given, Granted, NotGiven, apart-leaves, granted-cases, loses-all, loses-one, rewrites, stamped_owner}
+use Rattle.ipam_laws.proofs.OwnersMoves.{Given, NotGiven, apart-leaves, granted-cases, loses-all, loses-one, rewrites, stamped_owner}
 use Rattle.ipam_laws.proofs.SlotsHistory.{consistent_law}
 use Rattle.ipam_laws.proofs.SlotSteps.{done-store, known_at, label_at, label_in, turn-of}
 use Rattle.ipam_laws.proofs.Steps.{IsPut}
-use Rattle.ipam_laws.proofs.Trails.{AgreesAll, Did, DidAt, Got, IsMade, IsTrail, Lasts, RunComes, SlotComes, Trail, made, slot-comes, span_at, trail-agrees}
+use Rattle.ipam_laws.proofs.Trails.{Did, Got, IsTrail, Lasts, SlotComes, Trail, made, slot-comes, span_at, trail-agrees}
 
 -- ---- what a trail did, in its span
 
 -- an earlier part of a trail is one
-part-of : (span : Span) (earlier trail : Trail) (upto : ℕ) → Since earlier trail → IsTrail span upto trail → (until : ℕ) × IsTrail span until earlier
+pub part-of : (span : Span) (earlier trail : Trail) (upto : ℕ) → Since earlier trail → IsTrail span upto trail → (until : ℕ) × IsTrail span until earlier
 unfolding IsTrail
 part-of span earlier trail upto Same h = (upto, h)
 part-of span earlier trail upto (Later (Did moment store asked) rest since) h = part-of span earlier rest moment since h.2

@@ -1,16 +1,14 @@
 -- Which steps leave the owners as they are.
-use Rattle.std.proofs.Common.{◌≡◌, ℕ, ◌+◌, ◌⊎◌, inl, inr, Bool, true, false, cond, not, List, [], ◌∷◌, ◌++◌, map, Option, Some, None, refl, sym, ap, ◌∙◌, subst, arith}
+use Rattle.std.proofs.Common.{◌≡◌, ℕ, ◌+◌, inl, inr, false, List, [], ◌∷◌, ◌++◌, map, Option, Some, None, refl, sym, ap, ◌∙◌, subst}
 use Rattle.std.specs.declared.cmp.Ordering.{Ordering}
 use Rattle.std.specs.declared.cmp.Ordering.TheVariants.{Less, Equal, Greater}
 use Rattle.std.specs.Ordering.{is_eq}
 use Rattle.std.specs.List.Sorted.{IsStrictlySortedBy}
-use Rattle.std.specs.List.{filter}
 use Rattle.std.proofs.lemmas.Bool.{cases_Bool}
 use Rattle.ipam_addr.specs.Shape.{CidrValue}
 use Rattle.ipam_block.specs.Operations.{freed, assigned, next_block}
-use Rattle.ipam_block.specs.declared.allocation.Attributes.{Attributes}
 use Rattle.ipam_block.specs.Shape.{BlockValue}
-use Rattle.ipam_records.specs.declared.call.Write.TheVariants.{Put, Remove}
+use Rattle.ipam_records.specs.declared.call.Write.TheVariants.{Remove}
 use Rattle.ipam_records.specs.declared.key.Key.{Key}
 use Rattle.ipam_records.specs.declared.key.Key.TheVariants as key
 use Rattle.ipam_records.specs.declared.record.Record.{Record}
@@ -23,7 +21,7 @@ use Rattle.ipam_records.specs.Label.{Label, Credit, idle, owing}
 use Rattle.ipam_model.specs.Admin.{key_changed}
 use Rattle.ipam_model.specs.Affinities.{BlockRead}
 use Rattle.ipam_model.specs.AffinityLaw.{HasAt}
-use Rattle.ipam_model.specs.Owners.{Owner, owner_of, owners, owners_in, owners_in_row}
+use Rattle.ipam_model.specs.Owners.{Owner, owners, owners_in, owners_in_row}
 use Rattle.ipam_model.specs.Reads.{Row}
 use Rattle.ipam_laws.proofs.BlockSteps.{IsNoBlock, changed-no-block}
 use Rattle.ipam_laws.proofs.Calls.{found-key}

@@ -117,3 +117,9 @@ abbrev pub FaultLaw : Type 0
 FaultLaw =
     (a : Answered) → Lawful a.base (history_of a)
     → (a.call.answer ≡ Some answer.Fault) ↔ (a.call.fate ≢ Well)
+
+-- Whatever a CHECK is answered is right of the history that led to it.
+abbrev pub CheckAnswersLaw : Type 0
+CheckAnswersLaw =
+    (a : Answered) (id : List ℕ) (addresses : List AddrValue) → IsConsistent a.base.store → Lawful a.base (history_of a)
+    → a.request ≡ Check id addresses → IsAnsweredRight a
