@@ -171,11 +171,11 @@ back span (Did m store asked ∷ more) trail upto h = back span more trail m h.2
 back span (Got m at live ∷ more) trail upto h = back span more trail m h.2
 
 -- the five reads of a round, and the trail before them
-record IsScanned (span : Span) (scan : Scan) (before : Trail) (upto : ℕ) : Type 0 where
-  first : IsTrail span scan.c before
-  last : IsNext span scan.b upto
+pub record IsScanned (span : Span) (scan : Scan) (before : Trail) (upto : ℕ) : Type 0 where
+  pub first : IsTrail span scan.c before
+  pub last : IsNext span scan.b upto
 
-reads-before : (span : Span) (scan : Scan) (seen : Seen) (before five : Trail) (upto : ℕ) → FiveRead scan seen before five → IsTrail span upto five → HasScanned span scan seen × IsScanned span scan before upto
+pub reads-before : (span : Span) (scan : Scan) (seen : Seen) (before five : Trail) (upto : ℕ) → FiveRead scan seen before five → IsTrail span upto five → HasScanned span scan seen × IsScanned span scan before upto
 unfolding IsTrail
 reads-before span scan seen before five upto reads h =
     let (at_b, next, (at_f, then_b, (at_r, then_f, (at_p, then_r, (at_c, then_p, first))))) = subst (λ (t : Trail). IsTrail span upto t) reads.is h in (

@@ -71,3 +71,4 @@ pub mod OwnersMoves
 pub mod LeaksFound
 pub mod OwnersHistory
 pub mod CheckAnswers
+pub mod ProbeAnswers

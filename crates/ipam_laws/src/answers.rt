@@ -1,5 +1,5 @@
 //! Which answers requests have, and what they say.
-ghost use Rattle.ipam_model.specs.AnswerLaw.{CheckAnswersLaw};
+ghost use Rattle.ipam_model.specs.AnswerLaw.{CheckAnswersLaw, ProbeAnswersLaw};
 ghost use Rattle.ipam_model.specs.CanAnswer.{CanAnswerLaw};
 ghost use Rattle.ipam_model.specs.FamilyLaw.{FamilyLaw};
 
@@ -19,4 +19,11 @@ pub fn an_add_tells_of_a_round_for_a_wanted_family()
 /// slot when that was read; and else which address was the first that it didn't hold.
 pub fn a_check_is_answered_as_the_blocks_were_read()
     ensures { CheckAnswersLaw }
+{}
+
+/// A probe that is ready scanned once for each wanted family, one after the other, and found an address
+/// or a claim in each; one that is answered that nothing is left found that in its last scan, and
+/// something in those before.
+pub fn a_probe_is_answered_by_its_scans()
+    ensures { ProbeAnswersLaw }
 {}
