@@ -50,7 +50,7 @@ use Rattle.ipam_laws.proofs.Trails.{AgreesAll, Comes, Comes-bound, Did, Got, Ste
 -- ---- a round
 
 -- a block as it was read is known, and lies at the slot
-abbrev KnownAt : Trail → CidrValue → BlockRead → Type 0
+abbrev pub KnownAt : Trail → CidrValue → BlockRead → Type 0
 KnownAt trail slot None = Unit {0}
 KnownAt trail slot (Some found) = (found.1.cidr ≡ slot) × Knows trail found.0 found.1
 
@@ -182,7 +182,7 @@ follow-comes round seen five left Lacks r after picked is = is-chosen round.requ
 follow-comes round seen five left (Unknown place) r after picked is = (round.scan, place, refl, is-chosen round.request round.scan seen five (NoPool place) r is)
 
 -- a block that was listed is known from then on
-listed-known : (blocks : Datastore) (four : Trail) (b : ℕ) (slot : CidrValue) (read : BlockRead) → block_in_found (find (is_block_at slot) (listed kind.Block blocks)) ≡ read → KnownAt (Did b blocks (ListAll kind.Block) ∷ four) slot read
+pub listed-known : (blocks : Datastore) (four : Trail) (b : ℕ) (slot : CidrValue) (read : BlockRead) → block_in_found (find (is_block_at slot) (listed kind.Block blocks)) ≡ read → KnownAt (Did b blocks (ListAll kind.Block) ∷ four) slot read
 unfolding AgreesAll
 listed-known blocks four b slot None e = tt
 listed-known blocks four b slot (Some found) e =

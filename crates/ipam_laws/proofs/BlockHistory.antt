@@ -1,27 +1,24 @@
 -- Over every history blocks stay, and what they hold with an old stamp they held before.
-use Rattle.std.proofs.Common.{◌≡◌, ◌⊎◌, inl, inr, ℕ, zero, suc, ◌+◌, ◌-◌, ◌<◌, ◌≤◌, List, [], ◌∷◌, drop, Option, Some, refl, sym, ap, ◌∙◌, subst, arith}
+use Rattle.std.proofs.Common.{◌≡◌, inl, inr, ℕ, zero, suc, ◌+◌, ◌-◌, ◌≤◌, List, [], ◌∷◌, drop, refl, sym, ap, ◌∙◌, subst, arith}
 use Rattle.std.specs.Prelude.{Contains}
 use Rattle.std.proofs.Math.Seq.{drop-drop}
-use Rattle.std.proofs.lemmas.List.Elements.{All-contains}
 use Rattle.ipam_addr.specs.Shape.{CidrValue}
 use Rattle.ipam_block.specs.declared.allocation.Allocation.{Allocation}
 use Rattle.ipam_block.specs.Shape.{BlockValue}
-use Rattle.ipam_records.specs.declared.call.Write.TheVariants.{Put}
 use Rattle.ipam_records.specs.declared.key.Key.{Key}
 use Rattle.ipam_records.specs.declared.key.Key.TheVariants as key
 use Rattle.ipam_records.specs.declared.record.Record.{Record}
 use Rattle.ipam_records.specs.declared.record.Record.TheVariants as record_of
-use Rattle.ipam_records.specs.Datastore.{Datastore, row_of, written}
+use Rattle.ipam_records.specs.Datastore.{Datastore, row_of}
 use Rattle.ipam_records.specs.Sound.{IsDatastore}
 use Rattle.ipam_records.proofs.DatastoreLemmas.{row_of-with_row, row_of-with_row-other}
 use Rattle.ipam_model.specs.declared.entry.Entry.{Entry}
 use Rattle.ipam_model.specs.AffinityLaw.{HasAt}
 use Rattle.ipam_model.specs.BlockLaw.{BlockAt, IsLater, BlocksStayLaw, StampsLaw}
-use Rattle.ipam_model.specs.History.{Base, Lawful, cluster_at, moment_of, store_at, store_before}
-use Rattle.ipam_laws.proofs.BlockSteps.{BlockStep, IsNextBlock, Leaves, Writes, step-blocks}
-use Rattle.ipam_laws.proofs.CountLemmas.{cidr_cases}
+use Rattle.ipam_model.specs.History.{Base, Lawful, moment_of, store_at, store_before}
+use Rattle.ipam_laws.proofs.BlockSteps.{BlockStep, Leaves, Writes, step-blocks}
 use Rattle.ipam_laws.proofs.OneRecord.{AreGiven, drop-lawful, given-row, history-given, key_cases}
-use Rattle.ipam_laws.proofs.SlotSteps.{known_at, label_at, turn-of}
+use Rattle.ipam_laws.proofs.SlotSteps.{known_at, turn-of}
 
 -- ---- from one store to a later one
 

@@ -1,12 +1,12 @@
 -- What each kind of step makes of the blocks.
-use Rattle.std.proofs.Common.{◌≡◌, ◌≢◌, ◌⊎◌, inl, inr, ℕ, zero, suc, ◌+◌, ◌<◌, ◌≤◌, Bool, true, List, [], ◌∷◌, Option, Some, None, refl, sym, ap, ◌∙◌, subst, arith}
+use Rattle.std.proofs.Common.{◌≡◌, ◌≢◌, ◌⊎◌, inl, inr, ℕ, zero, suc, ◌+◌, Bool, List, [], ◌∷◌, Some, None, refl, sym, ap, ◌∙◌, subst, arith}
 use Rattle.std.specs.Prelude.{Contains, insert, not}
 use Rattle.ipam_addr.specs.Shape.{CidrValue}
 use Rattle.ipam_block.specs.declared.allocation.Allocation.{Allocation}
 use Rattle.ipam_block.specs.declared.allocation.Attributes.{Attributes}
 use Rattle.ipam_block.specs.Operations.{next_block, assigned, freed}
 use Rattle.ipam_block.specs.Shape.{BlockValue}
-use Rattle.ipam_records.specs.declared.call.Write.TheVariants.{Put, Remove}
+use Rattle.ipam_records.specs.declared.call.Write.TheVariants.{Remove}
 use Rattle.ipam_records.specs.declared.key.Key.{Key}
 use Rattle.ipam_records.specs.declared.key.Key.TheVariants as key
 use Rattle.ipam_records.specs.declared.record.Record.{Record}
@@ -14,7 +14,7 @@ use Rattle.ipam_records.specs.declared.record.Record.TheVariants as record_of
 use Rattle.ipam_records.specs.Datastore.{Datastore, reply_to_get, row_of, written}
 use Rattle.ipam_records.specs.Key.{key_of}
 use Rattle.ipam_records.specs.Label.{Label}
-use Rattle.ipam_records.proofs.DatastoreLemmas.{row_of-with_row, row_of-with_row-other, row_of-without_row-other}
+use Rattle.ipam_records.proofs.DatastoreLemmas.{row_of-with_row-other, row_of-without_row-other}
 use Rattle.ipam_model.specs.declared.request.Admin.{Admin}
 use Rattle.ipam_model.specs.declared.request.Admin.TheVariants as change_of
 use Rattle.ipam_model.specs.Admin.{key_changed}
@@ -22,7 +22,6 @@ use Rattle.ipam_model.specs.Affinities.{BlockRead}
 use Rattle.ipam_model.specs.AffinityLaw.{HasAt}
 use Rattle.ipam_laws.proofs.Lift.{Known}
 use Rattle.ipam_laws.proofs.Members.{in-cons, in-filter, in-nothing}
-use Rattle.ipam_laws.proofs.OneRecord.{key_cases}
 use Rattle.ipam_laws.proofs.RequestSteps.{key-changed}
 use Rattle.ipam_laws.proofs.Steps.{IsAsRead, IsPut, taken, bared, Step, Idles, Owes, Finds, Starts, Takes, Confirms, Marks, Looks, Bares, Deletes, Raises, Lowers, LowersOut, Frees, Assigns, Changes}
 
@@ -47,7 +46,7 @@ stays : (store next : Datastore) → next ≡ store → BlockStep store next
 stays store next e = Leaves (λ cidr. ap (λ (s : Datastore). row_of (key.Block cidr) s.rows) e)
 
 -- a key that is no block's
-abbrev IsNoBlock : Key → Type 0
+abbrev pub IsNoBlock : Key → Type 0
 IsNoBlock (key.Block cidr) = ⊥
 IsNoBlock _ = Unit {0}
 
@@ -102,7 +101,7 @@ assigned-next b ordinal attributes = record {
 
 -- ---- all kinds
 
-changed-no-block : (request : Admin) → IsNoBlock (key_changed request)
+pub changed-no-block : (request : Admin) → IsNoBlock (key_changed request)
 changed-no-block (change_of.Pool pool) = tt
 changed-no-block (change_of.Disable name disabled) = tt
 changed-no-block (change_of.Reserve new) = tt

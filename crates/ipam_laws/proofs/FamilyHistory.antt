@@ -150,7 +150,7 @@ gift-given span moment family (Got m at live ∷ trail) upto h early gift =
 
 -- ---- what was read and chosen
 
-heard : (span : Span) (moment : ℕ) (store : Datastore) (asked : Call) → DidAt span moment store asked → Heard span moment asked (reply_of store asked)
+pub heard : (span : Span) (moment : ℕ) (store : Datastore) (asked : Call) → DidAt span moment store asked → Heard span moment asked (reply_of store asked)
 heard span moment store asked did = record {
   entry_of_call = did.c;
   in_span = did.in_span;
@@ -171,11 +171,11 @@ back span (Did m store asked ∷ more) trail upto h = back span more trail m h.2
 back span (Got m at live ∷ more) trail upto h = back span more trail m h.2
 
 -- the five reads of a round, and the trail before them
-record IsScanned (span : Span) (scan : Scan) (before : Trail) (upto : ℕ) : Type 0 where
-  first : IsTrail span scan.c before
-  last : IsNext span scan.b upto
+pub record IsScanned (span : Span) (scan : Scan) (before : Trail) (upto : ℕ) : Type 0 where
+  pub first : IsTrail span scan.c before
+  pub last : IsNext span scan.b upto
 
-reads-before : (span : Span) (scan : Scan) (seen : Seen) (before five : Trail) (upto : ℕ) → FiveRead scan seen before five → IsTrail span upto five → HasScanned span scan seen × IsScanned span scan before upto
+pub reads-before : (span : Span) (scan : Scan) (seen : Seen) (before five : Trail) (upto : ℕ) → FiveRead scan seen before five → IsTrail span upto five → HasScanned span scan seen × IsScanned span scan before upto
 unfolding IsTrail
 reads-before span scan seen before five upto reads h =
     let (at_b, next, (at_f, then_b, (at_r, then_f, (at_p, then_r, (at_c, then_p, first))))) = subst (λ (t : Trail). IsTrail span upto t) reads.is h in (
@@ -304,7 +304,7 @@ Tells (Collect request) trail told = Unit {0}
 Tells (Admin request) trail told = Unit {0}
 Tells (Probe request) trail told = Unit {0}
 
-comes-any : {A : Type 0} → (Q : Trail → A → Type 0) → ((trail : Trail) (a : A) → Q trail a) → (w : Word A) (trail : Trail) → Comes Q trail w
+pub comes-any : {A : Type 0} → (Q : Trail → A → Type 0) → ((trail : Trail) (a : A) → Q trail a) → (w : Word A) (trail : Trail) → Comes Q trail w
 comes-any Q all (Ends answer) trail = all trail answer
 comes-any Q all (Asks label asked next) trail = λ moment store agrees. comes-any Q all (next moment (reply_of store asked)) (Did moment store asked ∷ trail)
 comes-any Q all (Waits next) trail = λ moment at live. comes-any Q all (next live) (Got moment at live ∷ trail)

@@ -51,6 +51,8 @@ pub mod BlockSteps
 pub mod BlockHistory
 pub mod Owned
 pub mod NoReturn
+pub mod OwnersKept
+pub mod OwnersEffects
 pub mod OpenedRows
 pub mod OpenedHistory
 pub mod OpensRows
@@ -58,3 +60,15 @@ pub mod FaultLists
 pub mod FirstFault
 pub mod AllRead
 pub mod MayHear
+pub mod Acts
+pub mod ActParts
+pub mod Acting
+pub mod ActWords
+pub mod ActAdds
+pub mod ActRequests
+pub mod FedDue
+pub mod OwnersMoves
+pub mod LeaksFound
+pub mod OwnersHistory
+pub mod CheckAnswers
+pub mod ProbeAnswers

@@ -1,6 +1,5 @@
 -- An owner that is gone never comes back with the same stamp.
-use Rattle.std.proofs.Common.{◌≡◌, ℕ, ◌+◌, ◌-◌, ◌<◌, ◌≤◌, List, Option, Some, sym, ap, ◌∙◌, subst, arith}
-use Rattle.std.specs.Prelude.{Contains}
+use Rattle.std.proofs.Common.{◌≡◌, ℕ, ◌-◌, ◌<◌, ◌≤◌, List, ap, subst, arith}
 use Rattle.std.proofs.lemmas.List.Elements.{All-contains}
 use Rattle.ipam_addr.specs.Shape.{CidrValue}
 use Rattle.ipam_block.specs.declared.allocation.Allocation.{Allocation}
@@ -10,7 +9,7 @@ use Rattle.ipam_model.specs.declared.entry.Entry.{Entry}
 use Rattle.ipam_model.specs.BlockLaw.{BlockAt, NoReturnLaw}
 use Rattle.ipam_model.specs.Consistent.{IsConsistent}
 use Rattle.ipam_model.specs.History.{Base, Lawful, before, moment_of, store_before}
-use Rattle.ipam_model.specs.Owners.{Owner, owner_of}
+use Rattle.ipam_model.specs.Owners.{Owner}
 use Rattle.ipam_laws.proofs.BlockHistory.{block-later, not-behind, stamps}
 use Rattle.ipam_laws.proofs.OneRecord.{drop-lawful}
 use Rattle.ipam_laws.proofs.Owned.{HeldIn, block-sound, held-in, held-inside, held-owns, one-block, owns-held}
@@ -26,12 +25,12 @@ held-between base history sound h first second third order further cidr old owne
     let among = stamps base history sound h second third further cidr mid held.holding held.a held.among (omega arith) in
     subst (λ (o : Owner). HeldIn (store_before base history second) cidr o) held.is_owner (held-in (store_before base history second) cidr mid held.a among)
 
-consistent-before : (base : Base) (history : List Entry) (moment : ℕ) → IsConsistent base.store → Lawful base history → IsConsistent (store_before base history moment)
+pub consistent-before : (base : Base) (history : List Entry) (moment : ℕ) → IsConsistent base.store → Lawful base history → IsConsistent (store_before base history moment)
 consistent-before base history moment c h =
     consistent_law base (before base history moment) c (drop-lawful base (moment_of base history - moment) history h)
 
 -- a stamp that is held was given
-held-stamped : (store : Datastore) (cidr : CidrValue) (o : Owner) → IsDatastore store → (held : HeldIn store cidr o) → o.stamp ≤ held.holding.b.sequence
+pub held-stamped : (store : Datastore) (cidr : CidrValue) (o : Owner) → IsDatastore store → (held : HeldIn store cidr o) → o.stamp ≤ held.holding.b.sequence
 held-stamped store cidr o sound held =
     let block = block-sound store cidr held.holding sound in
     let given : (0 < held.a.stamp) × (held.a.stamp ≤ held.holding.b.sequence) = All-contains (λ (a : Allocation). (0 < a.stamp) × (a.stamp ≤ held.holding.b.sequence)) held.holding.b.allocations held.a block.stamped held.among in

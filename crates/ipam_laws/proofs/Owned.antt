@@ -1,22 +1,21 @@
 -- Owners and the blocks that hold them.
-use Rattle.std.proofs.Common.{◌≡◌, ◌⊎◌, inl, inr, ℕ, ◌+◌, ◌<◌, ◌≤◌, List, [], ◌∷◌, ◌++◌, map, Some, refl, sym, ap, ◌∙◌, subst, arith}
+use Rattle.std.proofs.Common.{◌≡◌, inl, inr, ℕ, List, [], ◌∷◌, map, Some, refl, sym, ap, ◌∙◌, subst}
 use Rattle.std.specs.Prelude.{Contains}
-use Rattle.std.proofs.lemmas.List.Elements.{All-contains, Contains-append_cases, Contains-append_left, Contains-append_right}
+use Rattle.std.proofs.lemmas.List.Elements.{Contains-append_cases, Contains-append_left, Contains-append_right}
 use Rattle.ipam_addr.specs.Shape.{AddrValue, CidrValue}
-use Rattle.ipam_addr.specs.Holding.{Holds, cidr_end}
+use Rattle.ipam_addr.specs.Holding.{Holds}
 use Rattle.ipam_block.specs.declared.allocation.Allocation.{Allocation}
 use Rattle.ipam_block.specs.Shape.{BlockValue}
 use Rattle.ipam_block.specs.Sound.{IsBlock}
-use Rattle.ipam_records.specs.declared.key.Key.{Key}
 use Rattle.ipam_records.specs.declared.key.Key.TheVariants as key
 use Rattle.ipam_records.specs.declared.record.Record.{Record}
 use Rattle.ipam_records.specs.declared.record.Record.TheVariants as record_of
-use Rattle.ipam_records.specs.Datastore.{Datastore, row_key, row_of}
+use Rattle.ipam_records.specs.Datastore.{Datastore}
 use Rattle.ipam_records.specs.Sound.{IsDatastore}
 use Rattle.ipam_model.specs.BlockLaw.{BlockAt}
 use Rattle.ipam_model.specs.Consistent.{IsConsistent, IsSlotOfSome, pools_in}
 use Rattle.ipam_model.specs.Moments.{Owns}
-use Rattle.ipam_model.specs.Owners.{Owner, owner_of, owners, owners_in, owners_in_row}
+use Rattle.ipam_model.specs.Owners.{Owner, owner_of, owners_in, owners_in_row}
 use Rattle.ipam_model.specs.Reads.{Row}
 use Rattle.ipam_laws.proofs.Calls.{found-block, found-key}
 use Rattle.ipam_laws.proofs.Members.{in-cons, in-here, in-map, in-nothing, in-there, out-map}
@@ -26,14 +25,14 @@ use Rattle.ipam_laws.proofs.SoundSteps.{row-there}
 
 -- ---- owners of rows
 
-owner-row : (rows : List Row) (o : Owner) → Contains (owners_in rows) o → (row : Row) × Contains rows row × Contains (owners_in_row row) o
+pub owner-row : (rows : List Row) (o : Owner) → Contains (owners_in rows) o → (row : Row) × Contains rows row × Contains (owners_in_row row) o
 owner-row [] o h = absurd (in-nothing o h)
 owner-row (row ∷ rows) o h = elim (Contains-append_cases (owners_in_row row) (owners_in rows) o h) [
   | inl own ↦ (row, in-here row rows, own)
   | inr other ↦ let (found, among, own) = owner-row rows o other in (found, in-there found row rows among, own)
 ]
 
-row-owner : (rows : List Row) (row : Row) (o : Owner) → Contains rows row → Contains (owners_in_row row) o → Contains (owners_in rows) o
+pub row-owner : (rows : List Row) (row : Row) (o : Owner) → Contains rows row → Contains (owners_in_row row) o → Contains (owners_in rows) o
 row-owner [] row o among own = absurd (in-nothing row among)
 row-owner (first ∷ rows) row o among own = elim (in-cons row first rows among) [
   | inl same ↦ Contains-append_left (owners_in_row first) (owners_in rows) o (subst (λ (r : Row). Contains (owners_in_row r) o) (sym same) own)

@@ -32,8 +32,9 @@ use Rattle.ipam_records.specs.Datastore.{Datastore, row_key, row_of}
 use Rattle.ipam_records.specs.KeyOrder.{key_cmp}
 use Rattle.ipam_records.specs.KeyOrderLaws.{cidr_cmp_total}
 use Rattle.ipam_records.specs.Sound.{IsDatastore, IsRecord, IsRow}
-use Rattle.ipam_model.specs.Consistent.{IsSlotOfSome, cidr_named, pools_in, pools_in_row}
+use Rattle.ipam_model.specs.Consistent.{IsConsistent, IsSlotOfSome, cidr_named, pools_in, pools_in_row}
 use Rattle.ipam_model.specs.History.{store_at}
+use Rattle.ipam_model.specs.Moments.{Owns}
 use Rattle.ipam_model.specs.OwnerLaw.{OwnersOrderLaw, OneOwnerLaw}
 use Rattle.ipam_model.specs.Owners.{Owner, owner_of, owners_in_row, owners_in, owners, IsBefore, AreInOrder}
 use Rattle.ipam_model.specs.Reads.{Row}
@@ -271,11 +272,13 @@ before-other : (a b : AddrValue) → IsBefore a b → a ≢ b
 before-other a b (inl ranks) e = let same = ap (λ (x : AddrValue). family_rank x.family) e in omega arith
 before-other a b (inr (family, below)) e = let same = ap (λ (x : AddrValue). x.number) e in omega arith
 
-pub one_owner : OneOwnerLaw
-one_owner base history c h one other first second same =
-    let order = owners_order (store_at base history) (consistent_law base history c h) in
-    elim (pairs-of (λ (o p : Owner). IsBefore o.address p.address) (owners (store_at base history)) order one other first second) [
+pub same-owner : (store : Datastore) → IsConsistent store → (one other : Owner) → Owns store one → Owns store other → one.address ≡ other.address → one ≡ other
+same-owner store c one other first second same =
+    elim (pairs-of (λ (o p : Owner). IsBefore o.address p.address) (owners store) (owners_order store c) one other first second) [
       | inl is ↦ is
       | inr (inl before) ↦ absurd (before-other one.address other.address before same)
       | inr (inr behind) ↦ absurd (before-other other.address one.address behind (sym same))
     ]
+
+pub one_owner : OneOwnerLaw
+one_owner base history c h one other first second same = same-owner (store_at base history) (consistent_law base history c h) one other first second same

@@ -49,7 +49,7 @@ keys-with_row P new [] p all = (p, tt)
 keys-with_row P new (r ∷ rs) p all =
     keys-row_at P (key_cmp (row_key new) (row_key r)) new r rs (with_row new rs) p all (keys-with_row P new rs p all.1)
 
-later : (x y : Key) → key_cmp x y ≡ Less → (rows : List (ℕ × Record)) → AllByRecursion (λ z. key_cmp y z ≡ Less) (map row_key rows) → AllByRecursion (λ z. key_cmp x z ≡ Less) (map row_key rows)
+pub later : (x y : Key) → key_cmp x y ≡ Less → (rows : List (ℕ × Record)) → AllByRecursion (λ z. key_cmp y z ≡ Less) (map row_key rows) → AllByRecursion (λ z. key_cmp x z ≡ Less) (map row_key rows)
 later x y h [] all = tt
 later x y h (r ∷ rs) all = (key_cmp_total.trans x y (row_key r) h all.0, later x y h rs all.1)
 
@@ -88,7 +88,7 @@ sorted-without_row key (r ∷ rs) s =
     ]
 
 -- a key below all others is none of them
-below-absent : (k : Key) (rows : List (ℕ × Record)) → AllByRecursion (λ z. key_cmp k z ≡ Less) (map row_key rows) → row_of k rows ≡ None
+pub below-absent : (k : Key) (rows : List (ℕ × Record)) → AllByRecursion (λ z. key_cmp k z ≡ Less) (map row_key rows) → row_of k rows ≡ None
 below-absent k [] all = refl
 below-absent k (r ∷ rs) all =
     let other : keys_equal (row_key r) k ≡ false = keys_equal-other (row_key r) k (λ e.

@@ -132,7 +132,7 @@ record CallTurn (store next : Datastore) (moment : ℕ) (c : Called) (running : 
   now : (label_in (goes_on store moment c.answer (Some running)) ≡ reached) ⊎ (label_in (goes_on store moment c.answer (Some running)) ≡ idle)
 
 -- the store behind a call that was done
-done-store : (slot : ℕ) (fate : Fate) (asked : Call) (store : Datastore) (answer : Option Answer) → fate ≢ Before → store_after (called slot fate asked (reply_of store asked) answer) store ≡ behind store asked
+pub done-store : (slot : ℕ) (fate : Fate) (asked : Call) (store : Datastore) (answer : Option Answer) → fate ≢ Before → store_after (called slot fate asked (reply_of store asked) answer) store ≡ behind store asked
 done-store slot Well asked store answer done = ap (λ w. store_with w store) (write_told-granted asked (reply_of store asked))
 done-store slot After asked store answer done = ap (λ w. store_with w store) (write_told-granted asked (reply_of store asked))
 done-store slot Before asked store answer done = absurd (done refl)

@@ -50,7 +50,7 @@ known-pool-sound known pool sound (revision, pools, was, among) =
     (All-contains (λ (p : Pool). IsCidr p.cidr) pools pool table.table.ranges among, All-contains (λ (p : Pool). HasSlots p.cidr p.size) pools pool table.table.sizes among)
 
 -- the slot that holds an address of the pool
-holding-number : (pool : Pool) (address : AddrValue) → holds_address pool.cidr address ≡ true → slot_holding pool address ≡ slot_of pool.cidr pool.size ((address.number - pool.cidr.base) / size_of pool.cidr.family pool.size)
+pub holding-number : (pool : Pool) (address : AddrValue) → holds_address pool.cidr address ≡ true → slot_holding pool address ≡ slot_of pool.cidr pool.size ((address.number - pool.cidr.base) / size_of pool.cidr.family pool.size)
 holding-number pool address e = rw e refl
 
 pub slot-of-pool : (pool : Pool) (cidr : CidrValue) → HasSlots pool.cidr pool.size → IsSlotIn pool cidr → IsSlotOf pool cidr

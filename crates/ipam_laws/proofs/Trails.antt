@@ -115,7 +115,7 @@ in-span-later span new moment there not h =
       own = h.own;
     }
 
-in-span-earlier : (span : Span) (new : Entry) (moment : ℕ) (there : Entry) → begins span.slot new ≡ false → moment < now span → InSpan (grown span new) moment there → InSpan span moment there
+pub in-span-earlier : (span : Span) (new : Entry) (moment : ℕ) (there : Entry) → begins span.slot new ≡ false → moment < now span → InSpan (grown span new) moment there → InSpan span moment there
 in-span-earlier span new moment there not early h =
     let begin = begin-later span new not in
     let since = h.since in
@@ -148,7 +148,7 @@ in-span-now span new own = record {
     since : (all rest : List Entry) → all ≡ new ∷ rest → moment_of span.base (new ∷ span.history) - length all ≤ moment_of span.base span.history
     since all rest e = let more = ap length e in omega (arith, more)
 
-now-is : (span : Span) (new there : Entry) → InSpan (grown span new) (now span) there → there ≡ new
+pub now-is : (span : Span) (new there : Entry) → InSpan (grown span new) (now span) there → there ≡ new
 now-is span new there h =
     let same : Some there ≡ Some new = sym h.is_there ∙ entry-now span.base new span.history in cc same
 
@@ -298,7 +298,7 @@ trail-got span at live trail h =
     let new = entry.Fed span.slot at live in
     (in-span-now span new refl, next-now span new, trail-later span new trail (now span) refl (omega arith) h)
 
-trail-begins : (base : Base) (history : List Entry) (slot : ℕ) (request : Request) → IsTrail (record { base = base; history = entry.Began slot request ∷ history; slot = slot }) (moment_of base (entry.Began slot request ∷ history)) []
+pub trail-begins : (base : Base) (history : List Entry) (slot : ℕ) (request : Request) → IsTrail (record { base = base; history = entry.Began slot request ∷ history; slot = slot }) (moment_of base (entry.Began slot request ∷ history)) []
 unfolding IsTrail since_begin
 trail-begins base history slot request =
     let itself : (slot == slot) ≡ true = from (slot == slot) refl in
@@ -322,7 +322,7 @@ trail-begins base history slot request =
     from false e = absurd (eqb-false slot slot e refl)
 
 -- the store at hand agrees with those of the trail
-trail-agrees : (span : Span) → IsDatastore span.base.store → Lawful span.base span.history → (trail : Trail) (upto : ℕ) → IsTrail span upto trail → AgreesAll (store_at span.base span.history) trail
+pub trail-agrees : (span : Span) → IsDatastore span.base.store → Lawful span.base span.history → (trail : Trail) (upto : ℕ) → IsTrail span upto trail → AgreesAll (store_at span.base span.history) trail
 unfolding IsTrail AgreesAll
 trail-agrees span sound h [] upto is = tt
 trail-agrees span sound h (Did moment store asked ∷ trail) upto is = (
@@ -337,14 +337,14 @@ trail-agrees span sound h (Got moment at live ∷ trail) upto is = trail-agrees 
 -- ---- over a history
 
 -- the call that an entry tells of, where the word asked for one
-record IsMade (c : Called) (store : Datastore) (moment : ℕ) (word : Word Answer) : Type 0 where
-  label : Label
-  asked : Call
-  next : ℕ → Said → Word Answer
-  is_word : word ≡ Asks label asked next
-  is_call : called c.slot c.fate asked (reply_of store asked) (ended (next moment (reply_of store asked))) ≡ c
+pub record IsMade (c : Called) (store : Datastore) (moment : ℕ) (word : Word Answer) : Type 0 where
+  pub label : Label
+  pub asked : Call
+  pub next : ℕ → Said → Word Answer
+  pub is_word : word ≡ Asks label asked next
+  pub is_call : called c.slot c.fate asked (reply_of store asked) (ended (next moment (reply_of store asked))) ≡ c
 
-made : (c : Called) (store : Datastore) (moment : ℕ) (word : Word Answer) → call_entry c.slot c.fate store moment word ≡ Some c → IsMade c store moment word
+pub made : (c : Called) (store : Datastore) (moment : ℕ) (word : Word Answer) → call_entry c.slot c.fate store moment word ≡ Some c → IsMade c store moment word
 made c store moment (Ends answer) e = absurd (cc e)
 made c store moment (Waits next) e = absurd (cc e)
 made c store moment (Asks label asked next) e = record { label = label; asked = asked; next = next; is_word = refl; is_call = cc e }
@@ -375,19 +375,31 @@ goes-well After slot asked reply answer c e none = let f = ap (λ (x : Called). 
 abbrev pub span_at : Base → List Entry → ℕ → Span
 span_at base history slot = record { base = base; history = history; slot = slot }
 
-begins-not : (other slot : ℕ) → slot ≢ other → (other == slot) ≡ false
+pub begins-not : (other slot : ℕ) → slot ≢ other → (other == slot) ≡ false
 begins-not other slot differ = from (other == slot) refl
   where
     from : (b : Bool) → (other == slot) ≡ b → (other == slot) ≡ false
     from true e = absurd (differ (sym (eqb-true other slot e)))
     from false e = e
 
-module _ (Q : Request → Trail → Answer → Type 0) (starts : (request : Request) → Comes (Q request) [] (word_of request)) where
+-- Of a request this holds: of what is left of its word, and of the trail that led there.
+abbrev pub IsLeft : Type 1
+IsLeft = Request → Trail → Word Answer → Type 0
+
+-- it holds at first, and goes on holding
+pub record Lasts (P : IsLeft) : Type 0 where
+  pub starts : (request : Request) → P request [] (word_of request)
+  pub hears : (request : Request) (trail : Trail) (label : Label) (asked : Call) (next : ℕ → Said → Word Answer) → P request trail (Asks label asked next)
+      → (moment : ℕ) (store : Datastore) → AgreesAll store trail → P request (Did moment store asked ∷ trail) (next moment (reply_of store asked))
+  pub feeds : (request : Request) (trail : Trail) (next : List (List ℕ) → Word Answer) → P request trail (Waits next)
+      → (moment at : ℕ) (live : List (List ℕ)) → P request (Got moment at live ∷ trail) (next live)
+
+module _ (P : IsLeft) (lasts : Lasts P) where
   -- what is left comes to what the request's word comes to
   pub record RunComes (base : Base) (history : List Entry) (slot : ℕ) (running : Running) : Type 0 where
     pub trail : Trail
     pub is_trail : IsTrail (span_at base history slot) (moment_of base history) trail
-    pub comes : Comes (Q running.request) trail running.word
+    pub comes : P running.request trail running.word
 
   abbrev pub SlotComes : Base → List Entry → ℕ → Option Running → Type 0
   SlotComes base history slot None = Unit {0}
@@ -405,7 +417,7 @@ module _ (Q : Request → Trail → Answer → Type 0) (starts : (request : Requ
   record CallComes (base : Base) (history : List Entry) (c : Called) (running : Running) : Type 0 where
     trail : Trail
     is_trail : IsTrail (span_at base (entry.Called c ∷ history) c.slot) (moment_of base (entry.Called c ∷ history)) trail
-    comes : Comes (Q running.request) trail (answered (store_at base history) (cluster_at base history).entries running.word)
+    comes : P running.request trail (answered (store_at base history) (cluster_at base history).entries running.word)
     answers : c.answer ≡ ended (answered (store_at base history) (cluster_at base history).entries running.word)
 
   call-comes : (base : Base) (history : List Entry) → IsDatastore base.store → Lawful base history → (c : Called) (running : Running) → c.fate ≡ Well
@@ -419,13 +431,13 @@ module _ (Q : Request → Trail → Answer → Type 0) (starts : (request : Requ
       let done = well c store is.asked answer is.is_call fate in
       let span = span_at base history c.slot in
       let agrees = trail-agrees span sound h run.trail (moment_of base history) run.is_trail in
-      let asks : Comes (Q running.request) run.trail (Asks is.label is.asked is.next) = subst (λ (w : Word Answer). Comes (Q running.request) run.trail w) is.is_word run.comes in
+      let asks : P running.request run.trail (Asks is.label is.asked is.next) = subst (λ (w : Word Answer). P running.request run.trail w) is.is_word run.comes in
       let word : answered store moment running.word ≡ is.next moment (reply_of store is.asked) = ap (λ (w : Word Answer). answered store moment w) is.is_word in
-      let next = subst (λ (w : Word Answer). Comes (Q running.request) (Did moment store is.asked ∷ run.trail) w) (sym word) (asks moment store agrees) in
+      let next = subst (λ (w : Word Answer). P running.request (Did moment store is.asked ∷ run.trail) w) (sym word) (lasts.hears running.request run.trail is.label is.asked is.next asks moment store agrees) in
       record {
         trail = Did (moment_of base history) store is.asked ∷ run.trail;
         is_trail = trail-did span c is.asked run.trail refl fate done.call done.reply done.next run.is_trail;
-        comes = subst (λ (m : ℕ). Comes (Q running.request) (Did m store is.asked ∷ run.trail) (answered store moment running.word)) (entries-are base history) next;
+        comes = subst (λ (m : ℕ). P running.request (Did m store is.asked ∷ run.trail) (answered store moment running.word)) (entries-are base history) next;
         answers = done.answers ∙ ap ended (sym word);
       }
 
@@ -453,10 +465,10 @@ module _ (Q : Request → Trail → Answer → Type 0) (starts : (request : Requ
     comes = by running.word waiting run.comes;
   }
     where
-      by : (w : Word Answer) → IsTrue (waits w) → Comes (Q running.request) run.trail w → Comes (Q running.request) (Got (moment_of base history) at live ∷ run.trail) (fed w live)
+      by : (w : Word Answer) → IsTrue (waits w) → P running.request run.trail w → P running.request (Got (moment_of base history) at live ∷ run.trail) (fed w live)
       by (Ends answer) t h = absurd (cc t)
       by (Asks label asked next) t h = absurd (cc t)
-      by (Waits next) t h = h (moment_of base history) at live
+      by (Waits next) t h = lasts.feeds running.request run.trail next h (moment_of base history) at live
 
   pub slot-comes : (base : Base) (history : List Entry) → IsDatastore base.store → Lawful base history → (slot : ℕ) → SlotComes base history slot ((cluster_at base history).slots slot)
   unfolding Lawful cluster_at after
@@ -466,7 +478,7 @@ module _ (Q : Request → Trail → Answer → Type 0) (starts : (request : Requ
       (λ own. subst (λ (s : ℕ). SlotComes base (entry.Began other request ∷ history) s (begun request)) (sym own) (record {
         trail = [];
         is_trail = trail-begins base history other request;
-        comes = starts request;
+        comes = lasts.starts request;
       }))
       (λ differ. skip base history (entry.Began other request) slot ((cluster_at base history).slots slot) (begins-not other slot differ) (λ e. differ (sym e)) (slot-comes base history sound h.0 slot))
   slot-comes base (entry.Fed other at live ∷ history) sound h slot =
@@ -486,6 +498,14 @@ module _ (Q : Request → Trail → Answer → Type 0) (starts : (request : Requ
       (λ running runs. subst (λ (o : Option Running). SlotComes base history c.slot o) runs (slot-comes base history sound h.0 c.slot))))
       (λ differ. skip base history (entry.Called c) slot ((cluster_at base history).slots slot) refl (λ e. differ (sym e)) (slot-comes base history sound h.0 slot))
 
+module _ (Q : Request → Trail → Answer → Type 0) (starts : (request : Request) → Comes (Q request) [] (word_of request)) where
+  all-come : Lasts (λ request trail word. Comes (Q request) trail word)
+  all-come = record {
+    starts = starts;
+    hears = λ request trail label asked next h. h;
+    feeds = λ request trail next h. h;
+  }
+
   -- the trail of a request that has answered, and what holds of its answer
   pub record AnswerComes (a : Answered) (told : Answer) : Type 0 where
     pub trail : Trail
@@ -502,8 +522,8 @@ module _ (Q : Request → Trail → Answer → Type 0) (starts : (request : Requ
   unfolding Lawful
   answer-comes a told sound h requested answer fate =
       let may = h.1 in
-      let run = subst (λ (o : Option Running). SlotComes a.base a.earlier a.call.slot o) may.runs (slot-comes a.base a.earlier sound h.0 a.call.slot) in
-      let step = call-comes a.base a.earlier sound h.0 a.call may.running fate may.is_called run in
+      let run = subst (λ (o : Option Running). SlotComes (λ request trail word. Comes (Q request) trail word) all-come a.base a.earlier a.call.slot o) may.runs (slot-comes (λ request trail word. Comes (Q request) trail word) all-come a.base a.earlier sound h.0 a.call.slot) in
+      let step = call-comes (λ request trail word. Comes (Q request) trail word) all-come a.base a.earlier sound h.0 a.call may.running fate may.is_called run in
       let some : Some may.running.request ≡ Some a.request = ap (λ (o : Option Running). option_map (λ (r : Running). r.request) o) (sym may.runs) ∙ requested in
       let same : may.running.request ≡ a.request = cc some in
       record {

@@ -117,3 +117,17 @@ abbrev pub FaultLaw : Type 0
 FaultLaw =
     (a : Answered) → Lawful a.base (history_of a)
     → (a.call.answer ≡ Some answer.Fault) ↔ (a.call.fate ≢ Well)
+
+-- Whatever a CHECK is answered is right of the history that led to it.
+abbrev pub CheckAnswersLaw : Type 0
+CheckAnswersLaw =
+    (a : Answered) (id : List ℕ) (addresses : List AddrValue) → IsConsistent a.base.store → Lawful a.base (history_of a)
+    → a.request ≡ Check id addresses → IsAnsweredRight a
+
+-- Where a probe is answered that it is ready, or that nothing is left, that is right.
+abbrev pub ProbeAnswersLaw : Type 0
+ProbeAnswersLaw =
+    (a : Answered) (probe : ProbeRequest) → IsConsistent a.base.store → Lawful a.base (history_of a)
+    → a.request ≡ Probe probe → request_in (cluster_at a.base a.earlier) a.call.slot ≡ Some a.request
+    → ((scans : List Scan) → a.call.answer ≡ Some (answer.Ready scans) → IsRightAnswer a (answer.Ready scans))
+    × ((scan : Scan) → a.call.answer ≡ Some (answer.Exhausted scan) → IsRightAnswer a (answer.Exhausted scan))
