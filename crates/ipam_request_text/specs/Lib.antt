@@ -2,3 +2,4 @@
 pub mod Parts
 pub mod Members
 pub mod Requests
+pub mod Live
