@@ -3,3 +3,4 @@ pub mod Parts
 pub mod Members
 pub mod Requests
 pub mod Live
+pub mod Naming
