@@ -1,2 +1,4 @@
--- No request's JSON has a float.
+-- No request's JSON has a float, and lists of live handles are read back.
 pub mod Floats
+pub mod Lives
+pub mod Ascending

@@ -2,3 +2,5 @@
 pub mod Parts
 pub mod Members
 pub mod Requests
+pub mod Live
+pub mod Naming

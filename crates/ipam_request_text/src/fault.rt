@@ -1,0 +1,8 @@
+/// Why a text is not read.
+#[derive(Clone, Copy, Debug, PartialEq, Eq)]
+pub enum AskFault {
+    /// No text of this kind has this form.
+    Unreadable,
+    /// There was no memory.
+    Memory,
+}

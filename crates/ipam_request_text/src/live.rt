@@ -1,0 +1,88 @@
+//! Lists of live handles are read.
+ghost use Rattle.std.specs.Prelude.{◌≡◌, [], Err, Some, None, IfOk, option_map};
+ghost use Rattle.serde_json.specs.Read.{read};
+ghost use Rattle.serde_json.specs.View.{view, items_view};
+ghost use Rattle.ipam_request_text.specs.Live.{live_reading, live_in, ids_after, id_in, id_of};
+
+use crate::fault::AskFault;
+use ipam_addr::is_handle_id;
+use ipam_text::{Seq, Text};
+use serde_json::Value;
+use std::alloc::{AllocError, Global};
+
+/// The handles that the text lists: a JSON array of their ids, repeats allowed, in any spelling.
+pub fn read_live(alloc: Global, text: &str) -> Result<Seq<Text>, AskFault>
+    ensures read { IfOk result (λ live. live_reading text.now ≡ Some live) }
+    ensures unreadable { result ≡ Err AskFault.Unreadable → live_reading text.now ≡ None }
+{
+    match live_found(alloc, text) {
+        Ok(Some(live)) => Ok(Seq::of(live)),
+        Ok(None) => Err(AskFault::Unreadable),
+        Err(_) => Err(AskFault::Memory),
+    }
+}
+
+#[tactic(auto, unfolding(crate::specs::Live::live_reading))]
+fn live_found(alloc: Global, text: &str) -> Result<Option<Vec<Text>>, AllocError>
+    ensures { IfOk result (λ found. option_map (λ v. v.items) found ≡ live_reading text.now) }
+{
+    let Some(json) = json_of(alloc, text)? else {
+        return Ok(None);
+    };
+    live_in(alloc, &json)
+}
+
+/// The JSON of a text, where it is some.
+fn json_of(alloc: Global, text: &str) -> Result<Option<Value>, AllocError>
+    ensures { IfOk result (λ o. option_map view o ≡ read text.now) }
+{
+    match Value::from_str(alloc, text) {
+        Ok(value) => Ok(Some(value)),
+        Err(error) if error.is_memory() => Err(AllocError),
+        Err(_) => Ok(None),
+    }
+}
+
+#[tactic(auto, unfolding(crate::specs::Live::live_in))]
+fn live_in(alloc: Global, json: &Value) -> Result<Option<Vec<Text>>, AllocError>
+    ensures { IfOk result (λ found. option_map (λ v. v.items) found ≡ live_in (view json.now)) }
+{
+    match json.as_array() {
+        Some(items) => ids_in(alloc, items.as_slice()),
+        None => Ok(None),
+    }
+}
+
+fn ids_in(alloc: Global, items: &[Value]) -> Result<Option<Vec<Text>>, AllocError>
+    ensures { IfOk result
+        (λ found. option_map (λ v. v.items) found ≡ ids_after [] (items_view items.now)) }
+{
+    let mut ids = Vec::new(alloc);
+    for item in items {
+        let Some(id) = id_in(item) else {
+            return Ok(None);
+        };
+        ids.push(Text::copied(alloc, id)?)?;
+    }
+    Ok(Some(ids))
+}
+
+#[tactic(auto, unfolding(crate::specs::Live::id_in))]
+fn id_in(value: &Value) -> Option<&str>
+    ensures { option_map (λ t. t.now) result ≡ id_in (view value.now) }
+{
+    let text = value.as_str()?;
+    id_of(text)
+}
+
+/// The text, where it is the id of a handle.
+#[tactic(auto, unfolding(crate::specs::Live::id_of))]
+fn id_of(text: &str) -> Option<&str>
+    ensures { option_map (λ t. t.now) result ≡ id_of text.now }
+{
+    if is_handle_id(text.as_bytes()) {
+        Some(text)
+    } else {
+        None
+    }
+}
