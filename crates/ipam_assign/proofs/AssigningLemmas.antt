@@ -1,11 +1,10 @@
 -- What is left of an assignment behind the raising and behind the lowering of the count.
-use Rattle.std.proofs.Common.{◌≡◌, refl, sym, ap, ◌∙◌, ℕ, List, Option, Some, None, IsSome}
+use Rattle.std.proofs.Common.{◌≡◌, refl, sym, ap, ◌∙◌, ℕ, List, Some, None, IsSome}
 use Rattle.ipam_addr.specs.Shape.{CidrValue}
 use Rattle.ipam_block.specs.Shape.{BlockValue}
 use Rattle.ipam_records.specs.Hearing.{MayHear}
 use Rattle.ipam_records.specs.Said.{Said}
 use Rattle.ipam_records.specs.Word.{asked, heard, ended}
-use Rattle.ipam_model.specs.declared.part.Assigned.{Assigned}
 use Rattle.ipam_model.specs.declared.part.Left.{Left}
 use Rattle.ipam_model.specs.declared.part.Outcome.{Outcome}
 use Rattle.ipam_model.specs.declared.part.Outcome.TheVariants.{Went, Stops}

@@ -2,3 +2,5 @@ mod AssigningLemmas
 mod RoundLaws
 mod PlaceLemmas
 mod UsableLemmas
+mod AddThisLemmas
+mod FoundLemmas

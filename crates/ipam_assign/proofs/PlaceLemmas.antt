@@ -1,6 +1,6 @@
 -- A slot is a block: it has few addresses.
 use native.Mathlib.Omega.{arith}
-use Rattle.std.proofs.Common.{◌≤◌, ◌-◌, ◌^◌, ℕ}
+use Rattle.std.proofs.Common.{◌≤◌, ◌-◌, ℕ}
 use Rattle.std.proofs.Math.Nat.{pow-le-pow_right}
 use Rattle.ipam_addr.specs.declared.address.Family.{Family}
 use Rattle.ipam_addr.specs.declared.address.Family.TheVariants.{V4, V6}

@@ -1,5 +1,5 @@
 -- The usable pool that holds an address.
-use Rattle.std.proofs.Common.{◌≡◌, refl, sym, ap, ◌∙◌, subst, ℕ, Bool, true, false, cond, ◌&&◌, List, [], ◌∷◌, Option, Some, None, All, find, option_map, ◌-◌, ◌/◌}
+use Rattle.std.proofs.Common.{◌≡◌, refl, sym, subst, ℕ, Bool, true, false, cond, ◌&&◌, List, [], ◌∷◌, Option, Some, None, All, find, option_map, ◌-◌, ◌/◌}
 use Rattle.std.specs.Prelude.{unwrap_or, IfSome}
 use Rattle.std.specs.Option.{option_copied}
 use Rattle.std.specs.Borrow.{Bor}
@@ -10,7 +10,6 @@ use Rattle.ipam_addr.specs.Slots.{HasSlots, slot_of}
 use Rattle.ipam_addr.specs.Width.{size_of}
 use Rattle.ipam_pool.specs.declared.pools.Pool.{Pool}
 use Rattle.ipam_pool.specs.Sound.{IsPoolTable}
-use Rattle.ipam_model.specs.AddThis.{slot_holding}
 use Rattle.ipam_model.specs.Usable.{Asked, is_usable, usable_pool_of}
 use Rattle.ipam_assign.specs.Place.{place_at, place_in}
 use Rattle.ipam_assign.specs.Usable.{place_of_pool}

@@ -4,3 +4,4 @@ pub mod PlaceShape
 pub mod Place
 pub mod Claiming
 pub mod Usable
+pub mod AddThis

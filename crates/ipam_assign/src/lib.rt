@@ -1,6 +1,7 @@
 //! How an address is assigned.
 #![tactic(auto)]
 
+mod add_this;
 mod assigning;
 mod claiming;
 mod place;
@@ -9,6 +10,7 @@ mod rounds;
 mod stopping;
 mod usable;
 
+pub use add_this::{AddThisProc, AddThisTurned};
 pub use assigning::{Assigning, AssigningTurned};
 pub use claiming::claimed;
 pub use place::Place;
