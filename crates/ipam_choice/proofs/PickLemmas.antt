@@ -8,6 +8,10 @@ use Rattle.ipam_model.specs.Usable.{Asked, is_usable, unknown_name}
 use Rattle.ipam_model.specs.Choice.{Seen, Rank, Unclaimed, Ranked, rank_of, rank_at, block_at, has_free_address, may_claim, first_slot_in, first_slot, Pick, Unknown, Picks, best_of_ranks, pick_unless, pick_of}
 use Rattle.ipam_choice.specs.First.{first_of, found_there}
 use Rattle.ipam_choice.specs.Sight.{Sight, sight_in, rank_of_found, rank_in_sight, first_ranked, first_in}
+use Rattle.ipam_addr.specs.Shape.{AddrValue}
+use Rattle.std.specs.List.{list_any}
+use Rattle.ipam_model.specs.Choice.{is_confirmed_for, is_reserved}
+use Rattle.ipam_choice.specs.Known.{unless_unknown, pick_in, sight_known}
 use Rattle.ipam_choice.specs.Scanned.{if_usable, first_usable, pick_from}
 
 pub unknown_pick : (asked : Asked) (seen : Seen) (place : ℕ) → unknown_name asked seen.pools ≡ Some place → Unknown place ≡ pick_of asked seen
@@ -67,3 +71,28 @@ module _ (asked : Asked) (seen : Seen) where
   best_pick sight same known =
       ap (λ (s : Sight). pick_from (first_of (first_usable asked s seen.pools) (0 ∷ 1 ∷ 2 ∷ 3 ∷ []))) same
       ∙ (best_is (0 ∷ 1 ∷ 2 ∷ 3 ∷ []) ∙ sym (ap (pick_unless asked seen) known))
+
+-- ---- by what is known
+
+known_pick_at : (asked : Asked) (seen : Seen) (sight : Sight) (unknown : Option ℕ) → unknown_name asked seen.pools ≡ unknown
+    → sight ≡ sight_in asked seen
+    → unless_unknown unknown (pick_from (first_of (first_usable asked sight seen.pools) (0 ∷ 1 ∷ 2 ∷ 3 ∷ []))) ≡ pick_of asked seen
+known_pick_at asked seen sight (Some place) is same = unknown_pick asked seen place is
+known_pick_at asked seen sight None is same = best_pick asked seen sight same is
+
+-- what is picked by what is known is what the specification picks, where the node's confirmed
+-- affinities and what is reserved are known as they are
+pub known_pick : (asked : Asked) (seen : Seen) (confirmed : CidrValue → Bool) (reserved : AddrValue → Bool)
+    → ((cidr : CidrValue) → confirmed cidr ≡ list_any (is_confirmed_for asked.node cidr) seen.affinities)
+    → ((a : AddrValue) → reserved a ≡ is_reserved seen a)
+    → pick_in asked seen.pools (sight_known asked seen.config confirmed reserved seen.blocks) ≡ pick_of asked seen
+known_pick asked seen confirmed reserved same_confirmed same_reserved =
+    known_pick_at asked seen (sight_known asked seen.config confirmed reserved seen.blocks) (unknown_name asked seen.pools) refl
+    (λ i. record {
+      node = asked.node;
+      strict = seen.config.strict;
+      may_claim = may_claim asked seen;
+      confirmed = λ cidr. same_confirmed cidr i;
+      reserved = λ a. same_reserved a i;
+      blocks = seen.blocks;
+    })

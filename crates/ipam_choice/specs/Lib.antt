@@ -6,3 +6,4 @@ pub mod Level
 pub mod Viewed
 pub mod Confirmed
 pub mod Scanned
+pub mod Known

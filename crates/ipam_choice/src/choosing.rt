@@ -1,19 +1,20 @@
 ghost use Rattle.std.specs.Prelude.{◌≡◌, List, All, IfOk, [], ◌∷◌, count_by};
 ghost use Rattle.ipam_addr.specs.Holding.{is_same_family};
 ghost use Rattle.ipam_reserve.specs.Shape.{ReservationValue};
-ghost use Rattle.ipam_model.specs.Choice.{IsChoice, pick_of, may_claim};
+ghost use Rattle.ipam_model.specs.Choice.{IsChoice, pick_of};
 ghost use Rattle.ipam_choice.specs.Picked.{ranked_in, pick_as};
 ghost use Rattle.ipam_choice.specs.First.{first_of};
 ghost use Rattle.ipam_choice.specs.Level.{level_number};
 ghost use Rattle.ipam_choice.specs.Sight.{IsSlotted};
 ghost use Rattle.ipam_choice.specs.Viewed.{asked_of, seen_of, IsSetOf};
+ghost use Rattle.ipam_choice.specs.Known.{pick_in, sight_of_known};
 ghost use Rattle.ipam_choice.specs.Scanned.{sight_of, first_usable, if_usable, pick_from};
 
 use crate::confirmed::Confirmed;
 use crate::level::Level;
 use crate::picked::{Candidate, Picked};
 use crate::scan::Scan;
-use crate::view::{View, Wanted};
+use crate::view::{Known, View, Wanted};
 use ipam_addr::{Cidr, Family};
 use ipam_model::Choice;
 use ipam_pool::Pool;
@@ -37,20 +38,34 @@ pub fn pick<'a>(alloc: Global, wanted: &Wanted, view: &View<'a>) -> Result<Picke
         → IsSetOf reservations view.now.reserved.now
         → pick_as picked ≡ pick_of (asked_of wanted.now) (seen_of view.now reservations)) }
 {
-    let pools = view.pools.pools();
-    if let Some(place) = wanted.unknown_name(pools) {
-        return Ok(Picked::NoPool(place));
-    }
     let confirmed = Confirmed::of(alloc, wanted.node, &view.affinities)?;
-    let scan = Scan {
-        node: wanted.node,
-        strict: view.config.strict,
-        may_claim: may_claim(wanted, view),
-        confirmed: &confirmed,
+    let known = Known {
+        config: view.config,
+        pools: view.pools,
         reserved: view.reserved,
+        confirmed: &confirmed,
         blocks: view.blocks,
     };
-    Ok(best(&scan, wanted, pools))
+    Ok(pick_known(wanted, &known))
+}
+
+/// The same where the node's confirmed affinities were gathered before. Takes no memory.
+pub fn pick_known<'a>(wanted: &Wanted, known: &Known<'a, '_>) -> Picked<'a>
+    ensures { pick_as result ≡ pick_in (asked_of wanted.now) known.now.pools.now (sight_of_known (asked_of wanted.now) known.now) }
+{
+    let pools = known.pools.pools();
+    if let Some(place) = wanted.unknown_name(pools) {
+        return Picked::NoPool(place);
+    }
+    let scan = Scan {
+        node: wanted.node,
+        strict: known.config.strict,
+        may_claim: may_claim(wanted, known),
+        confirmed: known.confirmed,
+        reserved: known.reserved,
+        blocks: known.blocks,
+    };
+    best(&scan, wanted, pools)
 }
 
 // The first candidate of the first level that has one.
@@ -110,17 +125,17 @@ fn first_in_usable<'a>(
 }
 
 // Whether the node may claim one more block of the family.
-fn may_claim(wanted: &Wanted, view: &View) -> bool
-    ensures { result ≡ may_claim (asked_of wanted.now) (seen_of view.now []) }
+fn may_claim(wanted: &Wanted, known: &Known) -> bool
+    ensures { result ≡ (sight_of_known (asked_of wanted.now) known.now).may_claim }
 {
-    if !view.config.auto {
+    if !known.config.auto {
         return false;
     }
-    if view.config.max_blocks == 0 {
+    if known.config.max_blocks == 0 {
         return true;
     }
-    let blocks = view.blocks.of_node(wanted.node);
-    count_of(wanted.family, blocks) < view.config.max_blocks as usize
+    let blocks = known.blocks.of_node(wanted.node);
+    count_of(wanted.family, blocks) < known.config.max_blocks as usize
 }
 
 // How many of the blocks are of the family.

@@ -13,8 +13,8 @@ use std::alloc::{AllocError, Global};
 use std::collections::BTreeSet;
 
 /// The blocks whose affinity to a node is confirmed.
-#[derive(Drop)]
-pub(crate) struct Confirmed {
+#[derive(Debug, Drop)]
+pub struct Confirmed {
     cidrs: BTreeSet<Cidr>,
 }
 
@@ -22,11 +22,7 @@ impl Confirmed {
     ghost use Rattle.ipam_choice.specs.Confirmed.{has_confirmed};
 
     /// Those of the node.
-    pub(crate) fn of(
-        alloc: Global,
-        node: &str,
-        affinities: &Listing,
-    ) -> Result<Confirmed, AllocError>
+    pub fn of(alloc: Global, node: &str, affinities: &Listing) -> Result<Confirmed, AllocError>
         ensures { IfOk result (λ confirmed. (cidr : CidrValue) → has_confirmed confirmed cidr
             ≡ list_any (is_confirmed_for node.now cidr) (rows_of affinities.now)) }
     {
@@ -76,7 +72,7 @@ impl Confirmed {
     }
 
     /// Whether the block's affinity is confirmed.
-    pub(crate) fn has(&self, cidr: Cidr) -> bool
+    pub fn has(&self, cidr: Cidr) -> bool
         ensures { result ≡ has_confirmed self.now cidr }
     {
         self.cidrs.contains(&cidr)

@@ -13,8 +13,9 @@ mod scan;
 mod slots;
 mod view;
 
-pub use choosing::{choose, pick};
+pub use choosing::{choose, pick, pick_known};
+pub use confirmed::Confirmed;
 pub use ipam_model::Choice;
 pub use picked::{Candidate, Listed, Picked, Rank};
 pub use std::alloc::AllocError as Memory;
-pub use view::{View, Wanted};
+pub use view::{Known, View, Wanted};

@@ -3,6 +3,7 @@ ghost use Rattle.std.specs.List.{list_any};
 ghost use Rattle.ipam_addr.specs.Text.{cidr_reading};
 ghost use Rattle.ipam_model.specs.Usable.{is_name_of, is_cidr_read, is_same_cidr, is_enabled, is_named, is_usable, is_known, is_automatic, names_none, unknown_name};
 
+use crate::confirmed::Confirmed;
 use ipam_addr::{Cidr, Family, read_cidr};
 use ipam_pool::{Mode, Pool, PoolTable};
 use ipam_records::{Config, Listing};
@@ -30,6 +31,17 @@ pub struct View<'a> {
     pub pools: &'a PoolTable,
     pub reserved: &'a Reserved,
     pub affinities: Listing<'a>,
+    pub blocks: Listing<'a>,
+}
+
+/// What is known once the blocks are listed, with the node's confirmed affinities in place of all
+/// that were listed.
+#[derive(Clone, Copy)]
+pub struct Known<'a, 's> {
+    pub config: Config,
+    pub pools: &'s PoolTable,
+    pub reserved: &'a Reserved,
+    pub confirmed: &'s Confirmed,
     pub blocks: Listing<'a>,
 }
 

@@ -8,8 +8,8 @@ use Rattle.ipam_choice.proofs.choosing.may_claim.Goals as goal
 
 pub returns : goal.returns
 returns c =
-    let config = c.args.view.now.config in
-    let rows = rows_of c.args.view.now.blocks in
+    let config = c.args.known.now.config in
+    let rows = rows_of c.args.known.now.blocks in
     let asked = asked_of c.args.wanted.now in
     let count : c.count_of.result ≡ count_by (is_block_of asked) rows = c.count_of.ensures ∙ (ap (count_by _) c.of_node-blocks.ensures.value ∙ counted asked rows) in
     let auto : config.auto ≡ true = search rules in
