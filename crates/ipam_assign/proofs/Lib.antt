@@ -4,3 +4,4 @@ mod PlaceLemmas
 mod UsableLemmas
 mod AddThisLemmas
 mod FoundLemmas
+mod ScanningLemmas

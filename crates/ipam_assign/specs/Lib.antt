@@ -5,3 +5,4 @@ pub mod Place
 pub mod Claiming
 pub mod Usable
 pub mod AddThis
+pub mod Scanning

@@ -7,6 +7,7 @@ mod claiming;
 mod place;
 mod reading;
 mod rounds;
+mod scanning;
 mod stopping;
 mod usable;
 
@@ -14,8 +15,9 @@ pub use add_this::{AddThisProc, AddThisTurned};
 pub use assigning::{Assigning, AssigningTurned};
 pub use claiming::claimed;
 pub use place::Place;
-pub use reading::config_in;
+pub use reading::{config_in, listing_in, pools_in, reservations_in};
 pub use rounds::Rounds;
+pub use scanning::{Learned, Scanned, Scanning};
 pub use std::alloc::AllocError as Memory;
 pub use stopping::{add_stopped, add_this_stopped};
 pub use usable::{names_for, usable_place};

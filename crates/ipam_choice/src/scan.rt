@@ -30,7 +30,7 @@ pub(crate) struct Scan<'a, 's> {
     pub(crate) may_claim: bool,
     /// The blocks whose affinity to the node is confirmed.
     pub(crate) confirmed: &'s Confirmed,
-    pub(crate) reserved: &'a Reserved,
+    pub(crate) reserved: &'s Reserved,
     pub(crate) blocks: Listing<'a>,
 }
 

@@ -40,7 +40,7 @@ pub struct View<'a> {
 pub struct Known<'a, 's> {
     pub config: Config,
     pub pools: &'s PoolTable,
-    pub reserved: &'a Reserved,
+    pub reserved: &'s Reserved,
     pub confirmed: &'s Confirmed,
     pub blocks: Listing<'a>,
 }
