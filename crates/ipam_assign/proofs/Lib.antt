@@ -5,3 +5,4 @@ mod UsableLemmas
 mod AddThisLemmas
 mod FoundLemmas
 mod ScanningLemmas
+mod ProbeLemmas

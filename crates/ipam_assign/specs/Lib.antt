@@ -6,3 +6,4 @@ pub mod Claiming
 pub mod Usable
 pub mod AddThis
 pub mod Scanning
+pub mod Probe
