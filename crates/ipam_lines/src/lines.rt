@@ -2,15 +2,12 @@
 ghost use Rattle.std.specs.Prelude.{◌≡◌, ◌+◌, ◌<◌, ◌≤◌, ◌∷◌, ◌++◌, [], take, drop, length, position, vec_len, IfOk, OnOk, OnErr, IfSome, IfNone, IsErr, slice_index, ◌≢◌, Contains};
 ghost use Rattle.std.specs.Io.KnownBytes.{prepend_known, IsAtEnd};
 ghost use Rattle.ipam_io.specs.Counts.{Rose};
-ghost use Rattle.ipam_session.specs.Feeds.{HasNoFeed, IsLine, IsTooLong, IsFirstFeed};
-ghost use Rattle.ipam_session.specs.Lines.{bytes_taken, IsAnswerTo, IfLine, OnEnd, OnCut, OnTooLong, OnReadFault, OnNoReadFault};
+ghost use Rattle.ipam_lines.specs.Feeds.{HasNoFeed, IsLine, IsTooLong, IsFirstFeed};
+ghost use Rattle.ipam_lines.specs.Lines.{bytes_taken, IsAnswerTo, IfLine, OnEnd, OnCut, OnTooLong, OnReadFault, OnNoReadFault};
 
 use ipam_io::{Failed, Source};
 use std::alloc::{AllocError, Global};
 use std::marker::Model;
-
-/// A line with its line feed has at most so many bytes.
-pub const LINE_LIMIT: usize = 1_048_576;
 
 // How many bytes a read asks for.
 const CHUNK: usize = 4096;
@@ -29,7 +26,7 @@ pub enum Got {
 /// Why no line could be had.
 #[derive(Clone, Copy, Debug, PartialEq, Eq)]
 pub enum LinesFault {
-    /// There are `LINE_LIMIT` bytes without a line feed.
+    /// There are `LIMIT` bytes without a line feed.
     TooLong,
     /// A read of the source failed.
     Read,
@@ -37,14 +34,15 @@ pub enum LinesFault {
     Memory,
 }
 
-/// The bytes that were read of a source and not yet given in a line.
+/// The bytes that were read of a source and not yet given in a line. A line has at most `LIMIT` bytes,
+/// its line feed among them.
 #[derive(Drop)]
-pub struct Lines {
+pub struct Lines<const LIMIT: usize> {
     bytes: Vec<u8>,
     given: usize,
 }
 
-impl Model for Lines {
+impl<const LIMIT: usize> Model for Lines<LIMIT> {
     ghost use Rattle.std.specs.Prelude.{List, ℕ, ◌≤◌, drop, vec_len};
 
     ghost Value = { List ℕ };
@@ -54,9 +52,9 @@ impl Model for Lines {
     ghost invariant = { λ lines. lines.given ≤ vec_len lines.bytes };
 }
 
-impl Lines {
+impl<const LIMIT: usize> Lines<LIMIT> {
     /// Holds no bytes, and takes no memory before the first read.
-    pub fn new(alloc: Global) -> Lines
+    pub fn new(alloc: Global) -> Lines<LIMIT>
         ensures { result ≡ [] }
     {
         Lines {
@@ -65,7 +63,8 @@ impl Lines {
         }
     }
 
-    fn held(&self) -> &[u8]
+    /// The bytes that are held.
+    pub fn held(&self) -> &[u8]
         ensures { result.now ≡ self.now }
     {
         &self.bytes[self.given..]
@@ -74,12 +73,12 @@ impl Lines {
     // The place of the first line feed among the bytes that a line may have.
     fn feed_place(&self, searched: usize) -> Option<usize>
         requires { HasNoFeed (take searched self.now) }
-        ensures within { IfSome result (λ place. place < LINE_LIMIT) }
+        ensures within { IfSome result (λ place. place < LIMIT) }
         ensures first { IfSome result (IsFirstFeed self.now) }
-        ensures none { IfNone result (HasNoFeed (take LINE_LIMIT self.now)) }
+        ensures none { IfNone result (HasNoFeed (take LIMIT self.now)) }
     {
         let held = self.held();
-        let end = held.len().min(LINE_LIMIT);
+        let end = held.len().min(LIMIT);
         if end <= searched {
             return None;
         }
@@ -103,24 +102,25 @@ impl Lines {
     /// The next line, which ends by a line feed. It is given without a read where it is held, and
     /// else the source is read until a line feed comes, the input ends or a line would be too long.
     ///
-    /// What was read stays held, whatever the answer; a line is given once.
+    /// `LIMIT` is above 0. What was read stays held, whatever the answer; a line is given once.
     pub fn next<S: Source>(&mut self, source: &mut S) -> Result<Got, LinesFault>
+        requires { 0 < LIMIT }
         ensures bytes { prepend_known self.old (S.left source.old)
             ≡ prepend_known (bytes_taken result ++ self.new) (S.left source.new) }
         ensures answer { IfSome (prepend_known self.old (S.left source.old))
-            (λ bytes. IsAnswerTo bytes result) }
+            (λ bytes. IsAnswerTo LIMIT bytes result) }
         ensures long_is_refused { IfSome (prepend_known self.old (S.left source.old))
-            (λ bytes. IsTooLong bytes → IsErr result) }
+            (λ bytes. IsTooLong LIMIT bytes → IsErr result) }
 
         // Where the source tells nothing, the same of the bytes that are held.
-        ensures line { IfLine result IsLine }
+        ensures line { IfLine result (IsLine LIMIT) }
         ensures end { OnEnd result ((self.new ≡ []) × IsAtEnd (S.left source.new)) }
         ensures cut { OnCut result
-            (IsLine self.new × (self.new ≢ []) × IsAtEnd (S.left source.new)) }
-        ensures too_long { OnTooLong result (IsTooLong self.new) }
-        ensures read_fault { OnReadFault result (IsLine self.new) }
+            (IsLine LIMIT self.new × (self.new ≢ []) × IsAtEnd (S.left source.new)) }
+        ensures too_long { OnTooLong result (IsTooLong LIMIT self.new) }
+        ensures read_fault { OnReadFault result (IsLine LIMIT self.new) }
 
-        ensures no_read { Contains (take LINE_LIMIT self.old) 10 → source.new ≡ source.old }
+        ensures no_read { Contains (take LIMIT self.old) 10 → source.new ≡ source.old }
         ensures fault { OnReadFault result
             (Rose (S.read_faults source.old) (S.read_faults source.new)) }
         ensures no_fault { OnNoReadFault result
@@ -143,13 +143,13 @@ impl Lines {
     fn fetch<S: Source>(&mut self, source: &mut S) -> Result<Option<usize>, LinesFault>
         ensures bytes { prepend_known self.old (S.left source.old)
             ≡ prepend_known self.new (S.left source.new) }
-        ensures found { IfOk result (λ found. IfSome found (λ place. (place < LINE_LIMIT)
+        ensures found { IfOk result (λ found. IfSome found (λ place. (place < LIMIT)
             × IsFirstFeed self.new place)) }
         ensures end { IfOk result (λ found. IfNone found
-            (IsLine self.new × IsAtEnd (S.left source.new))) }
-        ensures too_long { OnTooLong result (IsTooLong self.new) }
-        ensures read_fault { OnReadFault result (IsLine self.new) }
-        ensures no_read { Contains (take LINE_LIMIT self.old) 10 → source.new ≡ source.old }
+            (IsLine LIMIT self.new × IsAtEnd (S.left source.new))) }
+        ensures too_long { OnTooLong result (IsTooLong LIMIT self.new) }
+        ensures read_fault { OnReadFault result (IsLine LIMIT self.new) }
+        ensures no_read { Contains (take LIMIT self.old) 10 → source.new ≡ source.old }
 
         ensures fault { OnReadFault result
             (Rose (S.read_faults source.old) (S.read_faults source.new)) }
@@ -164,7 +164,7 @@ impl Lines {
                 return Ok(Some(place));
             }
             searched = self.held().len();
-            if searched >= LINE_LIMIT {
+            if searched >= LIMIT {
                 return Err(LinesFault::TooLong);
             }
             match self.read_more(source) {

@@ -1,10 +1,10 @@
 -- What a call for the next line answers, and the bytes that it takes.
 use Rattle.std.specs.Prelude.{◌≡◌, ◌≢◌, ℕ, List, [], ◌∷◌, ◌++◌, ⊤, Result, Ok, Err}
-use Rattle.ipam_session.specs.Feeds.{IsLine, IsTooLong}
-use Rattle.ipam_session.specs.declared.lines.Got.{Got}
-use Rattle.ipam_session.specs.declared.lines.Got.TheVariants.{Line, End, Cut}
-use Rattle.ipam_session.specs.declared.lines.LinesFault.{LinesFault}
-use Rattle.ipam_session.specs.declared.lines.LinesFault.TheVariants.{TooLong, Read, Memory}
+use Rattle.ipam_lines.specs.Feeds.{IsLine, IsTooLong}
+use Rattle.ipam_lines.specs.declared.lines.Got.{Got}
+use Rattle.ipam_lines.specs.declared.lines.Got.TheVariants.{Line, End, Cut}
+use Rattle.ipam_lines.specs.declared.lines.LinesFault.{LinesFault}
+use Rattle.ipam_lines.specs.declared.lines.LinesFault.TheVariants.{TooLong, Read, Memory}
 
 -- the bytes that an answer takes away: a line with its line feed, or none
 abbrev pub bytes_taken : Result Got LinesFault → List ℕ
@@ -14,13 +14,13 @@ bytes_taken (Ok Cut) = []
 bytes_taken (Err fault) = []
 
 -- what may be answered where these are the bytes to come: beside the faults of reads and memory, one answer alone
-abbrev pub IsAnswerTo : List ℕ → Result Got LinesFault → Type 0
-IsAnswerTo bytes (Ok (Line line)) = IsLine line.items × (rest : List ℕ) × (bytes ≡ line.items ++ 10 ∷ rest)
-IsAnswerTo bytes (Ok End) = bytes ≡ []
-IsAnswerTo bytes (Ok Cut) = IsLine bytes × (bytes ≢ [])
-IsAnswerTo bytes (Err TooLong) = IsTooLong bytes
-IsAnswerTo bytes (Err Read) = ⊤
-IsAnswerTo bytes (Err Memory) = ⊤
+abbrev pub IsAnswerTo : (limit : ℕ) → List ℕ → Result Got LinesFault → Type 0
+IsAnswerTo limit bytes (Ok (Line line)) = IsLine limit line.items × (rest : List ℕ) × (bytes ≡ line.items ++ 10 ∷ rest)
+IsAnswerTo limit bytes (Ok End) = bytes ≡ []
+IsAnswerTo limit bytes (Ok Cut) = IsLine limit bytes × (bytes ≢ [])
+IsAnswerTo limit bytes (Err TooLong) = IsTooLong limit bytes
+IsAnswerTo limit bytes (Err Read) = ⊤
+IsAnswerTo limit bytes (Err Memory) = ⊤
 
 -- a fact of the line that was answered
 abbrev pub IfLine : Result Got LinesFault → (List ℕ → Type 0) → Type 0

@@ -5,7 +5,7 @@ use Rattle.std.proofs.Common.{take_all, refl}
 use Rattle.std.proofs.lemmas.List.{take-append-drop, take-take, get_or-take, get_or-drop, length-take}
 use Rattle.std.proofs.lemmas.List.Elements.{All-append, All-contains}
 use Rattle.std.proofs.Math.Seq.{take-add, drop-cons}
-use Rattle.ipam_session.specs.Feeds.{HasNoFeed, IsFirstFeed}
+use Rattle.ipam_lines.specs.Feeds.{HasNoFeed, IsFirstFeed}
 
 -- what holds of a front holds of a shorter one, where one that goes past the end is as long as the bytes
 pub HasNoFeed-front : (bytes : List ℕ) (searched end : ℕ) → min (length bytes) end ≤ searched → HasNoFeed (take searched bytes) → HasNoFeed (take end bytes)

@@ -1,7 +1,7 @@
 ghost use Rattle.std.specs.Prelude.{None, ◌≡◌, ◌<◌, length};
 
 use ipam_io::{Failed, MemorySource, Source};
-use ipam_session::{Got, Lines, LinesFault};
+use ipam_lines::{Got, Lines, LinesFault};
 use std::alloc::{AllocError, Global};
 use std::test::Fail;
 
@@ -15,6 +15,8 @@ enum Want<'a> {
     Cut,
     Fault(LinesFault),
 }
+
+const LIMIT: usize = 1_048_576;
 
 const LONGEST: Want<'static> = Want::Long(1_048_575);
 
@@ -35,7 +37,7 @@ fn meets(answer: &Result<Got, LinesFault>, want: Want<'_>) -> bool {
 
 // How many of the wanted answers come, in order, before one that differs.
 fn answers<S: Source>(alloc: Global, source: &mut S, wanted: &[Want<'_>]) -> usize {
-    let mut lines = Lines::new(alloc);
+    let mut lines = Lines::<LIMIT>::new(alloc);
     let mut met = 0usize;
     for want in wanted {
         if !meets(&lines.next(source), *want) {

@@ -1,5 +1,5 @@
 use ipam_io::{Failed, Link, StreamLink, TcpLink};
-use ipam_session::{Got, Lines};
+use ipam_lines::{Got, Lines};
 use std::io;
 use std::io::{ErrorKind, Read, Write};
 use std::net::{TcpListener, TcpStream};

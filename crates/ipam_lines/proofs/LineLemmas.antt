@@ -1,7 +1,7 @@
 -- The lines of bytes, taken one after another, and that there is one way to take them.
 use Rattle.std.proofs.Common.{◌≡◌, ◌≢◌, ℕ, List, [], ◌∷◌, ◌++◌, length, refl, sym, ap, ◌∙◌, append_assoc, arith}
 use Rattle.std.proofs.lemmas.List.Elements.{All-append, All-cons, All-nil, All-head, All-tail}
-use Rattle.ipam_session.specs.Feeds.{HasNoFeed, IsLine, bytes_of_lines, AreLinesBefore}
+use Rattle.ipam_lines.specs.Feeds.{HasNoFeed, IsLine, bytes_of_lines, AreLinesBefore}
 
 -- the bytes of some lines and of more are those of all in order
 pub bytes_of_lines-append : (xs ys : List (List ℕ)) → bytes_of_lines (xs ++ ys) ≡ bytes_of_lines xs ++ bytes_of_lines ys
@@ -10,9 +10,9 @@ bytes_of_lines-append (x ∷ xs) ys =
     ap (λ b. x ++ 10 ∷ b) (bytes_of_lines-append xs ys) ∙ sym (append_assoc x (10 ∷ bytes_of_lines xs) (bytes_of_lines ys))
 
 -- one more line is taken off the front of the rest
-pub AreLinesBefore-more : (lines : List (List ℕ)) (line rest bytes : List ℕ) → AreLinesBefore lines (line ++ 10 ∷ rest) bytes → IsLine line → AreLinesBefore (lines ++ line ∷ []) rest bytes
-AreLinesBefore-more lines line rest bytes before is_line = (
-  All-append IsLine lines (line ∷ []) before.0 (All-cons IsLine line [] is_line (All-nil IsLine)),
+pub AreLinesBefore-more : (limit : ℕ) (lines : List (List ℕ)) (line rest bytes : List ℕ) → AreLinesBefore limit lines (line ++ 10 ∷ rest) bytes → IsLine limit line → AreLinesBefore limit (lines ++ line ∷ []) rest bytes
+AreLinesBefore-more limit lines line rest bytes before is_line = (
+  All-append (IsLine limit) lines (line ∷ []) before.0 (All-cons (IsLine limit) line [] is_line (All-nil (IsLine limit))),
   before.1
       ∙ ap (λ b. bytes_of_lines lines ++ b) (sym (append_assoc line (10 ∷ []) rest))
       ∙ sym (append_assoc (bytes_of_lines lines) (line ++ 10 ∷ []) rest)
@@ -30,14 +30,14 @@ first_line_alone (a ∷ x) (b ∷ y) xs ys no_feed no_feed' same =
     (cc (head, tail.0), tail.1)
 
 -- as many lines of the same bytes are the same lines, and leave the same rest
-pub AreLinesBefore-alone : (xs ys : List (List ℕ)) (rest rest' bytes : List ℕ) → AreLinesBefore xs rest bytes → AreLinesBefore ys rest' bytes → length xs ≡ length ys → (xs ≡ ys) × (rest ≡ rest')
-AreLinesBefore-alone [] [] rest rest' bytes before before' same = (refl, sym before.1 ∙ before'.1)
-AreLinesBefore-alone [] (y ∷ ys) rest rest' bytes before before' same = absurd (omega arith)
-AreLinesBefore-alone (x ∷ xs) [] rest rest' bytes before before' same = absurd (omega arith)
-AreLinesBefore-alone (x ∷ xs) (y ∷ ys) rest rest' bytes before before' same =
+pub AreLinesBefore-alone : (limit : ℕ) (xs ys : List (List ℕ)) (rest rest' bytes : List ℕ) → AreLinesBefore limit xs rest bytes → AreLinesBefore limit ys rest' bytes → length xs ≡ length ys → (xs ≡ ys) × (rest ≡ rest')
+AreLinesBefore-alone limit [] [] rest rest' bytes before before' same = (refl, sym before.1 ∙ before'.1)
+AreLinesBefore-alone limit [] (y ∷ ys) rest rest' bytes before before' same = absurd (omega arith)
+AreLinesBefore-alone limit (x ∷ xs) [] rest rest' bytes before before' same = absurd (omega arith)
+AreLinesBefore-alone limit (x ∷ xs) (y ∷ ys) rest rest' bytes before before' same =
     let split : x ++ 10 ∷ (bytes_of_lines xs ++ rest) ≡ y ++ 10 ∷ (bytes_of_lines ys ++ rest') =
     sym (append_assoc x (10 ∷ bytes_of_lines xs) rest) ∙ sym before.1 ∙ before'.1 ∙ append_assoc y (10 ∷ bytes_of_lines ys) rest' in
-    let first = first_line_alone x y (bytes_of_lines xs ++ rest) (bytes_of_lines ys ++ rest') (All-head IsLine x xs before.0).0 (All-head IsLine y ys before'.0).0 split in
-    let others = AreLinesBefore-alone xs ys rest rest' (bytes_of_lines xs ++ rest)
-    (All-tail IsLine x xs before.0, refl) (All-tail IsLine y ys before'.0, first.1) (omega arith) in
+    let first = first_line_alone x y (bytes_of_lines xs ++ rest) (bytes_of_lines ys ++ rest') (All-head (IsLine limit) x xs before.0).0 (All-head (IsLine limit) y ys before'.0).0 split in
+    let others = AreLinesBefore-alone limit xs ys rest rest' (bytes_of_lines xs ++ rest)
+    (All-tail (IsLine limit) x xs before.0, refl) (All-tail (IsLine limit) y ys before'.0, first.1) (omega arith) in
     (cc (first.0, others.0), others.1)
