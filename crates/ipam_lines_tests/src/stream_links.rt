@@ -90,7 +90,7 @@ fn talks_over_a_socket_with_no_delay(rt: HostRuntime) -> Result<(), Fail> {
     assert!(rt; twin.nodelay()?);
     drop(twin);
     assert_eq!(rt; write_alone(&mut client, b"first\nsecond\n"), Ok(()));
-    let mut lines = Lines::new(rt.alloc());
+    let mut lines = Lines::<1_048_576>::new(rt.alloc());
     for text in ["first", "second"] {
         let Ok(Got::Line(line)) = lines.next(&mut server) else {
             return Err(Fail::from("no line"));
