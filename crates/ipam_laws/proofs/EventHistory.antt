@@ -36,7 +36,7 @@ unfolding Lawful
 lawful-first base [] history h = h
 lawful-first base (new ∷ rest) history h = (lawful-first base rest (new ∷ history) h).0
 
-pushed-cluster : (base : Base) (rest history : List Entry) → cluster_at base (reverse_aux rest history) ≡ after_all (cluster_at base history) rest
+pub pushed-cluster : (base : Base) (rest history : List Entry) → cluster_at base (reverse_aux rest history) ≡ after_all (cluster_at base history) rest
 unfolding cluster_at after_all
 pushed-cluster base [] history = refl
 pushed-cluster base (new ∷ rest) history = pushed-cluster base rest (new ∷ history)
@@ -224,7 +224,7 @@ stop-event : (cluster : Cluster) (slot : ℕ) (o : Option Running) → cluster.s
 stop-event cluster slot None is runs = cc
 stop-event cluster slot (Some running) is runs = ap (λ o. one (stop_entry slot o)) is
 
-entry-event : (cluster : Cluster) (new : Entry) → MayCome cluster new → entries_of cluster (event_of new) ≡ Ok (new ∷ [])
+pub entry-event : (cluster : Cluster) (new : Entry) → MayCome cluster new → entries_of cluster (event_of new) ≡ Ok (new ∷ [])
 entry-event cluster (entry.Began slot request) h = ap (λ o. one (begin_entry cluster slot request o)) h.idle ∙ unless_worn-new cluster (entry.Began slot request) h.turn.not_worn
 entry-event cluster (entry.Called c) h = call-event cluster c h
 entry-event cluster (entry.Fed slot at live) h = feed-event cluster slot at live h

@@ -20,6 +20,7 @@ pub mod CountSteps
 pub mod CountKinds
 pub mod CountHistory
 pub mod EventHistory
+pub mod CourseParts
 pub mod AloneHistory
 pub mod SpanBound
 pub mod KeptWords
