@@ -1,0 +1,6 @@
+-- Arguments go item by item, items are counted, and a prefix stands behind a slash.
+pub mod ArgumentItems
+pub mod Counts
+pub mod Prefixes
+pub mod InputTexts
+pub mod NoFloats
