@@ -4,3 +4,7 @@ pub mod Counts
 pub mod Prefixes
 pub mod InputTexts
 pub mod NoFloats
+pub mod Ascending
+pub mod Good
+pub mod Pairs
+pub mod Soundness

@@ -9,3 +9,4 @@ pub mod Configuration
 pub mod Asked
 pub mod Looking
 pub mod Texts
+pub mod Sound

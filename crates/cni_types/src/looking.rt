@@ -6,6 +6,7 @@ ghost use Rattle.cni_types.specs.declared.error.LookFault.TheVariants.{Refused};
 ghost use Rattle.cni_types.specs.Configuration.{configuration_tested};
 ghost use Rattle.cni_types.specs.Environment.{environment_tested};
 ghost use Rattle.cni_types.specs.Looking.{only_object, is_for_versions, input_text, object_in, decoded, version_in, told_version, compatible, in_configuration, in_environment, all_tested, tested, unknown, code_of, details_of, error_of, undecodable, look_from, look_reading};
+ghost use Rattle.cni_types.specs.Sound.{IsSoundLook};
 
 use crate::asked::asked;
 use crate::calls::Look;
@@ -26,12 +27,13 @@ const MOST_INPUT_BYTES: usize = 1_048_576;
 /// What a call asks, of its environment and its standard input. Of several pairs of one name in
 /// the environment the last counts.
 ///
-/// Fails with the error of the first thing that is bad: the input, the version, the configuration
-/// member by member, the environment variable by variable.
+/// What is asked keeps every limit. Fails with the error of the first thing that is bad: the
+/// input, the version, the configuration member by member, the environment variable by variable.
 pub fn look(alloc: Global, env: &[(Text, Text)], stdin: &[u8]) -> Result<Look, LookFault>
     ensures asked { IfOk result (λ asked. look_reading env.now stdin.now ≡ Ok asked) }
     ensures refused { (error : CniError) → result ≡ Err (Refused error)
         → look_reading env.now stdin.now ≡ Err error }
+    ensures sound { IfOk result IsSoundLook }
 {
     match look_at(alloc, env, stdin) {
         Ok(outcome) => or_refused(outcome),
