@@ -10,7 +10,7 @@ use crate::calls::{CniAdd, CniCheck, CniDel, CniGc, CniStatus, Look};
 use crate::command::Command;
 use crate::configuration::{address_in, wants_ipv4, wants_ipv6};
 use crate::environment::value_of;
-use crate::json::{inside, text_at, text_of};
+use crate::members::{inside, text_at, text_of};
 use crate::refusal::Variable;
 use crate::version::Version;
 use ipam_addr::{Addr, read_addr};

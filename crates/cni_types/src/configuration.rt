@@ -8,10 +8,10 @@ ghost use Rattle.cni_types.specs.Reading.{inside as found_inside};
 ghost use Rattle.cni_types.specs.Configuration.{truth_of_text, truth_of, choice, wants_ipv4, wants_ipv6, is_pool_text, are_all_pools, are_pools, has_prefix, address_with_prefix, address_in, are_all_addresses, are_addresses, network_tested, families_tested, result_tested, attachment_tested, attachments_tested_from, attachments_tested, wishes_tested, check_tested, gc_tested, configuration_tested};
 
 use crate::command::Command;
-use crate::json::{
+use crate::labels::are_labels;
+use crate::members::{
     are_few, demand, inside, is_name_at, is_object, is_object_at, is_text_at, text_at, text_of,
 };
-use crate::labels::are_labels;
 use crate::refusal::Member;
 use ipam_addr::{Addr, AddrFault, is_name, read_addr, read_cidr};
 use serde_json::Value;

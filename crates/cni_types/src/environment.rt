@@ -5,7 +5,7 @@ ghost use Rattle.cni_types.specs.Environment.{variable as value_of_variable, is_
 
 use crate::arguments::{are_items, argument};
 use crate::command::Command;
-use crate::json::demand_variable as demand;
+use crate::members::demand_variable as demand;
 use crate::refusal::Variable;
 use ipam_addr::{is_name, read_addr};
 use ipam_text::Text;

@@ -15,7 +15,7 @@ use crate::command::Command;
 use crate::configuration::test_configuration;
 use crate::environment::{test_environment, value_of};
 use crate::error::{CniError, LookFault};
-use crate::json::{is_object, text_at};
+use crate::members::{is_object, text_at};
 use crate::refusal::{Refusal, Variable, member_string};
 use crate::version::Version;
 use ipam_text::Text;
