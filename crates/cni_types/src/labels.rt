@@ -1,0 +1,87 @@
+//! The labels of the node, in the configuration.
+ghost use Rattle.std.specs.Prelude.{◌≡◌, ◌&&◌};
+ghost use Rattle.std.specs.List.{list_all};
+ghost use Rattle.serde_json.specs.Find.{get, as_str};
+ghost use Rattle.serde_json.specs.View.{view, members_view};
+ghost use Rattle.std.specs.Prelude.{codes};
+ghost use Rattle.cni_types.specs.Configuration.{is_label_byte, is_label_key, is_label_value, are_all_labels, are_label_members, are_labels};
+ghost use Rattle.cni_types.specs.Reading.{are_few_members};
+
+use serde_json::{Map, Value};
+
+const MOST_LABELS: usize = 64;
+
+const MOST_KEY_BYTES: usize = 317;
+
+const MOST_VALUE_BYTES: usize = 253;
+
+/// Whether the labels are missing or good.
+pub(crate) fn are_labels(json: &Value) -> bool
+    ensures { result ≡ are_labels (get (codes "nodeLabels") (view json.now)) }
+{
+    match json.get("nodeLabels") {
+        Some(labels) => are_label_members(labels),
+        None => true,
+    }
+}
+
+fn are_label_members(labels: &Value) -> bool
+    ensures { result ≡ are_labels (Some (view labels.now)) }
+{
+    match labels.as_object() {
+        Some(members) => are_few_members(members) && are_all_labels(members),
+        None => false,
+    }
+}
+
+#[tactic(auto, using(crate::proofs::Counts::members_counted))]
+fn are_few_members(members: &Map<String, Value>) -> bool
+    ensures { result ≡ are_few_members (members_view members.now.entries) }
+{
+    members.len() <= MOST_LABELS
+}
+
+fn are_all_labels(members: &Map<String, Value>) -> bool
+    ensures { result ≡ are_all_labels (members_view members.now.entries) }
+{
+    for (key, value) in members {
+        if !is_label(key.as_str(), value) {
+            return false;
+        }
+    }
+    true
+}
+
+fn is_label(key: &str, value: &Value) -> bool
+    ensures { result ≡ (is_label_key key.now && is_label_value (view value.now)) }
+{
+    is_label_key(key.as_bytes()) && is_label_value(value)
+}
+
+fn is_label_key(key: &[u8]) -> bool
+    ensures { result ≡ is_label_key key.now }
+{
+    !key.is_empty() && key.len() <= MOST_KEY_BYTES && are_label_bytes(key)
+}
+
+fn are_label_bytes(bytes: &[u8]) -> bool
+    ensures { result ≡ list_all is_label_byte bytes.now }
+{
+    bytes.iter().all(|&byte| is_label_byte(byte))
+}
+
+/// Whether it is a letter, a digit, `_`, `.`, `-` or `/`.
+fn is_label_byte(byte: u8) -> bool
+    ensures { result ≡ is_label_byte byte }
+{
+    byte.is_ascii_alphanumeric() || byte == b'_' || byte == b'.' || byte == b'-' || byte == b'/'
+}
+
+fn is_label_value(value: &Value) -> bool
+    ensures { result ≡ is_label_value (view value.now) }
+{
+    match value.as_str() {
+        Some(text) => text.len() <= MOST_VALUE_BYTES,
+        None => false,
+    }
+}

@@ -1,0 +1,84 @@
+//! What the members of a JSON object hold. None of this takes memory.
+ghost use Rattle.std.specs.Prelude.{◌≡◌, option_map};
+ghost use Rattle.serde_json.specs.View.{view, items_view};
+ghost use Rattle.cni_types.specs.Reading.{demand as demanded, text_of as text_in, text_at as text_of_name, inside as found_inside, is_object as is_an_object, is_object_at as has_object, is_text_at as has_text, is_name_at as has_name, are_few as are_at_most_64};
+
+use crate::refusal::{Member, Variable};
+use ipam_addr::is_name;
+use serde_json::Value;
+
+const MOST_ITEMS: usize = 64;
+
+/// The fault, unless it passes.
+pub(crate) fn demand(passes: bool, member: Member) -> Result<(), Member>
+    ensures { result ≡ demanded passes member }
+{
+    if passes { Ok(()) } else { Err(member) }
+}
+
+/// The fault, unless it passes.
+pub(crate) fn demand_variable(passes: bool, variable: Variable) -> Result<(), Variable>
+    ensures { result ≡ demanded passes variable }
+{
+    if passes { Ok(()) } else { Err(variable) }
+}
+
+/// The text, or the empty one where it is no text.
+pub(crate) fn text_of(value: &Value) -> &str
+    ensures { result.now ≡ text_in (view value.now) }
+{
+    match value.as_str() {
+        Some(text) => text,
+        None => "",
+    }
+}
+
+/// The text of this name, or the empty one.
+pub(crate) fn text_at<'a>(value: &'a Value, name: &str) -> &'a str
+    ensures { result.now ≡ text_of_name name.now (view value.now) }
+{
+    match value.get(name).and_then(Value::as_str) {
+        Some(text) => text,
+        None => "",
+    }
+}
+
+/// The member of a member.
+pub(crate) fn inside<'a>(value: &'a Value, outer: &str, name: &str) -> Option<&'a Value>
+    ensures { option_map (λ v. view v.now) result
+        ≡ found_inside outer.now name.now (view value.now) }
+{
+    let object = value.get(outer)?;
+    object.get(name)
+}
+
+pub(crate) fn is_object(value: &Value) -> bool
+    ensures { result ≡ is_an_object (view value.now) }
+{
+    value.as_object().is_some()
+}
+
+pub(crate) fn is_object_at(value: &Value, name: &str) -> bool
+    ensures { result ≡ has_object name.now (view value.now) }
+{
+    value.get(name).and_then(Value::as_object).is_some()
+}
+
+pub(crate) fn is_text_at(value: &Value, name: &str) -> bool
+    ensures { result ≡ has_text name.now (view value.now) }
+{
+    value.get(name).and_then(Value::as_str).is_some()
+}
+
+pub(crate) fn is_name_at(value: &Value, name: &str) -> bool
+    ensures { result ≡ has_name name.now (view value.now) }
+{
+    is_name(text_at(value, name).as_bytes())
+}
+
+#[tactic(auto, using(crate::proofs::Counts::items_counted))]
+pub(crate) fn are_few(items: &[Value]) -> bool
+    ensures { result ≡ are_at_most_64 (items_view items.now) }
+{
+    items.len() <= MOST_ITEMS
+}
