@@ -2,3 +2,8 @@
 pub mod Floats
 pub mod Lives
 pub mod Ascending
+pub mod SoundTests
+pub mod Bytes
+pub mod Gets
+pub mod Canonical
+pub mod ReadBack

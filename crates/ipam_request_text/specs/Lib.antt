@@ -4,3 +4,7 @@ pub mod Members
 pub mod Requests
 pub mod Live
 pub mod Naming
+pub mod Shapes
+pub mod Fields
+pub mod Tests
+pub mod Reading

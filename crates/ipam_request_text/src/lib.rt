@@ -2,14 +2,19 @@
 #![tactic(auto)]
 
 mod fault;
+mod fields;
 pub mod laws;
 mod live;
 mod members;
+mod objects;
 mod parts;
+mod reading;
 mod request;
+mod shape;
 mod sound;
 
 pub use fault::AskFault;
 pub use live::read_live;
+pub use reading::{read_request, read_request_text};
 pub use request::{push_live, push_request};
-pub use sound::is_sound;
+pub use sound::{are_ids, is_sound};

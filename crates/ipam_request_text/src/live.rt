@@ -33,7 +33,7 @@ fn live_found(alloc: Global, text: &str) -> Result<Option<Vec<Text>>, AllocError
 }
 
 /// The JSON of a text, where it is some.
-fn json_of(alloc: Global, text: &str) -> Result<Option<Value>, AllocError>
+pub(crate) fn json_of(alloc: Global, text: &str) -> Result<Option<Value>, AllocError>
     ensures { IfOk result (λ o. option_map view o ≡ read text.now) }
 {
     match Value::from_str(alloc, text) {

@@ -8,6 +8,7 @@ ghost use Rattle.ipam_addr.specs.Width.{IsAddress, IsCidr};
 ghost use Rattle.ipam_record_text.specs.Pools.{IsSoundPool};
 ghost use Rattle.ipam_records.specs.Sound.{IsName, IsHandleId, IsPair, AreAttributes, IsReservation};
 ghost use Rattle.ipam_request_text.specs.Naming.{WritesCidr};
+ghost use Rattle.ipam_request_text.specs.Tests.{is_sound_request};
 ghost use Rattle.ipam_model.specs.SoundRequest.{is_label_byte, IsLabel, AreLabels, IsPoolName, ArePoolNames, IsSoundAdd, IsSoundProbe, IsScope, IsSoundCollect, IsSoundChange, IsSoundRequest};
 
 use ipam_addr::{Addr, Cidr, is_handle_id, is_name, read_cidr};
@@ -29,6 +30,13 @@ const MOST_LABEL_VALUE_BYTES: usize = 253;
 
 /// Whether the request can be read of some text. Takes no memory.
 pub fn is_sound(request: &Request) -> bool
+    ensures exact { IsTrue result ↔ IsSoundRequest request.now }
+    ensures value { result ≡ is_sound_request request.now }
+{
+    is_sound_of(request)
+}
+
+fn is_sound_of(request: &Request) -> bool
     ensures { IsTrue result ↔ IsSoundRequest request.now }
 {
     match request {
@@ -120,7 +128,8 @@ fn is_id(text: &Text) -> bool
     is_handle_id(text.as_bytes())
 }
 
-fn are_ids(texts: &[Text]) -> bool
+/// Whether each text is the id of a handle, as in a list of live handles. Takes no memory.
+pub fn are_ids(texts: &[Text]) -> bool
     ensures { IsTrue result ↔ All IsHandleId texts.now }
 {
     texts.iter().all(is_id)

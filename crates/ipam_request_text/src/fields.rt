@@ -1,0 +1,334 @@
+//! What the members of a request's objects hold.
+ghost use Rattle.std.specs.Prelude.{◌≡◌, [], ◌∷◌, ◌++◌, IfOk, option_map};
+ghost use Rattle.serde_json.specs.View.{view, items_view, members_view};
+ghost use Rattle.ipam_record_text.specs.Reading.{truth_at, text_at, items_at, in_32_bits};
+ghost use Rattle.ipam_record_text.specs.Rules.{selector_of};
+ghost use Rattle.ipam_request_text.specs.Fields.{truth_or, whole_or_0, number_in, number_or_0, in_8_bits, small_at, texts_after, texts_in, texts_or_none, pairs_after, pairs_in, pairs_or_none, address_in, addresses_after, cidr_of, cidr_in, cidr_at, cidrs_after, mode_named, mode_in, mode_or, selector_in, selector_or, named_scope, scope_in, scope_or};
+
+use crate::shape::{Shape, are_known};
+use ipam_addr::{Addr, Cidr, read_addr, read_cidr};
+use ipam_pool::Mode;
+use ipam_select::{NodeSelector, SelectFault, Selector};
+use ipam_text::{Seq, Text};
+use serde_json::{Map, Value};
+use std::alloc::{AllocError, Global};
+
+/// The `true` or `false` of this name.
+pub(crate) fn truth_at(value: &Value, name: &str) -> Option<bool>
+    ensures { result ≡ truth_at name.now (view value.now) }
+{
+    value.get(name).and_then(Value::as_bool)
+}
+
+/// The text of this name.
+pub(crate) fn text_at<'a>(value: &'a Value, name: &str) -> Option<&'a str>
+    ensures { option_map (λ t. t.now) result ≡ text_at name.now (view value.now) }
+{
+    value.get(name).and_then(Value::as_str)
+}
+
+/// The items of the array of this name.
+pub(crate) fn items_at<'a>(value: &'a Value, name: &str) -> Option<&'a [Value]>
+    ensures { option_map (λ l. items_view l.now) result ≡ items_at name.now (view value.now) }
+{
+    match value.get(name).and_then(Value::as_array) {
+        Some(list) => Some(list.as_slice()),
+        None => None,
+    }
+}
+
+/// The `true` or `false` of this name, or what a request has without it.
+pub(crate) fn truth_or(value: &Value, name: &str, missing: bool) -> Option<bool>
+    ensures { result ≡ truth_or missing name.now (view value.now) }
+{
+    match value.get(name) {
+        Some(found) => found.as_bool(),
+        None => Some(missing),
+    }
+}
+
+/// The whole number of this name, or 0 where there is none.
+pub(crate) fn whole_or_0(value: &Value, name: &str) -> Option<u64>
+    ensures { result ≡ whole_or_0 name.now (view value.now) }
+{
+    match value.get(name) {
+        Some(found) => found.as_u64(),
+        None => Some(0),
+    }
+}
+
+/// The whole number of this name, where 32 bits hold it, or 0 where there is none.
+pub(crate) fn number_or_0(value: &Value, name: &str) -> Option<u32>
+    ensures { result ≡ number_or_0 name.now (view value.now) }
+{
+    match value.get(name) {
+        Some(found) => number_in(found),
+        None => Some(0),
+    }
+}
+
+fn number_in(value: &Value) -> Option<u32>
+    ensures { result ≡ number_in (view value.now) }
+{
+    in_32_bits(value.as_u64()?)
+}
+
+fn in_32_bits(number: u64) -> Option<u32>
+    ensures { result ≡ in_32_bits number }
+{
+    u32::try_from(number).ok()
+}
+
+/// The whole number of this name, where 8 bits hold it.
+pub(crate) fn small_at(value: &Value, name: &str) -> Option<u8>
+    ensures { result ≡ small_at name.now (view value.now) }
+{
+    in_8_bits(value.get(name).and_then(Value::as_u64)?)
+}
+
+fn in_8_bits(number: u64) -> Option<u8>
+    ensures { result ≡ in_8_bits number }
+{
+    u8::try_from(number).ok()
+}
+
+/// The texts of the array.
+pub(crate) fn texts_in(alloc: Global, value: &Value) -> Result<Option<Seq<Text>>, AllocError>
+    ensures { IfOk result (λ found. found ≡ texts_in (view value.now)) }
+{
+    match value.as_array() {
+        Some(items) => texts_of(alloc, items.as_slice()),
+        None => Ok(None),
+    }
+}
+
+fn texts_of(alloc: Global, items: &[Value]) -> Result<Option<Seq<Text>>, AllocError>
+    ensures { IfOk result (λ found. found ≡ texts_after [] (items_view items.now)) }
+{
+    let mut texts = Vec::new(alloc);
+    for item in items {
+        let Some(text) = item.as_str() else {
+            return Ok(None);
+        };
+        texts.push(Text::copied(alloc, text)?)?;
+    }
+    Ok(Some(Seq::of(texts)))
+}
+
+/// The texts of the array of this name, or none where it is missing.
+pub(crate) fn texts_or_none(
+    alloc: Global,
+    value: &Value,
+    name: &str,
+) -> Result<Option<Seq<Text>>, AllocError>
+    ensures { IfOk result (λ found. found ≡ texts_or_none name.now (view value.now)) }
+{
+    match value.get(name) {
+        Some(found) => texts_in(alloc, found),
+        None => Ok(Some(Seq::new(alloc))),
+    }
+}
+
+fn pairs_in(alloc: Global, value: &Value) -> Result<Option<Seq<(Text, Text)>>, AllocError>
+    ensures { IfOk result (λ found. found ≡ pairs_in (view value.now)) }
+{
+    match value.as_object() {
+        Some(members) => pairs_of(alloc, members),
+        None => Ok(None),
+    }
+}
+
+fn pairs_of(
+    alloc: Global,
+    members: &Map<String, Value>,
+) -> Result<Option<Seq<(Text, Text)>>, AllocError>
+    ensures { IfOk result
+        (λ found. found ≡ pairs_after [] (members_view members.now.entries)) }
+{
+    let mut pairs = Vec::new(alloc);
+    for (key, member) in members {
+        let Some(value) = member.as_str() else {
+            return Ok(None);
+        };
+        let pair = pair_of(alloc, key.as_str(), value)?;
+        pairs.push(pair)?;
+    }
+    Ok(Some(Seq::of(pairs)))
+}
+
+fn pair_of(alloc: Global, key: &str, value: &str) -> Result<(Text, Text), AllocError>
+    ensures { IfOk result (λ pair. pair ≡ (key.now, value.now)) }
+{
+    let key = Text::copied(alloc, key)?;
+    let value = Text::copied(alloc, value)?;
+    Ok((key, value))
+}
+
+/// The members of the object of this name, which are texts, or none where it is missing.
+pub(crate) fn pairs_or_none(
+    alloc: Global,
+    value: &Value,
+    name: &str,
+) -> Result<Option<Seq<(Text, Text)>>, AllocError>
+    ensures { IfOk result (λ found. found ≡ pairs_or_none name.now (view value.now)) }
+{
+    match value.get(name) {
+        Some(found) => pairs_in(alloc, found),
+        None => Ok(Some(Seq::new(alloc))),
+    }
+}
+
+/// The address whose text the value is.
+pub(crate) fn address_in(value: &Value) -> Option<Addr>
+    ensures { result ≡ address_in (view value.now) }
+{
+    let text = value.as_str()?;
+    read_addr(text.as_bytes()).ok()
+}
+
+/// The addresses whose texts the items are.
+pub(crate) fn addresses_of(alloc: Global, items: &[Value]) -> Result<Option<Seq<Addr>>, AllocError>
+    ensures { IfOk result (λ found. found ≡ addresses_after [] (items_view items.now)) }
+{
+    let mut addresses = Vec::new(alloc);
+    for item in items {
+        let Some(address) = address_in(item) else {
+            return Ok(None);
+        };
+        addresses.push(address)?;
+    }
+    Ok(Some(Seq::of(addresses)))
+}
+
+fn cidr_of(text: &str) -> Option<Cidr>
+    ensures { result ≡ cidr_of text.now }
+{
+    match read_cidr(text.as_bytes()) {
+        Ok(cidr) => Some(cidr),
+        Err(_) => None,
+    }
+}
+
+/// The CIDR whose text has this name.
+pub(crate) fn cidr_at(value: &Value, name: &str) -> Option<Cidr>
+    ensures { result ≡ cidr_at name.now (view value.now) }
+{
+    let found = value.get(name)?;
+    cidr_in(found)
+}
+
+fn cidr_in(value: &Value) -> Option<Cidr>
+    ensures { result ≡ cidr_in (view value.now) }
+{
+    let text = value.as_str()?;
+    cidr_of(text)
+}
+
+/// The CIDRs whose texts the items are.
+pub(crate) fn cidrs_of(alloc: Global, items: &[Value]) -> Result<Option<Seq<Cidr>>, AllocError>
+    ensures { IfOk result (λ found. found ≡ cidrs_after [] (items_view items.now)) }
+{
+    let mut cidrs = Vec::new(alloc);
+    for item in items {
+        let Some(cidr) = cidr_in(item) else {
+            return Ok(None);
+        };
+        cidrs.push(cidr)?;
+    }
+    Ok(Some(Seq::of(cidrs)))
+}
+
+/// The mode of a pool: automatic where none is given.
+pub(crate) fn mode_or(value: &Value) -> Option<Mode>
+    ensures { result ≡ mode_or (view value.now) }
+{
+    match value.get("mode") {
+        Some(found) => mode_in(found),
+        None => Some(Mode::Automatic),
+    }
+}
+
+fn mode_in(value: &Value) -> Option<Mode>
+    ensures { result ≡ mode_in (view value.now) }
+{
+    let text = value.as_str()?;
+    mode_named(text)
+}
+
+fn mode_named(text: &str) -> Option<Mode>
+    ensures { result ≡ mode_named text.now }
+{
+    if text == "Automatic" {
+        Some(Mode::Automatic)
+    } else if text == "Manual" {
+        Some(Mode::Manual)
+    } else {
+        None
+    }
+}
+
+/// The selector of a pool: all nodes where none is given.
+pub(crate) fn selector_or(alloc: Global, value: &Value) -> Result<Option<NodeSelector>, AllocError>
+    ensures { IfOk result (λ found. found ≡ selector_or (view value.now)) }
+{
+    match value.get("selector") {
+        Some(found) => selector_in(alloc, found),
+        None => Ok(Some(NodeSelector::all(alloc))),
+    }
+}
+
+fn selector_in(alloc: Global, value: &Value) -> Result<Option<NodeSelector>, AllocError>
+    ensures { IfOk result (λ found. found ≡ selector_in (view value.now)) }
+{
+    match value.as_str() {
+        Some(text) => selector_of(alloc, text),
+        None => Ok(None),
+    }
+}
+
+fn selector_of(alloc: Global, text: &str) -> Result<Option<NodeSelector>, AllocError>
+    ensures { IfOk result (λ found. found ≡ selector_of text.now) }
+{
+    match Selector::read(alloc, text.as_bytes()) {
+        Ok(selector) => Ok(Some(NodeSelector::new(alloc, selector))),
+        Err(SelectFault::Form) => Ok(None),
+        Err(SelectFault::Long) => Ok(None),
+        Err(SelectFault::Memory) => Err(AllocError),
+    }
+}
+
+/// The scope of a collection, or that there is none.
+pub(crate) fn scope_or(
+    alloc: Global,
+    value: &Value,
+) -> Result<Option<Option<(Text, Text)>>, AllocError>
+    ensures { IfOk result (λ found. found ≡ scope_or (view value.now)) }
+{
+    match value.get("scope") {
+        Some(found) => scope_in(alloc, found),
+        None => Ok(Some(None)),
+    }
+}
+
+fn scope_in(alloc: Global, value: &Value) -> Result<Option<Option<(Text, Text)>>, AllocError>
+    ensures { IfOk result (λ found. found ≡ scope_in (view value.now)) }
+{
+    match named_scope(value) {
+        Some((network, node)) => Ok(Some(Some(pair_of(alloc, network, node)?))),
+        None => Ok(None),
+    }
+}
+
+#[tactic(auto, unfolding(crate::specs::Fields::named_scope))]
+fn named_scope(value: &Value) -> Option<(&str, &str)>
+    ensures { option_map (λ pair. (pair.0.now, pair.1.now)) result
+        ≡ named_scope (view value.now) }
+{
+    let members = value.as_object()?;
+    if !are_known(Shape::Scope, members) {
+        return None;
+    }
+    let network = text_at(value, "network")?;
+    let node = text_at(value, "node")?;
+    Some((network, node))
+}

@@ -1,0 +1,113 @@
+//! Requests are read.
+ghost use Rattle.std.specs.Prelude.{◌≡◌, [], Err, Some, None, IfOk, IfSome, option_map};
+ghost use Rattle.serde_json.specs.View.{view, members_view};
+ghost use Rattle.ipam_model.specs.SoundRequest.{IsSoundRequest};
+ghost use Rattle.ipam_request_text.specs.Reading.{only_member, known_in, named_in, request_in, request_reading, request_of_bytes};
+
+use crate::fault::AskFault;
+use crate::live::json_of;
+use crate::objects::shaped_in;
+use crate::shape::{Shape, are_known, shape_named};
+use crate::sound::is_sound;
+use ipam_model::Request;
+use serde_json::{Map, Value};
+use std::alloc::{AllocError, Global};
+
+/// The request whose text this is, in any spelling of its JSON. Members that a request does not
+/// have are refused, and of a member that is given twice the last one counts. What is read is
+/// sound, and each sound request is read of its printed text.
+///
+/// Fails with `Unreadable` where the text is no request's, and with `Memory`.
+#[tactic(auto, using(crate::proofs::Bytes::bytes_of_text, crate::proofs::Bytes::bytes_of_no_text))]
+pub fn read_request(alloc: Global, text: &[u8]) -> Result<Request, AskFault>
+    ensures read { IfOk result (λ request. request_of_bytes text.now ≡ Some request) }
+    ensures unreadable { result ≡ Err AskFault.Unreadable → request_of_bytes text.now ≡ None }
+    ensures sound { IfOk result IsSoundRequest }
+{
+    match str::from_utf8(text) {
+        Ok(text) => read_request_text(alloc, text),
+        Err(_) => Err(AskFault::Unreadable),
+    }
+}
+
+/// The same of a text that is known to be UTF-8.
+pub fn read_request_text(alloc: Global, text: &str) -> Result<Request, AskFault>
+    ensures read { IfOk result (λ request. request_reading text.now ≡ Some request) }
+    ensures unreadable { result ≡ Err AskFault.Unreadable → request_reading text.now ≡ None }
+    ensures sound { IfOk result IsSoundRequest }
+{
+    match request_found(alloc, text) {
+        Ok(Some(request)) => Ok(request),
+        Ok(None) => Err(AskFault::Unreadable),
+        Err(_) => Err(AskFault::Memory),
+    }
+}
+
+#[tactic(auto, unfolding(crate::specs::Reading::request_reading))]
+fn request_found(alloc: Global, text: &str) -> Result<Option<Request>, AllocError>
+    ensures read { IfOk result (λ found. found ≡ request_reading text.now) }
+    ensures sound { IfOk result (λ found. IfSome found IsSoundRequest) }
+{
+    let Some(json) = json_of(alloc, text)? else {
+        return Ok(None);
+    };
+    let Some(request) = request_in(alloc, &json)? else {
+        return Ok(None);
+    };
+    if is_sound(&request) {
+        Ok(Some(request))
+    } else {
+        Ok(None)
+    }
+}
+
+/// The request that the JSON holds, sound or not.
+#[tactic(auto, unfolding(crate::specs::Reading::request_in))]
+fn request_in(alloc: Global, json: &Value) -> Result<Option<Request>, AllocError>
+    ensures { IfOk result (λ found. found ≡ request_in (view json.now)) }
+{
+    let Some(members) = json.as_object() else {
+        return Ok(None);
+    };
+    let Some((name, value)) = only_member(members) else {
+        return Ok(None);
+    };
+    named_in(alloc, name, value)
+}
+
+/// The name and the value of the one member.
+fn only_member(members: &Map<String, Value>) -> Option<(&str, &Value)>
+    ensures { option_map (λ only. (only.0.now, view only.1.now)) result
+        ≡ only_member (members_view members.now.entries) }
+{
+    let mut entries = members.iter();
+    let (name, value) = entries.next()?;
+    if entries.next().is_some() {
+        return None;
+    }
+    Some((name.as_str(), value))
+}
+
+#[tactic(auto, unfolding(crate::specs::Reading::named_in))]
+fn named_in(alloc: Global, name: &str, value: &Value) -> Result<Option<Request>, AllocError>
+    ensures { IfOk result (λ found. found ≡ named_in name.now (view value.now)) }
+{
+    match shape_named(name) {
+        Some(shape) => known_in(alloc, shape, value),
+        None => Ok(None),
+    }
+}
+
+#[tactic(auto, unfolding(crate::specs::Reading::known_in))]
+fn known_in(alloc: Global, shape: Shape, value: &Value) -> Result<Option<Request>, AllocError>
+    ensures { IfOk result (λ found. found ≡ known_in shape (view value.now)) }
+{
+    let Some(members) = value.as_object() else {
+        return Ok(None);
+    };
+    if are_known(shape, members) {
+        shaped_in(alloc, shape, value)
+    } else {
+        Ok(None)
+    }
+}

@@ -1,0 +1,134 @@
+//! Which members each object of a request may have.
+ghost use Rattle.std.specs.Prelude.{◌≡◌};
+ghost use Rattle.serde_json.specs.View.{members_view};
+ghost use Rattle.ipam_request_text.specs.Shapes.{in_probe, in_add, in_collect, in_pool, in_config, may_have, are_known, change_named, shape_named};
+
+use serde_json::{Map, Value};
+
+/// An object of a request, by the members that it may have: those under the names of requests, and
+/// the scope of a collection.
+#[derive(Clone, Copy)]
+pub enum Shape {
+    Add,
+    Del,
+    Check,
+    Release,
+    Collect,
+    Probe,
+    Pool,
+    Disable,
+    Reserve,
+    Unreserve,
+    Config,
+    Scope,
+}
+
+/// The shape of the object that stands under this name in a request.
+pub(crate) fn shape_named(name: &str) -> Option<Shape>
+    ensures { result ≡ shape_named name.now }
+{
+    if name == "add" {
+        Some(Shape::Add)
+    } else if name == "del" {
+        Some(Shape::Del)
+    } else if name == "check" {
+        Some(Shape::Check)
+    } else if name == "release" {
+        Some(Shape::Release)
+    } else if name == "collect" {
+        Some(Shape::Collect)
+    } else if name == "probe" {
+        Some(Shape::Probe)
+    } else {
+        change_named(name)
+    }
+}
+
+fn change_named(name: &str) -> Option<Shape>
+    ensures { result ≡ change_named name.now }
+{
+    if name == "pool" {
+        Some(Shape::Pool)
+    } else if name == "disable" {
+        Some(Shape::Disable)
+    } else if name == "reserve" {
+        Some(Shape::Reserve)
+    } else if name == "unreserve" {
+        Some(Shape::Unreserve)
+    } else if name == "config" {
+        Some(Shape::Config)
+    } else {
+        None
+    }
+}
+
+/// Whether no member is unknown.
+pub(crate) fn are_known(shape: Shape, members: &Map<String, Value>) -> bool
+    ensures { result ≡ are_known shape (members_view members.now.entries) }
+{
+    for (name, _) in members {
+        if !may_have(shape, name.as_str()) {
+            return false;
+        }
+    }
+    true
+}
+
+fn may_have(shape: Shape, name: &str) -> bool
+    ensures { result ≡ may_have shape name.now }
+{
+    match shape {
+        Shape::Add => in_add(name),
+        Shape::Del => name == "handle",
+        Shape::Check => name == "addresses" || name == "handle",
+        Shape::Release => name == "cidr" || name == "node",
+        Shape::Collect => in_collect(name),
+        Shape::Probe => in_probe(name),
+        Shape::Pool => in_pool(name),
+        Shape::Disable => name == "disabled" || name == "name",
+        Shape::Reserve => name == "cidrs" || name == "name",
+        Shape::Unreserve => name == "name",
+        Shape::Config => in_config(name),
+        Shape::Scope => name == "network" || name == "node",
+    }
+}
+
+fn in_probe(name: &str) -> bool
+    ensures { result ≡ in_probe name.now }
+{
+    name == "ipv4"
+        || name == "ipv6"
+        || name == "labels"
+        || name == "node"
+        || name == "pools4"
+        || name == "pools6"
+}
+
+fn in_add(name: &str) -> bool
+    ensures { result ≡ in_add name.now }
+{
+    in_probe(name) || name == "address" || name == "handle" || name == "secondary"
+}
+
+fn in_collect(name: &str) -> bool
+    ensures { result ≡ in_collect name.now }
+{
+    name == "at" || name == "grace" || name == "live" || name == "scope"
+}
+
+fn in_pool(name: &str) -> bool
+    ensures { result ≡ in_pool name.now }
+{
+    name == "cidr"
+        || name == "disabled"
+        || name == "mode"
+        || name == "name"
+        || name == "selector"
+        || name == "size"
+}
+
+fn in_config(name: &str) -> bool
+    ensures { result ≡ in_config name.now }
+{
+    name == "autoAllocateBlocks" || name == "maxBlocksPerHost" || name == "strictAffinity"
+}

@@ -1,0 +1,4 @@
+-- Lemmas for the lines of scripts.
+pub mod Bytes
+pub mod WordLemmas
+pub mod Cuts
