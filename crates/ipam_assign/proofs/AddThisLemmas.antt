@@ -100,10 +100,10 @@ pools_lead g left ruled (Some pool) is = ap (λ place. this_at (block_part g lef
 
 -- ---- each stage has a call to make
 
-asks_on : {A B : Type 0} (word : Word A) (follows : A → Word B) → IsSome (asked word) → IsSome (asked (bound word follows))
+pub asks_on : {A B : Type 0} (word : Word A) (follows : A → Word B) → IsSome (asked word) → IsSome (asked (bound word follows))
 asks_on word follows some = subst (λ call. IsSome call) (sym (asked_bound word follows some)) some
 
-asks_open : {A : Type 0} (word : Word A) → IsSome (asked word) → None ≡ ended word
+pub asks_open : {A : Type 0} (word : Word A) → IsSome (asked word) → None ≡ ended word
 asks_open (Ends answer) some = absurd (cc some)
 asks_open (Asks label call next) some = refl
 asks_open (Waits next) some = absurd (cc some)

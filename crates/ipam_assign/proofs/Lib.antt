@@ -1,8 +1,10 @@
-mod AssigningLemmas
-mod RoundLaws
-mod PlaceLemmas
-mod UsableLemmas
-mod AddThisLemmas
-mod FoundLemmas
-mod ScanningLemmas
-mod ProbeLemmas
+pub mod AssigningLemmas
+pub mod RoundLaws
+pub mod PlaceLemmas
+pub mod UsableLemmas
+pub mod AddThisLemmas
+pub mod FoundLemmas
+pub mod ScanningLemmas
+pub mod ProbeLemmas
+pub mod QueueLemmas
+pub mod PickedLemmas

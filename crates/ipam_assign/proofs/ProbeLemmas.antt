@@ -18,7 +18,7 @@ use Rattle.ipam_assign.specs.declared.scanning.Stage.{Stage}
 use Rattle.ipam_assign.specs.declared.scanning.Stage.TheVariants.{ReadsConfig, ReadsPools, ReadsReservations, ListsAffinities, ListsBlocks}
 use Rattle.ipam_parts.proofs.BoundLaws.{asked_bound, heard_bound, goes_on_bound}
 
-scanning_asks : (asked_by : Asked) (stage : Stage) → IsSome (asked (scanning_at asked_by stage))
+pub scanning_asks : (asked_by : Asked) (stage : Stage) → IsSome (asked (scanning_at asked_by stage))
 scanning_asks asked_by ReadsConfig = refl
 scanning_asks asked_by (ReadsPools configured) = refl
 scanning_asks asked_by (ReadsReservations pooled) = refl

@@ -7,3 +7,4 @@ pub mod Usable
 pub mod AddThis
 pub mod Scanning
 pub mod Probe
+pub mod Picked

@@ -3,13 +3,15 @@ ghost use Rattle.ipam_addr.specs.Holding.{Holds};
 ghost use Rattle.ipam_addr.specs.Slots.{HasSlots};
 ghost use Rattle.ipam_addr.specs.Width.{cidr_size};
 ghost use Rattle.ipam_block.specs.declared.limits.TheConstants.{ADDRESSES_MAX};
+ghost use Rattle.ipam_block.specs.Operations.{address_of};
 ghost use Rattle.ipam_assign.specs.Place.{place_in};
 
 use ipam_addr::{Addr, Cidr, slot, slot_number};
+use ipam_block::Block;
 use std::marker::Model;
 
 /// An address, and the slot that holds it.
-#[derive(Debug, Drop)]
+#[derive(Clone, Copy, Debug)]
 pub struct Place {
     cidr: Cidr,
     address: Addr,
@@ -27,6 +29,8 @@ impl Model for Place {
     ghost view = { λ p. record { cidr = p.cidr; address = p.address } };
 
     ghost invariant = { λ p. (cidr_size p.cidr ≤ ADDRESSES_MAX) × Holds p.cidr p.address };
+
+    ghost inverse = { λ p. record { cidr = p.cidr; address = p.address } };
 }
 
 impl Place {
@@ -40,6 +44,17 @@ impl Place {
             cidr: slot(pool, size, number),
             address,
         })
+    }
+
+    /// That of an ordinal of a block.
+    pub fn in_block(block: &Block, ordinal: u16) -> Place
+        requires { ordinal < cidr_size block.now.cidr }
+        ensures { result ≡ record { cidr = block.now.cidr; address = address_of block.now.cidr ordinal } }
+    {
+        Place {
+            cidr: block.cidr(),
+            address: block.address(ordinal),
+        }
     }
 
     pub fn cidr(&self) -> Cidr

@@ -1,8 +1,10 @@
 ghost use Rattle.std.specs.Prelude.{◌≡◌, IfOk, Some};
+ghost use Rattle.ipam_records.specs.Hearing.{MayHear};
 ghost use Rattle.ipam_records.specs.Said.{said};
 ghost use Rattle.ipam_records.specs.Word.{asked as asked_for, heard};
 ghost use Rattle.ipam_choice.specs.Viewed.{asked_of};
 ghost use Rattle.ipam_model.specs.Usable.{Asked};
+ghost use Rattle.ipam_assign.specs.Picked.{FitsScanned};
 ghost use Rattle.ipam_assign.specs.Scanning.{scanning_at, scanned_as, learn, pools_read, reservations_read, affinities_listed};
 ghost use Rattle.ipam_assign.specs.declared.scanning.Configured.{Configured as TheConfigured};
 ghost use Rattle.ipam_assign.specs.declared.scanning.Pooled.{Pooled as ThePooled};
@@ -108,15 +110,17 @@ impl Scanning {
         }
     }
 
-    /// Where the reply leads.
+    /// Where the reply leads. What is picked by what a sound datastore may answer can be written.
     pub fn took<'a>(
         &self,
         alloc: Global,
         wanted: &Wanted,
         hearing: &Heard<'a>,
     ) -> Result<Scanned<'a>, AllocError>
-        ensures { IfOk result (λ scanned. scanned_as (asked_of wanted.now) self.now.stage scanned
+        ensures leads { IfOk result (λ scanned. scanned_as (asked_of wanted.now) self.now.stage scanned
             ≡ heard (scanning_at (asked_of wanted.now) self.now.stage) hearing.now.moment (said hearing.now.reply)) }
+        ensures fits { IfOk result (λ scanned.
+            MayHear (scanning_at (asked_of wanted.now) self.now.stage) (said hearing.now.reply) → FitsScanned scanned) }
     {
         match &self.stage {
             Stage::ReadsConfig => Ok(Scanned::Learned(Learned::config(hearing))),
@@ -258,11 +262,14 @@ impl Reserving {
 impl Gathered {
     /// What is picked, once the blocks are listed.
     fn chosen<'a>(&self, wanted: &Wanted, hearing: &Heard<'a>) -> Scanned<'a>
-        ensures { scanned_as (asked_of wanted.now) (ListsBlocks self.now) result
+        ensures leads { scanned_as (asked_of wanted.now) (ListsBlocks self.now) result
             ≡ heard (scanning_at (asked_of wanted.now) (ListsBlocks self.now)) hearing.now.moment (said hearing.now.reply) }
+        ensures fits { MayHear (scanning_at (asked_of wanted.now) (ListsBlocks self.now)) (said hearing.now.reply) → FitsScanned result }
     {
         let reserving = &self.reserving;
         let pooled = &reserving.pooled;
+        // Whose slots are blocks' CIDRs.
+        let _pools = pooled.pools.pools();
         let known = Known {
             config: pooled.configured.config,
             pools: &pooled.pools,
