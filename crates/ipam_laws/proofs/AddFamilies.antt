@@ -244,7 +244,7 @@ serve-comes request family left trail is_for = rounds-come request family (left.
 -- ---- what is freed again
 
 -- what lasts under each step more lasts to the end of a word
-comes-lasting : {A : Type 0} → (Q : Trail → A → Type 0) (K : Trail → Type 0) → ((trail : Trail) (step : Step) → K trail → K (step ∷ trail)) → (w : Word A) (trail : Trail) → K trail → Comes Q trail w → Comes (λ longer a. Q longer a × K longer) trail w
+pub comes-lasting : {A : Type 0} → (Q : Trail → A → Type 0) (K : Trail → Type 0) → ((trail : Trail) (step : Step) → K trail → K (step ∷ trail)) → (w : Word A) (trail : Trail) → K trail → Comes Q trail w → Comes (λ longer a. Q longer a × K longer) trail w
 comes-lasting Q K lasts (Ends answer) trail k h = (h, k)
 comes-lasting Q K lasts (Asks label asked next) trail k h = λ moment store agrees.
     comes-lasting Q K lasts (next moment (reply_of store asked)) (Did moment store asked ∷ trail) (lasts trail (Did moment store asked) k) (h moment store agrees)

@@ -72,3 +72,10 @@ pub mod LeaksFound
 pub mod OwnersHistory
 pub mod CheckAnswers
 pub mod ProbeAnswers
+pub mod HeardAnswers
+pub mod Losses
+pub mod StopParts
+pub mod StopRequests
+pub mod StopHistory
+pub mod HeardRight
+pub mod RightHistory
