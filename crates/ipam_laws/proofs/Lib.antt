@@ -78,4 +78,9 @@ pub mod StopParts
 pub mod StopRequests
 pub mod StopHistory
 pub mod HeardRight
+pub mod ThisTrails
+pub mod CalmHistory
+pub mod ThisRight
+pub mod Recorded
+pub mod ThisGiven
 pub mod RightHistory

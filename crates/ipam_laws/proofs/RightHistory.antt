@@ -20,7 +20,7 @@ use Rattle.ipam_model.specs.Consistent.{IsConsistent}
 use Rattle.ipam_model.specs.History.{Lawful, cluster_at, now}
 use Rattle.ipam_model.specs.Moments.{request_in}
 use Rattle.ipam_model.specs.Requests.{word_of}
-use Rattle.ipam_laws.specs.RightAnswers.{ChangeAnswersLaw, IsAlwaysRight, IsStoppedRight, ReleaseAnswersLaw, StopLaw, WholeProbeLaw}
+use Rattle.ipam_laws.specs.RightAnswers.{ChangeAnswersLaw, IsAlwaysRight, IsStoppedRight, ReleaseAnswersLaw, StopLaw, ThisAnswersLaw, WholeProbeLaw}
 use Rattle.ipam_laws.proofs.CheckAnswers.{OfCheck, check-comes, check-right}
 use Rattle.ipam_laws.proofs.FamilyHistory.{comes-any}
 use Rattle.ipam_laws.proofs.Fates.{faults}
@@ -28,6 +28,9 @@ use Rattle.ipam_laws.proofs.HeardRight.{OfChange, OfRelease, done-right, missed-
 use Rattle.ipam_laws.proofs.ProbeAnswers.{OfProbe, probe-comes, probe-right}
 use Rattle.ipam_laws.proofs.StopHistory.{IsStopRight, stopped-right}
 use Rattle.ipam_laws.proofs.StoreSteps.{failed-answered}
+use Rattle.ipam_laws.proofs.ThisGiven.{given-right, limit-right}
+use Rattle.ipam_laws.proofs.ThisRight.{calm-nothing, held-right, left-right, unpooled-right}
+use Rattle.ipam_laws.proofs.ThisTrails.{OfThis, told-this}
 use Rattle.ipam_laws.proofs.Trails.{AreCalls, Comes, IsTrail, Trail, answer-comes}
 
 -- ---- what requests say of their trails
@@ -37,6 +40,7 @@ Heard (Check id addresses) trail told = OfCheck id addresses trail told
 Heard (Release node cidr) trail told = OfRelease node cidr trail told
 Heard (Admin setting) trail told = OfChange setting trail told
 Heard (Probe request) trail told = OfProbe request trail told
+Heard (AddThis request address) trail told = OfThis request address trail told
 Heard _ trail told = Unit {0}
 
 hear : (request : Request) → Comes (Heard request) [] (word_of request)
@@ -46,7 +50,7 @@ hear (Release node cidr) = told-release node cidr
 hear (Admin setting) = told-change setting
 hear (Probe request) = probe-comes request
 hear (Add request) = comes-any (λ trail (told : Answer). Unit {0}) (λ trail told. tt) (word_of (Add request)) []
-hear (AddThis request address) = comes-any (λ trail (told : Answer). Unit {0}) (λ trail told. tt) (word_of (AddThis request address)) []
+hear (AddThis request address) = told-this request address
 hear (Del id) = comes-any (λ trail (told : Answer). Unit {0}) (λ trail told. tt) (word_of (Del id)) []
 hear (Collect request) = comes-any (λ trail (told : Answer). Unit {0}) (λ trail told. tt) (word_of (Collect request)) []
 
@@ -182,6 +186,38 @@ release_answers node cidr a c h is told requested given =
     right-if a told t (λ differ fate.
     let k = heard-of a told t differ fate in
     release-right a node cidr k.trail c h is k.is_trail k.calls told (subst (λ (r : Request). Heard r k.trail told) is k.heard) k.stop)
+
+this-right : (a : Answered) (request : AddRequest) (address : AddrValue) (trail : Trail) → IsConsistent a.base.store → Lawful a.base (history_of a) → a.request ≡ AddThis request address → IsTrail (span_of a) (now (span_of a)) trail → (told : Answer) → OfThis request address trail told → IsStopRight a told → IsRightAnswer a told
+unfolding OfThis IsStopRight
+this-right a request address trail c l is there (answer.AddedThis given) h s = (request, address, is, given-right a request address c l given trail there h)
+this-right a request address trail c l is there (answer.NotInPool moment) h s = (request, address, is, unpooled-right a request address c l moment trail there h)
+this-right a request address trail c l is there (answer.Taken id moment) h s = (request, address, is, held-right a request address c l id moment trail there h)
+this-right a request address trail c l is there (answer.NotAffine block moment) h s = (request, address, is, left-right a request address c l block moment trail there h)
+this-right a request address trail c l is there (answer.Again lost claims) h s = s
+this-right a request address trail c l is there answer.Full h s = (s, λ add adds. calm-nothing a trail c l there h)
+this-right a request address trail c l is there (answer.CountFull moment) h s = (request, inr (address, is), limit-right a request address c l moment trail is there h.0, calm-nothing a trail c l there h.1)
+this-right a request address trail c l is there answer.Spent h s = s
+this-right a request address trail c l is there (answer.Added given) h s = absurd h
+this-right a request address trail c l is there (answer.Exhausted scan) h s = absurd h
+this-right a request address trail c l is there (answer.NoPool called moment) h s = absurd h
+this-right a request address trail c l is there (answer.Deleted moment) h s = absurd h
+this-right a request address trail c l is there answer.Checked h s = absurd h
+this-right a request address trail c l is there (answer.NotRecorded other moment) h s = absurd h
+this-right a request address trail c l is there answer.Released h s = absurd h
+this-right a request address trail c l is there (answer.NoAffinity moment) h s = absurd h
+this-right a request address trail c l is there (answer.Collected collected) h s = absurd h
+this-right a request address trail c l is there (answer.Done revision) h s = absurd h
+this-right a request address trail c l is there (answer.Refused number about) h s = absurd h
+this-right a request address trail c l is there answer.Fault h s = absurd h
+this-right a request address trail c l is there (answer.Ready scans) h s = absurd h
+
+pub this_answers : ThisAnswersLaw
+unfolding Heard
+this_answers request address a c h is told requested given =
+    let t : IsThere a told = record { consistent = c; lawful = h; requested = requested; given = given } in
+    right-if a told t (λ differ fate.
+    let k = heard-of a told t differ fate in
+    this-right a request address k.trail c h is k.is_trail told (subst (λ (r : Request). Heard r k.trail told) is k.heard) k.stop)
 
 pub stop_law : StopLaw
 unfolding IsStopRight

@@ -5,10 +5,11 @@ use Rattle.ipam_records.specs.Sound.{IsDatastore}
 use Rattle.ipam_model.specs.declared.answer.Answer.{Answer}
 use Rattle.ipam_model.specs.declared.answer.Answer.TheVariants as answer
 use Rattle.ipam_model.specs.declared.entry.Told.TheVariants as told
+use Rattle.ipam_model.specs.declared.request.AddRequest.{AddRequest}
 use Rattle.ipam_model.specs.declared.request.Admin.{Admin}
 use Rattle.ipam_model.specs.declared.request.ProbeRequest.{ProbeRequest}
 use Rattle.ipam_model.specs.declared.request.Request.{Request}
-use Rattle.ipam_model.specs.declared.request.Request.TheVariants.{Release, Admin as Change, Probe}
+use Rattle.ipam_model.specs.declared.request.Request.TheVariants.{AddThis, Release, Admin as Change, Probe}
 use Rattle.ipam_model.specs.AnswerLaw.{IsAgain, IsAnsweredRight}
 use Rattle.ipam_model.specs.Answered.{Answered, history_of}
 use Rattle.ipam_model.specs.Consistent.{IsConsistent}
@@ -32,6 +33,10 @@ ChangeAnswersLaw = (admin : Admin) → IsAlwaysRight (Change admin)
 -- Whatever a probe is answered is right.
 abbrev pub WholeProbeLaw : Type 0
 WholeProbeLaw = (probe : ProbeRequest) → IsAlwaysRight (Probe probe)
+
+-- Whatever an ADD of one address is answered is right.
+abbrev pub ThisAnswersLaw : Type 0
+ThisAnswersLaw = (add : AddRequest) (address : AddrValue) → IsAlwaysRight (AddThis add address)
 
 -- what an answer says of why a request stopped
 pub record IsStoppedRight (a : Answered) : Type 0 where

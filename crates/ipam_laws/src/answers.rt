@@ -1,5 +1,5 @@
 //! Which answers requests have, and what they say.
-ghost use Rattle.ipam_laws.specs.RightAnswers.{ChangeAnswersLaw, ReleaseAnswersLaw, StopLaw, WholeProbeLaw};
+ghost use Rattle.ipam_laws.specs.RightAnswers.{ChangeAnswersLaw, ReleaseAnswersLaw, StopLaw, ThisAnswersLaw, WholeProbeLaw};
 ghost use Rattle.ipam_model.specs.AnswerLaw.{CheckAnswersLaw};
 ghost use Rattle.ipam_model.specs.CanAnswer.{CanAnswerLaw};
 ghost use Rattle.ipam_model.specs.FamilyLaw.{FamilyLaw};
@@ -40,6 +40,14 @@ pub fn a_release_is_answered_right()
 /// and written; refused, where what was read last refuses it; and why it stopped.
 pub fn a_change_is_answered_right()
     ensures { ChangeAnswersLaw }
+{}
+
+/// Whatever an ADD of one address is answered is right: the address was free in the block of its slot,
+/// by the rules that were read, and then recorded to the handle with a new stamp; or no usable pool
+/// holds it, or a handle has it, or its block is another node's. Where it is answered that there was no
+/// room or that a count is at its limit, nothing of it is owned.
+pub fn an_add_of_one_address_is_answered_right()
+    ensures { ThisAnswersLaw }
 {}
 
 /// A request is answered that it was tried too often where exactly so many races were lost and claims
