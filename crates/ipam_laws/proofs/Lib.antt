@@ -84,3 +84,5 @@ pub mod ThisRight
 pub mod Recorded
 pub mod ThisGiven
 pub mod RightHistory
+pub mod RightWhole
+pub mod FreeTrails
