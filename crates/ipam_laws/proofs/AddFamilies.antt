@@ -94,7 +94,7 @@ take-comes : (round : Round) (seen : Seen) (five : Trail) (left : Left) (slot : 
     → Comes (ServedEnds round.request round.scan.family) five (take_in round left (target_in found ordinal))
 unfolding ServedEnds AssignEnds
 take-comes round seen five left slot ordinal found r after picked known =
-    Comes-bound (AssignEnds five found.1.cidr.family round.request.attributes.handle) (ServedEnds round.request round.scan.family) (onward (after_assign round (target_in found ordinal))) (assign round.request.attributes (target_in found ordinal) left) five
+    Comes-bound (AssignEnds five round.request.attributes (target_in found ordinal)) (ServedEnds round.request round.scan.family) (onward (after_assign round (target_in found ordinal))) (assign round.request.attributes (target_in found ordinal) left) five
     (assign-comes five round.request.attributes (target_in found ordinal) left known.1)
     (ends (ap (λ (c : CidrValue). c.family) known.0 ∙ picked-family round.request round.scan seen slot ordinal picked))
   where
@@ -125,10 +125,10 @@ take-comes round seen five left slot ordinal found r after picked known =
           is_address = ap (λ (g : Given). g.address) is ∙ ap (λ (c : CidrValue). address_of c ordinal) known.0;
         }
 
-    ends : found.1.cidr.family ≡ round.scan.family → (trail : Trail) (outcome : Outcome (Option Assigned)) → AssignEnds five found.1.cidr.family round.request.attributes.handle trail outcome
+    ends : found.1.cidr.family ≡ round.scan.family → (trail : Trail) (outcome : Outcome (Option Assigned)) → AssignEnds five round.request.attributes (target_in found ordinal) trail outcome
         → Comes (ServedEnds round.request round.scan.family) trail (onward (after_assign round (target_in found ordinal)) outcome)
     ends own trail (Went now (Some done)) k =
-        let last : GivesLast five round.scan.family trail = subst (λ (f : Family). GivesLast five f trail) own k in
+        let last : GivesLast five round.scan.family trail = subst (λ (f : Family). GivesLast five f trail) own k.0 in
         (five, r.still_for, last, given trail (gift_of round.scan (target_in found ordinal) done).given refl last)
     ends own trail (Went now None) k = after now trail (quietly-for round.request round.scan.family five trail k r.still_for)
     ends own trail (Stops now OutOfTries) k = tt
@@ -161,7 +161,7 @@ claim-comes round seen five left slot read r after known =
   where
     ends : (trail : Trail) (outcome : Outcome (Unit {0})) → GoesQuietly five trail outcome → Comes (ServedEnds round.request round.scan.family) trail (onward (λ now done. round.next now) outcome)
     ends trail (Went now done) k = after now trail (quietly-for round.request round.scan.family five trail k r.still_for)
-    ends trail (Stops now why) k = otherwise-served round.request round.scan.family trail now why k
+    ends trail (Stops now why) k = otherwise-served round.request round.scan.family trail now why k.0
 
 rank-comes : (round : Round) (seen : Seen) (five : Trail) (left : Left) (slot : CidrValue) (rank : Rank) → InRound round.request round.scan seen five → NextServed round.request round.scan.family round.next
     → IsChoice (asked_of round.request round.scan.family) seen (choice_at slot rank) → HasRead (KnownAt five slot) rank
@@ -244,7 +244,7 @@ serve-comes request family left trail is_for = rounds-come request family (left.
 -- ---- what is freed again
 
 -- what lasts under each step more lasts to the end of a word
-comes-lasting : {A : Type 0} → (Q : Trail → A → Type 0) (K : Trail → Type 0) → ((trail : Trail) (step : Step) → K trail → K (step ∷ trail)) → (w : Word A) (trail : Trail) → K trail → Comes Q trail w → Comes (λ longer a. Q longer a × K longer) trail w
+pub comes-lasting : {A : Type 0} → (Q : Trail → A → Type 0) (K : Trail → Type 0) → ((trail : Trail) (step : Step) → K trail → K (step ∷ trail)) → (w : Word A) (trail : Trail) → K trail → Comes Q trail w → Comes (λ longer a. Q longer a × K longer) trail w
 comes-lasting Q K lasts (Ends answer) trail k h = (h, k)
 comes-lasting Q K lasts (Asks label asked next) trail k h = λ moment store agrees.
     comes-lasting Q K lasts (next moment (reply_of store asked)) (Did moment store asked ∷ trail) (lasts trail (Did moment store asked) k) (h moment store agrees)

@@ -15,6 +15,7 @@ use Rattle.ipam_handle.specs.Operations.{count_of, lowered, raised}
 use Rattle.ipam_records.specs.declared.call.Call.{Call}
 use Rattle.ipam_records.specs.declared.call.Call.TheVariants.{Get, Create, Update, Delete}
 use Rattle.ipam_records.specs.declared.key.Key.TheVariants as key
+use Rattle.ipam_records.specs.declared.record.Record.{Record}
 use Rattle.ipam_records.specs.declared.record.Record.TheVariants as record_of
 use Rattle.ipam_records.specs.Datastore.{Datastore, reply_of}
 use Rattle.ipam_records.specs.Label.{Credit}
@@ -23,6 +24,7 @@ use Rattle.ipam_records.specs.Word.{Word, Ends}
 use Rattle.ipam_model.specs.declared.outcome.ClaimAnswer.{ClaimAnswer}
 use Rattle.ipam_model.specs.declared.outcome.ClaimAnswer.TheVariants as claimed
 use Rattle.ipam_model.specs.Affinities.{BlockRead, affinity, claim, claim_block, claim_confirm, claim_found, claim_kept, claiming, on_claim_write}
+use Rattle.ipam_model.specs.AffinityLaw.{HasAt}
 use Rattle.ipam_model.specs.declared.part.Assigned.{Assigned}
 use Rattle.ipam_model.specs.Assigning.{Target, after_claim, after_confirmed, assign, assign_block, assign_lost, claim_for}
 use Rattle.ipam_model.specs.Counting.{Freeing, credit_of, free, free_found, free_once, free_these, lower, lower_once, lowering, most_count, raise, raise_once, raise_write, revision_said, written_or_deleted}
@@ -36,7 +38,7 @@ use Rattle.ipam_model.specs.declared.part.Stop.TheVariants.{OutOfTries, OutOfCla
 use Rattle.ipam_model.specs.declared.part.Outcome.TheVariants.{Went, Stops}
 use Rattle.ipam_model.specs.Step.{Part, after_lost, after_write, followed, goes, left_of, on_write, onward, stops, tries, write_back}
 use Rattle.ipam_laws.proofs.Trails.{AgreesAll, Comes, Comes-bound, Did, Trail}
-use Rattle.ipam_laws.proofs.AddTrails.{IsGift, IsQuiet, Knows, More, Quietly, Same, assign-gives, assign-only, create-quiet, knows-did, not-block, quietly-knows, update-quiet}
+use Rattle.ipam_laws.proofs.AddTrails.{IsGift, IsQuiet, Knows, More, Quietly, Same, Undone, assign-gives, assign-only, create-quiet, knows-did, not-block, quietly-knows, update-quiet}
 
 -- ---- what follows a write
 
@@ -62,26 +64,27 @@ NotLimit NoRevisions = Unit {0}
 -- a part that goes on quietly, or stops otherwise
 unfoldable pub GoesQuietly : {A : Type 0} → Trail → Trail → Outcome A → Type 0
 GoesQuietly origin trail (Went left a) = Quietly origin trail
-GoesQuietly origin trail (Stops left why) = NotLimit why
+GoesQuietly origin trail (Stops left why) = NotLimit why × Quietly origin trail
 
 -- a part that stops otherwise
 unfoldable pub StopsOtherwise : {A : Type 0} → Trail → Outcome A → Type 0
 StopsOtherwise trail (Went left a) = Unit {0}
 StopsOtherwise trail (Stops left why) = NotLimit why
 
--- the handle was read at the moment, quietly behind the trail, and last
-pub record ReadLast (origin : Trail) (id : List ℕ) (moment : ℕ) (trail : Trail) : Type 0 where
+-- the handle was read at the moment, quietly behind the trail, and last, and its count was at its limit
+pub record ReadLast (origin : Trail) (id : List ℕ) (cidr : CidrValue) (moment : ℕ) (trail : Trail) : Type 0 where
   pub store : Datastore
   pub between : Trail
   pub quiet : Quietly origin between
   pub is : trail ≡ Did moment store (Get (key.Handle id)) ∷ between
+  pub limit : nat_le most_count (count_of (handle_said id (reply_of store (Get (key.Handle id)))) cidr) ≡ true
 
 -- ---- raising
 
-unfoldable pub RaiseEnds : {A : Type 0} → List ℕ → Trail → Trail → Outcome A → Type 0
-RaiseEnds id origin trail (Went left a) = Quietly origin trail
-RaiseEnds id origin trail (Stops left (CountAtLimit moment)) = ReadLast origin id moment trail
-RaiseEnds id origin trail (Stops left why) = Unit {0}
+unfoldable pub RaiseEnds : {A : Type 0} → List ℕ → CidrValue → Trail → Trail → Outcome A → Type 0
+RaiseEnds id cidr origin trail (Went left a) = Quietly origin trail
+RaiseEnds id cidr origin trail (Stops left (CountAtLimit moment)) = ReadLast origin id cidr moment trail
+RaiseEnds id cidr origin trail (Stops left why) = Quietly origin trail
 
 get-quiet : (store : Datastore) (id : List ℕ) → IsQuiet store (Get (key.Handle id))
 get-quiet store id = not-block store (Get (key.Handle id)) (λ e. cc e) (λ cidr e. cc e)
@@ -100,26 +103,26 @@ write-quiet store Spent h = not-block store (Create (record_of.Handle h)) (λ e.
 abbrev Again : {A : Type 0} → (Q : Trail → Trail → Outcome A → Type 0) → Trail → Part A → Type 0
 Again Q origin again = (trail : Trail) → Quietly origin trail → Comes (Q origin) trail again
 
-raise-once : (id : List ℕ) (cidr : CidrValue) (origin : Trail) (again : Part (Unit {0})) (left : Left) → Again (RaiseEnds id) origin again → Again (RaiseEnds id) origin (raise_once id cidr again left)
+raise-once : (id : List ℕ) (cidr : CidrValue) (origin : Trail) (again : Part (Unit {0})) (left : Left) → Again (RaiseEnds id cidr) origin again → Again (RaiseEnds id cidr) origin (raise_once id cidr again left)
 unfolding RaiseEnds
 raise-once id cidr origin again left h trail quiet = λ moment store agrees.
-    by moment store (nat_le most_count (count_of (handle_said id (reply_of store (Get (key.Handle id)))) cidr))
+    by moment store (nat_le most_count (count_of (handle_said id (reply_of store (Get (key.Handle id)))) cidr)) refl
   where
-    by : (moment : ℕ) (store : Datastore) (b : Bool) → Comes (RaiseEnds id origin) (Did moment store (Get (key.Handle id)) ∷ trail)
+    by : (moment : ℕ) (store : Datastore) (b : Bool) → nat_le most_count (count_of (handle_said id (reply_of store (Get (key.Handle id)))) cidr) ≡ b → Comes (RaiseEnds id cidr origin) (Did moment store (Get (key.Handle id)) ∷ trail)
         (cond b (stops left (CountAtLimit moment)) (raise_write id cidr again left (reply_of store (Get (key.Handle id)))))
-    by moment store true = record { store = store; between = trail; quiet = quiet; is = refl }
-    by moment store false = λ second other agrees.
+    by moment store true e = record { store = store; between = trail; quiet = quiet; is = refl; limit = e }
+    by moment store false e = λ second other agrees.
         let said = reply_of store (Get (key.Handle id)) in
         let asked = write_back said (record_of.Handle (raised (handle_said id said) cidr 1)) in
         let behind = More second other asked (Did moment store (Get (key.Handle id)) ∷ trail) (write-quiet other said (raised (handle_said id said) cidr 1))
         (More moment store (Get (key.Handle id)) trail (get-quiet store id) quiet) in
-        after-write (RaiseEnds id origin) (Did second other asked ∷ Did moment store (Get (key.Handle id)) ∷ trail) (reply_of other asked) (reply_of other asked)
+        after-write (RaiseEnds id cidr origin) (Did second other asked ∷ Did moment store (Get (key.Handle id)) ∷ trail) (reply_of other asked) (reply_of other asked)
         (λ revision. goes left tt) again (stops left NoRoom) (stops left NoRevisions) refl
-        (λ revision e. behind) (h (Did second other asked ∷ Did moment store (Get (key.Handle id)) ∷ trail) behind) tt tt
+        (λ revision e. behind) (h (Did second other asked ∷ Did moment store (Get (key.Handle id)) ∷ trail) behind) behind behind
 
-raise-tries : (id : List ℕ) (cidr : CidrValue) (origin : Trail) (races claims : ℕ) → Again (RaiseEnds id) origin (tries (raise_once id cidr) races claims)
+raise-tries : (id : List ℕ) (cidr : CidrValue) (origin : Trail) (races claims : ℕ) → Again (RaiseEnds id cidr) origin (tries (raise_once id cidr) races claims)
 unfolding tries RaiseEnds
-raise-tries id cidr origin zero claims = raise-once id cidr origin (stops (left_of zero claims) OutOfTries) (left_of zero claims) (λ trail quiet. tt)
+raise-tries id cidr origin zero claims = raise-once id cidr origin (stops (left_of zero claims) OutOfTries) (left_of zero claims) (λ trail quiet. quiet)
 raise-tries id cidr origin (suc races) claims = raise-once id cidr origin (tries (raise_once id cidr) races claims) (left_of (suc races) claims) (raise-tries id cidr origin races claims)
 
 -- ---- lowering
@@ -138,11 +141,11 @@ lower-once credit origin again left h trail quiet = λ moment store agrees secon
     (More moment store (Get (key.Handle credit.handle)) trail (get-quiet store credit.handle) quiet) in
     after-write (GoesQuietly origin) (Did second other asked ∷ Did moment store (Get (key.Handle credit.handle)) ∷ trail) (reply_of other asked) (reply_of other asked)
     (λ revision. goes left tt) again (stops left NoRoom) (stops left NoRevisions) refl
-    (λ revision e. behind) (h (Did second other asked ∷ Did moment store (Get (key.Handle credit.handle)) ∷ trail) behind) tt tt
+    (λ revision e. behind) (h (Did second other asked ∷ Did moment store (Get (key.Handle credit.handle)) ∷ trail) behind) (tt, behind) (tt, behind)
 
 pub lower-tries : (credit : Credit) (origin : Trail) (races claims : ℕ) → Again GoesQuietly origin (tries (lower_once credit) races claims)
 unfolding tries GoesQuietly NotLimit
-lower-tries credit origin zero claims = lower-once credit origin (stops (left_of zero claims) OutOfTries) (left_of zero claims) (λ trail quiet. tt)
+lower-tries credit origin zero claims = lower-once credit origin (stops (left_of zero claims) OutOfTries) (left_of zero claims) (λ trail quiet. (tt, quiet))
 lower-tries credit origin (suc races) claims = lower-once credit origin (tries (lower_once credit) races claims) (left_of (suc races) claims) (lower-tries credit origin races claims)
 
 -- ---- freeing
@@ -164,7 +167,7 @@ free-these what again left (suc more) found h trail = λ moment store agrees.
       where
         ends : (further : Trail) (outcome : Outcome (Unit {0})) → GoesQuietly longer further outcome → Comes StopsOtherwise further (onward (λ now done. goes now (suc more)) outcome)
         ends further (Went now done) k = tt
-        ends further (Stops now why) k = k
+        ends further (Stops now why) k = k.0
 
 free-found : (what : Freeing) (again : Part ℕ) (left : Left) (found : Option (ℕ × block.BlockValue)) → ((trail : Trail) → Comes StopsOtherwise trail again) → (trail : Trail) → Comes StopsOtherwise trail (free_found what again left found)
 unfolding StopsOtherwise
@@ -208,7 +211,7 @@ affinity-update-quiet store a revision = not-block store (Update (record_of.Affi
 
 claiming-quiet : (store : Datastore) (trail : Trail) (node : List ℕ) (cidr : CidrValue) (read : BlockRead) → AgreesAll store trail → KnowsRead trail read → IsQuiet store (claiming node cidr read)
 claiming-quiet store trail node cidr None agrees knows = create-quiet store (fresh_block cidr (Some node)) refl
-claiming-quiet store trail node cidr (Some found) agrees knows = update-quiet store trail found.1 (affine_to (Some node) (next_block found.1)) found.0 agrees knows refl (omega arith)
+claiming-quiet store trail node cidr (Some found) agrees knows = update-quiet store trail found.1 (affine_to (Some node) (next_block found.1)) found.0 agrees knows refl (omega arith) (λ a there. there)
 
 claim-confirm : (origin trail : Trail) (node : List ℕ) (cidr : CidrValue) (kept : ℕ) → Quietly origin trail → Comes (IsQuietEnd origin) trail (claim_confirm node cidr kept)
 claim-confirm origin trail node cidr kept quiet = λ moment store agrees.
@@ -249,12 +252,12 @@ claim-comes origin trail node cidr read quiet knows = λ moment store agrees.
 
 confirmed-ends : (origin longer : Trail) (races claims : ℕ) → Quietly origin longer → Comes (GoesQuietly {A = Unit {0}} origin) longer (after_confirmed races claims)
 unfolding GoesQuietly NotLimit
-confirmed-ends origin longer races zero k = tt
+confirmed-ends origin longer races zero k = (tt, k)
 confirmed-ends origin longer races (suc claims) k = k
 
 lost-ends : (origin longer : Trail) (races claims : ℕ) → Quietly origin longer → Comes (GoesQuietly {A = Unit {0}} origin) longer (after_lost races claims (λ less. goes {A = Unit {0}} less tt))
 unfolding GoesQuietly NotLimit
-lost-ends origin longer zero claims k = tt
+lost-ends origin longer zero claims k = (tt, k)
 lost-ends origin longer (suc races) claims k = k
 
 pub claim-for : (origin trail : Trail) (node : List ℕ) (cidr : CidrValue) (read : BlockRead) (left : Left) → Quietly origin trail → KnowsRead trail read → Comes (GoesQuietly origin) trail (claim_for node cidr read left)
@@ -265,8 +268,8 @@ claim-for origin trail node cidr read left quiet knows =
     ends : (longer : Trail) (answer : ClaimAnswer) → Quietly origin longer → Comes (GoesQuietly origin) longer (after_claim left answer)
     ends longer claimed.Confirmed k = confirmed-ends origin longer left.races left.claims k
     ends longer claimed.Lost k = lost-ends origin longer left.races left.claims k
-    ends longer claimed.Full k = tt
-    ends longer claimed.Spent k = tt
+    ends longer claimed.Full k = (tt, k)
+    ends longer claimed.Spent k = (tt, k)
 
 -- ---- an address is assigned
 
@@ -281,35 +284,46 @@ pub record GivesLast (origin : Trail) (family : Family) (trail : Trail) : Type 0
   pub only : (other : Family) → IsGift store asked other → other ≡ family
   pub is : trail ≡ Did moment store asked ∷ between
 
-unfoldable pub AssignEnds : Trail → Family → List ℕ → Trail → Outcome (Option Assigned) → Type 0
-AssignEnds origin family id trail (Went left (Some done)) = GivesLast origin family trail
-AssignEnds origin family id trail (Went left None) = Quietly origin trail
-AssignEnds origin family id trail (Stops left (CountAtLimit moment)) = ReadLast origin id moment trail
-AssignEnds origin family id trail (Stops left why) = Unit {0}
+-- the latest call assigned the target, quietly behind the trail
+pub record AssignsLast (origin : Trail) (attributes : Attributes) (target : Target) (done : Assigned) (trail : Trail) : Type 0 where
+  pub store : Datastore
+  pub between : Trail
+  pub quiet : Quietly origin between
+  pub revision : ℕ
+  pub is : trail ≡ Did done.moment store (Update (record_of.Block (assigned (next_block target.block) target.ordinal attributes)) target.revision) ∷ between
+  pub granted : reply_of store (Update (record_of.Block (assigned (next_block target.block) target.ordinal attributes)) target.revision) ≡ Can revision
+  pub current : (found : Record) → HasAt store (key.Block target.block.cidr) target.revision found → found ≡ record_of.Block target.block
+  pub stamp : done.stamp ≡ target.block.sequence + 1
 
-otherwise-ends : (origin : Trail) (family : Family) (id : List ℕ) (trail : Trail) (left : Left) (why : Stop) → NotLimit why → AssignEnds origin family id trail (Stops left why)
+unfoldable pub AssignEnds : Trail → Attributes → Target → Trail → Outcome (Option Assigned) → Type 0
+AssignEnds origin attributes target trail (Went left (Some done)) = GivesLast origin target.block.cidr.family trail × AssignsLast origin attributes target done trail
+AssignEnds origin attributes target trail (Went left None) = Quietly origin trail
+AssignEnds origin attributes target trail (Stops left (CountAtLimit moment)) = ReadLast origin attributes.handle target.block.cidr moment trail
+AssignEnds origin attributes target trail (Stops left why) = Quietly origin trail
+
+otherwise-ends : (origin : Trail) (attributes : Attributes) (target : Target) (trail : Trail) (left : Left) (why : Stop) → NotLimit why × Quietly origin trail → AssignEnds origin attributes target trail (Stops left why)
 unfolding AssignEnds NotLimit
-otherwise-ends origin family id trail left OutOfTries h = tt
-otherwise-ends origin family id trail left OutOfClaims h = tt
-otherwise-ends origin family id trail left NoRoom h = tt
-otherwise-ends origin family id trail left (CountAtLimit moment) h = absurd h
-otherwise-ends origin family id trail left NoRevisions h = tt
+otherwise-ends origin attributes target trail left OutOfTries h = h.1
+otherwise-ends origin attributes target trail left OutOfClaims h = h.1
+otherwise-ends origin attributes target trail left NoRoom h = h.1
+otherwise-ends origin attributes target trail left (CountAtLimit moment) h = absurd h.0
+otherwise-ends origin attributes target trail left NoRevisions h = h.1
 
-assign-lost : (origin trail : Trail) (family : Family) (attributes : Attributes) (target : Target) (left : Left) → Quietly origin trail → Comes (AssignEnds origin family attributes.handle) trail (assign_lost attributes target left)
+assign-lost : (origin trail : Trail) (attributes : Attributes) (target : Target) (left : Left) → Quietly origin trail → Comes (AssignEnds origin attributes target) trail (assign_lost attributes target left)
 unfolding AssignEnds GoesQuietly
-assign-lost origin trail family attributes target left quiet = by left.races left.claims
+assign-lost origin trail attributes target left quiet = by left.races left.claims
   where
     credit : Credit
     credit = credit_of attributes.handle target.block.cidr 1
 
-    ends : (longer : Trail) (outcome : Outcome (Unit {0})) → GoesQuietly origin longer outcome → Comes (AssignEnds origin family attributes.handle) longer (onward (λ now done. goes now None) outcome)
+    ends : (longer : Trail) (outcome : Outcome (Unit {0})) → GoesQuietly origin longer outcome → Comes (AssignEnds origin attributes target) longer (onward (λ now done. goes now None) outcome)
     ends longer (Went now done) k = k
-    ends longer (Stops now why) k = otherwise-ends origin family attributes.handle longer now why k
+    ends longer (Stops now why) k = otherwise-ends origin attributes target longer now why k
 
-    by : (races claims : ℕ) → Comes (AssignEnds origin family attributes.handle) trail (after_lost races claims (λ less. followed (lower credit less) (λ now done. goes now None)))
-    by zero claims = tt
+    by : (races claims : ℕ) → Comes (AssignEnds origin attributes target) trail (after_lost races claims (λ less. followed (lower credit less) (λ now done. goes now None)))
+    by zero claims = quiet
     by (suc races) claims =
-        Comes-bound (GoesQuietly origin) (AssignEnds origin family attributes.handle) (onward (λ now done. goes now None)) (lower credit (left_of races claims)) trail
+        Comes-bound (GoesQuietly origin) (AssignEnds origin attributes target) (onward (λ now done. goes now None)) (lower credit (left_of races claims)) trail
         (lower-tries credit origin races claims trail quiet) ends
 
 -- a write that was not done is quiet
@@ -317,27 +331,25 @@ undone-quiet : (store : Datastore) (asked : Call) → name_of asked ≢ name.Get
 undone-quiet store asked no_round not = record {
   gives_none = λ family gift. not gift.revision gift.done;
   no_round = no_round;
+  calm = Undone not;
 }
 
 assign-block : (origin trail : Trail) (attributes : Attributes) (target : Target) (left : Left) → Quietly origin trail → Knows trail target.revision target.block
-    → Comes (AssignEnds origin target.block.cidr.family attributes.handle) trail (assign_block attributes target left)
+    → Comes (AssignEnds origin attributes target) trail (assign_block attributes target left)
 unfolding AssignEnds
 assign-block origin trail attributes target left quiet knows = λ moment store agrees.
     by moment store agrees (reply_of store (Update (record_of.Block (assigned (next_block target.block) target.ordinal attributes)) target.revision)) refl
   where
-    family : Family
-    family = target.block.cidr.family
-
     asked : Call
     asked = Update (record_of.Block (assigned (next_block target.block) target.ordinal attributes)) target.revision
 
-    lost : (moment : ℕ) (store : Datastore) → ((revision : ℕ) → reply_of store asked ≢ Can revision) → Comes (AssignEnds origin family attributes.handle) (Did moment store asked ∷ trail) (assign_lost attributes target left)
-    lost moment store not = assign-lost origin (Did moment store asked ∷ trail) family attributes target left (More moment store asked trail (undone-quiet store asked (λ e. cc e) not) quiet)
+    lost : (moment : ℕ) (store : Datastore) → ((revision : ℕ) → reply_of store asked ≢ Can revision) → Comes (AssignEnds origin attributes target) (Did moment store asked ∷ trail) (assign_lost attributes target left)
+    lost moment store not = assign-lost origin (Did moment store asked ∷ trail) attributes target left (More moment store asked trail (undone-quiet store asked (λ e. cc e) not) quiet)
 
     by : (moment : ℕ) (store : Datastore) → AgreesAll store trail → (said : Said) → reply_of store asked ≡ said
-        → Comes (AssignEnds origin family attributes.handle) (Did moment store asked ∷ trail)
+        → Comes (AssignEnds origin attributes target) (Did moment store asked ∷ trail)
         (on_write said left (λ taken. goes left (Some (record { moment = moment; stamp = target.block.sequence + 1 }))) (assign_lost attributes target left))
-    by moment store agrees (Can revision) e = record {
+    by moment store agrees (Can revision) e = (record {
       moment = moment;
       store = store;
       asked = asked;
@@ -346,26 +358,35 @@ assign-block origin trail attributes target left quiet knows = λ moment store a
       gift = assign-gives store trail target.block target.ordinal target.revision revision attributes agrees knows e;
       only = assign-only store (assigned (next_block target.block) target.ordinal attributes) target.revision;
       is = refl;
-    }
+    }, record {
+      store = store;
+      between = trail;
+      quiet = quiet;
+      revision = revision;
+      is = refl;
+      granted = e;
+      current = λ found there. knows store agrees found there;
+      stamp = refl;
+    })
     by moment store agrees Missing e = lost moment store (λ revision f. cc (e, f))
     by moment store agrees (Exists revision) e = lost moment store (λ taken f. cc (e, f))
     by moment store agrees (Conflict revision) e = lost moment store (λ taken f. cc (e, f))
     by moment store agrees (Found revision found) e = lost moment store (λ taken f. cc (e, f))
     by moment store agrees (Listed rows) e = lost moment store (λ taken f. cc (e, f))
-    by moment store agrees Full e = tt
-    by moment store agrees Spent e = tt
+    by moment store agrees Full e = More moment store asked trail (undone-quiet store asked (λ f. cc f) (λ taken f. cc (e, f))) quiet
+    by moment store agrees Spent e = More moment store asked trail (undone-quiet store asked (λ f. cc f) (λ taken f. cc (e, f))) quiet
 
 pub assign-comes : (trail : Trail) (attributes : Attributes) (target : Target) (left : Left) → Knows trail target.revision target.block
-    → Comes (AssignEnds trail target.block.cidr.family attributes.handle) trail (assign attributes target left)
+    → Comes (AssignEnds trail attributes target) trail (assign attributes target left)
 unfolding RaiseEnds AssignEnds
 assign-comes trail attributes target left knows =
-    Comes-bound (RaiseEnds attributes.handle trail) (AssignEnds trail target.block.cidr.family attributes.handle) (onward (λ now done. assign_block attributes target now)) (raise attributes.handle target.block.cidr left) trail
+    Comes-bound (RaiseEnds attributes.handle target.block.cidr trail) (AssignEnds trail attributes target) (onward (λ now done. assign_block attributes target now)) (raise attributes.handle target.block.cidr left) trail
     (raise-tries attributes.handle target.block.cidr trail left.races left.claims trail Same) ends
   where
-    ends : (longer : Trail) (outcome : Outcome (Unit {0})) → RaiseEnds attributes.handle trail longer outcome → Comes (AssignEnds trail target.block.cidr.family attributes.handle) longer (onward (λ now done. assign_block attributes target now) outcome)
+    ends : (longer : Trail) (outcome : Outcome (Unit {0})) → RaiseEnds attributes.handle target.block.cidr trail longer outcome → Comes (AssignEnds trail attributes target) longer (onward (λ now done. assign_block attributes target now) outcome)
     ends longer (Went now done) k = assign-block trail longer attributes target now k (quietly-knows trail longer target.revision target.block k knows)
-    ends longer (Stops now OutOfTries) k = tt
-    ends longer (Stops now OutOfClaims) k = tt
-    ends longer (Stops now NoRoom) k = tt
+    ends longer (Stops now OutOfTries) k = k
+    ends longer (Stops now OutOfClaims) k = k
+    ends longer (Stops now NoRoom) k = k
     ends longer (Stops now (CountAtLimit moment)) k = k
-    ends longer (Stops now NoRevisions) k = tt
+    ends longer (Stops now NoRevisions) k = k

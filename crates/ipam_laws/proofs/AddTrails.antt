@@ -1,6 +1,6 @@
 -- What the answers of an ADD say of the trail that led to them: for which family the round was.
 use Rattle.std.proofs.Common.{◌≡◌, ◌≢◌, ℕ, zero, suc, ◌+◌, ◌<◌, ◌≤◌, ◌⊎◌, Bool, true, false, cond, List, [], ◌∷◌, length, Option, Some, None, refl, sym, ap, ◌∙◌, subst, arith, eqb-true}
-use Rattle.std.specs.Prelude.{◌==◌, nat_lt}
+use Rattle.std.specs.Prelude.{Contains, ◌==◌, nat_lt}
 use Rattle.std.specs.List.{count_by, insert}
 use Rattle.ipam_addr.specs.declared.address.Family.{Family}
 use Rattle.ipam_addr.specs.Shape.{CidrValue}
@@ -44,10 +44,20 @@ HasGift [] family = ⊥
 HasGift (Did moment store asked ∷ trail) family = IsGift store asked family ⊎ HasGift trail family
 HasGift (Got moment at live ∷ trail) family = HasGift trail family
 
+-- behind the call nobody owns who did not own before: it writes no block, or a block with no other
+-- allocations than it had, or a fresh one; or it was not done
+pub data Calm (store : Datastore) (asked : Call) : Type 0 where
+  NoBlock : ((cidr : CidrValue) → key_written (name_of asked) ≢ Some (key.Block cidr)) → Calm store asked
+  Keeps : (b new : block.BlockValue) (old : ℕ) → asked ≡ Update (record_of.Block new) old → ((found : Record) → HasAt store (key.Block b.cidr) old found → found ≡ record_of.Block b) → new.cidr ≡ b.cidr
+      → ((a : Allocation) → Contains new.allocations a → Contains b.allocations a) → Calm store asked
+  Begins : (new : block.BlockValue) → asked ≡ Create (record_of.Block new) → new.allocations ≡ [] → Calm store asked
+  Undone : ((revision : ℕ) → reply_of store asked ≢ Can revision) → Calm store asked
+
 -- a call that gives nothing, and does not begin a round
 pub record IsQuiet (store : Datastore) (asked : Call) : Type 0 where
   pub gives_none : (family : Family) → ¬ (IsGift store asked family)
   pub no_round : name_of asked ≢ name.Get key.Config
+  pub calm : Calm store asked
 
 -- the trail, and quiet calls behind it
 pub data Quietly (trail : Trail) : Trail → Type 0 where
@@ -55,11 +65,23 @@ pub data Quietly (trail : Trail) : Trail → Type 0 where
   More : (moment : ℕ) (store : Datastore) (asked : Call) (longer : Trail) → IsQuiet store asked → Quietly trail longer
       → Quietly trail (Did moment store asked ∷ longer)
 
+-- each of its calls is calm, and it never waited
+unfoldable pub Calmly : Trail → Type 0
+Calmly [] = Unit {0}
+Calmly (Did moment store asked ∷ trail) = Calm store asked × Calmly trail
+Calmly (Got moment at live ∷ trail) = ⊥
+
+pub quietly-calmly : (origin trail : Trail) → Quietly origin trail → Calmly origin → Calmly trail
+unfolding Calmly
+quietly-calmly origin trail Same h = h
+quietly-calmly origin trail (More moment store asked longer quiet before) h = (quiet.calm, quietly-calmly origin longer before h)
+
 -- what writes no block is quiet
 pub not-block : (store : Datastore) (asked : Call) → name_of asked ≢ name.Get key.Config → ((cidr : CidrValue) → key_written (name_of asked) ≢ Some (key.Block cidr)) → IsQuiet store asked
 not-block store asked no_round apart = record {
   gives_none = λ family gift. apart gift.cidr gift.writes;
   no_round = no_round;
+  calm = NoBlock apart;
 }
 
 -- ---- what a write of a block leaves
@@ -112,8 +134,8 @@ update-from store trail b new old revision agrees knows same e =
     ap owned_in_row (row ∙ ap (λ (x : Record). Some (old, x)) (knows store agrees found at))
 
 -- a block that is written with no more than it had gives nothing
-pub update-quiet : (store : Datastore) (trail : Trail) (b new : block.BlockValue) (old : ℕ) → AgreesAll store trail → Knows trail old b → new.cidr ≡ b.cidr → length new.allocations ≤ length b.allocations → IsQuiet store (Update (record_of.Block new) old)
-update-quiet store trail b new old agrees knows same fewer = record {
+pub update-quiet : (store : Datastore) (trail : Trail) (b new : block.BlockValue) (old : ℕ) → AgreesAll store trail → Knows trail old b → new.cidr ≡ b.cidr → length new.allocations ≤ length b.allocations → ((a : Allocation) → Contains new.allocations a → Contains b.allocations a) → IsQuiet store (Update (record_of.Block new) old)
+update-quiet store trail b new old agrees knows same fewer among = record {
   gives_none = λ family gift.
       let is = block-key new.cidr gift.cidr gift.writes in
       let first = update-from store trail b new old gift.revision agrees knows same gift.done in
@@ -121,6 +143,7 @@ update-quiet store trail b new old agrees knows same fewer = record {
       let more = subst (λ (r : CidrValue). owned_in store r < owned_in (behind store (Update (record_of.Block new) old)) r) (sym is) gift.more in
       omega arith;
   no_round = λ e. cc e;
+  calm = Keeps b new old refl (λ found there. knows store agrees found there) same among;
 }
 
 pub create-quiet : (store : Datastore) (new : block.BlockValue) → new.allocations ≡ [] → IsQuiet store (Create (record_of.Block new))
@@ -132,6 +155,7 @@ create-quiet store new none = record {
       let more = subst (λ (r : CidrValue). owned_in store r < owned_in (behind store (Create (record_of.Block new))) r) (sym is) gift.more in
       omega (arith, empty);
   no_round = λ e. cc e;
+  calm = Begins new refl none;
 }
 
 insert-length : {X : Type 0} → (xs : List X) (place : ℕ) (x : X) → length xs < length (insert xs place x)

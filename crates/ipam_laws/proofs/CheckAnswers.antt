@@ -19,33 +19,29 @@ use Rattle.ipam_records.specs.Sound.{IsDatastore}
 use Rattle.ipam_records.specs.Word.{Ends}
 use Rattle.ipam_model.specs.declared.answer.Answer.{Answer}
 use Rattle.ipam_model.specs.declared.answer.Answer.TheVariants as answer
-use Rattle.ipam_model.specs.declared.entry.Fate.{Fate}
-use Rattle.ipam_model.specs.declared.entry.Fate.TheVariants.{Well, Before, After}
 use Rattle.ipam_model.specs.declared.outcome.CheckAnswer.{CheckAnswer}
 use Rattle.ipam_model.specs.declared.outcome.CheckAnswer.TheVariants as check
-use Rattle.ipam_model.specs.declared.request.Request.{Request}
-use Rattle.ipam_model.specs.declared.request.Request.TheVariants.{Add, AddThis, Del, Check, Release, Collect, Admin, Probe}
+use Rattle.ipam_model.specs.declared.request.Request.TheVariants.{Check}
 use Rattle.ipam_model.specs.AddThis.{slot_holding}
 use Rattle.ipam_model.specs.Affinities.{BlockRead}
-use Rattle.ipam_model.specs.AnswerLaw.{CheckAnswersLaw, IsRightAnswer}
+use Rattle.ipam_model.specs.AnswerLaw.{IsRightAnswer}
 use Rattle.ipam_model.specs.Answered.{Answered, history_of, span_of}
 use Rattle.ipam_model.specs.Consistent.{IsConsistent}
 use Rattle.ipam_model.specs.History.{Lawful, now}
 use Rattle.ipam_model.specs.Look.{check_each, check_held, check_in_pool, check_word, holds_at}
 use Rattle.ipam_model.specs.OtherLaws.{HasChecked, IsChecked, IsCheckedOf, IsNotHeld, NoPoolHolds, NotHeldThere}
 use Rattle.ipam_model.specs.Reads.{block_said, pools_said}
-use Rattle.ipam_model.specs.Requests.{word_of}
+use Rattle.ipam_model.specs.Requests.{told_as}
 use Rattle.ipam_model.specs.Told.{of_check}
 use Rattle.ipam_model.specs.Usable.{pool_of}
 use Rattle.ipam_laws.proofs.Acts.{Later, Same, Since, since-since}
-use Rattle.ipam_laws.proofs.StoreSteps.{failed-answered}
-use Rattle.ipam_laws.proofs.FamilyHistory.{comes-any, heard}
+use Rattle.ipam_laws.proofs.FamilyHistory.{heard}
 use Rattle.ipam_laws.proofs.Members.{in-find}
 use Rattle.ipam_laws.proofs.NoReturn.{consistent-before}
 use Rattle.ipam_laws.proofs.OwnersHistory.{part-of}
 use Rattle.ipam_laws.proofs.SoundBlocks.{holding-number, slot-of-pool}
 use Rattle.ipam_laws.proofs.SoundSteps.{row-there}
-use Rattle.ipam_laws.proofs.Trails.{Comes, Comes-bound, Did, IsTrail, Trail, answer-comes}
+use Rattle.ipam_laws.proofs.Trails.{Comes, Comes-bound, Did, IsTrail, Trail}
 
 -- ---- what was looked at
 
@@ -228,36 +224,25 @@ lacks-there a id trail p store address moment t (NotHeld look differ) =
 
 -- ---- the law
 
-unfoldable OfCheck : List ℕ → List AddrValue → Trail → Answer → Type 0
+pub OfCheck : List ℕ → List AddrValue → Trail → Answer → Type 0
 OfCheck id addresses trail answer.Checked = Tells id addresses trail check.Checked
 OfCheck id addresses trail (answer.NotRecorded address moment) = Tells id addresses trail (check.NotRecorded address moment)
 OfCheck id addresses trail _ = ⊥
 
-unfoldable TellsOf : Request → Trail → Answer → Type 0
-TellsOf (Check id addresses) trail told = OfCheck id addresses trail told
-TellsOf _ trail told = Unit {0}
-
-starts : (request : Request) → Comes (TellsOf request) [] (word_of request)
-unfolding word_of TellsOf OfCheck
-starts (Check id addresses) = Comes-bound (Tells id addresses) (OfCheck id addresses) (λ one. Ends (of_check one)) (check_word id addresses) [] (word-comes id addresses) ends
+pub check-comes : (id : List ℕ) (addresses : List AddrValue) → Comes (OfCheck id addresses) [] (told_as of_check (check_word id addresses))
+unfolding OfCheck
+check-comes id addresses = Comes-bound (Tells id addresses) (OfCheck id addresses) (λ one. Ends (of_check one)) (check_word id addresses) [] (word-comes id addresses) ends
   where
     ends : (longer : Trail) (one : CheckAnswer) → Tells id addresses longer one → Comes (OfCheck id addresses) longer (Ends (of_check one))
     ends longer check.Checked t = t
     ends longer (check.NotRecorded address moment) t = t
-starts (Add request) = comes-any (λ trail (told : Answer). Unit {0}) (λ trail told. tt) (word_of (Add request)) []
-starts (AddThis request address) = comes-any (λ trail (told : Answer). Unit {0}) (λ trail told. tt) (word_of (AddThis request address)) []
-starts (Del id) = comes-any (λ trail (told : Answer). Unit {0}) (λ trail told. tt) (word_of (Del id)) []
-starts (Release node cidr) = comes-any (λ trail (told : Answer). Unit {0}) (λ trail told. tt) (word_of (Release node cidr)) []
-starts (Collect request) = comes-any (λ trail (told : Answer). Unit {0}) (λ trail told. tt) (word_of (Collect request)) []
-starts (Admin request) = comes-any (λ trail (told : Answer). Unit {0}) (λ trail told. tt) (word_of (Admin request)) []
-starts (Probe request) = comes-any (λ trail (told : Answer). Unit {0}) (λ trail told. tt) (word_of (Probe request)) []
 
-right : (a : Answered) (id : List ℕ) (addresses : List AddrValue) (trail : Trail) → IsConsistent a.base.store → Lawful a.base (history_of a) → a.request ≡ Check id addresses → IsTrail (span_of a) (now (span_of a)) trail
+pub check-right : (a : Answered) (id : List ℕ) (addresses : List AddrValue) (trail : Trail) → IsConsistent a.base.store → Lawful a.base (history_of a) → a.request ≡ Check id addresses → IsTrail (span_of a) (now (span_of a)) trail
     → (told : Answer) → OfCheck id addresses trail told → IsRightAnswer a told
 unfolding OfCheck Tells
-right a id addresses trail c h is t answer.Checked (p, store, read, held) =
+check-right a id addresses trail c h is t answer.Checked (p, store, read, held) =
     (id, addresses, is, all-checked a id trail p store addresses (record { consistent = c; lawful = h; is_trail = t; read = read }) held)
-right a id addresses trail c h is t (answer.NotRecorded address moment) (p, store, read, earlier, later, place, held, lacks) =
+check-right a id addresses trail c h is t (answer.NotRecorded address moment) (p, store, read, earlier, later, place, held, lacks) =
     let there : AnsweredThere a trail p store = record { consistent = c; lawful = h; is_trail = t; read = read } in (
       id,
       addresses,
@@ -270,22 +255,4 @@ right a id addresses trail c h is t (answer.NotRecorded address moment) (p, stor
         not_held = lacks-there a id trail p store address moment there lacks;
       },
     )
-right a id addresses trail c h is t told none = absurd none
-
-pub check_answers : CheckAnswersLaw
-unfolding TellsOf
-check_answers a id addresses c h is told requested given = by a.call.fate refl
-  where
-    failed : a.call.fate ≢ Well → IsRightAnswer a told
-    failed differ =
-        let fault = failed-answered a.base a.earlier a.call h differ in
-        let same : answer.Fault ≡ told = cc (fault, given) in
-        subst (λ (x : Answer). IsRightAnswer a x) same differ
-
-    by : (fate : Fate) → a.call.fate ≡ fate → IsRightAnswer a told
-    by Well fate =
-        let comes = answer-comes TellsOf starts a told c.sound h requested given fate in
-        let tells : OfCheck id addresses comes.trail told = subst (λ (r : Request). TellsOf r comes.trail told) is comes.comes in
-        right a id addresses comes.trail c h is comes.is_trail told tells
-    by Before fate = failed (λ e. cc (e, fate))
-    by After fate = failed (λ e. cc (e, fate))
+check-right a id addresses trail c h is t told none = absurd none

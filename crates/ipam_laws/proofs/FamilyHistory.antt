@@ -57,7 +57,7 @@ told-can Full revision e = absurd (cc e)
 told-can Spent revision e = absurd (cc e)
 
 -- a moment before, the same, or behind
-three : (k m : ℕ) → (k < m) ⊎ ((k ≡ m) ⊎ (m < k))
+pub three : (k m : ℕ) → (k < m) ⊎ ((k ≡ m) ⊎ (m < k))
 three k m = elim (cases_Bool (nat_lt k m)) [
   | inl below ↦ inl (ltb-true k m below)
   | inr not ↦ elim (cases_Bool (nat_lt m k)) [
@@ -70,7 +70,7 @@ three k m = elim (cases_Bool (nat_lt k m)) [
 ]
 
 -- two calls of one moment are one
-same-call : (span : Span) (moment : ℕ) (one other : Called) → InSpan span moment (entry.Called one) → InSpan span moment (entry.Called other) → one ≡ other
+pub same-call : (span : Span) (moment : ℕ) (one other : Called) → InSpan span moment (entry.Called one) → InSpan span moment (entry.Called other) → one ≡ other
 same-call span moment one other a b = let both : Some (entry.Called one) ≡ Some (entry.Called other) = sym a.is_there ∙ b.is_there in cc both
 
 fed-not-called : (span : Span) (moment at : ℕ) (live : List (List ℕ)) (c : Called) → InSpan span moment (entry.Fed span.slot at live) → ¬ (InSpan span moment (entry.Called c))

@@ -73,3 +73,17 @@ pub mod LeaksFound
 pub mod OwnersHistory
 pub mod CheckAnswers
 pub mod ProbeAnswers
+pub mod HeardAnswers
+pub mod Losses
+pub mod StopParts
+pub mod StopRequests
+pub mod StopHistory
+pub mod HeardRight
+pub mod ThisTrails
+pub mod CalmHistory
+pub mod ThisRight
+pub mod Recorded
+pub mod ThisGiven
+pub mod RightHistory
+pub mod RightWhole
+pub mod FreeTrails

@@ -57,13 +57,13 @@ owns-cases store b cidr revision c there o owns =
       | inr differ ↦ inr (other, differ, held)
     ]
 
-owns-by : (store : Datastore) (b : BlockValue) (cidr : CidrValue) (revision : ℕ) → HasAt store (key.Block cidr) revision (record_of.Block b) → (o : Owner) → IsBy b cidr o → Owns store o
+pub owns-by : (store : Datastore) (b : BlockValue) (cidr : CidrValue) (revision : ℕ) → HasAt store (key.Block cidr) revision (record_of.Block b) → (o : Owner) → IsBy b cidr o → Owns store o
 owns-by store b cidr revision there o (a, among, is) =
     subst (λ (x : Owner). Owns store x) is
     (held-owns store cidr (owner_of cidr a) (held-in store cidr (record { revision = revision; b = b; there = there }) a among))
 
 -- who is held elsewhere owns in the other store too
-moves : (old new : Datastore) (cidr : CidrValue) (o : Owner) → row_of (key.Block cidr) new.rows ≡ row_of (key.Block cidr) old.rows → HeldIn old cidr o → HeldIn new cidr o
+pub moves : (old new : Datastore) (cidr : CidrValue) (o : Owner) → row_of (key.Block cidr) new.rows ≡ row_of (key.Block cidr) old.rows → HeldIn old cidr o → HeldIn new cidr o
 moves old new cidr o same h = record {
   holding = record { revision = h.holding.revision; b = h.holding.b; there = same ∙ h.holding.there };
   named = h.named;
@@ -152,7 +152,7 @@ loses-as store next Lost Other h to from = record {
 
 -- ---- assigning
 
-in-inserted : {X : Type 0} → (xs : List X) (place : ℕ) (x : X) → Contains (insert xs place x) x
+pub in-inserted : {X : Type 0} → (xs : List X) (place : ℕ) (x : X) → Contains (insert xs place x) x
 in-inserted xs zero x = in-here x xs
 in-inserted [] (suc place) x = in-here x []
 in-inserted (y ∷ ys) (suc place) x = in-there x y (insert ys place x) (in-inserted ys place x)

@@ -1,5 +1,8 @@
 -- What a probe is answered, that it is ready or that nothing is left, is right.
-use Rattle.std.proofs.Common.{◌≡◌, ◌≢◌, inr, ℕ, List, [], ◌∷◌, ◌++◌, Some, refl, sym, ap, ◌∙◌, subst}
+use Rattle.std.proofs.Common.{◌≡◌, ◌≢◌, inl, inr, ℕ, zero, suc, ◌<◌, not, List, [], ◌∷◌, ◌++◌, length, Option, Some, None, refl, sym, ap, ◌∙◌, subst, arith}
+use Rattle.std.specs.Prelude.{MatchOption, slice_get}
+use Rattle.std.proofs.lemmas.List.Quantifiers.{position-Some}
+use Rattle.ipam_addr.specs.Shape.{CidrValue}
 use Rattle.std.proofs.lemmas.List.{append_assoc}
 use Rattle.ipam_addr.specs.declared.address.Family.{Family}
 use Rattle.ipam_records.specs.declared.call.Call.TheVariants.{Get, List as ListAll}
@@ -12,29 +15,26 @@ use Rattle.ipam_model.specs.declared.answer.Answer.TheVariants as answer
 use Rattle.ipam_model.specs.declared.answer.Scan.{Scan}
 use Rattle.ipam_model.specs.declared.choice.Choice.{Choice}
 use Rattle.ipam_model.specs.declared.choice.Choice.TheVariants.{Borrow, Claim, NoPool, Nothing, Use}
-use Rattle.ipam_model.specs.declared.entry.Fate.{Fate}
-use Rattle.ipam_model.specs.declared.entry.Fate.TheVariants.{After, Before, Well}
 use Rattle.ipam_model.specs.declared.outcome.ProbeAnswer.{ProbeAnswer}
 use Rattle.ipam_model.specs.declared.outcome.ProbeAnswer.TheVariants as probe_answer
 use Rattle.ipam_model.specs.declared.request.ProbeRequest.{ProbeRequest}
-use Rattle.ipam_model.specs.declared.request.Request.{Request}
-use Rattle.ipam_model.specs.declared.request.Request.TheVariants.{Add, AddThis, Admin, Check, Collect, Del, Probe, Release}
-use Rattle.ipam_model.specs.AnswerLaw.{ProbeAnswersLaw}
-use Rattle.ipam_model.specs.Answered.{Answered, history_of, span_of}
-use Rattle.ipam_model.specs.Choice.{IsChoice, Seen, choice_of}
-use Rattle.ipam_model.specs.History.{Lawful, begin_moment, now}
+use Rattle.ipam_model.specs.declared.request.Request.TheVariants.{Probe}
+use Rattle.ipam_model.specs.Add.{name_at}
+use Rattle.ipam_model.specs.AnswerLaw.{IsRightAnswer}
+use Rattle.ipam_model.specs.Answered.{Answered, span_of}
+use Rattle.ipam_model.specs.Choice.{Foreign, IsBest, IsChoice, Own, Rank, Seen, Unclaimed, Unconfirmed, choice_at, choice_of}
+use Rattle.ipam_model.specs.History.{begin_moment, now}
 use Rattle.ipam_model.specs.Look.{asked_of_probe, probe_choice, probe_each, probe_word}
 use Rattle.ipam_model.specs.Moments.{IsNext}
-use Rattle.ipam_model.specs.OtherLaws.{AreReady, IsReady, last_scan}
+use Rattle.ipam_model.specs.OtherLaws.{AreReady, HasProbed, IsReady, WereReady, last_scan}
 use Rattle.ipam_model.specs.Reads.{config_said, pools_said, reservations_said, rows_said}
-use Rattle.ipam_model.specs.Requests.{word_of}
+use Rattle.ipam_model.specs.Requests.{told_as}
 use Rattle.ipam_model.specs.Told.{of_probe}
-use Rattle.ipam_model.specs.Usable.{families_if}
+use Rattle.ipam_model.specs.Usable.{Asked, families_if, is_known, unknown_name}
 use Rattle.ipam_model.proofs.ChoiceLemmas.{choice_is}
 use Rattle.ipam_laws.proofs.AddRounds.{FiveRead}
-use Rattle.ipam_laws.proofs.FamilyHistory.{comes-any, reads-before}
-use Rattle.ipam_laws.proofs.StoreSteps.{failed-answered}
-use Rattle.ipam_laws.proofs.Trails.{Comes, Comes-bound, Did, IsTrail, Trail, answer-comes}
+use Rattle.ipam_laws.proofs.FamilyHistory.{reads-before}
+use Rattle.ipam_laws.proofs.Trails.{Comes, Comes-bound, Did, IsTrail, Trail}
 
 -- ---- what was scanned
 
@@ -54,7 +54,10 @@ Tells request trail (probe_answer.Ready scans) = AreScanned request (families_if
 Tells request trail (probe_answer.Exhausted scan) =
     (earlier : List Family) × (later : List Family) × (families_if request.ipv4 request.ipv6 ≡ earlier ++ scan.family ∷ later) × (scans : List Scan) × (before : Trail)
     × AreScanned request earlier scans before × ScannedLast request scan Nothing before trail
-Tells request trail (probe_answer.NoPool name moment) = Unit {0}
+Tells request trail (probe_answer.NoPool name moment) =
+    (scan : Scan) × (place : ℕ) × (moment ≡ scan.p) × (name ≡ name_at (asked_of_probe request scan.family).names place)
+    × (earlier : List Family) × (later : List Family) × (families_if request.ipv4 request.ipv6 ≡ earlier ++ scan.family ∷ later) × (scans : List Scan) × (before : Trail)
+    × AreScanned request earlier scans before × ScannedLast request scan (NoPool place) before trail
 
 each-comes : (request : ProbeRequest) (earlier later : List Family) (scans : List Scan) (trail : Trail) → families_if request.ipv4 request.ipv6 ≡ earlier ++ later → AreScanned request earlier scans trail → Comes (Tells request) trail (probe_each request scans later)
 unfolding probe_each Tells
@@ -97,7 +100,19 @@ each-comes request earlier (family ∷ later) scans trail is done = λ c config 
         → ((one : Scan) → one.family ≡ family → AreScanned request (earlier ++ family ∷ []) (scans ++ one ∷ []) five → Comes (Tells request) five (probe_each request (scans ++ one ∷ []) later))
         → Comes (Tells request) five (probe_choice (probe_each request (scans ++ scan ∷ []) later) (asked_of_probe request family) scan choice)
     by scan same five Nothing last rest = (earlier, later, is ∙ ap (λ (x : Family). earlier ++ x ∷ later) (sym same), scans, trail, done, last)
-    by scan same five (NoPool place) last rest = tt
+    by scan same five (NoPool place) last rest = (
+      scan,
+      place,
+      refl,
+      ap (λ (x : Family). name_at (asked_of_probe request x).names place) (sym same),
+      earlier,
+      later,
+      is ∙ ap (λ (x : Family). earlier ++ x ∷ later) (sym same),
+      scans,
+      trail,
+      done,
+      last,
+    )
     by scan same five (Use cidr ordinal) last rest = rest scan same (subst (λ (x : Family). AreScanned request (earlier ++ x ∷ []) (scans ++ scan ∷ []) five) same (Next earlier scans trail five scan (Use cidr ordinal) done last (λ e. cc e) (λ place e. cc e)))
     by scan same five (Claim cidr) last rest = rest scan same (subst (λ (x : Family). AreScanned request (earlier ++ x ∷ []) (scans ++ scan ∷ []) five) same (Next earlier scans trail five scan (Claim cidr) done last (λ e. cc e) (λ place e. cc e)))
     by scan same five (Borrow cidr ordinal) last rest = rest scan same (subst (λ (x : Family). AreScanned request (earlier ++ x ∷ []) (scans ++ scan ∷ []) five) same (Next earlier scans trail five scan (Borrow cidr ordinal) done last (λ e. cc e) (λ place e. cc e)))
@@ -131,66 +146,93 @@ are-ready a request _ _ _ upto is (Next families scans before five scan choice e
       subst (λ (m : ℕ). IsNext (span_of a) m upto) (sym (last-more (begin_moment (span_of a)) scans scan)) part.last,
     )
 
--- ---- the law
+-- ---- a name that no pool has
 
-unfoldable OfProbe : ProbeRequest → Trail → Answer → Type 0
+-- the choice of a place is that of the first name that no pool has
+pub unknown-place : (asked : Asked) (seen : Seen) (place : ℕ) → IsChoice asked seen (NoPool place) → unknown_name asked seen.pools ≡ Some place
+unknown-place asked seen place is = by (unknown_name asked seen.pools) refl is
+  where
+    none-at : (slot : CidrValue) (rank : Rank) → NoPool place ≢ choice_at slot rank
+    none-at slot (Own found ordinal) e = cc e
+    none-at slot (Unconfirmed found) e = cc e
+    none-at slot (Unclaimed read) e = cc e
+    none-at slot (Foreign found ordinal) e = cc e
+
+    by : (o : Option ℕ) → unknown_name asked seen.pools ≡ o → MatchOption o (IsBest asked seen (NoPool place)) (λ other. NoPool place ≡ NoPool other) → unknown_name asked seen.pools ≡ Some place
+    by (Some other) e same = let is : other ≡ place = cc same in e ∙ ap Some is
+    by None e (inl none) = let n = none.1 in absurd (cc n)
+    by None e (inr (c, same)) = absurd (none-at c.best.ranked.slot c.best.ranked.rank same)
+
+there-is : (names : List (List ℕ)) (place : ℕ) → place < length names → slice_get names place ≡ Some (name_at names place)
+there-is [] place below = absurd (omega arith)
+there-is (name ∷ names) zero below = refl
+there-is (name ∷ names) (suc place) below = there-is names place (omega arith)
+
+pub named-place : (asked : Asked) (seen : Seen) (place : ℕ) → IsChoice asked seen (NoPool place) → slice_get asked.names place ≡ Some (name_at asked.names place)
+named-place asked seen place is = there-is asked.names place (position-Some (λ name. not (is_known asked seen.pools name)) asked.names place [] (unknown-place asked seen place is)).0
+
+-- ---- the answers
+
+pub OfProbe : ProbeRequest → Trail → Answer → Type 0
 OfProbe request trail (answer.Ready scans) = Tells request trail (probe_answer.Ready scans)
 OfProbe request trail (answer.Exhausted scan) = Tells request trail (probe_answer.Exhausted scan)
-OfProbe request trail _ = Unit {0}
+OfProbe request trail (answer.NoPool name moment) = Tells request trail (probe_answer.NoPool name moment)
+OfProbe request trail _ = ⊥
 
-unfoldable TellsOf : Request → Trail → Answer → Type 0
-TellsOf (Probe request) trail told = OfProbe request trail told
-TellsOf _ trail told = Unit {0}
-
-starts : (request : Request) → Comes (TellsOf request) [] (word_of request)
-unfolding word_of TellsOf OfProbe
-starts (Probe request) =
+pub probe-comes : (request : ProbeRequest) → Comes (OfProbe request) [] (told_as of_probe (probe_word request))
+unfolding OfProbe
+probe-comes request =
     Comes-bound (Tells request) (OfProbe request) (λ one. Ends (of_probe one)) (probe_word request) []
     (each-comes request [] (families_if request.ipv4 request.ipv6) [] [] refl First) ends
   where
     ends : (longer : Trail) (one : ProbeAnswer) → Tells request longer one → Comes (OfProbe request) longer (Ends (of_probe one))
     ends longer (probe_answer.Ready scans) t = t
     ends longer (probe_answer.Exhausted scan) t = t
-    ends longer (probe_answer.NoPool name moment) t = tt
-starts (Add request) = comes-any (λ trail (told : Answer). Unit {0}) (λ trail told. tt) (word_of (Add request)) []
-starts (AddThis request address) = comes-any (λ trail (told : Answer). Unit {0}) (λ trail told. tt) (word_of (AddThis request address)) []
-starts (Del id) = comes-any (λ trail (told : Answer). Unit {0}) (λ trail told. tt) (word_of (Del id)) []
-starts (Check id addresses) = comes-any (λ trail (told : Answer). Unit {0}) (λ trail told. tt) (word_of (Check id addresses)) []
-starts (Release node cidr) = comes-any (λ trail (told : Answer). Unit {0}) (λ trail told. tt) (word_of (Release node cidr)) []
-starts (Collect request) = comes-any (λ trail (told : Answer). Unit {0}) (λ trail told. tt) (word_of (Collect request)) []
-starts (Admin request) = comes-any (λ trail (told : Answer). Unit {0}) (λ trail told. tt) (word_of (Admin request)) []
+    ends longer (probe_answer.NoPool name moment) t = t
 
--- an answer that is no fault is that of a call that went well
-went-well : (a : Answered) (told : Answer) → Lawful a.base (history_of a) → a.call.answer ≡ Some told → told ≢ answer.Fault → a.call.fate ≡ Well
-went-well a told h given differ = by a.call.fate refl
-  where
-    failed : a.call.fate ≢ Well → told ≡ answer.Fault
-    failed not_well = let fault = failed-answered a.base a.earlier a.call h not_well in let same : Some told ≡ Some answer.Fault = sym given ∙ fault in cc same
+were-ready : (a : Answered) (request : ProbeRequest) (scan : Scan) (earlier later : List Family) (scans : List Scan) (before five : Trail) (choice : Choice) → IsTrail (span_of a) (now (span_of a)) five → families_if request.ipv4 request.ipv6 ≡ earlier ++ scan.family ∷ later
+    → AreScanned request earlier scans before → ScannedLast request scan choice before five → WereReady a request scan × HasProbed a request scan choice
+were-ready a request scan earlier later scans before five choice is wanted done last =
+    let (scanned, part) = reads-before (span_of a) scan last.seen before five (now (span_of a)) last.reads is in
+    let (ready, next) = are-ready a request earlier scans before scan.c part.first done in (
+      record { earlier = earlier; later = later; wanted = wanted; scans = scans; ready = ready; then_scanned = next },
+      record { seen = last.seen; scanned = scanned; is_choice = last.is_choice },
+    )
 
-    by : (fate : Fate) → a.call.fate ≡ fate → a.call.fate ≡ Well
-    by Well fate = fate
-    by Before fate = absurd (differ (failed (λ e. cc (e, fate))))
-    by After fate = absurd (differ (failed (λ e. cc (e, fate))))
-
-pub probe_answers : ProbeAnswersLaw
-unfolding TellsOf OfProbe Tells IsTrail
-probe_answers a request c h is requested = (
-  λ scans given.
-      let comes = answer-comes TellsOf starts a (answer.Ready scans) c.sound h requested given (went-well a (answer.Ready scans) h given (λ e. cc e)) in
-      let tells : OfProbe request comes.trail (answer.Ready scans) = subst (λ (r : Request). TellsOf r comes.trail (answer.Ready scans)) is comes.comes in
-      (request, is, (are-ready a request (families_if request.ipv4 request.ipv6) scans comes.trail (now (span_of a)) comes.is_trail tells).0),
-  λ scan given.
-      let comes = answer-comes TellsOf starts a (answer.Exhausted scan) c.sound h requested given (went-well a (answer.Exhausted scan) h given (λ e. cc e)) in
-      let tells : OfProbe request comes.trail (answer.Exhausted scan) = subst (λ (r : Request). TellsOf r comes.trail (answer.Exhausted scan)) is comes.comes in
-      let (earlier, later, wanted, scans, before, done, last) = tells in
-      let (scanned, part) = reads-before (span_of a) scan last.seen before comes.trail (now (span_of a)) last.reads comes.is_trail in
-      let (ready, next) = are-ready a request earlier scans before scan.c part.first done in
-      inr (
-        request,
-        is,
-        record {
-          earlier = record { earlier = earlier; later = later; wanted = wanted; scans = scans; ready = ready; then_scanned = next };
-          probed = record { seen = last.seen; scanned = scanned; is_choice = last.is_choice };
-        },
-      ),
-)
+pub probe-right : (a : Answered) (request : ProbeRequest) (trail : Trail) → a.request ≡ Probe request → IsTrail (span_of a) (now (span_of a)) trail → (told : Answer) → OfProbe request trail told → IsRightAnswer a told
+unfolding OfProbe Tells IsTrail
+probe-right a request trail is there (answer.Ready scans) tells = (request, is, (are-ready a request (families_if request.ipv4 request.ipv6) scans trail (now (span_of a)) there tells).0)
+probe-right a request trail is there (answer.Exhausted scan) (earlier, later, wanted, scans, before, done, last) =
+    let (ready, probed) = were-ready a request scan earlier later scans before trail Nothing there wanted done last in inr (request, is, record { earlier = ready; probed = probed })
+probe-right a request trail is there (answer.NoPool name moment) (scan, place, at, called, earlier, later, wanted, scans, before, done, last) =
+    let (ready, probed) = were-ready a request scan earlier later scans before trail (NoPool place) there wanted done last in
+    inr (
+      request,
+      is,
+      record {
+        scan = scan;
+        place = place;
+        earlier = ready;
+        probed = probed;
+        is_name = named-place (asked_of_probe request scan.family) last.seen place last.is_choice ∙ ap Some (sym called);
+        at_pools = at;
+      },
+    )
+probe-right a request trail is there (answer.Added given) h = absurd h
+probe-right a request trail is there (answer.AddedThis given) h = absurd h
+probe-right a request trail is there (answer.NotInPool moment) h = absurd h
+probe-right a request trail is there (answer.Taken id moment) h = absurd h
+probe-right a request trail is there (answer.NotAffine cidr moment) h = absurd h
+probe-right a request trail is there (answer.Deleted moment) h = absurd h
+probe-right a request trail is there answer.Checked h = absurd h
+probe-right a request trail is there (answer.NotRecorded address moment) h = absurd h
+probe-right a request trail is there answer.Released h = absurd h
+probe-right a request trail is there (answer.NoAffinity moment) h = absurd h
+probe-right a request trail is there (answer.Collected collected) h = absurd h
+probe-right a request trail is there (answer.Done revision) h = absurd h
+probe-right a request trail is there (answer.Refused number about) h = absurd h
+probe-right a request trail is there (answer.Again lost claims) h = absurd h
+probe-right a request trail is there answer.Full h = absurd h
+probe-right a request trail is there (answer.CountFull moment) h = absurd h
+probe-right a request trail is there answer.Spent h = absurd h
+probe-right a request trail is there answer.Fault h = absurd h

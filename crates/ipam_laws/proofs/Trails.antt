@@ -18,12 +18,13 @@ use Rattle.ipam_model.specs.declared.entry.Fate.{Fate}
 use Rattle.ipam_model.specs.declared.entry.Fate.TheVariants.{Well, Before, After}
 use Rattle.ipam_model.specs.declared.request.Request.{Request}
 use Rattle.ipam_model.specs.AffinityLaw.{HasAt}
-use Rattle.ipam_model.specs.Answered.{Answered, history_of, span_of}
-use Rattle.ipam_model.specs.Cluster.{Running, after, answered, begun, call_entry, called, fed_with, goes_on, store_after, store_with}
+use Rattle.ipam_model.specs.Answered.{Answered, earlier_calls, history_of, span_of}
+use Rattle.ipam_model.specs.Cluster.{Running, after, answered, begun, call_entry, called, fed_with, goes_on, record_written, store_after, store_with}
 use Rattle.ipam_model.specs.History.{Base, InSpan, Lawful, Span, before, begin_moment, begins, cluster_at, entry_at, moment_of, now, seen_at, since_begin, slot_of_entry, store_at}
 use Rattle.ipam_model.specs.Moments.{IsNext, request_in}
 use Rattle.ipam_model.specs.Named.{name_of, told_of}
 use Rattle.ipam_model.specs.Requests.{word_of}
+use Rattle.ipam_model.specs.Tries.{calls_of}
 use Rattle.ipam_laws.proofs.KeptWords.{slot-is}
 use Rattle.ipam_laws.proofs.Lift.{behind}
 use Rattle.ipam_laws.proofs.OneRecord.{one_record}
@@ -136,7 +137,7 @@ entry-now base new history =
     first [] = None
     first (one ∷ rest) = Some one
 
-in-span-now : (span : Span) (new : Entry) → slot_of_entry new ≡ span.slot → InSpan (grown span new) (now span) new
+pub in-span-now : (span : Span) (new : Entry) → slot_of_entry new ≡ span.slot → InSpan (grown span new) (now span) new
 unfolding since_begin
 in-span-now span new own = record {
   since = since (since_begin span.slot (new ∷ span.history)) (cond (begins span.slot new) [] (since_begin span.slot span.history)) refl;
@@ -191,6 +192,7 @@ pub record DidAt (span : Span) (moment : ℕ) (store : Datastore) (asked : Call)
   pub well : c.fate ≡ Well
   pub is_call : c.call ≡ name_of asked
   pub is_reply : c.reply ≡ told_of (reply_of store asked)
+  pub is_written : c.written ≡ record_written asked (reply_of store asked)
   pub before_it : seen_at span moment ≡ store
   pub behind_it : seen_at span (moment + 1) ≡ behind store asked
 
@@ -214,6 +216,7 @@ did-later span new moment store asked not h =
       well = h.well;
       is_call = h.is_call;
       is_reply = h.is_reply;
+      is_written = h.is_written;
       before_it = seen-later span new moment (omega arith) ∙ h.before_it;
       behind_it = seen-later span new (moment + 1) (omega arith) ∙ h.behind_it;
     }
@@ -264,18 +267,18 @@ trail-skip span new (Got moment at live ∷ trail) not other h =
     )
 
 -- the store before the next entry
-seen-now : (span : Span) → seen_at span (now span) ≡ store_at span.base span.history
+pub seen-now : (span : Span) → seen_at span (now span) ≡ store_at span.base span.history
 seen-now span =
     let none : moment_of span.base span.history - now span ≡ 0 = omega arith in
     ap (λ n. store_at span.base (drop n span.history)) none
 
 -- a call that was done is the next step
 trail-did : (span : Span) (c : Called) (asked : Call) (trail : Trail) → c.slot ≡ span.slot → c.fate ≡ Well → c.call ≡ name_of asked
-    → c.reply ≡ told_of (reply_of (store_at span.base span.history) asked)
+    → c.reply ≡ told_of (reply_of (store_at span.base span.history) asked) → c.written ≡ record_written asked (reply_of (store_at span.base span.history) asked)
     → store_at span.base (entry.Called c ∷ span.history) ≡ behind (store_at span.base span.history) asked
     → IsTrail span (now span) trail → IsTrail (grown span (entry.Called c)) (now (grown span (entry.Called c))) (Did (now span) (store_at span.base span.history) asked ∷ trail)
 unfolding IsTrail
-trail-did span c asked trail own well call reply next h =
+trail-did span c asked trail own well call reply put next h =
     let new = entry.Called c in
     let after_now : now span + 1 ≡ now (grown span new) = omega arith in (
       record {
@@ -284,6 +287,7 @@ trail-did span c asked trail own well call reply next h =
         well = well;
         is_call = call;
         is_reply = reply;
+        is_written = put;
         before_it = seen-later span new (now span) (omega arith) ∙ seen-now span;
         behind_it = ap (λ (m : ℕ). seen_at (grown span new) m) after_now ∙ seen-now (grown span new) ∙ next;
       },
@@ -353,6 +357,7 @@ made c store moment (Asks label asked next) e = record { label = label; asked = 
 record IsWell (c : Called) (store : Datastore) (asked : Call) (answer : Option Answer) : Type 0 where
   call : c.call ≡ name_of asked
   reply : c.reply ≡ told_of (reply_of store asked)
+  is_written : c.written ≡ record_written asked (reply_of store asked)
   answers : c.answer ≡ answer
   next : store_after c store ≡ behind store asked
 
@@ -362,6 +367,7 @@ well c store asked answer e fate =
     subst (λ (x : Called). IsWell x store asked answer) is (record {
       call = refl;
       reply = refl;
+      is_written = refl;
       answers = refl;
       next = ap (λ w. store_with w store) (write_told-granted asked (reply_of store asked));
     })
@@ -371,6 +377,49 @@ goes-well : (fate : Fate) (slot : ℕ) (asked : Call) (reply : Said) (answer : O
 goes-well Well slot asked reply answer c e none = refl
 goes-well Before slot asked reply answer c e none = let f = ap (λ (x : Called). x.answer) e ∙ none in absurd (cc f)
 goes-well After slot asked reply answer c e none = let f = ap (λ (x : Called). x.answer) e ∙ none in absurd (cc f)
+
+-- ---- the calls of a slot
+
+-- the entry is that of the step's call
+pub record IsCallOf (c : Called) (store : Datastore) (asked : Call) : Type 0 where
+  pub call : c.call ≡ name_of asked
+  pub reply : c.reply ≡ told_of (reply_of store asked)
+  pub is_written : c.written ≡ record_written asked (reply_of store asked)
+
+-- the calls are those of the trail's steps
+unfoldable pub AreCalls : Trail → List Called → Type 0
+AreCalls [] calls = calls ≡ []
+AreCalls (Did moment store asked ∷ trail) calls = (c : Called) × (rest : List Called) × (calls ≡ c ∷ rest) × IsCallOf c store asked × AreCalls trail rest
+AreCalls (Got moment at live ∷ trail) calls = AreCalls trail calls
+
+abbrev slot_calls : ℕ → List Entry → List Called
+slot_calls slot history = calls_of slot (since_begin slot history)
+
+same-slot : (slot : ℕ) → (slot == slot) ≡ true
+same-slot slot = from (slot == slot) refl
+  where
+    from : (b : Bool) → (slot == slot) ≡ b → (slot == slot) ≡ true
+    from true e = e
+    from false e = absurd (eqb-false slot slot e refl)
+
+calls-begun : (slot : ℕ) (request : Request) (history : List Entry) → slot_calls slot (entry.Began slot request ∷ history) ≡ []
+unfolding since_begin
+calls-begun slot request history = ap (λ (b : Bool). calls_of slot (cond b [] (since_begin slot history))) (same-slot slot)
+
+calls-called : (c : Called) (history : List Entry) → slot_calls c.slot (entry.Called c ∷ history) ≡ c ∷ slot_calls c.slot history
+unfolding since_begin
+calls-called c history = ap (λ (b : Bool). cond b (c ∷ slot_calls c.slot history) (slot_calls c.slot history)) (same-slot c.slot)
+
+calls-skip : (slot : ℕ) (new : Entry) (history : List Entry) → begins slot new ≡ false → slot_of_entry new ≢ slot → slot_calls slot (new ∷ history) ≡ slot_calls slot history
+unfolding since_begin
+calls-skip slot (entry.Began other request) history not differ = ap (λ (b : Bool). calls_of slot (cond b [] (since_begin slot history))) not
+calls-skip slot (entry.Fed other at live) history not differ = refl
+calls-skip slot (entry.Stopped other) history not differ = refl
+calls-skip slot (entry.Called c) history not differ = ap (λ (b : Bool). cond b (c ∷ slot_calls slot history) (slot_calls slot history)) (other (c.slot == slot) refl)
+  where
+    other : (b : Bool) → (c.slot == slot) ≡ b → (c.slot == slot) ≡ false
+    other true e = absurd (differ (eqb-true c.slot slot e))
+    other false e = e
 
 abbrev pub span_at : Base → List Entry → ℕ → Span
 span_at base history slot = record { base = base; history = history; slot = slot }
@@ -399,6 +448,7 @@ module _ (P : IsLeft) (lasts : Lasts P) where
   pub record RunComes (base : Base) (history : List Entry) (slot : ℕ) (running : Running) : Type 0 where
     pub trail : Trail
     pub is_trail : IsTrail (span_at base history slot) (moment_of base history) trail
+    pub calls : AreCalls trail (slot_calls slot history)
     pub comes : P running.request trail running.word
 
   abbrev pub SlotComes : Base → List Entry → ℕ → Option Running → Type 0
@@ -410,6 +460,7 @@ module _ (P : IsLeft) (lasts : Lasts P) where
   skip base history new slot (Some running) not other h = record {
     trail = h.trail;
     is_trail = trail-skip (span_at base history slot) new h.trail not other h.is_trail;
+    calls = subst (λ (l : List Called). AreCalls h.trail l) (sym (calls-skip slot new history not other)) h.calls;
     comes = h.comes;
   }
 
@@ -417,12 +468,13 @@ module _ (P : IsLeft) (lasts : Lasts P) where
   record CallComes (base : Base) (history : List Entry) (c : Called) (running : Running) : Type 0 where
     trail : Trail
     is_trail : IsTrail (span_at base (entry.Called c ∷ history) c.slot) (moment_of base (entry.Called c ∷ history)) trail
+    calls : AreCalls trail (c ∷ slot_calls c.slot history)
     comes : P running.request trail (answered (store_at base history) (cluster_at base history).entries running.word)
     answers : c.answer ≡ ended (answered (store_at base history) (cluster_at base history).entries running.word)
 
   call-comes : (base : Base) (history : List Entry) → IsDatastore base.store → Lawful base history → (c : Called) (running : Running) → c.fate ≡ Well
       → call_entry c.slot c.fate (store_at base history) (cluster_at base history).entries running.word ≡ Some c → RunComes base history c.slot running → CallComes base history c running
-  unfolding cluster_at after
+  unfolding cluster_at after AreCalls
   call-comes base history sound h c running fate e run =
       let store = store_at base history in
       let moment = (cluster_at base history).entries in
@@ -436,7 +488,8 @@ module _ (P : IsLeft) (lasts : Lasts P) where
       let next = subst (λ (w : Word Answer). P running.request (Did moment store is.asked ∷ run.trail) w) (sym word) (lasts.hears running.request run.trail is.label is.asked is.next asks moment store agrees) in
       record {
         trail = Did (moment_of base history) store is.asked ∷ run.trail;
-        is_trail = trail-did span c is.asked run.trail refl fate done.call done.reply done.next run.is_trail;
+        is_trail = trail-did span c is.asked run.trail refl fate done.call done.reply done.is_written done.next run.is_trail;
+        calls = (c, slot_calls c.slot history, refl, record { call = done.call; reply = done.reply; is_written = done.is_written }, run.calls);
         comes = subst (λ (m : ℕ). P running.request (Did m store is.asked ∷ run.trail) (answered store moment running.word)) (entries-are base history) next;
         answers = done.answers ∙ ap ended (sym word);
       }
@@ -454,14 +507,21 @@ module _ (P : IsLeft) (lasts : Lasts P) where
       let fate = goes-well c.fate c.slot shape.asked (reply_of store shape.asked) (ended (shape.next moment (reply_of store shape.asked))) c shape.is_call is in
       let step = call-comes base history sound h.0 c may.running fate may.is_called (here may.running may.runs) in
       let run : RunComes base (entry.Called c ∷ history) c.slot (record may.running { word = answered store moment may.running.word }) =
-      record { trail = step.trail; is_trail = step.is_trail; comes = step.comes } in
+      record {
+        trail = step.trail;
+        is_trail = step.is_trail;
+        calls = subst (λ (l : List Called). AreCalls step.trail l) (sym (calls-called c history)) step.calls;
+        comes = step.comes;
+      } in
       subst (λ (o : Option Running). SlotComes base (entry.Called c ∷ history) c.slot (goes_on store moment None o)) (sym may.runs) run
 
   fed-comes : (base : Base) (history : List Entry) (slot at : ℕ) (live : List (List ℕ)) (running : Running) → IsTrue (waits running.word) → RunComes base history slot running
       → RunComes base (entry.Fed slot at live ∷ history) slot (record running { word = fed running.word live })
+  unfolding AreCalls since_begin
   fed-comes base history slot at live running waiting run = record {
     trail = Got (moment_of base history) at live ∷ run.trail;
     is_trail = trail-got (span_at base history slot) at live run.trail run.is_trail;
+    calls = run.calls;
     comes = by running.word waiting run.comes;
   }
     where
@@ -471,13 +531,14 @@ module _ (P : IsLeft) (lasts : Lasts P) where
       by (Waits next) t h = lasts.feeds running.request run.trail next h (moment_of base history) at live
 
   pub slot-comes : (base : Base) (history : List Entry) → IsDatastore base.store → Lawful base history → (slot : ℕ) → SlotComes base history slot ((cluster_at base history).slots slot)
-  unfolding Lawful cluster_at after
+  unfolding Lawful cluster_at after AreCalls
   slot-comes base [] sound h slot = tt
   slot-comes base (entry.Began other request ∷ history) sound h slot =
       slot-is (SlotComes base (entry.Began other request ∷ history) slot) other slot (begun request) (cluster_at base history).slots
       (λ own. subst (λ (s : ℕ). SlotComes base (entry.Began other request ∷ history) s (begun request)) (sym own) (record {
         trail = [];
         is_trail = trail-begins base history other request;
+        calls = calls-begun other request history;
         comes = lasts.starts request;
       }))
       (λ differ. skip base history (entry.Began other request) slot ((cluster_at base history).slots slot) (begins-not other slot differ) (λ e. differ (sym e)) (slot-comes base history sound h.0 slot))
@@ -498,6 +559,13 @@ module _ (P : IsLeft) (lasts : Lasts P) where
       (λ running runs. subst (λ (o : Option Running). SlotComes base history c.slot o) runs (slot-comes base history sound h.0 c.slot))))
       (λ differ. skip base history (entry.Called c) slot ((cluster_at base history).slots slot) refl (λ e. differ (sym e)) (slot-comes base history sound h.0 slot))
 
+-- what two proofs say of one word
+pub Comes-both : {A : Type 0} → (Q R : Trail → A → Type 0) (w : Word A) (trail : Trail) → Comes Q trail w → Comes R trail w → Comes (λ longer a. Q longer a × R longer a) trail w
+Comes-both Q R (Ends answer) trail h k = (h, k)
+Comes-both Q R (Asks label asked next) trail h k = λ moment store agrees.
+    Comes-both Q R (next moment (reply_of store asked)) (Did moment store asked ∷ trail) (h moment store agrees) (k moment store agrees)
+Comes-both Q R (Waits next) trail h k = λ moment at live. Comes-both Q R (next live) (Got moment at live ∷ trail) (h moment at live) (k moment at live)
+
 module _ (Q : Request → Trail → Answer → Type 0) (starts : (request : Request) → Comes (Q request) [] (word_of request)) where
   all-come : Lasts (λ request trail word. Comes (Q request) trail word)
   all-come = record {
@@ -510,6 +578,7 @@ module _ (Q : Request → Trail → Answer → Type 0) (starts : (request : Requ
   pub record AnswerComes (a : Answered) (told : Answer) : Type 0 where
     pub trail : Trail
     pub is_trail : IsTrail (span_of a) (now (span_of a)) trail
+    pub calls : AreCalls trail (a.call ∷ earlier_calls a)
     pub comes : Q a.request trail told
 
   ends-comes : (request : Request) (trail : Trail) (w : Word Answer) (told : Answer) → Comes (Q request) trail w → ended w ≡ Some told → Q request trail told
@@ -529,6 +598,7 @@ module _ (Q : Request → Trail → Answer → Type 0) (starts : (request : Requ
       record {
         trail = step.trail;
         is_trail = step.is_trail;
+        calls = step.calls;
         comes = subst (λ (r : Request). Q r step.trail told) same
             (ends-comes may.running.request step.trail (answered (store_at a.base a.earlier) (cluster_at a.base a.earlier).entries may.running.word) told step.comes (sym step.answers ∙ answer));
       }

@@ -1,1 +1,3 @@
--- The laws are stated in the model.
+-- Most laws are stated in the model.
+pub mod RightAnswers
+pub mod RightSoFar

@@ -1,5 +1,6 @@
 //! Which answers requests have, and what they say.
-ghost use Rattle.ipam_model.specs.AnswerLaw.{CheckAnswersLaw, ProbeAnswersLaw};
+ghost use Rattle.ipam_laws.specs.RightAnswers.{ChangeAnswersLaw, ReleaseAnswersLaw, StopLaw, ThisAnswersLaw, WholeProbeLaw};
+ghost use Rattle.ipam_model.specs.AnswerLaw.{CheckAnswersLaw};
 ghost use Rattle.ipam_model.specs.CanAnswer.{CanAnswerLaw};
 ghost use Rattle.ipam_model.specs.FamilyLaw.{FamilyLaw};
 
@@ -21,9 +22,37 @@ pub fn a_check_is_answered_as_the_blocks_were_read()
     ensures { CheckAnswersLaw }
 {}
 
-/// A probe that is ready scanned once for each wanted family, one after the other, and found an address
-/// or a claim in each; one that is answered that nothing is left found that in its last scan, and
-/// something in those before.
+/// Whatever a probe is answered is right: one that is ready scanned once for each wanted family, one
+/// after the other, and found an address or a claim in each; one that is answered that nothing is
+/// left, or that no pool has a name, found that in its last scan, and something in those before.
 pub fn a_probe_is_answered_by_its_scans()
-    ensures { ProbeAnswersLaw }
+    ensures { WholeProbeLaw }
+{}
+
+/// Whatever the release of an affinity is answered is right: that it was released, where it was marked
+/// and then deleted at its mark, and the block does not have the node; that there was none; and why
+/// it stopped.
+pub fn a_release_is_answered_right()
+    ensures { ReleaseAnswersLaw }
+{}
+
+/// Whatever a change by an operator is answered is right: done, where what was read last was changed
+/// and written; refused, where what was read last refuses it; and why it stopped.
+pub fn a_change_is_answered_right()
+    ensures { ChangeAnswersLaw }
+{}
+
+/// Whatever an ADD of one address is answered is right: the address was free in the block of its slot,
+/// by the rules that were read, and then recorded to the handle with a new stamp; or no usable pool
+/// holds it, or a handle has it, or its block is another node's. Where it is answered that there was no
+/// room or that a count is at its limit, nothing of it is owned.
+pub fn an_add_of_one_address_is_answered_right()
+    ensures { ThisAnswersLaw }
+{}
+
+/// A request is answered that it was tried too often where exactly so many races were lost and claims
+/// confirmed, and this call made one of them reach its bound; that there was no room where a record
+/// could not be created; and that there were no revisions where this call was told so.
+pub fn what_stops_a_request_is_so()
+    ensures { StopLaw }
 {}

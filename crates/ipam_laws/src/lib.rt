@@ -14,3 +14,4 @@ pub mod opening;
 pub mod owners;
 pub mod records;
 pub mod stands;
+pub mod whole;

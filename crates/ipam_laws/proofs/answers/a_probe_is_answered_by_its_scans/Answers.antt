@@ -1,5 +1,5 @@
-use Rattle.ipam_laws.proofs.ProbeAnswers.{probe_answers}
+use Rattle.ipam_laws.proofs.RightHistory.{whole_probe}
 use Rattle.ipam_laws.proofs.answers.a_probe_is_answered_by_its_scans.Goals as goal
 
 pub returns : goal.returns
-returns c = probe_answers
+returns c = whole_probe

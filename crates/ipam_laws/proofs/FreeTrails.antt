@@ -1,0 +1,142 @@
+-- What is freed is rid of: by the trail that led there.
+use Rattle.std.proofs.Common.{◌≡◌, ◌≢◌, ℕ, zero, suc, ◌+◌, List, [], ◌∷◌, Bool, not, Option, Some, None, refl, sym, ap, ◌∙◌, subst}
+use Rattle.std.specs.Prelude.{Contains}
+use Rattle.std.specs.List.{count_by}
+use Rattle.ipam_addr.specs.Shape.{CidrValue}
+use Rattle.ipam_block.specs.declared.allocation.Allocation.{Allocation}
+use Rattle.ipam_block.specs.Operations.{freed, next_block}
+use Rattle.ipam_block.specs.Shape.{BlockValue}
+use Rattle.ipam_handle.specs.Shape as handle
+use Rattle.ipam_handle.specs.Operations.{lowered}
+use Rattle.ipam_records.specs.declared.call.Call.{Call}
+use Rattle.ipam_records.specs.declared.call.Call.TheVariants.{Get, Update, Delete}
+use Rattle.ipam_records.specs.declared.key.Key.TheVariants as key
+use Rattle.ipam_records.specs.declared.record.Record.TheVariants as record_of
+use Rattle.ipam_records.specs.Datastore.{Datastore, reply_of}
+use Rattle.ipam_records.specs.Label.{Credit}
+use Rattle.ipam_records.specs.Said.{Said, Can, Full, Spent}
+use Rattle.ipam_records.specs.Word.{Word, Ends}
+use Rattle.ipam_model.specs.declared.part.Left.{Left}
+use Rattle.ipam_model.specs.declared.part.Outcome.{Outcome}
+use Rattle.ipam_model.specs.declared.part.Outcome.TheVariants.{Went, Stops}
+use Rattle.ipam_model.specs.declared.part.Stop.TheVariants.{OutOfTries, NoRoom, NoRevisions}
+use Rattle.ipam_model.specs.Affinities.{BlockRead}
+use Rattle.ipam_model.specs.Counting.{Freeing, credit_of, free, free_found, free_once, free_these, lower, lower_once, lowering, revision_said, written_or_deleted}
+use Rattle.ipam_model.specs.Reads.{block_said, handle_said}
+use Rattle.ipam_model.specs.Step.{Part, followed, goes, left_of, onward, stops, tries}
+use Rattle.ipam_laws.proofs.ActParts.{IsCurrent, freeing_call, read-current}
+use Rattle.ipam_laws.proofs.Acts.{Later, Same, Since, since-since}
+use Rattle.ipam_laws.proofs.AddParts.{after-write}
+use Rattle.ipam_laws.proofs.AddTrails.{Calm, Keeps, NoBlock}
+use Rattle.ipam_laws.proofs.Members.{in-filter}
+use Rattle.ipam_laws.proofs.Trails.{Comes, Comes-bound, Did, Step, Trail}
+
+-- nothing that is picked was in the block when it was read, or it was freed then
+pub data Rid (what : Freeing) (amount : ℕ) (trail : Trail) : Type 0 where
+  NoneThere : (moment : ℕ) (store : Datastore) (before : Trail) → Since (Did moment store (Get (key.Block what.block)) ∷ before) trail → amount ≡ 0
+      → ((found : ℕ × BlockValue) → block_said (reply_of store (Get (key.Block what.block))) ≡ Some found → count_by what.picks found.1.allocations ≡ 0) → Rid what amount trail
+  Freed : (moment : ℕ) (store : Datastore) (before : Trail) (b : BlockValue) (old revision more : ℕ) → Since (Did moment store (freeing_call what b old) ∷ before) trail → amount ≡ suc more
+      → reply_of store (freeing_call what b old) ≡ Can revision → IsCurrent store old b → b.cidr ≡ what.block → count_by what.picks b.allocations ≡ suc more → Rid what amount trail
+
+-- a trail that goes on calmly
+pub data Calmer (origin : Trail) : Trail → Type 0 where
+  Still : Calmer origin origin
+  Then : (moment : ℕ) (store : Datastore) (asked : Call) (longer : Trail) → Calm store asked → Calmer origin longer → Calmer origin (Did moment store asked ∷ longer)
+
+pub calmer-since : (origin trail : Trail) → Calmer origin trail → Since origin trail
+calmer-since origin trail Still = Same
+calmer-since origin trail (Then moment store asked longer calm before) = Later (Did moment store asked) longer (calmer-since origin longer before)
+
+pub calmer-calmer : (one two three : Trail) → Calmer one two → Calmer two three → Calmer one three
+calmer-calmer one two three h Still = h
+calmer-calmer one two three h (Then moment store asked longer calm before) = Then moment store asked longer calm (calmer-calmer one two longer h before)
+
+pub rid-since : (what : Freeing) (amount : ℕ) (trail longer : Trail) → Since trail longer → Rid what amount trail → Rid what amount longer
+rid-since what amount trail longer since (NoneThere moment store before there zero_amount none) = NoneThere moment store before (since-since (Did moment store (Get (key.Block what.block)) ∷ before) trail longer there since) zero_amount none
+rid-since what amount trail longer since (Freed moment store before b old revision more there is done current same count) =
+    Freed moment store before b old revision more (since-since (Did moment store (freeing_call what b old) ∷ before) trail longer there since) is done current same count
+
+-- ---- lowering
+
+unfoldable LowerEnds : Trail → Outcome (Unit {0}) → Trail → Type 0
+LowerEnds origin (Went left done) trail = Calmer origin trail
+LowerEnds origin (Stops left why) trail = Unit {0}
+
+lowering-calm : (store : Datastore) (h : handle.HandleValue) (counts : List (CidrValue × ℕ)) (revision : ℕ) → Calm store (written_or_deleted h counts revision)
+lowering-calm store h [] revision = NoBlock (λ cidr e. cc e)
+lowering-calm store h (count ∷ counts) revision = NoBlock (λ cidr e. cc e)
+
+lower-once : (credit : Credit) (origin : Trail) (again : Part (Unit {0})) (left : Left) → ((trail : Trail) → Calmer origin trail → Comes (λ t o. LowerEnds origin o t) trail again) → (trail : Trail) → Calmer origin trail → Comes (λ t o. LowerEnds origin o t) trail (lower_once credit again left)
+unfolding LowerEnds
+lower-once credit origin again left h trail calm = λ moment store agrees second other agrees_then.
+    let read = Get (key.Handle credit.handle) in
+    let said = reply_of store read in
+    let less = lowered (handle_said credit.handle said) credit.block credit.amount in
+    let asked = lowering less (revision_said said) in
+    let behind = Then second other asked (Did moment store read ∷ trail) (lowering-calm other less less.counts (revision_said said)) (Then moment store read trail (NoBlock (λ cidr e. cc e)) calm) in
+    after-write (λ t o. LowerEnds origin o t) (Did second other asked ∷ Did moment store read ∷ trail) (reply_of other asked) (reply_of other asked) (λ revision. goes left tt) again (stops left NoRoom) (stops left NoRevisions) refl
+    (λ revision e. behind) (h (Did second other asked ∷ Did moment store read ∷ trail) behind) tt tt
+
+lower-tries : (credit : Credit) (origin : Trail) (races claims : ℕ) (trail : Trail) → Calmer origin trail → Comes (λ t o. LowerEnds origin o t) trail (tries (lower_once credit) races claims)
+unfolding tries LowerEnds
+lower-tries credit origin zero claims trail calm = lower-once credit origin (stops (left_of zero claims) OutOfTries) (left_of zero claims) (λ longer k. tt) trail calm
+lower-tries credit origin (suc races) claims trail calm = lower-once credit origin (tries (lower_once credit) races claims) (left_of (suc races) claims) (λ longer k. lower-tries credit origin races claims longer k) trail calm
+
+-- ---- freeing
+
+-- it was rid of, calmly
+unfoldable pub FreedEnds : Freeing → Trail → Trail → Outcome ℕ → Type 0
+FreedEnds what origin trail (Went left amount) = Rid what amount trail × Calmer origin trail
+FreedEnds what origin trail (Stops left why) = Unit {0}
+
+freeing-calm : (store : Datastore) (what : Freeing) (b : BlockValue) (old : ℕ) → IsCurrent store old b → Calm store (freeing_call what b old)
+freeing-calm store what b old current = Keeps b (freed what.picks (next_block b)) old refl (λ found there. current found there) refl (λ a there. (in-filter (λ (x : Allocation). not (what.picks x)) a b.allocations there).0)
+
+AgainFreed : Freeing → Trail → Part ℕ → Type 0
+AgainFreed what origin again = (trail : Trail) → Calmer origin trail → Comes (FreedEnds what origin) trail again
+
+free-some : (what : Freeing) (origin : Trail) (again : Part ℕ) (left : Left) (moment : ℕ) (store : Datastore) (trail : Trail) (found : ℕ × BlockValue) (amount : ℕ) → AgainFreed what origin again → Calmer origin trail → block_said (reply_of store (Get (key.Block what.block))) ≡ Some found → count_by what.picks found.1.allocations ≡ amount
+    → Comes (FreedEnds what origin) (Did moment store (Get (key.Block what.block)) ∷ trail) (free_these what again left amount found)
+unfolding FreedEnds LowerEnds AgainFreed
+free-some what origin again left moment store trail found zero h calm e count = (
+  NoneThere moment store trail Same refl (λ other f. let same : found ≡ other = cc (e, f) in ap (λ (p : ℕ × BlockValue). count_by what.picks p.1.allocations) (sym same) ∙ count),
+  Then moment store (Get (key.Block what.block)) trail (NoBlock (λ cidr f. cc f)) calm,
+)
+free-some what origin again left moment store trail found (suc more) h calm e count = λ second other agrees.
+    let read = Get (key.Block what.block) in
+    let (same, current) = read-current (λ t s l x. Unit {0}) (λ t s l x apart. tt) (λ t s l x stands. tt) moment store other trail what.block found e agrees in
+    let asked = freeing_call what found.1 found.0 in
+    let longer : Trail = Did second other asked ∷ Did moment store read ∷ trail in
+    let behind : Calmer origin longer = Then second other asked (Did moment store read ∷ trail) (freeing-calm other what found.1 found.0 current) (Then moment store read trail (NoBlock (λ cidr f. cc f)) calm) in
+    after-write (FreedEnds what origin) longer (reply_of other asked) (reply_of other asked) (λ taken. followed (lower (credit_of what.handle what.block (suc more)) left) (λ now done. goes now (suc more))) again (stops left NoRoom) (stops left NoRevisions) refl
+    (λ revision done. lowers longer behind (Freed second other (Did moment store read ∷ trail) found.1 found.0 revision more Same refl done current same count))
+    (h longer behind) tt tt
+  where
+    lowers : (longer : Trail) → Calmer origin longer → Rid what (suc more) longer → Comes (FreedEnds what origin) longer (followed (lower (credit_of what.handle what.block (suc more)) left) (λ now done. goes now (suc more)))
+    lowers longer behind rid =
+        Comes-bound (λ t o. LowerEnds longer o t) (FreedEnds what origin) (onward (λ now done. goes now (suc more))) (lower (credit_of what.handle what.block (suc more)) left) longer
+        (lower-tries (credit_of what.handle what.block (suc more)) longer left.races left.claims longer Still) ends
+      where
+        ends : (further : Trail) (outcome : Outcome (Unit {0})) → LowerEnds longer outcome further → Comes (FreedEnds what origin) further (onward (λ now done. goes now (suc more)) outcome)
+        ends further (Went now done) k = (rid-since what (suc more) longer further (calmer-since longer further k) rid, calmer-calmer origin longer further behind k)
+        ends further (Stops now why) k = tt
+
+free-once : (what : Freeing) (origin : Trail) (again : Part ℕ) (left : Left) → AgainFreed what origin again → AgainFreed what origin (free_once what again left)
+unfolding FreedEnds AgainFreed
+free-once what origin again left h trail calm = λ moment store agrees. by moment store (block_said (reply_of store (Get (key.Block what.block)))) refl
+  where
+    by : (moment : ℕ) (store : Datastore) (read : BlockRead) → block_said (reply_of store (Get (key.Block what.block))) ≡ read → Comes (FreedEnds what origin) (Did moment store (Get (key.Block what.block)) ∷ trail) (free_found what again left read)
+    by moment store None e = (
+      NoneThere moment store trail Same refl (λ found f. absurd (cc (e, f))),
+      Then moment store (Get (key.Block what.block)) trail (NoBlock (λ cidr f. cc f)) calm,
+    )
+    by moment store (Some found) e = free-some what origin again left moment store trail found (count_by what.picks found.1.allocations) h calm e refl
+
+free-tries : (what : Freeing) (origin : Trail) (races claims : ℕ) → AgainFreed what origin (tries (free_once what) races claims)
+unfolding tries FreedEnds AgainFreed
+free-tries what origin zero claims = free-once what origin (stops (left_of zero claims) OutOfTries) (left_of zero claims) (λ trail calm. tt)
+free-tries what origin (suc races) claims = free-once what origin (tries (free_once what) races claims) (left_of (suc races) claims) (free-tries what origin races claims)
+
+pub free-rids : (what : Freeing) (origin : Trail) (left : Left) → Comes (FreedEnds what origin) origin (free what left)
+unfolding AgainFreed
+free-rids what origin left = free-tries what origin left.races left.claims origin Still

@@ -1,0 +1,228 @@
+-- Whatever a request is answered is right, by the kind of the request.
+use Rattle.std.proofs.Common.{◌≡◌, ◌≢◌, ℕ, inl, inr, List, [], ◌∷◌, Some, refl, sym, ap, ◌∙◌, subst}
+use Rattle.ipam_addr.specs.Shape.{AddrValue, CidrValue}
+use Rattle.ipam_records.specs.Sound.{IsDatastore}
+use Rattle.ipam_records.specs.Word.{Word}
+use Rattle.ipam_model.specs.declared.answer.Answer.{Answer}
+use Rattle.ipam_model.specs.declared.answer.Answer.TheVariants as answer
+use Rattle.ipam_model.specs.declared.answer.Scan.{Scan}
+use Rattle.ipam_model.specs.declared.entry.Fate.{Fate}
+use Rattle.ipam_model.specs.declared.entry.Fate.TheVariants.{After, Before, Well}
+use Rattle.ipam_model.specs.declared.request.AddRequest.{AddRequest}
+use Rattle.ipam_model.specs.declared.request.Admin.{Admin as Setting}
+use Rattle.ipam_model.specs.declared.request.ProbeRequest.{ProbeRequest}
+use Rattle.ipam_model.specs.declared.request.Request.{Request}
+use Rattle.ipam_model.specs.declared.request.Request.TheVariants.{Add, AddThis, Admin, Check, Collect, Del, Probe, Release}
+use Rattle.ipam_model.specs.AddLaw.{HasNothing}
+use Rattle.ipam_model.specs.AnswerLaw.{CheckAnswersLaw, IsAddWith, IsAnsweredRight, IsRightAnswer, ProbeAnswersLaw}
+use Rattle.ipam_model.specs.Answered.{Answered, earlier_calls, history_of, span_of}
+use Rattle.ipam_model.specs.Consistent.{IsConsistent}
+use Rattle.ipam_model.specs.History.{Lawful, cluster_at, now}
+use Rattle.ipam_model.specs.Moments.{request_in}
+use Rattle.ipam_model.specs.Requests.{word_of}
+use Rattle.ipam_laws.specs.RightAnswers.{ChangeAnswersLaw, IsAlwaysRight, IsStoppedRight, ReleaseAnswersLaw, StopLaw, ThisAnswersLaw, WholeProbeLaw}
+use Rattle.ipam_laws.proofs.CheckAnswers.{OfCheck, check-comes, check-right}
+use Rattle.ipam_laws.proofs.FamilyHistory.{comes-any}
+use Rattle.ipam_laws.proofs.Fates.{faults}
+use Rattle.ipam_laws.proofs.HeardRight.{OfChange, OfRelease, done-right, missed-right, refused-right, released-right, told-change, told-release}
+use Rattle.ipam_laws.proofs.ProbeAnswers.{OfProbe, probe-comes, probe-right}
+use Rattle.ipam_laws.proofs.StopHistory.{IsStopRight, stopped-right}
+use Rattle.ipam_laws.proofs.StoreSteps.{failed-answered}
+use Rattle.ipam_laws.proofs.ThisGiven.{given-right, limit-right}
+use Rattle.ipam_laws.proofs.ThisRight.{calm-nothing, held-right, left-right, unpooled-right}
+use Rattle.ipam_laws.proofs.ThisTrails.{OfThis, told-this}
+use Rattle.ipam_laws.proofs.Trails.{AreCalls, Comes, IsTrail, Trail, answer-comes}
+
+-- ---- what requests say of their trails
+
+pub Heard : Request → Trail → Answer → Type 0
+Heard (Check id addresses) trail told = OfCheck id addresses trail told
+Heard (Release node cidr) trail told = OfRelease node cidr trail told
+Heard (Admin setting) trail told = OfChange setting trail told
+Heard (Probe request) trail told = OfProbe request trail told
+Heard (AddThis request address) trail told = OfThis request address trail told
+Heard _ trail told = Unit {0}
+
+hear : (request : Request) → Comes (Heard request) [] (word_of request)
+unfolding word_of Heard
+hear (Check id addresses) = check-comes id addresses
+hear (Release node cidr) = told-release node cidr
+hear (Admin setting) = told-change setting
+hear (Probe request) = probe-comes request
+hear (Add request) = comes-any (λ trail (told : Answer). Unit {0}) (λ trail told. tt) (word_of (Add request)) []
+hear (AddThis request address) = told-this request address
+hear (Del id) = comes-any (λ trail (told : Answer). Unit {0}) (λ trail told. tt) (word_of (Del id)) []
+hear (Collect request) = comes-any (λ trail (told : Answer). Unit {0}) (λ trail told. tt) (word_of (Collect request)) []
+
+-- ---- answers of calls that went well, or failed
+
+-- where an answer stands
+pub record IsThere (a : Answered) (told : Answer) : Type 0 where
+  pub consistent : IsConsistent a.base.store
+  pub lawful : Lawful a.base (history_of a)
+  pub requested : request_in (cluster_at a.base a.earlier) a.call.slot ≡ Some a.request
+  pub given : a.call.answer ≡ Some told
+
+right-if : (a : Answered) (told : Answer) → IsThere a told → (told ≢ answer.Fault → a.call.fate ≡ Well → IsRightAnswer a told) → IsRightAnswer a told
+right-if a told t well = by a.call.fate refl
+  where
+    failed : a.call.fate ≢ Well → IsRightAnswer a told
+    failed differ =
+        let fault = failed-answered a.base a.earlier a.call t.lawful differ in
+        let given = t.given in
+        let same : answer.Fault ≡ told = cc (fault, given) in
+        subst (λ (x : Answer). IsRightAnswer a x) same differ
+
+    by : (fate : Fate) → a.call.fate ≡ fate → IsRightAnswer a told
+    by Well fate = well (λ e. (faults a t.lawful).0 (t.given ∙ ap Some e) fate) fate
+    by Before fate = failed (λ e. cc (e, fate))
+    by After fate = failed (λ e. cc (e, fate))
+
+-- what was heard, and why it stopped
+record IsHeard (a : Answered) (told : Answer) : Type 0 where
+  trail : Trail
+  is_trail : IsTrail (span_of a) (now (span_of a)) trail
+  calls : AreCalls trail (a.call ∷ earlier_calls a)
+  heard : Heard a.request trail told
+  stop : IsStopRight a told
+
+heard-of : (a : Answered) (told : Answer) → IsThere a told → told ≢ answer.Fault → a.call.fate ≡ Well → IsHeard a told
+heard-of a told t differ fate =
+    let comes = answer-comes Heard hear a told t.consistent.sound t.lawful t.requested t.given fate in
+    record {
+      trail = comes.trail;
+      is_trail = comes.is_trail;
+      calls = comes.calls;
+      heard = comes.comes;
+      stop = stopped-right a told t.consistent.sound t.lawful t.requested t.given differ;
+    }
+
+-- ---- by the kind of the request
+
+pub check_answers : CheckAnswersLaw
+unfolding Heard
+check_answers a id addresses c h is told requested given =
+    let t : IsThere a told = record { consistent = c; lawful = h; requested = requested; given = given } in
+    right-if a told t (λ differ fate.
+    let k = heard-of a told t differ fate in
+    check-right a id addresses k.trail c h is k.is_trail told (subst (λ (r : Request). Heard r k.trail told) is k.heard))
+
+pub whole_probe : WholeProbeLaw
+unfolding Heard
+whole_probe request a c h is told requested given =
+    let t : IsThere a told = record { consistent = c; lawful = h; requested = requested; given = given } in
+    right-if a told t (λ differ fate.
+    let k = heard-of a told t differ fate in
+    probe-right a request k.trail is k.is_trail told (subst (λ (r : Request). Heard r k.trail told) is k.heard))
+
+pub probe_answers : ProbeAnswersLaw
+probe_answers a request c h is requested = (λ scans given. whole_probe request a c h is (answer.Ready scans) requested given, λ scan given. whole_probe request a c h is (answer.Exhausted scan) requested given)
+
+-- no ADD
+no-add : (a : Answered) (request : Request) → a.request ≡ request → ((add : AddRequest) → request ≢ Add add) → ((add : AddRequest) (address : AddrValue) → request ≢ AddThis add address) → (add : AddRequest) → IsAddWith a.request add → HasNothing a
+no-add a request is plain this add (inl e) = absurd (plain add (sym is ∙ e))
+no-add a request is plain this add (inr (address, e)) = absurd (this add address (sym is ∙ e))
+
+change-right : (a : Answered) (setting : Setting) (trail : Trail) → a.request ≡ Admin setting → IsTrail (span_of a) (now (span_of a)) trail → AreCalls trail (a.call ∷ earlier_calls a) → (told : Answer) → OfChange setting trail told → IsStopRight a told → IsRightAnswer a told
+unfolding OfChange IsStopRight
+change-right a setting trail is there calls (answer.Done revision) h s = (setting, is, done-right a setting revision trail there calls h)
+change-right a setting trail is there calls (answer.Refused number about) h s = (setting, is, refused-right a setting number about trail there h)
+change-right a setting trail is there calls (answer.Again lost claims) h s = s
+change-right a setting trail is there calls answer.Full h s = (s, no-add a (Admin setting) is (λ add e. cc e) (λ add address e. cc e))
+change-right a setting trail is there calls answer.Spent h s = s
+change-right a setting trail is there calls (answer.Added given) h s = absurd h
+change-right a setting trail is there calls (answer.AddedThis given) h s = absurd h
+change-right a setting trail is there calls (answer.Exhausted scan) h s = absurd h
+change-right a setting trail is there calls (answer.NoPool called moment) h s = absurd h
+change-right a setting trail is there calls (answer.NotInPool moment) h s = absurd h
+change-right a setting trail is there calls (answer.Taken id moment) h s = absurd h
+change-right a setting trail is there calls (answer.NotAffine block moment) h s = absurd h
+change-right a setting trail is there calls (answer.Deleted moment) h s = absurd h
+change-right a setting trail is there calls answer.Checked h s = absurd h
+change-right a setting trail is there calls (answer.NotRecorded address moment) h s = absurd h
+change-right a setting trail is there calls answer.Released h s = absurd h
+change-right a setting trail is there calls (answer.NoAffinity moment) h s = absurd h
+change-right a setting trail is there calls (answer.Collected collected) h s = absurd h
+change-right a setting trail is there calls (answer.CountFull moment) h s = absurd h
+change-right a setting trail is there calls answer.Fault h s = absurd h
+change-right a setting trail is there calls (answer.Ready scans) h s = absurd h
+
+pub change_answers : ChangeAnswersLaw
+unfolding Heard
+change_answers setting a c h is told requested given =
+    let t : IsThere a told = record { consistent = c; lawful = h; requested = requested; given = given } in
+    right-if a told t (λ differ fate.
+    let k = heard-of a told t differ fate in
+    change-right a setting k.trail is k.is_trail k.calls told (subst (λ (r : Request). Heard r k.trail told) is k.heard) k.stop)
+
+release-right : (a : Answered) (node : List ℕ) (cidr : CidrValue) (trail : Trail) → IsConsistent a.base.store → Lawful a.base (history_of a) → a.request ≡ Release node cidr → IsTrail (span_of a) (now (span_of a)) trail → AreCalls trail (a.call ∷ earlier_calls a) → (told : Answer) → OfRelease node cidr trail told → IsStopRight a told → IsRightAnswer a told
+unfolding OfRelease IsStopRight
+release-right a node cidr trail c l is there calls answer.Released h s = (node, cidr, is, released-right a node cidr trail c l there calls h)
+release-right a node cidr trail c l is there calls (answer.NoAffinity moment) h s = (node, cidr, is, missed-right a node cidr moment trail there h)
+release-right a node cidr trail c l is there calls (answer.Again lost claims) h s = s
+release-right a node cidr trail c l is there calls answer.Full h s = (s, no-add a (Release node cidr) is (λ add e. cc e) (λ add address e. cc e))
+release-right a node cidr trail c l is there calls answer.Spent h s = s
+release-right a node cidr trail c l is there calls (answer.Added given) h s = absurd h
+release-right a node cidr trail c l is there calls (answer.AddedThis given) h s = absurd h
+release-right a node cidr trail c l is there calls (answer.Exhausted scan) h s = absurd h
+release-right a node cidr trail c l is there calls (answer.NoPool called moment) h s = absurd h
+release-right a node cidr trail c l is there calls (answer.NotInPool moment) h s = absurd h
+release-right a node cidr trail c l is there calls (answer.Taken id moment) h s = absurd h
+release-right a node cidr trail c l is there calls (answer.NotAffine block moment) h s = absurd h
+release-right a node cidr trail c l is there calls (answer.Deleted moment) h s = absurd h
+release-right a node cidr trail c l is there calls answer.Checked h s = absurd h
+release-right a node cidr trail c l is there calls (answer.NotRecorded address moment) h s = absurd h
+release-right a node cidr trail c l is there calls (answer.Collected collected) h s = absurd h
+release-right a node cidr trail c l is there calls (answer.Done revision) h s = absurd h
+release-right a node cidr trail c l is there calls (answer.Refused number about) h s = absurd h
+release-right a node cidr trail c l is there calls (answer.CountFull moment) h s = absurd h
+release-right a node cidr trail c l is there calls answer.Fault h s = absurd h
+release-right a node cidr trail c l is there calls (answer.Ready scans) h s = absurd h
+
+pub release_answers : ReleaseAnswersLaw
+unfolding Heard
+release_answers node cidr a c h is told requested given =
+    let t : IsThere a told = record { consistent = c; lawful = h; requested = requested; given = given } in
+    right-if a told t (λ differ fate.
+    let k = heard-of a told t differ fate in
+    release-right a node cidr k.trail c h is k.is_trail k.calls told (subst (λ (r : Request). Heard r k.trail told) is k.heard) k.stop)
+
+this-right : (a : Answered) (request : AddRequest) (address : AddrValue) (trail : Trail) → IsConsistent a.base.store → Lawful a.base (history_of a) → a.request ≡ AddThis request address → IsTrail (span_of a) (now (span_of a)) trail → (told : Answer) → OfThis request address trail told → IsStopRight a told → IsRightAnswer a told
+unfolding OfThis IsStopRight
+this-right a request address trail c l is there (answer.AddedThis given) h s = (request, address, is, given-right a request address c l given trail there h)
+this-right a request address trail c l is there (answer.NotInPool moment) h s = (request, address, is, unpooled-right a request address c l moment trail there h)
+this-right a request address trail c l is there (answer.Taken id moment) h s = (request, address, is, held-right a request address c l id moment trail there h)
+this-right a request address trail c l is there (answer.NotAffine block moment) h s = (request, address, is, left-right a request address c l block moment trail there h)
+this-right a request address trail c l is there (answer.Again lost claims) h s = s
+this-right a request address trail c l is there answer.Full h s = (s, λ add adds. calm-nothing a trail c l there h)
+this-right a request address trail c l is there (answer.CountFull moment) h s = (request, inr (address, is), limit-right a request address c l moment trail is there h.0, calm-nothing a trail c l there h.1)
+this-right a request address trail c l is there answer.Spent h s = s
+this-right a request address trail c l is there (answer.Added given) h s = absurd h
+this-right a request address trail c l is there (answer.Exhausted scan) h s = absurd h
+this-right a request address trail c l is there (answer.NoPool called moment) h s = absurd h
+this-right a request address trail c l is there (answer.Deleted moment) h s = absurd h
+this-right a request address trail c l is there answer.Checked h s = absurd h
+this-right a request address trail c l is there (answer.NotRecorded other moment) h s = absurd h
+this-right a request address trail c l is there answer.Released h s = absurd h
+this-right a request address trail c l is there (answer.NoAffinity moment) h s = absurd h
+this-right a request address trail c l is there (answer.Collected collected) h s = absurd h
+this-right a request address trail c l is there (answer.Done revision) h s = absurd h
+this-right a request address trail c l is there (answer.Refused number about) h s = absurd h
+this-right a request address trail c l is there answer.Fault h s = absurd h
+this-right a request address trail c l is there (answer.Ready scans) h s = absurd h
+
+pub this_answers : ThisAnswersLaw
+unfolding Heard
+this_answers request address a c h is told requested given =
+    let t : IsThere a told = record { consistent = c; lawful = h; requested = requested; given = given } in
+    right-if a told t (λ differ fate.
+    let k = heard-of a told t differ fate in
+    this-right a request address k.trail c h is k.is_trail told (subst (λ (r : Request). Heard r k.trail told) is k.heard) k.stop)
+
+pub stop_law : StopLaw
+unfolding IsStopRight
+stop_law a sound h requested = record {
+  again = λ lost claims given. stopped-right a (answer.Again lost claims) sound h requested given (λ e. cc e);
+  full = λ given. stopped-right a answer.Full sound h requested given (λ e. cc e);
+  spent = λ given. stopped-right a answer.Spent sound h requested given (λ e. cc e);
+}
