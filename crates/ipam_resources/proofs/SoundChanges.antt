@@ -1,0 +1,202 @@
+-- What is read of a document are sound changes.
+use Rattle.std.proofs.Common.{◌≡◌, ℕ, ◌^◌, ◌<◌, List, [], ◌∷◌, ◌++◌, length, Bool, true, false, Option, Some, None, option_and_then, Result, Ok, Err, nat_lt, nat_le, refl, subst, arith, All}
+use Rattle.std.specs.Prelude.{is_some, if◌then◌else◌}
+use Rattle.std.specs.Option.{ok_or}
+use Rattle.std.specs.List.{AllByRecursion}
+use Rattle.std.proofs.lemmas.Bool.{leb-true}
+use Rattle.std.proofs.lemmas.Option.{cond_some}
+use Rattle.std.proofs.lemmas.List.Elements.{All-from_recursion}
+use Rattle.serde_json.specs.Data.{Data, Items, no_items, item}
+use Rattle.serde_json.specs.Find.{as_bool, as_array, as_object}
+use Rattle.ipam_addr.specs.declared.address.Family.{Family}
+use Rattle.ipam_addr.specs.declared.address.Family.TheVariants.{V4, V6}
+use Rattle.ipam_addr.specs.Names.{is_name_text}
+use Rattle.ipam_addr.specs.Width.{IsCidr}
+use Rattle.ipam_select.specs.Formula.{every}
+use Rattle.ipam_select.specs.Sound.{is_sound}
+use Rattle.ipam_pool.specs.declared.pools.Pool.{Pool}
+use Rattle.ipam_pool.specs.declared.pools.Mode.TheVariants.{Automatic}
+use Rattle.ipam_reserve.specs.Shape.{ReservationValue}
+use Rattle.ipam_record_text.specs.declared.config.Config.{Config as Settings}
+use Rattle.ipam_record_text.specs.Pools.{IsSoundPool}
+use Rattle.ipam_record_text.specs.Reservations.{IsReservation, named_cidrs}
+use Rattle.ipam_record_text.proofs.Parts.{then-is}
+use Rattle.ipam_model.specs.SoundRequest.{IsSoundChange}
+use Rattle.ipam_resources.specs.declared.fault.DocumentFault.TheVariants as fault
+use Rattle.ipam_resources.specs.declared.fault.TheConstants.{DOCUMENT_MAX}
+use Rattle.ipam_resources.specs.declared.kind.DocumentKind.{DocumentKind}
+use Rattle.ipam_resources.specs.declared.kind.DocumentKind.TheVariants.{One, Several}
+use Rattle.ipam_resources.specs.declared.kind.ResourceKind.{ResourceKind}
+use Rattle.ipam_resources.specs.declared.kind.ResourceKind.TheVariants as kind
+use Rattle.ipam_resources.specs.declared.member.Member.{Member}
+use Rattle.ipam_resources.specs.declared.member.Member.TheVariants as member
+use Rattle.ipam_resources.specs.declared.resource.Resource.{Resource}
+use Rattle.ipam_resources.specs.Members.{◌>>=◌, found_at, required, read_or, optional}
+use Rattle.ipam_resources.specs.Values.{name_in, cidr_in, size_in, bound_in, selector_in, ranges_in, default_size}
+use Rattle.ipam_resources.specs.Resources.{plain_pool, mode_at, pool_reading, reservation_reading, config_reading, config_name, pool_resource, reservation_resource, config_resource, kind_in, pool_in, reservation_in, config_in, resource_in, item_in}
+use Rattle.ipam_resources.specs.Documents.{alone, as_item, resources_after, resources_of, kind_said, by_kind, json_of, object_reading, document_reading}
+use Rattle.ipam_resources.proofs.ValueLemmas.{name_in-is, cidr_in-is, size_in-is, bound_in-is, selector_in-is, ranges_in-is}
+
+-- ---- what was read where there is something
+
+bind_ok : {A B E P : Type 0} (f : A → Result B E) (r : Result A E) (y : B) → (r >>= f) ≡ Ok y → ((x : A) → r ≡ Ok x → f x ≡ Ok y → P) → P
+bind_ok f (Ok x) y e k = k x refl e
+bind_ok f (Err m) y e k = cc
+
+same_Ok : {A E : Type 0} (x y : A) → ◌≡◌ {A = Result A E} (Ok x) (Ok y) → x ≡ y
+same_Ok x y e = cc
+
+ok_or_ok : {A : Type 0} (o : Option A) (m : Member) (x : A) → ok_or o m ≡ Ok x → o ≡ Some x
+ok_or_ok (Some y) m x e = cc
+ok_or_ok None m x e = cc
+
+required-is : {A : Type 0} (found : Data → Option A) (P : A → Type 0) → ((d : Data) (x : A) → found d ≡ Some x → P x) → (m : Member) (d : Data) (x : A) → required found m d ≡ Ok x → P x
+unfolding required
+required-is found P h m d x e = then-is found P h (found_at m d) x (ok_or_ok _ m x e)
+
+optional-is : {A : Type 0} (found : Data → Option A) (P : A → Type 0) (default : A) → P default → ((d : Data) (x : A) → found d ≡ Some x → P x) → (m : Member) (d : Data) (x : A) → optional found default m d ≡ Ok x → P x
+unfolding optional
+optional-is {A} found P default h0 h m d x e = go (found_at m d) e
+  where
+    go : (o : Option Data) → read_or found default m o ≡ Ok x → P x
+    go None e' = subst P (same_Ok default x e') h0
+    go (Some v) e' = h v x (ok_or_ok (found v) m x e')
+
+-- ---- a pool
+
+abbrev IsNameText : List ℕ → Type 0
+IsNameText name = is_name_text name ≡ true
+
+default_small : (family : Family) → default_size family < 2 ^ 8
+default_small V4 = omega arith
+default_small V6 = omega arith
+
+plain_pool-sound : (d : Data) (p : Pool) → plain_pool d ≡ Ok p → IsSoundPool p
+unfolding plain_pool
+plain_pool-sound d p e =
+    bind_ok _ (required name_in member.Name d) p e (λ name is_name e1.
+    bind_ok _ (required cidr_in member.Cidr d) p e1 (λ range is_range e2.
+    bind_ok _ (optional size_in (default_size range.family) member.BlockSize d) p e2 (λ size is_size e3.
+    bind_ok _ (optional as_bool false member.Disabled d) p e3 (λ disabled is_disabled e4.
+    subst IsSoundPool (same_Ok (record { name = name; cidr = range; size = size; disabled = disabled; mode = Automatic; selector = every }) p e4) (record {
+      name = required-is name_in IsNameText name_in-is member.Name d name is_name;
+      cidr = required-is cidr_in IsCidr cidr_in-is member.Cidr d range is_range;
+      size = optional-is size_in (λ n. n < 2 ^ 8) (default_size range.family) (default_small range.family) size_in-is member.BlockSize d size is_size;
+      selector = refl;
+    })))))
+
+pool_reading-sound : (d : Data) (p : Pool) → pool_reading d ≡ Ok p → IsSoundPool p
+unfolding pool_reading
+pool_reading-sound d p e =
+    bind_ok _ (plain_pool d) p e (λ plain is_plain e1.
+    bind_ok _ (optional selector_in every member.NodeSelector d) p e1 (λ selector is_selector e2.
+    bind_ok _ (mode_at d) p e2 (λ mode is_mode e3.
+    let h = plain_pool-sound d plain is_plain in
+    subst IsSoundPool (same_Ok (record plain { mode = mode; selector = selector }) p e3) (record {
+      name = h.name;
+      cidr = h.cidr;
+      size = h.size;
+      selector = optional-is selector_in (λ f. is_sound f ≡ true) every refl selector_in-is member.NodeSelector d selector is_selector;
+    }))))
+
+-- ---- a reservation
+
+reservation_reading-sound : (d : Data) (r : ReservationValue) → reservation_reading d ≡ Ok r → IsReservation r
+unfolding reservation_reading named_cidrs
+reservation_reading-sound d r e =
+    bind_ok _ (required name_in member.Name d) r e (λ name is_name e1.
+    bind_ok _ (required ranges_in member.ReservedCidrs d) r e1 (λ ranges is_ranges e2.
+    let (few, same) = cond_some (nat_le (length ranges) 64) (record { name = name; cidrs = ranges }) r (ok_or_ok _ member.ReservedCidrs r e2) in
+    subst IsReservation same (record {
+      name = required-is name_in IsNameText name_in-is member.Name d name is_name;
+      few = leb-true _ _ few;
+      ranges = All-from_recursion IsCidr ranges (required-is ranges_in (AllByRecursion IsCidr) ranges_in-is member.ReservedCidrs d ranges is_ranges);
+    })))
+
+-- ---- a configuration
+
+none_small : 0 < 2 ^ 32
+none_small = omega arith
+
+config_reading-sound : (d : Data) (c : Settings) → config_reading d ≡ Ok c → c.max_blocks < 2 ^ 32
+unfolding config_reading
+config_reading-sound d c e =
+    bind_ok _ (optional as_bool false member.StrictAffinity d) c e (λ strict is_strict e1.
+    bind_ok _ (optional as_bool true member.AutoAllocateBlocks d) c e1 (λ auto is_auto e2.
+    bind_ok _ (optional bound_in 0 member.MaxBlocksPerHost d) c e2 (λ most is_most e3.
+    subst (λ (s : Settings). s.max_blocks < 2 ^ 32) (same_Ok (record { strict = strict; auto = auto; max_blocks = most }) c e3)
+    (optional-is bound_in (λ n. n < 2 ^ 32) 0 none_small bound_in-is member.MaxBlocksPerHost d most is_most))))
+
+-- ---- a resource
+
+abbrev Changes : Resource → Type 0
+Changes r = IsSoundChange r.change
+
+pool_in-sound : (d : Data) (r : Resource) → pool_in d ≡ Ok r → Changes r
+unfolding pool_in
+pool_in-sound d r e = bind_ok _ (pool_reading d) r e (λ pool is e1. subst Changes (same_Ok (pool_resource pool) r e1) (pool_reading-sound d pool is))
+
+reservation_in-sound : (d : Data) (r : Resource) → reservation_in d ≡ Ok r → Changes r
+unfolding reservation_in
+reservation_in-sound d r e = bind_ok _ (reservation_reading d) r e (λ one is e1. subst Changes (same_Ok (reservation_resource one) r e1) (reservation_reading-sound d one is))
+
+config_in-sound : (k : ResourceKind) (d : Data) (r : Resource) → config_in k d ≡ Ok r → Changes r
+unfolding config_in
+config_in-sound k d r e =
+    bind_ok _ (config_reading d) r e (λ settings is e1.
+    bind_ok _ (config_name d) r e1 (λ name is_name e2.
+    subst Changes (same_Ok (config_resource k settings name) r e2) (config_reading-sound d settings is)))
+
+resource_in-sound : (k : ResourceKind) (d : Data) (r : Resource) → resource_in k d ≡ Ok r → Changes r
+resource_in-sound kind.Pool d r e = pool_in-sound d r e
+resource_in-sound kind.Reservation d r e = reservation_in-sound d r e
+resource_in-sound kind.Config d r e = config_in-sound kind.Config d r e
+resource_in-sound kind.Configuration d r e = config_in-sound kind.Configuration d r e
+
+item_in-sound : (d : Data) (r : Resource) → item_in d ≡ Ok r → Changes r
+unfolding item_in
+item_in-sound d r e = bind_ok _ (required kind_in member.Kind d) r e (λ k is e1. resource_in-sound k d r e1)
+
+-- ---- a document
+
+push_change : (rs : List Resource) (r : Resource) → AllByRecursion Changes rs → Changes r → AllByRecursion Changes (rs ++ r ∷ [])
+push_change [] r h k = (k, tt)
+push_change (q ∷ rs) r h k = (h.0, push_change rs r h.1 k)
+
+resources_after-sound : (there : List Resource) (ds : Items) (rs : List Resource) → resources_after there ds ≡ Ok rs → AllByRecursion Changes there → AllByRecursion Changes rs
+resources_after-sound there no_items rs e h = subst (AllByRecursion Changes) (same_Ok there rs e) h
+resources_after-sound there (item d ds) rs e h =
+    next (item_in d) refl e (λ r k e'. resources_after-sound (there ++ r ∷ []) ds rs e' k)
+  where
+    next : (found : Result Resource Member) → item_in d ≡ found → (as_item (length there) found >>= λ r. resources_after (there ++ r ∷ []) ds) ≡ Ok rs → ((r : Resource) → AllByRecursion Changes (there ++ r ∷ []) → resources_after (there ++ r ∷ []) ds ≡ Ok rs → AllByRecursion Changes rs) → AllByRecursion Changes rs
+    next (Ok r) is e' more = more r (push_change there r h (item_in-sound d r is)) e'
+    next (Err m) is e' more = cc
+
+resources_of-sound : (o : Option Items) (rs : List Resource) → resources_of o ≡ Ok rs → AllByRecursion Changes rs
+resources_of-sound (Some items) rs e = resources_after-sound [] items rs e tt
+resources_of-sound None rs e = cc
+
+alone-sound : (k : ResourceKind) (d : Data) (rs : List Resource) → alone (resource_in k d) ≡ Ok rs → AllByRecursion Changes rs
+alone-sound k d rs e = go (resource_in k d) refl e
+  where
+    go : (found : Result Resource Member) → resource_in k d ≡ found → alone found ≡ Ok rs → AllByRecursion Changes rs
+    go (Ok r) is e' = subst (AllByRecursion Changes) (same_Ok (r ∷ []) rs e') (resource_in-sound k d r is, tt)
+    go (Err m) is e' = cc
+
+object-sound : (o : Option Data) (rs : List Resource) → object_reading o ≡ Ok rs → AllByRecursion Changes rs
+object-sound None rs e = cc
+object-sound (Some d) rs e = go (is_some (as_object d)) (kind_said d) e
+  where
+    go : (b : Bool) (k : Option DocumentKind) → (if b then by_kind k d else Err fault.NotJson) ≡ Ok rs → AllByRecursion Changes rs
+    go true None e' = cc
+    go true (Some (One k)) e' = alone-sound k d rs e'
+    go true (Some Several) e' = resources_of-sound (option_and_then as_array (found_at member.Items d)) rs e'
+    go false k e' = cc
+
+pub document_sound : (bytes : List ℕ) (rs : List Resource) → document_reading bytes ≡ Ok rs → All (λ r. IsSoundChange r.change) rs
+unfolding document_reading
+document_sound bytes rs e = All-from_recursion Changes rs (go (nat_lt DOCUMENT_MAX (length bytes)) e)
+  where
+    go : (b : Bool) → (if b then Err fault.Long else object_reading (json_of bytes)) ≡ Ok rs → AllByRecursion Changes rs
+    go true e' = cc
+    go false e' = object-sound (json_of bytes) rs e'

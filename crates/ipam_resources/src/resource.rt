@@ -1,0 +1,12 @@
+use crate::kind::ResourceKind;
+use ipam_model::Admin;
+use ipam_text::Text;
+
+/// What a resource of an operator's document changes.
+#[derive(Debug, Drop)]
+pub struct Resource {
+    pub kind: ResourceKind,
+    /// The name that it is told of by.
+    pub name: Text,
+    pub change: Admin,
+}
