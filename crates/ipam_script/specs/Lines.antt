@@ -28,7 +28,7 @@ without_empty_end (line ∷ next ∷ lines) = line ∷ without_empty_end (next �
 abbrev pub is_long : (before : ℕ) → List ℕ → Bool
 is_long before line =
     nat_lt most_line_bytes (length line)
-    || nat_lt 0 (length line) && nat_lt most_script_bytes (before + length line)
+    || (nat_lt 0 (length line) && nat_lt most_script_bytes (before + length line))
 
 abbrev pub told : (before : ℕ) → List ℕ → ScriptLine
 told before line = if is_long before line then Long else Whole line
