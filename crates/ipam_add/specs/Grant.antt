@@ -31,7 +31,7 @@ abbrev pub gift_in : Grant → Gift
 gift_in grant = gift_at grant.spot.scan grant.spot.place grant.done
 
 abbrev pub served_as : Obtained → Served
-served_as (Gave grant room) = served.Gave (gift_in grant)
+served_as (Gave grant spare) = served.Gave (gift_in grant)
 served_as (Refused answer) = served.Refused answer
 
 abbrev pub outcome_as : Outcome Obtained → Outcome Served

@@ -107,7 +107,7 @@ abbrev pub serving_goes : AddRequest → Serving → Goes → Part Served
 serving_goes request s (goes.To step) = serving_at (going request s) s.left step
 serving_goes request s (goes.Learned learned) = scans_leaves (going request s) s.left s.step learned
 serving_goes request s (goes.Claim turned) = claims_leaves (going request s) s.left s.step turned
-serving_goes request s (goes.Assign turned room) = assigns_leaves (going request s) s.left s.step turned
+serving_goes request s (goes.Assign turned spare) = assigns_leaves (going request s) s.left s.step turned
 serving_goes request s (goes.Refuses answer) = went s.left (served.Refused answer)
 
 abbrev pub serving_leaves : AddRequest → Serving → ServingTurned → Part Served

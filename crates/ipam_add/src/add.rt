@@ -11,8 +11,8 @@ ghost use Rattle.ipam_add.specs.declared.add.Turn.{Turn as Taking};
 ghost use Rattle.ipam_add.specs.Grant.{gift_in, outcome_as};
 
 use crate::grant::{Grant, Obtained};
-use crate::room::Room;
 use crate::serving::{Serving, ServingTurned};
+use crate::spare::Spare;
 use ipam_addr::Family;
 use ipam_assign::add_stopped;
 use ipam_model::{AddAnswer, AddRequest, Left, Outcome, Stop};
@@ -93,24 +93,24 @@ impl AddProc {
         ensures on { IfNone result (add_rest self.new ≡ add_at (family_then self.old.request self.old.turn (outcome_as outcome))) }
     {
         match outcome {
-            Outcome::Went(left, Obtained::Gave(grant, room)) => self.gave(left, grant, room),
+            Outcome::Went(left, Obtained::Gave(grant, spare)) => self.gave(left, grant, spare),
             Outcome::Went(left, Obtained::Refused(answer)) => self.refuses(left, answer),
             Outcome::Stops(left, why) => self.stops(left, why),
         }
     }
 
-    fn gave(&mut self, left: Left, grant: Grant, room: Room) -> Option<AddAnswer>
+    fn gave(&mut self, left: Left, grant: Grant, spare: Spare) -> Option<AddAnswer>
         ensures answer { result ≡ ended (add_at (add_on self.old.request self.old.turn (gift_in grant) left)) }
         ensures on { IfNone result (add_rest self.new ≡ add_at (add_on self.old.request self.old.turn (gift_in grant) left)) }
     {
         match self.turn {
-            Turn::Only(_) => Some(AddAnswer::Added(room.one(grant.given()))),
+            Turn::Only(_) => Some(AddAnswer::Added(spare.one(grant.given()))),
             Turn::First => {
                 self.turn = Turn::Second(grant);
                 serve_next(&mut self.stage, left);
                 None
             }
-            Turn::Second(first) => Some(AddAnswer::Added(room.two(first.given(), grant.given()))),
+            Turn::Second(first) => Some(AddAnswer::Added(spare.two(first.given(), grant.given()))),
         }
     }
 

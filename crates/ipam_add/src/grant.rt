@@ -5,7 +5,7 @@ ghost use Rattle.ipam_model.specs.Counting.{free, freeing_one};
 ghost use Rattle.ipam_parts.specs.Freeing.{freeing_rest};
 ghost use Rattle.ipam_add.specs.Grant.{gift_in};
 
-use crate::room::Room;
+use crate::spare::Spare;
 use ipam_assign::Place;
 use ipam_block::Block;
 use ipam_model::{AddAnswer, Assigned, Given, Left, Scan};
@@ -29,7 +29,7 @@ pub struct Grant {
 #[derive(Debug, Drop)]
 pub enum Obtained {
     /// The address, with memory to tell of it.
-    Gave(Grant, Room),
+    Gave(Grant, Spare),
     /// There is no address, and this is the answer.
     Refused(AddAnswer),
 }

@@ -3,11 +3,11 @@
 
 mod add;
 mod grant;
-mod room;
 mod serving;
+mod spare;
 
 pub use add::{AddProc, AddTurned};
 pub use grant::{Grant, Obtained, Spot};
-pub use room::Room;
 pub use serving::{Serving, ServingTurned};
+pub use spare::Spare;
 pub use std::alloc::AllocError as Memory;

@@ -17,7 +17,7 @@ ghost use Rattle.ipam_assign.specs.Scanning.{learn};
 ghost use Rattle.ipam_add.specs.Serving.{Going, going, next_for, then_next, round_at, after_scan, serving_at, serving_rest, anew, scans_leaves, claims_leaves, assigns_leaves, serving_goes, serving_leaves, assign_ended, outcome_in};
 
 use crate::grant::{Grant, Obtained, Spot};
-use crate::room::Room;
+use crate::spare::Spare;
 use ipam_addr::{Cidr, Family};
 use ipam_assign::{
     Assigning, AssigningTurned, Learned, Rounds, Scanned, Scanning, claimed, names_for,
@@ -54,7 +54,7 @@ enum Goes {
     Learned(Learned),
     Claim(ClaimTurned),
     /// With memory to tell of the address, where it is assigned.
-    Assign(AssigningTurned, Room),
+    Assign(AssigningTurned, Spare),
     Refuses(AddAnswer),
 }
 
@@ -134,9 +134,9 @@ impl Serving {
                 Ok(ServingTurned { goes })
             }
             Step::Assigns(_, assigning) => {
-                let room = Room::new(alloc)?;
+                let spare = Spare::new(alloc)?;
                 let id = request.attributes.handle.as_str();
-                let goes = Goes::Assign(assigning.took(alloc, id, hearing)?, room);
+                let goes = Goes::Assign(assigning.took(alloc, id, hearing)?, spare);
                 Ok(ServingTurned { goes })
             }
         }
@@ -248,9 +248,9 @@ impl Serving {
                 None => None,
                 Some(answer) => self.after_claim(answer),
             },
-            Goes::Assign(turned, room) => match assign_goes(&mut self.step, turned) {
+            Goes::Assign(turned, spare) => match assign_goes(&mut self.step, turned) {
                 None => None,
-                Some((spot, outcome)) => self.after_assign(spot, outcome, room),
+                Some((spot, outcome)) => self.after_assign(spot, outcome, spare),
             },
             Goes::Refuses(answer) => Some(Outcome::Went(self.left, Obtained::Refused(answer))),
         }
@@ -288,7 +288,7 @@ impl Serving {
         &mut self,
         spot: Spot,
         outcome: Outcome<Option<Assigned>>,
-        room: Room,
+        spare: Spare,
     ) -> Option<Outcome<Obtained>>
         ensures answer { (request : Asking) → outcome_in result ≡ ended (assign_ended (going request self.old) spot outcome) }
         ensures on { IfNone result ((request : Asking) → serving_rest request self.new
@@ -297,7 +297,7 @@ impl Serving {
         match outcome {
             Outcome::Went(left, Some(done)) => {
                 let grant = Grant::of(spot, done);
-                Some(Outcome::Went(left, Obtained::Gave(grant, room)))
+                Some(Outcome::Went(left, Obtained::Gave(grant, spare)))
             }
             Outcome::Went(left, None) => self.next_round(left),
             Outcome::Stops(left, why) => Some(Outcome::Stops(left, why)),

@@ -21,16 +21,15 @@ use Rattle.ipam_records.specs.Hearing.{CanBeSaid}
 use Rattle.ipam_records.specs.KeyOrder.{is_of_kind}
 use Rattle.ipam_records.specs.Said.{Said}
 use Rattle.ipam_records.specs.Sound.{IsRow}
-use Rattle.ipam_model.specs.Affinities.{BlockRead}
-use Rattle.ipam_model.specs.Choice.{Rank, Own, Unconfirmed, Unclaimed, Foreign, Ranked, Pick, Unknown, Lacks, Picks, if_rank, is_block_at, block_in, block_in_found, is_node, is_unowned_and_empty, rank_number}
+use Rattle.ipam_model.specs.Choice.{Rank, Own, Unconfirmed, Unclaimed, Foreign, Ranked, Pick, if_rank, is_block_at, block_in_found, is_node, is_unowned_and_empty, rank_number}
 use Rattle.ipam_model.specs.Reads.{rows_said}
 use Rattle.ipam_model.specs.Usable.{Asked, is_usable, unknown_name}
 use Rattle.ipam_choice.specs.First.{first_of, found_there}
 use Rattle.ipam_choice.specs.Known.{pick_in, unless_unknown}
 use Rattle.ipam_choice.specs.Scanned.{if_usable, first_usable, pick_from}
-use Rattle.ipam_choice.specs.Sight.{Sight, block_under, first_in, first_ranked, has_free, is_bare, rank_bare, rank_by_room, rank_in_sight, rank_listed, rank_of_found}
+use Rattle.ipam_choice.specs.Sight.{Sight, block_under, first_in, first_ranked, is_bare, rank_bare, rank_by_room, rank_in_sight, rank_of_found}
 use Rattle.ipam_choice.proofs.FirstLemmas.{first_found-some}
-use Rattle.ipam_assign.specs.Picked.{IsTakeable, IsClaimable, FitsRank, FitsRanked, FitsPick}
+use Rattle.ipam_assign.specs.Picked.{IsTakeable, FitsRank, FitsRanked, FitsPick}
 use Rattle.ipam_assign.proofs.PlaceLemmas.{slot_is_small}
 use Rattle.ipam_assign.proofs.QueueLemmas.{found-takeable}
 

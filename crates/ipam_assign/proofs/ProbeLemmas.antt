@@ -1,5 +1,5 @@
 -- What is left of a probe, family by family.
-use Rattle.std.proofs.Common.{◌≡◌, ◌||◌, refl, sym, ap, ◌∙◌, ℕ, Bool, true, false, List, [], Option, Some, None, IsSome}
+use Rattle.std.proofs.Common.{◌≡◌, ◌||◌, refl, sym, ap, ◌∙◌, ℕ, Bool, true, false, [], None, IsSome}
 use Rattle.ipam_records.specs.Said.{Said}
 use Rattle.ipam_records.specs.Word.{Word, asked, heard, ended, bound}
 use Rattle.ipam_model.specs.declared.answer.Scan.{Scan}
@@ -13,7 +13,7 @@ use Rattle.ipam_assign.specs.Probe.{turn_family, first_turn, probe_on, probe_at,
 use Rattle.ipam_assign.specs.Scanning.{Chose, scanning_at}
 use Rattle.ipam_assign.specs.declared.probe.ProbeProc.{ProbeProc}
 use Rattle.ipam_assign.specs.declared.probe.Turn.{Turn}
-use Rattle.ipam_assign.specs.declared.probe.Turn.TheVariants.{Only, First, Second}
+use Rattle.ipam_assign.specs.declared.probe.Turn.TheVariants.{First, Second}
 use Rattle.ipam_assign.specs.declared.scanning.Stage.{Stage}
 use Rattle.ipam_assign.specs.declared.scanning.Stage.TheVariants.{ReadsConfig, ReadsPools, ReadsReservations, ListsAffinities, ListsBlocks}
 use Rattle.ipam_parts.proofs.BoundLaws.{asked_bound, heard_bound, goes_on_bound}

@@ -1,10 +1,9 @@
 -- What is left of the five reads behind each of them.
-use Rattle.std.proofs.Common.{◌≡◌, refl, ap, ◌∙◌, ℕ, Bool}
+use Rattle.std.proofs.Common.{◌≡◌, refl, ℕ}
 use Rattle.std.specs.List.{list_any}
 use Rattle.ipam_addr.specs.Shape.{AddrValue, CidrValue}
 use Rattle.ipam_choice.proofs.PickLemmas.{known_pick}
 use Rattle.ipam_choice.specs.Confirmed.{has_confirmed}
-use Rattle.ipam_choice.specs.Known.{pick_in, sight_known}
 use Rattle.ipam_choice.specs.declared.confirmed.Confirmed.{Confirmed}
 use Rattle.ipam_records.specs.declared.call.Call.TheVariants.{List as ListAll}
 use Rattle.ipam_records.specs.declared.key.Kind.TheVariants as kind

@@ -18,7 +18,6 @@ use Rattle.ipam_model.specs.Choice.{Pick, Seen, is_confirmed_for, pick_of}
 use Rattle.ipam_model.specs.Reads.{pools_said, reservations_said, rows_said}
 use Rattle.ipam_model.specs.Usable.{Asked}
 use Rattle.ipam_assign.specs.declared.scanning.Configured.{Configured}
-use Rattle.ipam_assign.specs.declared.scanning.Gathered.{Gathered}
 use Rattle.ipam_assign.specs.declared.scanning.Pooled.{Pooled}
 use Rattle.ipam_assign.specs.declared.scanning.Reserving.{Reserving}
 use Rattle.ipam_assign.specs.declared.scanning.Scanned.{Scanned}

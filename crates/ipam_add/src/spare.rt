@@ -7,11 +7,11 @@ use std::marker::Model;
 
 /// Memory to tell of the addresses of two families.
 #[derive(Debug, Drop)]
-pub struct Room {
+pub struct Spare {
     given: Vec<Given>,
 }
 
-impl Model for Room {
+impl Model for Spare {
     ghost use Rattle.std.specs.Prelude.{◌≡◌, ◌≤◌, []};
     ghost use Rattle.std.specs.Vec.{vec_len, vec_capacity};
 
@@ -22,10 +22,10 @@ impl Model for Room {
     ghost invariant = { λ r. (r.given.items ≡ []) × (vec_len r.given ≡ 0) × (2 ≤ vec_capacity r.given) };
 }
 
-impl Room {
-    pub(crate) fn new(alloc: Global) -> Result<Room, AllocError> {
+impl Spare {
+    pub(crate) fn new(alloc: Global) -> Result<Spare, AllocError> {
         let given = Vec::with_capacity(alloc, 2)?;
-        Ok(Room { given })
+        Ok(Spare { given })
     }
 
     /// The one address. Takes no memory.
