@@ -751,11 +751,21 @@ fn refused(alloc: Global, fault: DocumentFault) -> Result<String, AllocError> {
 
 fn listed(alloc: Global, resources: Seq<Resource>) -> Result<String, AllocError> {
     let mut out = String::new(alloc);
-    for resource in resources.into_vec() {
-        push_applied(alloc, &mut out, &resource)?;
-        push_change(alloc, &mut out, &request_of(resource))?;
+    let mut rest = resources.into_vec();
+    for _ in 0..rest.len() {
+        push_first(alloc, &mut out, &mut rest)?;
     }
     Ok(out)
+}
+
+/// Takes the first of the resources, and tells of it.
+fn push_first(alloc: Global, out: &mut String, rest: &mut Vec<Resource>) -> Result<(), AllocError> {
+    if rest.is_empty() {
+        return Ok(());
+    }
+    let resource = rest.remove(0);
+    push_applied(alloc, out, &resource)?;
+    push_change(alloc, out, &request_of(resource))
 }
 
 fn request_of(resource: Resource) -> Request {
