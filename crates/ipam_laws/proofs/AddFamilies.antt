@@ -42,17 +42,27 @@ use Rattle.ipam_model.specs.Step.{Part, all_left, answer_of, onward, rounds, sto
 use Rattle.ipam_model.specs.Told.{of_add}
 use Rattle.ipam_model.specs.Usable.{families_if}
 use Rattle.ipam_model.proofs.ChoiceLemmas.{choice_is}
-use Rattle.ipam_laws.proofs.AddParts.{AssignEnds, GivesLast, GoesQuietly, KnowsRead, NotLimit, StopsOtherwise, assign-comes, claim-for, free-comes}
+use Rattle.ipam_laws.proofs.AddParts.{AssignEnds, AssignsLast, GivesLast, GoesQuietly, KnowsRead, NotLimit, StopsOtherwise, assign-comes, claim-for, free-comes}
 use Rattle.ipam_laws.proofs.AddRounds.{AreGivenBy, IsGivenBy, all-given-more, one-given-more, quietly-chosen, Among, FiveRead, IsAimed, IsChosen, IsFor, IsRefusal, ServedEnds, aimed-more, chosen-more, chosen-family, picked-read, HasRead, for-did, get-gives-none, otherwise-served, quietly-for, seen-at}
+use Rattle.ipam_model.specs.AffinityLaw.{HasAt}
+use Rattle.ipam_laws.proofs.Acts.{Same as Since-same}
 use Rattle.ipam_laws.proofs.AddTrails.{HasGift, Knows, Same}
 use Rattle.ipam_laws.proofs.Trails.{AgreesAll, Comes, Comes-bound, Did, Got, Step, Trail}
 
 -- ---- a round
 
+-- the latest step listed the block as it was read
+pub record IsListed (trail : Trail) (found : ℕ × block.BlockValue) : Type 0 where
+  pub b : ℕ
+  pub blocks : Datastore
+  pub rest : Trail
+  pub is : trail ≡ Did b blocks (ListAll kind.Block) ∷ rest
+  pub at : HasAt blocks (key.Block found.1.cidr) found.0 (record_of.Block found.1)
+
 -- a block as it was read is known, and lies at the slot
 abbrev pub KnownAt : Trail → CidrValue → BlockRead → Type 0
 KnownAt trail slot None = Unit {0}
-KnownAt trail slot (Some found) = (found.1.cidr ≡ slot) × Knows trail found.0 found.1
+KnownAt trail slot (Some found) = (found.1.cidr ≡ slot) × Knows trail found.0 found.1 × IsListed trail found
 
 -- what is read in a round and is known from it
 record InRound (request : AddRequest) (scan : Scan) (seen : Seen) (five : Trail) : Type 0 where
@@ -104,7 +114,7 @@ take-comes round seen five left slot ordinal found r after picked known =
         (quietly-chosen round.request round.scan choice five last.between last.quiet (is-chosen round.request round.scan seen five choice r is)) in
         subst (λ (t : Trail). IsChosen round.request round.scan choice t) (sym last.is) further
 
-    given : (trail : Trail) (one : Given) → one ≡ record {
+    given : (trail : Trail) (one : Given) (done : Assigned) → one.w ≡ done.moment → AssignsLast five round.request.attributes (target_in found ordinal) done trail → one ≡ record {
       address = address_of found.1.cidr ordinal;
       c = round.scan.c;
       p = round.scan.p;
@@ -113,7 +123,11 @@ take-comes round seen five left slot ordinal found r after picked known =
       b = round.scan.b;
       w = one.w;
     } → GivesLast five round.scan.family trail → IsGivenBy round.request trail round.scan.family one
-    given trail one is last =
+    given trail one done at_w assigns is last =
+        let listed = known.2 in
+        let both : Did listed.b listed.blocks (ListAll kind.Block) ∷ listed.rest ≡ Did round.scan.b r.reads.blocks (ListAll kind.Block) ∷ _ = sym listed.is ∙ r.reads.is in
+        let blocks : listed.blocks ≡ r.reads.blocks = cc both in
+        let moment : listed.b ≡ one.b = (let m : listed.b ≡ round.scan.b = cc both in m) ∙ sym (ap (λ (g : Given). g.b) is) in
         let same : round.scan ≡ scan_of round.scan.family one = ap (scan_of round.scan.family) (sym is) in
         record {
           cidr = slot;
@@ -123,13 +137,25 @@ take-comes round seen five left slot ordinal found r after picked known =
             | inr other ↦ inr (subst (λ (scan : Scan). IsChosen round.request scan (Borrow slot ordinal) trail) same (chosen (Borrow slot ordinal) trail last other))
           ];
           is_address = ap (λ (g : Given). g.address) is ∙ ap (λ (c : CidrValue). address_of c ordinal) known.0;
+          found = found;
+          done = done;
+          five = five;
+          at = trail;
+          since = Since-same;
+          assigns = assigns;
+          at_w = at_w;
+          blocks = listed.blocks;
+          rest = listed.rest;
+          listed = subst (λ (m : ℕ). five ≡ Did m listed.blocks (ListAll kind.Block) ∷ listed.rest) moment listed.is;
+          was = subst (λ (c : CidrValue). HasAt listed.blocks (key.Block c) found.0 (record_of.Block found.1)) known.0 listed.at;
+          named = known.0;
         }
 
     ends : found.1.cidr.family ≡ round.scan.family → (trail : Trail) (outcome : Outcome (Option Assigned)) → AssignEnds five round.request.attributes (target_in found ordinal) trail outcome
         → Comes (ServedEnds round.request round.scan.family) trail (onward (after_assign round (target_in found ordinal)) outcome)
     ends own trail (Went now (Some done)) k =
         let last : GivesLast five round.scan.family trail = subst (λ (f : Family). GivesLast five f trail) own k.0 in
-        (five, r.still_for, last, given trail (gift_of round.scan (target_in found ordinal) done).given refl last)
+        (five, r.still_for, last, given trail (gift_of round.scan (target_in found ordinal) done).given done refl k.1 refl last)
     ends own trail (Went now None) k = after now trail (quietly-for round.request round.scan.family five trail k r.still_for)
     ends own trail (Stops now OutOfTries) k = tt
     ends own trail (Stops now OutOfClaims) k = tt
@@ -186,8 +212,11 @@ pub listed-known : (blocks : Datastore) (four : Trail) (b : ℕ) (slot : CidrVal
 unfolding AgreesAll
 listed-known blocks four b slot None e = tt
 listed-known blocks four b slot (Some found) e =
-    let at = seen-at blocks slot found e in
-    (at.same, λ store agrees old there. sym (agrees.0 (key.Block found.1.cidr) found.0 (record_of.Block found.1) old at.at there))
+    let at = seen-at blocks slot found e in (
+      at.same,
+      (λ store agrees old there. sym (agrees.0 (key.Block found.1.cidr) found.0 (record_of.Block found.1) old at.at there)),
+      record { b = b; blocks = blocks; rest = four; is = refl; at = at.at },
+    )
 
 round-comes : (request : AddRequest) (family : Family) (next : NextRound) → NextServed request family next → NextServed request family (round_of request family next)
 round-comes request family next after left trail is_for = λ c config a1 p pools a2 r reservations a3 f affinities a4 b blocks a5.

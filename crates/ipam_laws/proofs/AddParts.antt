@@ -349,25 +349,28 @@ assign-block origin trail attributes target left quiet knows = λ moment store a
     by : (moment : ℕ) (store : Datastore) → AgreesAll store trail → (said : Said) → reply_of store asked ≡ said
         → Comes (AssignEnds origin attributes target) (Did moment store asked ∷ trail)
         (on_write said left (λ taken. goes left (Some (record { moment = moment; stamp = target.block.sequence + 1 }))) (assign_lost attributes target left))
-    by moment store agrees (Can revision) e = (record {
-      moment = moment;
-      store = store;
-      asked = asked;
-      between = trail;
-      quiet = quiet;
-      gift = assign-gives store trail target.block target.ordinal target.revision revision attributes agrees knows e;
-      only = assign-only store (assigned (next_block target.block) target.ordinal attributes) target.revision;
-      is = refl;
-    }, record {
-      store = store;
-      between = trail;
-      quiet = quiet;
-      revision = revision;
-      is = refl;
-      granted = e;
-      current = λ found there. knows store agrees found there;
-      stamp = refl;
-    })
+    by moment store agrees (Can revision) e = (
+      record {
+        moment = moment;
+        store = store;
+        asked = asked;
+        between = trail;
+        quiet = quiet;
+        gift = assign-gives store trail target.block target.ordinal target.revision revision attributes agrees knows e;
+        only = assign-only store (assigned (next_block target.block) target.ordinal attributes) target.revision;
+        is = refl;
+      },
+      record {
+        store = store;
+        between = trail;
+        quiet = quiet;
+        revision = revision;
+        is = refl;
+        granted = e;
+        current = λ found there. knows store agrees found there;
+        stamp = refl;
+      },
+    )
     by moment store agrees Missing e = lost moment store (λ revision f. cc (e, f))
     by moment store agrees (Exists revision) e = lost moment store (λ taken f. cc (e, f))
     by moment store agrees (Conflict revision) e = lost moment store (λ taken f. cc (e, f))

@@ -39,7 +39,10 @@ use Rattle.ipam_model.specs.declared.part.Outcome.TheVariants.{Went, Stops}
 use Rattle.ipam_model.specs.Usable.{Asked, is_usable, unknown_name}
 use Rattle.ipam_pool.specs.declared.pools.Pool.{Pool}
 use Rattle.ipam_model.proofs.ChoiceLemmas.{pick-ranked}
-use Rattle.ipam_laws.proofs.AddParts.{GivesLast, NotLimit}
+use Rattle.ipam_model.specs.declared.part.Assigned.{Assigned}
+use Rattle.ipam_model.specs.Assigning.{target_in}
+use Rattle.ipam_laws.proofs.Acts.{Later, Since}
+use Rattle.ipam_laws.proofs.AddParts.{AssignsLast, GivesLast, NotLimit}
 use Rattle.ipam_laws.proofs.AddTrails.{HasGift, IsGift, More, Quietly, Same}
 use Rattle.ipam_laws.proofs.Calls.{found-block}
 use Rattle.ipam_laws.proofs.WordSteps.{listed-block}
@@ -170,6 +173,19 @@ pub record IsGivenBy (request : AddRequest) (trail : Trail) (family : Family) (g
   pub ordinal : ℕ
   pub chosen : IsChosen request (scan_of family given) (Use cidr ordinal) trail ⊎ IsChosen request (scan_of family given) (Borrow cidr ordinal) trail
   pub is_address : given.address ≡ address_of cidr ordinal
+  -- its block was listed in that round, and then it was assigned there
+  pub found : ℕ × block.BlockValue
+  pub done : Assigned
+  pub five : Trail
+  pub at : Trail
+  pub since : Since at trail
+  pub assigns : AssignsLast five request.attributes (target_in found ordinal) done at
+  pub at_w : given.w ≡ done.moment
+  pub blocks : Datastore
+  pub rest : Trail
+  pub listed : five ≡ Did given.b blocks (ListAll kind.Block) ∷ rest
+  pub was : HasAt blocks (key.Block cidr) found.0 (record_of.Block found.1)
+  pub named : found.1.cidr ≡ cidr
 
 given-more : (request : AddRequest) (trail : Trail) (family : Family) (given : Given) (step : Step) → IsGivenBy request trail family given → IsGivenBy request (step ∷ trail) family given
 given-more request trail family given step h = record {
@@ -180,6 +196,18 @@ given-more request trail family given step h = record {
     | inr other ↦ inr (chosen-more request (scan_of family given) (Borrow h.cidr h.ordinal) trail step other)
   ];
   is_address = h.is_address;
+  found = h.found;
+  done = h.done;
+  five = h.five;
+  at = h.at;
+  since = Later step trail h.since;
+  assigns = h.assigns;
+  at_w = h.at_w;
+  blocks = h.blocks;
+  rest = h.rest;
+  listed = h.listed;
+  was = h.was;
+  named = h.named;
 }
 
 -- one for each of the families

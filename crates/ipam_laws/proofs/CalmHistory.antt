@@ -1,5 +1,5 @@
 -- A request whose calls are all calm gained no owner.
-use Rattle.std.proofs.Common.{◌≡◌, ◌≢◌, ℕ, zero, suc, ◌+◌, ◌-◌, ◌<◌, ◌≤◌, ◌⊎◌, inl, inr, List, [], ◌∷◌, length, drop, Option, Some, None, refl, sym, ap, ◌∙◌, subst, arith}
+use Rattle.std.proofs.Common.{◌≡◌, ◌≢◌, ℕ, zero, suc, ◌+◌, ◌-◌, ◌<◌, inl, inr, List, [], ◌∷◌, drop, Some, refl, sym, ap, ◌∙◌, subst, arith}
 use Rattle.std.specs.Prelude.{Contains}
 use Rattle.ipam_addr.specs.Shape.{CidrValue}
 use Rattle.ipam_block.specs.declared.allocation.Allocation.{Allocation}
@@ -8,7 +8,6 @@ use Rattle.ipam_records.specs.declared.call.Call.{Call}
 use Rattle.ipam_records.specs.declared.call.Call.TheVariants.{Get, List as ListAll, Create, Update, Delete}
 use Rattle.ipam_records.specs.declared.key.Key.{Key}
 use Rattle.ipam_records.specs.declared.key.Key.TheVariants as key
-use Rattle.ipam_records.specs.declared.record.Record.{Record}
 use Rattle.ipam_records.specs.declared.record.Record.TheVariants as record_of
 use Rattle.ipam_records.specs.declared.call.Write.TheVariants.{Put}
 use Rattle.ipam_records.specs.Datastore.{Datastore, reply_of, row_of, write_granted, written}
@@ -22,11 +21,11 @@ use Rattle.ipam_model.specs.AffinityLaw.{HasAt}
 use Rattle.ipam_model.specs.Cluster.{after, store_with}
 use Rattle.ipam_model.specs.Consistent.{IsConsistent}
 use Rattle.ipam_model.specs.Credits.{key_written}
-use Rattle.ipam_model.specs.History.{Base, InSpan, Lawful, Span, before, begin_moment, cluster_at, entry_at, first_of, moment_of, now, seen_at, store_at}
-use Rattle.ipam_model.specs.Moments.{GainedAt, Gains, IsUnowned, Owns}
+use Rattle.ipam_model.specs.History.{Base, Lawful, Span, begin_moment, cluster_at, entry_at, first_of, moment_of, now, seen_at, store_at}
+use Rattle.ipam_model.specs.Moments.{GainedAt, Gains, Owns}
 use Rattle.ipam_model.specs.Named.{name_of}
 use Rattle.ipam_model.specs.Owners.{Owner}
-use Rattle.ipam_laws.proofs.ActParts.{IsApart, IsCurrent}
+use Rattle.ipam_laws.proofs.ActParts.{IsApart}
 use Rattle.ipam_laws.proofs.AddTrails.{Begins, Calm, Calmly, Keeps, NoBlock, Undone}
 use Rattle.ipam_laws.proofs.BlockHistory.{same-block}
 use Rattle.ipam_laws.proofs.BlockSteps.{IsNoBlock}
@@ -35,7 +34,7 @@ use Rattle.ipam_laws.proofs.Lift.{behind}
 use Rattle.ipam_laws.proofs.Members.{in-nothing}
 use Rattle.ipam_laws.proofs.NoReturn.{consistent-before}
 use Rattle.ipam_laws.proofs.OneRecord.{key_cases}
-use Rattle.ipam_laws.proofs.Owned.{HeldIn, held-owns, owns-held}
+use Rattle.ipam_laws.proofs.Owned.{held-owns, owns-held}
 use Rattle.ipam_laws.proofs.OwnersEffects.{moves, owns-by, owns-cases}
 use Rattle.ipam_laws.proofs.OwnersMoves.{Given, NotGiven, apart-leaves, granted-cases, rewrites}
 use Rattle.ipam_laws.proofs.Trails.{Did, DidAt, Got, IsTrail, Trail}

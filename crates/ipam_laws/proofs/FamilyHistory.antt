@@ -223,7 +223,7 @@ chosen-in span request scan choice seen before five upto reads h is_for is =
       is_choice = is;
     }
 
-chosen-span : (span : Span) (request : AddRequest) (scan : Scan) (choice : Choice) (trail : Trail) (upto : ℕ) → IsTrail span upto trail → IsChosen request scan choice trail → HasChosen span request scan choice
+pub chosen-span : (span : Span) (request : AddRequest) (scan : Scan) (choice : Choice) (trail : Trail) (upto : ℕ) → IsTrail span upto trail → IsChosen request scan choice trail → HasChosen span request scan choice
 chosen-span span request scan choice trail upto h c =
     let there = back span c.more c.five upto (subst (λ (t : Trail). IsTrail span upto t) c.is h) in
     chosen-in span request scan choice c.seen c.before c.five there.upto c.reads there.is_trail c.round c.is_choice

@@ -1,6 +1,5 @@
 -- What is freed is rid of: by the trail that led there.
-use Rattle.std.proofs.Common.{◌≡◌, ◌≢◌, ℕ, zero, suc, ◌+◌, List, [], ◌∷◌, Bool, not, Option, Some, None, refl, sym, ap, ◌∙◌, subst}
-use Rattle.std.specs.Prelude.{Contains}
+use Rattle.std.proofs.Common.{◌≡◌, ℕ, zero, suc, List, [], ◌∷◌, not, Some, None, refl, sym, ap, ◌∙◌}
 use Rattle.std.specs.List.{count_by}
 use Rattle.ipam_addr.specs.Shape.{CidrValue}
 use Rattle.ipam_block.specs.declared.allocation.Allocation.{Allocation}
@@ -9,13 +8,11 @@ use Rattle.ipam_block.specs.Shape.{BlockValue}
 use Rattle.ipam_handle.specs.Shape as handle
 use Rattle.ipam_handle.specs.Operations.{lowered}
 use Rattle.ipam_records.specs.declared.call.Call.{Call}
-use Rattle.ipam_records.specs.declared.call.Call.TheVariants.{Get, Update, Delete}
+use Rattle.ipam_records.specs.declared.call.Call.TheVariants.{Get}
 use Rattle.ipam_records.specs.declared.key.Key.TheVariants as key
-use Rattle.ipam_records.specs.declared.record.Record.TheVariants as record_of
 use Rattle.ipam_records.specs.Datastore.{Datastore, reply_of}
 use Rattle.ipam_records.specs.Label.{Credit}
-use Rattle.ipam_records.specs.Said.{Said, Can, Full, Spent}
-use Rattle.ipam_records.specs.Word.{Word, Ends}
+use Rattle.ipam_records.specs.Said.{Can}
 use Rattle.ipam_model.specs.declared.part.Left.{Left}
 use Rattle.ipam_model.specs.declared.part.Outcome.{Outcome}
 use Rattle.ipam_model.specs.declared.part.Outcome.TheVariants.{Went, Stops}
@@ -29,14 +26,14 @@ use Rattle.ipam_laws.proofs.Acts.{Later, Same, Since, since-since}
 use Rattle.ipam_laws.proofs.AddParts.{after-write}
 use Rattle.ipam_laws.proofs.AddTrails.{Calm, Keeps, NoBlock}
 use Rattle.ipam_laws.proofs.Members.{in-filter}
-use Rattle.ipam_laws.proofs.Trails.{Comes, Comes-bound, Did, Step, Trail}
+use Rattle.ipam_laws.proofs.Trails.{Comes, Comes-bound, Did, Trail}
 
--- nothing that is picked was in the block when it was read, or it was freed then
-pub data Rid (what : Freeing) (amount : ℕ) (trail : Trail) : Type 0 where
-  NoneThere : (moment : ℕ) (store : Datastore) (before : Trail) → Since (Did moment store (Get (key.Block what.block)) ∷ before) trail → amount ≡ 0
-      → ((found : ℕ × BlockValue) → block_said (reply_of store (Get (key.Block what.block))) ≡ Some found → count_by what.picks found.1.allocations ≡ 0) → Rid what amount trail
-  Freed : (moment : ℕ) (store : Datastore) (before : Trail) (b : BlockValue) (old revision more : ℕ) → Since (Did moment store (freeing_call what b old) ∷ before) trail → amount ≡ suc more
-      → reply_of store (freeing_call what b old) ≡ Can revision → IsCurrent store old b → b.cidr ≡ what.block → count_by what.picks b.allocations ≡ suc more → Rid what amount trail
+-- behind the origin, nothing that is picked was in the block when it was read, or it was freed then
+pub data Rid (what : Freeing) (origin : Trail) (amount : ℕ) (trail : Trail) : Type 0 where
+  NoneThere : (moment : ℕ) (store : Datastore) (before : Trail) → Since (Did moment store (Get (key.Block what.block)) ∷ before) trail → Since origin before → amount ≡ 0
+      → ((found : ℕ × BlockValue) → block_said (reply_of store (Get (key.Block what.block))) ≡ Some found → count_by what.picks found.1.allocations ≡ 0) → Rid what origin amount trail
+  Freed : (moment : ℕ) (store : Datastore) (before : Trail) (b : BlockValue) (old revision more : ℕ) → Since (Did moment store (freeing_call what b old) ∷ before) trail → Since origin before → amount ≡ suc more
+      → reply_of store (freeing_call what b old) ≡ Can revision → IsCurrent store old b → b.cidr ≡ what.block → count_by what.picks b.allocations ≡ suc more → Rid what origin amount trail
 
 -- a trail that goes on calmly
 pub data Calmer (origin : Trail) : Trail → Type 0 where
@@ -51,10 +48,15 @@ pub calmer-calmer : (one two three : Trail) → Calmer one two → Calmer two th
 calmer-calmer one two three h Still = h
 calmer-calmer one two three h (Then moment store asked longer calm before) = Then moment store asked longer calm (calmer-calmer one two longer h before)
 
-pub rid-since : (what : Freeing) (amount : ℕ) (trail longer : Trail) → Since trail longer → Rid what amount trail → Rid what amount longer
-rid-since what amount trail longer since (NoneThere moment store before there zero_amount none) = NoneThere moment store before (since-since (Did moment store (Get (key.Block what.block)) ∷ before) trail longer there since) zero_amount none
-rid-since what amount trail longer since (Freed moment store before b old revision more there is done current same count) =
-    Freed moment store before b old revision more (since-since (Did moment store (freeing_call what b old) ∷ before) trail longer there since) is done current same count
+pub rid-since : (what : Freeing) (origin : Trail) (amount : ℕ) (trail longer : Trail) → Since trail longer → Rid what origin amount trail → Rid what origin amount longer
+rid-since what origin amount trail longer since (NoneThere moment store before there later zero_amount none) = NoneThere moment store before (since-since (Did moment store (Get (key.Block what.block)) ∷ before) trail longer there since) later zero_amount none
+rid-since what origin amount trail longer since (Freed moment store before b old revision more there later is done current same count) =
+    Freed moment store before b old revision more (since-since (Did moment store (freeing_call what b old) ∷ before) trail longer there since) later is done current same count
+
+-- behind what is earlier
+pub rid-origin : (what : Freeing) (first origin : Trail) (amount : ℕ) (trail : Trail) → Since first origin → Rid what origin amount trail → Rid what first amount trail
+rid-origin what first origin amount trail since (NoneThere moment store before there later zero_amount none) = NoneThere moment store before there (since-since first origin before since later) zero_amount none
+rid-origin what first origin amount trail since (Freed moment store before b old revision more there later is done current same count) = Freed moment store before b old revision more there (since-since first origin before since later) is done current same count
 
 -- ---- lowering
 
@@ -86,7 +88,7 @@ lower-tries credit origin (suc races) claims trail calm = lower-once credit orig
 
 -- it was rid of, calmly
 unfoldable pub FreedEnds : Freeing → Trail → Trail → Outcome ℕ → Type 0
-FreedEnds what origin trail (Went left amount) = Rid what amount trail × Calmer origin trail
+FreedEnds what origin trail (Went left amount) = Rid what origin amount trail × Calmer origin trail
 FreedEnds what origin trail (Stops left why) = Unit {0}
 
 freeing-calm : (store : Datastore) (what : Freeing) (b : BlockValue) (old : ℕ) → IsCurrent store old b → Calm store (freeing_call what b old)
@@ -99,7 +101,7 @@ free-some : (what : Freeing) (origin : Trail) (again : Part ℕ) (left : Left) (
     → Comes (FreedEnds what origin) (Did moment store (Get (key.Block what.block)) ∷ trail) (free_these what again left amount found)
 unfolding FreedEnds LowerEnds AgainFreed
 free-some what origin again left moment store trail found zero h calm e count = (
-  NoneThere moment store trail Same refl (λ other f. let same : found ≡ other = cc (e, f) in ap (λ (p : ℕ × BlockValue). count_by what.picks p.1.allocations) (sym same) ∙ count),
+  NoneThere moment store trail Same (calmer-since origin trail calm) refl (λ other f. let same : found ≡ other = cc (e, f) in ap (λ (p : ℕ × BlockValue). count_by what.picks p.1.allocations) (sym same) ∙ count),
   Then moment store (Get (key.Block what.block)) trail (NoBlock (λ cidr f. cc f)) calm,
 )
 free-some what origin again left moment store trail found (suc more) h calm e count = λ second other agrees.
@@ -109,16 +111,16 @@ free-some what origin again left moment store trail found (suc more) h calm e co
     let longer : Trail = Did second other asked ∷ Did moment store read ∷ trail in
     let behind : Calmer origin longer = Then second other asked (Did moment store read ∷ trail) (freeing-calm other what found.1 found.0 current) (Then moment store read trail (NoBlock (λ cidr f. cc f)) calm) in
     after-write (FreedEnds what origin) longer (reply_of other asked) (reply_of other asked) (λ taken. followed (lower (credit_of what.handle what.block (suc more)) left) (λ now done. goes now (suc more))) again (stops left NoRoom) (stops left NoRevisions) refl
-    (λ revision done. lowers longer behind (Freed second other (Did moment store read ∷ trail) found.1 found.0 revision more Same refl done current same count))
+    (λ revision done. lowers longer behind (Freed second other (Did moment store read ∷ trail) found.1 found.0 revision more Same (Later (Did moment store read) trail (calmer-since origin trail calm)) refl done current same count))
     (h longer behind) tt tt
   where
-    lowers : (longer : Trail) → Calmer origin longer → Rid what (suc more) longer → Comes (FreedEnds what origin) longer (followed (lower (credit_of what.handle what.block (suc more)) left) (λ now done. goes now (suc more)))
+    lowers : (longer : Trail) → Calmer origin longer → Rid what origin (suc more) longer → Comes (FreedEnds what origin) longer (followed (lower (credit_of what.handle what.block (suc more)) left) (λ now done. goes now (suc more)))
     lowers longer behind rid =
         Comes-bound (λ t o. LowerEnds longer o t) (FreedEnds what origin) (onward (λ now done. goes now (suc more))) (lower (credit_of what.handle what.block (suc more)) left) longer
         (lower-tries (credit_of what.handle what.block (suc more)) longer left.races left.claims longer Still) ends
       where
         ends : (further : Trail) (outcome : Outcome (Unit {0})) → LowerEnds longer outcome further → Comes (FreedEnds what origin) further (onward (λ now done. goes now (suc more)) outcome)
-        ends further (Went now done) k = (rid-since what (suc more) longer further (calmer-since longer further k) rid, calmer-calmer origin longer further behind k)
+        ends further (Went now done) k = (rid-since what origin (suc more) longer further (calmer-since longer further k) rid, calmer-calmer origin longer further behind k)
         ends further (Stops now why) k = tt
 
 free-once : (what : Freeing) (origin : Trail) (again : Part ℕ) (left : Left) → AgainFreed what origin again → AgainFreed what origin (free_once what again left)
@@ -127,7 +129,7 @@ free-once what origin again left h trail calm = λ moment store agrees. by momen
   where
     by : (moment : ℕ) (store : Datastore) (read : BlockRead) → block_said (reply_of store (Get (key.Block what.block))) ≡ read → Comes (FreedEnds what origin) (Did moment store (Get (key.Block what.block)) ∷ trail) (free_found what again left read)
     by moment store None e = (
-      NoneThere moment store trail Same refl (λ found f. absurd (cc (e, f))),
+      NoneThere moment store trail Same (calmer-since origin trail calm) refl (λ found f. absurd (cc (e, f))),
       Then moment store (Get (key.Block what.block)) trail (NoBlock (λ cidr f. cc f)) calm,
     )
     by moment store (Some found) e = free-some what origin again left moment store trail found (count_by what.picks found.1.allocations) h calm e refl

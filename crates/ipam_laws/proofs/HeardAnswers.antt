@@ -1,6 +1,5 @@
 -- What an operator's change and the release of an affinity are answered where they are done or refused.
-use Rattle.std.proofs.Common.{◌≡◌, ◌≢◌, ℕ, zero, suc, ◌+◌, Bool, true, false, cond, List, [], ◌∷◌, Option, Some, None, refl, sym, ap, ◌∙◌, subst, eqb-true}
-use Rattle.std.specs.Prelude.{◌==◌}
+use Rattle.std.proofs.Common.{◌≡◌, ℕ, zero, suc, Bool, true, false, cond, List, [], ◌∷◌, Option, Some, None, refl}
 use Rattle.ipam_addr.specs.Shape.{CidrValue}
 use Rattle.ipam_affinity.specs.declared.record.Affinity.{Affinity}
 use Rattle.ipam_affinity.specs.declared.state.State.TheVariants.{PendingDeletion}
@@ -10,8 +9,8 @@ use Rattle.ipam_records.specs.declared.key.Key.TheVariants as key
 use Rattle.ipam_records.specs.declared.record.Record.{Record}
 use Rattle.ipam_records.specs.declared.record.Record.TheVariants as record_of
 use Rattle.ipam_records.specs.Datastore.{Datastore, reply_of}
-use Rattle.ipam_records.specs.Said.{Said, Found, Missing, Listed, Can, Exists, Conflict, Full, Spent}
-use Rattle.ipam_records.specs.Word.{Word, Ends}
+use Rattle.ipam_records.specs.Said.{Can}
+use Rattle.ipam_records.specs.Word.{Ends}
 use Rattle.ipam_model.specs.declared.outcome.AdminAnswer.{AdminAnswer}
 use Rattle.ipam_model.specs.declared.outcome.AdminAnswer.TheVariants as admin
 use Rattle.ipam_model.specs.declared.outcome.ReleaseAnswer.{ReleaseAnswer}

@@ -1,8 +1,7 @@
 -- What an operator's change and the release of an affinity are answered is right.
-use Rattle.std.proofs.Common.{◌≡◌, ◌≢◌, ℕ, ◌+◌, ◌<◌, inl, inr, List, [], ◌∷◌, Option, Some, None, refl, sym, ap, ◌∙◌, subst, arith}
+use Rattle.std.proofs.Common.{◌≡◌, ℕ, ◌+◌, inl, inr, List, [], ◌∷◌, Option, Some, None, refl, sym, ap, ◌∙◌, subst, arith}
 use Rattle.ipam_addr.specs.Shape.{CidrValue}
 use Rattle.ipam_affinity.specs.declared.state.State.TheVariants.{PendingDeletion}
-use Rattle.ipam_block.specs.Shape.{BlockValue}
 use Rattle.ipam_records.specs.declared.call.Call.{Call}
 use Rattle.ipam_records.specs.declared.call.Call.TheVariants.{Get, Update, Delete}
 use Rattle.ipam_records.specs.declared.key.Key.TheVariants as key
@@ -16,19 +15,18 @@ use Rattle.ipam_model.specs.declared.answer.Answer.{Answer}
 use Rattle.ipam_model.specs.declared.answer.Answer.TheVariants as answer
 use Rattle.ipam_model.specs.declared.entry.Called.{Called}
 use Rattle.ipam_model.specs.declared.entry.Entry.TheVariants as entry
-use Rattle.ipam_model.specs.declared.entry.Told.TheVariants as told
 use Rattle.ipam_model.specs.declared.outcome.AdminAnswer.{AdminAnswer}
 use Rattle.ipam_model.specs.declared.outcome.AdminAnswer.TheVariants as admin
 use Rattle.ipam_model.specs.declared.outcome.ReleaseAnswer.{ReleaseAnswer}
 use Rattle.ipam_model.specs.declared.outcome.ReleaseAnswer.TheVariants as released
 use Rattle.ipam_model.specs.declared.request.Admin.{Admin as Setting}
 use Rattle.ipam_model.specs.Admin.{admin_word, key_changed}
-use Rattle.ipam_model.specs.Affinities.{Tie, affinity, baring, release}
+use Rattle.ipam_model.specs.Affinities.{affinity, baring, release}
 use Rattle.ipam_model.specs.Answered.{Answered, earlier_calls, history_of, now_of, span_of}
-use Rattle.ipam_model.specs.Cluster.{new_record, record_written, store_with}
+use Rattle.ipam_model.specs.Cluster.{record_written, store_with}
 use Rattle.ipam_model.specs.Consistent.{IsConsistent}
 use Rattle.ipam_model.specs.History.{Heard, InSpan, Lawful, now, seen_at, seen_now}
-use Rattle.ipam_model.specs.Moments.{Has, IsNext}
+use Rattle.ipam_model.specs.Moments.{IsNext}
 use Rattle.ipam_model.specs.Named.{told_of}
 use Rattle.ipam_model.specs.OtherLaws.{HasNoAffinity, IsDone, IsRefused, IsReleased}
 use Rattle.ipam_model.specs.Reads.{affinity_said}

@@ -84,6 +84,9 @@ pub mod CalmHistory
 pub mod ThisRight
 pub mod Recorded
 pub mod ThisGiven
+pub mod AddRight
 pub mod RightHistory
 pub mod RightWhole
 pub mod FreeTrails
+pub mod RidHistory
+pub mod DelRight

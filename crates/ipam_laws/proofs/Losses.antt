@@ -1,24 +1,22 @@
 -- How many races a trail has lost, and how many claims it has confirmed.
-use Rattle.std.proofs.Common.{◌≡◌, ◌≢◌, ◌⊎◌, inl, inr, ℕ, zero, suc, ◌+◌, ◌<◌, ◌≤◌, Bool, true, false, not, cond, List, [], ◌∷◌, Option, Some, None, refl, sym, ap, ◌∙◌, subst, arith}
+use Rattle.std.proofs.Common.{◌≡◌, ◌≢◌, ◌⊎◌, inl, inr, ℕ, ◌+◌, ◌≤◌, Bool, true, false, not, cond, List, [], ◌∷◌, Option, Some, None, refl, sym, ap, ◌∙◌, subst, arith}
 use Rattle.std.specs.Prelude.{◌&&◌, ◌==◌, nat_lt}
 use Rattle.ipam_records.specs.declared.call.Call.{Call}
 use Rattle.ipam_records.specs.declared.call.Call.TheVariants.{Get, List as ListAll, Create, Update, Delete}
 use Rattle.ipam_records.specs.declared.record.Record.{Record}
-use Rattle.ipam_records.specs.Datastore.{Datastore, granted, has_room, last_revision, reply_of, reply_to_change, reply_to_create, reply_to_get, row_of}
+use Rattle.ipam_records.specs.Datastore.{Datastore, granted, has_room, last_revision, reply_of, reply_to_change, reply_to_create, row_of}
 use Rattle.ipam_records.specs.Key.{key_of}
 use Rattle.ipam_records.specs.Said.{Said, Found, Missing, Listed, Can, Exists, Conflict, Full, Spent}
-use Rattle.ipam_records.specs.Word.{Word, Ends}
+use Rattle.ipam_records.specs.Word.{Word}
 use Rattle.ipam_model.specs.declared.entry.Called.{Called}
 use Rattle.ipam_model.specs.declared.entry.Fate.TheVariants.{Well}
 use Rattle.ipam_model.specs.declared.part.Left.{Left}
-use Rattle.ipam_model.specs.declared.part.Outcome.{Outcome}
-use Rattle.ipam_model.specs.declared.part.Outcome.TheVariants.{Went, Stops}
 use Rattle.ipam_model.specs.declared.part.Stop.{Stop}
 use Rattle.ipam_model.specs.declared.part.Stop.TheVariants.{OutOfTries, OutOfClaims, NoRoom, CountAtLimit, NoRevisions}
 use Rattle.ipam_model.specs.declared.request.Request.{Request}
 use Rattle.ipam_model.specs.Cluster.{called, new_record, record_written}
 use Rattle.ipam_model.specs.Named.{name_of, told_of}
-use Rattle.ipam_model.specs.Step.{Part, after_write, left_of, stops, write_back}
+use Rattle.ipam_model.specs.Step.{after_write, write_back}
 use Rattle.ipam_model.specs.Tries.{claims_of, confirmed_claims, done_or, follows_block_read, is_add, is_at, is_confirmation_of, is_lost, is_race_lost, is_release, is_write, latest_done, lost_races, reads_affinity, reads_block}
 use Rattle.ipam_laws.proofs.Acts.{Later, Same, Since}
 use Rattle.ipam_laws.proofs.Trails.{AreCalls, Comes, Did, Got, Step, Trail}

@@ -100,7 +100,7 @@ some-picked picks (a ∷ list) amount e = elim (cases_Bool (picks a)) [
       (other, in-there other a list among, chosen)
 ]
 
-not-true : (b : Bool) → not b ≡ true → b ≡ true → ⊥
+pub not-true : (b : Bool) → not b ≡ true → b ≡ true → ⊥
 not-true true e f = cc e
 not-true false e f = cc f
 

@@ -1,19 +1,14 @@
 -- An address that was assigned is recorded so, in the span.
-use Rattle.std.proofs.Common.{◌≡◌, ◌≢◌, ℕ, ◌+◌, ◌<◌, ◌≤◌, inl, inr, Bool, true, false, cond, List, [], ◌∷◌, Option, Some, None, refl, sym, ap, ◌∙◌, subst, arith, eqb-true}
+use Rattle.std.proofs.Common.{◌≡◌, ℕ, ◌+◌, ◌<◌, inl, inr, Bool, true, false, cond, List, [], ◌∷◌, Some, refl, sym, ap, ◌∙◌, subst, arith, eqb-true}
 use Rattle.std.specs.Prelude.{AllPairs, Contains, ◌==◌}
 use Rattle.std.specs.List.{count_by, find}
 use Rattle.std.proofs.lemmas.Bool.{eqb-false}
 use Rattle.std.specs.Prelude.{nat_lt}
 use Rattle.ipam_block.specs.declared.allocation.Allocation.{Allocation}
 use Rattle.ipam_block.specs.declared.allocation.Attributes.{Attributes}
-use Rattle.ipam_block.specs.Operations.{assigned, holder, next_block}
-use Rattle.ipam_block.specs.Shape.{BlockValue}
+use Rattle.ipam_block.specs.Operations.{assigned, next_block}
 use Rattle.ipam_records.specs.declared.call.Call.{Call}
-use Rattle.ipam_records.specs.declared.call.Call.TheVariants.{Update}
-use Rattle.ipam_records.specs.declared.key.Key.TheVariants as key
-use Rattle.ipam_records.specs.declared.record.Record.TheVariants as record_of
 use Rattle.ipam_records.specs.Datastore.{Datastore, reply_of}
-use Rattle.ipam_records.specs.Said.{Can}
 use Rattle.ipam_model.specs.AddLaw.{IsRecordedAt, Taking}
 use Rattle.ipam_model.specs.declared.part.Assigned.{Assigned}
 use Rattle.ipam_model.specs.Assigning.{Target}

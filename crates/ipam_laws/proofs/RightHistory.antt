@@ -1,26 +1,25 @@
 -- Whatever a request is answered is right, by the kind of the request.
 use Rattle.std.proofs.Common.{◌≡◌, ◌≢◌, ℕ, inl, inr, List, [], ◌∷◌, Some, refl, sym, ap, ◌∙◌, subst}
 use Rattle.ipam_addr.specs.Shape.{AddrValue, CidrValue}
-use Rattle.ipam_records.specs.Sound.{IsDatastore}
-use Rattle.ipam_records.specs.Word.{Word}
 use Rattle.ipam_model.specs.declared.answer.Answer.{Answer}
 use Rattle.ipam_model.specs.declared.answer.Answer.TheVariants as answer
-use Rattle.ipam_model.specs.declared.answer.Scan.{Scan}
 use Rattle.ipam_model.specs.declared.entry.Fate.{Fate}
 use Rattle.ipam_model.specs.declared.entry.Fate.TheVariants.{After, Before, Well}
 use Rattle.ipam_model.specs.declared.request.AddRequest.{AddRequest}
 use Rattle.ipam_model.specs.declared.request.Admin.{Admin as Setting}
-use Rattle.ipam_model.specs.declared.request.ProbeRequest.{ProbeRequest}
 use Rattle.ipam_model.specs.declared.request.Request.{Request}
 use Rattle.ipam_model.specs.declared.request.Request.TheVariants.{Add, AddThis, Admin, Check, Collect, Del, Probe, Release}
-use Rattle.ipam_model.specs.AddLaw.{HasNothing}
-use Rattle.ipam_model.specs.AnswerLaw.{CheckAnswersLaw, IsAddWith, IsAnsweredRight, IsRightAnswer, ProbeAnswersLaw}
+use Rattle.ipam_model.specs.AddLaw.{HasNothing, families_of}
+use Rattle.ipam_model.specs.AnswerLaw.{CheckAnswersLaw, IsAddWith, IsRightAnswer, ProbeAnswersLaw}
 use Rattle.ipam_model.specs.Answered.{Answered, earlier_calls, history_of, span_of}
 use Rattle.ipam_model.specs.Consistent.{IsConsistent}
 use Rattle.ipam_model.specs.History.{Lawful, cluster_at, now}
 use Rattle.ipam_model.specs.Moments.{request_in}
 use Rattle.ipam_model.specs.Requests.{word_of}
-use Rattle.ipam_laws.specs.RightAnswers.{ChangeAnswersLaw, IsAlwaysRight, IsStoppedRight, ReleaseAnswersLaw, StopLaw, ThisAnswersLaw, WholeProbeLaw}
+use Rattle.ipam_laws.specs.RightAnswers.{ChangeAnswersLaw, ReleaseAnswersLaw, DelAnswersLaw, GivenLaw, StopLaw, ThisAnswersLaw, WholeProbeLaw}
+use Rattle.ipam_laws.proofs.AddFamilies.{IsTold, told-comes}
+use Rattle.ipam_laws.proofs.AddRight.{all-right}
+use Rattle.ipam_laws.proofs.DelRight.{OfDel, deleted-right, told-del}
 use Rattle.ipam_laws.proofs.CheckAnswers.{OfCheck, check-comes, check-right}
 use Rattle.ipam_laws.proofs.FamilyHistory.{comes-any}
 use Rattle.ipam_laws.proofs.Fates.{faults}
@@ -41,6 +40,8 @@ Heard (Release node cidr) trail told = OfRelease node cidr trail told
 Heard (Admin setting) trail told = OfChange setting trail told
 Heard (Probe request) trail told = OfProbe request trail told
 Heard (AddThis request address) trail told = OfThis request address trail told
+Heard (Del id) trail told = OfDel id trail told
+Heard (Add request) trail told = IsTold request told trail
 Heard _ trail told = Unit {0}
 
 hear : (request : Request) → Comes (Heard request) [] (word_of request)
@@ -49,9 +50,9 @@ hear (Check id addresses) = check-comes id addresses
 hear (Release node cidr) = told-release node cidr
 hear (Admin setting) = told-change setting
 hear (Probe request) = probe-comes request
-hear (Add request) = comes-any (λ trail (told : Answer). Unit {0}) (λ trail told. tt) (word_of (Add request)) []
+hear (Add request) = told-comes request
 hear (AddThis request address) = told-this request address
-hear (Del id) = comes-any (λ trail (told : Answer). Unit {0}) (λ trail told. tt) (word_of (Del id)) []
+hear (Del id) = told-del id
 hear (Collect request) = comes-any (λ trail (told : Answer). Unit {0}) (λ trail told. tt) (word_of (Collect request)) []
 
 -- ---- answers of calls that went well, or failed
@@ -218,6 +219,46 @@ this_answers request address a c h is told requested given =
     right-if a told t (λ differ fate.
     let k = heard-of a told t differ fate in
     this-right a request address k.trail c h is k.is_trail told (subst (λ (r : Request). Heard r k.trail told) is k.heard) k.stop)
+
+del-right : (a : Answered) (id : List ℕ) (trail : Trail) → IsConsistent a.base.store → Lawful a.base (history_of a) → a.request ≡ Del id → IsTrail (span_of a) (now (span_of a)) trail → (told : Answer) → OfDel id trail told → IsStopRight a told → IsRightAnswer a told
+unfolding OfDel IsStopRight
+del-right a id trail c l is there (answer.Deleted moment) h s = (id, is, deleted-right a id moment trail c l there h)
+del-right a id trail c l is there (answer.Again lost claims) h s = s
+del-right a id trail c l is there answer.Spent h s = s
+del-right a id trail c l is there (answer.Added given) h s = absurd h
+del-right a id trail c l is there (answer.AddedThis given) h s = absurd h
+del-right a id trail c l is there (answer.Exhausted scan) h s = absurd h
+del-right a id trail c l is there (answer.NoPool called moment) h s = absurd h
+del-right a id trail c l is there (answer.NotInPool moment) h s = absurd h
+del-right a id trail c l is there (answer.Taken held moment) h s = absurd h
+del-right a id trail c l is there (answer.NotAffine block moment) h s = absurd h
+del-right a id trail c l is there answer.Checked h s = absurd h
+del-right a id trail c l is there (answer.NotRecorded other moment) h s = absurd h
+del-right a id trail c l is there answer.Released h s = absurd h
+del-right a id trail c l is there (answer.NoAffinity moment) h s = absurd h
+del-right a id trail c l is there (answer.Collected collected) h s = absurd h
+del-right a id trail c l is there (answer.Done revision) h s = absurd h
+del-right a id trail c l is there (answer.Refused number about) h s = absurd h
+del-right a id trail c l is there answer.Full h s = absurd h
+del-right a id trail c l is there (answer.CountFull moment) h s = absurd h
+del-right a id trail c l is there answer.Fault h s = absurd h
+del-right a id trail c l is there (answer.Ready scans) h s = absurd h
+
+pub del_answers : DelAnswersLaw
+unfolding Heard
+del_answers id a c h is told requested given =
+    let t : IsThere a told = record { consistent = c; lawful = h; requested = requested; given = given } in
+    right-if a told t (λ differ fate.
+    let k = heard-of a told t differ fate in
+    del-right a id k.trail c h is k.is_trail told (subst (λ (r : Request). Heard r k.trail told) is k.heard) k.stop)
+
+pub given_law : GivenLaw
+unfolding Heard IsTold
+given_law request a list c h is requested given =
+    let t : IsThere a (answer.Added list) = record { consistent = c; lawful = h; requested = requested; given = given } in
+    right-if a (answer.Added list) t (λ differ fate.
+    let k = heard-of a (answer.Added list) t differ fate in
+    (request, is, all-right a request (families_of request) list k.trail c h k.is_trail (subst (λ (r : Request). Heard r k.trail (answer.Added list)) is k.heard)))
 
 pub stop_law : StopLaw
 unfolding IsStopRight

@@ -1,8 +1,7 @@
 -- In each history, what stops a request is right: that it was tried too often, that there was no room,
 -- and that there were no revisions.
-use Rattle.std.proofs.Common.{◌≡◌, ◌≢◌, ◌⊎◌, inl, inr, ℕ, zero, suc, ◌+◌, ◌-◌, ◌<◌, ◌≤◌, Bool, true, false, not, cond, List, [], ◌∷◌, Option, Some, None, refl, sym, ap, ◌∙◌, subst, arith, eqb-true}
-use Rattle.std.specs.Prelude.{◌&&◌, ◌==◌}
-use Rattle.std.proofs.lemmas.Bool.{eqb-false}
+use Rattle.std.proofs.Common.{◌≡◌, ◌≢◌, inl, inr, ℕ, zero, suc, ◌+◌, ◌≤◌, Bool, true, false, not, cond, List, [], ◌∷◌, Option, Some, None, refl, sym, ap, ◌∙◌, subst, arith}
+use Rattle.std.specs.Prelude.{◌&&◌}
 use Rattle.ipam_addr.specs.Shape.{AddrValue, CidrValue}
 use Rattle.ipam_affinity.specs.declared.record.Affinity.{Affinity}
 use Rattle.ipam_affinity.specs.declared.state.State.TheVariants.{PendingDeletion}
@@ -12,8 +11,7 @@ use Rattle.ipam_records.specs.declared.key.Key.TheVariants as key
 use Rattle.ipam_records.specs.declared.record.Record.{Record}
 use Rattle.ipam_records.specs.declared.record.Record.TheVariants as record_of
 use Rattle.ipam_records.specs.Datastore.{Datastore, reply_of, reply_to_get, row_of}
-use Rattle.ipam_records.specs.Said.{Said, Can}
-use Rattle.ipam_records.specs.Word.{Word, Ends}
+use Rattle.ipam_records.specs.Said.{Said}
 use Rattle.ipam_model.specs.declared.answer.Answer.{Answer}
 use Rattle.ipam_model.specs.declared.answer.Answer.TheVariants as answer
 use Rattle.ipam_model.specs.declared.outcome.CheckAnswer.{CheckAnswer}
@@ -24,7 +22,7 @@ use Rattle.ipam_model.specs.declared.outcome.ReleaseAnswer.{ReleaseAnswer}
 use Rattle.ipam_model.specs.declared.outcome.ReleaseAnswer.TheVariants as released
 use Rattle.ipam_model.specs.declared.part.Left.{Left}
 use Rattle.ipam_model.specs.declared.part.Outcome.{Outcome}
-use Rattle.ipam_model.specs.declared.part.Outcome.TheVariants.{Went, Stops}
+use Rattle.ipam_model.specs.declared.part.Outcome.TheVariants.{Stops}
 use Rattle.ipam_model.specs.declared.part.Stop.TheVariants.{OutOfTries, NoRoom, NoRevisions}
 use Rattle.ipam_model.specs.declared.entry.Called.{Called}
 use Rattle.ipam_model.specs.declared.entry.Fate.{Fate}
@@ -45,12 +43,12 @@ use Rattle.ipam_model.specs.Look.{check_word, probe_word}
 use Rattle.ipam_model.specs.Named.{name_of, told_of}
 use Rattle.ipam_model.specs.Reads.{affinity_said, block_said}
 use Rattle.ipam_model.specs.Requests.{told_as, word_of}
-use Rattle.ipam_model.specs.Step.{Part, all_left, goes, left_of, stops, tries}
+use Rattle.ipam_model.specs.Step.{Part, goes, left_of, stops, tries}
 use Rattle.ipam_model.specs.Told.{of_check, of_probe, of_release}
-use Rattle.ipam_model.specs.Tries.{claims_of, confirmed_claims, done_or, follows_block_read, is_add, is_at, is_lost, is_race_lost, is_write, latest_done, reads_affinity}
+use Rattle.ipam_model.specs.Tries.{claims_of, confirmed_claims, done_or, follows_block_read, is_add, is_at, is_lost, is_write, latest_done}
 use Rattle.ipam_laws.proofs.Calls.{found-key}
 use Rattle.ipam_laws.proofs.FamilyHistory.{comes-any}
-use Rattle.ipam_laws.proofs.Losses.{HasFull, HasLost, IsLeft, LastSpent, Stopped, call_at, claims-none, done-left, kept-left, lost_in, same-calls, step-lost, told_calls, wrote}
+use Rattle.ipam_laws.proofs.Losses.{HasFull, HasLost, IsLeft, Stopped, call_at, claims-none, done-left, kept-left, lost_in, same-calls, step-lost, told_calls, wrote}
 use Rattle.ipam_laws.proofs.OwnersHistory.{part-of}
 use Rattle.ipam_laws.proofs.StoreSteps.{failed-answered}
 use Rattle.ipam_laws.proofs.StopRequests.{IsAgainThere, ToldOf, ToldStop, add-stops, again-none, change-stops, collect-stops, del-stops, first-left, settle-told, tell, this-stops}

@@ -1,5 +1,5 @@
 -- Why the parts of a request stop, by the trail that led there.
-use Rattle.std.proofs.Common.{◌≡◌, ◌≢◌, ◌⊎◌, inl, inr, ℕ, zero, suc, ◌+◌, ◌<◌, ◌≤◌, Bool, true, false, cond, List, [], ◌∷◌, Option, Some, None, refl, sym, ap, ◌∙◌, subst, arith}
+use Rattle.std.proofs.Common.{◌≡◌, inr, ℕ, zero, suc, ◌+◌, ◌<◌, ◌≤◌, Bool, true, false, cond, List, [], ◌∷◌, Option, Some, None, refl, ap, ◌∙◌, arith}
 use Rattle.std.specs.Prelude.{nat_le}
 use Rattle.std.specs.List.{count_by}
 use Rattle.ipam_addr.specs.Shape.{CidrValue}
@@ -8,13 +8,12 @@ use Rattle.ipam_affinity.specs.declared.state.State.{State}
 use Rattle.ipam_affinity.specs.declared.state.State.TheVariants.{Pending, Confirmed, PendingDeletion}
 use Rattle.ipam_block.specs.declared.allocation.Attributes.{Attributes}
 use Rattle.ipam_block.specs.Shape as block
-use Rattle.ipam_block.specs.Operations.{affine_to, assigned, freed, fresh_block, next_block}
+use Rattle.ipam_block.specs.Operations.{assigned, freed, next_block}
 use Rattle.ipam_handle.specs.Shape as handle
 use Rattle.ipam_handle.specs.Operations.{count_of, lowered, raised}
 use Rattle.ipam_records.specs.declared.call.Call.{Call}
-use Rattle.ipam_records.specs.declared.call.Call.TheVariants.{Get, Create, Update, Delete}
+use Rattle.ipam_records.specs.declared.call.Call.TheVariants.{Get, Create, Update}
 use Rattle.ipam_records.specs.declared.key.Key.TheVariants as key
-use Rattle.ipam_records.specs.declared.record.Record.{Record}
 use Rattle.ipam_records.specs.declared.record.Record.TheVariants as record_of
 use Rattle.ipam_records.specs.Datastore.{Datastore, reply_of}
 use Rattle.ipam_records.specs.Label.{Credit}
@@ -37,7 +36,7 @@ use Rattle.ipam_model.specs.Named.{name_of, told_of}
 use Rattle.ipam_model.specs.Reads.{affinity_said, block_said, handle_said}
 use Rattle.ipam_model.specs.Step.{Part, after_lost, followed, goes, left_of, on_write, onward, stops, tries, write_back}
 use Rattle.ipam_model.specs.Tries.{is_add, is_confirmation_of, is_race_lost, is_release, is_write}
-use Rattle.ipam_laws.proofs.Losses.{CreatesNone, HasConfirmed, HasFull, HasLost, IsLeft, LastConfirmed, LastLost, LastSpent, NoClaim, Stopped, any-left, back-new, back-writes, claims_in, claims-one, costs-none, done-left, lost_in, read-left, wrote}
+use Rattle.ipam_laws.proofs.Losses.{CreatesNone, HasConfirmed, HasFull, HasLost, IsLeft, LastSpent, NoClaim, Stopped, any-left, back-new, back-writes, claims_in, claims-one, costs-none, done-left, lost_in, read-left, wrote}
 use Rattle.ipam_laws.proofs.Trails.{Comes, Comes-bound, Did, Trail}
 
 module _ (request : Request) (no_release : is_release request ≡ false) where

@@ -1,6 +1,5 @@
 -- Why each request stops, by the trail that led there.
-use Rattle.std.proofs.Common.{◌≡◌, ◌≢◌, ◌⊎◌, inl, inr, ℕ, zero, suc, ◌+◌, ◌-◌, ◌<◌, ◌≤◌, Bool, true, false, not, cond, List, [], ◌∷◌, ◌++◌, map, Option, Some, None, refl, sym, ap, ◌∙◌, subst, arith}
-use Rattle.std.specs.Prelude.{◌&&◌, ◌==◌}
+use Rattle.std.proofs.Common.{◌≡◌, ◌⊎◌, inl, inr, ℕ, zero, suc, ◌+◌, ◌-◌, ◌<◌, ◌≤◌, Bool, true, false, cond, List, [], ◌∷◌, ◌++◌, map, Option, Some, None, refl, sym, ap, subst, arith}
 use Rattle.ipam_addr.specs.Shape.{AddrValue, CidrValue}
 use Rattle.ipam_addr.specs.declared.address.Family.{Family}
 use Rattle.ipam_block.specs.declared.allocation.Allocation.{Allocation}
@@ -10,7 +9,7 @@ use Rattle.ipam_pool.specs.declared.pools.Pool.{Pool}
 use Rattle.ipam_records.specs.declared.call.Call.TheVariants.{Get, List as ListAll}
 use Rattle.ipam_records.specs.declared.key.Key.TheVariants as key
 use Rattle.ipam_records.specs.declared.key.Kind.TheVariants as kind
-use Rattle.ipam_records.specs.Datastore.{Datastore, reply_of}
+use Rattle.ipam_records.specs.Datastore.{reply_of}
 use Rattle.ipam_records.specs.Said.{Said}
 use Rattle.ipam_records.specs.Word.{Word, Ends, bound}
 use Rattle.ipam_model.specs.declared.answer.Answer.{Answer}
@@ -23,9 +22,7 @@ use Rattle.ipam_model.specs.declared.outcome.AddThisAnswer.{AddThisAnswer}
 use Rattle.ipam_model.specs.declared.outcome.AddThisAnswer.TheVariants as add_this
 use Rattle.ipam_model.specs.declared.outcome.AdminAnswer.{AdminAnswer}
 use Rattle.ipam_model.specs.declared.outcome.AdminAnswer.TheVariants as admin
-use Rattle.ipam_model.specs.declared.outcome.CollectAnswer.{CollectAnswer}
 use Rattle.ipam_model.specs.declared.outcome.CollectAnswer.TheVariants as collected
-use Rattle.ipam_model.specs.declared.outcome.DelAnswer.{DelAnswer}
 use Rattle.ipam_model.specs.declared.outcome.DelAnswer.TheVariants as del
 use Rattle.ipam_model.specs.declared.outcome.Gift.{Gift}
 use Rattle.ipam_model.specs.declared.outcome.Served.{Served}
@@ -51,12 +48,12 @@ use Rattle.ipam_model.specs.Counting.{free, freeing_all, freeing_one}
 use Rattle.ipam_model.specs.Reads.{block_said, config_said, handle_said, pools_said, reservations_said, rows_said}
 use Rattle.ipam_model.specs.Remove.{Leak, collect_stops, collect_word, del_blocks, del_stops, del_word, free_leaks, freeing_owner, item_of, leaks, suspects, with_item}
 use Rattle.ipam_model.specs.Requests.{told_as}
-use Rattle.ipam_model.specs.Step.{Part, StopAnswers, all_left, answer_of, confirmed_so_far, goes, left_of, lost_so_far, most_claims, most_lost, onward, rounds, settled, stop_answer, stops, without_count, write_back}
+use Rattle.ipam_model.specs.Step.{Part, StopAnswers, all_left, answer_of, confirmed_so_far, goes, lost_so_far, most_claims, most_lost, onward, rounds, settled, stop_answer, stops, without_count, write_back}
 use Rattle.ipam_model.specs.Told.{of_add, of_add_this, of_admin, of_collect, of_del}
 use Rattle.ipam_model.specs.Tries.{confirmed_claims, is_add, is_release, lost_races}
 use Rattle.ipam_model.specs.Usable.{families_if, usable_pool_of}
 use Rattle.ipam_laws.proofs.AddFamilies.{comes-lasting}
-use Rattle.ipam_laws.proofs.Losses.{HasFull, HasLost, IsLeft, LastConfirmed, LastLost, LastSpent, Stopped, back-writes, claims_in, full-more, lost_in, read-left, told_calls, wrote}
+use Rattle.ipam_laws.proofs.Losses.{HasFull, IsLeft, LastConfirmed, LastLost, LastSpent, Stopped, back-writes, claims_in, full-more, lost_in, read-left, told_calls, wrote}
 use Rattle.ipam_laws.proofs.StopParts.{Again, AssignEnds, ClaimedEnds, FreeEnds, IsEnding, assign-comes, claim-for, free-comes, frees-follow, tries-come}
 use Rattle.ipam_laws.proofs.Trails.{Comes, Comes-bound, Did, Got, Step, Trail}
 

@@ -1,15 +1,13 @@
 -- What an ADD of one address gives is right, and so is that a count is at its limit.
-use Rattle.std.proofs.Common.{◌≡◌, ◌≢◌, ℕ, zero, suc, ◌+◌, ◌-◌, ◌^◌, ◌<◌, ◌≤◌, inl, inr, Bool, true, false, cond, List, [], ◌∷◌, length, Option, Some, None, refl, sym, ap, ◌∙◌, subst, arith}
+use Rattle.std.proofs.Common.{◌≡◌, ◌≢◌, ℕ, zero, suc, ◌-◌, ◌^◌, ◌<◌, ◌≤◌, inl, inr, Bool, true, false, cond, List, [], ◌∷◌, Option, Some, None, refl, sym, ap, ◌∙◌, subst, arith}
 use Rattle.std.specs.Prelude.{nat_le, unwrap_or}
 use Rattle.std.specs.BTreeMap.{is_at}
 use Rattle.std.specs.List.{All}
 use Rattle.std.specs.Map.{lookup}
 use Rattle.std.proofs.lemmas.Bool.{leb-true}
-use Rattle.std.proofs.lemmas.List.Elements.{All-contains}
 use Rattle.ipam_addr.specs.Shape.{AddrValue, CidrValue}
-use Rattle.ipam_block.specs.Operations.{address_of, holder}
 use Rattle.ipam_block.specs.Shape as block
-use Rattle.ipam_handle.specs.Operations.{content, count_in, count_of}
+use Rattle.ipam_handle.specs.Operations.{count_in, count_of}
 use Rattle.ipam_handle.specs.Order.{cidr_cmp}
 use Rattle.ipam_handle.specs.Sound.{IsCount}
 use Rattle.ipam_records.specs.declared.call.Call.{Call}
@@ -26,8 +24,7 @@ use Rattle.ipam_model.specs.declared.entry.Entry.TheVariants as entry
 use Rattle.ipam_model.specs.declared.request.AddRequest.{AddRequest}
 use Rattle.ipam_model.specs.declared.request.Request.TheVariants.{AddThis}
 use Rattle.ipam_model.specs.AddLaw.{IsRecordedAt, IsThisGivenRight}
-use Rattle.ipam_model.specs.AddThis as this
-use Rattle.ipam_model.specs.AnswerLaw.{AskedFor, IsInRound, IsTarget}
+use Rattle.ipam_model.specs.AnswerLaw.{AskedFor, IsTarget}
 use Rattle.ipam_model.specs.Answered.{Answered, history_of, span_of}
 use Rattle.ipam_model.specs.Assigning.{target_in}
 use Rattle.ipam_model.specs.Choice.{share_of}
@@ -35,10 +32,9 @@ use Rattle.ipam_model.specs.Consistent.{IsConsistent}
 use Rattle.ipam_model.specs.Counting.{most_count}
 use Rattle.ipam_model.specs.History.{InSpan, Lawful, Span, now}
 use Rattle.ipam_model.specs.OtherLaws.{IsCountFull}
-use Rattle.ipam_model.specs.Reads.{block_said, config_said, handle_said}
+use Rattle.ipam_model.specs.Reads.{block_said, handle_said}
 use Rattle.ipam_laws.proofs.Acts.{Since}
 use Rattle.ipam_laws.proofs.ActParts.{read-current}
-use Rattle.ipam_laws.proofs.AddParts.{ReadLast}
 use Rattle.ipam_laws.proofs.AddTrails.{More, Quietly, Same as Still}
 use Rattle.ipam_laws.proofs.FamilyHistory.{heard, same-call, three}
 use Rattle.ipam_laws.proofs.NoReturn.{consistent-before}
@@ -46,7 +42,7 @@ use Rattle.ipam_laws.proofs.OwnersHistory.{part-of}
 use Rattle.ipam_laws.proofs.Recorded.{assigned-later, quietly-since, recorded, since-before}
 use Rattle.ipam_laws.proofs.SoundSteps.{row-there}
 use Rattle.ipam_laws.proofs.ThisRight.{holder-seen, looks_at, seen-block}
-use Rattle.ipam_laws.proofs.ThisTrails.{HasFoundBlock, IsAssignedTo, IsAtLimit, wanted}
+use Rattle.ipam_laws.proofs.ThisTrails.{IsAssignedTo, IsAtLimit}
 use Rattle.ipam_laws.proofs.Trails.{AgreesAll, Did, IsTrail, Trail}
 
 -- ---- a count at its limit
@@ -139,8 +135,7 @@ module _ (a : Answered) (request : AddRequest) (address : AddrValue) (consistent
       let quiet = subst (λ (t : Trail). Quietly t h.last.between) h.has.read.is h.last.quiet in
       let same = read-cidr h.has.read.block h.looked.cidr h.found h.has.there in
       let sound = (consistent-before a.base (history_of a) moment consistent lawful).sound in
-      let own_sound : IsDatastore h.last.store = subst (λ (x : Datastore). IsDatastore x) there.0.before_it sound in
-      (
+      let own_sound : IsDatastore h.last.store = subst (λ (x : Datastore). IsDatastore x) there.0.before_it sound in (
         h.looked.cidr,
         AskedFor request address (looks_at h.looked) asks s.has.looked s.cidr (record {
           behind = since-before span h.looked.b h.has.read.block block _ h.last.between moment (subst (λ (t : Trail). Since t h.last.between) h.has.read.is (quietly-since h.mid h.last.between h.last.quiet)) between;

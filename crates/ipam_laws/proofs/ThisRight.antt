@@ -1,6 +1,6 @@
 -- What an ADD of one address is answered is right.
-use Rattle.std.proofs.Common.{◌≡◌, ◌≢◌, ℕ, zero, suc, ◌+◌, ◌-◌, ◌<◌, ◌≤◌, inl, inr, Bool, true, false, List, [], ◌∷◌, Option, Some, None, refl, sym, ap, ◌∙◌, subst, arith}
-use Rattle.std.specs.Prelude.{Contains, ◌==◌, ◌&&◌}
+use Rattle.std.proofs.Common.{◌≡◌, ℕ, ◌+◌, ◌-◌, inr, Bool, true, false, List, Option, Some, None, refl, sym, ◌∙◌, subst, arith}
+use Rattle.std.specs.Prelude.{◌&&◌}
 use Rattle.std.specs.List.{All}
 use Rattle.std.proofs.lemmas.List.Elements.{All-contains}
 use Rattle.ipam_addr.specs.Shape.{AddrValue, CidrValue}
@@ -8,7 +8,6 @@ use Rattle.ipam_addr.specs.Holding.{Holds, holds_address}
 use Rattle.ipam_addr.specs.Slots.{HasSlots}
 use Rattle.ipam_addr.proofs.HoldingLemmas.{holds_from}
 use Rattle.ipam_addr.proofs.SlotLemmas.{slot_number_holds}
-use Rattle.ipam_block.specs.declared.allocation.Attributes.{Attributes}
 use Rattle.ipam_block.specs.Operations.{address_of, holder}
 use Rattle.ipam_block.specs.Shape as block
 use Rattle.ipam_pool.specs.declared.pools.Pool.{Pool}
@@ -20,15 +19,13 @@ use Rattle.ipam_records.specs.declared.record.Record.TheVariants as record_of
 use Rattle.ipam_records.specs.Datastore.{Datastore, reply_of, reply_to_get, row_of}
 use Rattle.ipam_records.specs.Sound.{IsDatastore}
 use Rattle.ipam_model.specs.declared.request.AddRequest.{AddRequest}
-use Rattle.ipam_model.specs.AddLaw.{HasFound, HasLooked, HasNothing, IsNotAffine, IsNotInPool, IsTaken, Looks}
+use Rattle.ipam_model.specs.AddLaw.{HasFound, HasNothing, IsNotAffine, IsNotInPool, IsTaken, Looks}
 use Rattle.ipam_model.specs.AddThis as this
 use Rattle.ipam_model.specs.Answered.{Answered, history_of, span_of}
 use Rattle.ipam_model.specs.Choice.{share_of}
 use Rattle.ipam_model.specs.Consistent.{IsConsistent}
-use Rattle.ipam_model.specs.History.{Lawful, Span, now, seen_at}
-use Rattle.ipam_model.specs.Moments.{GainedInSpan}
-use Rattle.ipam_model.specs.Owners.{Owner}
-use Rattle.ipam_model.specs.Reads.{block_said, config_said, pools_said}
+use Rattle.ipam_model.specs.History.{Lawful, now}
+use Rattle.ipam_model.specs.Reads.{config_said, pools_said}
 use Rattle.ipam_model.specs.Usable.{Asked, is_usable, usable_pool_of}
 use Rattle.ipam_laws.proofs.AddTrails.{Calmly}
 use Rattle.ipam_laws.proofs.CalmHistory.{calm-gains-none}
@@ -37,8 +34,8 @@ use Rattle.ipam_laws.proofs.Members.{in-find}
 use Rattle.ipam_laws.proofs.NoReturn.{consistent-before}
 use Rattle.ipam_laws.proofs.SoundBlocks.{holding-number, slot-of-pool}
 use Rattle.ipam_laws.proofs.SoundSteps.{row-there}
-use Rattle.ipam_laws.proofs.ThisTrails.{HasFoundBlock, HasRead, IsHeldBy, IsLeftAlone, IsUnpooled}
-use Rattle.ipam_laws.proofs.Trails.{Did, IsTrail, Trail}
+use Rattle.ipam_laws.proofs.ThisTrails.{HasFoundBlock, IsHeldBy, IsLeftAlone, IsUnpooled}
+use Rattle.ipam_laws.proofs.Trails.{IsTrail, Trail}
 
 and-both : (a b : Bool) → (a && b) ≡ true → b ≡ true
 and-both true b e = e

@@ -1,18 +1,14 @@
 -- What an ADD of one address is answered, by the trail that led to it.
-use Rattle.std.proofs.Common.{◌≡◌, ◌≢◌, ℕ, zero, suc, ◌+◌, ◌-◌, ◌<◌, Bool, true, false, List, [], ◌∷◌, ◌++◌, Option, Some, None, refl, sym, ap, ◌∙◌, subst, arith}
-use Rattle.std.specs.Prelude.{nat_le}
+use Rattle.std.proofs.Common.{◌≡◌, ℕ, zero, suc, ◌+◌, ◌-◌, List, [], ◌∷◌, Option, Some, None, refl, sym, subst}
 use Rattle.ipam_addr.specs.Shape.{AddrValue, CidrValue}
 use Rattle.ipam_block.specs.declared.allocation.Allocation.{Allocation}
-use Rattle.ipam_block.specs.Operations.{assigned, holder, next_block}
+use Rattle.ipam_block.specs.Operations.{holder}
 use Rattle.ipam_block.specs.Shape as block
-use Rattle.ipam_handle.specs.Operations.{count_of}
 use Rattle.ipam_pool.specs.declared.pools.Pool.{Pool}
-use Rattle.ipam_records.specs.declared.call.Call.{Call}
 use Rattle.ipam_records.specs.declared.call.Call.TheVariants.{Get}
 use Rattle.ipam_records.specs.declared.key.Key.TheVariants as key
 use Rattle.ipam_records.specs.Datastore.{Datastore, reply_of}
-use Rattle.ipam_records.specs.Label.{Label}
-use Rattle.ipam_records.specs.Word.{Word, Ends}
+use Rattle.ipam_records.specs.Word.{Ends}
 use Rattle.ipam_model.specs.declared.answer.Answer.{Answer}
 use Rattle.ipam_model.specs.declared.answer.Answer.TheVariants as answer
 use Rattle.ipam_model.specs.declared.answer.GivenThis.{GivenThis}
@@ -29,16 +25,15 @@ use Rattle.ipam_model.specs.AddThis as this
 use Rattle.ipam_model.specs.Affinities.{BlockRead}
 use Rattle.ipam_model.specs.Assigning.{assign, claim_for, target_in}
 use Rattle.ipam_model.specs.Choice.{Claims, Leaves, Share, Takes, by_share, share_of}
-use Rattle.ipam_model.specs.Counting.{most_count}
-use Rattle.ipam_model.specs.Reads.{block_said, config_said, handle_said, pools_said}
+use Rattle.ipam_model.specs.Reads.{block_said, config_said, pools_said}
 use Rattle.ipam_model.specs.Requests.{told_as}
-use Rattle.ipam_model.specs.Step.{Part, all_left, answer_of, goes, onward, rounds, stop_answer, stops}
+use Rattle.ipam_model.specs.Step.{all_left, answer_of, goes, onward, rounds, stops}
 use Rattle.ipam_model.specs.Told.{of_add_this}
 use Rattle.ipam_model.specs.Usable.{usable_pool_of}
-use Rattle.ipam_laws.proofs.ActParts.{IsApart, IsCurrent, read-current}
+use Rattle.ipam_laws.proofs.ActParts.{read-current}
 use Rattle.ipam_laws.proofs.AddParts.{AssignEnds, AssignsLast, GoesQuietly, KnowsRead, NotLimit, ReadLast, assign-comes, claim-for}
-use Rattle.ipam_laws.proofs.AddTrails.{Calm, Calmly, Knows, NoBlock, Quietly, Same, quietly-calmly}
-use Rattle.ipam_laws.proofs.Trails.{AgreesAll, Comes, Comes-bound, Did, Trail}
+use Rattle.ipam_laws.proofs.AddTrails.{Calmly, Knows, NoBlock, Quietly, Same, quietly-calmly}
+use Rattle.ipam_laws.proofs.Trails.{Comes, Comes-bound, Did, Trail}
 
 module _ (request : AddRequest) (address : AddrValue) where
   abbrev pub wanted : this.Wanted

@@ -1,5 +1,5 @@
 //! Which answers requests have, and what they say.
-ghost use Rattle.ipam_laws.specs.RightAnswers.{ChangeAnswersLaw, ReleaseAnswersLaw, StopLaw, ThisAnswersLaw, WholeProbeLaw};
+ghost use Rattle.ipam_laws.specs.RightAnswers.{ChangeAnswersLaw, DelAnswersLaw, GivenLaw, ReleaseAnswersLaw, StopLaw, ThisAnswersLaw, WholeProbeLaw};
 ghost use Rattle.ipam_model.specs.AnswerLaw.{CheckAnswersLaw};
 ghost use Rattle.ipam_model.specs.CanAnswer.{CanAnswerLaw};
 ghost use Rattle.ipam_model.specs.FamilyLaw.{FamilyLaw};
@@ -48,6 +48,19 @@ pub fn a_change_is_answered_right()
 /// room or that a count is at its limit, nothing of it is owned.
 pub fn an_add_of_one_address_is_answered_right()
     ensures { ThisAnswersLaw }
+{}
+
+/// Whatever a DEL is answered is right: it read its handle at the moment that it tells, and of what the
+/// handle owned then it owns nothing any more; or why it stopped.
+pub fn a_del_is_answered_right()
+    ensures { DelAnswersLaw }
+{}
+
+/// What an ADD without an address gives is right: for each wanted family, in their order, an address
+/// that was the choice on what was read at the moments that are told, in a block as it was listed, and
+/// that was recorded later to the handle, with the request's attributes and a new stamp.
+pub fn what_an_add_gives_is_right()
+    ensures { GivenLaw }
 {}
 
 /// A request is answered that it was tried too often where exactly so many races were lost and claims
