@@ -1,8 +1,7 @@
 //! The variable `CNI_ARGS`: items with `;` between them, each a key, `=` and a value.
-ghost use Rattle.std.specs.Prelude.{◌≡◌};
+ghost use Rattle.std.specs.Prelude.{◌≡◌, if◌then◌else◌};
 ghost use Rattle.std.specs.List.{list_all, after_first};
 ghost use Rattle.cni_types.specs.Environment.{items_of, is_equals, is_argument, has_key, argument as value_of_key};
-ghost use Rattle.std.specs.Prelude.{if◌then◌else◌};
 
 /// Whether each item is empty or has a `=`.
 pub(crate) fn are_items(text: &str) -> bool

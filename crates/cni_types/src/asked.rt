@@ -1,6 +1,6 @@
 //! What a good call asks is copied from it.
-ghost use Rattle.std.specs.Prelude.{◌≡◌, ◌++◌, [], ◌∷◌, codes, option_and_then, IfOk, OnOk};
-ghost use Rattle.serde_json.specs.Find.{get, as_array};
+ghost use Rattle.std.specs.Prelude.{◌≡◌, ◌++◌, [], IfOk, OnOk};
+ghost use Rattle.serde_json.specs.Find.{get};
 ghost use Rattle.serde_json.specs.View.{view, items_view, members_view};
 ghost use Rattle.cni_types.specs.Reading.{inside as found_inside};
 ghost use Rattle.cni_types.specs.Asked.{handle_of, handle_asked, items_found, texts_after, pools_asked, labels_after, labels_asked, unless_empty, argument_asked, secondary_asked, add_asked, del_asked, addresses_after, check_asked, live_after, gc_asked, status_asked, asked};

@@ -1,10 +1,8 @@
 //! The configuration of a call is tested.
-ghost use Rattle.std.specs.Prelude.{◌≡◌, codes, Ok, Some, option_map, is_ok};
-ghost use Rattle.cni_types.specs.Reading.{text_found};
+ghost use Rattle.std.specs.Prelude.{◌≡◌, codes};
+ghost use Rattle.cni_types.specs.Reading.{text_found, inside as found_inside};
 ghost use Rattle.serde_json.specs.View.{view, items_view};
-ghost use Rattle.ipam_addr.specs.Text.{is_slash, address_of, cidr_reading};
-ghost use Rattle.std.specs.List.{before_first};
-ghost use Rattle.cni_types.specs.Reading.{inside as found_inside};
+ghost use Rattle.ipam_addr.specs.Text.{cidr_reading};
 ghost use Rattle.cni_types.specs.Configuration.{truth_of_text, truth_of, choice, wants_ipv4, wants_ipv6, is_pool_text, are_all_pools, are_pools, has_prefix, address_with_prefix, address_in, are_all_addresses, are_addresses, network_tested, families_tested, result_tested, attachment_tested, attachments_tested_from, attachments_tested, wishes_tested, check_tested, gc_tested, configuration_tested};
 
 use crate::command::Command;

@@ -1,5 +1,5 @@
 //! The environment of a call is tested.
-ghost use Rattle.std.specs.Prelude.{◌≡◌, Ok};
+ghost use Rattle.std.specs.Prelude.{◌≡◌};
 ghost use Rattle.std.specs.List.{list_all};
 ghost use Rattle.cni_types.specs.Environment.{variable as value_of_variable, is_interface_byte, is_interface, is_address_asked, is_short, are_arguments, container_tested, environment_tested};
 

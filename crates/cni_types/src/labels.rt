@@ -1,10 +1,9 @@
 //! The labels of the node, in the configuration.
-ghost use Rattle.std.specs.Prelude.{◌≡◌, ◌&&◌};
+ghost use Rattle.std.specs.Prelude.{◌≡◌, ◌&&◌, codes};
 ghost use Rattle.std.specs.List.{list_all};
-ghost use Rattle.serde_json.specs.Find.{get, as_str};
+ghost use Rattle.serde_json.specs.Find.{get};
 ghost use Rattle.serde_json.specs.View.{view, members_view};
-ghost use Rattle.std.specs.Prelude.{codes};
-ghost use Rattle.cni_types.specs.Configuration.{is_label_byte, is_label_key, is_label_value, are_all_labels, are_label_members, are_labels};
+ghost use Rattle.cni_types.specs.Configuration.{is_label_byte, is_label_key, is_label_value, are_all_labels, are_labels};
 ghost use Rattle.cni_types.specs.Reading.{are_few_members};
 
 use serde_json::{Map, Value};

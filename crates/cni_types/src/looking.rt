@@ -1,5 +1,5 @@
 //! A call is looked at.
-ghost use Rattle.std.specs.Prelude.{◌≡◌, Ok, Err, Some, IfOk, option_map};
+ghost use Rattle.std.specs.Prelude.{◌≡◌, IfOk, option_map};
 ghost use Rattle.serde_json.specs.View.{view};
 ghost use Rattle.cni_types.specs.declared.error.CniError.{CniError};
 ghost use Rattle.cni_types.specs.declared.error.LookFault.TheVariants.{Refused};

@@ -1,5 +1,5 @@
 //! Why a call is refused. These take no memory, so that a call is tested before any is taken.
-ghost use Rattle.std.specs.Prelude.{◌≡◌, ◌++◌, codes, IfOk, string_bytes};
+ghost use Rattle.std.specs.Prelude.{◌≡◌, IfOk, string_bytes};
 ghost use Rattle.cni_types.specs.Refusal.{member_text, attachment_text};
 
 use std::alloc::{AllocError, Global};

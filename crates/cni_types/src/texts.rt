@@ -1,10 +1,9 @@
 //! The texts of answers: compact JSON and a line feed.
-ghost use Rattle.std.specs.Prelude.{◌≡◌, ◌++◌, [], ◌∷◌, false, map, IfOk, OnOk, OnErr, string_bytes};
-ghost use Rattle.serde_json.specs.Data.{string};
+ghost use Rattle.std.specs.Prelude.{◌≡◌, ◌++◌, false, map, IfOk, OnOk, OnErr, string_bytes};
 ghost use Rattle.serde_json.specs.View.{view};
-ghost use Rattle.serde_json.specs.Written.{compact_text, has_float};
-ghost use Rattle.ipam_json.specs.Built.{object_of, array_of};
-ghost use Rattle.cni_types.specs.Texts.{line_of, version_data, full_prefix, family_text, interface_text, error_data, error_text, entry_data, result_data, result_text, versions_data, versions_text};
+ghost use Rattle.serde_json.specs.Written.{has_float};
+ghost use Rattle.ipam_json.specs.Built.{array_of};
+ghost use Rattle.cni_types.specs.Texts.{line_of, full_prefix, family_text, interface_text, error_data, error_text, entry_data, result_data, result_text, versions_data, versions_text};
 
 use crate::error::CniError;
 use crate::version::Version;

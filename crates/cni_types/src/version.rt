@@ -1,4 +1,4 @@
-ghost use Rattle.std.specs.Prelude.{◌≡◌, Some, option_map};
+ghost use Rattle.std.specs.Prelude.{◌≡◌};
 
 /// A version of CNI that is supported.
 #[derive(Clone, Copy, Debug, PartialEq, Eq)]
