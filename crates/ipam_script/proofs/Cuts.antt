@@ -4,19 +4,19 @@ use Rattle.std.specs.List.{list_any, slice_split}
 use Rattle.std.proofs.lemmas.Bool.{or_parts}
 use Rattle.ipam_script.specs.Lines.{ScriptLine, is_line_end, lines_of, placed, told, without_empty_end}
 
-cut : (line rest : List ℕ) → list_any is_line_end line ≡ false → slice_split is_line_end (line ++ 10 ∷ rest) ≡ line ∷ slice_split is_line_end rest
+pub cut : (line rest : List ℕ) → list_any is_line_end line ≡ false → slice_split is_line_end (line ++ 10 ∷ rest) ≡ line ∷ slice_split is_line_end rest
 cut [] rest h = refl
 cut (c ∷ line) rest h =
     let parts = or_parts (is_line_end c) (list_any is_line_end line) h in
     rw (parts.0, cut line rest parts.1) refl
 
-uncut : (line : List ℕ) → list_any is_line_end line ≡ false → slice_split is_line_end line ≡ line ∷ []
+pub uncut : (line : List ℕ) → list_any is_line_end line ≡ false → slice_split is_line_end line ≡ line ∷ []
 uncut [] h = refl
 uncut (c ∷ line) h =
     let parts = or_parts (is_line_end c) (list_any is_line_end line) h in
     rw (parts.0, uncut line parts.1) refl
 
-split_some : (s : List ℕ) → (x : List ℕ) × (xs : List (List ℕ)) × (slice_split is_line_end s ≡ x ∷ xs)
+pub split_some : (s : List ℕ) → (x : List ℕ) × (xs : List (List ℕ)) × (slice_split is_line_end s ≡ x ∷ xs)
 split_some [] = ([], [], refl)
 split_some (c ∷ s) = go (is_line_end c) refl (split_some s)
   where
@@ -24,7 +24,7 @@ split_some (c ∷ s) = go (is_line_end c) refl (split_some s)
     go true e (x, xs, same) = ([], slice_split is_line_end s, rw e refl)
     go false e (x, xs, same) = (c ∷ x, xs, rw (e, same) refl)
 
-behind : (line x : List ℕ) (xs all : List (List ℕ)) → all ≡ x ∷ xs → without_empty_end (line ∷ all) ≡ line ∷ without_empty_end all
+pub behind : (line x : List ℕ) (xs all : List (List ℕ)) → all ≡ x ∷ xs → without_empty_end (line ∷ all) ≡ line ∷ without_empty_end all
 behind [] x xs all e = rw e refl
 behind (c ∷ line) x xs all e = rw e refl
 
