@@ -1,0 +1,3 @@
+-- What good calls ask is sound, and each answer has a reply.
+pub mod SoundCalls
+pub mod AllReplies

@@ -1,0 +1,12 @@
+use cni_types::Version;
+use ipam_model::Request;
+use ipam_text::Text;
+
+/// What a call begins.
+#[derive(Debug, Drop)]
+pub enum Ask {
+    /// Nothing: this text answers it at once, with success.
+    Tell(Text),
+    /// This request, whose answer is told in this version.
+    Begin(Request, Version),
+}

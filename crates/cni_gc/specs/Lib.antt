@@ -1,0 +1,3 @@
+-- What GC and STATUS begin, and what the answers to them are told as.
+pub mod Begun
+pub mod Replies
