@@ -1,0 +1,5 @@
+-- What a script asks for, and what comes of it.
+pub mod Readings
+pub mod Script
+pub mod Played
+pub mod Output

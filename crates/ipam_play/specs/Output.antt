@@ -1,0 +1,33 @@
+-- The text of what comes of a script.
+use Rattle.std.specs.Prelude.{ℕ, List, [], ◌∷◌, ◌++◌, codes, decimal}
+use Rattle.ipam_answer_text.specs.Entry.{entry_line}
+use Rattle.ipam_model.specs.declared.entry.Entry.{Entry}
+use Rattle.ipam_play.specs.declared.kind.Kind.{Kind}
+use Rattle.ipam_play.specs.declared.kind.Kind.TheVariants.{Long, Unreadable, Base, Busy, Idle, Waiting, NotWaiting, TooSoon, Worn}
+use Rattle.ipam_play.specs.Played.{Ending, Whole, LineRefused, NotOpened}
+
+abbrev pub kind_text : Kind → List ℕ
+kind_text Long = codes "long"
+kind_text Unreadable = codes "unreadable"
+kind_text Base = codes "base"
+kind_text Busy = codes "busy"
+kind_text Idle = codes "idle"
+kind_text Waiting = codes "waiting"
+kind_text NotWaiting = codes "not waiting"
+kind_text TooSoon = codes "too soon"
+kind_text Worn = codes "worn"
+
+-- the line that is written last, where there is one
+abbrev pub ending_text : Ending → List ℕ
+ending_text Whole = []
+ending_text (LineRefused number kind) = codes "line " ++ decimal number ++ codes ": " ++ kind_text kind ++ codes "\n"
+ending_text (NotOpened rule about) = codes "datastore OR" ++ decimal rule ++ codes " " ++ about ++ codes "\n"
+
+-- the journal: a line for each entry, the oldest first
+unfoldable pub journal_text : List Entry → List ℕ
+journal_text [] = []
+journal_text (new ∷ entries) = entry_line new ++ journal_text entries
+
+-- all that is written
+abbrev pub output_text : List Entry → Ending → List ℕ
+output_text entries ending = journal_text entries ++ ending_text ending

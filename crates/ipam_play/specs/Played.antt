@@ -1,0 +1,88 @@
+-- What comes of a script: entries, and how it ends.
+use Rattle.std.specs.Prelude.{◌≡◌, ℕ, ◌-◌, nat_lt, nat_max, List, [], ◌∷◌, ◌++◌, length, map, Option, Some, None, if◌then◌else◌}
+use Rattle.std.specs.List.Sorted.{IsPermutation}
+use Rattle.ipam_records.specs.declared.call.Row.{Row as RowText}
+use Rattle.ipam_records.specs.Datastore.{Datastore}
+use Rattle.ipam_model.specs.declared.entry.Entry.{Entry}
+use Rattle.ipam_model.specs.Course.{Course, Event, Refusal, Busy, Idle, Waiting, NotWaiting, TooSoon, Worn, Refused, course}
+use Rattle.ipam_model.specs.History.{Base, start}
+use Rattle.ipam_model.specs.Opened.{AreByKey, IsRefusedBy, OpensAs, Texts}
+use Rattle.ipam_play.specs.declared.kind.Kind.{Kind}
+use Rattle.ipam_play.specs.declared.kind.Kind.TheVariants as kind
+use Rattle.ipam_play.specs.Script.{Gathered, Script, Step, Stops, Ended, Broken}
+
+-- how a script ends
+pub data Ending : Type 0 where
+  Whole : Ending
+  -- the line of this number is refused
+  LineRefused : (number : ℕ) → Kind → Ending
+  -- the base breaks a rule, which is told of a key
+  NotOpened : (rule : ℕ) (about : List ℕ) → Ending
+
+-- ---- the base
+
+unfoldable pub greatest : List RowText → ℕ
+greatest [] = 0
+greatest (row ∷ rows) = nat_max row.revision (greatest rows)
+
+-- without a counter it is the greatest revision, or 0
+abbrev pub counter_of : Gathered → ℕ
+counter_of base = elim base.counter [ None ↦ greatest base.rows | Some counter ↦ counter ]
+
+-- the rows are handed over by ascending key
+pub record AreTextsOf (texts : Texts) (base : Gathered) : Type 0 where
+  pub by_key : AreByKey texts.rows
+  pub same_rows : IsPermutation base.rows texts.rows
+  pub counter : texts.counter ≡ counter_of base
+
+-- ---- events
+
+unfoldable pub events_in : List Step → List Event
+events_in [] = []
+events_in (step ∷ steps) = step.events ++ events_in steps
+
+-- the number of the line whose event has this place among the events
+unfoldable pub line_of : List Step → (place : ℕ) → ℕ
+line_of [] place = 0
+line_of (step ∷ steps) place =
+    if nat_lt place (length step.events) then step.number else line_of steps (place - length step.events)
+
+abbrev pub kind_of : Refusal → Kind
+kind_of Busy = kind.Busy
+kind_of Idle = kind.Idle
+kind_of Waiting = kind.Waiting
+kind_of NotWaiting = kind.NotWaiting
+kind_of (TooSoon at grace) = kind.TooSoon
+kind_of Worn = kind.Worn
+
+abbrev pub ending_of_stops : Stops → Ending
+ending_of_stops Ended = Whole
+ending_of_stops (Broken number kind) = LineRefused number kind
+
+abbrev pub ending_of : Script → Option Refused → Ending
+ending_of script None = ending_of_stops script.stops
+ending_of script (Some refused) = LineRefused (line_of script.steps refused.place) (kind_of refused.why)
+
+-- the cluster's base: no entry was made before
+abbrev pub base_of : Datastore → Base
+base_of store = record { store = store; first = 0 }
+
+-- what the script makes of an opened base
+abbrev pub course_of : Script → Datastore → Course
+course_of script store = course (start (base_of store)) (events_in script.steps)
+
+-- The base is opened where an event comes, or where the script ends.
+abbrev pub OpensBase : Script → Type 0
+OpensBase script = (script.steps ≡ [] → script.stops ≡ Ended)
+
+-- What comes of a script.
+pub data IsPlayed (script : Script) : List Entry → Ending → Type 0 where
+  -- a line of the base, or the first behind it, is refused whatever the base is
+  RefusedAtOnce : (number : ℕ) (kind : Kind) → script.steps ≡ [] → script.stops ≡ Broken number kind
+      → IsPlayed script [] (LineRefused number kind)
+  -- the base is refused
+  BaseRefused : (texts : Texts) (rule : ℕ) (about : List ℕ) → OpensBase script → AreTextsOf texts script.base
+      → IsRefusedBy texts rule about → IsPlayed script [] (NotOpened rule about)
+  -- the events happen, up to the first that is refused
+  Happened : (texts : Texts) (store : Datastore) → OpensBase script → AreTextsOf texts script.base → OpensAs texts store
+      → IsPlayed script (course_of script store).entries (ending_of script (course_of script store).refused)

@@ -1,0 +1,81 @@
+-- What the bytes of a script are read as, line by line.
+use Rattle.std.specs.Prelude.{◌≡◌, ℕ, ⊤, List, [], ◌∷◌, map, Option, Some, None, option_map, Result, Ok, Err}
+use Rattle.std.specs.Io.KnownBytes.{prepend_known}
+use Rattle.std.specs.List.{slice_split}
+use Rattle.ipam_script.specs.declared.line.Line.{Line}
+use Rattle.ipam_script.specs.Lines.{ScriptLine, Whole, Long as LongLine, is_line_end, lines_of, placed, without_empty_end}
+use Rattle.ipam_script.specs.Reading.{line_reading}
+use Rattle.ipam_play.specs.declared.kind.Kind.{Kind}
+use Rattle.ipam_play.specs.declared.kind.Kind.TheVariants.{Long, Unreadable}
+use Rattle.ipam_play.specs.declared.lines.Next.{Next}
+use Rattle.ipam_play.specs.declared.lines.Next.TheVariants as next
+use Rattle.ipam_play.specs.declared.lines.ScriptFault.{ScriptFault}
+use Rattle.ipam_play.specs.declared.lines.ScriptFault.TheVariants.{Read, Memory}
+use Rattle.ipam_play.specs.declared.lines.ScriptLines.{ScriptLines}
+
+-- a line, or why it is none
+abbrev pub Reading : Type 0
+Reading = Result Line Kind
+
+abbrev pub read_or_not : Option Line → Reading
+read_or_not None = Err Unreadable
+read_or_not (Some line) = Ok line
+
+abbrev pub reading_of : ScriptLine → Reading
+reading_of LongLine = Err Long
+reading_of (Whole bytes) = read_or_not (line_reading bytes)
+
+-- the readings of these bytes, before which so many stand in the script
+unfoldable pub readings_from : (before : ℕ) → List ℕ → List Reading
+readings_from before bytes = map reading_of (placed before (without_empty_end (slice_split is_line_end bytes)))
+
+abbrev pub readings : List ℕ → List Reading
+readings script = map reading_of (lines_of script)
+
+abbrev pub Answer : Type 0
+Answer = Result Next ScriptFault
+
+-- What an answer says of the readings to come, and of those behind it. A refused line and a fault end
+-- the reading.
+abbrev pub IsNext : Answer → (now after : List Reading) → Type 0
+IsNext (Ok (next.Line line)) now after = now ≡ Ok line ∷ after
+IsNext (Ok (next.Last line)) now after = now ≡ Ok line ∷ []
+IsNext (Ok (next.Refused kind)) now after = (more : List Reading) × (now ≡ Err kind ∷ more)
+IsNext (Ok next.End) now after = now ≡ []
+IsNext (Err fault) now after = ⊤
+
+-- the readings to come, where the source tells its bytes
+abbrev pub coming : ScriptLines → Option (List ℕ) → Option (List Reading)
+coming lines left = option_map (readings_from lines.before.bytes) (prepend_known lines.lines left)
+
+-- the same where the readings are known, and they stay known
+abbrev pub IsNextOf : Answer → (now after : Option (List Reading)) → Type 0
+IsNextOf answer None after = ⊤
+IsNextOf answer (Some now) after = (behind : List Reading) × (after ≡ Some behind) × IsNext answer now behind
+
+-- what the bytes of a line say of an answer
+abbrev pub IsTold : Answer → Reading → Type 0
+IsTold (Ok (next.Line line)) reading = reading ≡ Ok line
+IsTold (Ok (next.Last line)) reading = ⊥
+IsTold (Ok (next.Refused kind)) reading = reading ≡ Err kind
+IsTold (Ok next.End) reading = ⊥
+IsTold (Err fault) reading = fault ≡ Memory
+
+-- the same where they are the last
+abbrev pub IsLastTold : Answer → Reading → Type 0
+IsLastTold (Ok (next.Line line)) reading = ⊥
+IsLastTold (Ok (next.Last line)) reading = reading ≡ Ok line
+IsLastTold (Ok (next.Refused kind)) reading = reading ≡ Err kind
+IsLastTold (Ok next.End) reading = ⊥
+IsLastTold (Err fault) reading = fault ≡ Memory
+
+-- a fact where a line was read that others may follow
+abbrev pub OnLine : Answer → Type 0 → Type 0
+OnLine (Ok (next.Line line)) p = p
+OnLine _ p = ⊤
+
+-- a fact where no read failed
+abbrev pub UnlessRead : Answer → Type 0 → Type 0
+UnlessRead (Ok found) p = p
+UnlessRead (Err Read) p = ⊤
+UnlessRead (Err Memory) p = p

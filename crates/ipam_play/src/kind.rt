@@ -1,0 +1,45 @@
+ghost use Rattle.std.specs.Prelude.{◌≡◌};
+ghost use Rattle.ipam_play.specs.Output.{kind_text};
+
+/// Why a line of a script is refused.
+#[derive(Clone, Copy, Debug, PartialEq, Eq)]
+pub enum Kind {
+    /// It has more than 1,048,576 bytes, or its last byte stands behind the first 67,108,864 bytes of
+    /// the script.
+    Long,
+    /// It has none of the forms of a line.
+    Unreadable,
+    /// A row or a counter that was given before, or that stands behind the base.
+    Base,
+    /// A request runs in the slot.
+    Busy,
+    /// Nothing runs in the slot.
+    Idle,
+    /// The slot's collection waits for its second list.
+    Waiting,
+    /// No collection waits in the slot.
+    NotWaiting,
+    /// The grace behind the first list is not over.
+    TooSoon,
+    /// There are too many entries.
+    Worn,
+}
+
+impl Kind {
+    /// What a refusal says of the line.
+    pub fn text(self) -> &'static str
+        ensures { result.now ≡ kind_text self }
+    {
+        match self {
+            Kind::Long => "long",
+            Kind::Unreadable => "unreadable",
+            Kind::Base => "base",
+            Kind::Busy => "busy",
+            Kind::Idle => "idle",
+            Kind::Waiting => "waiting",
+            Kind::NotWaiting => "not waiting",
+            Kind::TooSoon => "too soon",
+            Kind::Worn => "worn",
+        }
+    }
+}

@@ -1,0 +1,125 @@
+//! The lines of a script, read of a source one after another.
+ghost use Rattle.std.specs.Prelude.{◌≡◌, ◌+◌, ◌<◌, ◌≤◌, [], length, IfOk, IfErr};
+ghost use Rattle.ipam_io.specs.Counts.{Rose};
+ghost use Rattle.ipam_script.specs.Lines.{told};
+ghost use Rattle.ipam_play.specs.Readings.{reading_of, coming, IsNextOf, IsTold, IsLastTold, OnLine, UnlessRead};
+
+use crate::kind::Kind;
+use crate::offset::{MOST_SCRIPT_BYTES, Offset};
+use ipam_io::Source;
+use ipam_lines::{Got, Lines, LinesFault};
+use ipam_script::{Line, LineFault, read_line};
+use std::alloc::{AllocError, Global};
+
+/// The most bytes of a line and its line end.
+const LINE_LIMIT: usize = 1_048_577;
+
+/// What comes next in a script.
+#[derive(Debug, Drop)]
+pub enum Next {
+    Line(Line),
+    /// A last line that has no line end.
+    Last(Line),
+    /// A line that is refused whatever was before it.
+    Refused(Kind),
+    /// The script ended.
+    End,
+}
+
+/// Why nothing could be read.
+#[derive(Clone, Copy, Debug, PartialEq, Eq)]
+pub enum ScriptFault {
+    /// A read of the source failed.
+    Read,
+    Memory,
+}
+
+/// The lines of a script that are still to come.
+#[derive(Drop)]
+pub struct ScriptLines {
+    lines: Lines<LINE_LIMIT>,
+    /// How many bytes stand before them in the script.
+    before: Offset,
+}
+
+impl ScriptLines {
+    /// The lines of a script of which nothing was read.
+    pub fn new(alloc: Global) -> ScriptLines
+        ensures held { result.lines ≡ [] }
+        ensures before { result.before.bytes ≡ 0 }
+    {
+        ScriptLines {
+            lines: Lines::new(alloc),
+            before: Offset::start(),
+        }
+    }
+
+    /// The next line, or that the script ended. A line that is refused, and a fault, end the reading:
+    /// nothing is said of what comes behind them.
+    pub fn next<S: Source>(&mut self, alloc: Global, source: &mut S) -> Result<Next, ScriptFault>
+        ensures next { IsNextOf result (coming self.old (S.left source.old)) (coming self.new (S.left source.new)) }
+        ensures fault { IfErr result (λ e. e ≡ ScriptFault.Read
+            → Rose (S.read_faults source.old) (S.read_faults source.new)) }
+        ensures no_fault { UnlessRead result
+            (S.read_faults source.new ≡ S.read_faults source.old) }
+        ensures never_falls { S.read_faults source.old ≤ S.read_faults source.new }
+        ensures rest { S.read_rest source.new ≡ S.read_rest source.old }
+    {
+        match self.lines.next(source) {
+            Ok(Got::Line(bytes)) => self.line(alloc, &bytes),
+            Ok(Got::Cut) => self.last(alloc),
+            Ok(Got::End) => Ok(Next::End),
+            Err(LinesFault::TooLong) => Ok(Next::Refused(Kind::Long)),
+            Err(LinesFault::Read) => Err(ScriptFault::Read),
+            Err(LinesFault::Memory) => Err(ScriptFault::Memory),
+        }
+    }
+
+    /// What the line of these bytes asks.
+    fn line(&mut self, alloc: Global, bytes: &[u8]) -> Result<Next, ScriptFault>
+        requires { length bytes.now < LINE_LIMIT }
+        ensures told { IsTold result (reading_of (told self.old.before.bytes bytes.now)) }
+        ensures lines { self.new.lines ≡ self.old.lines }
+        ensures before { OnLine result (self.new.before.bytes ≡ self.old.before.bytes + length bytes.now + 1) }
+    {
+        match asked(alloc, self.before, bytes) {
+            Ok(Ok(line)) => {
+                self.before = self.before.behind(bytes.len());
+                Ok(Next::Line(line))
+            }
+            Ok(Err(kind)) => Ok(Next::Refused(kind)),
+            Err(_) => Err(ScriptFault::Memory),
+        }
+    }
+
+    /// What the bytes ask that are left where the script ended.
+    fn last(&self, alloc: Global) -> Result<Next, ScriptFault>
+        requires { length self.now.lines < LINE_LIMIT }
+        ensures told { IsLastTold result (reading_of (told self.now.before.bytes self.now.lines)) }
+    {
+        match asked(alloc, self.before, self.lines.held()) {
+            Ok(Ok(line)) => Ok(Next::Last(line)),
+            Ok(Err(kind)) => Ok(Next::Refused(kind)),
+            Err(_) => Err(ScriptFault::Memory),
+        }
+    }
+}
+
+/// What the bytes of a line ask, before which so many stand in the script.
+fn asked(alloc: Global, before: Offset, bytes: &[u8]) -> Result<Result<Line, Kind>, AllocError>
+    requires short { length bytes.now < LINE_LIMIT }
+    ensures reading { IfOk result (λ r. r ≡ reading_of (told before.bytes bytes.now)) }
+    ensures in_time { IfOk result (λ r. IfOk r (λ line. before.bytes + length bytes.now ≤ 67108864)) }
+{
+    if bytes.is_empty() {
+        return Ok(Err(Kind::Unreadable));
+    }
+    if before.bytes + bytes.len() as u64 > MOST_SCRIPT_BYTES {
+        return Ok(Err(Kind::Long));
+    }
+    match read_line(alloc, bytes) {
+        Ok(line) => Ok(Ok(line)),
+        Err(LineFault::Unreadable) => Ok(Err(Kind::Unreadable)),
+        Err(LineFault::Memory) => Err(AllocError),
+    }
+}

@@ -1,0 +1,30 @@
+ghost use Rattle.std.specs.Prelude.{◌≡◌, ◌+◌, ◌≤◌};
+
+/// The last byte of a line is one of the first so many bytes of its script.
+pub(crate) const MOST_SCRIPT_BYTES: u64 = 67_108_864;
+
+/// How many bytes stand before a line of a script.
+#[derive(Clone, Copy, Debug)]
+pub(crate) struct Offset {
+    pub(crate) bytes: u64,
+    ghost small: { bytes ≤ 67108865 },
+}
+
+impl Offset {
+    /// Nothing stands before the first line.
+    pub(crate) fn start() -> Offset
+        ensures { result.bytes ≡ 0 }
+    {
+        Offset { bytes: 0 }
+    }
+
+    /// The line behind one of so many bytes that ends in time.
+    pub(crate) fn behind(self, line: usize) -> Offset
+        requires { self.bytes + line ≤ 67108864 }
+        ensures { result.bytes ≡ self.bytes + line + 1 }
+    {
+        Offset {
+            bytes: self.bytes + line as u64 + 1,
+        }
+    }
+}
