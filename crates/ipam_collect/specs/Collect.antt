@@ -16,11 +16,19 @@ use Rattle.ipam_collect.specs.declared.collect.Goes.{Goes}
 use Rattle.ipam_collect.specs.declared.collect.Goes.TheVariants as goes
 use Rattle.ipam_collect.specs.declared.collect.CollectProc.{CollectProc}
 use Rattle.ipam_collect.specs.declared.collect.CollectTurned.{CollectTurned}
+use Rattle.ipam_collect.specs.declared.collect.Grace.{Grace}
 use Rattle.ipam_collect.specs.Frees.{leaks_left, frees_at, frees_leaves}
 
 -- the time from which on a second list is late enough
 abbrev pub due_from : CollectProc → ℕ
 due_from p = p.request.at + p.request.grace
+
+-- when the first list was made, and the grace behind it
+abbrev pub grace_asked : CollectRequest → Grace
+grace_asked request = record { at = request.at; grace = request.grace }
+
+abbrev pub grace_in : CollectProc → Grace
+grace_in p = grace_asked p.request
 
 -- the blocks are listed again, with these suspects and the second list
 abbrev pub lists_again : (b1 : ℕ) → List Leak → (live : List (List ℕ)) → Word CollectAnswer

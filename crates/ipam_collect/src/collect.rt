@@ -6,7 +6,7 @@ ghost use Rattle.ipam_records.specs.Word.{asked, heard, ended, waits, fed};
 ghost use Rattle.ipam_model.specs.Reads.{rows_said};
 ghost use Rattle.ipam_model.specs.Remove.{collect_word, suspects, leaks};
 ghost use Rattle.ipam_model.specs.Step.{all_left as every_try};
-ghost use Rattle.ipam_collect.specs.Collect.{due_from, collect_at, collect_rest, collect_goes, collect_leaves, stage_leaves, stage_fed};
+ghost use Rattle.ipam_collect.specs.Collect.{due_from, grace_in, grace_asked, collect_at, collect_rest, collect_goes, collect_leaves, stage_leaves, stage_fed};
 ghost use Rattle.ipam_collect.specs.Frees.{leaks_left};
 
 use crate::frees::Frees;
@@ -27,6 +27,13 @@ use std::mem;
 pub struct CollectProc {
     request: CollectRequest,
     stage: Stage,
+}
+
+/// When a collection's first list was made, and its grace, both in seconds.
+#[derive(Clone, Copy, Debug, PartialEq, Eq)]
+pub struct Grace {
+    pub at: u64,
+    pub grace: u64,
 }
 
 /// What a collection does next.
@@ -76,6 +83,7 @@ impl CollectProc {
     pub fn new(_alloc: Global, request: &CollectRequest) -> Result<CollectProc, AllocError>
         ensures word { IfOk result (λ p. collect_rest p ≡ collect_word request.now) }
         ensures due { IfOk result (λ p. due_from p ≡ request.now.at + request.now.grace) }
+        ensures grace { IfOk result (λ p. grace_in p ≡ grace_asked request.now) }
     {
         let request = copied(request)?;
         let stage = Stage::Lists;
@@ -103,12 +111,23 @@ impl CollectProc {
         }
     }
 
+    /// When the first list was made, and how long the second one must wait.
+    pub fn grace(&self) -> Grace
+        ensures { result ≡ grace_in self.now }
+    {
+        Grace {
+            at: self.request.at,
+            grace: self.request.grace,
+        }
+    }
+
     /// Takes the second list. On `Err` it waits as before.
     pub fn feed(&mut self, alloc: Global, live: &[Text], at: u64) -> Result<(), AllocError>
         requires waits { waits (collect_rest self.old) ≡ true }
         requires due { due_from self.old ≤ at }
         ensures ok { OnOk result (collect_rest self.new ≡ fed (collect_rest self.old) live.now) }
         ensures err { OnErr result (collect_rest self.new ≡ collect_rest self.old) }
+        ensures grace { grace_in self.new ≡ grace_in self.old }
     {
         let live = copied_list(alloc, live)?;
         let stage = mem::replace(&mut self.stage, Stage::Lists);
@@ -156,7 +175,11 @@ impl Procedure for CollectProc {
         }
     }
 
-    fn go(&mut self, turned: CollectTurned) -> Option<CollectAnswer> {
+    fn go(&mut self, turned: CollectTurned) -> Option<CollectAnswer>
+        ensures answer { result ≡ ended (collect_leaves self.old turned) }
+        ensures on { IfNone result (collect_rest self.new ≡ collect_leaves self.old turned) }
+        ensures grace { grace_in self.new ≡ grace_in self.old }
+    {
         match turned.goes {
             Goes::To(stage) => {
                 self.stage = stage;

@@ -8,5 +8,5 @@ mod suspect;
 mod suspects;
 mod tally;
 
-pub use collect::{CollectProc, CollectTurned};
+pub use collect::{CollectProc, CollectTurned, Grace};
 pub use std::alloc::AllocError as Memory;

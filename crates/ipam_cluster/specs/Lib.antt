@@ -1,0 +1,3 @@
+pub mod Busy
+pub mod Cluster
+pub mod Slots
