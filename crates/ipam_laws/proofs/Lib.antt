@@ -35,6 +35,7 @@ pub mod AddTrails
 pub mod AddParts
 pub mod AddRounds
 pub mod AddFamilies
+pub mod AddLeaves
 pub mod FamilyHistory
 pub mod AffinityAt
 pub mod AffinityHolds
