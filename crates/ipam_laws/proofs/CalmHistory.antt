@@ -123,7 +123,7 @@ began-leaves base slot request h = refl
 
 -- ---- the span
 
-calm-step : (span : Span) (m : ℕ) (store : Datastore) (asked : Call) (owner : Owner) → IsConsistent span.base.store → Lawful span.base span.history → DidAt span m store asked → Calm store asked → ¬ (Gains (seen_at span m) (seen_at span (m + 1)) owner)
+pub calm-step : (span : Span) (m : ℕ) (store : Datastore) (asked : Call) (owner : Owner) → IsConsistent span.base.store → Lawful span.base span.history → DidAt span m store asked → Calm store asked → ¬ (Gains (seen_at span m) (seen_at span (m + 1)) owner)
 calm-step span m store asked owner c h did calm =
     let old = consistent-before span.base span.history m c h in
     let new = consistent-before span.base span.history (m + 1) c h in

@@ -36,6 +36,7 @@ pub mod AddParts
 pub mod AddRounds
 pub mod AddFamilies
 pub mod AddLeaves
+pub mod AddNothing
 pub mod FamilyHistory
 pub mod AffinityAt
 pub mod AffinityHolds
