@@ -37,6 +37,7 @@ pub mod AddRounds
 pub mod AddFamilies
 pub mod AddLeaves
 pub mod AddNothing
+pub mod CollectTrails
 pub mod FamilyHistory
 pub mod AffinityAt
 pub mod AffinityHolds
