@@ -38,6 +38,7 @@ pub mod AddFamilies
 pub mod AddLeaves
 pub mod AddNothing
 pub mod CollectTrails
+pub mod LeaksAll
 pub mod FamilyHistory
 pub mod AffinityAt
 pub mod AffinityHolds
