@@ -1,10 +1,12 @@
 -- What the answers of an ADD say of the families that are wanted, by the trail that led to them.
 use Rattle.std.proofs.Common.{◌≡◌, ℕ, zero, suc, ◌+◌, ◌-◌, ◌⊎◌, inl, inr, Bool, true, false, List, [], ◌∷◌, ◌++◌, map, Option, Some, None, refl, sym, ap, ◌∙◌, subst, arith}
+use Rattle.std.specs.Prelude.{nat_le}
 use Rattle.std.specs.List.{All, find}
 use Rattle.ipam_addr.specs.declared.address.Family.{Family}
 use Rattle.ipam_addr.specs.declared.address.Family.TheVariants.{V4, V6}
 use Rattle.ipam_addr.specs.Shape.{CidrValue}
 use Rattle.ipam_block.specs.Shape as block
+use Rattle.ipam_handle.specs.Operations.{count_of}
 use Rattle.ipam_records.specs.declared.call.Call.TheVariants.{Get, List as ListAll}
 use Rattle.ipam_records.specs.declared.key.Key.TheVariants as key
 use Rattle.ipam_records.specs.declared.key.Kind.TheVariants as kind
@@ -22,16 +24,16 @@ use Rattle.ipam_model.specs.declared.request.AddRequest.{AddRequest}
 use Rattle.ipam_model.specs.declared.outcome.Gift.{Gift}
 use Rattle.ipam_model.specs.declared.outcome.Served.{Served}
 use Rattle.ipam_model.specs.declared.outcome.Served.TheVariants.{Gave, Refused}
-use Rattle.ipam_model.specs.Add.{gift_of, NextRound, Round, add_each, add_stops, add_word, after_assign, after_family, after_stop, asked_of, claim_in, follow_pick, follow_rank, free_gift, refuse, round_of, serve, take_in}
+use Rattle.ipam_model.specs.Add.{gift_of, NextRound, Round, add_each, add_stops, add_word, after_assign, after_family, after_stop, asked_of, claim_in, follow_pick, follow_rank, free_gift, name_at, refuse, round_of, serve, take_in}
 use Rattle.ipam_block.specs.Operations.{address_of}
 use Rattle.ipam_model.specs.declared.answer.Given.{Given}
 use Rattle.ipam_model.specs.AddLaw.{families_of, scan_of}
 use Rattle.ipam_model.specs.declared.part.Assigned.{Assigned}
-use Rattle.ipam_model.specs.Assigning.{assign, claim_for, target_in}
+use Rattle.ipam_model.specs.Assigning.{assign, claim_for, names_for, target_in}
 use Rattle.ipam_model.specs.Affinities.{BlockRead}
 use Rattle.ipam_model.specs.Choice.{IsChoice, Lacks, Own, Unconfirmed, Unclaimed, Foreign, Pick, Picks, Rank, Seen, Unknown, block_at, block_in_found, choice_at, choice_in, is_block_at, pick_of}
-use Rattle.ipam_model.specs.Counting.{freeing_one}
-use Rattle.ipam_model.specs.Reads.{config_said, pools_said, reservations_said, rows_said}
+use Rattle.ipam_model.specs.Counting.{freeing_one, most_count}
+use Rattle.ipam_model.specs.Reads.{config_said, handle_said, pools_said, reservations_said, rows_said}
 use Rattle.ipam_model.specs.Requests.{told_as}
 use Rattle.ipam_model.specs.declared.part.Left.{Left}
 use Rattle.ipam_model.specs.declared.part.Outcome.{Outcome}
@@ -176,6 +178,7 @@ take-comes round seen five left slot ordinal found r after picked known =
       is_choice = picked;
       quiet = k.quiet;
       is = k.is;
+      limit = subst (λ (c : CidrValue). nat_le most_count (count_of (handle_said round.request.attributes.handle (reply_of k.store (Get (key.Handle round.request.attributes.handle)))) c) ≡ true) known.0 k.limit;
     }
 
 claim-comes : (round : Round) (seen : Seen) (five : Trail) (left : Left) (slot : CidrValue) (read : BlockRead) → InRound round.request round.scan seen five → NextServed round.request round.scan.family round.next → KnownAt five slot read
@@ -205,7 +208,7 @@ follow-comes round seen five left (Picks ranked) r after picked is =
     rank-comes round seen five left ranked.slot ranked.rank r after is
     (picked-read (KnownAt five ranked.slot) (asked_of round.request round.scan.family) seen ranked picked (r.knows ranked.slot (block_at seen ranked.slot) refl))
 follow-comes round seen five left Lacks r after picked is = is-chosen round.request round.scan seen five Nothing r is
-follow-comes round seen five left (Unknown place) r after picked is = (round.scan, place, refl, is-chosen round.request round.scan seen five (NoPool place) r is)
+follow-comes round seen five left (Unknown place) r after picked is = (round.scan, place, refl, refl, is-chosen round.request round.scan seen five (NoPool place) r is)
 
 -- a block that was listed is known from then on
 pub listed-known : (blocks : Datastore) (four : Trail) (b : ℕ) (slot : CidrValue) (read : BlockRead) → block_in_found (find (is_block_at slot) (listed kind.Block blocks)) ≡ read → KnownAt (Did b blocks (ListAll kind.Block) ∷ four) slot read
@@ -284,7 +287,7 @@ refusal-more : (request : AddRequest) (answer : AddAnswer) (trail : Trail) (step
 unfolding IsRefusal
 refusal-more request (add.Added given) trail step h = all-given-more request trail (families_of request) given step h
 refusal-more request (add.Exhausted scan) trail step h = chosen-more request scan Nothing trail step h
-refusal-more request (add.NoPool called moment) trail step (scan, place, at, h) = (scan, place, at, chosen-more request scan (NoPool place) trail step h)
+refusal-more request (add.NoPool called moment) trail step (scan, place, at, called_so, h) = (scan, place, at, called_so, chosen-more request scan (NoPool place) trail step h)
 refusal-more request (add.Again lost claims) trail step h = tt
 refusal-more request add.Full trail step h = tt
 refusal-more request (add.CountFull moment) trail step h = aimed-more request moment trail step h
@@ -406,7 +409,8 @@ each-comes request false false wanted = subst (λ (families : List Family). AreG
 unfoldable pub IsTold : AddRequest → Answer → Trail → Type 0
 IsTold request (answer.Added given) trail = AreGivenBy request trail (families_of request) given
 IsTold request (answer.Exhausted scan) trail = IsChosen request scan Nothing trail
-IsTold request (answer.NoPool called moment) trail = (scan : Scan) × (place : ℕ) × (moment ≡ scan.p) × IsChosen request scan (NoPool place) trail
+IsTold request (answer.NoPool called moment) trail =
+    (scan : Scan) × (place : ℕ) × (moment ≡ scan.p) × (called ≡ name_at (names_for scan.family request) place) × IsChosen request scan (NoPool place) trail
 IsTold request (answer.CountFull moment) trail = IsAimed request moment trail
 IsTold request _ trail = Unit {0}
 

@@ -1,12 +1,13 @@
 -- For which family a round of an ADD is, by the trail that led to it.
 use Rattle.std.proofs.Common.{◌≡◌, ℕ, ◌⊎◌, inl, inr, Bool, true, false, cond, List, [], ◌∷◌, ◌++◌, Option, Some, None, refl, sym, ap, ◌∙◌, subst}
-use Rattle.std.specs.Prelude.{◌&&◌, not, IsTrue, MatchOption}
+use Rattle.std.specs.Prelude.{◌&&◌, not, IsTrue, MatchOption, nat_le}
 use Rattle.std.specs.List.{All, find, list_any}
 use Rattle.ipam_addr.specs.declared.address.Family.{Family}
 use Rattle.ipam_addr.specs.declared.address.Family.TheVariants.{V4, V6}
 use Rattle.ipam_addr.specs.Holding.{is_same_family}
 use Rattle.ipam_addr.specs.Shape.{CidrValue}
 use Rattle.ipam_block.specs.Shape as block
+use Rattle.ipam_handle.specs.Operations.{count_of}
 use Rattle.ipam_records.specs.declared.call.Call.{Call}
 use Rattle.ipam_records.specs.declared.call.Call.TheVariants.{Get, List as ListAll}
 use Rattle.ipam_records.specs.declared.key.Key.TheVariants as key
@@ -23,14 +24,15 @@ use Rattle.ipam_model.specs.declared.outcome.AddAnswer.TheVariants as add
 use Rattle.ipam_model.specs.declared.request.AddRequest.{AddRequest}
 use Rattle.ipam_model.specs.declared.outcome.Served.{Served}
 use Rattle.ipam_model.specs.declared.outcome.Served.TheVariants.{Gave, Refused}
-use Rattle.ipam_model.specs.Add.{asked_of}
+use Rattle.ipam_model.specs.Add.{asked_of, name_at}
 use Rattle.ipam_block.specs.Operations.{address_of}
 use Rattle.ipam_model.specs.declared.answer.Given.{Given}
 use Rattle.ipam_model.specs.AddLaw.{families_of, scan_of}
 use Rattle.ipam_model.specs.AffinityLaw.{HasAt}
 use Rattle.ipam_model.specs.Choice.{FirstCandidate, IsBest, IsChoice, Picks, Rank, Ranked, Own, Unconfirmed, Unclaimed, Foreign, Seen, block_at, block_in_found, choice_at, chosen, has_free_address, is_block_at, is_confirmed_for, is_node, is_unowned_and_empty, may_claim, pick_of, rank_at, rank_of_block, room_of}
 use Rattle.ipam_model.specs.Affinities.{BlockRead}
-use Rattle.ipam_model.specs.Reads.{Row, config_said, pools_said, reservations_said, rows_said}
+use Rattle.ipam_model.specs.Counting.{most_count}
+use Rattle.ipam_model.specs.Reads.{Row, config_said, handle_said, pools_said, reservations_said, rows_said}
 use Rattle.ipam_model.specs.declared.part.Left.{Left}
 use Rattle.ipam_model.specs.declared.part.Outcome.{Outcome}
 use Rattle.ipam_model.specs.declared.part.Stop.{Stop}
@@ -40,7 +42,7 @@ use Rattle.ipam_model.specs.Usable.{Asked, is_usable, unknown_name}
 use Rattle.ipam_pool.specs.declared.pools.Pool.{Pool}
 use Rattle.ipam_model.proofs.ChoiceLemmas.{pick-ranked}
 use Rattle.ipam_model.specs.declared.part.Assigned.{Assigned}
-use Rattle.ipam_model.specs.Assigning.{target_in}
+use Rattle.ipam_model.specs.Assigning.{names_for, target_in}
 use Rattle.ipam_laws.proofs.Acts.{Later, Since}
 use Rattle.ipam_laws.proofs.AddParts.{AssignsLast, GivesLast, NotLimit}
 use Rattle.ipam_laws.proofs.AddTrails.{HasGift, IsGift, More, Quietly, Same}
@@ -132,7 +134,8 @@ chosen-more request scan choice trail step h = record {
   is_choice = h.is_choice;
 }
 
--- an address of this block was chosen, and the handle was read at the moment in the same round
+-- an address of this block was chosen, and the handle was read at the moment in the same round, with its
+-- count of the block at the limit
 pub record IsAimed (request : AddRequest) (moment : ℕ) (trail : Trail) : Type 0 where
   pub scan : Scan
   pub cidr : CidrValue
@@ -148,6 +151,7 @@ pub record IsAimed (request : AddRequest) (moment : ℕ) (trail : Trail) : Type 
   pub is_choice : IsChoice (asked_of request scan.family) seen (Use cidr ordinal) ⊎ IsChoice (asked_of request scan.family) seen (Borrow cidr ordinal)
   pub quiet : Quietly five between
   pub is : trail ≡ more ++ Did moment store (Get (key.Handle request.attributes.handle)) ∷ between
+  pub limit : nat_le most_count (count_of (handle_said request.attributes.handle (reply_of store (Get (key.Handle request.attributes.handle)))) cidr) ≡ true
 
 pub aimed-more : (request : AddRequest) (moment : ℕ) (trail : Trail) (step : Step) → IsAimed request moment trail → IsAimed request moment (step ∷ trail)
 aimed-more request moment trail step h = record {
@@ -165,6 +169,7 @@ aimed-more request moment trail step h = record {
   is_choice = h.is_choice;
   quiet = h.quiet;
   is = ap (λ (t : Trail). step ∷ t) h.is;
+  limit = h.limit;
 }
 
 -- the address was chosen in a round for the family
@@ -240,7 +245,8 @@ quietly-chosen request scan choice trail longer (More moment store asked rest qu
 unfoldable pub IsRefusal : AddRequest → AddAnswer → Trail → Type 0
 IsRefusal request (add.Added given) trail = AreGivenBy request trail (families_of request) given
 IsRefusal request (add.Exhausted scan) trail = IsChosen request scan Nothing trail
-IsRefusal request (add.NoPool called moment) trail = (scan : Scan) × (place : ℕ) × (moment ≡ scan.p) × IsChosen request scan (NoPool place) trail
+IsRefusal request (add.NoPool called moment) trail =
+    (scan : Scan) × (place : ℕ) × (moment ≡ scan.p) × (called ≡ name_at (names_for scan.family request) place) × IsChosen request scan (NoPool place) trail
 IsRefusal request (add.Again lost claims) trail = Unit {0}
 IsRefusal request add.Full trail = Unit {0}
 IsRefusal request (add.CountFull moment) trail = IsAimed request moment trail

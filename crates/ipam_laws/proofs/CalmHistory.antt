@@ -49,7 +49,7 @@ no-block-key (key.Block cidr) h = absurd (h cidr refl)
 no-block-key (key.Affinity node cidr) h = tt
 no-block-key (key.Handle id) h = tt
 
-is-apart : (asked : Call) → ((cidr : CidrValue) → key_written (name_of asked) ≢ Some (key.Block cidr)) → IsApart asked
+pub is-apart : (asked : Call) → ((cidr : CidrValue) → key_written (name_of asked) ≢ Some (key.Block cidr)) → IsApart asked
 is-apart (Get k) h = tt
 is-apart (ListAll kind) h = tt
 is-apart (Create new) h = no-block-key (key_of new) h
@@ -117,13 +117,13 @@ quiet-entry span k there early is leaves =
     let one : suc many ≡ moment_of span.base span.history - k = omega arith in
     ap (λ (h : List Entry). store_at span.base h) split ∙ leaves (drop (suc many) span.history) ∙ ap (λ (n : ℕ). store_at span.base (drop n span.history)) one
 
-began-leaves : (base : Base) (slot : ℕ) (request : Request) (h : List Entry) → store_at base (entry.Began slot request ∷ h) ≡ store_at base h
+pub began-leaves : (base : Base) (slot : ℕ) (request : Request) (h : List Entry) → store_at base (entry.Began slot request ∷ h) ≡ store_at base h
 unfolding cluster_at after
 began-leaves base slot request h = refl
 
 -- ---- the span
 
-calm-step : (span : Span) (m : ℕ) (store : Datastore) (asked : Call) (owner : Owner) → IsConsistent span.base.store → Lawful span.base span.history → DidAt span m store asked → Calm store asked → ¬ (Gains (seen_at span m) (seen_at span (m + 1)) owner)
+pub calm-step : (span : Span) (m : ℕ) (store : Datastore) (asked : Call) (owner : Owner) → IsConsistent span.base.store → Lawful span.base span.history → DidAt span m store asked → Calm store asked → ¬ (Gains (seen_at span m) (seen_at span (m + 1)) owner)
 calm-step span m store asked owner c h did calm =
     let old = consistent-before span.base span.history m c h in
     let new = consistent-before span.base span.history (m + 1) c h in

@@ -180,6 +180,6 @@ deleted-right a id moment trail c h is d =
           let (cidr, held) = owns-held (seen_at span moment) o then.sound owns in
           let among = subst (λ (s : Datastore). Contains (map (λ (count : CidrValue × ℕ). count.0) (handle_said id (reply_of s (Get (key.Handle id)))).counts) cidr) there.0.before_it (owned-counted (seen_at span moment) id o cidr then own held) in
           let (amount, rid) = d.rid cidr among in
-          rid-gone span c h (freeing_all id cidr) o (λ x recorded. subst (λ (t : List ℕ). is_owned t x ≡ true) (ap (λ (p : Owner). p.handle) recorded ∙ own) (same_text x.attributes.handle)) moment held trail
+          rid-gone span c h (freeing_all id cidr) o (λ x recorded. subst (λ (t : List ℕ). is_owned t x ≡ true) (ap (λ (p : Owner). p.handle) recorded ∙ own) (same_text x.attributes.handle)) moment held moment (omega arith) trail
           (Did moment d.store (Get (key.Handle id)) ∷ []) [] amount d.store (Get (key.Handle id)) refl is rid;
     }

@@ -276,7 +276,13 @@ module _ (span : Span) (scan : Scan) (seen : Seen) (before five : Trail) (reads 
   five-back between Same upto h = record { upto = upto; is_trail = h }
   five-back between (More m store asked longer quiet earlier) upto h = five-back longer earlier m h.2
 
-aimed-span : (a : Answered) (request : AddRequest) (moment : ℕ) (trail : Trail) (upto : ℕ) → a.request ≡ Add request → IsTrail (span_of a) upto trail → IsAimed request moment trail → (cidr : CidrValue) × IsTarget a moment cidr
+-- the handle was read at the moment, over this store
+pub record IsReadThen (span : Span) (id : List ℕ) (moment : ℕ) (store : Datastore) : Type 0 where
+  pub read : Heard span moment (Get (key.Handle id)) (reply_of store (Get (key.Handle id)))
+  pub before_it : seen_at span moment ≡ store
+
+pub aimed-span : (a : Answered) (request : AddRequest) (moment : ℕ) (trail : Trail) (upto : ℕ) → a.request ≡ Add request → IsTrail (span_of a) upto trail → (aimed : IsAimed request moment trail)
+    → IsTarget a moment aimed.cidr × IsReadThen (span_of a) request.attributes.handle moment aimed.store
 unfolding IsTrail
 aimed-span a request moment trail upto is h c =
     let span = span_of a in
@@ -287,9 +293,11 @@ aimed-span a request moment trail upto is h c =
       behind = scan-behind span c.scan c.seen c.before c.five c.reads c.between c.quiet moment between;
       same_round = no-round span c.scan c.seen c.before c.five c.reads c.between c.quiet moment between;
     } in
+    let handle = Get (key.Handle request.attributes.handle) in
+    let read : IsReadThen span request.attributes.handle moment c.store = record { read = heard span moment c.store handle there.is_trail.0; before_it = there.is_trail.0.before_it } in
     elim c.is_choice [
-      | inl own ↦ (c.cidr, Chosen request c.scan c.ordinal is (inl (chosen-in span request c.scan (Use c.cidr c.ordinal) c.seen c.before c.five five.upto c.reads five.is_trail c.round own)) round)
-      | inr other ↦ (c.cidr, Chosen request c.scan c.ordinal is (inr (chosen-in span request c.scan (Borrow c.cidr c.ordinal) c.seen c.before c.five five.upto c.reads five.is_trail c.round other)) round)
+      | inl own ↦ (Chosen request c.scan c.ordinal is (inl (chosen-in span request c.scan (Use c.cidr c.ordinal) c.seen c.before c.five five.upto c.reads five.is_trail c.round own)) round, read)
+      | inr other ↦ (Chosen request c.scan c.ordinal is (inr (chosen-in span request c.scan (Borrow c.cidr c.ordinal) c.seen c.before c.five five.upto c.reads five.is_trail c.round other)) round, read)
     ]
 
 -- ---- the law
@@ -323,8 +331,8 @@ starts (Probe request) = comes-any (λ trail (told : Answer). Unit {0}) (λ trai
 of-round : (a : Answered) (request : AddRequest) (trail : Trail) (upto : ℕ) → a.request ≡ Add request → IsTrail (span_of a) upto trail → (told : Answer) → IsTold request told trail → IsOfRound a request told
 unfolding IsTold
 of-round a request trail upto is h (answer.Exhausted scan) k = chosen-span (span_of a) request scan Nothing trail upto h k
-of-round a request trail upto is h (answer.NoPool called moment) (scan, place, at, k) = (scan, place, at, chosen-span (span_of a) request scan (NoPool place) trail upto h k)
-of-round a request trail upto is h (answer.CountFull moment) k = aimed-span a request moment trail upto is h k
+of-round a request trail upto is h (answer.NoPool called moment) (scan, place, at, called_so, k) = (scan, place, at, chosen-span (span_of a) request scan (NoPool place) trail upto h k)
+of-round a request trail upto is h (answer.CountFull moment) k = (k.cidr, (aimed-span a request moment trail upto is h k).0)
 of-round a request trail upto is h (answer.Added given) k = all-from-rounds (span_of a) request trail upto h (families_of request) given k
 of-round a request trail upto is h (answer.AddedThis given) k = tt
 of-round a request trail upto is h (answer.NotInPool moment) k = tt

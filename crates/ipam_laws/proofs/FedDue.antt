@@ -50,7 +50,7 @@ only-begun base history slot request moment at live h =
           absurd (cc is)
     ]
 
-due-skip : (base : Base) (history : List Entry) (new : Entry) (slot : ℕ) (o : Option Running) → begins slot new ≡ false → ((at : ℕ) (live : List (List ℕ)) → entry.Fed slot at live ≢ new) → DueIn base history slot o → DueIn base (new ∷ history) slot o
+pub due-skip : (base : Base) (history : List Entry) (new : Entry) (slot : ℕ) (o : Option Running) → begins slot new ≡ false → ((at : ℕ) (live : List (List ℕ)) → entry.Fed slot at live ≢ new) → DueIn base history slot o → DueIn base (new ∷ history) slot o
 due-skip base history new slot None not other h = tt
 due-skip base history new slot (Some running) not other h = λ moment at live there. elim (newest-or (span_at base history slot) new (entry.Fed slot at live) moment not there) [
   | inl is ↦ absurd (other at live is)

@@ -36,7 +36,7 @@ not-so false e = refl
 is-true : (b : Bool) → b ≡ true → IsTrue b
 is-true b e = e
 
-same-owner-is : (o p : Owner) → same_owner o p ≡ true → o ≡ p
+pub same-owner-is : (o p : Owner) → same_owner o p ≡ true → o ≡ p
 same-owner-is o p e =
     let (front, stamps) = both (same_address o.address p.address && bytes_eq o.handle p.handle) (o.stamp == p.stamp) e in
     let (address, handles) = both (same_address o.address p.address) (bytes_eq o.handle p.handle) front in
@@ -76,6 +76,9 @@ listed-owns store owner e =
 pub record IsSuspect (store : Datastore) (collect : CollectRequest) (leak : Leak) : Type 0 where
   pub a : Allocation
   pub holding : BlockValue
+  pub revision : ℕ
+  pub in_rows : Contains store.rows (revision, record_of.Block holding)
+  pub held : Contains holding.allocations a
   pub recorded : Recorded store leak.owner a
   pub in_scope : IsTrue (is_in_scope collect.scope a)
   pub not_live : is_live collect.live leak.owner.handle ≡ false
@@ -96,6 +99,9 @@ suspect-in store collect leak revision (record_of.Block b) among own =
     subst (λ (x : Leak). IsSuspect store collect x) is (record {
       a = a;
       holding = b;
+      revision = revision;
+      in_rows = among;
+      held = there;
       recorded = record { revision = revision; holding = b; in_rows = among; held = there; is_owner = refl };
       in_scope = is-true (is_in_scope collect.scope a) scope;
       not_live = not-so (is_live collect.live a.attributes.handle) live;

@@ -36,6 +36,10 @@ pub mod AddTrails
 pub mod AddParts
 pub mod AddRounds
 pub mod AddFamilies
+pub mod AddLeaves
+pub mod AddNothing
+pub mod CollectTrails
+pub mod LeaksAll
 pub mod FamilyHistory
 pub mod AffinityAt
 pub mod AffinityHolds

@@ -163,7 +163,7 @@ abbrev pub CreatesNone : Call → Type 0
 CreatesNone asked = (new : Record) → asked ≢ Create new
 
 -- what finds no room creates
-full-creates : (store : Datastore) (asked : Call) → is_write (name_of asked) ≡ true → reply_of store asked ≡ Full → (new : Record) × (asked ≡ Create new)
+pub full-creates : (store : Datastore) (asked : Call) → is_write (name_of asked) ≡ true → reply_of store asked ≡ Full → (new : Record) × (asked ≡ Create new)
 unfolding NotFull
 full-creates store (Get k) w e = absurd (cc w)
 full-creates store (ListAll kind) w e = absurd (cc w)

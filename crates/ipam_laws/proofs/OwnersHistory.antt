@@ -152,7 +152,7 @@ assign-moves span request trail next attributes target revision t is done curren
     inr (request, t.requested, Assigned (new_owner target.block target.ordinal attributes) may (assigned-gains (seen_now span) next target.block target.ordinal attributes rewrite))
 
 -- the owner in the words of the block
-owner-at : (leak : Leak) (cidr : CidrValue) → leak.owner.address.number - leak.block.base + leak.block.base ≡ leak.owner.address.number → leak.block.family ≡ leak.owner.address.family → cidr ≡ leak.block
+pub owner-at : (leak : Leak) (cidr : CidrValue) → leak.owner.address.number - leak.block.base + leak.block.base ≡ leak.owner.address.number → leak.block.family ≡ leak.owner.address.family → cidr ≡ leak.block
     → stamped_owner cidr (leak.owner.address.number - leak.block.base) leak.owner.handle leak.owner.stamp ≡ leak.owner
 owner-at leak cidr number family is =
     let sum : leak.block.base + (leak.owner.address.number - leak.block.base) ≡ leak.owner.address.number = omega arith in

@@ -151,7 +151,7 @@ stamped-is cidr ordinal handle stamp a e =
     let own = same-handle a handle third in
     λ i. record { address = address_of cidr (at i); handle = own i; stamp = stamped i }
 
-stamped-by_owner : (cidr : CidrValue) (ordinal : ℕ) (handle : List ℕ) (stamp : ℕ) → IsByOwner cidr (is_stamped ordinal handle stamp)
+pub stamped-by_owner : (cidr : CidrValue) (ordinal : ℕ) (handle : List ℕ) (stamp : ℕ) → IsByOwner cidr (is_stamped ordinal handle stamp)
 stamped-by_owner cidr ordinal handle stamp a other same e =
     let number = ap (λ (o : Owner). o.address.number) same in
     let at : a.ordinal ≡ other.ordinal = omega arith in

@@ -88,15 +88,16 @@ module _ (span : Span) (consistent : IsConsistent span.base.store) (lawful : Law
   never m later early gone owns =
       gone (no_return span.base span.history consistent lawful first m (now span) later early o (held-owns (seen_at span first) what.block o held) (subst (λ (s : Datastore). Owns s o) (sym (seen-now span)) owns))
 
-  pub rid-gone : (trail origin before : Trail) (amount : ℕ) (store : Datastore) (asked : Call) → origin ≡ Did first store asked ∷ before → IsTrail span (now span) trail → Rid what origin amount trail → ¬ (Owns (seen_now span) o)
+  -- behind a step that lies at the first moment, or just before it
+  pub rid-gone : (head_at : ℕ) → first ≤ head_at + 1 → (trail origin before : Trail) (amount : ℕ) (store : Datastore) (asked : Call) → origin ≡ Did head_at store asked ∷ before → IsTrail span (now span) trail → Rid what origin amount trail → ¬ (Owns (seen_now span) o)
   unfolding IsTrail
-  rid-gone trail origin before amount store asked head is (NoneThere m at earlier there later none_amount none) =
+  rid-gone head_at near trail origin before amount store asked head is (NoneThere m at earlier there later none_amount none) =
       let (until, part) = part-of span (Did m at (Get (key.Block what.block)) ∷ earlier) trail (now span) there is in
-      let behind_it = since-before span first store asked before earlier m (subst (λ (t : Trail). Since t earlier) head later) part.2 in
+      let behind_it = since-before span head_at store asked before earlier m (subst (λ (t : Trail). Since t earlier) head later) part.2 in
       let inside = part.0.in_span.before_now in
       never m (omega arith) (omega arith) (none-there m at (omega arith) part.0.before_it none)
-  rid-gone trail origin before amount store asked head is (Freed m at earlier b old revision more there later some done current same count) =
+  rid-gone head_at near trail origin before amount store asked head is (Freed m at earlier b old revision more there later some done current same count) =
       let (until, part) = part-of span (Did m at (freeing_call what b old) ∷ earlier) trail (now span) there is in
-      let behind_it = since-before span first store asked before earlier m (subst (λ (t : Trail). Since t earlier) head later) part.2 in
+      let behind_it = since-before span head_at store asked before earlier m (subst (λ (t : Trail). Since t earlier) head later) part.2 in
       let inside = part.0.in_span.before_now in
       never (m + 1) (omega arith) (omega arith) (freed-there m at b old revision (omega arith) part.0.before_it part.0.behind_it done current same)

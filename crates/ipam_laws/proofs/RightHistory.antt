@@ -1,36 +1,47 @@
 -- Whatever a request is answered is right, by the kind of the request.
 use Rattle.std.proofs.Common.{◌≡◌, ◌≢◌, ℕ, inl, inr, List, [], ◌∷◌, Some, refl, sym, ap, ◌∙◌, subst}
 use Rattle.ipam_addr.specs.Shape.{AddrValue, CidrValue}
+use Rattle.ipam_records.specs.declared.call.Call.TheVariants.{Get}
+use Rattle.ipam_records.specs.declared.key.Key.TheVariants as key
+use Rattle.ipam_records.specs.Datastore.{Datastore, reply_of}
+use Rattle.ipam_records.specs.Sound.{IsDatastore}
 use Rattle.ipam_model.specs.declared.answer.Answer.{Answer}
 use Rattle.ipam_model.specs.declared.answer.Answer.TheVariants as answer
+use Rattle.ipam_model.specs.declared.choice.Choice.TheVariants.{Nothing, NoPool}
 use Rattle.ipam_model.specs.declared.entry.Fate.{Fate}
 use Rattle.ipam_model.specs.declared.entry.Fate.TheVariants.{After, Before, Well}
 use Rattle.ipam_model.specs.declared.request.AddRequest.{AddRequest}
 use Rattle.ipam_model.specs.declared.request.Admin.{Admin as Setting}
 use Rattle.ipam_model.specs.declared.request.Request.{Request}
 use Rattle.ipam_model.specs.declared.request.Request.TheVariants.{Add, AddThis, Admin, Check, Collect, Del, Probe, Release}
+use Rattle.ipam_model.specs.Add.{asked_of}
 use Rattle.ipam_model.specs.AddLaw.{HasNothing, families_of}
-use Rattle.ipam_model.specs.AnswerLaw.{CheckAnswersLaw, IsAddWith, IsRightAnswer, ProbeAnswersLaw}
+use Rattle.ipam_model.specs.AnswerLaw.{CheckAnswersLaw, IsAddWith, IsRightAnswer, IsTarget, ProbeAnswersLaw}
 use Rattle.ipam_model.specs.Answered.{Answered, earlier_calls, history_of, span_of}
 use Rattle.ipam_model.specs.Consistent.{IsConsistent}
 use Rattle.ipam_model.specs.History.{Lawful, cluster_at, now}
 use Rattle.ipam_model.specs.Moments.{request_in}
+use Rattle.ipam_model.specs.OtherLaws.{IsCountFull}
 use Rattle.ipam_model.specs.Requests.{word_of}
-use Rattle.ipam_laws.specs.RightAnswers.{ChangeAnswersLaw, ReleaseAnswersLaw, DelAnswersLaw, GivenLaw, StopLaw, ThisAnswersLaw, WholeProbeLaw}
+use Rattle.ipam_laws.specs.RightAnswers.{AddAnswersLaw, ChangeAnswersLaw, ReleaseAnswersLaw, DelAnswersLaw, StopLaw, ThisAnswersLaw, WholeProbeLaw}
 use Rattle.ipam_laws.proofs.AddFamilies.{IsTold, told-comes}
+use Rattle.ipam_laws.proofs.AddLeaves.{LeavesNothing, leaves-nothing}
+use Rattle.ipam_laws.proofs.AddNothing.{nothing-left}
 use Rattle.ipam_laws.proofs.AddRight.{all-right}
+use Rattle.ipam_laws.proofs.AddRounds.{IsAimed}
 use Rattle.ipam_laws.proofs.DelRight.{OfDel, deleted-right, told-del}
 use Rattle.ipam_laws.proofs.CheckAnswers.{OfCheck, check-comes, check-right}
-use Rattle.ipam_laws.proofs.FamilyHistory.{comes-any}
+use Rattle.ipam_laws.proofs.FamilyHistory.{aimed-span, chosen-span, comes-any}
 use Rattle.ipam_laws.proofs.Fates.{faults}
 use Rattle.ipam_laws.proofs.HeardRight.{OfChange, OfRelease, done-right, missed-right, refused-right, released-right, told-change, told-release}
-use Rattle.ipam_laws.proofs.ProbeAnswers.{OfProbe, probe-comes, probe-right}
+use Rattle.ipam_laws.proofs.NoReturn.{consistent-before}
+use Rattle.ipam_laws.proofs.ProbeAnswers.{OfProbe, named-place, probe-comes, probe-right}
 use Rattle.ipam_laws.proofs.StopHistory.{IsStopRight, stopped-right}
 use Rattle.ipam_laws.proofs.StoreSteps.{failed-answered}
-use Rattle.ipam_laws.proofs.ThisGiven.{given-right, limit-right}
+use Rattle.ipam_laws.proofs.ThisGiven.{given-right, limit-is, limit-right}
 use Rattle.ipam_laws.proofs.ThisRight.{calm-nothing, held-right, left-right, unpooled-right}
 use Rattle.ipam_laws.proofs.ThisTrails.{OfThis, told-this}
-use Rattle.ipam_laws.proofs.Trails.{AreCalls, Comes, IsTrail, Trail, answer-comes}
+use Rattle.ipam_laws.proofs.Trails.{AreCalls, Comes, Comes-both, IsTrail, Trail, answer-comes}
 
 -- ---- what requests say of their trails
 
@@ -41,7 +52,7 @@ Heard (Admin setting) trail told = OfChange setting trail told
 Heard (Probe request) trail told = OfProbe request trail told
 Heard (AddThis request address) trail told = OfThis request address trail told
 Heard (Del id) trail told = OfDel id trail told
-Heard (Add request) trail told = IsTold request told trail
+Heard (Add request) trail told = IsTold request told trail × LeavesNothing request told trail
 Heard _ trail told = Unit {0}
 
 hear : (request : Request) → Comes (Heard request) [] (word_of request)
@@ -50,7 +61,7 @@ hear (Check id addresses) = check-comes id addresses
 hear (Release node cidr) = told-release node cidr
 hear (Admin setting) = told-change setting
 hear (Probe request) = probe-comes request
-hear (Add request) = told-comes request
+hear (Add request) = Comes-both (λ trail told. IsTold request told trail) (λ trail told. LeavesNothing request told trail) (word_of (Add request)) [] (told-comes request) (leaves-nothing request)
 hear (AddThis request address) = told-this request address
 hear (Del id) = told-del id
 hear (Collect request) = comes-any (λ trail (told : Answer). Unit {0}) (λ trail told. tt) (word_of (Collect request)) []
@@ -252,13 +263,70 @@ del_answers id a c h is told requested given =
     let k = heard-of a told t differ fate in
     del-right a id k.trail c h is k.is_trail told (subst (λ (r : Request). Heard r k.trail told) is k.heard) k.stop)
 
-pub given_law : GivenLaw
-unfolding Heard IsTold
-given_law request a list c h is requested given =
-    let t : IsThere a (answer.Added list) = record { consistent = c; lawful = h; requested = requested; given = given } in
-    right-if a (answer.Added list) t (λ differ fate.
-    let k = heard-of a (answer.Added list) t differ fate in
-    (request, is, all-right a request (families_of request) list k.trail c h k.is_trail (subst (λ (r : Request). Heard r k.trail (answer.Added list)) is k.heard)))
+-- an address of a block was chosen in the round, and its count was at its limit
+add-limit : (a : Answered) (request : AddRequest) (moment : ℕ) (trail : Trail) → IsConsistent a.base.store → Lawful a.base (history_of a) → a.request ≡ Add request → IsTrail (span_of a) (now (span_of a)) trail → IsAimed request moment trail
+    → (cidr : CidrValue) × IsTarget a moment cidr × IsCountFull a request.attributes.handle cidr moment
+add-limit a request moment trail c l is there aimed =
+    let (target, then) = aimed-span a request moment trail (now (span_of a)) is there aimed in
+    let sound : IsDatastore aimed.store = subst (λ (s : Datastore). IsDatastore s) then.before_it (consistent-before a.base (history_of a) moment c l).sound in (
+      aimed.cidr,
+      target,
+      record {
+        found = reply_of aimed.store (Get (key.Handle request.attributes.handle));
+        read = then.read;
+        at_limit = limit-is aimed.store request.attributes.handle aimed.cidr sound aimed.limit;
+      },
+    )
+
+add-right : (a : Answered) (request : AddRequest) (trail : Trail) → IsConsistent a.base.store → Lawful a.base (history_of a) → a.request ≡ Add request → IsTrail (span_of a) (now (span_of a)) trail → (told : Answer) → IsTold request told trail → LeavesNothing request told trail → IsStopRight a told → IsRightAnswer a told
+unfolding IsTold LeavesNothing IsStopRight
+add-right a request trail c l is there (answer.Added given) h k s = (request, is, all-right a request (families_of request) given trail c l there h)
+add-right a request trail c l is there (answer.Exhausted scan) h k s = inl (
+  request,
+  is,
+  record { chosen = chosen-span (span_of a) request scan Nothing trail (now (span_of a)) there h; nothing_left = nothing-left a request trail c l there k },
+)
+add-right a request trail c l is there (answer.NoPool called moment) (scan, place, at, called_so, h) k s =
+    let chosen = chosen-span (span_of a) request scan (NoPool place) trail (now (span_of a)) there h in
+    inl (
+      request,
+      is,
+      record {
+        scan = scan;
+        place = place;
+        chosen = chosen;
+        at_pools = at;
+        is_name = named-place (asked_of request scan.family) chosen.seen place chosen.is_choice ∙ ap Some (sym called_so);
+        nothing_left = nothing-left a request trail c l there k;
+      },
+    )
+add-right a request trail c l is there (answer.CountFull moment) h k s = (request, inl is, add-limit a request moment trail c l is there h, nothing-left a request trail c l there k)
+add-right a request trail c l is there (answer.Again lost claims) h k s = s
+add-right a request trail c l is there answer.Full h k s = (s, λ add adds. nothing-left a request trail c l there k)
+add-right a request trail c l is there answer.Spent h k s = s
+add-right a request trail c l is there (answer.AddedThis given) h k s = absurd k
+add-right a request trail c l is there (answer.NotInPool moment) h k s = absurd k
+add-right a request trail c l is there (answer.Taken id moment) h k s = absurd k
+add-right a request trail c l is there (answer.NotAffine block moment) h k s = absurd k
+add-right a request trail c l is there (answer.Deleted moment) h k s = absurd k
+add-right a request trail c l is there answer.Checked h k s = absurd k
+add-right a request trail c l is there (answer.NotRecorded other moment) h k s = absurd k
+add-right a request trail c l is there answer.Released h k s = absurd k
+add-right a request trail c l is there (answer.NoAffinity moment) h k s = absurd k
+add-right a request trail c l is there (answer.Collected collected) h k s = absurd k
+add-right a request trail c l is there (answer.Done revision) h k s = absurd k
+add-right a request trail c l is there (answer.Refused number about) h k s = absurd k
+add-right a request trail c l is there answer.Fault h k s = absurd k
+add-right a request trail c l is there (answer.Ready scans) h k s = absurd k
+
+pub add_answers : AddAnswersLaw
+unfolding Heard
+add_answers request a c h is told requested given =
+    let t : IsThere a told = record { consistent = c; lawful = h; requested = requested; given = given } in
+    right-if a told t (λ differ fate.
+    let k = heard-of a told t differ fate in
+    let heard = subst (λ (r : Request). Heard r k.trail told) is k.heard in
+    add-right a request k.trail c h is k.is_trail told heard.0 heard.1 k.stop)
 
 pub stop_law : StopLaw
 unfolding IsStopRight

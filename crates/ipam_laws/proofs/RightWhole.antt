@@ -3,7 +3,6 @@ use Rattle.std.proofs.Common.{◌≡◌, List, ◌∷◌, drop, Some, refl, sym,
 use Rattle.ipam_model.specs.declared.answer.Answer.{Answer}
 use Rattle.ipam_model.specs.declared.answer.Answer.TheVariants as answer
 use Rattle.ipam_model.specs.declared.entry.Entry.{Entry}
-use Rattle.ipam_model.specs.declared.request.AddRequest.{AddRequest}
 use Rattle.ipam_model.specs.declared.request.Request.{Request}
 use Rattle.ipam_model.specs.declared.request.Request.TheVariants.{Add, AddThis, Admin, Check, Collect, Del, Probe, Release}
 use Rattle.ipam_model.specs.Answered.{Answered, history_of}
@@ -12,15 +11,14 @@ use Rattle.ipam_model.specs.Consistent.{IsConsistent}
 use Rattle.ipam_model.specs.History.{Base, Lawful, cluster_at, store_at}
 use Rattle.ipam_model.specs.Moments.{request_in}
 use Rattle.ipam_model.specs.Right.{IsBounded}
-use Rattle.ipam_laws.specs.RightSoFar.{IsAddSo, IsEntrySo, IsRightSoFarAt, IsStopSo, IsToldSo, RightSoFarLaw}
+use Rattle.ipam_laws.specs.RightSoFar.{IsEntrySo, IsRightSoFarAt, IsStopSo, IsToldSo, RightSoFarLaw}
 use Rattle.ipam_laws.proofs.AffinityHistory.{label_points_law}
 use Rattle.ipam_laws.proofs.CountHistory.{credit_law}
-use Rattle.ipam_laws.proofs.FamilyHistory.{families_are_wanted}
 use Rattle.ipam_laws.proofs.Fates.{faults}
 use Rattle.ipam_laws.proofs.OneRecord.{drop-lawful}
 use Rattle.ipam_laws.proofs.OwnersHistory.{owners_law}
 use Rattle.ipam_laws.proofs.OwnersOrder.{owners_order}
-use Rattle.ipam_laws.proofs.RightHistory.{change_answers, check_answers, del_answers, given_law, release_answers, stop_law, this_answers, whole_probe}
+use Rattle.ipam_laws.proofs.RightHistory.{add_answers, change_answers, check_answers, del_answers, release_answers, stop_law, this_answers, whole_probe}
 use Rattle.ipam_laws.proofs.SlotsHistory.{consistent_law}
 use Rattle.ipam_laws.proofs.SpanBound.{requests_are_bounded}
 use Rattle.ipam_laws.proofs.SpanCalls.{collect_calls, del_calls}
@@ -51,31 +49,8 @@ stop-so a (answer.Refused number about) c h requested given = tt
 stop-so a (answer.CountFull moment) c h requested given = tt
 stop-so a (answer.Ready scans) c h requested given = tt
 
-add-so : (a : Answered) (add : AddRequest) (told : Answer) → IsConsistent a.base.store → Lawful a.base (history_of a) → a.request ≡ Add add → request_in (cluster_at a.base a.earlier) a.call.slot ≡ Some a.request → a.call.answer ≡ Some told → IsAddSo a add told
-add-so a add (answer.Added list) c h is requested given = given_law add a list c h is requested given
-add-so a add (answer.AddedThis one) c h is requested given = (families_are_wanted a add (answer.AddedThis one) c.sound h requested is given, stop-so a (answer.AddedThis one) c h requested given)
-add-so a add (answer.Exhausted scan) c h is requested given = (families_are_wanted a add (answer.Exhausted scan) c.sound h requested is given, stop-so a (answer.Exhausted scan) c h requested given)
-add-so a add (answer.NoPool called moment) c h is requested given = (families_are_wanted a add (answer.NoPool called moment) c.sound h requested is given, stop-so a (answer.NoPool called moment) c h requested given)
-add-so a add (answer.NotInPool moment) c h is requested given = (families_are_wanted a add (answer.NotInPool moment) c.sound h requested is given, stop-so a (answer.NotInPool moment) c h requested given)
-add-so a add (answer.Taken id moment) c h is requested given = (families_are_wanted a add (answer.Taken id moment) c.sound h requested is given, stop-so a (answer.Taken id moment) c h requested given)
-add-so a add (answer.NotAffine cidr moment) c h is requested given = (families_are_wanted a add (answer.NotAffine cidr moment) c.sound h requested is given, stop-so a (answer.NotAffine cidr moment) c h requested given)
-add-so a add (answer.Deleted moment) c h is requested given = (families_are_wanted a add (answer.Deleted moment) c.sound h requested is given, stop-so a (answer.Deleted moment) c h requested given)
-add-so a add answer.Checked c h is requested given = (families_are_wanted a add answer.Checked c.sound h requested is given, stop-so a answer.Checked c h requested given)
-add-so a add (answer.NotRecorded address moment) c h is requested given = (families_are_wanted a add (answer.NotRecorded address moment) c.sound h requested is given, stop-so a (answer.NotRecorded address moment) c h requested given)
-add-so a add answer.Released c h is requested given = (families_are_wanted a add answer.Released c.sound h requested is given, stop-so a answer.Released c h requested given)
-add-so a add (answer.NoAffinity moment) c h is requested given = (families_are_wanted a add (answer.NoAffinity moment) c.sound h requested is given, stop-so a (answer.NoAffinity moment) c h requested given)
-add-so a add (answer.Collected collected) c h is requested given = (families_are_wanted a add (answer.Collected collected) c.sound h requested is given, stop-so a (answer.Collected collected) c h requested given)
-add-so a add (answer.Done revision) c h is requested given = (families_are_wanted a add (answer.Done revision) c.sound h requested is given, stop-so a (answer.Done revision) c h requested given)
-add-so a add (answer.Refused number about) c h is requested given = (families_are_wanted a add (answer.Refused number about) c.sound h requested is given, stop-so a (answer.Refused number about) c h requested given)
-add-so a add (answer.Again lost claims) c h is requested given = (families_are_wanted a add (answer.Again lost claims) c.sound h requested is given, stop-so a (answer.Again lost claims) c h requested given)
-add-so a add answer.Full c h is requested given = (families_are_wanted a add answer.Full c.sound h requested is given, stop-so a answer.Full c h requested given)
-add-so a add (answer.CountFull moment) c h is requested given = (families_are_wanted a add (answer.CountFull moment) c.sound h requested is given, stop-so a (answer.CountFull moment) c h requested given)
-add-so a add answer.Spent c h is requested given = (families_are_wanted a add answer.Spent c.sound h requested is given, stop-so a answer.Spent c h requested given)
-add-so a add answer.Fault c h is requested given = (families_are_wanted a add answer.Fault c.sound h requested is given, stop-so a answer.Fault c h requested given)
-add-so a add (answer.Ready scans) c h is requested given = (families_are_wanted a add (answer.Ready scans) c.sound h requested is given, stop-so a (answer.Ready scans) c h requested given)
-
 answered-so : (a : Answered) → IsConsistent a.base.store → Lawful a.base (history_of a) → (request : Request) → a.request ≡ request → (told : Answer) → request_in (cluster_at a.base a.earlier) a.call.slot ≡ Some a.request → a.call.answer ≡ Some told → IsToldSo request a told
-answered-so a c h (Add add) is told requested given = add-so a add told c h is requested given
+answered-so a c h (Add add) is told requested given = add_answers add a c h is told requested given
 answered-so a c h (AddThis add address) is told requested given = this_answers add address a c h is told requested given
 answered-so a c h (Del id) is told requested given = del_answers id a c h is told requested given
 answered-so a c h (Check id addresses) is told requested given = check_answers a id addresses c h is told requested given

@@ -3,14 +3,13 @@ use Rattle.std.specs.Prelude.{◌≡◌, ℕ, List, Some}
 use Rattle.ipam_addr.specs.Shape.{AddrValue, CidrValue}
 use Rattle.ipam_records.specs.Sound.{IsDatastore}
 use Rattle.ipam_model.specs.declared.answer.Answer.TheVariants as answer
-use Rattle.ipam_model.specs.declared.answer.Given.{Given}
 use Rattle.ipam_model.specs.declared.entry.Told.TheVariants as told
 use Rattle.ipam_model.specs.declared.request.AddRequest.{AddRequest}
 use Rattle.ipam_model.specs.declared.request.Admin.{Admin}
 use Rattle.ipam_model.specs.declared.request.ProbeRequest.{ProbeRequest}
 use Rattle.ipam_model.specs.declared.request.Request.{Request}
 use Rattle.ipam_model.specs.declared.request.Request.TheVariants.{Add, AddThis, Del, Release, Admin as Change, Probe}
-use Rattle.ipam_model.specs.AnswerLaw.{IsAgain, IsAnsweredRight, IsRightAnswer}
+use Rattle.ipam_model.specs.AnswerLaw.{IsAgain, IsAnsweredRight}
 use Rattle.ipam_model.specs.Answered.{Answered, history_of}
 use Rattle.ipam_model.specs.Consistent.{IsConsistent}
 use Rattle.ipam_model.specs.History.{Lawful, cluster_at}
@@ -42,12 +41,9 @@ ThisAnswersLaw = (add : AddRequest) (address : AddrValue) → IsAlwaysRight (Add
 abbrev pub DelAnswersLaw : Type 0
 DelAnswersLaw = (id : List ℕ) → IsAlwaysRight (Del id)
 
--- Where an ADD without an address is answered that addresses were given, that is right.
-abbrev pub GivenLaw : Type 0
-GivenLaw =
-    (add : AddRequest) (a : Answered) (given : List Given) → IsConsistent a.base.store → Lawful a.base (history_of a)
-    → a.request ≡ Add add → request_in (cluster_at a.base a.earlier) a.call.slot ≡ Some a.request
-    → a.call.answer ≡ Some (answer.Added given) → IsRightAnswer a (answer.Added given)
+-- Whatever an ADD without an address is answered is right.
+abbrev pub AddAnswersLaw : Type 0
+AddAnswersLaw = (add : AddRequest) → IsAlwaysRight (Add add)
 
 -- what an answer says of why a request stopped
 pub record IsStoppedRight (a : Answered) : Type 0 where

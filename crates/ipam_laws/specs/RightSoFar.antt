@@ -1,7 +1,6 @@
 -- What is proved of every lawful history, all at once. It is what the model's `RightLaw` says, but that
--- points and credits are those of the labels, and not of the calls that were made; and of an ADD
--- without an address that gives none it does not say that nothing is left of it, and of a collection
--- not what it collected.
+-- points and credits are those of the labels, and not of the calls that were made; and of a collection it
+-- does not say what it collected.
 use Rattle.std.specs.Prelude.{◌≡◌, ◌≢◌, ◌+◌, ◌≤◌, ℕ, List, ◌∷◌, drop, Some}
 use Rattle.ipam_addr.specs.Shape.{CidrValue}
 use Rattle.ipam_records.specs.declared.call.Call.{Call}
@@ -12,15 +11,13 @@ use Rattle.ipam_model.specs.declared.entry.Entry.{Entry}
 use Rattle.ipam_model.specs.declared.entry.Entry.TheVariants as entry
 use Rattle.ipam_model.specs.declared.entry.Fate.TheVariants.{Well}
 use Rattle.ipam_model.specs.declared.entry.Told.TheVariants as told
-use Rattle.ipam_model.specs.declared.request.AddRequest.{AddRequest}
 use Rattle.ipam_model.specs.declared.request.Request.{Request}
-use Rattle.ipam_model.specs.declared.request.Request.TheVariants.{Add, Collect}
+use Rattle.ipam_model.specs.declared.request.Request.TheVariants.{Collect}
 use Rattle.ipam_model.specs.AffinityLaw.{IsLabelled, PointsAgree, PointsKeep}
 use Rattle.ipam_model.specs.AnswerLaw.{IsAgain, IsRightAnswer}
 use Rattle.ipam_model.specs.Answered.{Answered}
 use Rattle.ipam_model.specs.Consistent.{IsConsistent}
 use Rattle.ipam_model.specs.CountLaw.{credits, handle_count, held_count}
-use Rattle.ipam_model.specs.FamilyLaw.{IsOfRound}
 use Rattle.ipam_model.specs.History.{Base, Lawful, cluster_at, slot_of_entry, store_at}
 use Rattle.ipam_model.specs.Moments.{request_in}
 use Rattle.ipam_model.specs.Named.{name_of}
@@ -40,16 +37,8 @@ IsStopSo a answer.Spent = a.call.reply ≡ told.Spent
 IsStopSo a answer.Fault = a.call.fate ≢ Well
 IsStopSo a _ = Unit {0}
 
--- what an ADD without an address gives is right; where it gives none, it tells of a round for a wanted
--- family, and why it stopped
-abbrev pub IsAddSo : Answered → AddRequest → Answer → Type 0
-IsAddSo a add (answer.Added given) = IsRightAnswer a (answer.Added given)
-IsAddSo a add told = IsOfRound a add told × IsStopSo a told
-
--- The answer is right; of an ADD without an address that gives none as above, and of a collection why it
--- stopped.
+-- the answer is right; of a collection why it stopped
 abbrev pub IsToldSo : Request → Answered → Answer → Type 0
-IsToldSo (Add add) a told = IsAddSo a add told
 IsToldSo (Collect request) a told = IsStopSo a told
 IsToldSo _ a told = IsRightAnswer a told
 

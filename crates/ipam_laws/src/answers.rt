@@ -1,5 +1,5 @@
 //! Which answers requests have, and what they say.
-ghost use Rattle.ipam_laws.specs.RightAnswers.{ChangeAnswersLaw, DelAnswersLaw, GivenLaw, ReleaseAnswersLaw, StopLaw, ThisAnswersLaw, WholeProbeLaw};
+ghost use Rattle.ipam_laws.specs.RightAnswers.{AddAnswersLaw, ChangeAnswersLaw, DelAnswersLaw, ReleaseAnswersLaw, StopLaw, ThisAnswersLaw, WholeProbeLaw};
 ghost use Rattle.ipam_model.specs.AnswerLaw.{CheckAnswersLaw};
 ghost use Rattle.ipam_model.specs.CanAnswer.{CanAnswerLaw};
 ghost use Rattle.ipam_model.specs.FamilyLaw.{FamilyLaw};
@@ -56,11 +56,14 @@ pub fn a_del_is_answered_right()
     ensures { DelAnswersLaw }
 {}
 
-/// What an ADD without an address gives is right: for each wanted family, in their order, an address
-/// that was the choice on what was read at the moments that are told, in a block as it was listed, and
-/// that was recorded later to the handle, with the request's attributes and a new stamp.
-pub fn what_an_add_gives_is_right()
-    ensures { GivenLaw }
+/// Whatever an ADD without an address is answered is right. It gives, for each wanted family, in their
+/// order, an address that was the choice on what was read at the moments that are told, in a block as
+/// it was listed, and that was recorded later to the handle, with the request's attributes and a new
+/// stamp. It has none where the choice on what was read is nothing, where no enabled pool has a name
+/// that it was given, where a record could not be created, or where the handle's count of the chosen
+/// block was at its limit; and then nothing that it was given is owned any more.
+pub fn an_add_is_answered_right()
+    ensures { AddAnswersLaw }
 {}
 
 /// A request is answered that it was tried too often where exactly so many races were lost and claims
