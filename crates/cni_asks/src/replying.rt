@@ -1,9 +1,9 @@
 //! An answer is told.
-ghost use Rattle.std.specs.Prelude.{ℕ, ◌≡◌, ◌↔◌, IsTrue, IfOk, IfNone, IsSome, Some, option_map, map};
+ghost use Rattle.std.specs.Prelude.{ℕ, ◌≡◌, ◌↔◌, IsTrue, IfOk, Some, option_map};
 ghost use Rattle.ipam_addr.specs.Text.{address_text, cidr_text_of};
 ghost use Rattle.ipam_model.specs.CanAnswer.{CanAnswer};
 ghost use Rattle.cni_types.specs.Texts.{error_text, result_text};
-ghost use Rattle.cni_asks.specs.declared.replies.CniReply.TheVariants.{Addresses, Failure, Success};
+ghost use Rattle.cni_asks.specs.declared.replies.CniReply.TheVariants.{Failure};
 ghost use Rattle.cni_asks.specs.Replying.{family_name, limit_text, failure_of, addresses_of, reply_to_add, reply_to_this, reply_to_del, reply_to_check, is_of_container, is_success, reply_of, told};
 
 use crate::replies::CniReply;

@@ -1,5 +1,5 @@
 //! GC: what the network holds on the node for no valid attachment is freed.
-ghost use Rattle.std.specs.Prelude.{ℕ, ◌≡◌, ◌↔◌, IsTrue, ◌<◌, ◌^◌, IfOk, Some, option_map};
+ghost use Rattle.std.specs.Prelude.{ℕ, ◌≡◌, ◌↔◌, IsTrue, IfOk, Some, option_map};
 ghost use Rattle.ipam_model.specs.SoundRequest.{IsSoundCollect};
 ghost use Rattle.cni_types.specs.Sound.{IsSoundGc};
 ghost use Rattle.cni_asks.specs.Replying.{is_success, told};
