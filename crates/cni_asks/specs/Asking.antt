@@ -37,16 +37,8 @@ abbrev pub wanting : Option AddrValue → AddRequest → Request
 wanting None add = request.Add add
 wanting (Some address) add = request.AddThis add address
 
--- The request that a call of a container begins. VERSION begins none, and GC and STATUS begin none here.
-abbrev pub request_of : Look → Option Request
-request_of (Version version) = None
-request_of (Add add) = Some (wanting add.address (add_of add))
-request_of (Del del) = Some (request.Del del.handle)
-request_of (Check check) = Some (request.Check check.handle check.addresses)
-request_of (Gc gc) = None
-request_of (Status status) = None
-
--- What a call begins: its request with its version, or the text of the versions at once.
+-- What a call begins: its request with its version, or the text of the versions at once. GC and
+-- STATUS are not asked here.
 abbrev pub ask_of : Look → Option Ask
 ask_of (Version version) = Some (Tell (versions_text version))
 ask_of (Add add) = Some (Begin (wanting add.address (add_of add)) add.version)

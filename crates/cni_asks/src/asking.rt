@@ -1,5 +1,5 @@
 //! A call begins a request.
-ghost use Rattle.std.specs.Prelude.{◌≡◌, ◌≤◌, ◌||◌, length, IsTrue, IfOk, Some};
+ghost use Rattle.std.specs.Prelude.{◌≡◌, ◌||◌, IsTrue, IfOk, Some};
 ghost use Rattle.std.specs.List.{All};
 ghost use Rattle.ipam_addr.specs.Width.{IsAddress};
 ghost use Rattle.ipam_model.specs.SoundRequest.{IsSoundRequest, IsSoundAdd};

@@ -1,10 +1,10 @@
 //! An answer is told.
-ghost use Rattle.std.specs.Prelude.{ℕ, ◌≡◌, IsTrue, IfOk, IfNone, IsSome, Some, option_map, map};
+ghost use Rattle.std.specs.Prelude.{ℕ, ◌≡◌, ◌↔◌, IsTrue, IfOk, Some, option_map};
 ghost use Rattle.ipam_addr.specs.Text.{address_text, cidr_text_of};
 ghost use Rattle.ipam_model.specs.CanAnswer.{CanAnswer};
 ghost use Rattle.cni_types.specs.Texts.{error_text, result_text};
-ghost use Rattle.cni_asks.specs.declared.replies.CniReply.TheVariants.{Addresses, Failure, Success};
-ghost use Rattle.cni_asks.specs.Replying.{family_name, limit_text, failure_of, addresses_of, reply_to_add, reply_to_this, reply_to_del, reply_to_check, is_of_container, reply_of, told};
+ghost use Rattle.cni_asks.specs.declared.replies.CniReply.TheVariants.{Failure};
+ghost use Rattle.cni_asks.specs.Replying.{family_name, limit_text, failure_of, addresses_of, reply_to_add, reply_to_this, reply_to_del, reply_to_check, is_of_container, is_success, reply_of, told};
 
 use crate::replies::CniReply;
 use cni_types::{CniError, Code, Version, push_error, push_result};
@@ -15,7 +15,7 @@ use std::alloc::{AllocError, Global};
 
 /// The status and the text of a call whose request came to this answer: 0 on success, and 1 with
 /// an error, which has the code of its cause.
-#[tactic(auto, using(crate::proofs::AllReplies::each_has_one))]
+#[tactic(auto, using(crate::proofs::AllReplies::each_has_one, crate::proofs::AllReplies::success_told))]
 pub fn reply(
     alloc: Global,
     request: &Request,
@@ -24,8 +24,9 @@ pub fn reply(
 ) -> Result<(u8, Text), AllocError>
     requires of_container { IsTrue (is_of_container request.now) }
     requires can_answer { CanAnswer request.now answer.now }
-    ensures { IfOk result
+    ensures told { IfOk result
         (λ r. option_map (told version) (reply_of request.now answer.now) ≡ Some r) }
+    ensures success { IfOk result (λ r. (r.0 ≡ 0) ↔ IsTrue (is_success answer.now)) }
 {
     match reply_of(alloc, request, answer)? {
         Some(reply) => told(alloc, version, reply),

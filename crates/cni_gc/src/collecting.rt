@@ -1,8 +1,8 @@
 //! GC: what the network holds on the node for no valid attachment is freed.
-ghost use Rattle.std.specs.Prelude.{ℕ, ◌≡◌, ◌<◌, ◌^◌, IfOk, Some, option_map};
+ghost use Rattle.std.specs.Prelude.{ℕ, ◌≡◌, ◌↔◌, IsTrue, IfOk, Some, option_map};
 ghost use Rattle.ipam_model.specs.SoundRequest.{IsSoundCollect};
 ghost use Rattle.cni_types.specs.Sound.{IsSoundGc};
-ghost use Rattle.cni_asks.specs.Replying.{told};
+ghost use Rattle.cni_asks.specs.Replying.{is_success, told};
 ghost use Rattle.cni_gc.specs.Begun.{collect_of};
 ghost use Rattle.cni_gc.specs.Replies.{CanAnswerGc, gc_reply_of};
 
@@ -33,10 +33,11 @@ pub fn gc(call: &CniGc) -> Result<CollectRequest, AllocError>
 
 /// The status and the text of a GC whose collection came to this answer. Success has no text,
 /// whatever was freed.
-#[tactic(auto, using(crate::proofs::GcReplies::gc_has_one))]
+#[tactic(auto, using(crate::proofs::GcReplies::gc_has_one, crate::proofs::GcReplies::gc_success_told))]
 pub fn gc_reply(alloc: Global, answer: &Answer, version: Version) -> Result<(u8, Text), AllocError>
     requires can_answer { CanAnswerGc answer.now }
-    ensures { IfOk result (λ r. option_map (told version) (gc_reply_of answer.now) ≡ Some r) }
+    ensures told { IfOk result (λ r. option_map (told version) (gc_reply_of answer.now) ≡ Some r) }
+    ensures success { IfOk result (λ r. (r.0 ≡ 0) ↔ IsTrue (is_success answer.now)) }
 {
     match gc_reply_of(alloc, answer)? {
         Some(reply) => told(alloc, version, reply),

@@ -1,10 +1,10 @@
 //! STATUS: whether an ADD could be served.
-ghost use Rattle.std.specs.Prelude.{ℕ, ◌≡◌, IfOk, Some, option_map};
+ghost use Rattle.std.specs.Prelude.{ℕ, ◌≡◌, ◌↔◌, IsTrue, IfOk, Some, option_map};
 ghost use Rattle.ipam_model.specs.SoundRequest.{IsSoundProbe};
 ghost use Rattle.cni_types.specs.declared.code.Code.TheVariants.{NotAvailable};
 ghost use Rattle.cni_types.specs.Sound.{IsSoundStatus};
 ghost use Rattle.cni_asks.specs.declared.replies.CniReply.TheVariants.{Failure};
-ghost use Rattle.cni_asks.specs.Replying.{told};
+ghost use Rattle.cni_asks.specs.Replying.{is_success, told};
 ghost use Rattle.cni_gc.specs.Begun.{probe_of};
 ghost use Rattle.cni_gc.specs.Replies.{CanAnswerStatus, status_reply_of};
 
@@ -44,14 +44,16 @@ fn probe_of(call: &CniStatus) -> Result<ProbeRequest, AllocError>
 
 /// The status and the text of a STATUS whose probe came to this answer. Where no address could be
 /// given the code is 112, and it is about the family or about the name that no pool has.
-#[tactic(auto, using(crate::proofs::GcReplies::status_has_one))]
+#[tactic(auto, using(crate::proofs::GcReplies::status_has_one, crate::proofs::GcReplies::status_success_told))]
 pub fn status_reply(
     alloc: Global,
     answer: &Answer,
     version: Version,
 ) -> Result<(u8, Text), AllocError>
     requires can_answer { CanAnswerStatus answer.now }
-    ensures { IfOk result (λ r. option_map (told version) (status_reply_of answer.now) ≡ Some r) }
+    ensures told { IfOk result
+        (λ r. option_map (told version) (status_reply_of answer.now) ≡ Some r) }
+    ensures success { IfOk result (λ r. (r.0 ≡ 0) ↔ IsTrue (is_success answer.now)) }
 {
     match status_reply_of(alloc, answer)? {
         Some(reply) => told(alloc, version, reply),
