@@ -1,2 +1,2 @@
-mod ServingLemmas
-mod AddLemmas
+pub mod ServingLemmas
+pub mod AddLemmas

@@ -2,7 +2,7 @@ ghost use Rattle.std.specs.Prelude.{◌≡◌, ◌↔◌, ◌<◌, ◌≤◌, �
 ghost use Rattle.ipam_model.specs.declared.entry.Entry.TheVariants as entry;
 ghost use Rattle.ipam_model.specs.Requests.{word_of};
 ghost use Rattle.ipam_model.specs.SoundRequest.{IsSoundRequest};
-ghost use Rattle.ipam_running.specs.Running.{running_rest, running_grace, grace_of, IsServed};
+ghost use Rattle.ipam_running.specs.Running.{running_rest, running_grace, grace_of};
 ghost use Rattle.ipam_cluster.specs.Busy.{busy_count};
 ghost use Rattle.ipam_cluster.specs.Slots.{slot_in};
 
@@ -86,7 +86,6 @@ impl Cluster {
     pub fn begin(&mut self, alloc: Global, slot: u8, request: &Request) -> Result<Entry, BeginFault>
         requires slot { slot < SLOTS }
         requires sound { IsSoundRequest request.now }
-        requires served { IsServed request.now }
         ensures busy { (result ≡ Err BeginFault.SlotBusy) ↔ IsSome (slot_of self.old slot) }
         ensures worn { (result ≡ Err BeginFault.Worn) ↔ (slot_of self.old slot ≡ None × 2 ^ 62 ≤ self.old.entries) }
         ensures entry { IfOk result (λ began. began ≡ entry.Began slot request.now) }
@@ -140,7 +139,6 @@ impl Cluster {
 /// What serves the request, and the entry of its beginning.
 fn begun(alloc: Global, slot: u8, request: &Request) -> Result<(Running, Entry), AllocError>
     requires sound { IsSoundRequest request.now }
-    requires served { IsServed request.now }
     ensures word { IfOk result (λ both. running_rest both.0 ≡ word_of request.now) }
     ensures grace { IfOk result (λ both. running_grace both.0 ≡ grace_of request.now) }
     ensures entry { IfOk result (λ both. both.1 ≡ entry.Began slot request.now) }

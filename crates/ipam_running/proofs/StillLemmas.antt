@@ -3,6 +3,8 @@ use Rattle.std.proofs.Common.{◌≡◌, ℕ, false, IsSome, refl, subst, sym, �
 use Rattle.ipam_records.specs.Word.{Word, Ends, Asks, Waits, asked, waits, bound}
 use Rattle.ipam_model.specs.Affinities.{release}
 use Rattle.ipam_parts.proofs.FreeingAsks.{asks_freeing, freeing_asks}
+use Rattle.ipam_add.proofs.AddLemmas.{stage_asks as stage_asks_add}
+use Rattle.ipam_add.specs.Adding.{add_rest}
 use Rattle.ipam_admin.specs.declared.admin.Stage.{Stage as AdminStage}
 use Rattle.ipam_admin.specs.declared.admin.Stage.TheVariants as admin
 use Rattle.ipam_admin.specs.Admin.{admin_rest, admin_at}
@@ -136,6 +138,7 @@ stage_asks : (g : Going) (left : Left) (stage : ThisStage) → IsSome (asked (th
 stage_asks g left stage = asks_on (this_part g left stage) _ (part_asks g left stage)
 
 pub never_waits : (k : Kept) → ((p : CollectProc) → k ≡ kept.Collect p → ⊥) → waits (rest_of k) ≡ false
+never_waits (kept.Add p) other = waits_telling _ (add_rest p) ∙ still (add_rest p) (stage_asks_add p.request p.turn p.stage)
 never_waits (kept.AddThis p) other = waits_telling _ (this_rest p) ∙ still (this_rest p) (stage_asks (going p) p.left p.stage)
 never_waits (kept.Del p) other = waits_telling _ (del_rest p) ∙ del_still p.id p.stage
 never_waits (kept.Check p) other = waits_telling _ (check_rest p) ∙ check_still p.id p.stage

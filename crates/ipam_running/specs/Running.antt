@@ -5,7 +5,8 @@ use Rattle.ipam_model.specs.declared.answer.Answer.{Answer}
 use Rattle.ipam_model.specs.declared.request.Request.{Request}
 use Rattle.ipam_model.specs.declared.request.Request.TheVariants as request
 use Rattle.ipam_model.specs.Requests.{told_as}
-use Rattle.ipam_model.specs.Told.{of_add_this, of_del, of_check, of_release, of_collect, of_admin, of_probe}
+use Rattle.ipam_model.specs.Told.{of_add, of_add_this, of_del, of_check, of_release, of_collect, of_admin, of_probe}
+use Rattle.ipam_add.specs.Adding.{add_rest, add_leaves}
 use Rattle.ipam_admin.specs.Admin.{admin_rest, admin_leaves}
 use Rattle.ipam_assign.specs.AddThis.{this_rest, this_leaves}
 use Rattle.ipam_assign.specs.Probe.{probe_rest, probe_leaves}
@@ -29,6 +30,7 @@ telling of_one word = told_as of_one word
 -- ---- a procedure, whichever it is
 
 abbrev pub rest_of : Kept → Word Answer
+rest_of (kept.Add p) = telling of_add (add_rest p)
 rest_of (kept.AddThis p) = telling of_add_this (this_rest p)
 rest_of (kept.Del p) = telling of_del (del_rest p)
 rest_of (kept.Check p) = telling of_check (check_rest p)
@@ -40,6 +42,7 @@ rest_of (kept.Probe p) = telling of_probe (probe_rest p)
 
 -- where it stands once it goes where a reply led it; a reply that another one heard leads nowhere
 abbrev pub leaves_of : Kept → Turned → Word Answer
+leaves_of (kept.Add p) (turned.Add t) = telling of_add (add_leaves p t)
 leaves_of (kept.AddThis p) (turned.AddThis t) = telling of_add_this (this_leaves p t)
 leaves_of (kept.Del p) (turned.Del t) = telling of_del (del_leaves p t)
 leaves_of (kept.Check p) (turned.Check t) = telling of_check (check_leaves p t)
@@ -52,6 +55,7 @@ leaves_of p t = rest_of p
 
 -- the reply was heard by a procedure of this kind
 abbrev pub Fits : Kept → Turned → Type 0
+Fits (kept.Add p) (turned.Add t) = Unit {0}
 Fits (kept.AddThis p) (turned.AddThis t) = Unit {0}
 Fits (kept.Del p) (turned.Del t) = Unit {0}
 Fits (kept.Check p) (turned.Check t) = Unit {0}
@@ -90,8 +94,3 @@ grace_of _ = None
 abbrev pub is_over : Option Grace → (at : ℕ) → Bool
 is_over None at = false
 is_over (Some grace) at = nat_le (grace.at + grace.grace) at
-
--- so far an ADD without an address is not served
-abbrev pub IsServed : Request → Type 0
-IsServed (request.Add asked) = ⊥
-IsServed _ = Unit {0}

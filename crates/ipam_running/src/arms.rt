@@ -5,6 +5,7 @@ ghost use Rattle.ipam_running.specs.declared.running.Turned.TheVariants as turne
 
 use crate::absent::AbsentTurned;
 use crate::running::Kept;
+use ipam_add::AddTurned;
 use ipam_admin::AdminTurned;
 use ipam_assign::{AddThisTurned, ProbeTurned};
 use ipam_claim::ReleaseTurned;
@@ -12,6 +13,23 @@ use ipam_collect::CollectTurned;
 use ipam_model::Answer;
 use ipam_records::Procedure;
 use ipam_release::{CheckTurned, DelTurned};
+
+/// An ADD goes where a reply led it.
+#[tactic(auto, using(crate::proofs::TellingLemmas::arm_ends, crate::proofs::TellingLemmas::arm_goes_on))]
+pub(crate) fn add_goes(kept: &mut Kept, turned: AddTurned) -> Option<Answer>
+    requires { Fits kept.old (turned_of.Add turned) }
+    ensures answer { result ≡ ended (leaves_of kept.old (turned_of.Add turned)) }
+    ensures on { IfNone result (rest_of kept.new ≡ leaves_of kept.old (turned_of.Add turned)) }
+    ensures grace { grace_kept kept.new ≡ grace_kept kept.old }
+{
+    match kept {
+        Kept::Add(p) => match p.go(turned) {
+            Some(answer) => Some(Answer::from(answer)),
+            None => None,
+        },
+        _ => unreachable!(),
+    }
+}
 
 /// An ADD of one address goes where a reply led it.
 #[tactic(auto, using(crate::proofs::TellingLemmas::arm_ends, crate::proofs::TellingLemmas::arm_goes_on))]

@@ -3,10 +3,11 @@ ghost use Rattle.ipam_model.specs.Requests.{word_of};
 ghost use Rattle.ipam_model.specs.SoundRequest.{IsSoundRequest};
 ghost use Rattle.ipam_model.specs.Affinities.{release};
 ghost use Rattle.ipam_model.specs.Told.{of_release};
-ghost use Rattle.ipam_running.specs.Running.{rest_of, grace_kept, grace_of, telling, IsServed};
+ghost use Rattle.ipam_running.specs.Running.{rest_of, grace_kept, grace_of, telling};
 
 use crate::absent::AbsentRelease;
 use crate::running::Kept;
+use ipam_add::AddProc;
 use ipam_addr::{Cidr, allows_size};
 use ipam_admin::AdminProc;
 use ipam_assign::{AddThisProc, ProbeProc};
@@ -19,13 +20,12 @@ use std::alloc::{AllocError, Global};
 /// The procedure that serves the request.
 #[tactic(auto, unfolding(ipam_model::specs::Requests::word_of, crate::specs::Running::telling))]
 pub(crate) fn kept_of(alloc: Global, request: &Request) -> Result<Kept, AllocError>
-    requires sound { IsSoundRequest request.now }
-    requires served { IsServed request.now }
+    requires { IsSoundRequest request.now }
     ensures word { IfOk result (λ p. rest_of p ≡ word_of request.now) }
     ensures grace { IfOk result (λ p. grace_kept p ≡ grace_of request.now) }
 {
     match request {
-        Request::Add(_) => unreachable!(),
+        Request::Add(add) => Ok(Kept::Add(AddProc::new(add)?)),
         Request::AddThis(add, address) => Ok(Kept::AddThis(AddThisProc::new(add, *address)?)),
         Request::Del(id) => Ok(Kept::Del(DelProc::new(alloc, id.as_str())?)),
         Request::Check(id, addresses) => {

@@ -2,15 +2,16 @@ ghost use Rattle.std.specs.Prelude.{◌≡◌, true, Some, IsSome, IfOk, IfNone,
 ghost use Rattle.ipam_records.specs.Word.{asked, heard, ended, waits, fed};
 ghost use Rattle.ipam_model.specs.Requests.{word_of};
 ghost use Rattle.ipam_model.specs.SoundRequest.{IsSoundRequest};
-ghost use Rattle.ipam_running.specs.Running.{running_rest, running_leaves, running_grace, FitsRunning, grace_of, is_over, rest_of, leaves_of, grace_kept, Fits, IsServed};
+ghost use Rattle.ipam_running.specs.Running.{running_rest, running_leaves, running_grace, FitsRunning, grace_of, is_over, rest_of, leaves_of, grace_kept, Fits};
 
 use crate::absent::{AbsentRelease, AbsentTurned};
 use crate::arms::{
-    absent_goes, add_this_goes, admin_goes, check_goes, collect_goes, del_goes, probe_goes,
+    absent_goes, add_goes, add_this_goes, admin_goes, check_goes, collect_goes, del_goes, probe_goes,
     release_goes,
 };
 use crate::begun::kept_of;
 use crate::taken::turned_of;
+use ipam_add::{AddProc, AddTurned};
 use ipam_admin::{AdminProc, AdminTurned};
 use ipam_assign::{AddThisProc, AddThisTurned, ProbeProc, ProbeTurned};
 use ipam_claim::{ReleaseAffinityProc, ReleaseTurned};
@@ -30,6 +31,7 @@ pub struct Running {
 /// The procedure of a request.
 #[derive(Debug, Drop)]
 pub(crate) enum Kept {
+    Add(AddProc),
     AddThis(AddThisProc),
     Del(DelProc),
     Check(CheckProc),
@@ -50,6 +52,7 @@ pub struct RunningTurned {
 /// Where a reply led the procedure.
 #[derive(Debug, Drop)]
 pub(crate) enum Turned {
+    Add(AddTurned),
     AddThis(AddThisTurned),
     Del(DelTurned),
     Check(CheckTurned),
@@ -64,8 +67,7 @@ impl Running {
     /// What serves the request.
     #[tactic(auto, unfolding(crate::specs::Running::running_rest, crate::specs::Running::running_grace))]
     pub fn of(alloc: Global, request: &Request) -> Result<Running, AllocError>
-        requires sound { IsSoundRequest request.now }
-        requires served { IsServed request.now }
+        requires { IsSoundRequest request.now }
         ensures word { IfOk result (λ r. running_rest r ≡ word_of request.now) }
         ensures grace { IfOk result (λ r. running_grace r ≡ grace_of request.now) }
     {
@@ -145,6 +147,7 @@ fn goes(kept: &mut Kept, turned: Turned) -> Option<Answer>
     ensures grace { grace_kept kept.new ≡ grace_kept kept.old }
 {
     match turned {
+        Turned::Add(turned) => add_goes(kept, turned),
         Turned::AddThis(turned) => add_this_goes(kept, turned),
         Turned::Del(turned) => del_goes(kept, turned),
         Turned::Check(turned) => check_goes(kept, turned),
@@ -162,6 +165,7 @@ fn call_of(alloc: Global, kept: &Kept) -> Result<Call, AllocError>
     ensures { IfOk result (λ call. asked (rest_of kept.now) ≡ Some call) }
 {
     match kept {
+        Kept::Add(p) => p.call(alloc),
         Kept::AddThis(p) => p.call(alloc),
         Kept::Del(p) => p.call(alloc),
         Kept::Check(p) => p.call(alloc),

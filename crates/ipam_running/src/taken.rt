@@ -16,6 +16,7 @@ pub(crate) fn turned_of(alloc: Global, kept: &Kept, hearing: &Heard) -> Result<T
     ensures fits { IfOk result (Fits kept.now) }
 {
     match kept {
+        Kept::Add(p) => Ok(Turned::Add(p.took(alloc, hearing)?)),
         Kept::AddThis(p) => Ok(Turned::AddThis(p.took(alloc, hearing)?)),
         Kept::Del(p) => Ok(Turned::Del(p.took(alloc, hearing)?)),
         Kept::Check(p) => Ok(Turned::Check(p.took(alloc, hearing)?)),
