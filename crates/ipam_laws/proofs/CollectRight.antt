@@ -1,12 +1,11 @@
 -- What a collection is answered is right: it tells of exactly the leaks, in their order, each freed exactly
 -- where it freed it, and none of them owns its address.
-use Rattle.std.proofs.Common.{◌≡◌, ◌≢◌, ℕ, zero, suc, ◌+◌, ◌-◌, ◌<◌, ◌≤◌, inl, inr, Bool, true, false, List, [], ◌∷◌, ◌++◌, map, Option, Some, None, refl, sym, ap, ◌∙◌, subst, arith, ltb-false}
+use Rattle.std.proofs.Common.{◌≡◌, ◌≢◌, ℕ, zero, suc, ◌+◌, ◌-◌, ◌<◌, ◌≤◌, inl, inr, Bool, true, List, [], ◌∷◌, ◌++◌, map, Option, Some, None, refl, sym, ap, ◌∙◌, subst, arith, ltb-false}
 use Rattle.std.specs.Prelude.{AllPairs, Contains, IsTrue, ◌&&◌, ◌==◌, ◌↔◌, bytes_eq, nat_lt, option_map}
-use Rattle.std.specs.List.{All, count_by}
+use Rattle.std.specs.List.{count_by}
 use Rattle.std.proofs.lemmas.Bool.{cases_Bool, eqb-false, leb-true}
 use Rattle.std.proofs.lemmas.List.Kept.{AllPairs-cons}
-use Rattle.ipam_addr.specs.Shape.{AddrValue, CidrValue}
-use Rattle.ipam_block.specs.declared.allocation.Allocation.{Allocation}
+use Rattle.ipam_addr.specs.Shape.{AddrValue}
 use Rattle.ipam_block.specs.Operations.{freed, is_stamped, next_block}
 use Rattle.ipam_block.specs.Shape.{BlockValue}
 use Rattle.ipam_handle.specs.Order.{family_rank}
@@ -32,11 +31,11 @@ use Rattle.ipam_model.specs.History.{Base, Lawful, Span, begin_moment, cluster_a
 use Rattle.ipam_model.specs.Moments.{LostAt, LostInSpan, Owns, Recorded, request_in}
 use Rattle.ipam_model.specs.OtherLaws.{IsCollected, owner_in}
 use Rattle.ipam_model.specs.OwnerLaw.{Collecting, IsLeak}
-use Rattle.ipam_model.specs.Owners.{IsBefore, Owner, owner_of, owners, same_owner}
-use Rattle.ipam_model.specs.Remove.{Leak, freeing_owner, item_of, leak_of}
+use Rattle.ipam_model.specs.Owners.{IsBefore, Owner, same_owner}
+use Rattle.ipam_model.specs.Remove.{Leak, freeing_owner, item_of}
 use Rattle.ipam_laws.proofs.ActParts.{IsCurrent, freeing_call}
 use Rattle.ipam_laws.proofs.CalmHistory.{began-leaves, is-apart, quiet-entry}
-use Rattle.ipam_laws.proofs.CollectTrails.{CollectStep, CollectSteps, DidCollect, IsRidOf, Lists, Rests, Took, head_of, owner_at, whole_of}
+use Rattle.ipam_laws.proofs.CollectTrails.{CollectStep, CollectSteps, DidCollect, Rests, Took, head_of, owner_at, whole_of}
 use Rattle.ipam_laws.proofs.CountLemmas.{same_text}
 use Rattle.ipam_laws.proofs.FamilyHistory.{heard, three}
 use Rattle.ipam_laws.proofs.FedDue.{AreDue, DueIn, due-skip, fed-due}
@@ -53,7 +52,7 @@ use Rattle.ipam_laws.proofs.OwnersMoves.{Given, NotGiven, apart-leaves, granted-
 use Rattle.ipam_laws.proofs.OwnersOrder.{owners_order, pairs-head, pairs-of, pairs-tail}
 use Rattle.ipam_laws.proofs.RidHistory.{PicksOwner, rid-gone}
 use Rattle.ipam_laws.proofs.RowOrder.{member-found}
-use Rattle.ipam_laws.proofs.Trails.{Did, DidAt, Got, IsTrail, Trail, span_at}
+use Rattle.ipam_laws.proofs.Trails.{Did, DidAt, Got, IsTrail, Trail}
 
 -- ---- addresses in order
 
@@ -292,16 +291,16 @@ collected-right a request collected trail c h asked requested is d =
       are_leaks = λ o. (to o, from o);
       in_order = ordered;
       freed = all-of (λ (item : Item). IsTrue item.freed ↔ LostInSpan span (owner_in item)) collected.items (λ item among.
-      let r = d.all.rid item among in (
-        λ told. subst (λ (o : Owner). LostInSpan span o) (sym (own item r.leak r.amount r.is))
-        (freed-lost span c h whole collected.items in_block r.leak r.among head trail r.amount is r.rid (some-amount r.amount (subst (λ (i : Item). IsTrue i.freed) r.is told))),
-        λ lost. let t = lost-told span c h whole collected.items in_block trail (now span) is d.all.steps lost.0 lost.1.in_span.before_now (owner_in item) lost.1 in
-        elim (pairs-of (λ (i j : Item). IsBefore i.address j.address) collected.items ordered item (item_of t.leak (suc t.more)) among t.item) [
-          | inl same ↦ subst (λ (i : Item). IsTrue i.freed) (sym same) (told-freed t.leak t.more)
-          | inr (inl before) ↦ absurd (not-before item.address t.leak.owner.address (ap (λ (o : Owner). o.address) t.is) before)
-          | inr (inr behind_it) ↦ absurd (not-before t.leak.owner.address item.address (sym (ap (λ (o : Owner). o.address) t.is)) behind_it)
-        ],
-      ));
+          let r = d.all.rid item among in (
+            λ told. subst (λ (o : Owner). LostInSpan span o) (sym (own item r.leak r.amount r.is))
+                (freed-lost span c h whole collected.items in_block r.leak r.among head trail r.amount is r.rid (some-amount r.amount (subst (λ (i : Item). IsTrue i.freed) r.is told))),
+            λ lost. let t = lost-told span c h whole collected.items in_block trail (now span) is d.all.steps lost.0 lost.1.in_span.before_now (owner_in item) lost.1 in
+                elim (pairs-of (λ (i j : Item). IsBefore i.address j.address) collected.items ordered item (item_of t.leak (suc t.more)) among t.item) [
+                  | inl same ↦ subst (λ (i : Item). IsTrue i.freed) (sym same) (told-freed t.leak t.more)
+                  | inr (inl before) ↦ absurd (not-before item.address t.leak.owner.address (ap (λ (o : Owner). o.address) t.is) before)
+                  | inr (inr behind_it) ↦ absurd (not-before t.leak.owner.address item.address (sym (ap (λ (o : Owner). o.address) t.is)) behind_it)
+                ],
+          ));
       none_left = λ o leaks.
           let (item, among, same) = out-map owner_in o collected.items (from o leaks) in
           let r = d.all.rid item among in

@@ -4,14 +4,14 @@ use Rattle.ipam_model.specs.declared.answer.Answer.{Answer}
 use Rattle.ipam_model.specs.declared.entry.Entry.{Entry}
 use Rattle.ipam_model.specs.declared.request.Request.{Request}
 use Rattle.ipam_model.specs.declared.request.Request.TheVariants.{Add, AddThis, Admin, Check, Collect, Del, Probe, Release}
-use Rattle.ipam_model.specs.AnswerLaw.{IsRightAnswer}
+use Rattle.ipam_model.specs.AnswerLaw.{AnswersLaw, IsRightAnswer}
 use Rattle.ipam_model.specs.Answered.{Answered, history_of}
 use Rattle.ipam_model.specs.BoundLaw.{whole_collect, whole_del}
 use Rattle.ipam_model.specs.Consistent.{IsConsistent}
 use Rattle.ipam_model.specs.History.{Base, Lawful, cluster_at, store_at}
 use Rattle.ipam_model.specs.Moments.{request_in}
-use Rattle.ipam_model.specs.Right.{IsBounded}
-use Rattle.ipam_laws.specs.RightSoFar.{IsEntrySo, IsRightSoFarAt, RightSoFarLaw}
+use Rattle.ipam_model.specs.Right.{IsBounded, IsEntryRight}
+use Rattle.ipam_laws.specs.RightSoFar.{IsRightSoFarAt, RightSoFarLaw}
 use Rattle.ipam_laws.proofs.AffinityHistory.{label_points_law}
 use Rattle.ipam_laws.proofs.CountHistory.{credit_law}
 use Rattle.ipam_laws.proofs.OneRecord.{drop-lawful}
@@ -25,15 +25,18 @@ use Rattle.ipam_laws.proofs.StoreSteps.{replies}
 
 -- ---- answers
 
-answered-so : (a : Answered) → IsConsistent a.base.store → Lawful a.base (history_of a) → (request : Request) → a.request ≡ request → (told : Answer) → request_in (cluster_at a.base a.earlier) a.call.slot ≡ Some a.request → a.call.answer ≡ Some told → IsRightAnswer a told
-answered-so a c h (Add add) is told requested given = add_answers add a c h is told requested given
-answered-so a c h (AddThis add address) is told requested given = this_answers add address a c h is told requested given
-answered-so a c h (Del id) is told requested given = del_answers id a c h is told requested given
-answered-so a c h (Check id addresses) is told requested given = check_answers a id addresses c h is told requested given
-answered-so a c h (Release node cidr) is told requested given = release_answers node cidr a c h is told requested given
-answered-so a c h (Collect request) is told requested given = collect_answers request a c h is told requested given
-answered-so a c h (Admin setting) is told requested given = change_answers setting a c h is told requested given
-answered-so a c h (Probe request) is told requested given = whole_probe request a c h is told requested given
+answered-right : (a : Answered) → IsConsistent a.base.store → Lawful a.base (history_of a) → (request : Request) → a.request ≡ request → (told : Answer) → request_in (cluster_at a.base a.earlier) a.call.slot ≡ Some a.request → a.call.answer ≡ Some told → IsRightAnswer a told
+answered-right a c h (Add add) is told requested given = add_answers add a c h is told requested given
+answered-right a c h (AddThis add address) is told requested given = this_answers add address a c h is told requested given
+answered-right a c h (Del id) is told requested given = del_answers id a c h is told requested given
+answered-right a c h (Check id addresses) is told requested given = check_answers a id addresses c h is told requested given
+answered-right a c h (Release node cidr) is told requested given = release_answers node cidr a c h is told requested given
+answered-right a c h (Collect request) is told requested given = collect_answers request a c h is told requested given
+answered-right a c h (Admin setting) is told requested given = change_answers setting a c h is told requested given
+answered-right a c h (Probe request) is told requested given = whole_probe request a c h is told requested given
+
+pub answers_law : AnswersLaw
+answers_law a c h told requested given = answered-right a c h a.request refl told requested given
 
 -- ---- moments and entries
 
@@ -49,12 +52,16 @@ moment-right base history c h =
       kept = points.1;
     }
 
-entry-right : (base : Base) (history : List Entry) (new : Entry) → IsConsistent base.store → Lawful base (new ∷ history) → IsEntrySo base history new
+entry-right : (base : Base) (history : List Entry) (new : Entry) → IsConsistent base.store → Lawful base (new ∷ history) → IsEntryRight base history new
 entry-right base history new c h = record {
   owners = owners_law base history new c h;
-  reply = λ call is. replies base history call (subst (λ (e : Entry). Lawful base (e ∷ history)) is h);
-  answer = λ call is request told requested given.
-      answered-so (record { base = base; earlier = history; call = call; request = request }) c (subst (λ (e : Entry). Lawful base (e ∷ history)) is h) request refl told requested given;
+  call = λ call is.
+      let there = subst (λ (e : Entry). Lawful base (e ∷ history)) is h in
+      record {
+        reply = replies base history call there;
+        answer = λ request told requested given.
+            answered-right (record { base = base; earlier = history; call = call; request = request }) c there request refl told requested given;
+      };
 }
 
 bounded : (base : Base) (history : List Entry) → Lawful base history → IsBounded base history

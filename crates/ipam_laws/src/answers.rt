@@ -1,6 +1,6 @@
 //! Which answers requests have, and what they say.
 ghost use Rattle.ipam_laws.specs.RightAnswers.{AddAnswersLaw, ChangeAnswersLaw, CollectAnswersLaw, DelAnswersLaw, ReleaseAnswersLaw, StopLaw, ThisAnswersLaw, WholeProbeLaw};
-ghost use Rattle.ipam_model.specs.AnswerLaw.{CheckAnswersLaw};
+ghost use Rattle.ipam_model.specs.AnswerLaw.{AnswersLaw, CheckAnswersLaw};
 ghost use Rattle.ipam_model.specs.CanAnswer.{CanAnswerLaw};
 ghost use Rattle.ipam_model.specs.FamilyLaw.{FamilyLaw};
 
@@ -72,6 +72,11 @@ pub fn an_add_is_answered_right()
 /// address any more. Or it says why it stopped.
 pub fn a_collection_is_answered_right()
     ensures { CollectAnswersLaw }
+{}
+
+/// Whatever any request is answered is right of the history that led to it.
+pub fn every_answer_is_right()
+    ensures { AnswersLaw }
 {}
 
 /// A request is answered that it was tried too often where exactly so many races were lost and claims
