@@ -12,7 +12,7 @@ use Rattle.ipam_records.specs.declared.key.Key.TheVariants as key
 use Rattle.ipam_records.specs.declared.key.Kind.TheVariants as kind
 use Rattle.ipam_records.specs.Datastore.{Datastore, reply_of}
 use Rattle.ipam_records.specs.Said.{Can}
-use Rattle.ipam_records.specs.Word.{Ends, bound}
+use Rattle.ipam_records.specs.Word.{Ends}
 use Rattle.ipam_model.specs.declared.answer.Answer.{Answer}
 use Rattle.ipam_model.specs.declared.answer.Answer.TheVariants as answer
 use Rattle.ipam_model.specs.declared.answer.Scan.{Scan}
@@ -35,7 +35,7 @@ use Rattle.ipam_model.specs.Choice.{Foreign, Lacks, Own, Pick, Picks, Rank, Seen
 use Rattle.ipam_model.specs.Counting.{Freeing, freeing_one}
 use Rattle.ipam_model.specs.Reads.{config_said, pools_said, reservations_said, rows_said}
 use Rattle.ipam_model.specs.Requests.{told_as}
-use Rattle.ipam_model.specs.Step.{Part, all_left, answer_of, onward, rounds, stops}
+use Rattle.ipam_model.specs.Step.{all_left, answer_of, onward, rounds, stops}
 use Rattle.ipam_model.specs.Told.{of_add}
 use Rattle.ipam_model.specs.Usable.{families_if}
 use Rattle.ipam_laws.proofs.ActParts.{IsCurrent, assigning_call}
@@ -46,7 +46,7 @@ use Rattle.ipam_laws.proofs.AddRounds.{HasRead, picked-read}
 use Rattle.ipam_laws.proofs.AddTrails.{Calm, More, NoBlock, Quietly, Same}
 use Rattle.ipam_laws.proofs.FreeTrails.{Calmer, FreedEnds, IsRaceOrSpent, Rid, Still, Then, calmer-since, free-rids, rid-origin, rid-since}
 use Rattle.ipam_laws.proofs.Members.{in-cons, in-here}
-use Rattle.ipam_laws.proofs.Trails.{AgreesAll, Comes, Comes-bound, Did, Got, Trail}
+use Rattle.ipam_laws.proofs.Trails.{Comes, Comes-bound, Did, Got, Trail}
 
 -- ---- what was given
 
@@ -169,17 +169,19 @@ gives request gifts scan target done five trail h last =
     let step = Did done.moment last.store (assigning_call request.attributes target) in
     let until = still-leaves request gifts five last.between (quietly-calmer five last.between last.quiet) h in
     let before = whole-later request (gifts ++ gift ∷ []) last.between (step ∷ last.between) last.between (Later step last.between Since-same) (more-leaves request gifts gift last.between last.between until) in
-    subst (λ (t : Trail). Leaves request (gifts ++ gift ∷ []) t t) (sym last.is)
-    (IsGiven gift (Contains-append_right gifts (gift ∷ []) gift (in-here gift [])) (record {
-      target = target;
-      is = refl;
-      revision = last.revision;
-      granted = last.granted;
-      current = last.current;
-      block = refl;
-      ordinal = omega arith;
-      stamp = last.stamp;
-    }), before)
+    subst (λ (t : Trail). Leaves request (gifts ++ gift ∷ []) t t) (sym last.is) (
+      IsGiven gift (Contains-append_right gifts (gift ∷ []) gift (in-here gift [])) (record {
+        target = target;
+        is = refl;
+        revision = last.revision;
+        granted = last.granted;
+        current = last.current;
+        block = refl;
+        ordinal = omega arith;
+        stamp = last.stamp;
+      }),
+      before,
+    )
 
 module _ (round : Round) (gifts : List Gift) (after : NextLeaves round.request gifts round.next) (left : Left) (five : Trail) (h : Leaves round.request gifts five five) where
   take-leaves : (found : ℕ × block.BlockValue) (ordinal : ℕ) → KnowsRead five (Some found) → Comes (ServedLeaves round.request gifts) five (take_in round left (target_in found ordinal))

@@ -1,17 +1,14 @@
 -- Where an ADD without an address gives none, nothing that it was given is owned any more.
-use Rattle.std.proofs.Common.{◌≡◌, ◌≢◌, ℕ, ◌+◌, ◌-◌, ◌<◌, ◌≤◌, inl, inr, Bool, true, false, List, [], ◌∷◌, refl, sym, ap, ◌∙◌, subst, arith}
-use Rattle.std.specs.Prelude.{◌==◌, ◌&&◌, Contains}
+use Rattle.std.proofs.Common.{◌≡◌, ℕ, ◌+◌, ◌<◌, inl, inr, Bool, true, [], ◌∷◌, refl, sym, ap, ◌∙◌, subst, arith}
+use Rattle.std.specs.Prelude.{◌==◌, ◌&&◌}
 use Rattle.std.specs.List.{count_by}
 use Rattle.std.specs.Prelude.{nat_lt}
 use Rattle.std.proofs.lemmas.Bool.{cases_Bool, eqb-false}
-use Rattle.ipam_addr.specs.Shape.{CidrValue}
 use Rattle.ipam_block.specs.declared.allocation.Allocation.{Allocation}
 use Rattle.ipam_block.specs.Operations.{assigned, is_stamped, next_block}
-use Rattle.ipam_block.specs.Shape.{BlockValue}
 use Rattle.ipam_records.specs.declared.call.Call.{Call}
 use Rattle.ipam_records.specs.Datastore.{Datastore, reply_of}
 use Rattle.ipam_records.specs.Said.{Can}
-use Rattle.ipam_model.specs.declared.entry.Entry.TheVariants as entry
 use Rattle.ipam_model.specs.declared.request.AddRequest.{AddRequest}
 use Rattle.ipam_model.specs.AddLaw.{HasNothing}
 use Rattle.ipam_model.specs.Answered.{Answered, history_of, span_of}
@@ -20,9 +17,9 @@ use Rattle.ipam_model.specs.Consistent.{IsConsistent}
 use Rattle.ipam_model.specs.Counting.{Freeing, freeing_one}
 use Rattle.ipam_model.specs.History.{Lawful, Span, now, seen_at, seen_now}
 use Rattle.ipam_model.specs.Moments.{GainedAt, Gains, Owns}
-use Rattle.ipam_model.specs.Owners.{Owner, owner_of}
+use Rattle.ipam_model.specs.Owners.{Owner}
 use Rattle.ipam_laws.proofs.ActParts.{IsCurrent, assigning_call}
-use Rattle.ipam_laws.proofs.AddLeaves.{IsCalm, IsFreed, IsFreedBehind, IsGiftOf, IsGiven, Leaves, StepLeaves, freeing_gift}
+use Rattle.ipam_laws.proofs.AddLeaves.{IsCalm, IsFreed, IsFreedBehind, IsGiven, Leaves, StepLeaves, freeing_gift}
 use Rattle.ipam_laws.proofs.AddTrails.{Calmly}
 use Rattle.ipam_laws.proofs.CalmHistory.{calm-gains-none, calm-step}
 use Rattle.ipam_laws.proofs.CountLemmas.{same_text}

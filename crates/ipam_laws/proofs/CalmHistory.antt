@@ -110,7 +110,7 @@ drop-next zero (one ∷ list) first e = let same : one ≡ first = cc e in ap (�
 drop-next (suc many) (one ∷ list) first e = drop-next many list first e
 
 -- an entry that is no call leaves the store
-quiet-entry : (span : Span) (k : ℕ) (there : Entry) → k < now span → entry_at span.base span.history k ≡ Some there → ((h : List Entry) → store_at span.base (there ∷ h) ≡ store_at span.base h) → seen_at span (k + 1) ≡ seen_at span k
+pub quiet-entry : (span : Span) (k : ℕ) (there : Entry) → k < now span → entry_at span.base span.history k ≡ Some there → ((h : List Entry) → store_at span.base (there ∷ h) ≡ store_at span.base h) → seen_at span (k + 1) ≡ seen_at span k
 quiet-entry span k there early is leaves =
     let many = moment_of span.base span.history - (k + 1) in
     let split = drop-next many span.history there is in

@@ -30,7 +30,6 @@ use Rattle.ipam_model.specs.Step.{all_left, answer_of, onward}
 use Rattle.ipam_model.specs.Told.{of_collect}
 use Rattle.ipam_laws.proofs.ActParts.{IsCurrent, freeing_call}
 use Rattle.ipam_laws.proofs.Acts.{Same, Since, since-since}
-use Rattle.ipam_laws.proofs.AddTrails.{NoBlock}
 use Rattle.ipam_laws.proofs.FreeTrails.{Elsewhere, FreeSteps, FreedEnds, Goes, Idle, Idler, NoSteps, OneStep, Rid, Stays, calmer-since, free-rids, rid-origin, rid-since}
 use Rattle.ipam_laws.proofs.Members.{in-cons, in-here, in-nothing, in-there}
 use Rattle.ipam_laws.proofs.Trails.{Comes, Comes-bound, Did, Got, Trail}

@@ -1,5 +1,5 @@
 -- That a collection finds each leak, and in the order of the owners.
-use Rattle.std.proofs.Common.{◌≡◌, ℕ, inl, inr, Bool, true, false, not, List, [], ◌∷◌, ◌++◌, map, refl, sym, ap, ◌∙◌, subst, arith}
+use Rattle.std.proofs.Common.{◌≡◌, ℕ, inl, inr, Bool, true, false, not, List, [], ◌∷◌, ◌++◌, map, refl, sym, ap, ◌∙◌, subst}
 use Rattle.std.specs.Prelude.{AllPairs, Contains, IsTrue, ◌&&◌, ◌==◌}
 use Rattle.std.specs.List.{filter, list_any}
 use Rattle.std.proofs.lemmas.Bool.{cases_Bool, eqb-false}
@@ -184,7 +184,7 @@ suspects-thin : (collect : CollectRequest) (rows : List Row) → Thins (map owne
 suspects-thin collect [] = Nothing
 suspects-thin collect (row ∷ rows) = elim (cases_Bool (is_of_kind kind.Block (row_key row))) [
   | inl is ↦ rw is (subst (λ (l : List Owner). Thins l (owners_in_row row ++ owners_in rows)) (sym (map-append (leaks_in_row collect row) rest))
-  (thins-append (map owner_at (leaks_in_row collect row)) (owners_in_row row) (map owner_at rest) (owners_in rows) (row-thins collect row.0 row.1) (suspects-thin collect rows)))
+      (thins-append (map owner_at (leaks_in_row collect row)) (owners_in_row row) (map owner_at rest) (owners_in rows) (row-thins collect row.0 row.1) (suspects-thin collect rows)))
   | inr not_it ↦ rw not_it (thins-append [] (owners_in_row row) (map owner_at rest) (owners_in rows) (none-left (owners_in_row row)) (suspects-thin collect rows))
 ]
   where

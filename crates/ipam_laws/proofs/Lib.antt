@@ -40,6 +40,7 @@ pub mod AddLeaves
 pub mod AddNothing
 pub mod CollectTrails
 pub mod LeaksAll
+pub mod CollectRight
 pub mod FamilyHistory
 pub mod AffinityAt
 pub mod AffinityHolds

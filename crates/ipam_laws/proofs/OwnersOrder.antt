@@ -68,7 +68,7 @@ pairs-append R (x ∷ xs) ys h k cross =
     (pairs-append R xs ys (pairs-tail R x xs h) k (λ a b there. cross a b (in-there a x xs there)))
 
 -- two members are the same, or stand one before the other
-pairs-of : {X : Type 0} (R : X → X → Type 0) (xs : List X) → AllPairs R xs → (x y : X) → Contains xs x → Contains xs y → (x ≡ y) ⊎ (R x y ⊎ R y x)
+pub pairs-of : {X : Type 0} (R : X → X → Type 0) (xs : List X) → AllPairs R xs → (x y : X) → Contains xs x → Contains xs y → (x ≡ y) ⊎ (R x y ⊎ R y x)
 pairs-of R [] h x y one other = absurd (in-nothing x one)
 pairs-of R (z ∷ zs) h x y one other = elim (in-cons x z zs one) [
   | inl is ↦ elim (in-cons y z zs other) [

@@ -12,6 +12,7 @@ use Rattle.ipam_model.specs.declared.entry.Fate.{Fate}
 use Rattle.ipam_model.specs.declared.entry.Fate.TheVariants.{After, Before, Well}
 use Rattle.ipam_model.specs.declared.request.AddRequest.{AddRequest}
 use Rattle.ipam_model.specs.declared.request.Admin.{Admin as Setting}
+use Rattle.ipam_model.specs.declared.request.CollectRequest.{CollectRequest}
 use Rattle.ipam_model.specs.declared.request.Request.{Request}
 use Rattle.ipam_model.specs.declared.request.Request.TheVariants.{Add, AddThis, Admin, Check, Collect, Del, Probe, Release}
 use Rattle.ipam_model.specs.Add.{asked_of}
@@ -23,15 +24,17 @@ use Rattle.ipam_model.specs.History.{Lawful, cluster_at, now}
 use Rattle.ipam_model.specs.Moments.{request_in}
 use Rattle.ipam_model.specs.OtherLaws.{IsCountFull}
 use Rattle.ipam_model.specs.Requests.{word_of}
-use Rattle.ipam_laws.specs.RightAnswers.{AddAnswersLaw, ChangeAnswersLaw, ReleaseAnswersLaw, DelAnswersLaw, StopLaw, ThisAnswersLaw, WholeProbeLaw}
+use Rattle.ipam_laws.specs.RightAnswers.{AddAnswersLaw, ChangeAnswersLaw, CollectAnswersLaw, ReleaseAnswersLaw, DelAnswersLaw, StopLaw, ThisAnswersLaw, WholeProbeLaw}
 use Rattle.ipam_laws.proofs.AddFamilies.{IsTold, told-comes}
 use Rattle.ipam_laws.proofs.AddLeaves.{LeavesNothing, leaves-nothing}
 use Rattle.ipam_laws.proofs.AddNothing.{nothing-left}
 use Rattle.ipam_laws.proofs.AddRight.{all-right}
 use Rattle.ipam_laws.proofs.AddRounds.{IsAimed}
 use Rattle.ipam_laws.proofs.DelRight.{OfDel, deleted-right, told-del}
+use Rattle.ipam_laws.proofs.CollectRight.{collected-right}
+use Rattle.ipam_laws.proofs.CollectTrails.{OfCollect, told-collect}
 use Rattle.ipam_laws.proofs.CheckAnswers.{OfCheck, check-comes, check-right}
-use Rattle.ipam_laws.proofs.FamilyHistory.{aimed-span, chosen-span, comes-any}
+use Rattle.ipam_laws.proofs.FamilyHistory.{aimed-span, chosen-span}
 use Rattle.ipam_laws.proofs.Fates.{faults}
 use Rattle.ipam_laws.proofs.HeardRight.{OfChange, OfRelease, done-right, missed-right, refused-right, released-right, told-change, told-release}
 use Rattle.ipam_laws.proofs.NoReturn.{consistent-before}
@@ -53,7 +56,7 @@ Heard (Probe request) trail told = OfProbe request trail told
 Heard (AddThis request address) trail told = OfThis request address trail told
 Heard (Del id) trail told = OfDel id trail told
 Heard (Add request) trail told = IsTold request told trail × LeavesNothing request told trail
-Heard _ trail told = Unit {0}
+Heard (Collect request) trail told = OfCollect request trail told
 
 hear : (request : Request) → Comes (Heard request) [] (word_of request)
 unfolding word_of Heard
@@ -64,7 +67,7 @@ hear (Probe request) = probe-comes request
 hear (Add request) = Comes-both (λ trail told. IsTold request told trail) (λ trail told. LeavesNothing request told trail) (word_of (Add request)) [] (told-comes request) (leaves-nothing request)
 hear (AddThis request address) = told-this request address
 hear (Del id) = told-del id
-hear (Collect request) = comes-any (λ trail (told : Answer). Unit {0}) (λ trail told. tt) (word_of (Collect request)) []
+hear (Collect request) = told-collect request
 
 -- ---- answers of calls that went well, or failed
 
@@ -327,6 +330,42 @@ add_answers request a c h is told requested given =
     let k = heard-of a told t differ fate in
     let heard = subst (λ (r : Request). Heard r k.trail told) is k.heard in
     add-right a request k.trail c h is k.is_trail told heard.0 heard.1 k.stop)
+
+-- over a consistent base, where the request runs
+abbrev IsThereAsked : Answered → Type 0
+IsThereAsked a = IsConsistent a.base.store × Lawful a.base (history_of a) × (request_in (cluster_at a.base a.earlier) a.call.slot ≡ Some a.request)
+
+collect-right : (a : Answered) (request : CollectRequest) (trail : Trail) → IsThereAsked a → a.request ≡ Collect request → IsTrail (span_of a) (now (span_of a)) trail → (told : Answer) → OfCollect request trail told → IsStopRight a told → IsRightAnswer a told
+unfolding OfCollect IsStopRight
+collect-right a request trail t is there (answer.Collected collected) h s = (request, is, collected-right a request collected trail t.0 t.1 is t.2 there h)
+collect-right a request trail t is there (answer.Again lost claims) h s = s
+collect-right a request trail t is there answer.Spent h s = s
+collect-right a request trail t is there (answer.Added given) h s = absurd h
+collect-right a request trail t is there (answer.AddedThis given) h s = absurd h
+collect-right a request trail t is there (answer.Exhausted scan) h s = absurd h
+collect-right a request trail t is there (answer.NoPool called moment) h s = absurd h
+collect-right a request trail t is there (answer.NotInPool moment) h s = absurd h
+collect-right a request trail t is there (answer.Taken held moment) h s = absurd h
+collect-right a request trail t is there (answer.NotAffine block moment) h s = absurd h
+collect-right a request trail t is there (answer.Deleted moment) h s = absurd h
+collect-right a request trail t is there answer.Checked h s = absurd h
+collect-right a request trail t is there (answer.NotRecorded other moment) h s = absurd h
+collect-right a request trail t is there answer.Released h s = absurd h
+collect-right a request trail t is there (answer.NoAffinity moment) h s = absurd h
+collect-right a request trail t is there (answer.Done revision) h s = absurd h
+collect-right a request trail t is there (answer.Refused number about) h s = absurd h
+collect-right a request trail t is there answer.Full h s = absurd h
+collect-right a request trail t is there (answer.CountFull moment) h s = absurd h
+collect-right a request trail t is there answer.Fault h s = absurd h
+collect-right a request trail t is there (answer.Ready scans) h s = absurd h
+
+pub collect_answers : CollectAnswersLaw
+unfolding Heard
+collect_answers request a c h is told requested given =
+    let t : IsThere a told = record { consistent = c; lawful = h; requested = requested; given = given } in
+    right-if a told t (λ differ fate.
+    let k = heard-of a told t differ fate in
+    collect-right a request k.trail (c, h, requested) is k.is_trail told (subst (λ (r : Request). Heard r k.trail told) is k.heard) k.stop)
 
 pub stop_law : StopLaw
 unfolding IsStopRight

@@ -1,24 +1,23 @@
 -- All that is proved of every lawful history, at once.
 use Rattle.std.proofs.Common.{◌≡◌, List, ◌∷◌, drop, Some, refl, sym, subst}
 use Rattle.ipam_model.specs.declared.answer.Answer.{Answer}
-use Rattle.ipam_model.specs.declared.answer.Answer.TheVariants as answer
 use Rattle.ipam_model.specs.declared.entry.Entry.{Entry}
 use Rattle.ipam_model.specs.declared.request.Request.{Request}
 use Rattle.ipam_model.specs.declared.request.Request.TheVariants.{Add, AddThis, Admin, Check, Collect, Del, Probe, Release}
+use Rattle.ipam_model.specs.AnswerLaw.{AnswersLaw, IsRightAnswer}
 use Rattle.ipam_model.specs.Answered.{Answered, history_of}
 use Rattle.ipam_model.specs.BoundLaw.{whole_collect, whole_del}
 use Rattle.ipam_model.specs.Consistent.{IsConsistent}
 use Rattle.ipam_model.specs.History.{Base, Lawful, cluster_at, store_at}
 use Rattle.ipam_model.specs.Moments.{request_in}
-use Rattle.ipam_model.specs.Right.{IsBounded}
-use Rattle.ipam_laws.specs.RightSoFar.{IsEntrySo, IsRightSoFarAt, IsStopSo, IsToldSo, RightSoFarLaw}
+use Rattle.ipam_model.specs.Right.{IsBounded, IsEntryRight}
+use Rattle.ipam_laws.specs.RightSoFar.{IsRightSoFarAt, RightSoFarLaw}
 use Rattle.ipam_laws.proofs.AffinityHistory.{label_points_law}
 use Rattle.ipam_laws.proofs.CountHistory.{credit_law}
-use Rattle.ipam_laws.proofs.Fates.{faults}
 use Rattle.ipam_laws.proofs.OneRecord.{drop-lawful}
 use Rattle.ipam_laws.proofs.OwnersHistory.{owners_law}
 use Rattle.ipam_laws.proofs.OwnersOrder.{owners_order}
-use Rattle.ipam_laws.proofs.RightHistory.{add_answers, change_answers, check_answers, del_answers, release_answers, stop_law, this_answers, whole_probe}
+use Rattle.ipam_laws.proofs.RightHistory.{add_answers, change_answers, check_answers, collect_answers, del_answers, release_answers, this_answers, whole_probe}
 use Rattle.ipam_laws.proofs.SlotsHistory.{consistent_law}
 use Rattle.ipam_laws.proofs.SpanBound.{requests_are_bounded}
 use Rattle.ipam_laws.proofs.SpanCalls.{collect_calls, del_calls}
@@ -26,38 +25,18 @@ use Rattle.ipam_laws.proofs.StoreSteps.{replies}
 
 -- ---- answers
 
-stop-so : (a : Answered) (told : Answer) → IsConsistent a.base.store → Lawful a.base (history_of a) → request_in (cluster_at a.base a.earlier) a.call.slot ≡ Some a.request → a.call.answer ≡ Some told → IsStopSo a told
-stop-so a (answer.Again lost claims) c h requested given = (stop_law a c.sound h requested).again lost claims given
-stop-so a answer.Full c h requested given = (stop_law a c.sound h requested).full given
-stop-so a answer.Spent c h requested given = (stop_law a c.sound h requested).spent given
-stop-so a answer.Fault c h requested given = (faults a h).0 given
-stop-so a (answer.Added list) c h requested given = tt
-stop-so a (answer.AddedThis one) c h requested given = tt
-stop-so a (answer.Exhausted scan) c h requested given = tt
-stop-so a (answer.NoPool called moment) c h requested given = tt
-stop-so a (answer.NotInPool moment) c h requested given = tt
-stop-so a (answer.Taken id moment) c h requested given = tt
-stop-so a (answer.NotAffine cidr moment) c h requested given = tt
-stop-so a (answer.Deleted moment) c h requested given = tt
-stop-so a answer.Checked c h requested given = tt
-stop-so a (answer.NotRecorded address moment) c h requested given = tt
-stop-so a answer.Released c h requested given = tt
-stop-so a (answer.NoAffinity moment) c h requested given = tt
-stop-so a (answer.Collected collected) c h requested given = tt
-stop-so a (answer.Done revision) c h requested given = tt
-stop-so a (answer.Refused number about) c h requested given = tt
-stop-so a (answer.CountFull moment) c h requested given = tt
-stop-so a (answer.Ready scans) c h requested given = tt
+answered-right : (a : Answered) → IsConsistent a.base.store → Lawful a.base (history_of a) → (request : Request) → a.request ≡ request → (told : Answer) → request_in (cluster_at a.base a.earlier) a.call.slot ≡ Some a.request → a.call.answer ≡ Some told → IsRightAnswer a told
+answered-right a c h (Add add) is told requested given = add_answers add a c h is told requested given
+answered-right a c h (AddThis add address) is told requested given = this_answers add address a c h is told requested given
+answered-right a c h (Del id) is told requested given = del_answers id a c h is told requested given
+answered-right a c h (Check id addresses) is told requested given = check_answers a id addresses c h is told requested given
+answered-right a c h (Release node cidr) is told requested given = release_answers node cidr a c h is told requested given
+answered-right a c h (Collect request) is told requested given = collect_answers request a c h is told requested given
+answered-right a c h (Admin setting) is told requested given = change_answers setting a c h is told requested given
+answered-right a c h (Probe request) is told requested given = whole_probe request a c h is told requested given
 
-answered-so : (a : Answered) → IsConsistent a.base.store → Lawful a.base (history_of a) → (request : Request) → a.request ≡ request → (told : Answer) → request_in (cluster_at a.base a.earlier) a.call.slot ≡ Some a.request → a.call.answer ≡ Some told → IsToldSo request a told
-answered-so a c h (Add add) is told requested given = add_answers add a c h is told requested given
-answered-so a c h (AddThis add address) is told requested given = this_answers add address a c h is told requested given
-answered-so a c h (Del id) is told requested given = del_answers id a c h is told requested given
-answered-so a c h (Check id addresses) is told requested given = check_answers a id addresses c h is told requested given
-answered-so a c h (Release node cidr) is told requested given = release_answers node cidr a c h is told requested given
-answered-so a c h (Collect request) is told requested given = stop-so a told c h requested given
-answered-so a c h (Admin setting) is told requested given = change_answers setting a c h is told requested given
-answered-so a c h (Probe request) is told requested given = whole_probe request a c h is told requested given
+pub answers_law : AnswersLaw
+answers_law a c h told requested given = answered-right a c h a.request refl told requested given
 
 -- ---- moments and entries
 
@@ -73,12 +52,16 @@ moment-right base history c h =
       kept = points.1;
     }
 
-entry-right : (base : Base) (history : List Entry) (new : Entry) → IsConsistent base.store → Lawful base (new ∷ history) → IsEntrySo base history new
+entry-right : (base : Base) (history : List Entry) (new : Entry) → IsConsistent base.store → Lawful base (new ∷ history) → IsEntryRight base history new
 entry-right base history new c h = record {
   owners = owners_law base history new c h;
-  reply = λ call is. replies base history call (subst (λ (e : Entry). Lawful base (e ∷ history)) is h);
-  answer = λ call is request told requested given.
-      answered-so (record { base = base; earlier = history; call = call; request = request }) c (subst (λ (e : Entry). Lawful base (e ∷ history)) is h) request refl told requested given;
+  call = λ call is.
+      let there = subst (λ (e : Entry). Lawful base (e ∷ history)) is h in
+      record {
+        reply = replies base history call there;
+        answer = λ request told requested given.
+            answered-right (record { base = base; earlier = history; call = call; request = request }) c there request refl told requested given;
+      };
 }
 
 bounded : (base : Base) (history : List Entry) → Lawful base history → IsBounded base history

@@ -6,9 +6,10 @@ use Rattle.ipam_model.specs.declared.answer.Answer.TheVariants as answer
 use Rattle.ipam_model.specs.declared.entry.Told.TheVariants as told
 use Rattle.ipam_model.specs.declared.request.AddRequest.{AddRequest}
 use Rattle.ipam_model.specs.declared.request.Admin.{Admin}
+use Rattle.ipam_model.specs.declared.request.CollectRequest.{CollectRequest}
 use Rattle.ipam_model.specs.declared.request.ProbeRequest.{ProbeRequest}
 use Rattle.ipam_model.specs.declared.request.Request.{Request}
-use Rattle.ipam_model.specs.declared.request.Request.TheVariants.{Add, AddThis, Del, Release, Admin as Change, Probe}
+use Rattle.ipam_model.specs.declared.request.Request.TheVariants.{Add, AddThis, Collect, Del, Release, Admin as Change, Probe}
 use Rattle.ipam_model.specs.AnswerLaw.{IsAgain, IsAnsweredRight}
 use Rattle.ipam_model.specs.Answered.{Answered, history_of}
 use Rattle.ipam_model.specs.Consistent.{IsConsistent}
@@ -44,6 +45,10 @@ DelAnswersLaw = (id : List ℕ) → IsAlwaysRight (Del id)
 -- Whatever an ADD without an address is answered is right.
 abbrev pub AddAnswersLaw : Type 0
 AddAnswersLaw = (add : AddRequest) → IsAlwaysRight (Add add)
+
+-- Whatever a collection is answered is right.
+abbrev pub CollectAnswersLaw : Type 0
+CollectAnswersLaw = (collect : CollectRequest) → IsAlwaysRight (Collect collect)
 
 -- what an answer says of why a request stopped
 pub record IsStoppedRight (a : Answered) : Type 0 where

@@ -1,53 +1,16 @@
--- What is proved of every lawful history, all at once. It is what the model's `RightLaw` says, but that
--- points and credits are those of the labels, and not of the calls that were made; and of a collection it
--- does not say what it collected.
-use Rattle.std.specs.Prelude.{◌≡◌, ◌≢◌, ◌+◌, ◌≤◌, ℕ, List, ◌∷◌, drop, Some}
+-- What is proved of every lawful history, all at once. It is what the model's `RightLaw` says, but that at
+-- its moments points and credits are those of the labels, and not of the calls that were made.
+use Rattle.std.specs.Prelude.{◌≡◌, ◌+◌, ◌≤◌, ℕ, List, ◌∷◌, drop}
 use Rattle.ipam_addr.specs.Shape.{CidrValue}
-use Rattle.ipam_records.specs.declared.call.Call.{Call}
-use Rattle.ipam_model.specs.declared.answer.Answer.{Answer}
-use Rattle.ipam_model.specs.declared.answer.Answer.TheVariants as answer
-use Rattle.ipam_model.specs.declared.entry.Called.{Called}
 use Rattle.ipam_model.specs.declared.entry.Entry.{Entry}
-use Rattle.ipam_model.specs.declared.entry.Entry.TheVariants as entry
-use Rattle.ipam_model.specs.declared.entry.Fate.TheVariants.{Well}
-use Rattle.ipam_model.specs.declared.entry.Told.TheVariants as told
-use Rattle.ipam_model.specs.declared.request.Request.{Request}
-use Rattle.ipam_model.specs.declared.request.Request.TheVariants.{Collect}
 use Rattle.ipam_model.specs.AffinityLaw.{IsLabelled, PointsAgree, PointsKeep}
-use Rattle.ipam_model.specs.AnswerLaw.{IsAgain, IsRightAnswer}
-use Rattle.ipam_model.specs.Answered.{Answered}
 use Rattle.ipam_model.specs.Consistent.{IsConsistent}
 use Rattle.ipam_model.specs.CountLaw.{credits, handle_count, held_count}
-use Rattle.ipam_model.specs.History.{Base, Lawful, cluster_at, slot_of_entry, store_at}
-use Rattle.ipam_model.specs.Moments.{request_in}
-use Rattle.ipam_model.specs.Named.{name_of}
-use Rattle.ipam_model.specs.OtherLaws.{IsFull}
-use Rattle.ipam_model.specs.OwnerLaw.{OwnersMove}
+use Rattle.ipam_model.specs.History.{Base, Lawful, cluster_at, store_at}
 use Rattle.ipam_model.specs.Owners.{AreInOrder, owners}
-use Rattle.ipam_model.specs.ReplyLaw.{IsAnsweredBy}
-use Rattle.ipam_model.specs.Right.{IsBounded}
+use Rattle.ipam_model.specs.Right.{IsBounded, IsEntryRight}
 
--- ---- answers
-
--- why a request stopped is so
-abbrev pub IsStopSo : Answered → Answer → Type 0
-IsStopSo a (answer.Again lost claims) = IsAgain a lost claims
-IsStopSo a answer.Full = IsFull a
-IsStopSo a answer.Spent = a.call.reply ≡ told.Spent
-IsStopSo a answer.Fault = a.call.fate ≢ Well
-IsStopSo a _ = Unit {0}
-
--- the answer is right; of a collection why it stopped
-abbrev pub IsToldSo : Request → Answered → Answer → Type 0
-IsToldSo (Collect request) a told = IsStopSo a told
-IsToldSo _ a told = IsRightAnswer a told
-
-abbrev pub IsAnsweredSo : Answered → Type 0
-IsAnsweredSo a =
-    (told : Answer) → request_in (cluster_at a.base a.earlier) a.call.slot ≡ Some a.request
-    → a.call.answer ≡ Some told → IsToldSo a.request a told
-
--- ---- moments and entries
+-- ---- moments
 
 pub record IsRightSoFarAt (base : Base) (history : List Entry) : Type 0 where
   pub consistent : IsConsistent (store_at base history)
@@ -57,18 +20,12 @@ pub record IsRightSoFarAt (base : Base) (history : List Entry) : Type 0 where
   pub points : PointsAgree (IsLabelled base history) base history
   pub kept : PointsKeep (IsLabelled base history) base history
 
-pub record IsEntrySo (base : Base) (history : List Entry) (new : Entry) : Type 0 where
-  pub owners : OwnersMove (record { base = base; history = history; slot = slot_of_entry new }) (store_at base (new ∷ history))
-  pub reply : (c : Called) → new ≡ entry.Called c → (asked : Call) × (c.call ≡ name_of asked)
-      × IsAnsweredBy (store_at base history) (store_at base (entry.Called c ∷ history)) asked c c.fate
-  pub answer : (c : Called) → new ≡ entry.Called c → (request : Request) → IsAnsweredSo (record { base = base; earlier = history; call = c; request = request })
-
 -- ---- the whole
 
 pub record IsRightSoFar (base : Base) (history : List Entry) : Type 0 where
   pub lawful : Lawful base history
   pub at_moments : (many : ℕ) → IsRightSoFarAt base (drop many history)
-  pub entries : (many : ℕ) (new : Entry) (earlier : List Entry) → drop many history ≡ new ∷ earlier → IsEntrySo base earlier new
+  pub entries : (many : ℕ) (new : Entry) (earlier : List Entry) → drop many history ≡ new ∷ earlier → IsEntryRight base earlier new
   pub bounded : IsBounded base history
 
 -- Of every lawful history over a consistent base all of this holds.

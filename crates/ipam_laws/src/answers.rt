@@ -1,6 +1,6 @@
 //! Which answers requests have, and what they say.
-ghost use Rattle.ipam_laws.specs.RightAnswers.{AddAnswersLaw, ChangeAnswersLaw, DelAnswersLaw, ReleaseAnswersLaw, StopLaw, ThisAnswersLaw, WholeProbeLaw};
-ghost use Rattle.ipam_model.specs.AnswerLaw.{CheckAnswersLaw};
+ghost use Rattle.ipam_laws.specs.RightAnswers.{AddAnswersLaw, ChangeAnswersLaw, CollectAnswersLaw, DelAnswersLaw, ReleaseAnswersLaw, StopLaw, ThisAnswersLaw, WholeProbeLaw};
+ghost use Rattle.ipam_model.specs.AnswerLaw.{AnswersLaw, CheckAnswersLaw};
 ghost use Rattle.ipam_model.specs.CanAnswer.{CanAnswerLaw};
 ghost use Rattle.ipam_model.specs.FamilyLaw.{FamilyLaw};
 
@@ -64,6 +64,19 @@ pub fn a_del_is_answered_right()
 /// block was at its limit; and then nothing that it was given is owned any more.
 pub fn an_add_is_answered_right()
     ensures { AddAnswersLaw }
+{}
+
+/// Whatever a collection is answered is right: it tells of exactly the owners that were in scope, live by
+/// neither list of live handles, and owners still when the blocks were listed again; in the order of
+/// their addresses, each told as freed exactly where this collection freed it; and none of them owns its
+/// address any more. Or it says why it stopped.
+pub fn a_collection_is_answered_right()
+    ensures { CollectAnswersLaw }
+{}
+
+/// Whatever any request is answered is right of the history that led to it.
+pub fn every_answer_is_right()
+    ensures { AnswersLaw }
 {}
 
 /// A request is answered that it was tried too often where exactly so many races were lost and claims

@@ -4,9 +4,8 @@ ghost use Rattle.ipam_laws.specs.RightSoFar.{RightSoFarLaw};
 /// Of every lawful history over a consistent base: at each of its moments the records are consistent,
 /// the owners are listed in order, counts cover addresses and what running requests are ahead by, and
 /// claims and releases stand right by their labels; each entry changes owners in one of the five ways,
-/// has the datastore's own reply, and an answer that is so; and each span keeps its bound. What of the
-/// answers of an ADD without an address, of a DEL and of a collection is not yet said here, the
-/// statement names.
+/// has the datastore's own reply, and a right answer, whatever the request and whatever the answer; and
+/// each span keeps its bound.
 pub fn every_lawful_history_is_right_so_far()
     ensures { RightSoFarLaw }
 {}
