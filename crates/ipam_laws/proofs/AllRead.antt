@@ -94,7 +94,7 @@ kind-no_memory (key_of_kind.Block cidr) key body = keyed_block-no_memory key (bl
 kind-no_memory (key_of_kind.Affinity node cidr) key body = keyed-no_memory record_of.Affinity key (affinity_reading body) (ok_or-form (held affinity_in affinity_body body))
 kind-no_memory (key_of_kind.Handle id) key body = keyed-no_memory record_of.Handle key (handle_reading body) (ok_or-form (held handle_in handle_body body))
 
-record-no_memory : (key body : List ℕ) → record_reading key body ≢ Err fault.Memory
+pub record-no_memory : (key body : List ℕ) → record_reading key body ≢ Err fault.Memory
 unfolding record_reading
 record-no_memory key body = from (key_read key)
   where

@@ -76,7 +76,7 @@ confirmed-is (Some Pending) e = absurd (cc e)
 confirmed-is (Some PendingDeletion) e = absurd (cc e)
 
 -- where some are owned, one is
-owned-member : (id : List ℕ) (xs : List Allocation) → 0 < count_by (is_owned id) xs → (a : Allocation) × Contains xs a × (is_owned id a ≡ true)
+pub owned-member : (id : List ℕ) (xs : List Allocation) → 0 < count_by (is_owned id) xs → (a : Allocation) × Contains xs a × (is_owned id a ≡ true)
 owned-member id [] h = absurd (omega arith)
 owned-member id (x ∷ xs) h = by (is_owned id x) refl (owned-member id xs)
   where
@@ -166,7 +166,7 @@ is-broken revision (Err broken) h = ap (λ (t : TextFault). is_fault fault.Unsou
 -- ---- slots
 
 -- the range that a key's text names
-key-range : (k : Option Key) (text : List ℕ) (cidr : CidrValue) → key_read text ≡ k → cidr_of_key k ≡ Some cidr → IsCidr cidr
+pub key-range : (k : Option Key) (text : List ℕ) (cidr : CidrValue) → key_read text ≡ k → cidr_of_key k ≡ Some cidr → IsCidr cidr
 key-range None text cidr e named = absurd (cc named)
 key-range (Some (key.Block r)) text cidr e named = let same : r ≡ cidr = cc named in subst (λ (x : CidrValue). IsCidr x) same (IsTextOf-key_read text (key.Block r) e).sound
 key-range (Some (key.Affinity node r)) text cidr e named = let same : r ≡ cidr = cc named in subst (λ (x : CidrValue). IsCidr x) same (IsTextOf-key_read text (key.Affinity node r) e).sound.1
@@ -176,7 +176,7 @@ key-range (Some key.Reservations) text cidr e named = absurd (cc named)
 key-range (Some (key.Handle id)) text cidr e named = absurd (cc named)
 
 module _ (texts : Texts) where
-  read-table : IsPoolTable (pools_read texts)
+  pub read-table : IsPoolTable (pools_read texts)
   read-table = from (row_of key.Pools (readable texts.rows)) refl
     where
       none : IsPoolTable []

@@ -30,7 +30,7 @@ use Rattle.ipam_laws.proofs.RowOrder.{sorted-with_row}
 -- ---- rows put in one after the other
 
 -- the rows by ascending keys
-gathered : List Row → List Row
+unfoldable pub gathered : List Row → List Row
 gathered [] = []
 gathered (row ∷ rows) = with_row row (gathered rows)
 
@@ -71,7 +71,7 @@ other-with_row row (first ∷ rows) x h differ = by (key_cmp (row_key row) (row_
     by Greater e (inl is) rest = subst (λ (z : Row). Contains (first ∷ with_row row rows) z) is (in-here first (with_row row rows))
     by Greater e (inr there) rest = in-there x first (with_row row rows) (rest there)
 
-gathered-in : (rows : List Row) (x : Row) → Contains (gathered rows) x → Contains rows x
+pub gathered-in : (rows : List Row) (x : Row) → Contains (gathered rows) x → Contains rows x
 unfolding gathered
 gathered-in [] x h = h
 gathered-in (row ∷ rows) x h = elim (in-with_row row (gathered rows) x h) [
@@ -79,7 +79,7 @@ gathered-in (row ∷ rows) x h = elim (in-with_row row (gathered rows) x h) [
   | inr there ↦ in-there x row rows (gathered-in rows x there)
 ]
 
-in-gathered : (rows : List Row) (x : Row) → AllPairs (λ (r s : Row). row_key r ≢ row_key s) rows → Contains rows x → Contains (gathered rows) x
+pub in-gathered : (rows : List Row) (x : Row) → AllPairs (λ (r s : Row). row_key r ≢ row_key s) rows → Contains rows x → Contains (gathered rows) x
 unfolding gathered
 in-gathered [] x differ h = h
 in-gathered (row ∷ rows) x differ h = elim (in-cons x row rows h) [
@@ -93,7 +93,7 @@ in-gathered (row ∷ rows) x differ h = elim (in-cons x row rows h) [
 -- ---- rows by the texts of their keys
 
 -- those that can be read have keys of their own
-readable-differ : (texts : List RowText) → AreByKey texts → AllPairs (λ (r s : Row). row_key r ≢ row_key s) (readable texts)
+pub readable-differ : (texts : List RowText) → AreByKey texts → AllPairs (λ (r s : Row). row_key r ≢ row_key s) (readable texts)
 unfolding IsStrictlySortedBy
 readable-differ [] sorted = λ i j d below within. absurd (omega arith)
 readable-differ (first ∷ texts) sorted = by (reading_of first) refl (readable-differ texts sorted.1)
@@ -125,7 +125,7 @@ readable-differ (first ∷ texts) sorted = by (reading_of first) refl (readable-
 
 module _ (texts : Texts) (by_key : AreByKey texts.rows) (may : MayBeOpened texts) where
   -- a row that can be read is sound
-  read-sound : (text : RowText) (found : Record) → Contains texts.rows text → reading_of text ≡ Ok found → IsRow texts.counter (text.revision, found)
+  pub read-sound : (text : RowText) (found : Record) → Contains texts.rows text → reading_of text ≡ Ok found → IsRow texts.counter (text.revision, found)
   read-sound text found among reads = record {
     is_record = (record_read text.key text.body found reads).sound;
     some = elim (cases_lt 0 text.revision) [
@@ -150,7 +150,7 @@ module _ (texts : Texts) (by_key : AreByKey texts.rows) (may : MayBeOpened texts
       counted (record_of.Affinity a) reads = tt
       counted (record_of.Handle handle) reads = tt
 
-  gathered-sound : IsDatastore (record { rows = gathered (readable texts.rows); counter = texts.counter })
+  pub gathered-sound : IsDatastore (record { rows = gathered (readable texts.rows); counter = texts.counter })
   gathered-sound = record {
     rows = all-of (IsRow texts.counter) (gathered (readable texts.rows)) (λ row there.
         let (text, among, revision, reads) = out-readable texts.rows row (gathered-in (readable texts.rows) row there) in

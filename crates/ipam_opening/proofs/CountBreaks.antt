@@ -1,18 +1,16 @@
 -- Which handles count too few addresses.
-use Rattle.std.proofs.Common.{◌≡◌, ◌≢◌, ◌⊎◌, ℕ, ◌<◌, ◌≤◌, inl, inr, Bool, true, false, cond, List, [], ◌∷◌, map, Option, Some, None, Result, Ok, Err, refl, sym, ap, ◌∙◌, subst, arith, ltb-true, option_map, bytes_eq}
+use Rattle.std.proofs.Common.{◌≡◌, ◌≢◌, ◌⊎◌, ℕ, ◌<◌, inl, inr, Bool, true, false, cond, List, [], ◌∷◌, map, Option, Some, None, Result, Ok, Err, refl, sym, ap, ◌∙◌, subst, arith, ltb-true, option_map}
 use Rattle.std.specs.Prelude.{Contains, nat_lt}
 use Rattle.std.specs.List.{count_by}
 use Rattle.std.specs.declared.cmp.Ordering.TheVariants.{Greater}
 use Rattle.std.specs.Cmp.Lexicographic.{slice_cmp}
 use Rattle.std.specs.Ordering.{nat_cmp}
-use Rattle.std.proofs.lemmas.Bool.{cases_Bool, lt-ltb}
-use Rattle.std.proofs.lemmas.List.Sums.{sum_by-cons}
+use Rattle.std.proofs.lemmas.Bool.{lt-ltb}
 use Rattle.std.proofs.lemmas.Slice.Eq.{bytes_eq-Decides}
 use Rattle.ipam_addr.specs.Shape.{CidrValue}
 use Rattle.ipam_block.specs.declared.allocation.Allocation.{Allocation}
 use Rattle.ipam_block.specs.Operations.{is_owned}
 use Rattle.ipam_block.specs.Shape.{BlockValue}
-use Rattle.ipam_records.specs.declared.call.Row.{Row as RowText}
 use Rattle.ipam_records.specs.declared.fault.TextFault.{TextFault}
 use Rattle.ipam_records.specs.declared.key.Key.TheVariants as key
 use Rattle.ipam_records.specs.declared.record.Record.{Record}
@@ -23,6 +21,7 @@ use Rattle.ipam_records.proofs.DatastoreLemmas.{row_key-row_of}
 use Rattle.ipam_model.specs.CountLaw.{count_in_row, handle_count, held_count, held_in_row}
 use Rattle.ipam_model.specs.Opened.{Texts, AreByKey, Breaks, CountTooLow, read_store, readable, reading_of}
 use Rattle.ipam_model.specs.Reads.{Row}
+use Rattle.ipam_laws.proofs.FirstFault.{owned-member}
 use Rattle.ipam_laws.proofs.Members.{in-cons, in-here, in-there, in-nothing, in-map, out-map}
 use Rattle.ipam_laws.proofs.OpenedRows.{out-readable}
 use Rattle.ipam_laws.proofs.RowOrder.{found-member}
@@ -126,19 +125,6 @@ module _ (rows : List Row) where
       back t s (inr there) = inr (record { block = s.block; there = there; of_block = s.of_block })
 
 -- ---- what breaks the rule
-
--- where some are owned, one is
-owned-member : (id : List ℕ) (xs : List Allocation) → 0 < count_by (is_owned id) xs → (a : Allocation) × Contains xs a × (is_owned id a ≡ true)
-owned-member id [] h = absurd (omega arith)
-owned-member id (x ∷ xs) h = by (is_owned id x) refl (owned-member id xs)
-  where
-    by : (b : Bool) → is_owned id x ≡ b → (0 < count_by (is_owned id) xs → (a : Allocation) × Contains xs a × (is_owned id a ≡ true)) → (a : Allocation) × Contains (x ∷ xs) a × (is_owned id a ≡ true)
-    by true e rest = (x, in-here x xs, e)
-    by false e rest =
-        let both = sum_by-cons (λ (a : Allocation). cond {A = ℕ} (is_owned id a) 1 0) x xs in
-        let none : cond {A = ℕ} (is_owned id x) 1 0 ≡ 0 = rw e refl in
-        let (a, among, owned) = rest (omega arith) in
-        (a, in-there a x xs among, owned)
 
 count-same : (rows : List Row) (id : List ℕ) (cidr : CidrValue) → count_found cidr (found_in (key.Handle id) rows) ≡ count_in_row id cidr (row_of (key.Handle id) rows)
 count-same rows id cidr = by (row_of (key.Handle id) rows)

@@ -1,5 +1,5 @@
 -- What is found by the text of a key.
-use Rattle.std.proofs.Common.{◌≡◌, ◌≢◌, ℕ, zero, suc, ◌<◌, ◌≤◌, inl, inr, Bool, true, false, cond, List, [], ◌∷◌, map, length, get_or, Option, Some, None, Result, Ok, Err, refl, sym, ap, ◌∙◌, subst, arith, bytes_eq, option_map}
+use Rattle.std.proofs.Common.{◌≡◌, ◌≢◌, ℕ, zero, suc, inl, inr, true, cond, List, [], ◌∷◌, map, get_or, Option, Some, None, Result, Ok, Err, refl, sym, ap, ◌∙◌, subst, bytes_eq, option_map}
 use Rattle.std.specs.Prelude.{Contains, slice_get}
 use Rattle.std.specs.declared.cmp.Ordering.{Ordering}
 use Rattle.std.specs.declared.cmp.Ordering.TheVariants.{Less, Equal, Greater}
@@ -16,7 +16,7 @@ use Rattle.ipam_records.specs.declared.call.Row.{Row as RowText}
 use Rattle.ipam_records.specs.declared.fault.TextFault.{TextFault}
 use Rattle.ipam_records.specs.declared.key.Key.{Key}
 use Rattle.ipam_records.specs.declared.record.Record.{Record}
-use Rattle.ipam_records.specs.Datastore.{row_key, row_of}
+use Rattle.ipam_records.specs.Datastore.{row_of}
 use Rattle.ipam_records.specs.Key.{key_of}
 use Rattle.ipam_records.specs.KeyOrder.{keys_equal}
 use Rattle.ipam_records.specs.KeyOrderLaws.{keys_equal-itself, same-keys_equal}
@@ -26,7 +26,7 @@ use Rattle.ipam_records.proofs.DatastoreLemmas.{row_key-row_of}
 use Rattle.ipam_records.proofs.RecordTexts.{record_read}
 use Rattle.ipam_model.specs.Opened.{AreByKey, readable, reading_of, row_read}
 use Rattle.ipam_model.specs.Reads.{Row}
-use Rattle.ipam_laws.proofs.Members.{in-cons, in-here, in-there, in-nothing}
+use Rattle.ipam_laws.proofs.Members.{in-cons, in-nothing}
 use Rattle.ipam_laws.proofs.OpenedRows.{out-readable}
 use Rattle.ipam_laws.proofs.RowOrder.{found-member}
 use Rattle.ipam_opening.specs.Rules.{found_in, if_key}

@@ -4,7 +4,6 @@ pub mod Firsts
 pub mod Slots
 pub mod RowBreaks
 pub mod CountBreaks
-pub mod NoMemory
 pub mod LimitBreaks
 pub mod Steps
 pub mod Telling

@@ -9,7 +9,6 @@ use Rattle.std.proofs.lemmas.Bool.{lt-ltb}
 use Rattle.ipam_records.specs.declared.call.Row.{Row as RowText}
 use Rattle.ipam_records.specs.declared.fault.TextFault.{TextFault}
 use Rattle.ipam_records.specs.declared.fault.TextFault.TheVariants as fault
-use Rattle.ipam_records.specs.declared.key.Key.{Key}
 use Rattle.ipam_records.specs.declared.record.Record.{Record}
 use Rattle.ipam_records.specs.declared.record.Record.TheVariants as record_of
 use Rattle.ipam_records.specs.Datastore.{last_revision, most_blocks, most_rows}
@@ -21,9 +20,9 @@ use Rattle.ipam_laws.proofs.OpenedRows.{key-is-read}
 use Rattle.ipam_opening.specs.Earlier.{earlier}
 use Rattle.ipam_opening.specs.Limits.{at_block, counter_above, is_block_read, left_behind, or_behind}
 use Rattle.ipam_opening.specs.Rules.{breaks, is_no_revision}
-use Rattle.ipam_opening.specs.Told.{IsClearBelow, IsFirst, IsFirstOf}
+use Rattle.ipam_opening.specs.Told.{IsClearBelow, IsFirstOf}
 use Rattle.ipam_opening.specs.declared.rule.Rule.TheVariants as rule
-use Rattle.ipam_opening.proofs.NoMemory.{record-no_memory}
+use Rattle.ipam_laws.proofs.AllRead.{record-no_memory}
 use Rattle.ipam_opening.proofs.Firsts.{IsKeyOf, first-earlier, first-found, first-same, itself-not}
 
 -- ---- the key of one row, if there is one

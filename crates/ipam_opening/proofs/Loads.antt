@@ -1,5 +1,5 @@
 -- The store while rows are loaded, from the last to the first.
-use Rattle.std.proofs.Common.{◌≡◌, ◌≢◌, ◌⊎◌, ℕ, zero, suc, ◌+◌, ◌<◌, ◌≤◌, inl, inr, Bool, true, false, cond, List, [], ◌∷◌, ◌++◌, map, length, Option, Some, None, Result, Ok, Err, refl, sym, ap, ◌∙◌, subst, arith, append_assoc}
+use Rattle.std.proofs.Common.{◌≡◌, ℕ, suc, ◌+◌, ◌<◌, ◌≤◌, inl, inr, Bool, true, false, cond, List, [], ◌∷◌, ◌++◌, map, length, Option, Some, None, Result, Ok, Err, refl, sym, ap, ◌∙◌, subst, arith, append_assoc}
 use Rattle.std.specs.Prelude.{Contains, IsTrue, slice_get}
 use Rattle.std.specs.Result.{ForOk}
 use Rattle.std.specs.declared.cmp.Ordering.{Ordering}
@@ -11,26 +11,25 @@ use Rattle.std.proofs.lemmas.List.{append-nil, length-append, length-map}
 use Rattle.ipam_records.specs.declared.call.Row.{Row as RowText}
 use Rattle.ipam_records.specs.declared.fault.TextFault.{TextFault}
 use Rattle.ipam_records.specs.declared.key.Key.{Key}
-use Rattle.ipam_records.specs.declared.key.Key.TheVariants as key
 use Rattle.ipam_records.specs.declared.key.Kind.TheVariants as kind
 use Rattle.ipam_records.specs.declared.record.Record.{Record}
-use Rattle.ipam_records.specs.declared.record.Record.TheVariants as record_of
 use Rattle.ipam_records.specs.Datastore.{Datastore, last_revision, most_blocks, most_rows, row_at, row_key, row_of, with_row}
 use Rattle.ipam_records.specs.Key.{key_of}
 use Rattle.ipam_records.specs.KeyOrder.{is_of_kind, key_cmp}
-use Rattle.ipam_records.specs.KeyText.{key_bytes, key_read}
+use Rattle.ipam_records.specs.KeyText.{key_bytes}
 use Rattle.ipam_records.specs.Sound.{IsRow}
 use Rattle.ipam_records.proofs.DatastoreLemmas.{row_key-row_of}
 use Rattle.ipam_store.specs.Granted.{HasRoomFor}
-use Rattle.ipam_model.specs.Opened.{Texts, AreByKey, MayBeOpened, OpensAs, CounterAboveLast, TooManyBlocks, TooManyRows, is_block_text, readable, reading_of, row_read}
+use Rattle.ipam_model.specs.Opened.{AreByKey, MayBeOpened, OpensAs, CounterAboveLast, TooManyBlocks, TooManyRows, is_block_text, readable, reading_of, row_read}
 use Rattle.ipam_model.specs.Reads.{Row}
 use Rattle.ipam_laws.proofs.Members.{in-place}
 use Rattle.ipam_laws.proofs.OpenedRows.{few-places, key-is-read, out-readable, readable-fewer}
+use Rattle.ipam_laws.proofs.OpensRows.{gathered, gathered-in, read-sound}
 use Rattle.ipam_laws.proofs.RowOrder.{found-member}
 use Rattle.ipam_opening.specs.Loading.{with_reading}
 use Rattle.ipam_opening.specs.Opening.{texts_with}
 use Rattle.ipam_opening.proofs.Found.{other-key, own-text}
-use Rattle.ipam_opening.proofs.Gathering.{gathered, gathered-in, opens-gathered, read-sound}
+use Rattle.ipam_opening.proofs.Gathering.{opens-gathered}
 
 -- what is left was read of the front, and the store has what was read of the back
 pub record IsLoading (rows : List RowText) (counter : ℕ) (left : List (Result Record TextFault)) (store : Datastore) : Type 0 where

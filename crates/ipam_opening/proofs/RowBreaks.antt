@@ -1,15 +1,14 @@
 -- Which rows break each rule.
-use Rattle.std.proofs.Common.{◌≡◌, ◌≢◌, ◌⊎◌, ℕ, zero, suc, ◌<◌, ◌≤◌, ◌+◌, inl, inr, Bool, true, false, cond, List, [], ◌∷◌, map, Option, Some, None, Result, Ok, Err, refl, sym, ap, ◌∙◌, subst, arith, ltb-true, eqb-true, eq-eqb, option_map, bytes_eq}
-use Rattle.std.specs.Prelude.{Contains, ◌&&◌, ◌||◌, ◌==◌, not, nat_le, nat_lt, is_none}
+use Rattle.std.proofs.Common.{◌≡◌, ℕ, inl, inr, Bool, true, false, List, Option, Some, None, Result, Ok, Err, refl, sym, ap, ◌∙◌, subst, arith, option_map}
+use Rattle.std.specs.Prelude.{Contains, ◌&&◌, not, is_none}
 use Rattle.std.specs.List.{find, list_any}
-use Rattle.std.proofs.lemmas.Bool.{cases_Bool, cases_lt, leb-true, lt-ltb, le-leb}
+use Rattle.std.proofs.lemmas.Bool.{cases_Bool, leb-true, le-leb}
 use Rattle.std.proofs.lemmas.Slice.Eq.{bytes_eq-Decides}
 use Rattle.ipam_addr.specs.Shape.{CidrValue}
 use Rattle.ipam_addr.specs.Width.{IsCidr}
 use Rattle.ipam_affinity.specs.declared.state.State.{State}
 use Rattle.ipam_affinity.specs.declared.state.State.TheVariants.{Pending, Confirmed, PendingDeletion}
 use Rattle.ipam_pool.specs.declared.pools.Pool.{Pool}
-use Rattle.ipam_pool.specs.Sound.{IsPoolTable}
 use Rattle.ipam_pool.specs.Slots.{is_slot_of}
 use Rattle.ipam_pool.proofs.SlotsLemmas.{any_slot}
 use Rattle.ipam_records.specs.declared.call.Row.{Row as RowText}
@@ -19,14 +18,11 @@ use Rattle.ipam_records.specs.declared.key.Key.{Key}
 use Rattle.ipam_records.specs.declared.key.Key.TheVariants as key
 use Rattle.ipam_records.specs.declared.record.Record.{Record}
 use Rattle.ipam_records.specs.declared.record.Record.TheVariants as record_of
-use Rattle.ipam_records.specs.Datastore.{last_revision, row_of}
+use Rattle.ipam_records.specs.Datastore.{row_of}
 use Rattle.ipam_records.specs.Key.{key_of}
 use Rattle.ipam_records.specs.KeyText.{key_bytes, key_read}
-use Rattle.ipam_records.specs.Sound.{IsRecord}
-use Rattle.ipam_records.proofs.KeyTextLemmas.{IsTextOf-key_read}
-use Rattle.ipam_records.proofs.RecordTexts.{record_read}
 use Rattle.ipam_model.specs.Consistent.{IsSlotOfSome, pools_in, pools_in_row}
-use Rattle.ipam_model.specs.Opened.{Texts, Breaks, NoText, AnotherKey, NoTable, NoSlot, NoBlock, CountTooLow, NoAffinityFor, NoNodeFor, TooManyRows, TooManyBlocks, NoRevision, AboveCounter, AboveLast, CounterAboveLast, AreByKey, IsBrokenBlock, cidr_of_key, pools_read, read_store, readable, reading_of}
+use Rattle.ipam_model.specs.Opened.{Texts, Breaks, NoText, AnotherKey, NoTable, NoSlot, NoBlock, NoAffinityFor, NoNodeFor, AreByKey, IsBrokenBlock, cidr_of_key, pools_read, read_store, readable, reading_of}
 use Rattle.ipam_model.specs.Reads.{Row}
 use Rattle.ipam_records.proofs.DatastoreLemmas.{row_key-row_of}
 use Rattle.ipam_affinity.specs.declared.record.Affinity.{Affinity}
@@ -34,9 +30,10 @@ use Rattle.ipam_block.specs.Shape as block
 use Rattle.ipam_model.specs.Affinities.{affinity}
 use Rattle.ipam_model.specs.AffinityLaw.{HasAffinity, HasNode}
 use Rattle.ipam_model.specs.Choice.{is_node}
+use Rattle.ipam_laws.proofs.FirstFault.{key-range, read-table}
 use Rattle.ipam_laws.proofs.OpenedRows.{out-readable}
 use Rattle.ipam_laws.proofs.RowOrder.{found-member}
-use Rattle.ipam_opening.specs.Rules.{breaks, has_fault, is_fault, is_broken_block, is_outside, pools_found, found_in, is_no_revision, is_block_alone, is_affinity_alone, lacks_affinity, is_confirmed, is_block_with}
+use Rattle.ipam_opening.specs.Rules.{breaks, has_fault, is_fault, is_broken_block, is_outside, pools_found, found_in, is_block_alone, is_affinity_alone, lacks_affinity, is_confirmed, is_block_with}
 use Rattle.ipam_opening.specs.Told.{IsClearBelow, IsFirstOf}
 use Rattle.ipam_opening.specs.declared.rule.Rule.{Rule}
 use Rattle.ipam_opening.specs.declared.rule.Rule.TheVariants as rule
@@ -108,16 +105,6 @@ is-broken revision (Err broken) h = ap (λ (t : TextFault). is_fault fault.Unsou
 
 -- ---- slots
 
--- the range that a key's text names
-key-range : (k : Option Key) (text : List ℕ) (cidr : CidrValue) → key_read text ≡ k → cidr_of_key k ≡ Some cidr → IsCidr cidr
-key-range None text cidr e named = absurd (cc named)
-key-range (Some (key.Block r)) text cidr e named = let same : r ≡ cidr = cc named in subst (λ (x : CidrValue). IsCidr x) same (IsTextOf-key_read text (key.Block r) e).sound
-key-range (Some (key.Affinity node r)) text cidr e named = let same : r ≡ cidr = cc named in subst (λ (x : CidrValue). IsCidr x) same (IsTextOf-key_read text (key.Affinity node r) e).sound.1
-key-range (Some key.Config) text cidr e named = absurd (cc named)
-key-range (Some key.Pools) text cidr e named = absurd (cc named)
-key-range (Some key.Reservations) text cidr e named = absurd (cc named)
-key-range (Some (key.Handle id)) text cidr e named = absurd (cc named)
-
 -- the pools that are found are those of the rows
 pools-same : (rows : List Row) → pools_found (found_in key.Pools rows) ≡ pools_in rows
 pools-same rows = by (row_of key.Pools rows)
@@ -132,41 +119,15 @@ pools-same rows = by (row_of key.Pools rows)
     by (Some (revision, record_of.Handle handle)) = refl
 
 module _ (texts : Texts) where
-  read-table : IsPoolTable (pools_read texts)
-  read-table = from (row_of key.Pools (readable texts.rows)) refl
-    where
-      none : IsPoolTable []
-      none = record {
-        few = omega arith;
-        ranges = λ k d within. absurd (omega arith);
-        sizes = λ k d within. absurd (omega arith);
-        names = λ i j d below within. absurd (omega arith);
-        apart = λ i j d below within. absurd (omega arith);
-      }
-
-      sound : (row : Row) → row_of key.Pools (readable texts.rows) ≡ Some row → IsRecord row.1
-      sound row e =
-          let (text, among, revision, reads) = out-readable texts.rows row (found-member key.Pools (readable texts.rows) row e) in
-          (record_read text.key text.body row.1 reads).sound
-
-      from : (o : Option Row) → row_of key.Pools (readable texts.rows) ≡ o → IsPoolTable (pools_in_row o)
-      from None e = none
-      from (Some (revision, record_of.Pools pools)) e = (sound (revision, record_of.Pools pools) e).table
-      from (Some (revision, record_of.Config config)) e = none
-      from (Some (revision, record_of.Reservations reservations)) e = none
-      from (Some (revision, record_of.Block b)) e = none
-      from (Some (revision, record_of.Affinity a)) e = none
-      from (Some (revision, record_of.Handle handle)) e = none
-
   outside-is : (cidr : CidrValue) → IsCidr cidr → is_outside (pools_read texts) (Some cidr) ≡ true → ¬ (IsSlotOfSome (pools_read texts) cidr)
   outside-is cidr range e (pool, (k, within, at), is) =
-      let some = (any_slot (pools_read texts) cidr read-table range).1 (k, pool, within, at, is) in
+      let some = (any_slot (pools_read texts) cidr (read-table texts) range).1 (k, pool, within, at, is) in
       let f : not true ≡ true = sym (ap not some) ∙ e in
       cc f
 
   is-outside : (cidr : CidrValue) → IsCidr cidr → ¬ (IsSlotOfSome (pools_read texts) cidr) → is_outside (pools_read texts) (Some cidr) ≡ true
   is-outside cidr range outside = elim (cases_Bool (list_any (λ p. is_slot_of p cidr) (pools_read texts))) [
-    | inl some ↦ let (k, pool, within, at, is) = (any_slot (pools_read texts) cidr read-table range).0 some in absurd (outside (pool, (k, within, at), is))
+    | inl some ↦ let (k, pool, within, at, is) = (any_slot (pools_read texts) cidr (read-table texts) range).0 some in absurd (outside (pool, (k, within, at), is))
     | inr none ↦ ap not none
   ]
 

@@ -1,20 +1,13 @@
 -- What is told of the first rule that is broken.
 use Rattle.std.specs.Prelude.{OnOk, IfErr}
-use Rattle.std.proofs.Common.{Result, Ok, Err, ◌≡◌, ◌≢◌, ◌⊎◌, ℕ, suc, ◌<◌, ◌≤◌, ◌+◌, inl, inr, List, Option, Some, None, refl, sym, subst, arith, map, ap, ◌∙◌, option_map}
-use Rattle.std.specs.Prelude.{slice_get}
-use Rattle.std.specs.List.{find}
+use Rattle.std.proofs.Common.{Result, Ok, Err, ◌≡◌, ℕ, ◌<◌, ◌+◌, inl, inr, List, Option, Some, None, sym, subst, arith}
 use Rattle.std.proofs.lemmas.Bool.{cases_lt}
-use Rattle.ipam_records.specs.declared.call.Row.{Row as RowText}
-use Rattle.ipam_records.specs.Datastore.{most_blocks, most_rows}
-use Rattle.ipam_model.specs.Opened.{Texts, AreByKey, Breaks, IsRefusedBy, MayBeOpened, NoText, AnotherKey, NoTable, NoSlot, NoBlock, CountTooLow, NoAffinityFor, NoNodeFor, TooManyRows, TooManyBlocks, NoRevision, AboveCounter, AboveLast, CounterAboveLast, readable, reading_of}
-use Rattle.ipam_opening.specs.Counts.{first_short}
-use Rattle.ipam_opening.specs.Earlier.{earlier}
-use Rattle.ipam_opening.specs.Limits.{at_block, counter_above}
+use Rattle.ipam_model.specs.Opened.{Texts, AreByKey, Breaks, IsRefusedBy, MayBeOpened, NoText, AnotherKey, NoTable, NoSlot, NoBlock, CountTooLow, NoAffinityFor, NoNodeFor, TooManyRows, TooManyBlocks, NoRevision, AboveCounter, AboveLast, CounterAboveLast}
 use Rattle.ipam_opening.specs.Opening.{IsFaultOf, IsToldOf}
 use Rattle.ipam_opening.specs.declared.fault.OpenFault.{OpenFault}
 use Rattle.ipam_opening.specs.declared.fault.OpenFault.TheVariants as fault
-use Rattle.ipam_opening.specs.Rules.{breaks, number_of}
-use Rattle.ipam_opening.specs.Told.{IsClearBelow, IsFirst, IsFirstOf, first_by}
+use Rattle.ipam_opening.specs.Rules.{number_of}
+use Rattle.ipam_opening.specs.Told.{IsClearBelow, IsFirstOf, first_by}
 use Rattle.ipam_opening.specs.declared.rule.Rule.{Rule}
 use Rattle.ipam_opening.specs.declared.rule.Rule.TheVariants as rule
 use Rattle.ipam_opening.proofs.RowBreaks.{first-form, first-other, first-table, first-slot, first-block, first-node, first-confirmed}
