@@ -1,5 +1,5 @@
 use crate::told::told;
-use ipam_records::{MOST_BLOCKS, Row};
+use ipam_records::{MOST_BLOCKS, MOST_ROWS, Row};
 use ipam_text::Text;
 use std::alloc::{AllocError, Global};
 use std::test::Fail;
@@ -29,28 +29,51 @@ fn pools(alloc: Global) -> Result<Row, AllocError> {
     })
 }
 
-fn told_of_blocks(alloc: Global, count: usize) -> Result<String, AllocError> {
+fn told_of_blocks(alloc: Global, count: usize, counter: u64) -> Result<String, AllocError> {
     let mut rows = Vec::new(alloc);
     for place in 0..count {
         let (third, last) = (place / 150 % 150, place % 150);
         rows.push(block(alloc, 100 + third, 100 + last)?)?;
     }
     rows.push(pools(alloc)?)?;
-    told(alloc, rows.as_slice(), 0)
+    told(alloc, rows.as_slice(), counter)
 }
 
-// In both the counter is below the revisions, which is a later fault.
+/// The row of a handle whose count nothing needs. The ids have six digits each.
+fn handle(alloc: Global, id: usize) -> Result<Row, AllocError> {
+    let key = format!(in alloc; "handle/h{id}")?;
+    let body = format!(in alloc; r#"{{"block":{{"10.0.0.0/30":1}},"handleID":"h{id}"}}"#)?;
+    Ok(Row {
+        key: Text::of(key),
+        revision: 1,
+        body: Text::of(body),
+    })
+}
+
+fn told_of_handles(alloc: Global, count: usize, counter: u64) -> Result<String, AllocError> {
+    let mut rows = Vec::new(alloc);
+    for place in 0..count {
+        rows.push(handle(alloc, place.wrapping_add(100_000))?)?;
+    }
+    told(alloc, rows.as_slice(), counter)
+}
+
+// Where the limit is passed the counter is below the revisions too, which is a later fault.
 
 #[test]
-fn so_many_blocks_are_none_too_many(rt: HostRuntime) -> Result<(), Fail> {
-    let full = told_of_blocks(rt.alloc(), MOST_BLOCKS)?;
-    assert_eq!(rt; full.as_str(), "rule 10: block/10.100.100.100/32");
+fn as_many_blocks_open_as_there_may_be(rt: HostRuntime) -> Result<(), Fail> {
+    let full = told_of_blocks(rt.alloc(), MOST_BLOCKS, 1)?;
+    assert_eq!(rt; full.as_str(), "16385 rows at 1");
+    let over = told_of_blocks(rt.alloc(), MOST_BLOCKS + 2, 0)?;
+    assert_eq!(rt; over.as_str(), "rule 9: block/10.100.209.134/32");
     Ok(())
 }
 
 #[test]
-fn the_first_block_too_many_is_told(rt: HostRuntime) -> Result<(), Fail> {
-    let over = told_of_blocks(rt.alloc(), MOST_BLOCKS + 2)?;
-    assert_eq!(rt; over.as_str(), "rule 9: block/10.100.209.134/32");
+fn as_many_rows_open_as_there_may_be(rt: HostRuntime) -> Result<(), Fail> {
+    let full = told_of_handles(rt.alloc(), MOST_ROWS, 1)?;
+    assert_eq!(rt; full.as_str(), "262144 rows at 1");
+    let over = told_of_handles(rt.alloc(), MOST_ROWS + 2, 0)?;
+    assert_eq!(rt; over.as_str(), "rule 9: handle/h362144");
     Ok(())
 }
