@@ -101,9 +101,12 @@ pub last_comes : (answer : Answer) (before : ℕ) (known left : Option (List ℕ
 last_comes answer before known None line same ended none some is = subst (λ k. IsNextOf answer (option_map (readings_from before) k) None) (sym same) tt
 last_comes answer before known (Some rest) line same ended none some is =
     let all : line ++ rest ≡ line = ap (λ (r : List ℕ). line ++ r) ended ∙ append-nil line in
-    subst (λ k. IsNextOf answer (option_map (readings_from before) k) (Some (readings_from before (line ++ rest)))) (sym same)
-    (readings_from before (line ++ rest), refl, last-next answer (reading_of (told before line)) (readings_from before (line ++ rest)) (readings_from before (line ++ rest)) is
-    (ap (readings_from before) all ∙ readings-last before line none some))
+    subst (λ k. IsNextOf answer (option_map (readings_from before) k) (Some (readings_from before (line ++ rest)))) (sym same) (
+      readings_from before (line ++ rest),
+      refl,
+      last-next answer (reading_of (told before line)) (readings_from before (line ++ rest)) (readings_from before (line ++ rest)) is
+          (ap (readings_from before) all ∙ readings-last before line none some),
+    )
 
 pub end_comes : (before : ℕ) (known left : Option (List ℕ)) (held : List ℕ) → known ≡ prepend_known held left → held ≡ [] → IsAtEnd left
     → IsNextOf (Ok next.End) (option_map (readings_from before) known) (option_map (readings_from before) (prepend_known held left))
@@ -141,11 +144,12 @@ unfolding readings_from
 long-readings before bytes long =
     let (line, more, same, enough) = first-part 1048577 bytes long.0 long.1 in
     let (rest, kept) = stays-first line more (omega arith) in
-    let behind_it = map reading_of (placed (before + length line + 1) rest) in
-    (behind_it,
+    let behind_it = map reading_of (placed (before + length line + 1) rest) in (
+      behind_it,
       ap (λ parts. map reading_of (placed before (without_empty_end parts))) same
-      ∙ ap (λ parts. map reading_of (placed before parts)) kept
-      ∙ ap (λ r. r ∷ behind_it) (is-long before line enough))
+          ∙ ap (λ parts. map reading_of (placed before parts)) kept
+          ∙ ap (λ r. r ∷ behind_it) (is-long before line enough),
+    )
 
 too-long-on : (held rest : List ℕ) → IsTooLong 1048577 held → IsTooLong 1048577 (held ++ rest)
 too-long-on held rest long = stays_too_long 1048577 held rest long

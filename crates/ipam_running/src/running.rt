@@ -6,8 +6,8 @@ ghost use Rattle.ipam_running.specs.Running.{running_rest, running_leaves, runni
 
 use crate::absent::{AbsentRelease, AbsentTurned};
 use crate::arms::{
-    absent_goes, add_goes, add_this_goes, admin_goes, check_goes, collect_goes, del_goes, probe_goes,
-    release_goes,
+    absent_goes, add_goes, add_this_goes, admin_goes, check_goes, collect_goes, del_goes,
+    probe_goes, release_goes,
 };
 use crate::begun::kept_of;
 use crate::taken::turned_of;

@@ -12,27 +12,27 @@ returns-in-Ok-Line-clause-next g c =
     let at : OnLine c.line.result (c.line.new.self.before.bytes ≡ c.args.self.now.before.bytes + length c.in-Ok-Line.bytes.items + 1) =
     rw c.deref.ensures.value at c.line.ensures.before in
     let same : prepend_known c.args.self.now.lines (g.S.Source.left c.args.source.now)
-        ≡ prepend_known ((c.in-Ok-Line.bytes.items ++ 10 ∷ []) ++ c.next.new.self) (g.S.Source.left c.next.new.source) = rw c.in-Ok-Line.field-0-is at c.in-Ok-Line.ensures.bytes in
+    ≡ prepend_known ((c.in-Ok-Line.bytes.items ++ 10 ∷ []) ++ c.next.new.self) (g.S.Source.left c.next.new.source) = rw c.in-Ok-Line.field-0-is at c.in-Ok-Line.ensures.bytes in
     let line : IsLine 1048577 c.in-Ok-Line.bytes.items = rw c.in-Ok-Line.field-0-is at c.in-Ok-Line.ensures.line in
     rw c.line.ensures.lines (line_comes c.line.result c.args.self.now.before.bytes c.line.new.self.before.bytes _ (g.S.Source.left c.next.new.source) c.in-Ok-Line.bytes.items c.next.new.self same line.0 asks at)
 
 pub returns-in-Ok-Cut-clause-next : goal.returns-in-Ok-Cut-clause-next
 returns-in-Ok-Cut-clause-next g c =
     let same : prepend_known c.args.self.now.lines (g.S.Source.left c.args.source.now)
-        ≡ prepend_known c.next.new.self (g.S.Source.left c.next.new.source) = rw c.in-Ok-Cut.field-0-is at c.in-Ok-Cut.ensures.bytes in
+    ≡ prepend_known c.next.new.self (g.S.Source.left c.next.new.source) = rw c.in-Ok-Cut.field-0-is at c.in-Ok-Cut.ensures.bytes in
     let cut : IsLine 1048577 c.next.new.self × (c.next.new.self ≢ []) × IsAtEnd (g.S.Source.left c.next.new.source) = rw c.in-Ok-Cut.field-0-is at c.in-Ok-Cut.ensures.cut in
     last_comes c.last.result c.args.self.now.before.bytes _ (g.S.Source.left c.next.new.source) c.next.new.self same cut.2 cut.0.0 cut.1 c.last.ensures.told
 
 pub returns-in-Ok-End-clause-next : goal.returns-in-Ok-End-clause-next
 returns-in-Ok-End-clause-next g c =
     let same : prepend_known c.args.self.now.lines (g.S.Source.left c.args.source.now)
-        ≡ prepend_known c.next.new.self (g.S.Source.left c.next.new.source) = rw c.in-Ok-End.field-0-is at c.in-Ok-End.ensures.bytes in
+    ≡ prepend_known c.next.new.self (g.S.Source.left c.next.new.source) = rw c.in-Ok-End.field-0-is at c.in-Ok-End.ensures.bytes in
     let end : (c.next.new.self ≡ []) × IsAtEnd (g.S.Source.left c.next.new.source) = rw c.in-Ok-End.field-0-is at c.in-Ok-End.ensures.end in
     end_comes c.args.self.now.before.bytes _ (g.S.Source.left c.next.new.source) c.next.new.self same end.0 end.1
 
 pub returns-in-Err-TooLong-clause-next : goal.returns-in-Err-TooLong-clause-next
 returns-in-Err-TooLong-clause-next g c =
     let same : prepend_known c.args.self.now.lines (g.S.Source.left c.args.source.now)
-        ≡ prepend_known c.next.new.self (g.S.Source.left c.next.new.source) = c.in-Err-TooLong.ensures.bytes in
+    ≡ prepend_known c.next.new.self (g.S.Source.left c.next.new.source) = c.in-Err-TooLong.ensures.bytes in
     let long : IsTooLong 1048577 c.next.new.self = rw c.in-Err-TooLong.field-0-is at c.in-Err-TooLong.ensures.too_long in
     long_comes c.args.self.now.before.bytes _ (g.S.Source.left c.next.new.source) c.next.new.self same long
