@@ -1,6 +1,6 @@
 -- The text of what comes of a script.
 use Rattle.std.specs.Prelude.{ℕ, List, [], ◌∷◌, ◌++◌, codes, decimal}
-use Rattle.ipam_answer_text.specs.Entry.{entry_line}
+use Rattle.ipam_answer_text.specs.Entries.{entry_line}
 use Rattle.ipam_model.specs.declared.entry.Entry.{Entry}
 use Rattle.ipam_play.specs.declared.kind.Kind.{Kind}
 use Rattle.ipam_play.specs.declared.kind.Kind.TheVariants.{Long, Unreadable, Base, Busy, Idle, Waiting, NotWaiting, TooSoon, Worn}

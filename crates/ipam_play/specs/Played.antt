@@ -1,5 +1,5 @@
 -- What comes of a script: entries, and how it ends.
-use Rattle.std.specs.Prelude.{◌≡◌, ℕ, ◌-◌, nat_lt, nat_max, List, [], ◌∷◌, ◌++◌, length, map, Option, Some, None, if◌then◌else◌}
+use Rattle.std.specs.Prelude.{◌≡◌, ℕ, ◌-◌, nat_lt, List, [], ◌∷◌, ◌++◌, length, map, Option, Some, None, if◌then◌else◌}
 use Rattle.std.specs.List.Sorted.{IsPermutation}
 use Rattle.ipam_records.specs.declared.call.Row.{Row as RowText}
 use Rattle.ipam_records.specs.Datastore.{Datastore}
@@ -23,7 +23,7 @@ pub data Ending : Type 0 where
 
 unfoldable pub greatest : List RowText → ℕ
 greatest [] = 0
-greatest (row ∷ rows) = nat_max row.revision (greatest rows)
+greatest (row ∷ rows) = if nat_lt (greatest rows) row.revision then row.revision else greatest rows
 
 -- without a counter it is the greatest revision, or 0
 abbrev pub counter_of : Gathered → ℕ
