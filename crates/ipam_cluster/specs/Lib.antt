@@ -1,3 +1,0 @@
-pub mod Busy
-pub mod Cluster
-pub mod Slots
