@@ -1,5 +1,5 @@
 #!/usr/bin/env python3
-"""Writes crates/ipam_resources_tests/src/table_tests.rt: documents of resources and what must be read from each.
+"""Writes tables.rt and table_tests.rt of crates/ipam_resources_tests/src: documents of resources and what must be read from each.
 
 The reader below is written from the format alone, over Python's own `json` and `ipaddress`. A row
 has a document and what is told of it: for each resource its line and the text of the request that it
@@ -15,7 +15,7 @@ from pathlib import Path
 
 from selector_table import TEXT_MAX, Bad, Parser, printed
 
-OUT = Path(__file__).resolve().parent.parent / "crates/ipam_resources_tests/src/table_tests.rt"
+OUT = Path(__file__).resolve().parent.parent / "crates/ipam_resources_tests/src"
 NAME = re.compile(r"[A-Za-z0-9][A-Za-z0-9_.-]{0,252}")
 KINDS = ("IPPool", "IPReservation", "IPAMConfig", "IPAMConfiguration")
 LISTS = ("List", "IPPoolList", "IPReservationList")
@@ -458,18 +458,25 @@ def main():
     real, others = all_documents()
     groups = {"REAL": real}
     groups.update({f"OTHERS_{n + 1}": others[n * 40 : n * 40 + 40] for n in range((len(others) + 39) // 40)})
-    tables = "".join(f'const {name}: &str = "\\\n{table(group)}";\n\n' for name, group in groups.items())
+    tables = "".join(f'pub(crate) const {name}: &str = "\\\n{table(group)}";\n' for name, group in groups.items())
     tests = "".join(TEST.format(test=name.lower(), name=name, count=len(group)) for name, group in groups.items())
-    OUT.write_text(SOURCE + tables + TELLING + tests)
+    (OUT / "tables.rt").write_text(TABLES + tables.rstrip("\n") + "\n")
+    names = ", ".join(sorted(groups))
+    (OUT / "table_tests.rt").write_text(SOURCE.replace("NAMES", names) + TELLING + tests)
     refused = sum(answer(one).startswith("refused") for one in real + others)
     print(f"{len(real) + len(others)} documents, {refused} refused")
 
 
-SOURCE = """\
+TABLES = """\
 // Written by tools/resource_table.py: change that, and not this file.
 // Each row has a document, and what is told of it: for each resource its line and the text of the
 // request that it becomes, or the line of the document's fault. The first table has documents as
 // `kubectl get .. -o json` prints them.
+"""
+
+SOURCE = """\
+// Written by tools/resource_table.py: change that, and not this file.
+use crate::tables::{NAMES};
 use ipam_model::Request;
 use ipam_request_text::push_request;
 use ipam_resources::{DocumentFault, Resource, push_applied, push_document_fault, read_resources};

@@ -7,3 +7,5 @@ mod limit_tests;
 mod line_tests;
 #[cfg(test)]
 mod table_tests;
+#[cfg(test)]
+mod tables;
