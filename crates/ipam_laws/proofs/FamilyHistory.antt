@@ -45,7 +45,7 @@ use Rattle.ipam_laws.proofs.Trails.{Comes, Did, DidAt, Got, IsBegun, IsTrail, Tr
 
 -- ---- the step of a moment
 
-told-can : (said : Said) (revision : ℕ) → told_of said ≡ told_of_call.Done revision → said ≡ Can revision
+pub told-can : (said : Said) (revision : ℕ) → told_of said ≡ told_of_call.Done revision → said ≡ Can revision
 told-can (Found old found) revision e = absurd (cc e)
 told-can Missing revision e = absurd (cc e)
 told-can (Listed rows) revision e = absurd (cc e)
@@ -72,14 +72,14 @@ three k m = elim (cases_Bool (nat_lt k m)) [
 pub same-call : (span : Span) (moment : ℕ) (one other : Called) → InSpan span moment (entry.Called one) → InSpan span moment (entry.Called other) → one ≡ other
 same-call span moment one other a b = let both : Some (entry.Called one) ≡ Some (entry.Called other) = sym a.is_there ∙ b.is_there in cc both
 
-fed-not-called : (span : Span) (moment at : ℕ) (live : List (List ℕ)) (c : Called) → InSpan span moment (entry.Fed span.slot at live) → ¬ (InSpan span moment (entry.Called c))
+pub fed-not-called : (span : Span) (moment at : ℕ) (live : List (List ℕ)) (c : Called) → InSpan span moment (entry.Fed span.slot at live) → ¬ (InSpan span moment (entry.Called c))
 fed-not-called span moment at live c a b = let both : Some (entry.Fed span.slot at live) ≡ Some (entry.Called c) = sym a.is_there ∙ b.is_there in absurd (cc both)
 
 began-not-called : (span : Span) (c : Called) → IsBegun span → ¬ (InSpan span (begin_moment span) (entry.Called c))
 began-not-called span c a b = let both : Some (entry.Began span.slot a.request) ≡ Some (entry.Called c) = sym a.in_span.is_there ∙ b.is_there in absurd (cc both)
 
 -- nothing comes before the first step
-none-first : (span : Span) (k upto : ℕ) (c : Called) → IsBegun span → IsNext span (begin_moment span) upto → k < upto → ¬ (InSpan span k (entry.Called c))
+pub none-first : (span : Span) (k upto : ℕ) (c : Called) → IsBegun span → IsNext span (begin_moment span) upto → k < upto → ¬ (InSpan span k (entry.Called c))
 none-first span k upto c begun next below inside = elim (three k (begin_moment span)) [
   | inl early ↦ let since = inside.since in absurd (omega arith)
   | inr (inl same) ↦ began-not-called span c begun (subst (λ (m : ℕ). InSpan span m (entry.Called c)) same inside)

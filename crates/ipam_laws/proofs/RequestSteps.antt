@@ -75,7 +75,7 @@ use Rattle.ipam_laws.proofs.PartSteps.{Any, still, Steps, any-lasts}
 use Rattle.ipam_laws.proofs.WriteSteps.{block-read, free-steps, free-label, release-steps}
 use Rattle.ipam_laws.proofs.WordSteps.{ArePoolsKnown, pools-read, Keeps, Lawful, LawfulAfter, LawfulOn, LawfulNext, unowned-nobodys, lawful-both, followed-keeps, followed-lawful, settled-lawful, rounds-lawful, own-known, assign-keeps, claim_for-keeps, serve-lawful, five_reads-steps}
 
-owned-picks : (id : List ℕ) (a : Allocation) → is_owned id a ≡ true → is_owned id a ≡ true
+pub owned-picks : (id : List ℕ) (a : Allocation) → is_owned id a ≡ true → is_owned id a ≡ true
 owned-picks id a h = h
 
 -- what is picked by its stamp is the handle's own
@@ -91,7 +91,7 @@ stamped-own ordinal id stamp a h = from (a.ordinal == ordinal) (a.stamp == stamp
 free-lawful : (what : Freeing) (left : Left) → OwnPicks what → Lawful (free what left)
 free-lawful what left own known = (free-label what left, free-steps what left own known)
 
-one-picks : (id : List ℕ) (cidr : CidrValue) (ordinal stamp : ℕ) → OwnPicks (freeing_one id cidr ordinal stamp)
+pub one-picks : (id : List ℕ) (cidr : CidrValue) (ordinal stamp : ℕ) → OwnPicks (freeing_one id cidr ordinal stamp)
 one-picks id cidr ordinal stamp = stamped-own ordinal id stamp
 
 -- ---- ADD of each wanted family

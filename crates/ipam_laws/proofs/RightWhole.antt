@@ -1,4 +1,4 @@
--- All that is proved of every lawful history, at once.
+-- All that holds of every lawful history, at once.
 use Rattle.std.proofs.Common.{◌≡◌, List, ◌∷◌, drop, Some, refl, sym, subst}
 use Rattle.ipam_model.specs.declared.answer.Answer.{Answer}
 use Rattle.ipam_model.specs.declared.entry.Entry.{Entry}
@@ -10,10 +10,9 @@ use Rattle.ipam_model.specs.BoundLaw.{whole_collect, whole_del}
 use Rattle.ipam_model.specs.Consistent.{IsConsistent}
 use Rattle.ipam_model.specs.History.{Base, Lawful, cluster_at, store_at}
 use Rattle.ipam_model.specs.Moments.{request_in}
-use Rattle.ipam_model.specs.Right.{IsBounded, IsEntryRight}
-use Rattle.ipam_laws.specs.RightSoFar.{IsRightSoFarAt, RightSoFarLaw}
-use Rattle.ipam_laws.proofs.AffinityHistory.{label_points_law}
-use Rattle.ipam_laws.proofs.CountHistory.{credit_law}
+use Rattle.ipam_model.specs.Right.{IsBounded, IsEntryRight, IsRightAt, RightLaw}
+use Rattle.ipam_laws.proofs.LabelHistory.{labels_law}
+use Rattle.ipam_laws.proofs.LabelLaws.{credits_law, points_law}
 use Rattle.ipam_laws.proofs.OneRecord.{drop-lawful}
 use Rattle.ipam_laws.proofs.OwnersHistory.{owners_law}
 use Rattle.ipam_laws.proofs.OwnersOrder.{owners_order}
@@ -40,16 +39,17 @@ answers_law a c h told requested given = answered-right a c h a.request refl tol
 
 -- ---- moments and entries
 
-moment-right : (base : Base) (history : List Entry) → IsConsistent base.store → Lawful base history → IsRightSoFarAt base history
+moment-right : (base : Base) (history : List Entry) → IsConsistent base.store → Lawful base history → IsRightAt base history
 moment-right base history c h =
     let here = consistent_law base history c h in
-    let points = label_points_law base history c.sound c.agrees h in
+    let points = points_law base history c.sound c.agrees h in
     record {
       consistent = here;
       owners_in_order = owners_order (store_at base history) here;
-      credits_covered = λ id cidr. credit_law base history c.sound c.covered h id cidr;
+      credits = credits_law base history c.sound c.covered h;
       points = points.0;
       kept = points.1;
+      labels = λ slot running runs. labels_law base history slot running c.sound h runs;
     }
 
 entry-right : (base : Base) (history : List Entry) (new : Entry) → IsConsistent base.store → Lawful base (new ∷ history) → IsEntryRight base history new
@@ -72,8 +72,8 @@ bounded base history h = record {
   collect = λ collect same is there. collect_calls collect (subst (λ (b : Base). Lawful b (whole_collect collect)) (sym same) (subst (λ (l : List Entry). Lawful base l) (sym is) h)) there;
 }
 
-pub right_so_far : RightSoFarLaw
-right_so_far base history c h = record {
+pub right_law : RightLaw
+right_law base history c h = record {
   lawful = h;
   at_moments = λ many. moment-right base (drop many history) c (drop-lawful base many history h);
   entries = λ many new earlier is. entry-right base earlier new c (subst (λ (l : List Entry). Lawful base l) is (drop-lawful base many history h));

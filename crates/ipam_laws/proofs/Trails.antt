@@ -80,7 +80,7 @@ Comes-more R Q more (Waits next) trail h = λ moment at live.
 abbrev pub grown : Span → Entry → Span
 grown span new = record span { history = new ∷ span.history }
 
-before-later : (span : Span) (new : Entry) (moment : ℕ) → moment ≤ now span → before span.base (new ∷ span.history) moment ≡ before span.base span.history moment
+pub before-later : (span : Span) (new : Entry) (moment : ℕ) → moment ≤ now span → before span.base (new ∷ span.history) moment ≡ before span.base span.history moment
 before-later span new moment early =
     let steps : moment_of span.base (new ∷ span.history) - moment ≡ suc (moment_of span.base span.history - moment) = omega arith in
     ap (λ n. drop n (new ∷ span.history)) steps
@@ -97,14 +97,14 @@ entry-later span new moment early =
     first [] = None
     first (one ∷ rest) = Some one
 
-begin-later : (span : Span) (new : Entry) → begins span.slot new ≡ false → begin_moment (grown span new) ≡ begin_moment span
+pub begin-later : (span : Span) (new : Entry) → begins span.slot new ≡ false → begin_moment (grown span new) ≡ begin_moment span
 unfolding since_begin
 begin-later span new not =
     let more : length (since_begin span.slot (new ∷ span.history)) ≡ suc (length (since_begin span.slot span.history)) =
     ap (λ (b : Bool). suc (length (cond b [] (since_begin span.slot span.history)))) not in
     omega (arith, more)
 
-in-span-later : (span : Span) (new : Entry) (moment : ℕ) (there : Entry) → begins span.slot new ≡ false → InSpan span moment there → InSpan (grown span new) moment there
+pub in-span-later : (span : Span) (new : Entry) (moment : ℕ) (there : Entry) → begins span.slot new ≡ false → InSpan span moment there → InSpan (grown span new) moment there
 in-span-later span new moment there not h =
     let begin = begin-later span new not in
     let since = h.since in
@@ -354,14 +354,14 @@ made c store moment (Waits next) e = absurd (cc e)
 made c store moment (Asks label asked next) e = record { label = label; asked = asked; next = next; is_word = refl; is_call = cc e }
 
 -- what a call that was done says of its entry
-record IsWell (c : Called) (store : Datastore) (asked : Call) (answer : Option Answer) : Type 0 where
-  call : c.call ≡ name_of asked
-  reply : c.reply ≡ told_of (reply_of store asked)
-  is_written : c.written ≡ record_written asked (reply_of store asked)
-  answers : c.answer ≡ answer
-  next : store_after c store ≡ behind store asked
+pub record IsWell (c : Called) (store : Datastore) (asked : Call) (answer : Option Answer) : Type 0 where
+  pub call : c.call ≡ name_of asked
+  pub reply : c.reply ≡ told_of (reply_of store asked)
+  pub is_written : c.written ≡ record_written asked (reply_of store asked)
+  pub answers : c.answer ≡ answer
+  pub next : store_after c store ≡ behind store asked
 
-well : (c : Called) (store : Datastore) (asked : Call) (answer : Option Answer) → called c.slot c.fate asked (reply_of store asked) answer ≡ c → c.fate ≡ Well → IsWell c store asked answer
+pub well : (c : Called) (store : Datastore) (asked : Call) (answer : Option Answer) → called c.slot c.fate asked (reply_of store asked) answer ≡ c → c.fate ≡ Well → IsWell c store asked answer
 well c store asked answer e fate =
     let is : called c.slot Well asked (reply_of store asked) answer ≡ c = ap (λ (f : Fate). called c.slot f asked (reply_of store asked) answer) (sym fate) ∙ e in
     subst (λ (x : Called). IsWell x store asked answer) is (record {
@@ -373,7 +373,7 @@ well c store asked answer e fate =
     })
 
 -- a request that goes on was not failed
-goes-well : (fate : Fate) (slot : ℕ) (asked : Call) (reply : Said) (answer : Option Answer) (c : Called) → called slot fate asked reply answer ≡ c → c.answer ≡ None → fate ≡ Well
+pub goes-well : (fate : Fate) (slot : ℕ) (asked : Call) (reply : Said) (answer : Option Answer) (c : Called) → called slot fate asked reply answer ≡ c → c.answer ≡ None → fate ≡ Well
 goes-well Well slot asked reply answer c e none = refl
 goes-well Before slot asked reply answer c e none = let f = ap (λ (x : Called). x.answer) e ∙ none in absurd (cc f)
 goes-well After slot asked reply answer c e none = let f = ap (λ (x : Called). x.answer) e ∙ none in absurd (cc f)

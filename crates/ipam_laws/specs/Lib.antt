@@ -1,3 +1,2 @@
 -- Most laws are stated in the model.
 pub mod RightAnswers
-pub mod RightSoFar

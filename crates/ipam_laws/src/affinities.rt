@@ -1,6 +1,6 @@
 //! Blocks and affinities over a whole history: a block and its affinity agree, so no block is
 //! confirmed to two nodes.
-ghost use Rattle.ipam_model.specs.AffinityLaw.{AffinityLaw, LabelPointsLaw, OneNodeLaw};
+ghost use Rattle.ipam_model.specs.AffinityLaw.{AffinityLaw, LabelPointsLaw, OneNodeLaw, PointsLaw};
 
 /// At each moment, a block that has a node has that node's affinity, and the block of a confirmed
 /// affinity is there with its node.
@@ -19,4 +19,9 @@ pub fn no_block_is_confirmed_to_two_nodes()
 /// it keeps was read as its point says, current or not.
 pub fn points_of_claims_and_releases_agree()
     ensures { LabelPointsLaw }
+{}
+
+/// The same of a claimer or a releaser that stands between its writes by the calls that it has made.
+pub fn points_of_claims_and_releases_agree_by_their_calls()
+    ensures { PointsLaw }
 {}

@@ -10,6 +10,7 @@ pub mod counts;
 pub mod courses;
 pub mod datastore;
 pub mod faults;
+pub mod labels;
 pub mod opening;
 pub mod owners;
 pub mod records;

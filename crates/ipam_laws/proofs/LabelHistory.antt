@@ -1,0 +1,176 @@
+-- In every lawful history the label of what runs in a slot says what the calls of its span have made.
+use Rattle.std.proofs.Common.{◌≡◌, ℕ, ◌-◌, Bool, true, false, List, [], ◌∷◌, Option, Some, None, refl, sym, ap, ◌∙◌, subst}
+use Rattle.std.specs.Prelude.{◌||◌, IsTrue, option_map}
+use Rattle.ipam_records.specs.Sound.{IsDatastore}
+use Rattle.ipam_records.specs.Word.{Word, Ends, Asks, Waits, ended, fed, label_of, waits}
+use Rattle.ipam_records.specs.Datastore.{reply_of}
+use Rattle.ipam_model.specs.declared.answer.Answer.{Answer}
+use Rattle.ipam_model.specs.declared.entry.Called.{Called}
+use Rattle.ipam_model.specs.declared.entry.Entry.{Entry}
+use Rattle.ipam_model.specs.declared.entry.Entry.TheVariants as entry
+use Rattle.ipam_model.specs.declared.request.AddRequest.{AddRequest}
+use Rattle.ipam_model.specs.declared.request.ProbeRequest.{ProbeRequest}
+use Rattle.ipam_model.specs.declared.request.Request.{Request}
+use Rattle.ipam_model.specs.declared.request.Request.TheVariants.{Add, AddThis, Del, Check, Release, Collect, Admin, Probe}
+use Rattle.ipam_model.specs.Add.{add_each, add_stops}
+use Rattle.ipam_model.specs.Look.{probe_each}
+use Rattle.ipam_model.specs.Step.{all_left, rounds, settled, tries}
+use Rattle.ipam_model.specs.Told.{of_add, of_probe}
+use Rattle.ipam_model.specs.Usable.{families_if}
+use Rattle.ipam_model.specs.Cluster.{Running, after, answered, begun, fed_with, goes_on}
+use Rattle.ipam_model.specs.History.{Base, Lawful, MayCall, Span, before, cluster_at, moment_of, now, store_at}
+use Rattle.ipam_model.specs.LabelLaw.{LabelsLaw}
+use Rattle.ipam_model.specs.Moments.{request_in}
+use Rattle.ipam_model.specs.Requests.{told_as, word_of}
+use Rattle.ipam_model.specs.SoundRequest.{IsSoundRequest}
+use Rattle.ipam_laws.proofs.OneRecord.{drop-lawful}
+use Rattle.ipam_laws.proofs.Says.{Any, Says, Tells}
+use Rattle.ipam_laws.proofs.SaysWords.{all-say}
+use Rattle.ipam_laws.proofs.SoundHistory.{sound_law}
+use Rattle.ipam_laws.proofs.SpanPoints.{stands-exactly}
+use Rattle.ipam_laws.proofs.SpanSteps.{owes-exactly}
+use Rattle.ipam_laws.proofs.Trails.{Did, Got, IsTrail, Lasts, RunComes, SlotComes, Trail, goes-well, made, slot-comes, span_at, well}
+use Rattle.ipam_laws.proofs.KeptWords.{slot-is}
+
+-- ---- what runs has a call to make, or waits
+
+abbrev pub IsOn : Word Answer → Type 0
+IsOn word = ended word ≡ None
+
+-- ---- the stores of a trail are sound
+
+unfoldable AllSound : Trail → Type 0
+AllSound [] = Unit {0}
+AllSound (Did moment store asked ∷ trail) = IsDatastore store × AllSound trail
+AllSound (Got moment at live ∷ trail) = AllSound trail
+
+trail-sound : (span : Span) → IsDatastore span.base.store → Lawful span.base span.history → (trail : Trail) (upto : ℕ) → IsTrail span upto trail → AllSound trail
+unfolding IsTrail AllSound
+trail-sound span sound h [] upto is = tt
+trail-sound span sound h (Did moment store asked ∷ trail) upto is = (
+  subst (λ s. IsDatastore s) is.0.before_it (sound_law span.base (before span.base span.history moment) sound (drop-lawful span.base (now span - moment) span.history h)),
+  trail-sound span sound h trail moment is.2,
+)
+trail-sound span sound h (Got moment at live ∷ trail) upto is = trail-sound span sound h trail moment is.2
+
+-- ---- what is left says so
+
+all-says : Lasts (λ request trail word. AllSound trail → Says request Any trail word)
+unfolding AllSound
+all-says = record {
+  starts = λ request sound. all-say request;
+  hears = λ request trail label asked next h moment store agrees sound. (h sound.1).1 moment store agrees sound.0;
+  feeds = λ request trail next h moment at live sound. ((h sound).1 moment at live).1;
+}
+
+word-tells : (request : Request) (trail : Trail) (word : Word Answer) → IsOn word → Says request Any trail word → Tells request trail (label_of word)
+word-tells request trail (Ends answer) on h = absurd (cc on)
+word-tells request trail (Asks label asked next) on h = h.0
+word-tells request trail (Waits next) on h = h.0
+
+-- ---- nothing that has ended runs
+
+families-on : (request : AddRequest) → IsTrue (request.ipv4 || request.ipv6) → IsOn (word_of (Add request))
+unfolding word_of add_each rounds
+families-on request some = by request.ipv4 request.ipv6 some
+  where
+    by : (four six : Bool) → IsTrue (four || six) → ended (told_as of_add (settled add_stops (add_each request [] (families_if four six) all_left))) ≡ None
+    by true true t = refl
+    by true false t = refl
+    by false true t = refl
+    by false false t = absurd (cc t)
+
+probe-on : (request : ProbeRequest) → IsTrue (request.ipv4 || request.ipv6) → IsOn (word_of (Probe request))
+unfolding word_of probe_each
+probe-on request some = by request.ipv4 request.ipv6 some
+  where
+    by : (four six : Bool) → IsTrue (four || six) → ended (told_as of_probe (probe_each request [] (families_if four six))) ≡ None
+    by true true t = refl
+    by true false t = refl
+    by false true t = refl
+    by false false t = absurd (cc t)
+
+pub begun-on : (request : Request) → IsSoundRequest request → IsOn (word_of request)
+unfolding word_of tries rounds
+begun-on (Add request) sound = families-on request sound.1
+begun-on (AddThis request address) sound = refl
+begun-on (Del id) sound = refl
+begun-on (Check id addresses) sound = refl
+begun-on (Release node cidr) sound = refl
+begun-on (Collect request) sound = refl
+begun-on (Admin setting) sound = refl
+begun-on (Probe request) sound = probe-on request sound.some_family
+
+-- ---- what runs has not ended
+
+abbrev pub SlotIsOn : Option Running → Type 0
+SlotIsOn None = Unit {0}
+SlotIsOn (Some running) = IsOn running.word
+
+abbrev LeftSays : Request → Trail → Word Answer → Type 0
+LeftSays request trail word = AllSound trail → Says request Any trail word
+
+-- what is left of the request that runs in the slot
+slot-says : (base : Base) (history : List Entry) → IsDatastore base.store → Lawful base history → (slot : ℕ) → SlotComes LeftSays all-says base history slot ((cluster_at base history).slots slot)
+slot-says base history sound h slot = slot-comes LeftSays all-says base history sound h slot
+
+run-says : (base : Base) (history : List Entry) → IsDatastore base.store → Lawful base history → (slot : ℕ) (running : Running) → (cluster_at base history).slots slot ≡ Some running → RunComes LeftSays all-says base history slot running
+run-says base history sound h slot running runs = subst (λ (o : Option Running). SlotComes LeftSays all-says base history slot o) runs (slot-says base history sound h slot)
+
+says-of : (base : Base) (history : List Entry) → IsDatastore base.store → Lawful base history → (slot : ℕ) (running : Running) → (run : RunComes LeftSays all-says base history slot running) → Says running.request Any run.trail running.word
+says-of base history sound h slot running run = run.comes (trail-sound (span_at base history slot) sound h run.trail (moment_of base history) run.is_trail)
+
+fed-on : (request : Request) (trail : Trail) (word : Word Answer) (live : List (List ℕ)) → IsTrue (waits word) → Says request Any trail word → IsOn (fed word live)
+fed-on request trail (Ends answer) live t h = absurd (cc t)
+fed-on request trail (Asks label asked next) live t h = absurd (cc t)
+fed-on request trail (Waits next) live t h = (h.1 0 0 live).0
+
+called-on : (base : Base) (history : List Entry) (c : Called) → MayCall (cluster_at base history) c → (answer : Option Answer) → c.answer ≡ answer → SlotIsOn (goes_on (store_at base history) (cluster_at base history).entries answer ((cluster_at base history).slots c.slot))
+called-on base history c may (Some answer) is = tt
+called-on base history c may None is =
+    let store = store_at base history in
+    let moment = (cluster_at base history).entries in
+    let shape = made c store moment may.running.word may.is_called in
+    let answer = ended (shape.next moment (reply_of store shape.asked)) in
+    let fate = goes-well c.fate c.slot shape.asked (reply_of store shape.asked) answer c shape.is_call is in
+    let done = well c store shape.asked answer shape.is_call fate in
+    let word : answered store moment may.running.word ≡ shape.next moment (reply_of store shape.asked) = ap (λ (w : Word Answer). answered store moment w) shape.is_word in
+    let on : IsOn (answered store moment may.running.word) = ap ended word ∙ (sym done.answers ∙ is) in
+    subst (λ (o : Option Running). SlotIsOn (goes_on store moment None o)) (sym may.runs) on
+
+slots-on : (base : Base) (history : List Entry) → IsDatastore base.store → Lawful base history → (slot : ℕ) → SlotIsOn ((cluster_at base history).slots slot)
+unfolding Lawful cluster_at after
+slots-on base [] sound h slot = tt
+slots-on base (entry.Began other request ∷ history) sound h slot =
+    slot-is SlotIsOn other slot (begun request) (cluster_at base history).slots (λ own. begun-on request h.1.sound) (λ differ. slots-on base history sound h.0 slot)
+slots-on base (entry.Fed other at live ∷ history) sound h slot =
+    let may = h.1 in
+    let run = run-says base history sound h.0 other may.running may.runs in
+    let on = fed-on may.running.request run.trail may.running.word live may.waiting (says-of base history sound h.0 other may.running run) in
+    slot-is SlotIsOn other slot (fed_with live ((cluster_at base history).slots other)) (cluster_at base history).slots
+    (λ own. subst (λ (o : Option Running). SlotIsOn (fed_with live o)) (sym may.runs) on) (λ differ. slots-on base history sound h.0 slot)
+slots-on base (entry.Stopped other ∷ history) sound h slot =
+    slot-is SlotIsOn other slot None (cluster_at base history).slots (λ own. tt) (λ differ. slots-on base history sound h.0 slot)
+slots-on base (entry.Called c ∷ history) sound h slot =
+    slot-is SlotIsOn c.slot slot (goes_on (store_at base history) (cluster_at base history).entries c.answer ((cluster_at base history).slots c.slot)) (cluster_at base history).slots
+    (λ own. called-on base history c h.1 c.answer refl) (λ differ. slots-on base history sound h.0 slot)
+
+-- ---- the law
+
+pub labels_law : LabelsLaw
+labels_law base history slot running sound h runs =
+    let span = span_at base history slot in
+    let run = run-says base history sound h slot running runs in
+    let says = says-of base history sound h slot running run in
+    let on = subst (λ (o : Option Running). SlotIsOn o) runs (slots-on base history sound h slot) in
+    let tells = word-tells running.request run.trail running.word on says in
+    let requested : request_in (cluster_at base history) slot ≡ Some running.request = ap (λ (o : Option Running). option_map (λ (r : Running). r.request) o) runs in
+    record {
+      credit = λ credit.
+          let exact = owes-exactly span run.trail run.is_trail tells.debt tells.owes credit in
+          (λ e. exact.0 (sym tells.credit ∙ e), λ has. tells.credit ∙ exact.1 has);
+      point = λ point some.
+          let here = tells.point point some in
+          let there = stands-exactly running.request span run.trail run.is_trail requested point in
+          (λ e. there.0 (here.0 e), λ stands. here.1 (there.1 stands));
+    }
