@@ -29,7 +29,8 @@ fn answer_string(alloc: Global, answer: &Answer) -> Result<String, AllocError>
     json.to_string(alloc)
 }
 
-fn answer_value(alloc: Global, answer: &Answer) -> Result<Value, AllocError>
+/// The answer's JSON.
+pub fn answer_value(alloc: Global, answer: &Answer) -> Result<Value, AllocError>
     ensures { IfOk result (λ v. view v ≡ answer_data answer.now) }
 {
     match answer {

@@ -5,5 +5,5 @@ mod answer;
 mod entry;
 mod parts;
 
-pub use answer::push_answer;
+pub use answer::{answer_value, push_answer};
 pub use entry::push_entry;

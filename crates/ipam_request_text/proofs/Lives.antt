@@ -1,5 +1,5 @@
 -- Lists of live handles are read back.
-use Rattle.std.proofs.Common.{◌≡◌, ℕ, List, [], ◌∷◌, ◌++◌, map, true, Option, Some, None, refl, ap, ◌∙◌, arith, append_assoc, append-nil, option_and_then}
+use Rattle.std.proofs.Common.{◌≡◌, ℕ, List, [], ◌∷◌, ◌++◌, map, true, Option, Some, None, refl, ap, ◌∙◌, arith, append_assoc, append-nil, option_and_then, IfSome, sym}
 use Rattle.std.specs.List.{AllByRecursion}
 use Rattle.std.proofs.lemmas.Option.{cond_some}
 use Rattle.serde_json.specs.Data.{Data, string, Items, no_items, item}
@@ -48,6 +48,10 @@ live_in-is d live e = go (as_array d) e
     go : (o : Option Items) → (o >>= λ items. ids_after [] items) ≡ Some live → AllByRecursion IsHandleId live
     go (Some items) e' = ids_after-is [] items live e' tt
     go None e' = cc
+
+pub live_in_sound : (d : Data) (found : Option (List (List ℕ))) → found ≡ live_in d → IfSome found (AllByRecursion IsHandleId)
+live_in_sound d None e = tt
+live_in_sound d (Some live) e = live_in-is d live (sym e)
 
 pub live_reading-is : (text : List ℕ) (live : List (List ℕ)) → live_reading text ≡ Some live → AllByRecursion IsHandleId live
 unfolding live_reading

@@ -40,7 +40,7 @@ use Rattle.ipam_request_text.specs.Parts.{whole_data, texts_data, pairs_data, ad
 use Rattle.ipam_request_text.specs.Members.{with_text, unless, where_true, where_false, where_some_number, where_some_texts, where_some_pairs, where_manual, where_selective, where_scope, wishes}
 use Rattle.ipam_request_text.specs.Requests.{add_members, collect_members, probe_members, pool_members, config_members, change_data, request_data, request_text}
 use Rattle.ipam_request_text.specs.Fields.{found_or, truth_or, number_in, texts_in, pairs_in, address_in, mode_in, selector_in, scope_in, in_8_bits, cidr_in}
-use Rattle.ipam_request_text.specs.Reading.{probe_in, add_of, add_in, asked_in, any_add_in, check_in, release_in, collect_in, pool_in, disable_in, reserve_in, config_in, shaped_in, known_in, named_in, request_in, request_reading}
+use Rattle.ipam_request_text.specs.Reading.{probe_in, add_of, add_in, asked_in, any_add_in, check_in, release_in, collect_in, pool_in, disable_in, reserve_in, config_in, shaped_in, known_in, named_in, request_in, sound_request_in, request_reading}
 use Rattle.ipam_request_text.specs.Tests.{is_sound_request}
 use Rattle.ipam_request_text.proofs.SoundTests.{sound_there, sound_back, sorted_keys}
 use Rattle.ipam_request_text.proofs.Gets.{Apart, past_put, past_unless, past_true, past_false, past_mode, true_read, false_read, number_read, texts_in-texts, texts_read, pairs_read, mode_read, selector_read, scope_read, address_read, addresses_read, cidr_read, cidrs_read, known_put, known_unless, known_true, known_false, known_mode, known_scope}
@@ -49,7 +49,7 @@ use Rattle.ipam_request_text.proofs.Canonical.{request_canonical}
 -- ---- what is read is sound
 
 pub read_sound : (text : List ℕ) (r : Request) → request_reading text ≡ Some r → IsSoundRequest r
-unfolding request_reading
+unfolding request_reading sound_request_in
 read_sound text r e =
     option_and_then_some _ (read text) r e (λ d found e1.
     option_and_then_some _ (request_in d) r e1 (λ q found2 e2.
@@ -297,6 +297,6 @@ request_back (Probe r) h =
     tagged_told (codes "probe") shape.Probe _ refl ∙ known_told shape.Probe (probe_members r) _ (probe_known r) (ap (option_map Probe) (probe_back r (sorted_keys r.labels h.labels.ascending)))
 
 pub request_reads_back : (r : Request) → IsSoundRequest r → request_reading (request_text r) ≡ Some r
-unfolding request_reading request_text
+unfolding request_reading sound_request_in request_text
 request_reads_back r h =
     bind _ _ _ (read-compact_text (request_data r) (request_canonical r h)) ∙ bind _ _ _ (request_back r h) ∙ if_true (is_sound_request r) r (sound_there r h)

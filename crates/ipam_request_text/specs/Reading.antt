@@ -152,12 +152,17 @@ request_in d = do
   only ← only_member members
   named_in only.0 only.1
 
+-- the request that the JSON holds, where it is sound
+unfoldable pub sound_request_in : Data → Option Request
+sound_request_in d = do
+  found ← request_in d
+  only_if (is_sound_request found) found
+
 -- the request whose text this is
 unfoldable pub request_reading : List ℕ → Option Request
 request_reading text = do
   d ← read text
-  found ← request_in d
-  only_if (is_sound_request found) found
+  sound_request_in d
 
 -- the same of bytes that may be no UTF-8
 unfoldable pub request_of_bytes : List ℕ → Option Request

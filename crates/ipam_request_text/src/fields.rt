@@ -129,7 +129,8 @@ pub(crate) fn texts_or_none(
     }
 }
 
-fn pairs_in(alloc: Global, value: &Value) -> Result<Option<Seq<(Text, Text)>>, AllocError>
+/// The members of the object, which are texts.
+pub fn pairs_in(alloc: Global, value: &Value) -> Result<Option<Seq<(Text, Text)>>, AllocError>
     ensures { IfOk result (λ found. found ≡ pairs_in (view value.now)) }
 {
     match value.as_object() {

@@ -14,7 +14,8 @@ mod shape;
 mod sound;
 
 pub use fault::AskFault;
-pub use live::read_live;
-pub use reading::{read_request, read_request_text};
+pub use fields::pairs_in;
+pub use live::{live_in_json, read_live};
+pub use reading::{read_request, read_request_text, request_in_json};
 pub use request::{push_live, push_request};
 pub use sound::{are_ids, is_sound};

@@ -1,7 +1,9 @@
 //! Lists of live handles are read.
-ghost use Rattle.std.specs.Prelude.{◌≡◌, [], Err, Some, None, IfOk, option_map};
+ghost use Rattle.std.specs.Prelude.{◌≡◌, [], Err, Some, None, IfOk, IfSome, option_map};
+ghost use Rattle.std.specs.List.{AllByRecursion};
 ghost use Rattle.serde_json.specs.Read.{read};
 ghost use Rattle.serde_json.specs.View.{view, items_view};
+ghost use Rattle.ipam_records.specs.Sound.{IsHandleId};
 ghost use Rattle.ipam_request_text.specs.Live.{live_reading, live_in, ids_after, id_in, id_of};
 
 use crate::fault::AskFault;
@@ -16,20 +18,20 @@ pub fn read_live(alloc: Global, text: &str) -> Result<Seq<Text>, AskFault>
     ensures unreadable { result ≡ Err AskFault.Unreadable → live_reading text.now ≡ None }
 {
     match live_found(alloc, text) {
-        Ok(Some(live)) => Ok(Seq::of(live)),
+        Ok(Some(live)) => Ok(live),
         Ok(None) => Err(AskFault::Unreadable),
         Err(_) => Err(AskFault::Memory),
     }
 }
 
 #[tactic(auto, unfolding(crate::specs::Live::live_reading))]
-fn live_found(alloc: Global, text: &str) -> Result<Option<Vec<Text>>, AllocError>
-    ensures { IfOk result (λ found. option_map (λ v. v.items) found ≡ live_reading text.now) }
+fn live_found(alloc: Global, text: &str) -> Result<Option<Seq<Text>>, AllocError>
+    ensures { IfOk result (λ found. found ≡ live_reading text.now) }
 {
     let Some(json) = json_of(alloc, text)? else {
         return Ok(None);
     };
-    live_in(alloc, &json)
+    live_in_json(alloc, &json)
 }
 
 /// The JSON of a text, where it is some.
@@ -43,9 +45,18 @@ pub(crate) fn json_of(alloc: Global, text: &str) -> Result<Option<Value>, AllocE
     }
 }
 
+/// The handles that this JSON lists. The list of a text is that of its JSON.
+#[tactic(auto, using(crate::proofs::Lives::live_in_sound))]
+pub fn live_in_json(alloc: Global, json: &Value) -> Result<Option<Seq<Text>>, AllocError>
+    ensures read { IfOk result (λ found. found ≡ live_in (view json.now)) }
+    ensures sound { IfOk result (λ found. IfSome found (AllByRecursion IsHandleId)) }
+{
+    live_in(alloc, json)
+}
+
 #[tactic(auto, unfolding(crate::specs::Live::live_in))]
-fn live_in(alloc: Global, json: &Value) -> Result<Option<Vec<Text>>, AllocError>
-    ensures { IfOk result (λ found. option_map (λ v. v.items) found ≡ live_in (view json.now)) }
+fn live_in(alloc: Global, json: &Value) -> Result<Option<Seq<Text>>, AllocError>
+    ensures { IfOk result (λ found. found ≡ live_in (view json.now)) }
 {
     match json.as_array() {
         Some(items) => ids_in(alloc, items.as_slice()),
@@ -53,9 +64,8 @@ fn live_in(alloc: Global, json: &Value) -> Result<Option<Vec<Text>>, AllocError>
     }
 }
 
-fn ids_in(alloc: Global, items: &[Value]) -> Result<Option<Vec<Text>>, AllocError>
-    ensures { IfOk result
-        (λ found. option_map (λ v. v.items) found ≡ ids_after [] (items_view items.now)) }
+fn ids_in(alloc: Global, items: &[Value]) -> Result<Option<Seq<Text>>, AllocError>
+    ensures { IfOk result (λ found. found ≡ ids_after [] (items_view items.now)) }
 {
     let mut ids = Vec::new(alloc);
     for item in items {
@@ -64,7 +74,7 @@ fn ids_in(alloc: Global, items: &[Value]) -> Result<Option<Vec<Text>>, AllocErro
         };
         ids.push(Text::copied(alloc, id)?)?;
     }
-    Ok(Some(ids))
+    Ok(Some(Seq::of(ids)))
 }
 
 #[tactic(auto, unfolding(crate::specs::Live::id_in))]

@@ -2,7 +2,7 @@
 ghost use Rattle.std.specs.Prelude.{◌≡◌, [], Err, Some, None, IfOk, IfSome, option_map};
 ghost use Rattle.serde_json.specs.View.{view, members_view};
 ghost use Rattle.ipam_model.specs.SoundRequest.{IsSoundRequest};
-ghost use Rattle.ipam_request_text.specs.Reading.{only_member, known_in, named_in, request_in, request_reading, request_of_bytes};
+ghost use Rattle.ipam_request_text.specs.Reading.{only_member, known_in, named_in, request_in, sound_request_in, request_reading, request_of_bytes};
 
 use crate::fault::AskFault;
 use crate::live::json_of;
@@ -43,7 +43,7 @@ pub fn read_request_text(alloc: Global, text: &str) -> Result<Request, AskFault>
     }
 }
 
-#[tactic(auto, unfolding(crate::specs::Reading::request_reading))]
+#[tactic(auto, unfolding(crate::specs::Reading::request_reading, crate::specs::Reading::sound_request_in))]
 fn request_found(alloc: Global, text: &str) -> Result<Option<Request>, AllocError>
     ensures read { IfOk result (λ found. found ≡ request_reading text.now) }
     ensures sound { IfOk result (λ found. IfSome found IsSoundRequest) }
@@ -51,7 +51,16 @@ fn request_found(alloc: Global, text: &str) -> Result<Option<Request>, AllocErro
     let Some(json) = json_of(alloc, text)? else {
         return Ok(None);
     };
-    let Some(request) = request_in(alloc, &json)? else {
+    request_in_json(alloc, &json)
+}
+
+/// The request that this JSON holds, where it is sound. The request of a text is that of its JSON.
+#[tactic(auto, unfolding(crate::specs::Reading::sound_request_in))]
+pub fn request_in_json(alloc: Global, json: &Value) -> Result<Option<Request>, AllocError>
+    ensures read { IfOk result (λ found. found ≡ sound_request_in (view json.now)) }
+    ensures sound { IfOk result (λ found. IfSome found IsSoundRequest) }
+{
+    let Some(request) = request_in(alloc, json)? else {
         return Ok(None);
     };
     if is_sound(&request) {

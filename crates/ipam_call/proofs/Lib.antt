@@ -1,0 +1,6 @@
+-- What is sent, and what is taken for a reply.
+pub mod Inputs
+pub mod NoFloats
+pub mod Outcomes
+pub mod Wholes
+pub mod Statuses

@@ -1,0 +1,34 @@
+use cni_types::Version;
+use ipam_text::Text;
+
+/// What the daemon replied.
+#[derive(Debug, Drop)]
+pub struct DaemonReply {
+    /// 0 on success, 1 with an error.
+    pub status: u8,
+    /// What the call writes.
+    pub stdout: Text,
+}
+
+/// Why a call has no reply.
+#[derive(Clone, Copy, Debug, PartialEq, Eq)]
+pub enum CallFault {
+    /// A read of standard input failed.
+    Read,
+    /// Standard input is too long or no UTF-8, or the line would be too long.
+    Undecodable,
+    /// A read or a write of the link failed.
+    Link,
+    /// What the daemon sent is no reply.
+    Reply,
+    /// There was no memory.
+    Memory,
+}
+
+/// How a call ends.
+#[derive(Debug, Drop)]
+pub enum CallEnd {
+    Replied(DaemonReply),
+    /// The error is told in this version.
+    Failed(Version, CallFault),
+}

@@ -1,0 +1,18 @@
+//! The client of the daemon: one CNI call is one line of a session.
+#![tactic(auto)]
+
+mod asking;
+mod end;
+mod input;
+mod reply;
+mod request;
+mod run;
+mod telling;
+mod version;
+
+pub use asking::exchange;
+pub use end::{CallEnd, CallFault, DaemonReply};
+pub use input::{InputFault, read_input};
+pub use run::{call_daemon, run_call};
+pub use std::alloc::AllocError as Memory;
+pub use telling::tell_end;
