@@ -38,6 +38,7 @@ COLLECT = 'begin 0 {"collect":{"live":[]}}\n'
 
 # what is written of these is the second allocator's
 SCRIPTS = [
+    BASE + ADD + "turn 0 8\n",
     "",
     BASE,
     BASE + "counter 7\n" + ADD + "turn 0 7\n",

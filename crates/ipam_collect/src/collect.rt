@@ -121,12 +121,12 @@ impl CollectProc {
         }
     }
 
-    /// Takes the second list. On `Err` it waits as before.
+    /// Takes the second list. On `Err` nothing has changed.
     pub fn feed(&mut self, alloc: Global, live: &[Text], at: u64) -> Result<(), AllocError>
         requires waits { waits (collect_rest self.old) ≡ true }
         requires due { due_from self.old ≤ at }
         ensures ok { OnOk result (collect_rest self.new ≡ fed (collect_rest self.old) live.now) }
-        ensures err { OnErr result (collect_rest self.new ≡ collect_rest self.old) }
+        ensures err { OnErr result (self.new ≡ self.old) }
         ensures grace { grace_in self.new ≡ grace_in self.old }
     {
         let live = copied_list(alloc, live)?;

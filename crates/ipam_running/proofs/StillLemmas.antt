@@ -1,6 +1,10 @@
--- Nothing but a collection waits, and what waits is fed in time.
-use Rattle.std.proofs.Common.{◌≡◌, ℕ, false, IsSome, refl, subst, sym, ◌∙◌}
-use Rattle.ipam_records.specs.Word.{Word, Ends, Asks, Waits, asked, waits, bound}
+-- What runs has not ended, and nothing but a collection waits.
+use Rattle.std.proofs.Common.{◌≡◌, ℕ, true, false, List, Some, None, IsSome, refl, ap, subst, sym, ◌∙◌}
+use Rattle.std.specs.Prelude.{option_map}
+use Rattle.ipam_records.specs.Word.{Word, Ends, Asks, Waits, asked, ended, waits, bound}
+use Rattle.ipam_model.specs.declared.answer.Answer.{Answer}
+use Rattle.ipam_model.specs.declared.request.CollectRequest.{CollectRequest}
+use Rattle.ipam_model.specs.Told.{of_collect}
 use Rattle.ipam_model.specs.Affinities.{release}
 use Rattle.ipam_parts.proofs.FreeingAsks.{asks_freeing, freeing_asks}
 use Rattle.ipam_add.proofs.AddLemmas.{stage_asks as stage_asks_add}
@@ -51,48 +55,62 @@ use Rattle.ipam_release.specs.Check.{check_rest, check_at}
 use Rattle.ipam_release.specs.declared.del.Stage.{Stage as DelStage}
 use Rattle.ipam_release.specs.declared.del.Stage.TheVariants as del
 use Rattle.ipam_release.specs.Del.{del_rest, frees_at, then_blocks}
-use Rattle.ipam_model.specs.Remove.{del_stops}
+use Rattle.ipam_model.specs.Remove.{del_stops, collect_stops}
 use Rattle.ipam_running.specs.declared.running.Kept.{Kept}
 use Rattle.ipam_running.specs.declared.running.Kept.TheVariants as kept
 use Rattle.ipam_collect.specs.declared.collect.CollectProc.{CollectProc}
-use Rattle.ipam_running.specs.Running.{rest_of}
+use Rattle.ipam_collect.specs.declared.collect.Grace.{Grace}
+use Rattle.ipam_collect.specs.declared.collect.Stage.{Stage as CollectStage}
+use Rattle.ipam_collect.specs.declared.collect.Stage.TheVariants as collect
+use Rattle.ipam_collect.specs.Collect.{collect_at, collect_rest, grace_in}
+use Rattle.ipam_collect.specs.declared.frees.Frees.{Frees}
+use Rattle.ipam_collect.specs.Frees.{frees_at as collect_frees_at, then_left}
+use Rattle.ipam_collect.specs.Tally.{id_in}
+use Rattle.ipam_running.specs.declared.running.Running.{Running}
+use Rattle.ipam_running.specs.Running.{rest_of, grace_kept, running_rest, running_grace, telling}
 use Rattle.ipam_running.proofs.AbsentLemmas.{absent_asks}
-use Rattle.ipam_running.proofs.TellingLemmas.{waits_telling}
-use Rattle.std.proofs.Common.{List}
+use Rattle.ipam_running.proofs.TellingLemmas.{asked_telling, ended_telling}
 
 still : {A : Type 0} (word : Word A) → IsSome (asked word) → waits word ≡ false
 still (Ends answer) some = refl
 still (Asks label call next) some = refl
 still (Waits next) some = absurd (cc some)
 
-del_still : (id : List ℕ) (stage : DelStage) → waits (frees_at id stage) ≡ false
-del_still id del.Reads = refl
-del_still id (del.Frees f) =
-    still (frees_at id (del.Frees f))
-    (subst (λ call. IsSome call) (sym (asks_freeing del_stops (then_blocks id f.moment f.blocks.items) id f.freeing)) (freeing_asks id f.freeing))
+not_ended : {A : Type 0} (word : Word A) → IsSome (asked word) → ended word ≡ None
+not_ended (Ends answer) some = absurd (cc some)
+not_ended (Asks label call next) some = refl
+not_ended (Waits next) some = refl
 
-check_still : (id : List ℕ) (stage : CheckStage) → waits (check_at id stage) ≡ false
-check_still id (check.Reads addresses) = refl
-check_still id (check.Looks l) = refl
+told_asks : {A : Type 0} (tell : A → Answer) (word : Word A) → IsSome (asked word) → IsSome (asked (telling tell word))
+told_asks tell word some = subst (λ call. IsSome call) (sym (asked_telling tell word)) some
 
-release_still : (tie : Tie) (left : Left) (stage : ReleaseStage) → waits (release_at tie left stage) ≡ false
-release_still tie left (release_stage.Reads reading.Affinity) = refl
-release_still tie left (release_stage.Reads (reading.Block mark)) = refl
-release_still tie left (release_stage.Reads (reading.Again seen)) = refl
-release_still tie left (release_stage.Writes (writing.Marks revision)) = refl
-release_still tie left (release_stage.Writes (writing.Bares seen)) = refl
-release_still tie left (release_stage.Writes (writing.Deletes mark)) = refl
+del_asks : (id : List ℕ) (stage : DelStage) → IsSome (asked (frees_at id stage))
+del_asks id del.Reads = refl
+del_asks id (del.Frees f) =
+    subst (λ call. IsSome call) (sym (asks_freeing del_stops (then_blocks id f.moment f.blocks.items) id f.freeing)) (freeing_asks id f.freeing)
 
-admin_still : (request : Admin) (left : Left) (stage : AdminStage) → waits (admin_at request left stage) ≡ false
-admin_still request left admin.Reads = refl
-admin_still request left (admin.Writes w) = refl
+check_asks : (id : List ℕ) (stage : CheckStage) → IsSome (asked (check_at id stage))
+check_asks id (check.Reads addresses) = refl
+check_asks id (check.Looks l) = refl
 
-probe_still : (request : ProbeRequest) (turn : Turn) (stage : ScanStage) → waits (probe_at request turn stage) ≡ false
-probe_still request turn ReadsConfig = refl
-probe_still request turn (ReadsPools configured) = refl
-probe_still request turn (ReadsReservations pooled) = refl
-probe_still request turn (ListsAffinities reserving) = refl
-probe_still request turn (ListsBlocks gathered) = refl
+release_asks : (tie : Tie) (left : Left) (stage : ReleaseStage) → IsSome (asked (release_at tie left stage))
+release_asks tie left (release_stage.Reads reading.Affinity) = refl
+release_asks tie left (release_stage.Reads (reading.Block mark)) = refl
+release_asks tie left (release_stage.Reads (reading.Again seen)) = refl
+release_asks tie left (release_stage.Writes (writing.Marks revision)) = refl
+release_asks tie left (release_stage.Writes (writing.Bares seen)) = refl
+release_asks tie left (release_stage.Writes (writing.Deletes mark)) = refl
+
+admin_asks : (request : Admin) (left : Left) (stage : AdminStage) → IsSome (asked (admin_at request left stage))
+admin_asks request left admin.Reads = refl
+admin_asks request left (admin.Writes w) = refl
+
+probe_asks : (request : ProbeRequest) (turn : Turn) (stage : ScanStage) → IsSome (asked (probe_at request turn stage))
+probe_asks request turn ReadsConfig = refl
+probe_asks request turn (ReadsPools configured) = refl
+probe_asks request turn (ReadsReservations pooled) = refl
+probe_asks request turn (ListsAffinities reserving) = refl
+probe_asks request turn (ListsBlocks gathered) = refl
 
 -- ---- an ADD of one address
 
@@ -137,15 +155,65 @@ part_asks g left (this.Assigns looked a) =
 stage_asks : (g : Going) (left : Left) (stage : ThisStage) → IsSome (asked (this_at (this_part g left stage)))
 stage_asks g left stage = asks_on (this_part g left stage) _ (part_asks g left stage)
 
+-- ---- whichever it is
+
+abbrev IsCollection : Kept → Type 0
+IsCollection k = (p : CollectProc) × (k ≡ kept.Collect p)
+
+-- everything but a collection has a next call
+asks : (k : Kept) → (IsCollection k → ⊥) → IsSome (asked (rest_of k))
+asks (kept.Add p) other = told_asks _ (add_rest p) (stage_asks_add p.request p.turn p.stage)
+asks (kept.AddThis p) other = told_asks _ (this_rest p) (stage_asks (going p) p.left p.stage)
+asks (kept.Del p) other = told_asks _ (del_rest p) (del_asks p.id p.stage)
+asks (kept.Check p) other = told_asks _ (check_rest p) (check_asks p.id p.stage)
+asks (kept.Release p) other = told_asks _ (release_rest p) (release_asks (tie_of p) p.left p.stage)
+asks (kept.Absent p) other = told_asks _ (release p.node p.cidr) (subst (λ call. IsSome call) (sym (absent_asks p.node p.cidr)) refl)
+asks (kept.Collect p) other = absurd (other (p, refl))
+asks (kept.Admin p) other = told_asks _ (admin_rest p) (admin_asks p.request p.left p.stage)
+asks (kept.Probe p) other = told_asks _ (probe_rest p) (probe_asks p.request p.turn p.scanning.stage)
+
 pub never_waits : (k : Kept) → ((p : CollectProc) → k ≡ kept.Collect p → ⊥) → waits (rest_of k) ≡ false
-never_waits (kept.Add p) other = waits_telling _ (add_rest p) ∙ still (add_rest p) (stage_asks_add p.request p.turn p.stage)
-never_waits (kept.AddThis p) other = waits_telling _ (this_rest p) ∙ still (this_rest p) (stage_asks (going p) p.left p.stage)
-never_waits (kept.Del p) other = waits_telling _ (del_rest p) ∙ del_still p.id p.stage
-never_waits (kept.Check p) other = waits_telling _ (check_rest p) ∙ check_still p.id p.stage
-never_waits (kept.Release p) other = waits_telling _ (release_rest p) ∙ release_still (tie_of p) p.left p.stage
-never_waits (kept.Absent p) other =
-    waits_telling _ (release p.node p.cidr)
-    ∙ still (release p.node p.cidr) (subst (λ call. IsSome call) (sym (absent_asks p.node p.cidr)) refl)
-never_waits (kept.Collect p) other = absurd (other p refl)
-never_waits (kept.Admin p) other = waits_telling _ (admin_rest p) ∙ admin_still p.request p.left p.stage
-never_waits (kept.Probe p) other = waits_telling _ (probe_rest p) ∙ probe_still p.request p.turn p.scanning.stage
+never_waits k other = still (rest_of k) (asks k (λ it. other it.0 it.1))
+
+collect_frees : (f : Frees) → IsSome (asked (collect_frees_at f))
+collect_frees f =
+    subst (λ call. IsSome call) (sym (asks_freeing collect_stops (then_left f.b1 f.b2 f.tally) (id_in f.tally.1) f.freeing))
+    (freeing_asks (id_in f.tally.1) f.freeing)
+
+collect_runs_on : (request : CollectRequest) (stage : CollectStage) → ended (collect_at request stage) ≡ None
+collect_runs_on request collect.Lists = refl
+collect_runs_on request (collect.Waits found) = refl
+collect_runs_on request (collect.ListsAgain found) = refl
+collect_runs_on request (collect.Frees f) = not_ended (collect_frees_at f) (collect_frees f)
+
+-- what is kept has not ended
+runs_on_kept : (k : Kept) → ended (rest_of k) ≡ None
+runs_on_kept (kept.Collect p) = ended_telling _ (collect_rest p) ∙ ap (option_map of_collect) (collect_runs_on p.request p.stage)
+runs_on_kept (kept.Add p) = not_ended _ (asks (kept.Add p) (λ it. cc (it.1)))
+runs_on_kept (kept.AddThis p) = not_ended _ (asks (kept.AddThis p) (λ it. cc (it.1)))
+runs_on_kept (kept.Del p) = not_ended _ (asks (kept.Del p) (λ it. cc (it.1)))
+runs_on_kept (kept.Check p) = not_ended _ (asks (kept.Check p) (λ it. cc (it.1)))
+runs_on_kept (kept.Release p) = not_ended _ (asks (kept.Release p) (λ it. cc (it.1)))
+runs_on_kept (kept.Absent p) = not_ended _ (asks (kept.Absent p) (λ it. cc (it.1)))
+runs_on_kept (kept.Admin p) = not_ended _ (asks (kept.Admin p) (λ it. cc (it.1)))
+runs_on_kept (kept.Probe p) = not_ended _ (asks (kept.Probe p) (λ it. cc (it.1)))
+
+pub runs_on : (r : Running) → ended (running_rest r) ≡ None
+unfolding running_rest
+runs_on r = runs_on_kept r.kept
+
+-- what waits is a collection, which has its times
+waits_kept : (k : Kept) → waits (rest_of k) ≡ true → (grace : Grace) × (grace_kept k ≡ Some grace)
+waits_kept (kept.Collect p) waiting = (grace_in p, refl)
+waits_kept (kept.Add p) waiting = let no = never_waits (kept.Add p) (λ q e. cc e) in absurd (cc (no, waiting))
+waits_kept (kept.AddThis p) waiting = let no = never_waits (kept.AddThis p) (λ q e. cc e) in absurd (cc (no, waiting))
+waits_kept (kept.Del p) waiting = let no = never_waits (kept.Del p) (λ q e. cc e) in absurd (cc (no, waiting))
+waits_kept (kept.Check p) waiting = let no = never_waits (kept.Check p) (λ q e. cc e) in absurd (cc (no, waiting))
+waits_kept (kept.Release p) waiting = let no = never_waits (kept.Release p) (λ q e. cc e) in absurd (cc (no, waiting))
+waits_kept (kept.Absent p) waiting = let no = never_waits (kept.Absent p) (λ q e. cc e) in absurd (cc (no, waiting))
+waits_kept (kept.Admin p) waiting = let no = never_waits (kept.Admin p) (λ q e. cc e) in absurd (cc (no, waiting))
+waits_kept (kept.Probe p) waiting = let no = never_waits (kept.Probe p) (λ q e. cc e) in absurd (cc (no, waiting))
+
+pub waits_with : (r : Running) → waits (running_rest r) ≡ true → (grace : Grace) × (running_grace r ≡ Some grace)
+unfolding running_rest running_grace
+waits_with r waiting = waits_kept r.kept waiting

@@ -94,13 +94,13 @@ impl Running {
         }
     }
 
-    /// Takes the second list, which was made at this time, in seconds. On `Err` it waits as before.
+    /// Takes the second list, which was made at this time, in seconds. On `Err` nothing has changed.
     #[tactic(auto, unfolding(crate::specs::Running::running_rest, crate::specs::Running::running_grace))]
     pub fn feed(&mut self, alloc: Global, live: &[Text], at: u64) -> Result<(), AllocError>
         requires waits { waits (running_rest self.old) ≡ true }
         requires due { is_over (running_grace self.old) at ≡ true }
         ensures ok { OnOk result (running_rest self.new ≡ fed (running_rest self.old) live.now) }
-        ensures err { OnErr result (running_rest self.new ≡ running_rest self.old) }
+        ensures err { OnErr result (self.new ≡ self.old) }
         ensures grace { running_grace self.new ≡ running_grace self.old }
     {
         feed_kept(alloc, &mut self.kept, live, at)
@@ -194,7 +194,7 @@ fn feed_kept(alloc: Global, kept: &mut Kept, live: &[Text], at: u64) -> Result<(
     requires waits { waits (rest_of kept.old) ≡ true }
     requires due { is_over (grace_kept kept.old) at ≡ true }
     ensures ok { OnOk result (rest_of kept.new ≡ fed (rest_of kept.old) live.now) }
-    ensures err { OnErr result (rest_of kept.new ≡ rest_of kept.old) }
+    ensures err { OnErr result (kept.new ≡ kept.old) }
     ensures grace { grace_kept kept.new ≡ grace_kept kept.old }
 {
     match kept {

@@ -1,0 +1,5 @@
+pub mod Busy
+pub mod Cluster
+pub mod Slots
+pub mod Turns
+pub mod Preparing
