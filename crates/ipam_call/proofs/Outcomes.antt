@@ -60,7 +60,7 @@ got_counted (Ok (Line line)) o reads reads' writes writes' is rose same f = read
 got_counted (Ok End) o reads reads' writes writes' is rose same f = rw is (same, f)
 got_counted (Ok Cut) o reads reads' writes writes' is rose same f = rw is (same, f)
 got_counted (Err lines.TooLong) o reads reads' writes writes' is rose same f = rw is (same, f)
-got_counted (Err lines.Read) o reads reads' writes writes' is rose same f = rw is (inl rose)
+got_counted (Err lines.Read) o reads reads' writes writes' is rose same f = rw is (inl (rose, f))
 got_counted (Err lines.Memory) o reads reads' writes writes' is rose same f = rw is (same, f)
 
 -- ---- the causes

@@ -59,12 +59,13 @@ Received (Err Link) bytes = ⊤
 Received (Err Reply) bytes = HasNoReply bytes
 Received (Err Memory) bytes = ⊤
 
--- The counts of faults of the link: one rises where the link failed, and else none.
+-- The counts of faults of the link: just one rises where the link failed, and else none.
 abbrev pub LinkFaults : Outcome → (reads reads' writes writes' : ℕ) → Type 0
 LinkFaults (Ok reply) reads reads' writes writes' = (reads' ≡ reads) × (writes' ≡ writes)
 LinkFaults (Err Read) reads reads' writes writes' = (reads' ≡ reads) × (writes' ≡ writes)
 LinkFaults (Err Undecodable) reads reads' writes writes' = (reads' ≡ reads) × (writes' ≡ writes)
-LinkFaults (Err Link) reads reads' writes writes' = Rose reads reads' ⊎ Rose writes writes'
+LinkFaults (Err Link) reads reads' writes writes' =
+    (Rose reads reads' × (writes' ≡ writes)) ⊎ ((reads' ≡ reads) × Rose writes writes')
 LinkFaults (Err Reply) reads reads' writes writes' = (reads' ≡ reads) × (writes' ≡ writes)
 LinkFaults (Err Memory) reads reads' writes writes' = (reads' ≡ reads) × (writes' ≡ writes)
 

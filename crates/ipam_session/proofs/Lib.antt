@@ -1,0 +1,6 @@
+-- What lines ask and what they are replied.
+pub mod Utf8
+pub mod Asked
+pub mod Refused
+pub mod NoFloats
+pub mod Replied

@@ -1,0 +1,51 @@
+-- No reply's JSON has a float, so that its compact text is written.
+use Rattle.std.proofs.Common.{◌≡◌, ℕ, false, List, [], ◌∷◌, map, refl}
+use Rattle.serde_json.specs.Data.{Data}
+use Rattle.serde_json.specs.View.{items_of}
+use Rattle.serde_json.specs.Written.{has_float, items_have_float}
+use Rattle.ipam_answer_text.proofs.Floats.{has_float-answer_data}
+use Rattle.ipam_session.specs.declared.route.Route.{Route as OneRoute}
+use Rattle.ipam_session.specs.declared.route.Change.{Change}
+use Rattle.ipam_session.specs.declared.route.Since.{Since}
+use Rattle.ipam_session.specs.declared.route.Since.TheVariants.{Changes, Compacted, Ahead}
+use Rattle.ipam_session.specs.declared.replies.Reply.{Reply}
+use Rattle.ipam_session.specs.declared.replies.Reply.TheVariants.{Called, Answered, Waiting, Stopped, Refused, Routes, RoutesSince}
+use Rattle.ipam_session.specs.Replies.{call_data, route_data, change_data, routes_data, changes_data, since_data, reply_data}
+
+items_without : {A : Type 0} (f : A → Data) → ((a : A) → has_float (f a) ≡ false) → (all : List A) → items_have_float (items_of (map f all)) ≡ false
+items_without f each [] = refl
+items_without f each (a ∷ rest) = rw (each a) (items_without f each rest)
+
+pub call_without : (status : ℕ) (stdout : List ℕ) → has_float (call_data status stdout) ≡ false
+unfolding call_data
+call_without status stdout = refl
+
+route_without : (route : OneRoute) → has_float (route_data route) ≡ false
+unfolding route_data
+route_without route = refl
+
+change_without : (change : Change) → has_float (change_data change) ≡ false
+unfolding change_data
+change_without change = refl
+
+routes_without : (revision : ℕ) (routes : List OneRoute) → has_float (routes_data revision routes) ≡ false
+unfolding routes_data
+routes_without revision routes = rw (items_without route_data route_without routes) refl
+
+changes_without : (revision : ℕ) (changes : List Change) → has_float (changes_data revision changes) ≡ false
+unfolding changes_data
+changes_without revision changes = rw (items_without change_data change_without changes) refl
+
+since_without : (since : Since) → has_float (since_data since) ≡ false
+since_without (Changes revision changes) = changes_without revision changes
+since_without (Compacted revision) = refl
+since_without (Ahead revision) = refl
+
+pub reply_without : (reply : Reply) → has_float (reply_data reply) ≡ false
+reply_without (Called status stdout) = call_without status stdout
+reply_without (Answered answer) = rw (has_float-answer_data answer) refl
+reply_without Waiting = refl
+reply_without Stopped = refl
+reply_without (Refused why) = refl
+reply_without (Routes revision routes) = routes_without revision routes
+reply_without (RoutesSince since) = since_without since

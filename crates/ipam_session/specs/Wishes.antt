@@ -1,0 +1,97 @@
+-- What a line of a session asks.
+use Rattle.std.specs.Prelude.{ℕ, List, codes, Bool, true, false, ◌&&◌, ◌||◌, not, is_some, bytes_eq, Option, Some, None, option_map, option_and_then, unwrap_or, if◌then◌else◌}
+use Rattle.std.specs.List.{AllByRecursion}
+use Rattle.std.specs.Str.{is_utf8}
+use Rattle.serde_json.specs.Data.{Data, Members, no_members, member}
+use Rattle.serde_json.specs.Find.{get, as_bool, as_object}
+use Rattle.serde_json.specs.Read.{read}
+use Rattle.ipam_json.specs.Path.{as_whole}
+use Rattle.ipam_record_text.specs.Reading.{◌>>=◌, only_if, text_at}
+use Rattle.ipam_records.specs.Sound.{IsHandleId}
+use Rattle.ipam_model.specs.SoundRequest.{IsSoundRequest}
+use Rattle.ipam_request_text.specs.Fields.{pairs_in}
+use Rattle.ipam_request_text.specs.Live.{live_in}
+use Rattle.ipam_request_text.specs.Reading.{only_member, sound_request_in}
+use Rattle.ipam_session.specs.declared.wish.Wish.{Wish}
+use Rattle.ipam_session.specs.declared.wish.Wish.TheVariants as wish
+
+-- ---- lines of one member
+
+-- a collection says when its first list was made
+abbrev pub says_time : Data → Bool
+says_time d = is_some (option_and_then (get (codes "at")) (get (codes "collect") d))
+
+-- the time of a collection is the session's clock's, so a line does not say it
+unfoldable pub request_wish : Data → Option Wish
+request_wish d = do
+  untimed ← only_if (not (says_time d)) d
+  request ← sound_request_in untimed
+  Some (wish.Request request)
+
+abbrev pub is_true : Data → Bool
+is_true d = unwrap_or (as_bool d) false
+
+-- what the members ask whose value is no more than `true` or a number
+abbrev pub short_wish : List ℕ → Data → Option Wish
+short_wish name d =
+    if bytes_eq name (codes "stop") then only_if (is_true d) wish.Stop
+    else (if bytes_eq name (codes "routes") then only_if (is_true d) wish.Routes
+    else (if bytes_eq name (codes "routesSince") then option_map wish.RoutesSince (as_whole d)
+    else None))
+
+-- what the one member asks
+abbrev pub named_wish : List ℕ → Data → Option Wish
+named_wish name d =
+    if bytes_eq name (codes "request") then request_wish d
+    else (if bytes_eq name (codes "feed") then option_map wish.Feed (live_in d)
+    else short_wish name d)
+
+-- ---- calls
+
+abbrev pub in_call : List ℕ → Bool
+in_call name = bytes_eq name (codes "env") || bytes_eq name (codes "stdin")
+
+-- no member is unknown
+abbrev pub are_of_call : Members → Bool
+are_of_call no_members = true
+are_of_call (member name d ms) = in_call name && are_of_call ms
+
+-- the call with this environment and this standard input
+unfoldable pub call_wish : Data → Option Wish
+call_wish d = do
+  members ← as_object d
+  known ← only_if (are_of_call members) d
+  stdin ← text_at (codes "stdin") known
+  found ← get (codes "env") known
+  env ← pairs_in found
+  Some (wish.Cni env stdin)
+
+-- ---- lines
+
+abbrev pub wish_of_members : Option (List ℕ × Data) → Data → Option Wish
+wish_of_members (Some only) d = named_wish only.0 only.1
+wish_of_members None d = call_wish d
+
+-- an object of one member, or a call
+unfoldable pub wish_in : Data → Option Wish
+wish_in d = do
+  members ← as_object d
+  wish_of_members (only_member members) d
+
+-- what the line asks
+unfoldable pub wish_of_line : List ℕ → Option Wish
+wish_of_line line = do
+  text ← only_if (is_utf8 line) line
+  d ← read text
+  wish_in d
+
+-- ---- soundness
+
+-- a request that is begun and a list that is fed keep every limit
+abbrev pub IsSoundWish : Wish → Type 0
+IsSoundWish (wish.Cni env stdin) = Unit {0}
+IsSoundWish (wish.Request request) = IsSoundRequest request
+IsSoundWish (wish.Feed live) = AllByRecursion IsHandleId live
+IsSoundWish wish.Stop = Unit {0}
+IsSoundWish wish.Routes = Unit {0}
+IsSoundWish (wish.RoutesSince revision) = Unit {0}

@@ -1,0 +1,208 @@
+//! Lines are read.
+ghost use Rattle.std.specs.Prelude.{◌≡◌, Err, Some, None, IfOk, IfSome, option_map};
+ghost use Rattle.std.specs.Str.{is_utf8};
+ghost use Rattle.serde_json.specs.Read.{read};
+ghost use Rattle.serde_json.specs.View.{view, members_view};
+ghost use Rattle.ipam_record_text.specs.Reading.{only_if};
+ghost use Rattle.ipam_request_text.specs.Live.{live_in};
+ghost use Rattle.ipam_request_text.specs.Reading.{only_member};
+ghost use Rattle.ipam_session.specs.Wishes.{says_time, request_wish, is_true, short_wish, named_wish, in_call, are_of_call, call_wish, wish_of_members, wish_in, wish_of_line, IsSoundWish};
+
+use crate::wish::Wish;
+use ipam_request_text::{AskFault, live_in_json, pairs_in, request_in_json};
+use ipam_text::Text;
+use serde_json::{Map, Value};
+use std::alloc::{AllocError, Global};
+
+/// What the line asks, in any spelling of its JSON. Members that it does not have are refused, and
+/// of a member that is given twice the last one counts. What is read is sound.
+///
+/// Fails with `Unreadable` where the line asks nothing, and with `Memory`.
+pub fn read_wish(alloc: Global, line: &[u8]) -> Result<Wish, AskFault>
+    ensures read { IfOk result (λ wish. wish_of_line line.now ≡ Some wish) }
+    ensures unreadable { result ≡ Err AskFault.Unreadable → wish_of_line line.now ≡ None }
+    ensures sound { IfOk result IsSoundWish }
+{
+    match wish_of_line(alloc, line) {
+        Ok(Some(wish)) => Ok(wish),
+        Ok(None) => Err(AskFault::Unreadable),
+        Err(_) => Err(AskFault::Memory),
+    }
+}
+
+#[tactic(auto, unfolding(crate::specs::Wishes::wish_of_line))]
+fn wish_of_line(alloc: Global, line: &[u8]) -> Result<Option<Wish>, AllocError>
+    ensures read { IfOk result (λ found. found ≡ wish_of_line line.now) }
+    ensures sound { IfOk result (λ found. IfSome found IsSoundWish) }
+{
+    let Some(text) = text_of(line) else {
+        return Ok(None);
+    };
+    match json_of(alloc, text)? {
+        Some(json) => wish_in(alloc, &json),
+        None => Ok(None),
+    }
+}
+
+/// The line as a text, where it is UTF-8.
+#[tactic(auto, using(crate::proofs::Utf8::text_told, crate::proofs::Utf8::no_text_told))]
+fn text_of(line: &[u8]) -> Option<&str>
+    ensures { option_map (λ t. t.now) result ≡ only_if (is_utf8 line.now) line.now }
+{
+    str::from_utf8(line).ok()
+}
+
+/// The JSON of a text, where it is some.
+fn json_of(alloc: Global, text: &str) -> Result<Option<Value>, AllocError>
+    ensures { IfOk result (λ o. option_map view o ≡ read text.now) }
+{
+    match Value::from_str(alloc, text) {
+        Ok(value) => Ok(Some(value)),
+        Err(error) if error.is_memory() => Err(AllocError),
+        Err(_) => Ok(None),
+    }
+}
+
+#[tactic(auto, unfolding(crate::specs::Wishes::wish_in))]
+fn wish_in(alloc: Global, json: &Value) -> Result<Option<Wish>, AllocError>
+    ensures read { IfOk result (λ found. found ≡ wish_in (view json.now)) }
+    ensures sound { IfOk result (λ found. IfSome found IsSoundWish) }
+{
+    let Some(members) = json.as_object() else {
+        return Ok(None);
+    };
+    match only_member(members) {
+        Some((name, value)) => named_wish(alloc, name, value),
+        None => call_wish(alloc, json),
+    }
+}
+
+/// The name and the value of the one member.
+fn only_member(members: &Map<String, Value>) -> Option<(&str, &Value)>
+    ensures { option_map (λ only. (only.0.now, view only.1.now)) result
+        ≡ only_member (members_view members.now.entries) }
+{
+    let mut entries = members.iter();
+    let (name, value) = entries.next()?;
+    if entries.next().is_some() {
+        return None;
+    }
+    Some((name.as_str(), value))
+}
+
+/// What the one member asks.
+fn named_wish(alloc: Global, name: &str, value: &Value) -> Result<Option<Wish>, AllocError>
+    ensures read { IfOk result (λ found. found ≡ named_wish name.now (view value.now)) }
+    ensures sound { IfOk result (λ found. IfSome found IsSoundWish) }
+{
+    if name == "request" {
+        request_wish(alloc, value)
+    } else if name == "feed" {
+        feed_wish(alloc, value)
+    } else {
+        Ok(short_wish(name, value))
+    }
+}
+
+#[tactic(auto, unfolding(crate::specs::Wishes::request_wish))]
+fn request_wish(alloc: Global, value: &Value) -> Result<Option<Wish>, AllocError>
+    ensures read { IfOk result (λ found. found ≡ request_wish (view value.now)) }
+    ensures sound { IfOk result (λ found. IfSome found IsSoundWish) }
+{
+    if says_time(value) {
+        return Ok(None);
+    }
+    match request_in_json(alloc, value)? {
+        Some(request) => Ok(Some(Wish::Request(request))),
+        None => Ok(None),
+    }
+}
+
+/// Whether a collection says when its first list was made.
+fn says_time(value: &Value) -> bool
+    ensures { result ≡ says_time (view value.now) }
+{
+    match value.get("collect") {
+        Some(collect) => collect.get("at").is_some(),
+        None => false,
+    }
+}
+
+fn feed_wish(alloc: Global, value: &Value) -> Result<Option<Wish>, AllocError>
+    ensures read { IfOk result (λ found. found ≡ option_map Wish.Feed (live_in (view value.now))) }
+    ensures sound { IfOk result (λ found. IfSome found IsSoundWish) }
+{
+    match live_in_json(alloc, value)? {
+        Some(live) => Ok(Some(Wish::Feed(live))),
+        None => Ok(None),
+    }
+}
+
+/// What the members ask whose value is no more than `true` or a number.
+fn short_wish(name: &str, value: &Value) -> Option<Wish>
+    ensures read { result ≡ short_wish name.now (view value.now) }
+    ensures sound { IfSome result IsSoundWish }
+{
+    if name == "stop" {
+        where_true(value, Wish::Stop)
+    } else if name == "routes" {
+        where_true(value, Wish::Routes)
+    } else if name == "routesSince" {
+        value.as_u64().map(Wish::RoutesSince)
+    } else {
+        None
+    }
+}
+
+/// The wish, where the value is `true`.
+fn where_true(value: &Value, wish: Wish) -> Option<Wish>
+    ensures { result ≡ only_if (is_true (view value.now)) wish }
+{
+    if value.as_bool().unwrap_or(false) {
+        Some(wish)
+    } else {
+        None
+    }
+}
+
+#[tactic(auto, unfolding(crate::specs::Wishes::call_wish))]
+fn call_wish(alloc: Global, json: &Value) -> Result<Option<Wish>, AllocError>
+    ensures read { IfOk result (λ found. found ≡ call_wish (view json.now)) }
+    ensures sound { IfOk result (λ found. IfSome found IsSoundWish) }
+{
+    let Some(members) = json.as_object() else {
+        return Ok(None);
+    };
+    if !are_of_call(members) {
+        return Ok(None);
+    }
+    let Some(stdin) = json.get("stdin").and_then(Value::as_str) else {
+        return Ok(None);
+    };
+    let Some(found) = json.get("env") else {
+        return Ok(None);
+    };
+    let Some(env) = pairs_in(alloc, found)? else {
+        return Ok(None);
+    };
+    let stdin = Text::copied(alloc, stdin)?;
+    Ok(Some(Wish::Cni(env, stdin)))
+}
+
+/// Whether no member is unknown.
+fn are_of_call(members: &Map<String, Value>) -> bool
+    ensures { result ≡ are_of_call (members_view members.now.entries) }
+{
+    for (name, _) in members {
+        if !in_call(name.as_str()) {
+            return false;
+        }
+    }
+    true
+}
+
+fn in_call(name: &str) -> bool
+    ensures { result ≡ in_call name.now }
+{
+    name == "env" || name == "stdin"
+}

@@ -1,0 +1,173 @@
+//! Replies are written.
+ghost use Rattle.std.specs.Prelude.{◌≡◌, ◌++◌, [], ◌∷◌, map, codes, IfOk, OnOk, OnErr, string_bytes};
+ghost use Rattle.serde_json.specs.View.{view};
+ghost use Rattle.ipam_json.specs.Built.{object_of, array_of};
+ghost use Rattle.ipam_addr.specs.Text.{cidr_text_of};
+ghost use Rattle.ipam_answer_text.specs.Answers.{tagged};
+ghost use Rattle.ipam_session.specs.Replies.{call_data, call_text, route_data, change_data, routes_data, changes_data, since_data, reply_data, reply_line};
+
+use crate::refusal::Refusal;
+use crate::route::{Change, Route, Since};
+use ipam_addr::{Cidr, push_cidr};
+use ipam_answer_text::answer_value;
+use ipam_model::Answer;
+use ipam_text::{Seq, Text};
+use serde_json::{Map, Value, json, put};
+use std::alloc::{AllocError, Global};
+
+/// What a line is replied.
+#[derive(Debug, Drop)]
+pub enum Reply {
+    /// The status and the standard output of a CNI call.
+    Called(u8, Text),
+    /// The answer of the request that the line began or fed.
+    Answered(Answer),
+    /// The collection that the line began waits for its second list.
+    Waiting,
+    /// The collection that waited is stopped.
+    Stopped,
+    Refused(Refusal),
+    /// The datastore's revision, and all routes.
+    Routes(u64, Seq<Route>),
+    RoutesSince(Since),
+}
+
+/// Appends the line of the reply, which ends by its line feed.
+pub fn push_reply(alloc: Global, out: &mut String, reply: &Reply) -> Result<(), AllocError>
+    ensures ok { OnOk result (string_bytes out.new ≡ string_bytes out.old ++ reply_line reply.now) }
+    ensures err { OnErr result (string_bytes out.new ≡ string_bytes out.old) }
+{
+    let line = reply_string(alloc, reply)?;
+    out.push_str(line.as_str())
+}
+
+/// Appends the JSON of what a CNI call ends with, its status and its standard output, without a
+/// line feed.
+pub fn push_cni_reply(
+    alloc: Global,
+    out: &mut String,
+    status: u8,
+    stdout: &str,
+) -> Result<(), AllocError>
+    ensures ok { OnOk result
+        (string_bytes out.new ≡ string_bytes out.old ++ call_text status stdout.now) }
+    ensures err { OnErr result (string_bytes out.new ≡ string_bytes out.old) }
+{
+    let text = call_string(alloc, status, stdout)?;
+    out.push_str(text.as_str())
+}
+
+#[tactic(auto, unfolding(crate::specs::Replies::call_text), using(crate::proofs::NoFloats::call_without))]
+fn call_string(alloc: Global, status: u8, stdout: &str) -> Result<String, AllocError>
+    ensures { IfOk result (λ s. string_bytes s ≡ call_text status stdout.now) }
+{
+    let json = call_value(alloc, status, stdout)?;
+    json.to_string(alloc)
+}
+
+#[tactic(auto, unfolding(crate::specs::Replies::reply_line), using(crate::proofs::NoFloats::reply_without))]
+fn reply_string(alloc: Global, reply: &Reply) -> Result<String, AllocError>
+    ensures { IfOk result (λ s. string_bytes s ≡ reply_line reply.now) }
+{
+    let json = reply_value(alloc, reply)?;
+    let mut line = json.to_string(alloc)?;
+    line.push_str("\n")?;
+    Ok(line)
+}
+
+fn reply_value(alloc: Global, reply: &Reply) -> Result<Value, AllocError>
+    ensures { IfOk result (λ v. view v ≡ reply_data reply.now) }
+{
+    match reply {
+        Reply::Called(status, stdout) => call_value(alloc, *status, stdout.as_str()),
+        Reply::Answered(answer) => tagged(alloc, "answer", answer_value(alloc, answer)?),
+        Reply::Waiting => tagged(alloc, "waiting", Value::Bool(true)),
+        Reply::Stopped => tagged(alloc, "stopped", Value::Bool(true)),
+        Reply::Refused(why) => refused_value(alloc, *why),
+        Reply::Routes(revision, routes) => routes_value(alloc, *revision, routes.as_slice()),
+        Reply::RoutesSince(since) => since_value(alloc, since),
+    }
+}
+
+/// The object with this one member.
+fn tagged(alloc: Global, name: &str, value: Value) -> Result<Value, AllocError>
+    ensures { IfOk result (λ v. view v ≡ tagged name.now (view value)) }
+{
+    let mut members = Map::new(alloc);
+    put(&mut members, alloc, name, value)?;
+    Ok(Value::Object(members))
+}
+
+#[tactic(auto, unfolding(crate::specs::Replies::call_data))]
+fn call_value(alloc: Global, status: u8, stdout: &str) -> Result<Value, AllocError>
+    ensures { IfOk result (λ v. view v ≡ call_data status stdout.now) }
+{
+    json!(in alloc; {"status": status, "stdout": stdout})
+}
+
+fn refused_value(alloc: Global, why: Refusal) -> Result<Value, AllocError>
+    ensures { IfOk result (λ v. view v ≡ reply_data (Reply.Refused why)) }
+{
+    let name = Value::try_from_str(alloc, why.name())?;
+    tagged(alloc, "refused", name)
+}
+
+fn since_value(alloc: Global, since: &Since) -> Result<Value, AllocError>
+    ensures { IfOk result (λ v. view v ≡ since_data since.now) }
+{
+    match since {
+        Since::Changes(revision, changes) => { changes_value(alloc, *revision, changes.as_slice()) }
+        Since::Compacted(revision) => tagged(alloc, "compacted", Value::from(*revision)),
+        Since::Ahead(revision) => tagged(alloc, "ahead", Value::from(*revision)),
+    }
+}
+
+#[tactic(auto, unfolding(crate::specs::Replies::routes_data))]
+fn routes_value(alloc: Global, revision: u64, routes: &[Route]) -> Result<Value, AllocError>
+    ensures { IfOk result (λ v. view v ≡ routes_data revision routes.now) }
+{
+    let mut list = Vec::new(alloc);
+    for route in routes {
+        list.push(route_value(alloc, route)?)?;
+    }
+    let routes = Value::Array(list);
+    json!(in alloc; {"revision": revision, "routes": routes})
+}
+
+#[tactic(auto, unfolding(crate::specs::Replies::changes_data))]
+fn changes_value(alloc: Global, revision: u64, changes: &[Change]) -> Result<Value, AllocError>
+    ensures { IfOk result (λ v. view v ≡ changes_data revision changes.now) }
+{
+    let mut list = Vec::new(alloc);
+    for change in changes {
+        list.push(change_value(alloc, change)?)?;
+    }
+    let changes = Value::Array(list);
+    json!(in alloc; {"changes": changes, "revision": revision})
+}
+
+#[tactic(auto, unfolding(crate::specs::Replies::route_data))]
+fn route_value(alloc: Global, route: &Route) -> Result<Value, AllocError>
+    ensures { IfOk result (λ v. view v ≡ route_data route.now) }
+{
+    let cidr = cidr_string(alloc, route.cidr)?;
+    let node = route.node.as_str();
+    json!(in alloc; {"cidr": cidr, "node": node})
+}
+
+#[tactic(auto, unfolding(crate::specs::Replies::change_data))]
+fn change_value(alloc: Global, change: &Change) -> Result<Value, AllocError>
+    ensures { IfOk result (λ v. view v ≡ change_data change.now) }
+{
+    let cidr = cidr_string(alloc, change.route.cidr)?;
+    let node = change.route.node.as_str();
+    json!(in alloc; {"cidr": cidr, "node": node, "revision": change.revision, "up": change.up})
+}
+
+fn cidr_string(alloc: Global, cidr: Cidr) -> Result<String, AllocError>
+    ensures { IfOk result (λ s. string_bytes s ≡ cidr_text_of cidr) }
+{
+    let mut text = String::new(alloc);
+    push_cidr(alloc, &mut text, cidr)?;
+    Ok(text)
+}

@@ -1,0 +1,18 @@
+use ipam_model::Request;
+use ipam_text::{Seq, Text};
+
+/// What a line of a session asks.
+#[derive(Debug, Drop)]
+pub enum Wish {
+    /// A CNI call with this environment and this standard input.
+    Cni(Seq<(Text, Text)>, Text),
+    Request(Request),
+    /// The collection that waits is fed this second list.
+    Feed(Seq<Text>),
+    /// The collection that waits is stopped.
+    Stop,
+    /// All routes.
+    Routes,
+    /// What became of the routes after this revision.
+    RoutesSince(u64),
+}
