@@ -102,10 +102,10 @@ granted-list kind (Conflict revision) = refl
 granted-list kind Full = refl
 granted-list kind Spent = refl
 
-behind-get : (store : Datastore) (k : Key) → behind store (call.Get k) ≡ store
+pub behind-get : (store : Datastore) (k : Key) → behind store (call.Get k) ≡ store
 behind-get store k = ap (λ w. store_with w store) (granted-get k (reply_of store (call.Get k)))
 
-behind-list : (store : Datastore) (kind : Kind) → behind store (call.List kind) ≡ store
+pub behind-list : (store : Datastore) (kind : Kind) → behind store (call.List kind) ≡ store
 behind-list store kind = ap (λ w. store_with w store) (granted-list kind (reply_of store (call.List kind)))
 
 -- the record of a write is known

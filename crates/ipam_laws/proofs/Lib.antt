@@ -112,3 +112,5 @@ pub mod EarlierSpans
 pub mod SpanPoints
 pub mod LabelHistory
 pub mod LabelLaws
+pub mod AloneRuns
+pub mod AloneLooks

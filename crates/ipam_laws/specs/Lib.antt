@@ -1,2 +1,3 @@
 -- Most laws are stated in the model.
 pub mod RightAnswers
+pub mod AlonePlain

@@ -3,6 +3,7 @@
 #![tactic(auto)]
 
 pub mod affinities;
+pub mod alone;
 pub mod answers;
 pub mod blocks;
 pub mod bounds;
