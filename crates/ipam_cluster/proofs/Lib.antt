@@ -6,3 +6,4 @@ pub mod Standing
 pub mod Asking
 pub mod Opening
 pub mod Events
+pub mod RowTexts

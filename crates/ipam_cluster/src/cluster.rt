@@ -14,6 +14,7 @@ ghost use Rattle.ipam_cluster.specs.Slots.{slot_in, IsDue, MayGo, RunsOn};
 use crate::base::Base;
 use crate::copies::{live_copied, request_copied};
 use crate::faults::{BeginFault, FeedFault};
+use crate::rows::rows_by_key;
 use crate::slots::{feed, go, idle_slots, put};
 use ipam_model::{Answer, Entry, Request, SlotState};
 use ipam_opening::{OpenFault, open};
@@ -41,7 +42,7 @@ pub struct Cluster {
 
 impl Cluster {
     ghost use Rattle.ipam_cluster.specs.Cluster.{slot_of, state_in, AddsTo, IsUnchanged, StandsFor, WaitsWith};
-    ghost use Rattle.ipam_cluster.specs.Turns.{texts_in};
+    ghost use Rattle.ipam_cluster.specs.Turns.{IsBaseOf, texts_in};
     ghost use Rattle.ipam_collect.specs.declared.collect.Grace.{Grace};
     ghost use Rattle.ipam_model.specs.declared.entry.SlotState.TheVariants as state;
     ghost use Rattle.ipam_model.specs.Opened.{AreByKey, OpensAs};
@@ -230,6 +231,19 @@ impl Cluster {
         }
         self.put(slot, None);
         Some(Entry::Stopped(slot))
+    }
+
+    /// The rows by ascending key, the counter, and how many entries there were: what may be opened again.
+    #[tactic(auto, using(crate::proofs::RowTexts::is_text))]
+    pub fn base(&self, alloc: Global) -> Result<Base, AllocError>
+        ensures { IfOk result (λ base. IsBaseOf base self.now) }
+    {
+        let rows = rows_by_key(alloc, &self.store)?;
+        Ok(Base {
+            rows,
+            counter: self.store.counter(),
+            first: self.entries,
+        })
     }
 
     /// One entry more, behind which this runs in the slot.

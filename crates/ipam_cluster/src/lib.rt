@@ -5,6 +5,7 @@ mod base;
 mod cluster;
 mod copies;
 mod faults;
+mod rows;
 mod slots;
 mod turns;
 
