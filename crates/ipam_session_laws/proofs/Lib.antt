@@ -1,0 +1,4 @@
+-- What is sent is read, and what is replied is taken.
+pub mod Pairs
+pub mod CallsRead
+pub mod RepliesTaken
