@@ -2,3 +2,6 @@
 pub mod Pairs
 pub mod CallsRead
 pub mod RepliesTaken
+pub mod Looks
+pub mod Variables
+pub mod CallsBegun

@@ -6,6 +6,7 @@ ghost use Rattle.std.specs.Prelude.{◌≡◌, ℕ, ◌≤◌, List, Some, IsUtf
 ghost use Rattle.cni_types.specs.Reading.{Pair};
 ghost use Rattle.ipam_call.specs.Replies.{reply_of_line};
 ghost use Rattle.ipam_call.specs.Requests.{call_text as text_sent};
+ghost use Rattle.ipam_session.specs.Calls.{call_begun};
 ghost use Rattle.ipam_session.specs.Replies.{call_text as text_replied};
 ghost use Rattle.ipam_session.specs.Wishes.{wish_of_line};
 ghost use Rattle.ipam_session.specs.declared.wish.Wish.TheVariants.{Cni};
@@ -17,6 +18,14 @@ ghost use Rattle.ipam_session_laws.specs.Sent.{HasTextValues, pairs_sent};
 pub fn calls_that_are_sent_are_read()
     ensures { (env : List Pair) (input : List ℕ) → HasTextValues env → IsUtf8 input
         → wish_of_line (text_sent env input) ≡ Some (Cni (pairs_sent env) input) }
+{}
+
+/// A session begins of what is sent what it would begin of the whole environment, or refuses it
+/// alike.
+#[tactic(auto, using(crate::proofs::CallsBegun::sent_begins))]
+pub fn what_is_sent_tells_the_whole_call()
+    ensures { (env : List Pair) (input : List ℕ)
+        → call_begun (pairs_sent env) input ≡ call_begun env input }
 {}
 
 /// The reply to a call is taken as its status and its standard output.
