@@ -1,0 +1,2 @@
+-- What of an environment is sent.
+pub mod Sent
