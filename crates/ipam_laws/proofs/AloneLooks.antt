@@ -79,7 +79,7 @@ probe-family request V6 = refl
 
 -- the five reads of a round see what the rows show
 module _ {A : Type 0} (family : Family) (follows : Scan → Seen → Word A) where
-  abbrev next5 : (c p r f : ℕ) → (config pools reservations affinities : Said) → ℕ → Said → Word A
+  abbrev pub next5 : (c p r f : ℕ) → (config pools reservations affinities : Said) → ℕ → Said → Word A
   next5 c p r f config pools reservations affinities b blocks =
       follows
       (record { family = family; c = c; p = p; r = r; f = f; b = b })
@@ -91,16 +91,16 @@ module _ {A : Type 0} (family : Family) (follows : Scan → Seen → Word A) whe
         blocks = rows_said blocks;
       })
 
-  abbrev next4 : (c p r : ℕ) → (config pools reservations : Said) → ℕ → Said → Word A
+  abbrev pub next4 : (c p r : ℕ) → (config pools reservations : Said) → ℕ → Said → Word A
   next4 c p r config pools reservations f affinities = Asks idle (ListAll kind.Block) (next5 c p r f config pools reservations affinities)
 
-  abbrev next3 : (c p : ℕ) → (config pools : Said) → ℕ → Said → Word A
+  abbrev pub next3 : (c p : ℕ) → (config pools : Said) → ℕ → Said → Word A
   next3 c p config pools r reservations = Asks idle (ListAll kind.Affinity) (next4 c p r config pools reservations)
 
-  abbrev next2 : (c : ℕ) → (config : Said) → ℕ → Said → Word A
+  abbrev pub next2 : (c : ℕ) → (config : Said) → ℕ → Said → Word A
   next2 c config p pools = Asks idle (Get key.Reservations) (next3 c p config pools)
 
-  abbrev next1 : ℕ → Said → Word A
+  abbrev pub next1 : ℕ → Said → Word A
   next1 c config = Asks idle (Get key.Pools) (next2 c config)
 
   pub five-run : (live : List (List ℕ)) (Q : Datastore → A → Type 0) (store : Datastore) (moment : ℕ)

@@ -114,3 +114,10 @@ pub mod LabelHistory
 pub mod LabelLaws
 pub mod AloneRuns
 pub mod AloneLooks
+pub mod AloneCalls
+pub mod AloneParts
+pub mod AloneChoice
+pub mod AloneAdds
+pub mod AloneOthers
+pub mod AloneThis
+pub mod AloneAgain

@@ -165,7 +165,7 @@ probe-says request scans (family ∷ families) trail rests =
 -- ---- changes of settings
 
 -- a change is of neither a block, an affinity nor a handle
-abbrev IsSetting : Key → Type 0
+abbrev pub IsSetting : Key → Type 0
 IsSetting key.Config = Unit {0}
 IsSetting key.Pools = Unit {0}
 IsSetting key.Reservations = Unit {0}
@@ -173,7 +173,7 @@ IsSetting (key.Block cidr) = ⊥
 IsSetting (key.Affinity node cidr) = ⊥
 IsSetting (key.Handle id) = ⊥
 
-changed-setting : (setting : Setting) → IsSetting (change.key_changed setting)
+pub changed-setting : (setting : Setting) → IsSetting (change.key_changed setting)
 changed-setting (change_of.Pool pool) = tt
 changed-setting (change_of.Disable name disabled) = tt
 changed-setting (change_of.Reserve new) = tt

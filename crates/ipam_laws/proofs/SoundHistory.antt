@@ -49,7 +49,7 @@ remove-datastore store gone left h = record {
   counted = omega arith;
 }
 
-next-datastore : (store next : Datastore) → StoreStep store next → SoundStep store next → IsDatastore store → IsDatastore next
+pub next-datastore : (store next : Datastore) → StoreStep store next → SoundStep store next → IsDatastore store → IsDatastore next
 next-datastore store next step (sound_step.Nothing e) h = subst (λ (s : Datastore). IsDatastore s) (sym e) h
 next-datastore store next step (sound_step.Puts new e put) h =
     subst (λ (s : Datastore). IsDatastore s) (sym e) (put-datastore store new (written-left store next step (ap (λ (s : Datastore). s.counter) e)) put h)

@@ -142,7 +142,7 @@ write-step store (call.Delete key old) revision e =
     let (is, there) = change-next store old (row_of key store.rows) revision e in
     Removes key (ap (λ r. written store (Remove r key)) is.next) is.left
 
-granted-step : (store : Datastore) (asked : Call) (reply : Said) → reply_of store asked ≡ reply → StoreStep store (store_with (write_granted asked reply) store)
+pub granted-step : (store : Datastore) (asked : Call) (reply : Said) → reply_of store asked ≡ reply → StoreStep store (store_with (write_granted asked reply) store)
 granted-step store asked (Can revision) e = write-step store asked revision e
 granted-step store asked (Found revision found) e = Stays refl
 granted-step store asked Missing e = Stays refl

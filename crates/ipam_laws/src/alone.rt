@@ -1,5 +1,6 @@
 //! What requests come to that run alone.
 ghost use Rattle.ipam_laws.specs.AlonePlain.{CheckAloneLaw, ProbeAloneLaw};
+ghost use Rattle.ipam_model.specs.Alone.{AloneAgainLaw};
 
 /// A CHECK that runs alone says what the records say, and leaves them as they are.
 pub fn a_check_alone_says_what_the_records_say()
@@ -10,4 +11,11 @@ pub fn a_check_alone_says_what_the_records_say()
 /// be given of each wanted family, or of which family none can, or which name no pool has.
 pub fn a_probe_alone_says_what_the_records_say()
     ensures { ProbeAloneLaw }
+{}
+
+/// A request that runs alone over a consistent base is never answered that it was tried too often,
+/// whether there is room, revisions and counts enough or not: it loses no race, and an ADD claims one
+/// block of each family at most.
+pub fn a_request_alone_is_never_tried_too_often()
+    ensures { AloneAgainLaw }
 {}
