@@ -39,6 +39,12 @@ NoClaim (Picks ranked) = IsTaken ranked.rank
 NoClaim Lacks = Unit {0}
 NoClaim (Unknown place) = Unit {0}
 
+-- something is picked
+abbrev pub IsPicked : Pick → Type 0
+IsPicked (Picks ranked) = Unit {0}
+IsPicked Lacks = ⊥
+IsPicked (Unknown place) = ⊥
+
 -- ---- room
 
 -- an address that is not reserved is found among the ordinals
@@ -154,14 +160,23 @@ picks-no_claim (Picks ranked) none = by ranked.rank none
     by (Unclaimed read) h = h tt
     by (Foreign found ordinal) h = tt
 
-first-rank : (asked : Asked) (seen : Seen) (c : Candidate) → IsCandidate asked seen c → rank_in c ≡ 0 → unknown_name asked seen.pools ≡ None → NoClaim (pick_of asked seen)
-first-rank asked seen c candidate zero_is none = picks-no_claim (pick_of asked seen) (λ t. by (best-choice asked seen none) t)
+picks-some : (pick : Pick) (slot : CidrValue) → slot_in (choice_in pick) ≡ Some slot → IsPicked pick
+picks-some Lacks slot e = absurd (cc e)
+picks-some (Unknown place) slot e = absurd (cc e)
+picks-some (Picks ranked) slot e = tt
+
+first-rank : (asked : Asked) (seen : Seen) (c : Candidate) → IsCandidate asked seen c → rank_in c ≡ 0 → unknown_name asked seen.pools ≡ None → NoClaim (pick_of asked seen) × IsPicked (pick_of asked seen)
+first-rank asked seen c candidate zero_is none = (picks-no_claim (pick_of asked seen) (λ t. by (best-choice asked seen none) t), some (best-choice asked seen none))
   where
     by : IsBest asked seen (choice_of asked seen) → ¬ (IsClaimChoice (choice_of asked seen))
     by (inl (no_candidate, nothing)) t = no_candidate c candidate
     by (inr (first, same)) t =
         let least = least-rank first.best c (first.first c candidate) zero_is in
         own-taken first.best.ranked.slot first.best.ranked.rank least (subst (λ (choice : Choice). IsClaimChoice choice) same t)
+
+    some : IsBest asked seen (choice_of asked seen) → IsPicked (pick_of asked seen)
+    some (inl (no_candidate, nothing)) = absurd (no_candidate c candidate)
+    some (inr (first, same)) = picks-some (pick_of asked seen) first.best.ranked.slot (ap slot_in same ∙ chosen-slot first.best.ranked.slot first.best.ranked.rank)
 
 -- ---- behind a claim
 
@@ -194,7 +209,7 @@ own-rank asked rows then slot read rank ranked h =
     taken-own node slot None = same_text node
     taken-own node slot (Some found) = same_text node
 
-pub claimed-no_claim : (asked : Asked) (rows then : List Row) (ranked : Ranked) (read : BlockRead) → pick_of asked (seen_in rows) ≡ Picks ranked → block_at (seen_in rows) ranked.slot ≡ read → IsClaimed rows then asked.node ranked.slot read → NoClaim (pick_of asked (seen_in then))
+pub claimed-no_claim : (asked : Asked) (rows then : List Row) (ranked : Ranked) (read : BlockRead) → pick_of asked (seen_in rows) ≡ Picks ranked → block_at (seen_in rows) ranked.slot ≡ read → IsClaimed rows then asked.node ranked.slot read → NoClaim (pick_of asked (seen_in then)) × IsPicked (pick_of asked (seen_in then))
 claimed-no_claim asked rows then ranked read picked is h =
     let seen = seen_in rows in
     let later = seen_in then in
