@@ -10,8 +10,7 @@ use Rattle.ipam_records.specs.declared.record.Record.{Record}
 use Rattle.ipam_records.specs.declared.record.Record.TheVariants as record_of
 use Rattle.ipam_records.specs.Datastore.{Datastore, reply_of, row_of}
 use Rattle.ipam_records.specs.Label.{idle}
-use Rattle.ipam_records.specs.Said.{Said}
-use Rattle.ipam_records.specs.Word.{Asks, Ends, Word}
+use Rattle.ipam_records.specs.Word.{Ends, Word}
 use Rattle.ipam_records.proofs.DatastoreLemmas.{row_key-row_of}
 use Rattle.ipam_model.specs.declared.answer.Scan.{Scan}
 use Rattle.ipam_model.specs.declared.outcome.AddAnswer.{AddAnswer}
@@ -26,21 +25,21 @@ use Rattle.ipam_model.specs.declared.part.Outcome.TheVariants.{Went, Stops}
 use Rattle.ipam_model.specs.declared.part.Stop.{Stop}
 use Rattle.ipam_model.specs.declared.part.Stop.TheVariants.{OutOfTries, OutOfClaims, NoRoom, CountAtLimit, NoRevisions}
 use Rattle.ipam_model.specs.declared.request.AddRequest.{AddRequest}
-use Rattle.ipam_model.specs.Add.{NextRound, Round, add_each, add_stops, add_word, after_assign, after_family, after_stop, asked_of, claim_in, five_reads, follow_pick, follow_rank, free_gift, refuse, round_of, serve, take_in}
+use Rattle.ipam_model.specs.Add.{NextRound, add_each, add_stops, add_word, after_assign, after_family, after_stop, asked_of, claim_in, five_reads, follow_pick, follow_rank, free_gift, refuse, round_of, serve, take_in}
 use Rattle.ipam_model.specs.Affinities.{BlockRead}
 use Rattle.ipam_model.specs.AffinityLaw.{HasAt}
-use Rattle.ipam_model.specs.Assigning.{Target, assign, claim_for, target_in}
+use Rattle.ipam_model.specs.Assigning.{assign, claim_for, target_in}
 use Rattle.ipam_model.specs.Choice.{Foreign, Lacks, Own, Pick, Picks, Rank, Ranked, Seen, Unclaimed, Unconfirmed, Unknown, block_at, block_in_found, pick_of}
-use Rattle.ipam_model.specs.Counting.{free, freeing_one}
+use Rattle.ipam_model.specs.Counting.{freeing_one}
 use Rattle.ipam_model.specs.Plain.{seen_in}
-use Rattle.ipam_model.specs.Reads.{Row, config_said, pools_said, reservations_said, rows_said}
-use Rattle.ipam_model.specs.Step.{Part, StopAnswers, all_left, answer_of, followed, left_of, onward, rounds, settled, stop_answer, stops}
+use Rattle.ipam_model.specs.Reads.{Row}
+use Rattle.ipam_model.specs.Step.{Part, all_left, answer_of, left_of, onward, rounds, stops}
 use Rattle.ipam_model.specs.Usable.{families_if}
 use Rattle.ipam_laws.proofs.AddRounds.{HasRead, picked-read}
 use Rattle.ipam_laws.proofs.AloneCalls.{Runs, Runs-bound, runs-get, runs-list}
 use Rattle.ipam_laws.proofs.AloneLooks.{next1, next2, next3, next4, next5}
-use Rattle.ipam_laws.proofs.AloneChoice.{IsClaimed, IsPicked, IsTaken, NoClaim, claimed-no_claim}
-use Rattle.ipam_laws.proofs.AloneParts.{AssignEnds, ClaimForEnds, ClaimedIn, IsWant, Unlost, assign-runs, claim_for-runs, free-runs, taken-cidr}
+use Rattle.ipam_laws.proofs.AloneChoice.{IsPicked, IsTaken, NoClaim, claimed-no_claim}
+use Rattle.ipam_laws.proofs.AloneParts.{AssignEnds, ClaimForEnds, IsWant, Unlost, assign-runs, claim_for-runs, free-runs, taken-cidr}
 use Rattle.ipam_laws.proofs.Calls.{found-block}
 use Rattle.ipam_laws.proofs.Steps.{IsAsRead}
 use Rattle.ipam_laws.proofs.WordSteps.{listed-block}

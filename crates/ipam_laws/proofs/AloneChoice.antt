@@ -1,13 +1,11 @@
 -- Behind a claim the choice is not to claim again.
-use Rattle.std.proofs.Common.{◌≡◌, ◌≢◌, ℕ, zero, suc, ◌+◌, ◌<◌, ◌≤◌, ◌⊎◌, inl, inr, Bool, true, false, cond, IsTrue, List, [], ◌∷◌, Option, Some, None, refl, sym, ap, ◌∙◌, subst, arith, bytes_eq}
+use Rattle.std.proofs.Common.{◌≡◌, ℕ, zero, suc, ◌+◌, ◌⊎◌, inl, inr, Bool, true, false, cond, List, [], ◌∷◌, Option, Some, None, refl, sym, ap, ◌∙◌, subst, arith}
 use Rattle.std.specs.Prelude.{Contains, MatchOption, slice_get, not, ◌&&◌, ◌||◌, is_some}
 use Rattle.std.specs.List.{filter, find, list_any, range_with_len}
 use Rattle.ipam_addr.specs.Shape.{AddrValue, CidrValue}
 use Rattle.ipam_addr.specs.Width.{cidr_size}
 use Rattle.ipam_affinity.specs.declared.state.State.TheVariants.{Confirmed}
-use Rattle.ipam_block.specs.Shape.{BlockValue}
-use Rattle.ipam_block.specs.Operations.{address_of, affine_to, fresh_block, next_block}
-use Rattle.ipam_pool.specs.declared.pools.Pool.{Pool}
+use Rattle.ipam_block.specs.Operations.{address_of}
 use Rattle.ipam_reserve.specs.Union.{is_in_union}
 use Rattle.ipam_records.specs.declared.key.Key.TheVariants as key
 use Rattle.ipam_records.specs.declared.key.Kind.TheVariants as kind
@@ -17,9 +15,9 @@ use Rattle.ipam_records.specs.KeyOrder.{is_of_kind, keys_equal}
 use Rattle.ipam_model.specs.declared.choice.Choice.{Choice}
 use Rattle.ipam_model.specs.declared.choice.Choice.TheVariants.{Use, Claim, Borrow, Nothing, NoPool}
 use Rattle.ipam_model.specs.Affinities.{BlockRead, affinity}
-use Rattle.ipam_model.specs.Choice.{Candidate, FirstCandidate, Foreign, IsBest, IsCandidate, IsNotBehind, Lacks, Own, Pick, Picks, Rank, Ranked, Seen, Unclaimed, Unconfirmed, Unknown, best_of_ranks, block_at, block_in_found, by_number, by_place, by_rank, choice_in, choice_of, chosen, first_found, free_address, has_free_address, is_confirmed_for, is_node, is_reserved, is_unowned_and_empty, may_claim, pick_of, pick_unless, rank_at, rank_in, rank_number, rank_of, rank_of_block, room_of}
+use Rattle.ipam_model.specs.Choice.{Candidate, Foreign, IsBest, IsCandidate, IsNotBehind, Lacks, Own, Pick, Picks, Rank, Ranked, Seen, Unclaimed, Unconfirmed, Unknown, block_at, block_in_found, by_number, by_place, by_rank, choice_in, choice_of, chosen, first_found, free_address, has_free_address, is_confirmed_for, is_node, is_reserved, may_claim, pick_of, pick_unless, rank_at, rank_in, rank_number, rank_of, rank_of_block, room_of}
 use Rattle.ipam_model.specs.Plain.{seen_in}
-use Rattle.ipam_model.specs.Reads.{Row, config_said, pools_said, reservations_said}
+use Rattle.ipam_model.specs.Reads.{Row, pools_said, reservations_said}
 use Rattle.ipam_model.specs.Usable.{Asked, unknown_name}
 use Rattle.ipam_model.proofs.ChoiceLemmas.{choice_is, pick-ranked}
 use Rattle.ipam_laws.proofs.CountLemmas.{same_itself, same_text}

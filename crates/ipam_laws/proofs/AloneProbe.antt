@@ -1,18 +1,14 @@
 -- A probe alone tells of an ADD alone of one family.
-use Rattle.std.proofs.Common.{◌≡◌, ◌≢◌, ℕ, ◌+◌, false, List, [], ◌∷◌, ◌++◌, Option, Some, None, refl, sym, ap, ◌∙◌, subst}
+use Rattle.std.proofs.Common.{◌≡◌, ◌≢◌, ℕ, ◌+◌, false, List, [], ◌∷◌, ◌++◌, Some, refl, sym, ap, ◌∙◌, subst}
 use Rattle.ipam_addr.specs.declared.address.Family.{Family}
 use Rattle.ipam_addr.specs.declared.address.Family.TheVariants.{V4, V6}
-use Rattle.ipam_addr.specs.Shape.{CidrValue}
 use Rattle.ipam_records.specs.Datastore.{Datastore}
-use Rattle.ipam_records.specs.Word.{Ends, Word}
+use Rattle.ipam_records.specs.Word.{Ends}
 use Rattle.ipam_model.specs.declared.answer.Answer.{Answer}
 use Rattle.ipam_model.specs.declared.answer.Answer.TheVariants as answer
 use Rattle.ipam_model.specs.declared.answer.Given.{Given}
-use Rattle.ipam_model.specs.declared.choice.Choice.{Choice}
-use Rattle.ipam_model.specs.declared.choice.Choice.TheVariants.{Use, Borrow, Claim, Nothing, NoPool}
 use Rattle.ipam_model.specs.declared.outcome.AddAnswer.{AddAnswer}
 use Rattle.ipam_model.specs.declared.outcome.AddAnswer.TheVariants as add
-use Rattle.ipam_model.specs.declared.outcome.Gift.{Gift}
 use Rattle.ipam_model.specs.declared.outcome.Served.{Served}
 use Rattle.ipam_model.specs.declared.outcome.Served.TheVariants.{Gave, Refused}
 use Rattle.ipam_model.specs.declared.part.Left.{Left}
@@ -27,12 +23,9 @@ use Rattle.ipam_model.specs.Add.{add_each, add_stops, add_word, after_family, af
 use Rattle.ipam_model.specs.AffinityLaw.{HasAt}
 use Rattle.ipam_model.specs.Alone.{alone_over}
 use Rattle.ipam_model.specs.Choice.{Foreign, Lacks, Own, Pick, Picks, Rank, Unclaimed, Unconfirmed, Unknown, choice_in, choice_of, chosen, pick_of}
-use Rattle.ipam_model.specs.Consistent.{IsConsistent}
-use Rattle.ipam_model.specs.History.{Base}
 use Rattle.ipam_model.specs.Look.{asked_of_probe}
-use Rattle.ipam_model.specs.Plain.{CanGive, PlainAnswer, plain_of, plain_probe, plain_probe_next, seen_in}
+use Rattle.ipam_model.specs.Plain.{CanGive, plain_of, plain_probe, plain_probe_next, seen_in}
 use Rattle.ipam_model.specs.Requests.{told_as, word_of}
-use Rattle.ipam_model.specs.SoundRequest.{IsSoundRequest}
 use Rattle.ipam_model.specs.Step.{all_left, answer_of}
 use Rattle.ipam_model.specs.Told.{of_add}
 use Rattle.ipam_model.specs.Usable.{Asked, families_if}
