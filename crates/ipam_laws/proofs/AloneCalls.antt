@@ -1,16 +1,14 @@
 -- What a word comes to that runs alone over a consistent store: whatever happens, the records stay sound
 -- and counts cover addresses and what is owed.
-use Rattle.std.proofs.Common.{◌≡◌, ◌≢◌, ℕ, ◌+◌, ◌≤◌, ◌⊎◌, inl, inr, Bool, true, false, cond, List, Option, Some, None, refl, sym, ap, ◌∙◌, subst, arith}
+use Rattle.std.proofs.Common.{◌≡◌, ℕ, ◌+◌, ◌≤◌, ◌⊎◌, inl, inr, Bool, true, false, cond, List, Option, None, refl, sym, ap, subst, arith}
 use Rattle.std.specs.Prelude.{◌==◌, nat_lt}
 use Rattle.std.proofs.lemmas.Bool.{eqb-false}
 use Rattle.ipam_addr.specs.Shape.{CidrValue}
-use Rattle.ipam_records.specs.declared.call.Call.{Call}
 use Rattle.ipam_records.specs.declared.call.Call.TheVariants.{Get, List as ListAll, Create, Update, Delete}
-use Rattle.ipam_records.specs.declared.call.Write.TheVariants.{Put, Remove}
 use Rattle.ipam_records.specs.declared.key.Key.{Key}
 use Rattle.ipam_records.specs.declared.key.Kind.{Kind}
 use Rattle.ipam_records.specs.declared.record.Record.{Record}
-use Rattle.ipam_records.specs.Datastore.{Datastore, granted, has_room, last_revision, reply_of, reply_to_change, reply_to_create, row_of, written}
+use Rattle.ipam_records.specs.Datastore.{Datastore, granted, has_room, last_revision, reply_of, reply_to_change, reply_to_create, row_of}
 use Rattle.ipam_records.specs.Key.{key_of}
 use Rattle.ipam_records.specs.Label.{Label, idle}
 use Rattle.ipam_records.specs.Said.{Said, Can, Conflict, Full, Spent}
@@ -29,7 +27,6 @@ use Rattle.ipam_laws.proofs.PartSteps.{Steps, still}
 use Rattle.ipam_laws.proofs.SoundBlocks.{IsSoundKnown}
 use Rattle.ipam_laws.proofs.SoundHistory.{next-datastore}
 use Rattle.ipam_laws.proofs.SoundSteps.{row-there, step-sound}
-use Rattle.ipam_laws.proofs.Steps.{Step}
 use Rattle.ipam_laws.proofs.StoreSteps.{StoreStep, Stays, Puts, Removes, granted-step}
 
 -- the records are sound, and counts cover addresses and what the label owes

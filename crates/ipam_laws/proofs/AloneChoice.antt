@@ -1,13 +1,11 @@
 -- Behind a claim the choice is not to claim again.
-use Rattle.std.proofs.Common.{◌≡◌, ◌≢◌, ℕ, zero, suc, ◌+◌, ◌<◌, ◌≤◌, ◌⊎◌, inl, inr, Bool, true, false, cond, IsTrue, List, [], ◌∷◌, Option, Some, None, refl, sym, ap, ◌∙◌, subst, arith, bytes_eq}
+use Rattle.std.proofs.Common.{◌≡◌, ℕ, zero, suc, ◌+◌, ◌⊎◌, inl, inr, Bool, true, false, cond, List, [], ◌∷◌, Option, Some, None, refl, sym, ap, ◌∙◌, subst, arith}
 use Rattle.std.specs.Prelude.{Contains, MatchOption, slice_get, not, ◌&&◌, ◌||◌, is_some}
 use Rattle.std.specs.List.{filter, find, list_any, range_with_len}
 use Rattle.ipam_addr.specs.Shape.{AddrValue, CidrValue}
 use Rattle.ipam_addr.specs.Width.{cidr_size}
 use Rattle.ipam_affinity.specs.declared.state.State.TheVariants.{Confirmed}
-use Rattle.ipam_block.specs.Shape.{BlockValue}
-use Rattle.ipam_block.specs.Operations.{address_of, affine_to, fresh_block, next_block}
-use Rattle.ipam_pool.specs.declared.pools.Pool.{Pool}
+use Rattle.ipam_block.specs.Operations.{address_of}
 use Rattle.ipam_reserve.specs.Union.{is_in_union}
 use Rattle.ipam_records.specs.declared.key.Key.TheVariants as key
 use Rattle.ipam_records.specs.declared.key.Kind.TheVariants as kind
@@ -17,9 +15,9 @@ use Rattle.ipam_records.specs.KeyOrder.{is_of_kind, keys_equal}
 use Rattle.ipam_model.specs.declared.choice.Choice.{Choice}
 use Rattle.ipam_model.specs.declared.choice.Choice.TheVariants.{Use, Claim, Borrow, Nothing, NoPool}
 use Rattle.ipam_model.specs.Affinities.{BlockRead, affinity}
-use Rattle.ipam_model.specs.Choice.{Candidate, FirstCandidate, Foreign, IsBest, IsCandidate, IsNotBehind, Lacks, Own, Pick, Picks, Rank, Ranked, Seen, Unclaimed, Unconfirmed, Unknown, best_of_ranks, block_at, block_in_found, by_number, by_place, by_rank, choice_in, choice_of, chosen, first_found, free_address, has_free_address, is_confirmed_for, is_node, is_reserved, is_unowned_and_empty, may_claim, pick_of, pick_unless, rank_at, rank_in, rank_number, rank_of, rank_of_block, room_of}
+use Rattle.ipam_model.specs.Choice.{Candidate, Foreign, IsBest, IsCandidate, IsNotBehind, Lacks, Own, Pick, Picks, Rank, Ranked, Seen, Unclaimed, Unconfirmed, Unknown, block_at, block_in_found, by_number, by_place, by_rank, choice_in, choice_of, chosen, first_found, free_address, has_free_address, is_confirmed_for, is_node, is_reserved, may_claim, pick_of, pick_unless, rank_at, rank_in, rank_number, rank_of, rank_of_block, room_of}
 use Rattle.ipam_model.specs.Plain.{seen_in}
-use Rattle.ipam_model.specs.Reads.{Row, config_said, pools_said, reservations_said}
+use Rattle.ipam_model.specs.Reads.{Row, pools_said, reservations_said}
 use Rattle.ipam_model.specs.Usable.{Asked, unknown_name}
 use Rattle.ipam_model.proofs.ChoiceLemmas.{choice_is, pick-ranked}
 use Rattle.ipam_laws.proofs.CountLemmas.{same_itself, same_text}
@@ -38,6 +36,12 @@ abbrev pub NoClaim : Pick → Type 0
 NoClaim (Picks ranked) = IsTaken ranked.rank
 NoClaim Lacks = Unit {0}
 NoClaim (Unknown place) = Unit {0}
+
+-- something is picked
+abbrev pub IsPicked : Pick → Type 0
+IsPicked (Picks ranked) = Unit {0}
+IsPicked Lacks = ⊥
+IsPicked (Unknown place) = ⊥
 
 -- ---- room
 
@@ -154,14 +158,23 @@ picks-no_claim (Picks ranked) none = by ranked.rank none
     by (Unclaimed read) h = h tt
     by (Foreign found ordinal) h = tt
 
-first-rank : (asked : Asked) (seen : Seen) (c : Candidate) → IsCandidate asked seen c → rank_in c ≡ 0 → unknown_name asked seen.pools ≡ None → NoClaim (pick_of asked seen)
-first-rank asked seen c candidate zero_is none = picks-no_claim (pick_of asked seen) (λ t. by (best-choice asked seen none) t)
+picks-some : (pick : Pick) (slot : CidrValue) → slot_in (choice_in pick) ≡ Some slot → IsPicked pick
+picks-some Lacks slot e = absurd (cc e)
+picks-some (Unknown place) slot e = absurd (cc e)
+picks-some (Picks ranked) slot e = tt
+
+first-rank : (asked : Asked) (seen : Seen) (c : Candidate) → IsCandidate asked seen c → rank_in c ≡ 0 → unknown_name asked seen.pools ≡ None → NoClaim (pick_of asked seen) × IsPicked (pick_of asked seen)
+first-rank asked seen c candidate zero_is none = (picks-no_claim (pick_of asked seen) (λ t. by (best-choice asked seen none) t), some (best-choice asked seen none))
   where
     by : IsBest asked seen (choice_of asked seen) → ¬ (IsClaimChoice (choice_of asked seen))
     by (inl (no_candidate, nothing)) t = no_candidate c candidate
     by (inr (first, same)) t =
         let least = least-rank first.best c (first.first c candidate) zero_is in
         own-taken first.best.ranked.slot first.best.ranked.rank least (subst (λ (choice : Choice). IsClaimChoice choice) same t)
+
+    some : IsBest asked seen (choice_of asked seen) → IsPicked (pick_of asked seen)
+    some (inl (no_candidate, nothing)) = absurd (no_candidate c candidate)
+    some (inr (first, same)) = picks-some (pick_of asked seen) first.best.ranked.slot (ap slot_in same ∙ chosen-slot first.best.ranked.slot first.best.ranked.rank)
 
 -- ---- behind a claim
 
@@ -194,7 +207,7 @@ own-rank asked rows then slot read rank ranked h =
     taken-own node slot None = same_text node
     taken-own node slot (Some found) = same_text node
 
-pub claimed-no_claim : (asked : Asked) (rows then : List Row) (ranked : Ranked) (read : BlockRead) → pick_of asked (seen_in rows) ≡ Picks ranked → block_at (seen_in rows) ranked.slot ≡ read → IsClaimed rows then asked.node ranked.slot read → NoClaim (pick_of asked (seen_in then))
+pub claimed-no_claim : (asked : Asked) (rows then : List Row) (ranked : Ranked) (read : BlockRead) → pick_of asked (seen_in rows) ≡ Picks ranked → block_at (seen_in rows) ranked.slot ≡ read → IsClaimed rows then asked.node ranked.slot read → NoClaim (pick_of asked (seen_in then)) × IsPicked (pick_of asked (seen_in then))
 claimed-no_claim asked rows then ranked read picked is h =
     let seen = seen_in rows in
     let later = seen_in then in

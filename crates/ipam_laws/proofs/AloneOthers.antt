@@ -1,13 +1,11 @@
 -- The other requests lose no race where they run alone; so none is answered that it was tried too often.
-use Rattle.std.proofs.Common.{◌≡◌, ◌≢◌, ℕ, zero, suc, ◌+◌, ◌-◌, ◌≤◌, Bool, true, false, cond, List, [], ◌∷◌, map, Option, Some, None, refl, sym, ap, ◌∙◌, subst, arith}
+use Rattle.std.proofs.Common.{◌≡◌, ◌≢◌, ℕ, ◌+◌, Bool, true, false, cond, List, [], ◌∷◌, map, Option, Some, None, refl, sym, ap, ◌∙◌, subst}
 use Rattle.std.specs.Prelude.{◌==◌}
 use Rattle.std.proofs.lemmas.Bool.{eqb-false}
 use Rattle.ipam_addr.specs.Shape.{CidrValue}
 use Rattle.ipam_affinity.specs.declared.record.Affinity.{Affinity}
 use Rattle.ipam_affinity.specs.declared.state.State.TheVariants.{PendingDeletion}
-use Rattle.ipam_block.specs.Shape.{BlockValue}
-use Rattle.ipam_records.specs.declared.call.Call.{Call}
-use Rattle.ipam_records.specs.declared.call.Call.TheVariants.{Get, List as ListAll, Create, Delete, Update}
+use Rattle.ipam_records.specs.declared.call.Call.TheVariants.{Get, List as ListAll, Delete, Update}
 use Rattle.ipam_records.specs.declared.key.Key.TheVariants as key
 use Rattle.ipam_records.specs.declared.key.Kind.TheVariants as kind
 use Rattle.ipam_records.specs.declared.record.Record.{Record}
@@ -15,9 +13,7 @@ use Rattle.ipam_records.specs.declared.record.Record.TheVariants as record_of
 use Rattle.ipam_records.specs.Datastore.{Datastore, reply_of, reply_to_get, row_of}
 use Rattle.ipam_records.specs.Label.{idle}
 use Rattle.ipam_records.specs.Said.{Found, Said}
-use Rattle.ipam_records.specs.Word.{Asks, Ends, Waits, Word, bound}
-use Rattle.ipam_model.specs.declared.answer.Answer.{Answer}
-use Rattle.ipam_model.specs.declared.answer.Answer.TheVariants as answer
+use Rattle.ipam_records.specs.Word.{Asks, Ends, Waits, Word}
 use Rattle.ipam_model.specs.declared.answer.Collected.{Collected}
 use Rattle.ipam_model.specs.declared.outcome.AdminAnswer.{AdminAnswer}
 use Rattle.ipam_model.specs.declared.outcome.AdminAnswer.TheVariants as admin
@@ -36,7 +32,7 @@ use Rattle.ipam_model.specs.declared.request.CollectRequest.{CollectRequest}
 use Rattle.ipam_model.specs.Admin as change
 use Rattle.ipam_model.specs.Affinities.{BlockRead, Tie, affinity, baring, is_at_mark, release, release_block, release_delete, release_found, release_look, release_once, release_stops}
 use Rattle.ipam_model.specs.AffinityLaw.{HasAt}
-use Rattle.ipam_model.specs.Counting.{Freeing, free, freeing_all}
+use Rattle.ipam_model.specs.Counting.{free, freeing_all}
 use Rattle.ipam_model.specs.Reads.{affinity_said, block_said, handle_said, rows_said}
 use Rattle.ipam_model.specs.Remove.{Leak, collect_stops, collect_word, del_blocks, del_stops, del_word, free_leaks, freeing_owner, item_of, leaks, suspects, with_item}
 use Rattle.ipam_model.specs.Step.{Part, StopAnswers, all_left, answer_of, goes, left_of, onward, settled, stops, tries, write_back}

@@ -1,9 +1,8 @@
 -- The parts of a request that runs alone lose no race.
-use Rattle.std.proofs.Common.{◌≡◌, ◌≢◌, ℕ, zero, suc, ◌+◌, ◌<◌, ◌≤◌, inl, inr, Bool, true, false, cond, List, [], ◌∷◌, Option, Some, None, refl, sym, ap, ◌∙◌, subst, arith}
+use Rattle.std.proofs.Common.{◌≡◌, ◌≢◌, ℕ, zero, suc, ◌+◌, ◌<◌, Bool, true, false, cond, List, [], ◌∷◌, Option, Some, None, refl, sym, ap, ◌∙◌, subst, arith}
 use Rattle.std.specs.Prelude.{nat_le}
 use Rattle.std.specs.List.{count_by}
 use Rattle.ipam_addr.specs.Shape.{CidrValue}
-use Rattle.ipam_affinity.specs.declared.record.Affinity.{Affinity}
 use Rattle.ipam_affinity.specs.declared.state.State.{State}
 use Rattle.ipam_affinity.specs.declared.state.State.TheVariants.{Pending, Confirmed, PendingDeletion}
 use Rattle.ipam_block.specs.declared.allocation.Attributes.{Attributes}
@@ -19,9 +18,9 @@ use Rattle.ipam_records.specs.declared.record.Record.{Record}
 use Rattle.ipam_records.specs.declared.record.Record.TheVariants as record_of
 use Rattle.ipam_records.specs.Datastore.{Datastore, reply_of, reply_to_get, row_of}
 use Rattle.ipam_records.specs.Key.{key_of}
-use Rattle.ipam_records.specs.Label.{Claimed, Claiming, Credit, idle, owing, standing}
-use Rattle.ipam_records.specs.Said.{Said, Found, Missing, Can}
-use Rattle.ipam_records.specs.Word.{Asks, Ends, Word}
+use Rattle.ipam_records.specs.Label.{Credit, idle, owing}
+use Rattle.ipam_records.specs.Said.{Said, Found, Can}
+use Rattle.ipam_records.specs.Word.{Asks, Ends}
 use Rattle.ipam_model.specs.declared.outcome.ClaimAnswer.{ClaimAnswer}
 use Rattle.ipam_model.specs.declared.outcome.ClaimAnswer.TheVariants as claimed
 use Rattle.ipam_model.specs.declared.part.Assigned.{Assigned}
@@ -30,7 +29,7 @@ use Rattle.ipam_model.specs.declared.part.Outcome.{Outcome}
 use Rattle.ipam_model.specs.declared.part.Outcome.TheVariants.{Went, Stops}
 use Rattle.ipam_model.specs.declared.part.Stop.{Stop}
 use Rattle.ipam_model.specs.declared.part.Stop.TheVariants.{OutOfTries, OutOfClaims, NoRoom, CountAtLimit, NoRevisions}
-use Rattle.ipam_model.specs.Affinities.{BlockRead, affinity, claim, claim_block, claim_confirm, claim_found, claim_kept, claiming, on_claim_write, revision_read}
+use Rattle.ipam_model.specs.Affinities.{BlockRead, affinity, claim, claim_block, claim_confirm, claim_found, claim_kept, claiming, on_claim_write}
 use Rattle.ipam_model.specs.AffinityLaw.{HasAt}
 use Rattle.ipam_model.specs.Assigning.{Target, after_claim, assign, assign_block, assign_lost, claim_for}
 use Rattle.ipam_model.specs.CountLaw.{count_in_row, handle_count}

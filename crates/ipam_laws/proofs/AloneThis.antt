@@ -1,5 +1,5 @@
 -- An ADD of one address that runs alone loses no race, and claims one block at most.
-use Rattle.std.proofs.Common.{◌≡◌, ◌≢◌, ℕ, zero, suc, ◌+◌, ◌-◌, Bool, true, false, cond, List, [], ◌∷◌, Option, Some, None, refl, sym, ap, ◌∙◌, subst, arith}
+use Rattle.std.proofs.Common.{◌≡◌, ◌≢◌, ℕ, zero, suc, ◌+◌, ◌-◌, true, List, [], Option, Some, None, refl, sym, ap, ◌∙◌, subst, arith}
 use Rattle.ipam_addr.specs.Shape.{AddrValue, CidrValue}
 use Rattle.ipam_pool.specs.declared.pools.Pool.{Pool}
 use Rattle.ipam_block.specs.Operations.{holder}
@@ -7,9 +7,8 @@ use Rattle.ipam_block.specs.Shape.{BlockValue}
 use Rattle.ipam_block.specs.declared.allocation.Allocation.{Allocation}
 use Rattle.ipam_records.specs.declared.call.Call.TheVariants.{Get}
 use Rattle.ipam_records.specs.declared.key.Key.TheVariants as key
-use Rattle.ipam_records.specs.declared.record.Record.{Record}
 use Rattle.ipam_records.specs.declared.record.Record.TheVariants as record_of
-use Rattle.ipam_records.specs.Datastore.{Datastore, reply_of, reply_to_get, row_of}
+use Rattle.ipam_records.specs.Datastore.{Datastore, reply_of, reply_to_get}
 use Rattle.ipam_records.specs.Label.{idle}
 use Rattle.ipam_records.specs.Said.{Found, Said}
 use Rattle.ipam_records.specs.Word.{Asks}
@@ -21,17 +20,17 @@ use Rattle.ipam_model.specs.declared.part.Outcome.{Outcome}
 use Rattle.ipam_model.specs.declared.part.Outcome.TheVariants.{Went, Stops}
 use Rattle.ipam_model.specs.declared.part.Stop.TheVariants.{OutOfTries}
 use Rattle.ipam_model.specs.declared.request.AddRequest.{AddRequest}
-use Rattle.ipam_model.specs.AddThis.{Looked, NextRound, Rules, Wanted, add_this_stops, add_this_word, asked_of_this, slot_holding, this_assigned, this_block, this_claim, this_free, this_given, this_held, this_in_pool, this_round, this_take}
+use Rattle.ipam_model.specs.AddThis.{Looked, NextRound, Rules, Wanted, add_this_stops, add_this_word, asked_of_this, slot_holding, this_assigned, this_block, this_claim, this_free, this_held, this_in_pool, this_round, this_take}
 use Rattle.ipam_model.specs.Affinities.{BlockRead}
 use Rattle.ipam_model.specs.AffinityLaw.{HasAt}
 use Rattle.ipam_model.specs.Assigning.{assign, claim_for, target_in}
-use Rattle.ipam_model.specs.Choice.{Claims, Leaves, Share, Takes, by_share, is_node, is_unowned_and_empty, share_of}
+use Rattle.ipam_model.specs.Choice.{Claims, Leaves, Share, Takes, by_share, is_node, share_of}
 use Rattle.ipam_model.specs.Reads.{Row, block_said, config_said, pools_said}
-use Rattle.ipam_model.specs.Step.{Part, all_left, goes, left_of, onward, rounds, stops}
+use Rattle.ipam_model.specs.Step.{all_left, goes, left_of, onward, rounds, stops}
 use Rattle.ipam_model.specs.Usable.{usable_pool_of}
 use Rattle.ipam_laws.proofs.AloneCalls.{Runs, Runs-bound, runs-get}
 use Rattle.ipam_laws.proofs.AloneOthers.{NotTried, settles-runs}
-use Rattle.ipam_laws.proofs.AloneParts.{AssignEnds, ClaimForEnds, ClaimedIn, assign-runs, claim_for-runs, found-as_read, taken-cidr}
+use Rattle.ipam_laws.proofs.AloneParts.{AssignEnds, ClaimForEnds, assign-runs, claim_for-runs, found-as_read, taken-cidr}
 use Rattle.ipam_laws.proofs.CountLemmas.{same_text}
 use Rattle.ipam_laws.proofs.Steps.{IsAsRead, taken}
 

@@ -121,3 +121,4 @@ pub mod AloneAdds
 pub mod AloneOthers
 pub mod AloneThis
 pub mod AloneAgain
+pub mod AloneProbe

@@ -1,5 +1,5 @@
 //! What requests come to that run alone.
-ghost use Rattle.ipam_laws.specs.AlonePlain.{CheckAloneLaw, ProbeAloneLaw};
+ghost use Rattle.ipam_laws.specs.AlonePlain.{CheckAloneLaw, ProbeAloneLaw, ProbeTellsLaw};
 ghost use Rattle.ipam_model.specs.Alone.{AloneAgainLaw};
 
 /// A CHECK that runs alone says what the records say, and leaves them as they are.
@@ -18,4 +18,10 @@ pub fn a_probe_alone_says_what_the_records_say()
 /// block of each family at most.
 pub fn a_request_alone_is_never_tried_too_often()
     ensures { AloneAgainLaw }
+{}
+
+/// Of one family, over a consistent base: an ADD that runs alone gives an address exactly where the
+/// probe that runs alone is ready, or it wants room, a count or a revision.
+pub fn a_probe_alone_tells_of_an_add_alone()
+    ensures { ProbeTellsLaw }
 {}
