@@ -24,6 +24,9 @@ pub trait Keeper {
     /// How many calls failed. It stays at `u64::MAX` once it is there.
     ghost faults: { Self → ℕ };
 
+    /// Which keeper it is, where it is lent. No call changes it.
+    ghost name: { Self → ℕ };
+
     /// All rows, by ascending bytes of their keys, each key once.
     fn load(&mut self) -> Result<Vec<Row>, KeepFault>
         ensures ascending { IfOk result (λ loaded. Ascend loaded.items) }
@@ -32,7 +35,9 @@ pub trait Keeper {
 
         ensures fault { OnFailed result (Rose (faults self.old) (faults self.new)) }
         ensures no_fault { UnlessFailed result (faults self.new ≡ faults self.old) }
-        ensures never_falls { faults self.old ≤ faults self.new };
+        ensures never_falls { faults self.old ≤ faults self.new }
+
+        ensures same { name self.new ≡ name self.old };
 
     /// Puts in a row, in place of the one of its key if there is one.
     fn put(&mut self, key: &str, revision: u64, body: &str) -> Result<(), KeepFault>
@@ -44,7 +49,9 @@ pub trait Keeper {
 
         ensures fault { OnFailed result (Rose (faults self.old) (faults self.new)) }
         ensures no_fault { UnlessFailed result (faults self.new ≡ faults self.old) }
-        ensures never_falls { faults self.old ≤ faults self.new };
+        ensures never_falls { faults self.old ≤ faults self.new }
+
+        ensures same { name self.new ≡ name self.old };
 
     /// Takes out the row of a key. It is no fault that there is none.
     fn remove(&mut self, key: &str) -> Result<(), KeepFault>
@@ -55,7 +62,9 @@ pub trait Keeper {
 
         ensures fault { OnFailed result (Rose (faults self.old) (faults self.new)) }
         ensures no_fault { UnlessFailed result (faults self.new ≡ faults self.old) }
-        ensures never_falls { faults self.old ≤ faults self.new };
+        ensures never_falls { faults self.old ≤ faults self.new }
+
+        ensures same { name self.new ≡ name self.old };
 }
 
 /// A keeper that is lent is the same keeper.
@@ -63,6 +72,8 @@ impl<K: Keeper> Keeper for &mut K {
     ghost rows = { λ keeper. K.rows keeper.now };
 
     ghost faults = { λ keeper. K.faults keeper.now };
+
+    ghost name = { λ keeper. keeper.ghost_name };
 
     fn load(&mut self) -> Result<Vec<Row>, KeepFault> {
         Keeper::load(&mut **self)

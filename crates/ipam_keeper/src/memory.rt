@@ -62,6 +62,8 @@ impl Keeper for MemoryKeeper {
 
     ghost faults = { λ keeper. keeper.faults };
 
+    ghost name = { λ _. 0 };
+
     fn load(&mut self) -> Result<Vec<Row>, KeepFault>
         ensures fails { (result ≡ Err KeepFault.Failed) ↔ IsSome (listed_of self.old.failing 0) }
         ensures ascending { IfOk result (λ loaded. Ascend loaded.items) }

@@ -102,6 +102,8 @@ impl<S: Alter> Keeper for SqliteKeeper<S> {
 
     ghost faults = { faults_of };
 
+    ghost name = { λ _. 0 };
+
     fn load(&mut self) -> Result<Vec<Row>, KeepFault>
         ensures ascending { IfOk result (λ loaded. Ascend loaded.items) }
         ensures unopened { IfSome (unopened self.old) (λ fault. result ≡ Err fault) }
