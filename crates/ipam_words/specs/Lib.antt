@@ -1,0 +1,3 @@
+-- What words name.
+pub mod Kinds
+pub mod Words

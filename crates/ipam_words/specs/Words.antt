@@ -1,0 +1,99 @@
+-- The commands that words name.
+use Rattle.std.specs.Prelude.{ℕ, ◌^◌, nat_le, nat_lt, List, [], ◌∷◌, codes, bytes_eq, Option, Some, None, option_and_then, option_map, Result, Ok, Err, if◌then◌else◌}
+use Rattle.std.specs.Str.Parse.{digits_value}
+use Rattle.ipam_json.specs.Path.{is_index}
+use Rattle.ipam_addr.specs.declared.cidrs.AddrFault.{AddrFault}
+use Rattle.ipam_addr.specs.Names.{is_name_text}
+use Rattle.ipam_addr.specs.Shape.{CidrValue}
+use Rattle.ipam_addr.specs.Text.{cidr_reading}
+use Rattle.ipam_words.specs.declared.command.Command.{Command}
+use Rattle.ipam_words.specs.declared.command.Command.TheVariants as command
+use Rattle.ipam_words.specs.declared.kind.RowKind.{RowKind}
+use Rattle.ipam_words.specs.Kinds.{kind_named}
+
+-- what is asked, as `Command` has it, with the name itself in place of a loan
+pub data Asked : Type 0 where
+  Cni : Asked
+  Play : Asked
+  Apply : Asked
+  Get : Option RowKind → Asked
+  Routes : List ℕ → Asked
+  Release : List ℕ → CidrValue → Asked
+  Gen : ℕ → Asked
+
+abbrev pub asked_by : Command → Asked
+asked_by command.Cni = Cni
+asked_by command.Play = Play
+asked_by command.Apply = Apply
+asked_by (command.Get kind) = Get kind
+asked_by (command.Routes node) = Routes node.now
+asked_by (command.Release node cidr) = Release node.now cidr
+asked_by (command.Gen count) = Gen count
+
+-- ---- one word
+
+unfoldable pub word_named : List ℕ → Option Asked
+word_named word =
+    if bytes_eq word (codes "cni") then Some Cni
+    else (if bytes_eq word (codes "play") then Some Play
+    else (if bytes_eq word (codes "apply") then Some Apply
+    else (if bytes_eq word (codes "get") then Some (Get None)
+    else None)))
+
+-- ---- two words
+
+abbrev pub get_of : Option RowKind → Option Asked
+get_of None = None
+get_of (Some kind) = Some (Get (Some kind))
+
+abbrev pub get_named : List ℕ → Option Asked
+get_named word = get_of (kind_named word)
+
+unfoldable pub routes_named : List ℕ → Option Asked
+routes_named node = if is_name_text node then Some (Routes node) else None
+
+abbrev pub number_in : ℕ → Option ℕ
+number_in n = if nat_lt n (2 ^ 32) then Some n else None
+
+-- the number that the word writes in decimal, with no `0` before another digit, where 32 bits hold it
+abbrev pub number_of : List ℕ → Option ℕ
+number_of word = if is_index word then number_in (digits_value 10 word) else None
+
+-- as many requests as may be generated
+abbrev pub count_in : ℕ → Option ℕ
+count_in n = if nat_le n 65536 then Some n else None
+
+abbrev pub count_of : List ℕ → Option ℕ
+count_of word = option_and_then count_in (number_of word)
+
+abbrev pub count_named : List ℕ → Option Asked
+count_named word = option_map Gen (count_of word)
+
+unfoldable pub first_named : (word first : List ℕ) → Option Asked
+first_named word first =
+    if bytes_eq word (codes "get") then get_named first
+    else (if bytes_eq word (codes "routes") then routes_named first
+    else (if bytes_eq word (codes "gen") then count_named first
+    else None))
+
+-- ---- three words
+
+abbrev pub release_of : List ℕ → Result CidrValue AddrFault → Option Asked
+release_of node (Ok cidr) = Some (Release node cidr)
+release_of node (Err fault) = None
+
+unfoldable pub release_named : (node block : List ℕ) → Option Asked
+release_named node block = if is_name_text node then release_of node (cidr_reading block) else None
+
+unfoldable pub second_named : (word first second : List ℕ) → Option Asked
+second_named word first second = if bytes_eq word (codes "release") then release_named first second else None
+
+-- ---- all words
+
+-- what the words ask, where they have a command's form
+abbrev pub command_named : List (List ℕ) → Option Asked
+command_named [] = Some Cni
+command_named (word ∷ []) = word_named word
+command_named (word ∷ first ∷ []) = first_named word first
+command_named (word ∷ first ∷ second ∷ []) = second_named word first second
+command_named (word ∷ first ∷ second ∷ other ∷ more) = None

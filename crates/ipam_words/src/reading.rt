@@ -1,0 +1,144 @@
+ghost use Rattle.std.specs.Prelude.{◌≡◌, option_map, map, string_bytes};
+ghost use Rattle.std.specs.Char.{is_ascii_digit};
+ghost use Rattle.std.specs.List.{list_all};
+ghost use Rattle.ipam_json.specs.Path.{has_leading_zero, is_index};
+ghost use Rattle.ipam_words.specs.Words.{asked_by, command_named, count_named, count_of, first_named, get_named, number_of, release_named, routes_named, second_named, word_named};
+
+use crate::command::Command;
+use crate::kind::RowKind;
+use ipam_addr::{is_name, read_cidr};
+
+/// The most requests that are generated.
+const MOST_GENERATED: u32 = 65_536;
+
+/// The command that the words name. None where they have no command's form. Takes no memory.
+pub fn read_words(words: &[String]) -> Option<Command<'_>>
+    ensures { option_map asked_by result ≡ command_named (map string_bytes words.now) }
+{
+    match words {
+        [] => Some(Command::Cni),
+        [word] => word_named(word.as_str()),
+        [word, first] => first_named(word.as_str(), first.as_str()),
+        [word, first, second] => second_named(word.as_str(), first.as_str(), second.as_str()),
+        _ => None,
+    }
+}
+
+#[tactic(auto, unfolding(crate::specs::Words::word_named))]
+fn word_named<'a>(word: &'a str) -> Option<Command<'a>>
+    ensures { option_map asked_by result ≡ word_named word.now }
+{
+    match word {
+        "cni" => Some(Command::Cni),
+        "play" => Some(Command::Play),
+        "apply" => Some(Command::Apply),
+        "get" => Some(Command::Get(None)),
+        _ => None,
+    }
+}
+
+#[tactic(auto, unfolding(crate::specs::Words::first_named))]
+fn first_named<'a>(word: &str, first: &'a str) -> Option<Command<'a>>
+    ensures { option_map asked_by result ≡ first_named word.now first.now }
+{
+    match word {
+        "get" => kind_named(first),
+        "routes" => routes_named(first),
+        "gen" => count_named(first),
+        _ => None,
+    }
+}
+
+fn kind_named<'a>(word: &str) -> Option<Command<'a>>
+    ensures { option_map asked_by result ≡ get_named word.now }
+{
+    match RowKind::of(word) {
+        Some(kind) => Some(Command::Get(Some(kind))),
+        None => None,
+    }
+}
+
+#[tactic(auto, unfolding(crate::specs::Words::routes_named))]
+fn routes_named<'a>(node: &'a str) -> Option<Command<'a>>
+    ensures { option_map asked_by result ≡ routes_named node.now }
+{
+    if is_name(node.as_bytes()) {
+        Some(Command::Routes(node))
+    } else {
+        None
+    }
+}
+
+#[tactic(auto, unfolding(crate::specs::Words::second_named))]
+fn second_named<'a>(word: &str, first: &'a str, second: &str) -> Option<Command<'a>>
+    ensures { option_map asked_by result ≡ second_named word.now first.now second.now }
+{
+    if word == "release" {
+        release_named(first, second)
+    } else {
+        None
+    }
+}
+
+#[tactic(auto, unfolding(crate::specs::Words::release_named))]
+fn release_named<'a>(node: &'a str, block: &str) -> Option<Command<'a>>
+    ensures { option_map asked_by result ≡ release_named node.now block.now }
+{
+    if !is_name(node.as_bytes()) {
+        return None;
+    }
+    match read_cidr(block.as_bytes()) {
+        Ok(cidr) => Some(Command::Release(node, cidr)),
+        Err(_) => None,
+    }
+}
+
+fn count_named<'a>(word: &str) -> Option<Command<'a>>
+    ensures { option_map asked_by result ≡ count_named word.now }
+{
+    match count_of(word) {
+        Some(count) => Some(Command::Gen(count)),
+        None => None,
+    }
+}
+
+/// The number that the word writes in decimal, where so many requests are generated at most.
+fn count_of(word: &str) -> Option<u32>
+    ensures { result ≡ count_of word.now }
+{
+    let count = number_of(word)?;
+    if count <= MOST_GENERATED {
+        Some(count)
+    } else {
+        None
+    }
+}
+
+/// The number that the word writes in decimal, where 32 bits hold it.
+fn number_of(word: &str) -> Option<u32>
+    ensures { result ≡ number_of word.now }
+{
+    if !is_decimal(word.as_bytes()) {
+        return None;
+    }
+    word.parse::<u32>().ok()
+}
+
+/// Decimal digits, with no `0` before another.
+fn is_decimal(word: &[u8]) -> bool
+    ensures { result ≡ is_index word.now }
+{
+    !word.is_empty() && !has_leading_zero(word) && are_digits(word)
+}
+
+fn are_digits(word: &[u8]) -> bool
+    ensures { result ≡ list_all is_ascii_digit word.now }
+{
+    word.iter().all(u8::is_ascii_digit)
+}
+
+fn has_leading_zero(digits: &[u8]) -> bool
+    ensures { result ≡ has_leading_zero digits.now }
+{
+    digits.len() > 1 && digits[0] == b'0'
+}
