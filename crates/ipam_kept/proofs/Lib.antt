@@ -1,0 +1,5 @@
+pub mod TextRows
+pub mod StoreTexts
+pub mod Doubts
+pub mod Given
+pub mod Standing

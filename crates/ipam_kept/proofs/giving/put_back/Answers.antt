@@ -1,0 +1,29 @@
+use Rattle.std.proofs.Common.{◌≡◌, List, Option, Some, Err, refl, ap, ◌∙◌, subst}
+use Rattle.ipam_records.specs.declared.call.Row.{Row}
+use Rattle.ipam_keeper.specs.Keeping.{IsOldOrNew, OnFailed, OnMemory}
+use Rattle.ipam_kept.specs.declared.write.RowWrite.{RowWrite}
+use Rattle.ipam_kept.specs.Giving.{known_after}
+use Rattle.ipam_kept.specs.Rows.{AreToldKept, key_written, row_back}
+use Rattle.ipam_kept.proofs.Given.{put-back-done, put-back-fault}
+use Rattle.ipam_kept.proofs.giving.put_back.Goals as goal
+
+pub returns-in_err-give_row-clause-kept : goal.returns-in_err-give_row-clause-kept
+returns-in_err-give_row-clause-kept g c = λ sound are.
+    let store = c.args.store.now.store in
+    let told = g.D.Keeper.rows c.args.keeper.now in
+    let new = g.D.Keeper.rows c.give_row.new.keeper in
+    let back : c.in-Ok.back ≡ row_back (key_written c.in-Some.failed) store = c.in-Ok.ensures ∙ ap (λ k. row_back k store) c.key.ensures in
+    let in_doubt : AreToldKept told store (Some c.in-Some.failed) = subst (λ (d : Option RowWrite). AreToldKept told store d) c.in-Some.is are in
+    let answer = c.in_err-give_row.ensures in
+    put-back-fault store sound c.in-Some.failed told new in_doubt c.in_err-give_row.field-0.0
+    (subst (λ (w : RowWrite). OnFailed {T = Unit {0}} (Err c.in_err-give_row.field-0.0) (IsOldOrNew told (known_after w told) new)) back answer.old_or_new) answer.unchanged
+
+pub returns-clause-kept : goal.returns-clause-kept
+returns-clause-kept g c = λ sound are.
+    let store = c.args.store.now.store in
+    let told = g.D.Keeper.rows c.args.keeper.now in
+    let new = g.D.Keeper.rows c.give_row.new.keeper in
+    let back : c.in-Ok.back ≡ row_back (key_written c.in-Some.failed) store = c.in-Ok.ensures ∙ ap (λ k. row_back k store) c.key.ensures in
+    let in_doubt : AreToldKept told store (Some c.in-Some.failed) = subst (λ (d : Option RowWrite). AreToldKept told store d) c.in-Some.is are in
+    let answer = c.in_ok-give_row.ensures in
+    put-back-done store sound c.in-Some.failed told new in_doubt (answer.done ∙ ap (λ w. known_after w told) back)

@@ -1,0 +1,8 @@
+use Rattle.std.proofs.Common.{refl}
+use Rattle.ipam_kept.proofs.Standing.{feed-keeps}
+use Rattle.ipam_kept.proofs.kept.Kept.feed.Goals as goal
+
+pub returns-clause-keeps : goal.returns-clause-keeps
+returns-clause-keeps g c =
+    feed-keeps g.D.Keeper.rows c.args.self.now (record { cluster = c.feed.new.self; keeper = c.args.self.now.keeper; doubt = c.args.self.now.doubt }) (record { keeper = refl; doubt = refl })
+    c.feed.result c.args.slot c.args.at c.args.live.now c.feed.ensures.entry c.feed.ensures.adds

@@ -1,0 +1,8 @@
+-- What a kept cluster keeps, and what its calls do.
+pub mod Rows
+pub mod Doubt
+pub mod Faults
+pub mod Giving
+pub mod Kept
+pub mod Opening
+pub mod Turning

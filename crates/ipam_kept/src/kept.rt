@@ -1,0 +1,211 @@
+ghost use Rattle.std.specs.Prelude.{◌≡◌, ◌↔◌, ◌<◌, ◌≤◌, ◌+◌, ◌^◌, ◌⊎◌, ℕ, Some, None, IsSome, IsNone, IfOk, IfErr, IfSome, IfNone, OnErr, Err, option_map};
+ghost use Rattle.std.specs.Option.{option_copied};
+ghost use Rattle.ipam_model.specs.declared.entry.Entry.TheVariants as entry;
+ghost use Rattle.ipam_model.specs.declared.entry.SlotState.TheVariants as state;
+ghost use Rattle.ipam_model.specs.SoundRequest.{IsSoundRequest};
+ghost use Rattle.ipam_records.specs.Sound.{IsHandleId};
+ghost use Rattle.ipam_collect.specs.declared.collect.Grace.{Grace};
+ghost use Rattle.std.specs.List.{All};
+ghost use Rattle.ipam_kept.specs.Faults.{not_loaded, not_opened};
+
+use crate::giving::give;
+use crate::loaded::open_cluster;
+use crate::write::RowWrite;
+use ipam_cluster::{BeginFault, Cluster, FeedFault, OpenFault, PrepareFault, Prepared, SLOTS};
+use ipam_keeper::{KeepFault, Keeper};
+use ipam_model::{Entry, Fate, Request};
+use ipam_text::Text;
+use std::alloc::Global;
+
+/// Why rows were not opened.
+#[derive(Debug, Drop)]
+pub enum KeptFault {
+    /// The keeper failed.
+    Keeper,
+    /// The rows break this one of the ten rules, and none of a lower number. The text is the first key
+    /// that breaks it.
+    Refused(u8, Text),
+    Memory,
+}
+
+/// A cluster, and the keeper that has its rows.
+#[derive(Drop)]
+pub struct Kept<D> {
+    pub(crate) cluster: Cluster,
+    pub(crate) keeper: D,
+    /// The write that failed last and was not taken back since. Its row is in doubt: the keeper has
+    /// the old one or the new one.
+    pub(crate) doubt: Option<RowWrite>,
+}
+
+impl<D: Keeper> Kept<D> {
+    ghost use Rattle.ipam_cluster.specs.Cluster.{slot_of, state_in, WaitsWith};
+    ghost use Rattle.ipam_kept.specs.Rows.{key_written};
+    ghost use Rattle.ipam_kept.specs.Kept.{IsKept, KeepsWith, LeavesKeeper, Stays};
+    ghost use Rattle.ipam_kept.specs.Opening.{IsNotOpened, IsOpened};
+    ghost use Rattle.ipam_kept.specs.Turning.{IsDone, IsFailed, IsRefused};
+    ghost use Rattle.ipam_cluster.specs.Preparing.{IsPrepared};
+
+    /// Opens the rows of the keeper, with their greatest revision as the counter, in a cluster in which
+    /// nothing runs. On `Err` the keeper comes back.
+    pub fn open(alloc: Global, keeper: D, first: u64) -> Result<Kept<D>, (D, KeptFault)>
+        requires { first ≤ 2 ^ 62 + 64 }
+        ensures opened { IfOk result (IsOpened D.rows D.faults D.name keeper first) }
+        ensures refused { IfErr result (IsNotOpened D.rows D.faults D.name keeper) }
+    {
+        let mut keeper = keeper;
+        let rows = match keeper.load() {
+            Ok(rows) => rows,
+            Err(fault) => return Err((keeper, not_loaded(fault))),
+        };
+        match open_cluster(alloc, rows, first) {
+            Ok(cluster) => Ok(Kept {
+                cluster,
+                keeper,
+                doubt: None,
+            }),
+            Err(fault) => Err((keeper, not_opened(fault))),
+        }
+    }
+
+    /// Begins the request in the slot. On `Err` the cluster is as it was.
+    pub fn begin(&mut self, alloc: Global, slot: u8, request: &Request) -> Result<Entry, BeginFault>
+        requires slot { slot < SLOTS }
+        requires sound { IsSoundRequest request.now }
+        ensures busy { (result ≡ Err BeginFault.SlotBusy) ↔ IsSome (slot_of self.old.cluster slot) }
+        ensures worn { (result ≡ Err BeginFault.Worn) ↔ (slot_of self.old.cluster slot ≡ None × 2 ^ 62 ≤ self.old.cluster.entries) }
+        ensures entry { IfOk result (λ began. began ≡ entry.Began slot request.now) }
+        ensures keeps { IfOk result (KeepsWith D.rows self.old self.new) }
+        ensures unchanged { OnErr result (Stays D.rows self.old self.new) }
+        ensures keeper { LeavesKeeper self.old self.new }
+    {
+        self.cluster.begin(alloc, slot, request)
+    }
+
+    /// Hands the slot's collection its second list, which was made at this time, in seconds. On `Err` the
+    /// cluster is as it was.
+    pub fn feed(
+        &mut self,
+        alloc: Global,
+        slot: u8,
+        live: &[Text],
+        at: u64,
+    ) -> Result<Entry, FeedFault>
+        requires slot { slot < SLOTS }
+        requires sound { All IsHandleId live.now }
+        ensures not_waiting { (result ≡ Err FeedFault.NotWaiting) ↔ ¬ (state_in (slot_of self.old.cluster slot) ≡ state.Waiting) }
+        ensures too_soon { (since grace : ℕ) → ((result ≡ Err (FeedFault.TooSoon since grace))
+            ↔ (WaitsWith (slot_of self.old.cluster slot) (record { at = since; grace = grace }) × at < since + grace)) }
+        ensures worn { (result ≡ Err FeedFault.Worn) ↔ (2 ^ 62 ≤ self.old.cluster.entries
+            × (grace : Grace) × WaitsWith (slot_of self.old.cluster slot) grace × grace.at + grace.grace ≤ at) }
+        ensures entry { IfOk result (λ fed. fed ≡ entry.Fed slot at live.now) }
+        ensures keeps { IfOk result (KeepsWith D.rows self.old self.new) }
+        ensures unchanged { OnErr result (Stays D.rows self.old self.new) }
+        ensures keeper { LeavesKeeper self.old self.new }
+    {
+        self.cluster.feed(alloc, slot, live, at)
+    }
+
+    /// Makes the next call of the slot's request. What is in doubt is first put back; then what the call
+    /// writes is given to the keeper; then the call is done. Where the keeper fails in either, the call
+    /// fails before it is done. On `Err` the cluster is as it was.
+    pub fn turn(&mut self, alloc: Global, slot: u8) -> Result<Entry, PrepareFault>
+        requires slot { slot < SLOTS }
+        requires kept { IsKept D.rows self.old }
+        ensures idle { (result ≡ Err PrepareFault.SlotIdle) ↔ (slot_of self.old.cluster slot ≡ None) }
+        ensures waiting { (result ≡ Err PrepareFault.Waiting) ↔ (state_in (slot_of self.old.cluster slot) ≡ state.Waiting) }
+        ensures worn { (result ≡ Err PrepareFault.Worn) ↔ (2 ^ 62 ≤ self.old.cluster.entries × state_in (slot_of self.old.cluster slot) ≡ state.Running) }
+        ensures turned { IfOk result (λ told. IsDone D.faults slot self.old self.new told ⊎ IsFailed D.faults slot self.old self.new told) }
+        ensures keeps { IfOk result (KeepsWith D.rows self.old self.new) }
+        ensures others { (other : ℕ) → ¬ (other ≡ slot) → slot_of self.new.cluster other ≡ slot_of self.old.cluster other }
+        ensures refused { OnErr result (IsRefused D.faults self.old self.new) }
+        ensures unchanged { OnErr result (Stays D.rows self.old self.new) }
+        ensures same { D.name self.new.keeper ≡ D.name self.old.keeper }
+    {
+        let prepared = self.cluster.prepare(alloc, slot)?;
+        self.make(alloc, prepared)
+    }
+
+    /// Makes the call that is prepared. On `Err` there is no memory, and the cluster is as it was.
+    fn make(&mut self, alloc: Global, prepared: Prepared) -> Result<Entry, PrepareFault>
+        requires prepared { IsPrepared self.old.cluster prepared }
+        requires kept { IsKept D.rows self.old }
+        ensures memory { IfErr result (λ e. e ≡ PrepareFault.Memory) }
+        ensures turned { IfOk result (λ told. IsDone D.faults prepared.slot self.old self.new told ⊎ IsFailed D.faults prepared.slot self.old self.new told) }
+        ensures keeps { IfOk result (KeepsWith D.rows self.old self.new) }
+        ensures others { IfOk result (λ told. (other : ℕ) → ¬ (other ≡ prepared.slot) → slot_of self.new.cluster other ≡ slot_of self.old.cluster other) }
+        ensures refused { OnErr result (IsRefused D.faults self.old self.new) }
+        ensures unchanged { OnErr result (Stays D.rows self.old self.new) }
+        ensures same { D.name self.new.keeper ≡ D.name self.old.keeper }
+    {
+        let Kept {
+            cluster,
+            keeper,
+            doubt,
+        } = self;
+        match give(alloc, cluster.store(), keeper, doubt, prepared.write()) {
+            Ok(()) => Ok(cluster.commit(prepared, Fate::Well)),
+            Err(KeepFault::Failed) => Ok(cluster.commit(prepared, Fate::Before)),
+            Err(KeepFault::Memory) => Err(PrepareFault::Memory),
+        }
+    }
+
+    /// Ends what runs in the slot. None where nothing does. Takes no memory.
+    pub fn stop(&mut self, slot: u8) -> Option<Entry>
+        requires slot { slot < SLOTS }
+        ensures idle { IsNone result ↔ (slot_of self.old.cluster slot ≡ None) }
+        ensures entry { IfSome result (λ stopped. stopped ≡ entry.Stopped slot) }
+        ensures keeps { IfSome result (KeepsWith D.rows self.old self.new) }
+        ensures idle_after { slot_of self.new.cluster slot ≡ None }
+        ensures others { (other : ℕ) → ¬ (other ≡ slot) → slot_of self.new.cluster other ≡ slot_of self.old.cluster other }
+        ensures unchanged { IfNone result (Stays D.rows self.old self.new) }
+        ensures keeper { LeavesKeeper self.old self.new }
+    {
+        self.cluster.stop(slot)
+    }
+}
+
+impl<D> Kept<D> {
+    ghost use Rattle.ipam_kept.specs.Rows.{key_written};
+
+    /// The key that is in doubt: a write to the keeper failed, and its row was not put back since.
+    pub fn doubted(&self) -> Option<&str>
+        ensures { option_copied result ≡ option_map key_written self.now.doubt }
+    {
+        match &self.doubt {
+            Some(write) => Some(write.key()),
+            None => None,
+        }
+    }
+
+    pub fn cluster(&self) -> &Cluster
+        ensures { result.now ≡ self.now.cluster }
+    {
+        &self.cluster
+    }
+
+    /// The keeper. What runs is let go.
+    pub fn into_keeper(self) -> D
+        ensures { result ≡ self.keeper }
+    {
+        self.keeper
+    }
+}
+
+fn not_loaded(fault: KeepFault) -> KeptFault
+    ensures { result ≡ not_loaded fault }
+{
+    match fault {
+        KeepFault::Failed => KeptFault::Keeper,
+        KeepFault::Memory => KeptFault::Memory,
+    }
+}
+
+fn not_opened(fault: OpenFault) -> KeptFault
+    ensures { result ≡ not_opened fault }
+{
+    match fault {
+        OpenFault::Refused(number, about) => KeptFault::Refused(number, about),
+        OpenFault::Memory => KeptFault::Memory,
+    }
+}

@@ -1,0 +1,14 @@
+//! A cluster whose rows a keeper has: each write goes to the keeper before it is done.
+#![tactic(auto)]
+
+mod giving;
+mod kept;
+mod laws;
+mod loaded;
+mod write;
+
+pub use ipam_cluster::{BeginFault, Cluster, FeedFault, PrepareFault};
+pub use ipam_keeper::Keeper;
+pub use kept::{Kept, KeptFault};
+pub use laws::what_is_kept_may_be_opened;
+pub use write::RowWrite;

@@ -1,0 +1,26 @@
+ghost use Rattle.std.specs.Prelude.{◌≡◌};
+
+use ipam_records::Row;
+use ipam_text::Text;
+
+/// What a keeper is given of a write.
+#[derive(Debug, Drop)]
+pub enum RowWrite {
+    Put(Row),
+    /// The row of this key is taken out.
+    Remove(Text),
+}
+
+impl RowWrite {
+    ghost use Rattle.ipam_kept.specs.Rows.{key_written};
+
+    /// The key whose row is written.
+    pub fn key(&self) -> &str
+        ensures { result.now ≡ key_written self.now }
+    {
+        match self {
+            RowWrite::Put(row) => row.key.as_str(),
+            RowWrite::Remove(key) => key.as_str(),
+        }
+    }
+}
