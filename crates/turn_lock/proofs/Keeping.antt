@@ -101,6 +101,7 @@ module _ {T O E : Type 0} (stands : T → O → List E → Type 0) (by : E → �
           home = home_set k.log s.homes s.views (set s.views id w) (let t = total_set held s.views id v w at in omega arith) k.home;
           numbered = numbered_set k.next s.views id v w at refl k.numbered;
           fresh = k.fresh;
+          stood = k.stood;
         },
         ap (λ (n : ℕ). let x : Me T (View O E) = (queued n v, me.1) in x) (sym r),
       )
@@ -159,6 +160,7 @@ module _ {T O E : Type 0} (stands : T → O → List E → Type 0) (by : E → �
           home = inr ((let e = total_set held s.views id v w at in let z = h.0 in omega arith), ap (λ hs. set hs 0 none) h.1.1);
           numbered = numbered_set k.next s.views id v w at refl k.numbered;
           fresh = k.fresh;
+          stood = k.stood;
         },
         (
           (λ _. record {
@@ -182,9 +184,10 @@ module _ {T O E : Type 0} (stands : T → O → List E → Type 0) (by : E → �
         ),
       ))
 
-  pub counts : (slots id : ℕ) (me : Me T (View O E)) (added : List E) (b : ℕ) → me.0.live ≡ 1 → me.0.holds ≡ 1 → me.0.spare ≡ 0 → AtMostOneBy by me.0.number added → b ≡ length added
+  pub counts : (slots id : ℕ) (me : Me T (View O E)) (added : List E) (b : ℕ) (y : T) → me.0.live ≡ 1 → me.0.holds ≡ 1 → me.0.spare ≡ 0 → AtMostOneBy by me.0.number added → b ≡ length added
+      → ((from : O) → me.0.origin ≡ from ∷ [] → stands y from (added ++ me.0.seen))
       → Allows Rule slots id me 2 (λ n. (n + b) % 18446744073709551616) (counted added (step slots 2 b 0 none) me)
-  counts slots id me added b live holds bare adds counts_it s k deep at fits =
+  counts slots id me added b y live holds bare adds counts_it stood s k deep at fits =
       let v : View O E = me.0 in
       let w : View O E = holding (added ++ v.seen) v in
       let log : List E = added ++ k.log in
@@ -236,6 +239,7 @@ module _ {T O E : Type 0} (stands : T → O → List E → Type 0) (by : E → �
           fresh = λ n l. none_append by n added k.log
               (none_other by n v.number added (λ e. let low = owned_low k.next s.views id v v.number at k.numbered ((k.numbered.each id v at).own live) in absurd (omega arith)) adds)
               (k.fresh n l);
+          stood = (y, subst (λ (l : List E). stands y o (added ++ l)) (sym whole) (stood o (knew.same live)));
         },
         refl,
       )
@@ -288,6 +292,7 @@ module _ {T O E : Type 0} (stands : T → O → List E → Type 0) (by : E → �
           );
           numbered = numbered_set k.next s.views id v w at refl k.numbered;
           fresh = k.fresh;
+          stood = k.stood;
         },
         refl,
       )
@@ -313,6 +318,7 @@ module _ {T O E : Type 0} (stands : T → O → List E → Type 0) (by : E → �
     home = home_set k.log s.homes s.views (set s.views id w) (let t = total_set held s.views id v w at in let e = same.2 in omega arith) k.home;
     numbered = numbers;
     fresh = λ n l. k.fresh n (omega arith);
+    stood = k.stood;
   }
 
   pub draws_number : (slots id : ℕ) (me : Me T (View O E)) → me.0.live ≡ 1 → me.0.spare ≡ 0 → me.0.made < 64
@@ -405,6 +411,7 @@ module _ {T O E : Type 0} (stands : T → O → List E → Type 0) (by : E → �
         home = home_set k.log s.homes s.views (set s.views id l ++ r ∷ []) (cut held (omega arith)) k.home;
         numbered = numbered_split k.next s.views id number u at live some_number k.numbered;
         fresh = k.fresh;
+        stood = k.stood;
       }
 
   pub joins : (id other : ℕ) (v w : View O E) → v.live ≡ 1 → w.live ≡ 1 → v.spare ≡ 0 → w.holds ≡ 0 → Joins Rule id v other w (both v w) spent
@@ -450,6 +457,7 @@ module _ {T O E : Type 0} (stands : T → O → List E → Type 0) (by : E → �
         home = home_set k.log s.homes s.views (set vs other spent) (let e = total_spent held s.views id other v w at there refl in omega arith) k.home;
         numbered = numbered_joined k.next s.views id other v w at ne there live lives bare k.numbered;
         fresh = k.fresh;
+        stood = k.stood;
       }
 
   pub learns : (slots id : ℕ) (me : Me T (View O E)) → me.0.live ≡ 1 → Allows Rule slots id me 0 (λ n. n) (learned stands by (step slots 0 0 0 none) me)
@@ -485,6 +493,7 @@ module _ {T O E : Type 0} (stands : T → O → List E → Type 0) (by : E → �
           home = home_set k.log s.homes s.views (set s.views id w) (let t = total_set held s.views id v w at in omega arith) k.home;
           numbered = numbered_set k.next s.views id v w at refl k.numbered;
           fresh = k.fresh;
+          stood = k.stood;
         },
         record {
           log = k.log;
@@ -492,6 +501,7 @@ module _ {T O E : Type 0} (stands : T → O → List E → Type 0) (by : E → �
           mine = (knew.later, knew.grew live, knew.others live);
           theirs = knew.beside live;
           few = owns_few k.next s.views id v at k.numbered;
+          stood = λ from e. (k.stood.0, subst (λ (x : O). stands k.stood.0 x k.log) (let ps = sym (knew.same live) ∙ e in ap (λ (l : List O). head_or o l) ps) k.stood.1);
         },
       )
 
@@ -523,6 +533,7 @@ module _ {T O E : Type 0} (stands : T → O → List E → Type 0) (by : E → �
         home = inl (refl, (y, refl, h));
         numbered = numbered_first v refl refl refl refl refl refl;
         fresh = λ n l. tt;
+        stood = (y, h);
       }
 
   -- at the close the last pass finds the value at home

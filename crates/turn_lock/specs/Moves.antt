@@ -131,6 +131,7 @@ module _ {O E : Type 0} where
         pub mine : GrewPast by m.0.number m.0.seen log
         pub theirs : Grew m.0.other log
         pub few : length m.0.owns ≤ 64
+        pub stood : (o : O) → m.0.origin ≡ o ∷ [] → (value : T) × stands value o log
 
       abbrev pub learned : Step T → Seated T O E → ℕ → Seated T O E → Type 0
       learned st m r n = Learned m n

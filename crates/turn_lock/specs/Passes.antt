@@ -47,6 +47,10 @@ held_or d (x ∷ xs) = x.1
 abbrev pub Adds : {T O E : Type 0} → (T → O → List E → Type 0) → T → T → List E → Type 0
 Adds {T} {O} {E} stands before after added = (o : O) (history : List E) → stands before o history → stands after o (added ++ history)
 
+-- some value stands for what was seen
+abbrev pub Stood : {T O E : Type 0} → (T → O → List E → Type 0) → List O → List E → Type 0
+Stood {T} {O} {E} stands origin seen = (from : O) × (origin ≡ from ∷ []) × ((value : T) × stands value from seen)
+
 module _ {T O E : Type 0} (stands : T → O → List E → Type 0) (by : E → ℕ) where
   -- A turn of the pass n, from the history that it had seen. `between` came from other passes, and then the step did what it does and added what it adds.
   pub record Turned (does : T → T → Type 0) (adds : T → T → List E) (n : ℕ) (origin : List O) (seen seen' : List E) : Type 0 where

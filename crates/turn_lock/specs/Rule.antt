@@ -84,5 +84,6 @@ module _ {O E : Type 0} where
       pub queue : (j : ℕ) (v : View O E) → get_elem? s.views j ≡ some v → v.holds ≤ times serving v.waits
       pub knows : (j : ℕ) (v : View O E) → get_elem? s.views j ≡ some v → Knows by origin log v.live v.holds v.number v.spare v.origin v.seen v.other
       pub home : Home stands origin log s.homes s.views
+      pub stood : (value : T) × stands value origin log
       pub numbered : Numbered next s.views
       pub fresh : (n : ℕ) → next ≤ n → NoneBy by n log

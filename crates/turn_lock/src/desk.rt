@@ -92,6 +92,7 @@ fn count<A: Added<T::Entry>, T: Booked, S: Step<T>>(
     requires seat { (seat.old.me.0.live ≡ 1) × (seat.old.me.0.holds ≡ 1) × (seat.old.me.0.spare ≡ 0) }
     requires added { A.added ≡ S.adds _step.now.value _before.now.value _out.now (held_or _before.now.value seat.old.me.1) }
     requires own { AtMostOneBy T.by seat.old.me.0.number (S.adds _step.now.value _before.now.value _out.now (held_or _before.now.value seat.old.me.1)) }
+    requires stood { (value : T) × ((origin : T.Origin) → seat.old.me.0.origin ≡ origin ∷ [] → T.stands value origin (S.adds _step.now.value _before.now.value _out.now (held_or _before.now.value seat.old.me.1) ++ seat.old.me.0.seen)) }
     requires entries { entries ≡ length (S.adds _step.now.value _before.now.value _out.now (held_or _before.now.value seat.old.me.1)) }
     ensures same { IsSameSeat seat.old seat.new }
     ensures counted { seat.new.me ≡ (holding (S.adds _step.now.value _before.now.value _out.now (held_or _before.now.value seat.old.me.1) ++ seat.old.me.0.seen) seat.old.me.0, seat.old.me.1) }

@@ -1,7 +1,7 @@
 // The lock.
 ghost use Rattle.std.specs.Prelude.{◌≡◌, ◌≢◌, ◌⊎◌, ◌+◌, ◌-◌, ◌^◌, ◌<◌, ◌≤◌, max, None, [], ◌∷◌, ◌++◌, IfOk, IfErr, IfSome, IfNone};
 ghost use Rattle.turn_lock.specs.Histories.{NoneBy, Grew, GrewPast};
-ghost use Rattle.turn_lock.specs.Passes.{MayRun, Turned, StandsPast, IsSplit};
+ghost use Rattle.turn_lock.specs.Passes.{MayRun, Stood, Turned, StandsPast, IsSplit};
 
 use crate::booked::{Booked, Step};
 use crate::desk::{Seat, take_turn};
@@ -158,6 +158,7 @@ impl<T: Booked> TurnLock<T> {
         ensures joined { into.new.joined ≡ into.old.joined + other.joined + 1 }
         ensures seen { GrewPast T.by into.old.number into.old.seen into.new.seen }
         ensures others { Grew other.seen into.new.seen }
+        ensures stood { Stood T.stands into.new.origin into.new.seen }
     {
         let Turns {
             badge,

@@ -33,3 +33,17 @@ pass_on-requires-clause-held g c =
           (w.adds o c.work-out.new.seat.me.0.seen
           (subst (λ l. g.T.Booked.stands c.work-out.result.1.value o l) (sym seen) (subst (λ v. g.T.Booked.stands v o (t.between ++ c.draw-ticket.new.seat.me.0.seen)) value (t.stood o (sym origin ∙ e)))))),
     )
+
+pub count-requires-clause-stood : goal.count-requires-clause-stood
+count-requires-clause-stood g c =
+    let t = c.wait.ensures.took in
+    let w = c.work-out.ensures in
+    let out = held_or c.work-out.result.1.value c.work-out.new.seat.me.1 in
+    let value : t.value ≡ c.work-out.result.1.value = ap (held_or t.value) (sym (ap (λ m. m.1) t.now) ∙ w.before) in
+    let origin = ap (λ m. m.0.origin) w.held ∙ ap (λ m. m.0.origin) t.now in
+    let seen = ap (λ m. m.0.seen) w.held ∙ ap (λ m. m.0.seen) t.now in (
+      out,
+      λ o e. subst (λ st. g.T.Booked.stands out o (g.S.Step.adds st c.work-out.result.1.value c.work-out.result.0 out ++ c.work-out.new.seat.me.0.seen)) (sym c.of-taken.ensures)
+          (w.adds o c.work-out.new.seat.me.0.seen
+          (subst (λ l. g.T.Booked.stands c.work-out.result.1.value o l) (sym seen) (subst (λ v. g.T.Booked.stands v o (t.between ++ c.draw-ticket.new.seat.me.0.seen)) value (t.stood o (sym origin ∙ e))))),
+    )
