@@ -1,0 +1,5 @@
+mod Slots
+mod Passing
+mod Answering
+mod Turning
+mod Calling

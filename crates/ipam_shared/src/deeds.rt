@@ -1,0 +1,92 @@
+// What a pass may do in a turn: what the kept cluster does, in the pass's slot.
+ghost use Rattle.std.specs.List.{All};
+ghost use Rattle.ipam_records.specs.Sound.{IsHandleId};
+ghost use Rattle.ipam_model.specs.SoundRequest.{IsSoundRequest};
+ghost use Rattle.ipam_shared.specs.Deeds.{told_by, told_if, Begins, Feeds, Calls, Stops};
+
+use crate::deed::Deed;
+use ipam_kept::{BeginFault, FeedFault, Keeper, Kept, PrepareFault};
+use ipam_model::{Entry, Request};
+use ipam_text::Text;
+use std::alloc::Global;
+
+/// The request is begun.
+#[derive(Drop)]
+pub(crate) struct Begin<'a> {
+    pub(crate) alloc: Global,
+    pub(crate) request: &'a Request,
+}
+
+impl<'a, D: Keeper> Deed<D> for Begin<'a> {
+    type Answer = Result<Entry, BeginFault>;
+
+    ghost can = { λ deed. IsSoundRequest deed.request.now };
+
+    ghost does = { λ deed slot before answer after. Begins slot before deed.request.now answer after };
+
+    ghost told = { told_by };
+
+    fn run(self, kept: &mut Kept<D>, slot: u8) -> Result<Entry, BeginFault> {
+        kept.begin(self.alloc, slot, self.request)
+    }
+}
+
+/// The collection is handed its second list, which was made at this time.
+#[derive(Drop)]
+pub(crate) struct Feed<'a> {
+    pub(crate) alloc: Global,
+    pub(crate) live: &'a [Text],
+    pub(crate) at: u64,
+}
+
+impl<'a, D: Keeper> Deed<D> for Feed<'a> {
+    type Answer = Result<Entry, FeedFault>;
+
+    ghost can = { λ deed. All IsHandleId deed.live.now };
+
+    ghost does = { λ deed slot before answer after. Feeds slot before deed.live.now deed.at answer after };
+
+    ghost told = { told_by };
+
+    fn run(self, kept: &mut Kept<D>, slot: u8) -> Result<Entry, FeedFault> {
+        kept.feed(self.alloc, slot, self.live, self.at)
+    }
+}
+
+/// The next call is made.
+#[derive(Drop)]
+pub(crate) struct Call {
+    pub(crate) alloc: Global,
+}
+
+impl<D: Keeper> Deed<D> for Call {
+    type Answer = Result<Entry, PrepareFault>;
+
+    ghost can = { λ deed. Unit {0} };
+
+    ghost does = { λ deed slot before answer after. Calls slot before D.faults answer after };
+
+    ghost told = { told_by };
+
+    fn run(self, kept: &mut Kept<D>, slot: u8) -> Result<Entry, PrepareFault> {
+        kept.turn(self.alloc, slot)
+    }
+}
+
+/// What runs is stopped.
+#[derive(Drop)]
+pub(crate) struct Stop;
+
+impl<D: Keeper> Deed<D> for Stop {
+    type Answer = Option<Entry>;
+
+    ghost can = { λ deed. Unit {0} };
+
+    ghost does = { λ deed slot before answer after. Stops slot before answer after };
+
+    ghost told = { told_if };
+
+    fn run(self, kept: &mut Kept<D>, slot: u8) -> Option<Entry> {
+        kept.stop(slot)
+    }
+}

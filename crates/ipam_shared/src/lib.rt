@@ -1,0 +1,19 @@
+//! A kept cluster under a lock. Whoever has a pass takes turns at it, in a slot of its own, and knows
+//! the history up to its last turn.
+//!
+//! Each call that is made for a request is one turn, so that others may come between two of them. The
+//! keeper is given a write in the turn that makes it, so rows are kept in the order of the history.
+#![tactic(auto)]
+
+mod deed;
+mod deeds;
+mod faults;
+mod locked;
+mod opened;
+mod pass;
+mod shared;
+
+pub use faults::{SharedFault, SpentPass};
+pub use ipam_kept::{BeginFault, FeedFault, Keeper, Kept, PrepareFault};
+pub use pass::Pass;
+pub use shared::Shared;
