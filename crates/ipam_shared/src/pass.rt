@@ -2,7 +2,7 @@
 ghost use Rattle.std.specs.Prelude.{◌≡◌, ◌+◌, ◌<◌, ◌≤◌, ◌↔◌, IsTrue, IsSome};
 
 use crate::opened::Opened;
-use ipam_laws::whole::every_lawful_history_is_right_so_far;
+use ipam_laws::whole::every_lawful_history_is_right;
 use ipam_model::Entry;
 use std::marker::Model;
 use turn_lock::Turns;
@@ -35,7 +35,7 @@ impl Model for Pass {
 }
 
 impl Pass {
-    ghost use Rattle.ipam_laws.specs.RightSoFar.{IsRightSoFar};
+    ghost use Rattle.ipam_model.specs.Right.{IsRight};
     ghost use Rattle.ipam_shared.specs.Passes.{runs_in};
 
     /// Its slot, from 0 to 63. No two passes of a lock have one slot.
@@ -77,9 +77,9 @@ impl Pass {
     /// What a pass has seen is right, whatever it has seen. The function does nothing: its contract is
     /// the law.
     pub fn has_seen_what_is_right(&self)
-        ensures { IsRightSoFar self.now.base self.now.seen }
+        ensures { IsRight self.now.base self.now.seen }
     {
         let _seen = &self.turns;
-        every_lawful_history_is_right_so_far();
+        every_lawful_history_is_right();
     }
 }
