@@ -1,0 +1,4 @@
+pub mod Histories
+pub mod Standing
+pub mod Ending
+pub mod Calls

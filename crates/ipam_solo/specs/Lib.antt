@@ -1,0 +1,3 @@
+-- What becomes of a request that runs by itself.
+pub mod Solo
+pub mod Steps

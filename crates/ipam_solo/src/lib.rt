@@ -1,0 +1,9 @@
+//! One request by itself, in a kept cluster in which nothing runs.
+#![tactic(auto)]
+
+mod solo;
+mod steps;
+
+pub use ipam_kept::{Keeper, Kept};
+pub use solo::run_alone;
+pub use std::alloc::AllocError as Memory;

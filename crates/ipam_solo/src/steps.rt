@@ -1,0 +1,112 @@
+//! One step of the request that runs by itself in slot 0.
+ghost use Rattle.std.specs.Prelude.{◌≡◌, ◌⊎◌, IfOk, OnOk, OnErr};
+ghost use Rattle.ipam_model.specs.declared.entry.SlotState.TheVariants as state;
+ghost use Rattle.ipam_model.specs.SoundRequest.{IsSoundCollect, IsSoundRequest};
+ghost use Rattle.ipam_model.specs.declared.request.Request.TheVariants.{Collect};
+ghost use Rattle.ipam_cluster.specs.Cluster.{WaitsWith, slot_of, state_in};
+ghost use Rattle.ipam_kept.specs.Kept.{IsKept, LeavesKeeper, Stays};
+ghost use Rattle.ipam_solo.specs.Solo.{HasNoGrace};
+ghost use Rattle.ipam_solo.specs.Steps.{CountsOne, IsDoneCall, IsFailedCall, IsFed, IsNoStep, IsStep, Runs, answer_told};
+
+use ipam_kept::{FeedFault, Keeper, Kept, PrepareFault};
+use ipam_model::{Answer, CollectRequest, Entry, Request, SlotState};
+use std::alloc::{AllocError, Global};
+
+/// Makes the next call, or feeds the collection that waits its own first list; with the answer, once
+/// there is one. On `Err` the cluster is as it was.
+pub(crate) fn step<D: Keeper>(
+    alloc: Global,
+    kept: &mut Kept<D>,
+    request: &Request,
+) -> Result<Option<Answer>, AllocError>
+    requires sound { IsSoundRequest request.now }
+    requires no_grace { HasNoGrace request.now }
+    requires runs { Runs D.rows request.now kept.old }
+    ensures stepped { IfOk result (IsStep D.rows D.faults request.now kept.old kept.new) }
+    ensures unchanged { OnErr result (Stays D.rows kept.old kept.new) }
+    ensures no_step { OnErr result (IsNoStep D.faults kept.old kept.new) }
+    ensures same { D.name kept.new.keeper ≡ D.name kept.old.keeper }
+{
+    match kept.cluster().state(0) {
+        SlotState::Idle => unreachable!(),
+        SlotState::Running => turn(alloc, kept),
+        SlotState::Waiting => {
+            feed(alloc, kept, request)?;
+            Ok(None)
+        }
+    }
+}
+
+/// Makes the next call.
+fn turn<D: Keeper>(alloc: Global, kept: &mut Kept<D>) -> Result<Option<Answer>, AllocError>
+    requires kept { IsKept D.rows kept.old }
+    requires running { state_in (slot_of kept.old.cluster 0) ≡ state.Running }
+    ensures called { IfOk result (λ told. IsDoneCall D.rows D.faults kept.old kept.new told
+        ⊎ IsFailedCall D.rows D.faults kept.old kept.new told) }
+    ensures counts { OnOk result (CountsOne kept.old kept.new) }
+    ensures unchanged { OnErr result (Stays D.rows kept.old kept.new) }
+    ensures no_step { OnErr result (IsNoStep D.faults kept.old kept.new) }
+    ensures same { D.name kept.new.keeper ≡ D.name kept.old.keeper }
+{
+    match kept.turn(alloc, 0) {
+        Ok(entry) => Ok(answer_told(entry)),
+        Err(PrepareFault::SlotIdle | PrepareFault::Waiting) => unreachable!(),
+        Err(PrepareFault::Worn | PrepareFault::Memory) => Err(AllocError),
+    }
+}
+
+fn answer_told(entry: Entry) -> Option<Answer>
+    ensures { result ≡ answer_told entry }
+{
+    match entry {
+        Entry::Called(called) => called.answer,
+        Entry::Began(_, _) | Entry::Fed(_, _, _) | Entry::Stopped(_) => None,
+    }
+}
+
+/// Feeds the collection that waits its own first list.
+fn feed<D: Keeper>(alloc: Global, kept: &mut Kept<D>, request: &Request) -> Result<(), AllocError>
+    requires sound { IsSoundRequest request.now }
+    requires no_grace { HasNoGrace request.now }
+    requires runs { Runs D.rows request.now kept.old }
+    requires waiting { state_in (slot_of kept.old.cluster 0) ≡ state.Waiting }
+    ensures fed { OnOk result (IsFed D.rows request.now kept.old kept.new) }
+    ensures counts { OnOk result (CountsOne kept.old kept.new) }
+    ensures unchanged { OnErr result (Stays D.rows kept.old kept.new) }
+    ensures no_step { OnErr result (IsNoStep D.faults kept.old kept.new) }
+    ensures keeper { LeavesKeeper kept.old kept.new }
+{
+    match request {
+        Request::Collect(collect) => feed_first(alloc, kept, collect),
+        _ => unreachable!(),
+    }
+}
+
+/// Feeds the first list of the collection that waits. It has no grace, so the list is not too early.
+fn feed_first<D: Keeper>(
+    alloc: Global,
+    kept: &mut Kept<D>,
+    collect: &CollectRequest,
+) -> Result<(), AllocError>
+    requires sound { IsSoundCollect collect.now }
+    requires kept { IsKept D.rows kept.old }
+    requires waits { WaitsWith (slot_of kept.old.cluster 0) (record { at = collect.now.at; grace = 0 }) }
+    ensures fed { OnOk result (IsFed D.rows (Collect collect.now) kept.old kept.new) }
+    ensures counts { OnOk result (CountsOne kept.old kept.new) }
+    ensures unchanged { OnErr result (Stays D.rows kept.old kept.new) }
+    ensures no_step { OnErr result (IsNoStep D.faults kept.old kept.new) }
+    ensures keeper { LeavesKeeper kept.old kept.new }
+{
+    let live = collect.live.as_slice();
+    match kept.feed(alloc, 0, live, collect.at) {
+        Ok(_fed) => Ok(()),
+        Err(FeedFault::NotWaiting) => unreachable!(),
+        Err(
+            FeedFault::TooSoon {
+                at: _since,
+                grace: _grace,
+            },
+        ) => unreachable!(),
+        Err(FeedFault::Worn | FeedFault::Memory) => Err(AllocError),
+    }
+}
