@@ -1,1 +1,9 @@
 pub mod ReadingLemmas
+pub mod SoundLines
+pub mod Refusing
+pub mod Happenings
+pub mod Restarts
+pub mod Gatherings
+pub mod LineKinds
+pub mod Players
+pub mod Steps

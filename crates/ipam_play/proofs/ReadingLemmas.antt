@@ -1,20 +1,19 @@
 -- What the bytes to come say of the readings to come.
-use Rattle.std.proofs.Common.{◌≡◌, ◌≢◌, ◌∙◌, ℕ, zero, suc, ◌+◌, ◌<◌, ◌≤◌, Bool, true, false, List, [], ◌∷◌, ◌++◌, length, take, drop, map, refl, sym, ap, subst, arith, eqb-true, Option, Some, None, append_assoc, append-nil}
-use Rattle.std.specs.Prelude.{All, Result, Ok, Err, option_map, option_and_then, ◌==◌, nat_lt}
+use Rattle.std.proofs.Common.{◌≡◌, ◌≢◌, ◌∙◌, ℕ, zero, suc, ◌+◌, ◌≤◌, Bool, true, false, List, [], ◌∷◌, ◌++◌, length, take, map, refl, sym, ap, subst, arith, eqb-true, Option, Some, None, append_assoc, append-nil}
+use Rattle.std.specs.Prelude.{Ok, Err, option_map, option_and_then, ◌==◌}
 use Rattle.std.specs.Io.KnownBytes.{prepend_known, IsAtEnd}
 use Rattle.std.specs.List.{list_any, slice_split}
 use Rattle.std.proofs.lemmas.List.Elements.{All-head, All-tail}
 use Rattle.std.proofs.lemmas.Bool.{lt-ltb}
 use Rattle.ipam_lines.specs.Feeds.{HasNoFeed, IsTooLong}
 use Rattle.ipam_lines.proofs.AnswerLemmas.{stays_too_long}
-use Rattle.ipam_script.specs.Lines.{ScriptLine, is_line_end, is_long, told, placed, without_empty_end}
+use Rattle.ipam_script.specs.Lines.{is_line_end, told, placed, without_empty_end}
 use Rattle.std.specs.Str.{is_utf8}
 use Rattle.ipam_record_text.specs.Reading.{only_if}
 use Rattle.ipam_script.specs.Reading.{line_reading, text_reading}
 use Rattle.ipam_script.proofs.Cuts.{cut, uncut, split_some, behind}
-use Rattle.ipam_play.specs.declared.kind.Kind.TheVariants.{Long, Unreadable}
+use Rattle.ipam_play.specs.declared.refusal.LineRefusal.TheVariants.{Long, Unreadable}
 use Rattle.ipam_play.specs.declared.lines.Next.TheVariants as next
-use Rattle.ipam_play.specs.declared.lines.ScriptFault.TheVariants as fault
 use Rattle.ipam_play.specs.Readings.{Answer, Reading, read_or_not, reading_of, readings_from, IsNext, IsNextOf, IsTold, IsLastTold, OnLine}
 
 nothing_read : line_reading [] ≡ None
@@ -58,14 +57,14 @@ readings-last before (c ∷ line) none some = ap (λ parts. map reading_of (plac
 told-next : (answer : Answer) (reading : Reading) (now after : List Reading) → IsTold answer reading → now ≡ reading ∷ after → IsNext answer now after
 told-next (Ok (next.Line line)) reading now after is same = cc
 told-next (Ok (next.Last line)) reading now after is same = absurd is
-told-next (Ok (next.Refused kind)) reading now after is same = (after, cc)
+told-next (Ok (next.Refused why)) reading now after is same = (after, cc)
 told-next (Ok next.End) reading now after is same = absurd is
 told-next (Err fault) reading now after is same = tt
 
 last-next : (answer : Answer) (reading : Reading) (now after : List Reading) → IsLastTold answer reading → now ≡ reading ∷ [] → IsNext answer now after
 last-next (Ok (next.Line line)) reading now after is same = absurd is
 last-next (Ok (next.Last line)) reading now after is same = cc
-last-next (Ok (next.Refused kind)) reading now after is same = ([], cc)
+last-next (Ok (next.Refused why)) reading now after is same = ([], cc)
 last-next (Ok next.End) reading now after is same = absurd is
 last-next (Err fault) reading now after is same = tt
 
@@ -73,7 +72,7 @@ line-next : (answer : Answer) (before after : ℕ) (line rest : List ℕ) → Ha
     → IsNext answer (readings_from before (line ++ 10 ∷ rest)) (readings_from after rest)
 line-next (Ok (next.Line l)) before after line rest none is at = readings-line before line rest none ∙ cc
 line-next (Ok (next.Last l)) before after line rest none is at = absurd is
-line-next (Ok (next.Refused kind)) before after line rest none is at = (readings_from (before + length line + 1) rest, readings-line before line rest none ∙ ap (λ r. r ∷ readings_from (before + length line + 1) rest) is)
+line-next (Ok (next.Refused why)) before after line rest none is at = (readings_from (before + length line + 1) rest, readings-line before line rest none ∙ ap (λ r. r ∷ readings_from (before + length line + 1) rest) is)
 line-next (Ok next.End) before after line rest none is at = absurd is
 line-next (Err fault) before after line rest none is at = tt
 

@@ -3,3 +3,7 @@ pub mod Readings
 pub mod Script
 pub mod Played
 pub mod Output
+pub mod Gathering
+pub mod SoundLine
+pub mod Events
+pub mod Player

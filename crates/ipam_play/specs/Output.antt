@@ -2,25 +2,25 @@
 use Rattle.std.specs.Prelude.{ℕ, List, [], ◌∷◌, ◌++◌, codes, decimal}
 use Rattle.ipam_answer_text.specs.Entries.{entry_line}
 use Rattle.ipam_model.specs.declared.entry.Entry.{Entry}
-use Rattle.ipam_play.specs.declared.kind.Kind.{Kind}
-use Rattle.ipam_play.specs.declared.kind.Kind.TheVariants.{Long, Unreadable, Base, Busy, Idle, Waiting, NotWaiting, TooSoon, Worn}
+use Rattle.ipam_play.specs.declared.refusal.LineRefusal.{LineRefusal}
+use Rattle.ipam_play.specs.declared.refusal.LineRefusal.TheVariants.{Long, Unreadable, Base, Busy, Idle, Waiting, NotWaiting, TooSoon, Worn}
 use Rattle.ipam_play.specs.Played.{Ending, Whole, LineRefused, NotOpened}
 
-abbrev pub kind_text : Kind → List ℕ
-kind_text Long = codes "long"
-kind_text Unreadable = codes "unreadable"
-kind_text Base = codes "base"
-kind_text Busy = codes "busy"
-kind_text Idle = codes "idle"
-kind_text Waiting = codes "waiting"
-kind_text NotWaiting = codes "not waiting"
-kind_text TooSoon = codes "too soon"
-kind_text Worn = codes "worn"
+abbrev pub refusal_text : LineRefusal → List ℕ
+refusal_text Long = codes "long"
+refusal_text Unreadable = codes "unreadable"
+refusal_text Base = codes "base"
+refusal_text Busy = codes "busy"
+refusal_text Idle = codes "idle"
+refusal_text Waiting = codes "waiting"
+refusal_text NotWaiting = codes "not waiting"
+refusal_text TooSoon = codes "too soon"
+refusal_text Worn = codes "worn"
 
 -- the line that is written last, where there is one
 abbrev pub ending_text : Ending → List ℕ
 ending_text Whole = []
-ending_text (LineRefused number kind) = codes "line " ++ decimal number ++ codes ": " ++ kind_text kind ++ codes "\n"
+ending_text (LineRefused number why) = codes "line " ++ decimal number ++ codes ": " ++ refusal_text why ++ codes "\n"
 ending_text (NotOpened rule about) = codes "datastore OR" ++ decimal rule ++ codes " " ++ about ++ codes "\n"
 
 -- the journal: a line for each entry, the oldest first

@@ -1,5 +1,5 @@
 -- What comes of a script: entries, and how it ends.
-use Rattle.std.specs.Prelude.{◌≡◌, ℕ, ◌-◌, nat_lt, List, [], ◌∷◌, ◌++◌, length, map, Option, Some, None, if◌then◌else◌}
+use Rattle.std.specs.Prelude.{◌≡◌, ℕ, ◌-◌, nat_lt, List, [], ◌∷◌, ◌++◌, length, Option, Some, None, if◌then◌else◌}
 use Rattle.std.specs.List.Sorted.{IsPermutation}
 use Rattle.ipam_records.specs.declared.call.Row.{Row as RowText}
 use Rattle.ipam_records.specs.Datastore.{Datastore}
@@ -7,15 +7,15 @@ use Rattle.ipam_model.specs.declared.entry.Entry.{Entry}
 use Rattle.ipam_model.specs.Course.{Course, Event, Refusal, Busy, Idle, Waiting, NotWaiting, TooSoon, Worn, Refused, course}
 use Rattle.ipam_model.specs.History.{Base, start}
 use Rattle.ipam_model.specs.Opened.{AreByKey, IsRefusedBy, OpensAs, Texts}
-use Rattle.ipam_play.specs.declared.kind.Kind.{Kind}
-use Rattle.ipam_play.specs.declared.kind.Kind.TheVariants as kind
+use Rattle.ipam_play.specs.declared.refusal.LineRefusal.{LineRefusal}
+use Rattle.ipam_play.specs.declared.refusal.LineRefusal.TheVariants as refusal
 use Rattle.ipam_play.specs.Script.{Gathered, Script, Step, Stops, Ended, Broken}
 
 -- how a script ends
 pub data Ending : Type 0 where
   Whole : Ending
   -- the line of this number is refused
-  LineRefused : (number : ℕ) → Kind → Ending
+  LineRefused : (number : ℕ) → LineRefusal → Ending
   -- the base breaks a rule, which is told of a key
   NotOpened : (rule : ℕ) (about : List ℕ) → Ending
 
@@ -47,21 +47,21 @@ line_of [] place = 0
 line_of (step ∷ steps) place =
     if nat_lt place (length step.events) then step.number else line_of steps (place - length step.events)
 
-abbrev pub kind_of : Refusal → Kind
-kind_of Busy = kind.Busy
-kind_of Idle = kind.Idle
-kind_of Waiting = kind.Waiting
-kind_of NotWaiting = kind.NotWaiting
-kind_of (TooSoon at grace) = kind.TooSoon
-kind_of Worn = kind.Worn
+abbrev pub refusal_of : Refusal → LineRefusal
+refusal_of Busy = refusal.Busy
+refusal_of Idle = refusal.Idle
+refusal_of Waiting = refusal.Waiting
+refusal_of NotWaiting = refusal.NotWaiting
+refusal_of (TooSoon at grace) = refusal.TooSoon
+refusal_of Worn = refusal.Worn
 
 abbrev pub ending_of_stops : Stops → Ending
 ending_of_stops Ended = Whole
-ending_of_stops (Broken number kind) = LineRefused number kind
+ending_of_stops (Broken number why) = LineRefused number why
 
 abbrev pub ending_of : Script → Option Refused → Ending
 ending_of script None = ending_of_stops script.stops
-ending_of script (Some refused) = LineRefused (line_of script.steps refused.place) (kind_of refused.why)
+ending_of script (Some refused) = LineRefused (line_of script.steps refused.place) (refusal_of refused.why)
 
 -- the cluster's base: no entry was made before
 abbrev pub base_of : Datastore → Base
@@ -78,8 +78,8 @@ OpensBase script = (script.steps ≡ [] → script.stops ≡ Ended)
 -- What comes of a script.
 pub data IsPlayed (script : Script) : List Entry → Ending → Type 0 where
   -- a line of the base, or the first behind it, is refused whatever the base is
-  RefusedAtOnce : (number : ℕ) (kind : Kind) → script.steps ≡ [] → script.stops ≡ Broken number kind
-      → IsPlayed script [] (LineRefused number kind)
+  RefusedAtOnce : (number : ℕ) (why : LineRefusal) → script.steps ≡ [] → script.stops ≡ Broken number why
+      → IsPlayed script [] (LineRefused number why)
   -- the base is refused
   BaseRefused : (texts : Texts) (rule : ℕ) (about : List ℕ) → OpensBase script → AreTextsOf texts script.base
       → IsRefusedBy texts rule about → IsPlayed script [] (NotOpened rule about)

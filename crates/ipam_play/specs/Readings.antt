@@ -5,8 +5,8 @@ use Rattle.std.specs.List.{slice_split}
 use Rattle.ipam_script.specs.declared.line.Line.{Line}
 use Rattle.ipam_script.specs.Lines.{ScriptLine, Whole, Long as LongLine, is_line_end, lines_of, placed, without_empty_end}
 use Rattle.ipam_script.specs.Reading.{line_reading}
-use Rattle.ipam_play.specs.declared.kind.Kind.{Kind}
-use Rattle.ipam_play.specs.declared.kind.Kind.TheVariants.{Long, Unreadable}
+use Rattle.ipam_play.specs.declared.refusal.LineRefusal.{LineRefusal}
+use Rattle.ipam_play.specs.declared.refusal.LineRefusal.TheVariants.{Long, Unreadable}
 use Rattle.ipam_play.specs.declared.lines.Next.{Next}
 use Rattle.ipam_play.specs.declared.lines.Next.TheVariants as next
 use Rattle.ipam_play.specs.declared.lines.ScriptFault.{ScriptFault}
@@ -15,7 +15,7 @@ use Rattle.ipam_play.specs.declared.lines.ScriptLines.{ScriptLines}
 
 -- a line, or why it is none
 abbrev pub Reading : Type 0
-Reading = Result Line Kind
+Reading = Result Line LineRefusal
 
 abbrev pub read_or_not : Option Line → Reading
 read_or_not None = Err Unreadable
@@ -40,7 +40,7 @@ Answer = Result Next ScriptFault
 abbrev pub IsNext : Answer → (now after : List Reading) → Type 0
 IsNext (Ok (next.Line line)) now after = now ≡ Ok line ∷ after
 IsNext (Ok (next.Last line)) now after = now ≡ Ok line ∷ []
-IsNext (Ok (next.Refused kind)) now after = (more : List Reading) × (now ≡ Err kind ∷ more)
+IsNext (Ok (next.Refused why)) now after = (more : List Reading) × (now ≡ Err why ∷ more)
 IsNext (Ok next.End) now after = now ≡ []
 IsNext (Err fault) now after = ⊤
 
@@ -57,7 +57,7 @@ IsNextOf answer (Some now) after = (behind : List Reading) × (after ≡ Some be
 abbrev pub IsTold : Answer → Reading → Type 0
 IsTold (Ok (next.Line line)) reading = reading ≡ Ok line
 IsTold (Ok (next.Last line)) reading = ⊥
-IsTold (Ok (next.Refused kind)) reading = reading ≡ Err kind
+IsTold (Ok (next.Refused why)) reading = reading ≡ Err why
 IsTold (Ok next.End) reading = ⊥
 IsTold (Err fault) reading = fault ≡ Memory
 
@@ -65,7 +65,7 @@ IsTold (Err fault) reading = fault ≡ Memory
 abbrev pub IsLastTold : Answer → Reading → Type 0
 IsLastTold (Ok (next.Line line)) reading = ⊥
 IsLastTold (Ok (next.Last line)) reading = reading ≡ Ok line
-IsLastTold (Ok (next.Refused kind)) reading = reading ≡ Err kind
+IsLastTold (Ok (next.Refused why)) reading = reading ≡ Err why
 IsLastTold (Ok next.End) reading = ⊥
 IsLastTold (Err fault) reading = fault ≡ Memory
 
@@ -79,3 +79,19 @@ abbrev pub UnlessRead : Answer → Type 0 → Type 0
 UnlessRead (Ok found) p = p
 UnlessRead (Err Read) p = ⊤
 UnlessRead (Err Memory) p = p
+
+-- a fact of the line that was read
+abbrev pub IfLine : Answer → (Line → Type 0) → Type 0
+IfLine (Ok (next.Line line)) p = p line
+IfLine (Ok (next.Last line)) p = p line
+IfLine (Ok (next.Refused why)) p = ⊤
+IfLine (Ok next.End) p = ⊤
+IfLine (Err fault) p = ⊤
+
+-- a fact where nothing is left to be read
+abbrev pub OnEnd : Answer → Type 0 → Type 0
+OnEnd (Ok (next.Line line)) p = ⊤
+OnEnd (Ok (next.Last line)) p = p
+OnEnd (Ok (next.Refused why)) p = ⊤
+OnEnd (Ok next.End) p = p
+OnEnd (Err fault) p = ⊤

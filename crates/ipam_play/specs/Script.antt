@@ -1,13 +1,14 @@
 -- What the lines of a script ask for: the rows of a base, and what happens to a cluster that is opened
 -- over them.
-use Rattle.std.specs.Prelude.{ℕ, ◌+◌, Bool, ◌||◌, false, bytes_eq, is_some, List, [], ◌∷◌, ◌++◌, replicate, Option, Some, None, Ok, Err, if◌then◌else◌}
+use Rattle.std.specs.Prelude.{ℕ, ◌+◌, Bool, bytes_eq, is_some, List, [], ◌∷◌, ◌++◌, replicate, Option, Some, None, Ok, Err, if◌then◌else◌}
+use Rattle.std.specs.List.{list_any}
 use Rattle.ipam_records.specs.declared.call.Row.{Row as RowText}
 use Rattle.ipam_model.specs.declared.entry.Fate.TheVariants.{Well, Before, After}
 use Rattle.ipam_model.specs.Course.{Event, Begin, Turn, Feed, Stop, Restart}
 use Rattle.ipam_script.specs.declared.line.Line.{Line}
 use Rattle.ipam_script.specs.declared.line.Line.TheVariants as line
-use Rattle.ipam_play.specs.declared.kind.Kind.{Kind}
-use Rattle.ipam_play.specs.declared.kind.Kind.TheVariants as kind
+use Rattle.ipam_play.specs.declared.refusal.LineRefusal.{LineRefusal}
+use Rattle.ipam_play.specs.declared.refusal.LineRefusal.TheVariants as refusal
 use Rattle.ipam_play.specs.Readings.{Reading}
 
 -- ---- the base
@@ -21,8 +22,15 @@ abbrev pub nothing_gathered : Gathered
 nothing_gathered = record { rows = []; counter = None }
 
 abbrev pub has_key : List ℕ → List RowText → Bool
-has_key key [] = false
-has_key key (row ∷ rows) = bytes_eq key row.key || has_key key rows
+has_key key rows = list_any (λ (row : RowText). bytes_eq key row.key) rows
+
+-- the same with one row more
+abbrev pub with_row : RowText → Gathered → Gathered
+with_row row base = record base { rows = base.rows ++ row ∷ [] }
+
+-- the same with this counter
+abbrev pub with_counter : ℕ → Gathered → Gathered
+with_counter counter base = record base { counter = Some counter }
 
 -- ---- lines
 
@@ -52,8 +60,8 @@ happening None = Again
 happening (Some events) = Happens events
 
 abbrev pub place_of : Gathered → Line → Place
-place_of base (line.Row row) = if has_key row.key base.rows then Again else OfBase (record base { rows = base.rows ++ row ∷ [] })
-place_of base (line.Counter counter) = if is_some base.counter then Again else OfBase (record base { counter = Some counter })
+place_of base (line.Row row) = if has_key row.key base.rows then Again else OfBase (with_row row base)
+place_of base (line.Counter counter) = if is_some base.counter then Again else OfBase (with_counter counter base)
 place_of base other = happening (events_of other)
 
 -- ---- scripts
@@ -68,7 +76,7 @@ pub data Stops : Type 0 where
   -- the script ends
   Ended : Stops
   -- the line of this number is refused whatever the cluster is
-  Broken : (number : ℕ) → Kind → Stops
+  Broken : (number : ℕ) → LineRefusal → Stops
 
 pub record Script : Type 0 where
   pub base : Gathered
@@ -88,7 +96,7 @@ steps_from number base [] = stopped base Ended
 steps_from number base (Err why ∷ more) = stopped base (Broken number why)
 steps_from number base (Ok line ∷ more) =
     elim (events_of line) [
-      | None ↦ stopped base (Broken number kind.Base)
+      | None ↦ stopped base (Broken number refusal.Base)
       | Some events ↦ behind_step (record { number = number; events = events }) (steps_from (number + 1) base more)
     ]
 
@@ -99,7 +107,7 @@ script_from number base (Err why ∷ more) = stopped base (Broken number why)
 script_from number base (Ok line ∷ more) =
     elim (place_of base line) [
       | OfBase longer ↦ script_from (number + 1) longer more
-      | Again ↦ stopped base (Broken number kind.Base)
+      | Again ↦ stopped base (Broken number refusal.Base)
       | Happens events ↦ behind_step (record { number = number; events = events }) (steps_from (number + 1) base more)
     ]
 

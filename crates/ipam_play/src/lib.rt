@@ -1,10 +1,17 @@
 //! Scripts are played: what their lines ask happens to a cluster, and a journal tells of it.
 #![tactic(auto)]
 
-mod kind;
+mod cluster;
+mod fault;
+mod gathering;
 mod lines;
 mod offset;
+mod player;
+mod playing;
+mod refusal;
 
-pub use kind::Kind;
+pub use fault::PlayFault;
 pub use lines::{Next, ScriptFault, ScriptLines};
+pub use player::Player;
+pub use refusal::LineRefusal;
 pub use std::alloc::AllocError as Memory;

@@ -2,10 +2,12 @@
 ghost use Rattle.std.specs.Prelude.{◌≡◌, ◌+◌, ◌<◌, ◌≤◌, [], length, IfOk, IfErr};
 ghost use Rattle.ipam_io.specs.Counts.{Rose};
 ghost use Rattle.ipam_script.specs.Lines.{told};
-ghost use Rattle.ipam_play.specs.Readings.{reading_of, coming, IsNextOf, IsTold, IsLastTold, OnLine, UnlessRead};
+ghost use Rattle.std.specs.Io.KnownBytes.{IsAtEnd};
+ghost use Rattle.ipam_play.specs.Readings.{reading_of, coming, IfLine, IsNextOf, IsTold, IsLastTold, OnEnd, OnLine, UnlessRead};
+ghost use Rattle.ipam_play.specs.SoundLine.{IsSoundLine};
 
-use crate::kind::Kind;
 use crate::offset::{MOST_SCRIPT_BYTES, Offset};
+use crate::refusal::LineRefusal;
 use ipam_io::Source;
 use ipam_lines::{Got, Lines, LinesFault};
 use ipam_script::{Line, LineFault, read_line};
@@ -21,7 +23,7 @@ pub enum Next {
     /// A last line that has no line end.
     Last(Line),
     /// A line that is refused whatever was before it.
-    Refused(Kind),
+    Refused(LineRefusal),
     /// The script ended.
     End,
 }
@@ -58,6 +60,10 @@ impl ScriptLines {
     /// nothing is said of what comes behind them.
     pub fn next<S: Source>(&mut self, alloc: Global, source: &mut S) -> Result<Next, ScriptFault>
         ensures next { IsNextOf result (coming self.old (S.left source.old)) (coming self.new (S.left source.new)) }
+        ensures sound { IfLine result IsSoundLine }
+        ensures end { OnEnd result (IsAtEnd (S.left source.new)) }
+        ensures onward { OnLine result (self.old.before.bytes < self.new.before.bytes) }
+        ensures within { OnLine result (self.new.before.bytes ≤ 67108865) }
         ensures fault { IfErr result (λ e. e ≡ ScriptFault.Read
             → Rose (S.read_faults source.old) (S.read_faults source.new)) }
         ensures no_fault { UnlessRead result
@@ -69,7 +75,7 @@ impl ScriptLines {
             Ok(Got::Line(bytes)) => self.line(alloc, &bytes),
             Ok(Got::Cut) => self.last(alloc),
             Ok(Got::End) => Ok(Next::End),
-            Err(LinesFault::TooLong) => Ok(Next::Refused(Kind::Long)),
+            Err(LinesFault::TooLong) => Ok(Next::Refused(LineRefusal::Long)),
             Err(LinesFault::Read) => Err(ScriptFault::Read),
             Err(LinesFault::Memory) => Err(ScriptFault::Memory),
         }
@@ -79,15 +85,17 @@ impl ScriptLines {
     fn line(&mut self, alloc: Global, bytes: &[u8]) -> Result<Next, ScriptFault>
         requires { length bytes.now < LINE_LIMIT }
         ensures told { IsTold result (reading_of (told self.old.before.bytes bytes.now)) }
+        ensures sound { IfLine result IsSoundLine }
         ensures lines { self.new.lines ≡ self.old.lines }
         ensures before { OnLine result (self.new.before.bytes ≡ self.old.before.bytes + length bytes.now + 1) }
+        ensures within { OnLine result (self.new.before.bytes ≤ 67108865) }
     {
         match asked(alloc, self.before, bytes) {
             Ok(Ok(line)) => {
                 self.before = self.before.behind(bytes.len());
                 Ok(Next::Line(line))
             }
-            Ok(Err(kind)) => Ok(Next::Refused(kind)),
+            Ok(Err(why)) => Ok(Next::Refused(why)),
             Err(_) => Err(ScriptFault::Memory),
         }
     }
@@ -96,30 +104,37 @@ impl ScriptLines {
     fn last(&self, alloc: Global) -> Result<Next, ScriptFault>
         requires { length self.now.lines < LINE_LIMIT }
         ensures told { IsLastTold result (reading_of (told self.now.before.bytes self.now.lines)) }
+        ensures sound { IfLine result IsSoundLine }
     {
         match asked(alloc, self.before, self.lines.held()) {
             Ok(Ok(line)) => Ok(Next::Last(line)),
-            Ok(Err(kind)) => Ok(Next::Refused(kind)),
+            Ok(Err(why)) => Ok(Next::Refused(why)),
             Err(_) => Err(ScriptFault::Memory),
         }
     }
 }
 
 /// What the bytes of a line ask, before which so many stand in the script.
-fn asked(alloc: Global, before: Offset, bytes: &[u8]) -> Result<Result<Line, Kind>, AllocError>
+#[tactic(auto, using(crate::proofs::SoundLines::reading_sound))]
+fn asked(
+    alloc: Global,
+    before: Offset,
+    bytes: &[u8],
+) -> Result<Result<Line, LineRefusal>, AllocError>
     requires short { length bytes.now < LINE_LIMIT }
     ensures reading { IfOk result (λ r. r ≡ reading_of (told before.bytes bytes.now)) }
+    ensures sound { IfOk result (λ r. IfOk r IsSoundLine) }
     ensures in_time { IfOk result (λ r. IfOk r (λ line. before.bytes + length bytes.now ≤ 67108864)) }
 {
     if bytes.is_empty() {
-        return Ok(Err(Kind::Unreadable));
+        return Ok(Err(LineRefusal::Unreadable));
     }
     if before.bytes + bytes.len() as u64 > MOST_SCRIPT_BYTES {
-        return Ok(Err(Kind::Long));
+        return Ok(Err(LineRefusal::Long));
     }
     match read_line(alloc, bytes) {
         Ok(line) => Ok(Ok(line)),
-        Err(LineFault::Unreadable) => Ok(Err(Kind::Unreadable)),
+        Err(LineFault::Unreadable) => Ok(Err(LineRefusal::Unreadable)),
         Err(LineFault::Memory) => Err(AllocError),
     }
 }

@@ -1,9 +1,9 @@
 ghost use Rattle.std.specs.Prelude.{◌≡◌};
-ghost use Rattle.ipam_play.specs.Output.{kind_text};
+ghost use Rattle.ipam_play.specs.Output.{refusal_text};
 
 /// Why a line of a script is refused.
 #[derive(Clone, Copy, Debug, PartialEq, Eq)]
-pub enum Kind {
+pub enum LineRefusal {
     /// It has more than 1,048,576 bytes, or its last byte stands behind the first 67,108,864 bytes of
     /// the script.
     Long,
@@ -25,21 +25,21 @@ pub enum Kind {
     Worn,
 }
 
-impl Kind {
+impl LineRefusal {
     /// What a refusal says of the line.
     pub fn text(self) -> &'static str
-        ensures { result.now ≡ kind_text self }
+        ensures { result.now ≡ refusal_text self }
     {
         match self {
-            Kind::Long => "long",
-            Kind::Unreadable => "unreadable",
-            Kind::Base => "base",
-            Kind::Busy => "busy",
-            Kind::Idle => "idle",
-            Kind::Waiting => "waiting",
-            Kind::NotWaiting => "not waiting",
-            Kind::TooSoon => "too soon",
-            Kind::Worn => "worn",
+            LineRefusal::Long => "long",
+            LineRefusal::Unreadable => "unreadable",
+            LineRefusal::Base => "base",
+            LineRefusal::Busy => "busy",
+            LineRefusal::Idle => "idle",
+            LineRefusal::Waiting => "waiting",
+            LineRefusal::NotWaiting => "not waiting",
+            LineRefusal::TooSoon => "too soon",
+            LineRefusal::Worn => "worn",
         }
     }
 }

@@ -1,0 +1,52 @@
+-- What a cluster refuses is refused in each history that it stands for, and what it makes is made there.
+use Rattle.std.proofs.Common.{◌≡◌, ℕ, ◌+◌, ◌^◌, ◌<◌, ◌≤◌, List, [], ◌∷◌, refl, subst, inr}
+use Rattle.std.specs.Prelude.{◌↔◌, Result, Ok, Err}
+use Rattle.ipam_model.specs.declared.entry.Entry.{Entry}
+use Rattle.ipam_model.specs.declared.entry.Fate.{Fate}
+use Rattle.ipam_model.specs.declared.entry.SlotState.TheVariants as state
+use Rattle.ipam_model.specs.Course.{Event, Turn, Feed, TooSoon, Worn, entries_of}
+use Rattle.ipam_model.specs.CourseLaw.{event_of}
+use Rattle.ipam_model.specs.History.{cluster_at}
+use Rattle.ipam_cluster.specs.declared.cluster.Cluster.{Cluster}
+use Rattle.ipam_cluster.specs.declared.faults.FeedFault.{FeedFault}
+use Rattle.ipam_cluster.specs.declared.faults.FeedFault.TheVariants as feed
+use Rattle.ipam_cluster.specs.Cluster.{AddsTo, IsUnchanged, WaitsWith, slot_of, state_in}
+use Rattle.ipam_cluster.specs.Turns.{IsTurn}
+use Rattle.ipam_cluster.proofs.Events as cluster_events
+use Rattle.ipam_cluster.proofs.Standing.{unchanged_stands}
+use Rattle.ipam_play.specs.declared.fault.PlayFault.TheVariants as fault
+use Rattle.ipam_play.specs.Events.{IsCause, Makes}
+
+pub makes : (old new : Cluster) (event : Event) (made : Entry) → event_of made ≡ event → AddsTo old new made → Makes old new event made
+makes old new event made is adds = record {
+  stands = adds;
+  made_by = λ base history h. subst (λ (e : Event). entries_of (cluster_at base history) e ≡ Ok (made ∷ [])) is
+      (cluster_events.made new base history made (adds base history h));
+}
+
+-- a call that was prepared, and then made
+pub turn_made : (old mid new : Cluster) (slot prepared : ℕ) (fate : Fate) (made : Entry) → prepared ≡ slot → IsUnchanged old mid → IsTurn prepared fate made → AddsTo mid new made
+    → Makes old new (Turn slot fate) made
+turn_made old mid new slot prepared fate made same unchanged is adds = record {
+  stands = λ base history h. adds base history (unchanged_stands old mid unchanged base history h);
+  made_by = λ base history h. subst (λ (s : ℕ). entries_of (cluster_at base history) (Turn s fate) ≡ Ok (made ∷ [])) same
+      (cluster_events.turn_made new base history prepared fate made is (adds base history (unchanged_stands old mid unchanged base history h)));
+}
+
+pub turn_told : (cluster : Cluster) (slot : ℕ) (fate : Fate) → (2 ^ 62 ≤ cluster.entries) × (state_in (slot_of cluster slot) ≡ state.Running) → IsCause cluster [] (Turn slot fate) fault.Worn
+turn_told cluster slot fate facts = inr (record {
+  refusal = Worn;
+  is_told = refl;
+  refuses = λ base history h. cluster_events.turn_worn cluster base history slot fate h facts.1 facts.0;
+})
+
+pub feed_told : (cluster : Cluster) (slot at : ℕ) (live : List (List ℕ)) (result : Result Entry FeedFault)
+    → ((since grace : ℕ) → (result ≡ Err (feed.TooSoon since grace)) ↔ (WaitsWith (slot_of cluster slot) (record { at = since; grace = grace }) × at < since + grace))
+    → (since grace : ℕ) → result ≡ Err (feed.TooSoon since grace) → IsCause cluster [] (Feed slot at live) fault.TooSoon
+feed_told cluster slot at live result exactly since grace is =
+    let facts = (exactly since grace).0 is in
+    inr (record {
+      refusal = TooSoon since grace;
+      is_told = refl;
+      refuses = λ base history h. cluster_events.feed_too_soon cluster base history slot at live (record { at = since; grace = grace }) h facts.0 facts.1;
+    })

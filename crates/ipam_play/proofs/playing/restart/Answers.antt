@@ -1,0 +1,39 @@
+use Rattle.std.proofs.Common.{◌≡◌, arith, inl, refl}
+use Rattle.std.proofs.lemmas.Result.{err_from_is_err_and}
+use Rattle.ipam_play.proofs.Happenings.{one_stops}
+use Rattle.ipam_play.proofs.Restarts.{busy_cleared, idle_cleared, nothing_cleared, restarted}
+use Rattle.ipam_play.proofs.playing.restart.Goals.{in-Some, in_default}
+use Rattle.ipam_play.proofs.playing.restart.Goals as goal
+
+pub returns-in_err-make_room : goal.returns-in_err-make_room
+returns-in_err-make_room c =
+    let p = err_from_is_err_and c.from_residual.result c.from_residual.ensures.1 in
+    rw (p.1, p.2) (one_stops _ _ _ _ _ c.in_err-make_room.field-0.0 (λ base history h. h) c.make_room.ensures.journal (inl c.in_err-make_room.ensures.fault))
+
+pub loop-slot-init : goal.loop-slot-init
+loop-slot-init c = record { cleared = nothing_cleared _ _; room = omega (arith, c.in_ok-make_room.ensures.room) }
+
+pub loop-slot-preserved : goal.loop-slot-preserved
+loop-slot-preserved c =
+    let below = c.loop-slot-test.true in
+    let room = c.loop-slot.invariant.room in
+    elim c.match-clear.branch [
+      | in-Some w ↦
+          let len = w.note.ensures.len in
+          let capacity = w.note.ensures.capacity in
+          rw w.journal-is (record {
+            cleared = busy_cleared _ c.loop-slot.cluster.cluster _ _ c.loop-slot.journal.items _ c.loop-slot.slot w.in-Some.entry c.loop-slot.invariant.cleared
+                (λ e. cc (w.in-Some.ensures.idle.1 e)) w.in-Some.ensures.entry w.in-Some.ensures.adds c.clear.ensures.others w.note.ensures.items;
+            room = omega (arith, room, below, len, capacity);
+          })
+      | in_default w ↦ rw w.journal-is (record {
+        cleared = idle_cleared _ c.loop-slot.cluster.cluster _ _ c.loop-slot.journal.items c.loop-slot.slot c.loop-slot.invariant.cleared
+            (w.in_default.ensures.idle.0 refl) w.in_default.ensures.kept c.clear.ensures.others;
+        room = omega (arith, room, below);
+      })
+    ]
+
+pub returns : goal.returns
+returns c =
+    let all : c.loop-slot.slot ≡ 64 = omega (arith, c.loop-slot-test.false, c.loop-slot.auto.slot-end) in
+    restarted _ _ _ _ _ _ c.loop-slot.invariant.cleared all c.make_room.ensures.journal

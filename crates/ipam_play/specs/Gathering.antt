@@ -1,0 +1,23 @@
+-- For which base the rows stand that were gathered.
+use Rattle.std.specs.Prelude.{◌≡◌, ℕ, nat_lt, Option, Some, None, if◌then◌else◌}
+use Rattle.std.specs.List.Sorted.{IsPermutation}
+use Rattle.ipam_play.specs.declared.gathering.Counter.{Counter}
+use Rattle.ipam_play.specs.declared.gathering.Counter.TheVariants.{Greatest, Given}
+use Rattle.ipam_play.specs.declared.gathering.Gathering.{Gathering}
+use Rattle.ipam_play.specs.Script.{Gathered}
+use Rattle.ipam_play.specs.Played.{counter_of}
+
+abbrev pub counter_from : Option ℕ → Counter
+counter_from None = Greatest
+counter_from (Some counter) = Given
+
+-- the counter behind a row of this revision
+abbrev pub raised : Counter → (counter revision : ℕ) → ℕ
+raised Greatest counter revision = if nat_lt counter revision then revision else counter
+raised Given counter revision = counter
+
+-- the same rows in the order of their keys, and the counter that they are opened with
+pub record Gathers (gathering : Gathering) (gathered : Gathered) : Type 0 where
+  pub same_rows : IsPermutation gathered.rows gathering.base.rows.items
+  pub counter : gathering.base.counter ≡ counter_of gathered
+  pub from : gathering.counter ≡ counter_from gathered.counter

@@ -1,0 +1,172 @@
+//! What lines ask happens to a cluster, and a journal tells of it.
+ghost use Rattle.std.specs.Prelude.{◌≡◌, ◌<◌, ◌≤◌, ◌+◌, ◌++◌, [], ◌∷◌, replicate, IfSome, IfErr, Err, None, OnOk};
+ghost use Rattle.std.specs.Vec.{vec_len, vec_capacity};
+ghost use Rattle.std.specs.List.{All};
+ghost use Rattle.ipam_records.specs.Sound.{IsHandleId};
+ghost use Rattle.ipam_model.specs.Course as event;
+ghost use Rattle.ipam_model.specs.SoundRequest.{IsSoundRequest};
+ghost use Rattle.ipam_model.specs.declared.entry.Fate.TheVariants.{Well};
+ghost use Rattle.ipam_cluster.specs.Cluster.{Stood};
+ghost use Rattle.ipam_play.specs.Script.{events_of};
+ghost use Rattle.ipam_play.specs.SoundLine.{IsSoundLine};
+ghost use Rattle.ipam_play.specs.Events.{ComesOf, Keeps};
+
+use crate::cluster::OpenCluster;
+use crate::fault::PlayFault;
+use ipam_cluster::SLOTS;
+use ipam_model::{Entry, Fate, Request};
+use ipam_script::Line;
+use ipam_text::Text;
+use std::alloc::Global;
+
+/// Does what the line asks. A line of the base is refused.
+pub(crate) fn play_line(
+    alloc: Global,
+    cluster: &mut OpenCluster,
+    journal: &mut Vec<Entry>,
+    line: &Line,
+) -> Result<(), PlayFault>
+    requires sound { IsSoundLine line.now }
+    requires stood { Stood cluster.old.cluster }
+    ensures events { IfSome (events_of line.now)
+        (ComesOf result cluster.old.cluster cluster.new.cluster journal.old.items journal.new.items) }
+    ensures of_base { events_of line.now ≡ None → result ≡ Err PlayFault.Base }
+    ensures kept { events_of line.now ≡ None → Keeps cluster.old.cluster cluster.new.cluster }
+    ensures journal { events_of line.now ≡ None → journal.new.items ≡ journal.old.items }
+{
+    match line {
+        Line::Row(_) | Line::Counter(_) => Err(PlayFault::Base),
+        Line::Begin(slot, request) => begin(alloc, cluster, journal, *slot, request),
+        Line::Turn(slot, count) => turns(alloc, cluster, journal, *slot, *count),
+        Line::Fail(slot) => turn(alloc, cluster, journal, *slot, Fate::Before),
+        Line::Lose(slot) => turn(alloc, cluster, journal, *slot, Fate::After),
+        Line::Feed(slot, at, live) => feed(alloc, cluster, journal, *slot, *at, live.as_slice()),
+        Line::Stop(slot) => stop(cluster, journal, *slot),
+        Line::Restart => restart(cluster, journal),
+    }
+}
+
+fn begin(
+    alloc: Global,
+    cluster: &mut OpenCluster,
+    journal: &mut Vec<Entry>,
+    slot: u8,
+    request: &Request,
+) -> Result<(), PlayFault>
+    requires slot { slot < SLOTS }
+    requires sound { IsSoundRequest request.now }
+    ensures { ComesOf result cluster.old.cluster cluster.new.cluster journal.old.items journal.new.items
+        (event.Begin slot request.now ∷ []) }
+{
+    make_room(journal, 1)?;
+    let entry = cluster.begin(alloc, slot, request)?;
+    note(journal, entry);
+    Ok(())
+}
+
+fn turn(
+    alloc: Global,
+    cluster: &mut OpenCluster,
+    journal: &mut Vec<Entry>,
+    slot: u8,
+    fate: Fate,
+) -> Result<(), PlayFault>
+    requires slot { slot < SLOTS }
+    requires stood { Stood cluster.old.cluster }
+    ensures { ComesOf result cluster.old.cluster cluster.new.cluster journal.old.items journal.new.items
+        (event.Turn slot fate ∷ []) }
+{
+    make_room(journal, 1)?;
+    let entry = cluster.turn(alloc, slot, fate)?;
+    note(journal, entry);
+    Ok(())
+}
+
+/// So many turns. Where one does not happen, those before it stay.
+fn turns(
+    alloc: Global,
+    cluster: &mut OpenCluster,
+    journal: &mut Vec<Entry>,
+    slot: u8,
+    count: u32,
+) -> Result<(), PlayFault>
+    requires slot { slot < SLOTS }
+    requires stood { Stood cluster.old.cluster }
+    ensures { ComesOf result cluster.old.cluster cluster.new.cluster journal.old.items journal.new.items
+        (replicate count (event.Turn slot Well)) }
+{
+    for done in 0..count {
+        turn(alloc, cluster, journal, slot, Fate::Well)?;
+    }
+    Ok(())
+}
+
+fn feed(
+    alloc: Global,
+    cluster: &mut OpenCluster,
+    journal: &mut Vec<Entry>,
+    slot: u8,
+    at: u64,
+    live: &[Text],
+) -> Result<(), PlayFault>
+    requires slot { slot < SLOTS }
+    requires sound { All IsHandleId live.now }
+    ensures { ComesOf result cluster.old.cluster cluster.new.cluster journal.old.items journal.new.items
+        (event.Feed slot at live.now ∷ []) }
+{
+    make_room(journal, 1)?;
+    let entry = cluster.feed(alloc, slot, at, live)?;
+    note(journal, entry);
+    Ok(())
+}
+
+fn stop(cluster: &mut OpenCluster, journal: &mut Vec<Entry>, slot: u8) -> Result<(), PlayFault>
+    requires { slot < SLOTS }
+    ensures { ComesOf result cluster.old.cluster cluster.new.cluster journal.old.items journal.new.items
+        (event.Stop slot ∷ []) }
+{
+    make_room(journal, 1)?;
+    let entry = cluster.stop(slot)?;
+    note(journal, entry);
+    Ok(())
+}
+
+/// Stops whatever runs, slot by slot. The rows are not read again: what would be opened of them is
+/// what is there.
+fn restart(cluster: &mut OpenCluster, journal: &mut Vec<Entry>) -> Result<(), PlayFault>
+    ensures { ComesOf result cluster.old.cluster cluster.new.cluster journal.old.items journal.new.items
+        (event.Restart ∷ []) }
+{
+    make_room(journal, SLOTS)?;
+    for slot in 0..SLOTS {
+        if let Some(entry) = cluster.clear(slot as u8) {
+            note(journal, entry);
+        }
+    }
+    Ok(())
+}
+
+/// Takes the memory for so many entries more.
+fn make_room(journal: &mut Vec<Entry>, count: usize) -> Result<(), PlayFault>
+    ensures journal { journal.new.items ≡ journal.old.items }
+    ensures len { vec_len journal.new ≡ vec_len journal.old }
+    ensures room { OnOk result (vec_len journal.new + count ≤ vec_capacity journal.new) }
+    ensures fault { IfErr result (λ told. told ≡ PlayFault.Memory) }
+{
+    match journal.reserve(count) {
+        Ok(()) => Ok(()),
+        Err(_) => Err(PlayFault::Memory),
+    }
+}
+
+/// Notes the entry, for which there is room.
+fn note(journal: &mut Vec<Entry>, entry: Entry)
+    requires { vec_len journal.old < vec_capacity journal.old }
+    ensures items { journal.new.items ≡ journal.old.items ++ entry ∷ [] }
+    ensures len { vec_len journal.new ≡ vec_len journal.old + 1 }
+    ensures capacity { vec_capacity journal.old ≤ vec_capacity journal.new }
+{
+    if journal.push(entry).is_err() {
+        unreachable!()
+    }
+}
