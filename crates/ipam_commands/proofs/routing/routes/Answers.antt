@@ -1,0 +1,11 @@
+use Rattle.ipam_commands.specs.Telling.{NotOpened, Opened}
+use Rattle.ipam_commands.specs.Texts.{routes_text}
+use Rattle.ipam_commands.proofs.routing.routes.Goals as goal
+
+pub returns-in-Ok-clause-told : goal.returns-in-Ok-clause-told
+returns-in-Ok-clause-told g c =
+    Opened c.in-Ok.loaded.rows.items c.in-Ok.loaded.store.store c.in-Ok.ensures.opened c.in-Ok.ensures.no_fault
+    (c.tell_made.ensures.written (routes_text c.args.node.now c.in-Ok.loaded.store.store) c.routes_text-text.ensures)
+
+pub returns-in-Err-clause-told : goal.returns-in-Err-clause-told
+returns-in-Err-clause-told g c = NotOpened c.in-Err.fault c.in-Err.ensures.refused c.tell_fault.ensures.written

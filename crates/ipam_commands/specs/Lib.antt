@@ -1,0 +1,3 @@
+-- What the operator's commands write.
+pub mod Telling
+pub mod Texts

@@ -1,0 +1,55 @@
+-- The texts of the operator's commands.
+use Rattle.std.specs.Prelude.{ℕ, ◌&&◌, List, [], ◌∷◌, ◌++◌, Bool, true, false, bytes_eq, codes, decimal, Option, Some, None, if◌then◌else◌}
+use Rattle.ipam_addr.specs.Text.{cidr_text_of}
+use Rattle.ipam_affinity.specs.declared.record.Affinity.{Affinity}
+use Rattle.ipam_affinity.specs.declared.state.State.{State}
+use Rattle.ipam_affinity.specs.declared.state.State.TheVariants.{Confirmed, Pending, PendingDeletion}
+use Rattle.ipam_records.specs.declared.call.Row.{Row as RowText}
+use Rattle.ipam_records.specs.declared.key.Kind.TheVariants as kind
+use Rattle.ipam_records.specs.declared.record.Record.{Record}
+use Rattle.ipam_records.specs.declared.record.Record.TheVariants as record_of
+use Rattle.ipam_records.specs.Datastore.{Datastore, listed}
+use Rattle.ipam_model.specs.Reads.{Row}
+use Rattle.ipam_words.specs.declared.kind.RowKind.{RowKind}
+use Rattle.ipam_words.specs.Kinds.{is_of_kind}
+
+-- ---- the rows
+
+-- whether a row with this key is told: each, or those of the kind
+abbrev pub is_told : Option RowKind → (key : List ℕ) → Bool
+is_told None key = true
+is_told (Some kind) key = is_of_kind kind key
+
+unfoldable pub row_line : RowText → List ℕ
+row_line row = row.key ++ (codes " " ++ (decimal row.revision ++ (codes " " ++ (row.body ++ codes "\n"))))
+
+-- a line for each row that is told, in the order of the rows
+abbrev pub rows_text : Option RowKind → List RowText → List ℕ
+rows_text kind [] = []
+rows_text kind (row ∷ rows) = (if is_told kind row.key then row_line row else []) ++ rows_text kind rows
+
+-- ---- the routes of a node
+
+abbrev pub is_confirmed : State → Bool
+is_confirmed Confirmed = true
+is_confirmed Pending = false
+is_confirmed PendingDeletion = false
+
+abbrev pub is_route : (node : List ℕ) → Affinity → Bool
+is_route node affinity = bytes_eq affinity.node node && is_confirmed affinity.state
+
+-- the CIDR of a confirmed affinity of the node
+unfoldable pub affinity_line : (node : List ℕ) → Affinity → List ℕ
+affinity_line node affinity = if is_route node affinity then cidr_text_of affinity.cidr ++ codes "\n" else []
+
+abbrev pub route_line : (node : List ℕ) → Record → List ℕ
+route_line node (record_of.Affinity affinity) = affinity_line node affinity
+route_line node _ = []
+
+abbrev pub route_lines : (node : List ℕ) → List Row → List ℕ
+route_lines node [] = []
+route_lines node (row ∷ rows) = route_line node row.1 ++ route_lines node rows
+
+-- the node's affinities stand by family, base and prefix
+abbrev pub routes_text : (node : List ℕ) → Datastore → List ℕ
+routes_text node store = route_lines node (listed kind.Affinity store)

@@ -1,0 +1,12 @@
+//! The operator's commands over a keeper's rows.
+#![tactic(auto)]
+
+mod getting;
+mod loading;
+mod routing;
+mod status;
+mod telling;
+
+pub use getting::get;
+pub use routing::routes;
+pub use status::Status;

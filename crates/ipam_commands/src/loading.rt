@@ -1,0 +1,61 @@
+//! The rows of a keeper, opened.
+ghost use Rattle.std.specs.Prelude.{◌≡◌, IfOk, IfErr, OnOk};
+ghost use Rattle.ipam_keeper.specs.Rows.{Ascend};
+ghost use Rattle.ipam_kept.specs.Rows.{greatest, texts_loaded};
+ghost use Rattle.ipam_model.specs.Opened.{OpensAs};
+ghost use Rattle.ipam_opening.specs.Opening.{IsFaultOf};
+ghost use Rattle.ipam_commands.specs.Telling.{AreOpened, IsNotLoaded};
+
+use ipam_keeper::{KeepFault, Keeper};
+use ipam_kept::KeptFault;
+use ipam_opening::{OpenFault, open};
+use ipam_records::Row;
+use ipam_store::Store;
+use std::alloc::Global;
+
+/// The rows as they were loaded, and the datastore that they open as.
+#[derive(Drop)]
+pub(crate) struct Loaded {
+    pub(crate) rows: Vec<Row>,
+    pub(crate) store: Store,
+}
+
+/// Loads the keeper's rows and opens them.
+pub(crate) fn load<D: Keeper>(alloc: Global, keeper: &mut D) -> Result<Loaded, KeptFault>
+    ensures opened { IfOk result (λ loaded. AreOpened (D.rows keeper.old) loaded.rows.items loaded.store.store) }
+    ensures no_fault { OnOk result (D.faults keeper.new ≡ D.faults keeper.old) }
+    ensures refused { IfErr result (IsNotLoaded (D.rows keeper.old) (D.faults keeper.old) (D.faults keeper.new)) }
+    ensures same_rows { D.rows keeper.new ≡ D.rows keeper.old }
+    ensures same { D.name keeper.new ≡ D.name keeper.old }
+{
+    let rows = match keeper.load() {
+        Ok(rows) => rows,
+        Err(KeepFault::Failed) => return Err(KeptFault::Keeper),
+        Err(KeepFault::Memory) => return Err(KeptFault::Memory),
+    };
+    match open_loaded(alloc, &rows) {
+        Ok(store) => Ok(Loaded { rows, store }),
+        Err(OpenFault::Refused(number, about)) => Err(KeptFault::Refused(number, about)),
+        Err(OpenFault::Memory) => Err(KeptFault::Memory),
+    }
+}
+
+/// Opens the rows, with their greatest revision as the counter.
+fn open_loaded(alloc: Global, rows: &[Row]) -> Result<Store, OpenFault>
+    requires { Ascend rows.now }
+    ensures opened { IfOk result (λ store. OpensAs (texts_loaded rows.now) store.store) }
+    ensures refused { IfErr result (IsFaultOf (texts_loaded rows.now)) }
+{
+    open(alloc, rows, greatest(rows))
+}
+
+/// The greatest revision of the rows, or 0.
+fn greatest(rows: &[Row]) -> u64
+    ensures { result ≡ greatest rows.now }
+{
+    let mut most = 0;
+    for row in rows {
+        most = most.max(row.revision);
+    }
+    most
+}
