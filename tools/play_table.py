@@ -115,16 +115,10 @@ def sum_of(text):
     return total
 
 
-def quoted(text):
-    """The text as a literal that goes on over the lines of its own."""
-    lines = [json.dumps(line, ensure_ascii=False)[1:-1] for line in text.split("\n")]
-    return '"\\\n' + "\\n\\\n".join(lines) + '"' if len(lines) > 1 else f'"{lines[0]}"'
-
-
 def main():
     known = [(script, *play(script)) for script in SCRIPTS] + REFUSED
     OUT.mkdir(parents=True, exist_ok=True)
-    rows = "".join(f"    ({quoted(script)}, {quoted(text)}, {status}),\n" for script, text, status in known)
+    rows = "".join(f"    ({json.dumps(script)}, {json.dumps(text)}, {status}),\n" for script, text, status in known)
     head = "// Written by tools/play_table.py: change that, and not this file.\n"
     (OUT / "known.rt").write_text(
         head + f"/// Scripts, what is written of each, and the status.\npub(crate) const KNOWN: [(&str, &str, u8); {len(known)}] = [\n{rows}];\n"
