@@ -1,2 +1,3 @@
 -- What the commands promise.
 pub mod Words
+pub mod Statuses

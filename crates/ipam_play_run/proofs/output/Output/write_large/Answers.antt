@@ -1,0 +1,11 @@
+use Rattle.std.proofs.Common.{◌∙◌, ap, subst, sym, List, ℕ, Option, []}
+use Rattle.std.specs.Io.KnownBytes.{append_known}
+use Rattle.ipam_play_run.specs.Writing.{Wrote, held_in}
+use Rattle.ipam_play_run.proofs.Endings.{wrote_all}
+use Rattle.ipam_play_run.proofs.output.Output.write_large.Goals as goal
+
+pub returns-clause-wrote : goal.returns-clause-wrote
+returns-clause-wrote g c = λ first past w.
+    subst (λ (l : List ℕ). Wrote first (g.K.Sink.written c.write.new.self) l past) (sym c.clear.ensures.bytes)
+    (subst (λ (k : Option (List ℕ)). Wrote first k [] past) (sym (c.in_ok-write.ensures.bytes ∙ ap (append_known (g.K.Sink.written c.args.sink.now)) c.as_bytes.ensures.value))
+    (wrote_all first (g.K.Sink.written c.args.sink.now) (held_in c.args.self.now) past w))

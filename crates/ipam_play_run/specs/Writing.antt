@@ -1,0 +1,97 @@
+-- What is written of a script.
+use Rattle.std.specs.Prelude.{◌≡◌, ℕ, List, [], ◌++◌, ◌⊎◌, Option, Result, Ok, Err, codes, string_bytes}
+use Rattle.std.specs.Io.KnownBytes.{append_known}
+use Rattle.ipam_io.specs.Counts.{Rose}
+use Rattle.ipam_io.specs.Streams.{AppendsPrefix}
+use Rattle.ipam_model.specs.declared.entry.Entry.{Entry}
+use Rattle.ipam_play.specs.Output.{journal_text, output_text}
+use Rattle.ipam_play.specs.Played.{Ending, IsPlayed, Whole, LineRefused, NotOpened}
+use Rattle.ipam_play.specs.Script.{Script}
+use Rattle.ipam_play.specs.declared.refusal.LineRefusal.{LineRefusal}
+use Rattle.ipam_play_run.specs.declared.end.PlayEnd.{PlayEnd}
+use Rattle.ipam_play_run.specs.declared.output.Output.{Output}
+use Rattle.ipam_play_run.specs.declared.end.PlayEnd.TheVariants as end
+
+-- the lines that are held to be written
+abbrev pub held_in : Output → List ℕ
+held_in output = string_bytes output.text
+
+-- the lines of these entries were written, or are held to be written
+pub record Wrote (first now : Option (List ℕ)) (held : List ℕ) (past : List Entry) : Type 0 where
+  pub done : List Entry
+  pub kept : List Entry
+  pub is_past : past ≡ done ++ kept
+  pub written : now ≡ append_known first (journal_text done)
+  pub is_held : held ≡ journal_text kept
+
+-- a script makes these entries, and more may follow
+pub record IsPart (script : Script) (done : List Entry) : Type 0 where
+  pub more : List Entry
+  pub ending : Ending
+  pub is_played : IsPlayed script (done ++ more) ending
+
+-- nothing yet, or the entries that the script makes first
+abbrev pub IsFront : Script → List Entry → Type 0
+IsFront script done = (done ≡ []) ⊎ IsPart script done
+
+-- ---- all that is written
+
+-- all that the script comes to was written, and it ends so
+pub record WritesAll (script : Script) (first now : Option (List ℕ)) (IsEnding : Ending → Type 0) : Type 0 where
+  pub entries : List Entry
+  pub ending : Ending
+  pub is_played : IsPlayed script entries ending
+  pub is_ending : IsEnding ending
+  pub written : now ≡ append_known first (output_text entries ending)
+
+abbrev pub IsWhole : Ending → Type 0
+IsWhole ending = ending ≡ Whole
+
+abbrev pub IsRefusedLine : Ending → Type 0
+IsRefusedLine ending = (number : ℕ) × ((why : LineRefusal) × (ending ≡ LineRefused number why))
+
+abbrev pub IsRefusedBase : Ending → Type 0
+IsRefusedBase ending = (rule : ℕ) × ((about : List ℕ) × (ending ≡ NotOpened rule about))
+
+-- whole lines of the journal were written, and behind them this
+pub record WritesFront (script : Script) (first now : Option (List ℕ)) (last : List ℕ) : Type 0 where
+  pub done : List Entry
+  pub is_front : IsFront script done
+  pub written : now ≡ append_known first (journal_text done ++ last)
+
+abbrev pub read_fault_text : List ℕ
+read_fault_text = codes "read fault\n"
+
+-- what a run that ended without a fault of the sink may have to write
+pub data IsText (script : Script) : List ℕ → Type 0 where
+  OfAll : (entries : List Entry) (ending : Ending) → IsPlayed script entries ending → IsText script (output_text entries ending)
+  OfFront : (done : List Entry) → IsFront script done → IsText script (journal_text done ++ read_fault_text)
+
+-- a front part of what was to be written was written
+pub record WritesPart (script : Script) (first now : Option (List ℕ)) : Type 0 where
+  pub text : List ℕ
+  pub is_text : IsText script text
+  pub written : AppendsPrefix first now text
+
+-- what a run that ends so has written of the script
+abbrev pub HasWritten : PlayEnd → Script → (first now : Option (List ℕ)) → Type 0
+HasWritten end.Done script first now = WritesAll script first now IsWhole
+HasWritten end.LineRefused script first now = WritesAll script first now IsRefusedLine
+HasWritten end.NotOpened script first now = WritesAll script first now IsRefusedBase
+HasWritten end.ReadFault script first now = WritesFront script first now read_fault_text
+HasWritten end.NoMemory script first now = WritesFront script first now []
+HasWritten end.WriteFault script first now = WritesPart script first now
+
+-- how it ended, with a last line to be written
+abbrev pub ended_so : {T E : Type 0} → Result T E → PlayEnd → PlayEnd
+ended_so (Ok done) otherwise = otherwise
+ended_so (Err failed) otherwise = end.WriteFault
+
+-- the count of faults rose where a write failed, and else stays
+abbrev pub CountsEnd : PlayEnd → (old new : ℕ) → Type 0
+CountsEnd end.WriteFault old new = Rose old new
+CountsEnd end.Done old new = new ≡ old
+CountsEnd end.ReadFault old new = new ≡ old
+CountsEnd end.NoMemory old new = new ≡ old
+CountsEnd end.NotOpened old new = new ≡ old
+CountsEnd end.LineRefused old new = new ≡ old

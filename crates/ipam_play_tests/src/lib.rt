@@ -1,0 +1,10 @@
+//! Tests of scripts that are played, by tables that a second allocator wrote, and of failing input
+//! and output.
+#![tactic(auto)]
+
+#[cfg(test)]
+mod known;
+#[cfg(test)]
+mod random;
+#[cfg(test)]
+mod tests;
