@@ -1,1 +1,2 @@
+pub mod ReleaseRuns
 pub mod RouteLines

@@ -1,3 +1,4 @@
 -- What the operator's commands write.
+pub mod Releasing
 pub mod Telling
 pub mod Texts

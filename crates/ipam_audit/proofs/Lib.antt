@@ -1,0 +1,5 @@
+-- Lemmas on reports.
+pub mod Steps
+pub mod Listing
+pub mod Bounds
+pub mod Counting
