@@ -14,9 +14,3 @@ for run in 1 2 3; do
     awk -v n="$entries" -v a="$start" -v b="$end" 'BEGIN { printf "%d entries, %.2f s, %d entries a second\n", n, b - a, n / (b - a) }'
     cat "$work/said"
 done
-for n in 1024 4096 16384; do
-    start=$(date +%s.%N)
-    "$top/ipam" gen "$n" >/dev/null
-    end=$(date +%s.%N)
-    awk -v n="$n" -v a="$start" -v b="$end" 'BEGIN { printf "gen %d: %.2f s\n", n, b - a }'
-done
