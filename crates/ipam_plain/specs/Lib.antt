@@ -1,0 +1,4 @@
+-- The laws of requests that run alone.
+pub mod AloneLaws
+pub mod Leaves
+pub mod Ready
