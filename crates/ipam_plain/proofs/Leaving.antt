@@ -43,7 +43,7 @@ use Rattle.ipam_plain.proofs.Whole.{collect_alone, del_alone}
 
 -- ---- what was freed stays in order
 
-sorted-freed : (what : Freeing) (rows : Rows) → IsSorted rows → IsSorted (with_freed what rows)
+pub sorted-freed : (what : Freeing) (rows : Rows) → IsSorted rows → IsSorted (with_freed what rows)
 sorted-freed what rows sorted = by (block_of what.block rows)
   where
     kept : (h : HandleValue) (counts : List (CidrValue × ℕ)) (next : Rows) → IsSorted next → IsSorted (kept_or_gone h counts next)

@@ -14,5 +14,7 @@ pub mod Serving
 pub mod Adding
 pub mod Whole
 pub mod Held
+pub mod Given
 pub mod Leaving
 pub mod Readying
+pub mod Gaining

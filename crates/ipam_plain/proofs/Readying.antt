@@ -51,6 +51,7 @@ use Rattle.ipam_plain.specs.Ready.{ReadyAddsLaw}
 use Rattle.ipam_plain.proofs.Alike.{IsSorted, block_from, block_of-record, record_at, record_at-other, same-pools, value_in}
 use Rattle.ipam_plain.proofs.Behind.{claim-room, picked-family}
 use Rattle.ipam_plain.proofs.Claiming.{claimed-taken, plain-claimed, taken-same}
+use Rattle.ipam_plain.proofs.Given.{GivesOne, assigned-gives, claimed-gives}
 use Rattle.ipam_plain.proofs.Held.{found-record, named}
 use Rattle.ipam_plain.proofs.Ranks.{SamePick, SeesSame, family-same, pick-itself, same-pick, same-room}
 use Rattle.ipam_plain.proofs.Seeing.{block-named, block_at-record, count-put, same-block, same-config, same-confirmed, same-reservations}
@@ -128,12 +129,13 @@ sees-trans asked one two three h g = record {
 -- ---- a family of which something is picked
 
 -- it is served, and a choice in another family sees the same
-record IsServedPlain (request : AddRequest) (family : Family) (rows : Rows) : Type 0 where
-  gift : PlainGift
-  after : Rows
-  is : plain_family request family rows ≡ Served gift after
-  sorted : IsSorted after
-  sees : (asked : Asked) → asked.family ≢ family → SeesSame asked (seen_in rows) (seen_in after)
+pub record IsServedPlain (request : AddRequest) (family : Family) (rows : Rows) : Type 0 where
+  pub gift : PlainGift
+  pub after : Rows
+  pub is : plain_family request family rows ≡ Served gift after
+  pub sorted : IsSorted after
+  pub gives : GivesOne request.attributes rows gift after
+  pub sees : (asked : Asked) → asked.family ≢ family → SeesSame asked (seen_in rows) (seen_in after)
 
 module _ (request : AddRequest) (family : Family) where
   -- what an assignment leaves
@@ -150,12 +152,13 @@ module _ (request : AddRequest) (family : Family) where
       let block = record_of.Block (assigned (next_block b) ordinal request.attributes) in
       sorted-with_row (0, block) (put handle rows) (sorted-with_row (0, handle) rows sorted)
 
-  taken-plain : (rows : Rows) (found : ℕ × BlockValue) (ordinal : ℕ) → plain_family request family rows ≡ Served (plain_gift found ordinal) (with_assigned request.attributes found.1 ordinal rows) → found.1.cidr.family ≡ family → IsSorted rows → IsServedPlain request family rows
-  taken-plain rows found ordinal is own sorted = record {
+  taken-plain : (rows : Rows) (found : ℕ × BlockValue) (ordinal : ℕ) → plain_family request family rows ≡ Served (plain_gift found ordinal) (with_assigned request.attributes found.1 ordinal rows) → found.1.cidr.family ≡ family → record_at (key.Block found.1.cidr) rows ≡ Some (record_of.Block found.1) → IsSorted rows → IsServedPlain request family rows
+  taken-plain rows found ordinal is own there sorted = record {
     gift = plain_gift found ordinal;
     after = with_assigned request.attributes found.1 ordinal rows;
     is = is;
     sorted = assigned-sorted rows found.1 ordinal sorted;
+    gives = assigned-gives request.attributes rows found.0 found.1 ordinal there;
     sees = λ asked other. assigned-sees rows found.1 ordinal asked sorted own other;
   }
 
@@ -193,6 +196,8 @@ module _ (request : AddRequest) (family : Family) where
         after = with_assigned request.attributes b ordinal after;
         is = says;
         sorted = assigned-sorted after b ordinal ordered;
+        gives = claimed-gives request.attributes node slot rows after (with_assigned request.attributes b ordinal after) (plain_gift (0, b) ordinal) claims
+            (assigned-gives request.attributes after 0 b ordinal (subst (λ (c : CidrValue). record_at (key.Block c) after ≡ Some (record_of.Block b)) (sym cidr) claims.has_block));
         sees = λ asked other.
             sees-trans asked rows after (with_assigned request.attributes b ordinal after)
             (sees-trans asked rows (put confirmed rows) after (put-sees asked rows confirmed sorted (λ e. other (sym e ∙ own)))
@@ -200,7 +205,7 @@ module _ (request : AddRequest) (family : Family) where
             (assigned-sees after b ordinal asked ordered (ap (λ (c : CidrValue). c.family) cidr ∙ own) other);
       }
 
-  served-plain : (rows : Rows) (ranked : Ranked) → IsSorted rows → pick_of (asked_of request family) (seen_in rows) ≡ Picks ranked → IsServedPlain request family rows
+  pub served-plain : (rows : Rows) (ranked : Ranked) → IsSorted rows → pick_of (asked_of request family) (seen_in rows) ≡ Picks ranked → IsServedPlain request family rows
   served-plain rows ranked sorted picked = by ranked.rank picked (picked-read (λ (read : BlockRead). block_at (seen_in rows) ranked.slot ≡ read) (asked_of request family) (seen_in rows) ranked picked refl)
     where
       own : ranked.slot.family ≡ family
@@ -209,9 +214,15 @@ module _ (request : AddRequest) (family : Family) where
       ranks : rank_at (asked_of request family) (seen_in rows) ranked.slot (block_at (seen_in rows) ranked.slot) ≡ Some ranked.rank
       ranks = pick-ranked (asked_of request family) (seen_in rows) ranked picked
 
+      -- the block that was listed there
+      listed-there : (found : ℕ × BlockValue) → block_at (seen_in rows) ranked.slot ≡ Some found → record_at (key.Block found.1.cidr) rows ≡ Some (record_of.Block found.1)
+      listed-there found read =
+          let there = found-record rows ranked.slot found.1 (block_of-record ranked.slot rows ∙ (sym (block_at-record rows ranked.slot) ∙ ap value_in read)) in
+          subst (λ (c : CidrValue). record_at (key.Block c) rows ≡ Some (record_of.Block found.1)) (sym (block-named rows ranked.slot found read)) there
+
       by : (rank : Rank) → pick_of (asked_of request family) (seen_in rows) ≡ Picks (record { slot = ranked.slot; rank = rank }) → HasRead (λ (read : BlockRead). block_at (seen_in rows) ranked.slot ≡ read) rank → IsServedPlain request family rows
-      by (Own found ordinal) is read = taken-plain rows found ordinal (ap (λ (p : Pick). plain_pick request family p rows) is) (ap (λ (c : CidrValue). c.family) (block-named rows ranked.slot found read) ∙ own) sorted
-      by (Foreign found ordinal) is read = taken-plain rows found ordinal (ap (λ (p : Pick). plain_pick request family p rows) is) (ap (λ (c : CidrValue). c.family) (block-named rows ranked.slot found read) ∙ own) sorted
+      by (Own found ordinal) is read = taken-plain rows found ordinal (ap (λ (p : Pick). plain_pick request family p rows) is) (ap (λ (c : CidrValue). c.family) (block-named rows ranked.slot found read) ∙ own) (listed-there found read) sorted
+      by (Foreign found ordinal) is read = taken-plain rows found ordinal (ap (λ (p : Pick). plain_pick request family p rows) is) (ap (λ (c : CidrValue). c.family) (block-named rows ranked.slot found read) ∙ own) (listed-there found read) sorted
       by (Unconfirmed found) is read = claimed-plain rows ranked.slot ranked.rank (ap (λ (p : Pick). plain_pick request family p rows) is) ranks own sorted
       by (Unclaimed was) is read = claimed-plain rows ranked.slot ranked.rank (ap (λ (p : Pick). plain_pick request family p rows) is) ranks own sorted
 
@@ -291,7 +302,7 @@ module _ (probe : ProbeRequest) (request : AddRequest) (asks : AsksSame probe re
 -- ---- the answers
 
 -- an ADD is told as an ADD is
-add-told : (base : Base) (request : AddRequest) → IsConsistent base.store → IsSoundRequest (Add request) → (a : AddAnswer) × ((alone_over base (Add request)).0 ≡ of_add a)
+pub add-told : (base : Base) (request : AddRequest) → IsConsistent base.store → IsSoundRequest (Add request) → (a : AddAnswer) × ((alone_over base (Add request)).0 ≡ of_add a)
 unfolding word_of
 add-told base request consistent sound =
     let lawful = word-lawful (Add request) sound (λ k revision found. HasAt base.store k revision found) in
@@ -299,7 +310,7 @@ add-told base request consistent sound =
     runs-alone [] Q (word_of (Add request)) base.store (base.first + 1) consistent.sound consistent.covered lawful.0 lawful.1
     (Runs-bound [] (λ then a. NotAgain a) Q (λ one. Ends (of_add one)) (add_word request) base.store (base.first + 1) (add-runs request base.store (base.first + 1)) (λ then later a not. (a, refl)))
 
-gives-added : (told : Answer) (a : AddAnswer) (addresses : List AddrValue) → told ≡ of_add a → plain_of told ≡ Some (Gives addresses) → (given : List Given) × (told ≡ answer.Added given)
+pub gives-added : (told : Answer) (a : AddAnswer) (addresses : List AddrValue) → told ≡ of_add a → plain_of told ≡ Some (Gives addresses) → (given : List Given) × (told ≡ answer.Added given)
 gives-added told (add.Added given) addresses is says = (given, is)
 gives-added told (add.Exhausted scan) addresses is says = let e = sym says ∙ ap plain_of is in absurd (cc e)
 gives-added told (add.NoPool name moment) addresses is says = let e = sym says ∙ ap plain_of is in absurd (cc e)

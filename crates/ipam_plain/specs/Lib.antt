@@ -2,3 +2,4 @@
 pub mod AloneLaws
 pub mod Leaves
 pub mod Ready
+pub mod Gains

@@ -1,6 +1,7 @@
 //! Over a consistent base with spare.
 ghost use Rattle.ipam_model.specs.Plain.{AloneLaw};
 ghost use Rattle.ipam_plain.specs.AloneLaws.{AddAloneLaw, AddThisAloneLaw, CollectAloneLaw, DelAloneLaw};
+ghost use Rattle.ipam_plain.specs.Gains.{AddOwnersLaw};
 ghost use Rattle.ipam_plain.specs.Leaves.{CollectLeavesLaw, DelLeavesLaw};
 ghost use Rattle.ipam_plain.specs.Ready.{ReadyAddsLaw};
 
@@ -51,4 +52,10 @@ pub fn a_collection_alone_leaves_what_is_outside_the_scope_or_listed()
 /// alone over the same base and with spare, is answered Added.
 pub fn a_probe_alone_is_ready_where_an_add_alone_gives_addresses()
     ensures { ReadyAddsLaw }
+{}
+
+/// An ADD that runs alone gains its handle the addresses that it gives, and changes no other owner. One
+/// that gives none, of either family, leaves the owners that there were.
+pub fn an_add_alone_gains_the_addresses_that_it_gives()
+    ensures { AddOwnersLaw }
 {}
