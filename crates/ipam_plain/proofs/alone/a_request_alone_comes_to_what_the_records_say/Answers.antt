@@ -1,0 +1,5 @@
+use Rattle.ipam_plain.proofs.Whole.{all_alone}
+use Rattle.ipam_plain.proofs.alone.a_request_alone_comes_to_what_the_records_say.Goals as goal
+
+pub returns : goal.returns
+returns c = all_alone
