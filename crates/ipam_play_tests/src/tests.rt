@@ -1,0 +1,171 @@
+//! What is written of scripts.
+use crate::known::{KNOWN_1, KNOWN_2, KNOWN_3, KNOWN_4};
+use crate::refused::{REFUSED_1, REFUSED_2};
+use crate::summed::SUMMED;
+use crate::worked::{WORKED_1, WORKED_2};
+use ipam_io::{MemorySink, MemorySource};
+use ipam_play_run::{PlayEnd, play};
+use std::alloc::{AllocError, Global};
+use std::process::Abort;
+use std::test::Fail;
+
+/// No journal here is longer.
+const ROOM: usize = 1_000_000;
+
+/// The status with which the program ends.
+fn status_of(end: PlayEnd) -> &'static str {
+    match end {
+        PlayEnd::Done => "0",
+        PlayEnd::ReadFault => "3",
+        PlayEnd::WriteFault => "4",
+        PlayEnd::NoMemory => "6",
+        PlayEnd::NotOpened => "7",
+        PlayEnd::LineRefused => "8",
+    }
+}
+
+/// What a script came to: the status, and what was written.
+#[derive(Drop)]
+struct Played {
+    status: &'static str,
+    sink: MemorySink,
+}
+
+/// Plays the script from memory to memory, where these reads and writes fail.
+fn run_script(
+    alloc: Global,
+    script: &str,
+    reads: Vec<u64>,
+    writes: Vec<u64>,
+) -> Result<Played, AllocError> {
+    let bytes = Vec::from_slice(alloc, script.as_bytes())?;
+    let mut source = MemorySource::new(bytes, reads);
+    let mut sink = MemorySink::new(alloc, ROOM, writes)?;
+    let status = status_of(play(alloc, &mut source, &mut sink));
+    Ok(Played { status, sink })
+}
+
+fn run_well(alloc: Global, script: &str) -> Result<Played, AllocError> {
+    run_script(alloc, script, Vec::new(alloc), Vec::new(alloc))
+}
+
+/// The script, the status and the rest of a row.
+fn columns(row: &str) -> Option<(&str, &str, &str)> {
+    let (script, rest) = row.split_once('⇒')?;
+    let (status, want) = rest.split_once('⇒')?;
+    Some((script, status, want))
+}
+
+/// How many rows there are, each of which holds.
+fn rows(rt: &impl Abort, alloc: Global, table: &str) -> Result<usize, AllocError> {
+    let mut count = 0usize;
+    for row in table.split('‡') {
+        if let Some((script, status, want)) = columns(row) {
+            let found = run_well(alloc, script)?;
+            assert_eq!(rt; found.status, status, "{script}");
+            assert!(rt; found.sink.written() == want.as_bytes(), "{script}");
+            count = count.wrapping_add(1);
+        }
+    }
+    Ok(count)
+}
+
+#[test]
+fn worked_scripts_have_their_journals(rt: HostRuntime) -> Result<(), Fail> {
+    assert_eq!(&rt; rows(&rt, rt.alloc(), WORKED_1)?, 14);
+    assert_eq!(&rt; rows(&rt, rt.alloc(), WORKED_2)?, 14);
+    Ok(())
+}
+
+#[test]
+fn known_scripts_have_their_journals(rt: HostRuntime) -> Result<(), Fail> {
+    assert_eq!(&rt; rows(&rt, rt.alloc(), KNOWN_1)?, 14);
+    assert_eq!(&rt; rows(&rt, rt.alloc(), KNOWN_2)?, 14);
+    assert_eq!(&rt; rows(&rt, rt.alloc(), KNOWN_3)?, 14);
+    assert_eq!(&rt; rows(&rt, rt.alloc(), KNOWN_4)?, 4);
+    Ok(())
+}
+
+#[test]
+fn refused_scripts_are_told(rt: HostRuntime) -> Result<(), Fail> {
+    assert_eq!(&rt; rows(&rt, rt.alloc(), REFUSED_1)?, 14);
+    assert_eq!(&rt; rows(&rt, rt.alloc(), REFUSED_2)?, 10);
+    Ok(())
+}
+
+/// The 64-bit sum of Fowler, Noll and Vo of the bytes, of their variant 1a.
+fn sum_of(bytes: &[u8]) -> u64 {
+    let mut sum = 0xcbf2_9ce4_8422_2325u64;
+    for byte in bytes {
+        sum = (sum ^ u64::from(*byte)).wrapping_mul(0x100_0000_01b3);
+    }
+    sum
+}
+
+/// How many bytes there are, and their sum.
+fn summed(alloc: Global, bytes: &[u8]) -> Result<String, AllocError> {
+    let sum = sum_of(bytes);
+    let length = bytes.len();
+    format!(in alloc; "{length} {sum}")
+}
+
+#[test]
+fn long_scripts_have_the_second_allocators_journals(rt: HostRuntime) -> Result<(), Fail> {
+    let mut count = 0usize;
+    for row in SUMMED.split('‡') {
+        if let Some((script, status, want)) = columns(row) {
+            let found = run_well(rt.alloc(), script)?;
+            assert_eq!(&rt; found.status, status, "{script}");
+            let sum = summed(rt.alloc(), found.sink.written())?;
+            assert_eq!(&rt; sum.as_str(), want, "{script}");
+            count = count.wrapping_add(1);
+        }
+    }
+    assert_eq!(&rt; count, 17);
+    Ok(())
+}
+
+const SCRIPT: &str = "begin 0 {\"del\":{\"handle\":\"n.c1\"}}\nturn 0\n";
+
+const JOURNAL: &str = "0 began {\"del\":{\"handle\":\"n.c1\"}}\n\
+    0 called get handle/n.c1 well missing - {\"deleted\":{\"k\":1}}\n";
+
+fn first(alloc: Global) -> Result<Vec<u64>, AllocError> {
+    Vec::from_slice(alloc, &[1])
+}
+
+#[test]
+fn a_failing_source_or_sink_ends_the_run(rt: HostRuntime) -> Result<(), Fail> {
+    let alloc = rt.alloc();
+    let unread = run_script(alloc, SCRIPT, first(alloc)?, Vec::new(alloc))?;
+    assert_eq!(&rt; unread.status, "3");
+    assert!(&rt; unread.sink.written() == b"read fault\n".as_slice());
+    let unwritten = run_script(alloc, SCRIPT, Vec::new(alloc), first(alloc)?)?;
+    assert_eq!(&rt; unwritten.status, "4");
+    assert!(&rt; JOURNAL.as_bytes().starts_with(unwritten.sink.written()));
+    Ok(())
+}
+
+/// A line of so many bytes that is read as none, behind a line that is played.
+fn with_line_of(alloc: Global, count: usize) -> Result<String, AllocError> {
+    let mut script = String::from_str(alloc, "restart\n")?;
+    for _ in 0..count {
+        script.push('x')?;
+    }
+    Ok(script)
+}
+
+#[test]
+fn a_line_has_at_most_so_many_bytes(rt: HostRuntime) -> Result<(), Fail> {
+    let cases = [
+        (1_048_576, "line 2: unreadable\n"),
+        (1_048_577, "line 2: long\n"),
+    ];
+    for (count, want) in cases {
+        let script = with_line_of(rt.alloc(), count)?;
+        let found = run_well(rt.alloc(), script.as_str())?;
+        assert_eq!(&rt; found.status, "8");
+        assert!(&rt; found.sink.written() == want.as_bytes(), "{count}");
+    }
+    Ok(())
+}
