@@ -19,4 +19,5 @@ pub mod Counted
 pub mod Leaving
 pub mod Readying
 pub mod Gaining
+pub mod GainingThis
 pub mod Following

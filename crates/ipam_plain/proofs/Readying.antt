@@ -148,7 +148,7 @@ module _ (request : AddRequest) (family : Family) where
       sees-trans asked rows (put handle rows) (put block (put handle rows)) (put-sees asked rows handle sorted tt)
       (put-sees asked (put handle rows) block (sorted-with_row (0, handle) rows sorted) (λ e. other (sym e ∙ own)))
 
-  assigned-sorted : (rows : Rows) (b : BlockValue) (ordinal : ℕ) → IsSorted rows → IsSorted (with_assigned request.attributes b ordinal rows)
+  pub assigned-sorted : (rows : Rows) (b : BlockValue) (ordinal : ℕ) → IsSorted rows → IsSorted (with_assigned request.attributes b ordinal rows)
   assigned-sorted rows b ordinal sorted =
       let handle = record_of.Handle (raised (handle_of request.attributes.handle rows) b.cidr 1) in
       let block = record_of.Block (assigned (next_block b) ordinal request.attributes) in

@@ -2,7 +2,7 @@
 ghost use Rattle.ipam_model.specs.Plain.{AloneLaw};
 ghost use Rattle.ipam_plain.specs.AloneLaws.{AddAloneLaw, AddThisAloneLaw, CollectAloneLaw, DelAloneLaw};
 ghost use Rattle.ipam_plain.specs.CountsFollow.{CountsFollowLaw};
-ghost use Rattle.ipam_plain.specs.Gains.{AddOwnersLaw};
+ghost use Rattle.ipam_plain.specs.Gains.{AddOwnersLaw, AddThisOwnersLaw};
 ghost use Rattle.ipam_plain.specs.Leaves.{CollectLeavesLaw, DelLeavesLaw};
 ghost use Rattle.ipam_plain.specs.Ready.{ReadyAddsLaw};
 
@@ -65,4 +65,10 @@ pub fn an_add_alone_gains_the_addresses_that_it_gives()
 /// handle owns in the block.
 pub fn counts_follow_the_owners_of_a_request_alone()
     ensures { CountsFollowLaw }
+{}
+
+/// An ADD of one address that runs alone gains its handle that address, and changes no other owner. One
+/// that does not give it changes no record.
+pub fn an_add_of_one_address_alone_gains_that_address()
+    ensures { AddThisOwnersLaw }
 {}
