@@ -37,15 +37,15 @@ use Rattle.ipam_plain.proofs.Whole.{add_alone}
 
 -- ---- what several gifts make of the rows
 
-record GainsRows (attributes : Attributes) (old now : Rows) (gifts : List PlainGift) : Type 0 where
-  stays : (c : CidrValue) (a : Allocation) → HeldAt old c a → HeldAt now c a
-  came : (c : CidrValue) (a : Allocation) → HeldAt now c a → HeldAt old c a ⊎ ((g : PlainGift) × Contains gifts g × (c ≡ g.block) × (a ≡ allocation_of attributes g))
-  has : (g : PlainGift) → Contains gifts g → HeldAt now g.block (allocation_of attributes g)
-  address : (g : PlainGift) → Contains gifts g → g.address ≡ address_of g.block g.ordinal
-  later : (g : PlainGift) → Contains gifts g → (b : BlockValue) → record_at (key.Block g.block) old ≡ Some (record_of.Block b) → b.sequence < g.stamp
-  grows : Grows old now
+pub record GainsRows (attributes : Attributes) (old now : Rows) (gifts : List PlainGift) : Type 0 where
+  pub stays : (c : CidrValue) (a : Allocation) → HeldAt old c a → HeldAt now c a
+  pub came : (c : CidrValue) (a : Allocation) → HeldAt now c a → HeldAt old c a ⊎ ((g : PlainGift) × Contains gifts g × (c ≡ g.block) × (a ≡ allocation_of attributes g))
+  pub has : (g : PlainGift) → Contains gifts g → HeldAt now g.block (allocation_of attributes g)
+  pub address : (g : PlainGift) → Contains gifts g → g.address ≡ address_of g.block g.ordinal
+  pub later : (g : PlainGift) → Contains gifts g → (b : BlockValue) → record_at (key.Block g.block) old ≡ Some (record_of.Block b) → b.sequence < g.stamp
+  pub grows : Grows old now
 
-gains-none : (attributes : Attributes) (rows : Rows) → GainsRows attributes rows rows []
+pub gains-none : (attributes : Attributes) (rows : Rows) → GainsRows attributes rows rows []
 gains-none attributes rows = record {
   stays = λ c a h. h;
   came = λ c a h. inl h;
@@ -55,7 +55,7 @@ gains-none attributes rows = record {
   grows = λ c b at. (b, at, omega arith);
 }
 
-gains-more : (attributes : Attributes) (old now after : Rows) (gifts : List PlainGift) (gift : PlainGift) → GainsRows attributes old now gifts → GivesOne attributes now gift after → GainsRows attributes old after (gifts ++ gift ∷ [])
+pub gains-more : (attributes : Attributes) (old now after : Rows) (gifts : List PlainGift) (gift : PlainGift) → GainsRows attributes old now gifts → GivesOne attributes now gift after → GainsRows attributes old after (gifts ++ gift ∷ [])
 gains-more attributes old now after gifts gift h one = record {
   stays = λ c a held. one.stays c a (h.stays c a held);
   came = came;
@@ -195,6 +195,42 @@ module _ (request : AddRequest) where
         by NoneLeft is on = inr (refused _ gifts now (λ addresses e. cc e) sorted gains)
         by (Unknown place) is on = inr (refused _ gifts now (λ addresses e. cc e) sorted gains)
 
+-- ---- the owners of two stores
+
+-- what is said of the rows is said of the owners
+pub gains-owners : (attributes : Attributes) (old new : Datastore) (now : Rows) (gifts : List PlainGift) → IsSorted old.rows → IsSorted now → owners_in new.rows ≡ owners_in now → GainsRows attributes old.rows now gifts
+    → GainsThese old new attributes.handle (map (λ (g : PlainGift). g.address) gifts)
+gains-owners attributes old new now gifts sorted later owners gains = record { stay = stay; come = come; has = has }
+  where
+    stay : (o : Owner) → Owns old o → Owns new o
+    stay o owns =
+        let held = owner-held old.rows o sorted owns in
+        subst (λ (l : List Owner). Contains l o) (sym owners)
+        (subst (λ (x : Owner). Contains (owners_in now) x) held.is_owner (held-owner now held.cidr held.a (gains.stays held.cidr held.a held.held)))
+
+    come : (o : Owner) → Owns new o → Owns old o ⊎ ((o.handle ≡ attributes.handle) × Contains (map (λ (g : PlainGift). g.address) gifts) o.address)
+    come o owns =
+        let held = owner-held now o later (subst (λ (l : List Owner). Contains l o) owners owns) in
+        elim (gains.came held.cidr held.a held.held) [
+          | inl before ↦ inl (subst (λ (x : Owner). Owns old x) held.is_owner (held-owner old.rows held.cidr held.a before))
+          | inr (g, among, cidr, is) ↦
+              let whole : owner_of g.block (allocation_of attributes g) ≡ o = (λ i. owner_of (sym cidr i) (sym is i)) ∙ held.is_owner in
+              let same : g.address ≡ o.address = gains.address g among ∙ ap (λ (x : Owner). x.address) whole in
+              inr (
+                sym (ap (λ (x : Owner). x.handle) whole),
+                subst (λ (x : AddrValue). Contains (map (λ (y : PlainGift). y.address) gifts) x) same (in-map (λ (x : PlainGift). x.address) g gifts among),
+              )
+        ]
+
+    has : (address : AddrValue) → Contains (map (λ (g : PlainGift). g.address) gifts) address → (o : Owner) × Owns new o × (o.handle ≡ attributes.handle) × (o.address ≡ address)
+    has address among =
+        let (g, there, same) = out-map (λ (x : PlainGift). x.address) address gifts among in (
+          owner_of g.block (allocation_of attributes g),
+          subst (λ (l : List Owner). Contains l (owner_of g.block (allocation_of attributes g))) (sym owners) (held-owner now g.block (allocation_of attributes g) (gains.has g there)),
+          refl,
+          sym (gains.address g there) ∙ same,
+        )
+
 pub add_owners : AddOwnersLaw
 add_owners base request consistent sound spare = (gained, kept)
   where
@@ -214,37 +250,11 @@ add_owners base request consistent sound spare = (gained, kept)
     then-owns o owns = subst (λ (l : List Owner). Contains l o) (sym owners) owns
 
     some-gained : (given : List Given) → (plain_add request base.store.rows).0 ≡ Gives (addresses_in given) → SomeGiven request base.store consistent.sound (plain_add request base.store.rows) → GainsThese base.store (alone_over base (Add request)).1 request.attributes.handle (addresses_in given)
-    some-gained given is some = record { stay = stay; come = come; has = has }
-      where
-        addresses : map (λ (g : PlainGift). g.address) some.gifts ≡ addresses_in given
-        addresses = let both : Gives (map (λ (g : PlainGift). g.address) some.gifts) ≡ Gives (addresses_in given) = sym some.is ∙ is in cc both
-
-        stay : (o : Owner) → Owns base.store o → Owns (alone_over base (Add request)).1 o
-        stay o owns =
-            let held = owner-held base.store.rows o consistent.sound.ascending owns in
-            then-owns o (subst (λ (x : Owner). Contains (owners_in (plain_add request base.store.rows).1) x) held.is_owner
-            (held-owner (plain_add request base.store.rows).1 held.cidr held.a (some.gains.stays held.cidr held.a held.held)))
-
-        come : (o : Owner) → Owns (alone_over base (Add request)).1 o → Owns base.store o ⊎ ((o.handle ≡ request.attributes.handle) × Contains (addresses_in given) o.address)
-        come o owns =
-            let held = owner-held (plain_add request base.store.rows).1 o some.sorted (owns-then o owns) in
-            elim (some.gains.came held.cidr held.a held.held) [
-              | inl old ↦ inl (subst (λ (x : Owner). Owns base.store x) held.is_owner (held-owner base.store.rows held.cidr held.a old))
-              | inr (g, among, cidr, is) ↦
-                  let whole : owner_of g.block (allocation_of request.attributes g) ≡ o = (λ i. owner_of (sym cidr i) (sym is i)) ∙ held.is_owner in
-                  let same : g.address ≡ o.address = some.gains.address g among ∙ ap (λ (x : Owner). x.address) whole in
-                  let listed = subst (λ (l : List AddrValue). Contains l g.address) addresses (in-map (λ (x : PlainGift). x.address) g some.gifts among) in
-                  inr (sym (ap (λ (x : Owner). x.handle) whole), subst (λ (x : AddrValue). Contains (addresses_in given) x) same listed)
-            ]
-
-        has : (address : AddrValue) → Contains (addresses_in given) address → (o : Owner) × Owns (alone_over base (Add request)).1 o × (o.handle ≡ request.attributes.handle) × (o.address ≡ address)
-        has address among =
-            let (g, there, same) = out-map (λ (x : PlainGift). x.address) address some.gifts (subst (λ (l : List AddrValue). Contains l address) (sym addresses) among) in (
-              owner_of g.block (allocation_of request.attributes g),
-              then-owns (owner_of g.block (allocation_of request.attributes g)) (held-owner (plain_add request base.store.rows).1 g.block (allocation_of request.attributes g) (some.gains.has g there)),
-              refl,
-              sym (some.gains.address g there) ∙ same,
-            )
+    some-gained given is some =
+        let both : Gives (map (λ (g : PlainGift). g.address) some.gifts) ≡ Gives (addresses_in given) = sym some.is ∙ is in
+        let addresses : map (λ (g : PlainGift). g.address) some.gifts ≡ addresses_in given = cc both in
+        subst (λ (l : List AddrValue). GainsThese base.store (alone_over base (Add request)).1 request.attributes.handle l) addresses
+        (gains-owners request.attributes base.store (alone_over base (Add request)).1 (plain_add request base.store.rows).1 some.gifts consistent.sound.ascending some.sorted owners some.gains)
 
     gained : (given : List Given) → (alone_over base (Add request)).0 ≡ answer.Added given → GainsThese base.store (alone_over base (Add request)).1 request.attributes.handle (addresses_in given)
     gained given is =

@@ -15,6 +15,9 @@ pub mod Adding
 pub mod Whole
 pub mod Held
 pub mod Given
+pub mod Counted
 pub mod Leaving
 pub mod Readying
 pub mod Gaining
+pub mod GainingThis
+pub mod Following

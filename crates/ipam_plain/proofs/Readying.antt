@@ -51,6 +51,7 @@ use Rattle.ipam_plain.specs.Ready.{ReadyAddsLaw}
 use Rattle.ipam_plain.proofs.Alike.{IsSorted, block_from, block_of-record, record_at, record_at-other, same-pools, value_in}
 use Rattle.ipam_plain.proofs.Behind.{claim-room, picked-family}
 use Rattle.ipam_plain.proofs.Claiming.{claimed-taken, plain-claimed, taken-same}
+use Rattle.ipam_plain.proofs.Counted.{AreSoundCounts, Follows, assigned-follows, claimed-follows, follows-trans}
 use Rattle.ipam_plain.proofs.Given.{GivesOne, assigned-gives, claimed-gives}
 use Rattle.ipam_plain.proofs.Held.{found-record, named}
 use Rattle.ipam_plain.proofs.Ranks.{SamePick, SeesSame, family-same, pick-itself, same-pick, same-room}
@@ -135,6 +136,7 @@ pub record IsServedPlain (request : AddRequest) (family : Family) (rows : Rows) 
   pub is : plain_family request family rows ≡ Served gift after
   pub sorted : IsSorted after
   pub gives : GivesOne request.attributes rows gift after
+  pub follows : AreSoundCounts rows → Follows rows after
   pub sees : (asked : Asked) → asked.family ≢ family → SeesSame asked (seen_in rows) (seen_in after)
 
 module _ (request : AddRequest) (family : Family) where
@@ -146,7 +148,7 @@ module _ (request : AddRequest) (family : Family) where
       sees-trans asked rows (put handle rows) (put block (put handle rows)) (put-sees asked rows handle sorted tt)
       (put-sees asked (put handle rows) block (sorted-with_row (0, handle) rows sorted) (λ e. other (sym e ∙ own)))
 
-  assigned-sorted : (rows : Rows) (b : BlockValue) (ordinal : ℕ) → IsSorted rows → IsSorted (with_assigned request.attributes b ordinal rows)
+  pub assigned-sorted : (rows : Rows) (b : BlockValue) (ordinal : ℕ) → IsSorted rows → IsSorted (with_assigned request.attributes b ordinal rows)
   assigned-sorted rows b ordinal sorted =
       let handle = record_of.Handle (raised (handle_of request.attributes.handle rows) b.cidr 1) in
       let block = record_of.Block (assigned (next_block b) ordinal request.attributes) in
@@ -159,10 +161,11 @@ module _ (request : AddRequest) (family : Family) where
     is = is;
     sorted = assigned-sorted rows found.1 ordinal sorted;
     gives = assigned-gives request.attributes rows found.0 found.1 ordinal there;
+    follows = assigned-follows request.attributes rows found.1 ordinal there;
     sees = λ asked other. assigned-sees rows found.1 ordinal asked sorted own other;
   }
 
-  claimed-cidr : (slot : CidrValue) (rows : Rows) → (claimed_block request.node slot (block_of slot rows)).cidr ≡ slot
+  pub claimed-cidr : (slot : CidrValue) (rows : Rows) → (claimed_block request.node slot (block_of slot rows)).cidr ≡ slot
   claimed-cidr slot rows = by (block_of slot rows) refl
     where
       by : (o : BlockRead) → block_of slot rows ≡ o → (claimed_block request.node slot o).cidr ≡ slot
@@ -198,6 +201,10 @@ module _ (request : AddRequest) (family : Family) where
         sorted = assigned-sorted after b ordinal ordered;
         gives = claimed-gives request.attributes node slot rows after (with_assigned request.attributes b ordinal after) (plain_gift (0, b) ordinal) claims
             (assigned-gives request.attributes after 0 b ordinal (subst (λ (c : CidrValue). record_at (key.Block c) after ≡ Some (record_of.Block b)) (sym cidr) claims.has_block));
+        follows = λ sound.
+            let first = claimed-follows node slot rows after claims sound in
+            follows-trans rows after (with_assigned request.attributes b ordinal after) first
+            (assigned-follows request.attributes after b ordinal (subst (λ (c : CidrValue). record_at (key.Block c) after ≡ Some (record_of.Block b)) (sym cidr) claims.has_block) first.sound);
         sees = λ asked other.
             sees-trans asked rows after (with_assigned request.attributes b ordinal after)
             (sees-trans asked rows (put confirmed rows) after (put-sees asked rows confirmed sorted (λ e. other (sym e ∙ own)))

@@ -3,3 +3,4 @@ pub mod AloneLaws
 pub mod Leaves
 pub mod Ready
 pub mod Gains
+pub mod CountsFollow

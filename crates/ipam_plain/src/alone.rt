@@ -1,7 +1,8 @@
 //! Over a consistent base with spare.
 ghost use Rattle.ipam_model.specs.Plain.{AloneLaw};
 ghost use Rattle.ipam_plain.specs.AloneLaws.{AddAloneLaw, AddThisAloneLaw, CollectAloneLaw, DelAloneLaw};
-ghost use Rattle.ipam_plain.specs.Gains.{AddOwnersLaw};
+ghost use Rattle.ipam_plain.specs.CountsFollow.{CountsFollowLaw};
+ghost use Rattle.ipam_plain.specs.Gains.{AddOwnersLaw, AddThisOwnersLaw};
 ghost use Rattle.ipam_plain.specs.Leaves.{CollectLeavesLaw, DelLeavesLaw};
 ghost use Rattle.ipam_plain.specs.Ready.{ReadyAddsLaw};
 
@@ -58,4 +59,16 @@ pub fn a_probe_alone_is_ready_where_an_add_alone_gives_addresses()
 /// that gives none, of either family, leaves the owners that there were.
 pub fn an_add_alone_gains_the_addresses_that_it_gives()
     ensures { AddOwnersLaw }
+{}
+
+/// A request that runs alone changes each count by exactly as much as it changes how many addresses the
+/// handle owns in the block.
+pub fn counts_follow_the_owners_of_a_request_alone()
+    ensures { CountsFollowLaw }
+{}
+
+/// An ADD of one address that runs alone gains its handle that address, and changes no other owner. One
+/// that does not give it changes no record.
+pub fn an_add_of_one_address_alone_gains_that_address()
+    ensures { AddThisOwnersLaw }
 {}
