@@ -1,0 +1,103 @@
+//! Replies and their lines.
+use ipam_addr::read_cidr;
+use ipam_model::Answer;
+use ipam_session::{Change, Refusal, Reply, Route, Since, push_reply};
+use ipam_text::{Seq, Text};
+use std::alloc::{AllocError, Global};
+use std::test::Fail;
+
+fn text_of(alloc: Global, reply: &Reply) -> Result<String, AllocError> {
+    let mut out = String::new(alloc);
+    push_reply(alloc, &mut out, reply)?;
+    Ok(out)
+}
+
+fn route(alloc: Global) -> Result<Route, AllocError> {
+    let node = Text::copied(alloc, "a")?;
+    let Ok(cidr) = read_cidr(b"10.0.0.0/30") else {
+        return Err(AllocError);
+    };
+    Ok(Route { node, cidr })
+}
+
+fn change(alloc: Global) -> Result<Change, AllocError> {
+    let route = route(alloc)?;
+    Ok(Change {
+        revision: 4,
+        route,
+        up: false,
+    })
+}
+
+/// Each line has the number of a reply, and its line.
+const REPLIES: &str = "\
+1 {\"status\":1,\"stdout\":\"{\\\"a\\\":\\\"é\\\"}\\n\"}\n\
+2 {\"answer\":{\"deleted\":{\"k\":10}}}\n\
+3 {\"answer\":\"checked\"}\n\
+4 {\"waiting\":true}\n\
+5 {\"stopped\":true}\n\
+6 {\"refused\":\"waiting\"}\n\
+7 {\"refused\":\"not waiting\"}\n\
+8 {\"refused\":\"too soon\"}\n\
+9 {\"refused\":\"line\"}\n\
+10 {\"revision\":6,\"routes\":[{\"cidr\":\"10.0.0.0/30\",\"node\":\"a\"}]}\n\
+11 {\"revision\":6,\"routes\":[]}\n\
+12 {\"changes\":[{\"cidr\":\"10.0.0.0/30\",\"node\":\"a\",\"revision\":4,\"up\":false}],\"revision\":6}\n\
+13 {\"compacted\":3}\n\
+14 {\"ahead\":6}\n\
+";
+
+fn reply_of(alloc: Global, number: u8) -> Result<Reply, AllocError> {
+    match number {
+        1 => called(alloc),
+        2 => Ok(Reply::Answered(Answer::Deleted(10))),
+        3 => Ok(Reply::Answered(Answer::Checked)),
+        4 => Ok(Reply::Waiting),
+        5 => Ok(Reply::Stopped),
+        6 => Ok(Reply::Refused(Refusal::Waiting)),
+        7 => Ok(Reply::Refused(Refusal::NotWaiting)),
+        8 => Ok(Reply::Refused(Refusal::TooSoon)),
+        9 => Ok(Reply::Refused(Refusal::Line)),
+        _ => reply_of_routes(alloc, number),
+    }
+}
+
+fn called(alloc: Global) -> Result<Reply, AllocError> {
+    let stdout = Text::copied(alloc, "{\"a\":\"é\"}\n")?;
+    Ok(Reply::Called(1, stdout))
+}
+
+fn reply_of_routes(alloc: Global, number: u8) -> Result<Reply, AllocError> {
+    match number {
+        10 => routed(alloc),
+        11 => Ok(Reply::Routes(6, Seq::new(alloc))),
+        12 => changed(alloc),
+        13 => Ok(Reply::RoutesSince(Since::Compacted(3))),
+        14 => Ok(Reply::RoutesSince(Since::Ahead(6))),
+        _ => Err(AllocError),
+    }
+}
+
+fn routed(alloc: Global) -> Result<Reply, AllocError> {
+    let routes = vec![in alloc; route(alloc)?]?;
+    Ok(Reply::Routes(6, Seq::of(routes)))
+}
+
+fn changed(alloc: Global) -> Result<Reply, AllocError> {
+    let changes = vec![in alloc; change(alloc)?]?;
+    Ok(Reply::RoutesSince(Since::Changes(6, Seq::of(changes))))
+}
+
+#[test]
+fn each_reply_has_its_line(rt: HostRuntime) -> Result<(), Fail> {
+    let mut count = 0u8;
+    for line in REPLIES.lines() {
+        let (number, want) = line.split_once(' ').unwrap_or((line, ""));
+        let reply = reply_of(rt.alloc(), number.parse().unwrap_or(0))?;
+        let told = text_of(rt.alloc(), &reply)?;
+        assert_eq!(&rt; told.as_str().strip_suffix('\n'), Some(want));
+        count = count.wrapping_add(1);
+    }
+    assert_eq!(&rt; count, 14);
+    Ok(())
+}

@@ -1,0 +1,307 @@
+#!/usr/bin/env python3
+"""Writes crates/ipam_session_tests/src/table_tests.rt: lines of a session and what must be read of each.
+
+The reader below is written from the format alone, over Python's own `json`. A row has a line and
+what it asks, or `line` where it asks nothing that is known.
+
+Run it from the top of the repository: python3 tools/session_table.py
+"""
+
+import json
+import re
+from pathlib import Path
+
+from resource_table import Fault, parsed
+
+OUT = Path(__file__).resolve().parent.parent / "crates/ipam_session_tests/src/table_tests.rt"
+NAME = re.compile(r"[A-Za-z0-9][A-Za-z0-9_.-]{0,252}")
+HANDLE = re.compile(r"[A-Za-z0-9][A-Za-z0-9_.-]{0,506}")
+
+
+class Bad(Exception):
+    """The line asks nothing that is known."""
+
+
+# ---- the reader
+
+
+def compact(value):
+    return json.dumps(value, ensure_ascii=False, separators=(",", ":"), sort_keys=True)
+
+
+def matching(value, form):
+    if not isinstance(value, str) or not form.fullmatch(value):
+        raise Bad
+    return value
+
+
+def whole(value):
+    if type(value) is not int or value < 0:
+        raise Bad
+    return value
+
+
+def members(value, wanted, optional=()):
+    if not isinstance(value, dict) or not set(wanted) <= set(value) <= {*wanted, *optional}:
+        raise Bad
+    return value
+
+
+def handles(value):
+    if not isinstance(value, list):
+        raise Bad
+    return [matching(one, HANDLE) for one in value]
+
+
+def deletion(value):
+    return {"handle": matching(members(value, ("handle",))["handle"], HANDLE)}
+
+
+def collection(value):
+    members(value, ("live",), ("grace", "scope"))
+    told = {"live": handles(value["live"])}
+    if whole(value.get("grace", 0)):
+        told["grace"] = value["grace"]
+    if "scope" in value:
+        scope = members(value["scope"], ("network", "node"))
+        told["scope"] = {name: matching(text, NAME) for name, text in scope.items()}
+    return told
+
+
+def removal(value):
+    return {"name": matching(members(value, ("name",))["name"], NAME)}
+
+
+REQUESTS = {"del": deletion, "collect": collection, "unreserve": removal}
+
+
+def request(value):
+    if not isinstance(value, dict) or len(value) != 1:
+        raise Bad
+    ((name, inner),) = value.items()
+    if name not in REQUESTS:
+        raise Bad
+    return "request " + compact({name: REQUESTS[name](inner)})
+
+
+def call(value):
+    members(value, ("env", "stdin"))
+    if not isinstance(value["env"], dict) or not isinstance(value["stdin"], str):
+        raise Bad
+    if not all(isinstance(one, str) for one in value["env"].values()):
+        raise Bad
+    return "call " + compact({"env": value["env"], "stdin": value["stdin"]})
+
+
+def flag(word):
+    def told(value):
+        if value is not True:
+            raise Bad
+        return word
+
+    return told
+
+
+ONE = {
+    "request": request,
+    "feed": lambda value: "feed " + compact(handles(value)),
+    "stop": flag("stop"),
+    "routes": flag("routes"),
+    "routesSince": lambda value: f"since {whole(value)}",
+}
+
+
+def told(line):
+    try:
+        value = parsed(line)
+        if len(value) == 1:
+            ((name, inner),) = value.items()
+            return ONE[name](inner)
+        return call(value)
+    except (Bad, Fault, KeyError):
+        return "line"
+
+
+# ---- the lines
+
+GOOD = [
+    '{"env":{"CNI_COMMAND":"ADD","CNI_IFNAME":"eth0"},"stdin":"{\\"cniVersion\\":\\"1.0.0\\"}\\n"}',
+    '{"env":{},"stdin":""}',
+    '{"env":{"A":"1","a":"ü","":"x"},"stdin":"\\u00fc\\ud83d\\ude00\\t"}',
+    '{"request":{"del":{"handle":"n.c1"}}}',
+    '{"request":{"collect":{"live":[]}}}',
+    '{"request":{"collect":{"grace":60,"live":["n.c1","n.c1","a"]}}}',
+    '{"request":{"collect":{"live":["n.c1"],"scope":{"network":"n","node":"a"}}}}',
+    '{"request":{"unreserve":{"name":"r"}}}',
+    '{"feed":[]}',
+    '{"feed":["n.c1","n.c2"]}',
+    '{"stop":true}',
+    '{"routes":true}',
+    '{"routesSince":0}',
+    '{"routesSince":18446744073709551615}',
+]
+SPELLINGS = [
+    (' { "stop" : true } '),
+    '\t{"routesSince"\t:\t7}\r',
+    '{"st\\u006fp":true}',
+    '{"stdin":"in","env":{"B":"2","A":"1"}}',
+    '{"env":{"A":"1","A":"2"},"stdin":"x"}',
+    '{"env":{"A":1,"A":"2"},"stdin":"x"}',
+    '{"stop":false,"stop":true}',
+    '{"feed":0,"feed":["a"]}',
+    '{"request":{"collect":{"grace":0,"live":[]}}}',
+    '{"request":{"del":{"handle":"a"},"del":{"handle":"b"}}}',
+]
+BAD = [
+    "", " ", "{}", "[]", "null", "true", '"stop"', "0", "{", '{"stop"}', '{"stop":true', '{"stop":true}}',
+    '{"stop":true} x', '{"stop":tru}', '{"Stop":true}', '{"stop":false}', '{"stop":1}', '{"stop":"true"}',
+    '{"stop":null}', '{"stop":true,"stop":false}', '{"stop":true,"routes":true}', '{"routes":false}',
+    '{"routes":[]}', '{"routes":true,"x":0}', '{"routesSince":-1}', '{"routesSince":1.0}',
+    '{"routesSince":1e2}', '{"routesSince":-0}', '{"routesSince":18446744073709551616}',
+    '{"routesSince":"1"}', '{"routesSince":01}', '{"routesSince":true}', '{"routesSince":null}',
+    '{"feed":{}}', '{"feed":"a"}', '{"feed":[1]}', '{"feed":[""]}', '{"feed":["a b"]}', '{"feed":["-a"]}',
+    '{"feed":["a",null]}', '{"feed":["a"],"at":5}', '{"feed":[["a"]]}', '{"feed":["é"]}',
+    '{"env":{}}', '{"stdin":""}', '{"env":{},"stdin":0}', '{"env":[],"stdin":""}', '{"env":{"A":1},"stdin":""}',
+    '{"env":{"A":null},"stdin":""}', '{"env":{},"stdin":"","x":0}', '{"env":{},"stdin":"","feed":[]}',
+    '{"env":{},"stdin":"\\ud800"}', '{"env":{},"stdin":"a\tb"}', '{"Env":{},"stdin":""}',
+    '{"request":{}}', '{"request":null}', '{"request":"del"}', '{"request":{"del":{}}}',
+    '{"request":{"del":{"handle":"n.c1","x":0}}}', '{"request":{"del":{"handle":""}}}',
+    '{"request":{"del":{"handle":"n.c1"}},"stop":true}', '{"request":{"gc":{"live":[]}}}',
+    '{"request":{"del":{"handle":"n.c1"},"unreserve":{"name":"r"}}}',
+    '{"request":{"collect":{"at":0,"live":[]}}}', '{"request":{"collect":{"at":100,"grace":60,"live":[]}}}',
+    '{"request":{"collect":{"at":null,"live":[]}}}', '{"request":{"collect":{"grace":-1,"live":[]}}}',
+    '{"request":{"collect":{"live":[],"scope":{"node":"a"}}}}', '{"request":{"collect":{}}}',
+    '{"request":{"collect":{"live":[],"scope":{"network":"n","node":""}}}}',
+]  # fmt: skip
+
+
+def cases():
+    long_handle = "h" * 507
+    limits = [f'{{"feed":["{long_handle}"]}}', f'{{"feed":["{long_handle}h"]}}']
+    deep = ['{"stop":' + "[" * n + "]" * n + "}" for n in (126, 127)]
+    cut = [line[:-1] for line in GOOD]
+    behind = [line + "," for line in GOOD[:4]]
+    return GOOD + SPELLINGS + BAD + limits + deep + cut + behind
+
+
+# ---- the source
+
+
+def literal(text):
+    out = []
+    for c in text:
+        if c in '"\\':
+            out.append("\\" + c)
+        elif c == "\t":
+            out.append("\\t")
+        elif c == "\r":
+            out.append("\\r")
+        elif c == "\n":
+            out.append("\\n")
+        else:
+            out.append(c)
+    return "".join(out)
+
+
+def table(rows):
+    return "".join(f"{literal(line)}⇒{literal(told(line))}‡\\n\\\n" for line in rows)
+
+
+def main():
+    rows = cases()
+    groups = [rows[n : n + 40] for n in range(0, len(rows), 40)]
+    source = SOURCE
+    for n, group in enumerate(groups):
+        source += f'const LINES_{n + 1}: &str = "\\\n{table(group)}";\n\n'
+    source += TELLING
+    for n, group in enumerate(groups):
+        source += TEST.format(n=n + 1, count=len(group))
+    OUT.write_text(source)
+    unread = sum(told(line) == "line" for line in rows)
+    print(f"{len(rows)} lines, {unread} of them refused")
+
+
+SOURCE = """\
+// Written by tools/session_table.py: change that, and not this file.
+// Each row has a line of a session and what it asks, or `line` where it asks nothing that is known.
+use ipam_model::Request;
+use ipam_request_text::{push_live, push_request};
+use ipam_session::{AskFault, Wish, read_wish};
+use ipam_text::Text;
+use serde_json::{Map, Value, json, put};
+use std::alloc::{AllocError, Global};
+use std::process::Abort;
+use std::test::Fail;
+
+"""
+
+TELLING = """\
+/// What is read of the line.
+fn told(alloc: Global, line: &str) -> Result<String, AllocError> {
+    match read_wish(alloc, line.as_bytes()) {
+        Ok(wish) => asked(alloc, &wish),
+        Err(AskFault::Unreadable) => String::from_str(alloc, "line"),
+        Err(AskFault::Memory) => Err(AllocError),
+    }
+}
+
+fn asked(alloc: Global, wish: &Wish) -> Result<String, AllocError> {
+    match wish {
+        Wish::Cni(env, stdin) => called(alloc, env.as_slice(), stdin.as_str()),
+        Wish::Request(request) => requested(alloc, request),
+        Wish::Feed(live) => fed(alloc, live.as_slice()),
+        Wish::Stop => String::from_str(alloc, "stop"),
+        Wish::Routes => String::from_str(alloc, "routes"),
+        Wish::RoutesSince(revision) => format!(in alloc; "since {revision}"),
+    }
+}
+
+fn called(alloc: Global, env: &[(Text, Text)], stdin: &str) -> Result<String, AllocError> {
+    let mut members = Map::new(alloc);
+    for pair in env {
+        let value = Value::try_from_str(alloc, pair.1.as_str())?;
+        put(&mut members, alloc, pair.0.as_str(), value)?;
+    }
+    let env = Value::Object(members);
+    let json = json!(in alloc; {"env": env, "stdin": stdin})?;
+    let text = json.to_string(alloc)?;
+    format!(in alloc; "call {text}")
+}
+
+fn requested(alloc: Global, request: &Request) -> Result<String, AllocError> {
+    let mut out = String::from_str(alloc, "request ")?;
+    push_request(alloc, &mut out, request)?;
+    Ok(out)
+}
+
+fn fed(alloc: Global, live: &[Text]) -> Result<String, AllocError> {
+    let mut out = String::from_str(alloc, "feed ")?;
+    push_live(alloc, &mut out, live)?;
+    Ok(out)
+}
+
+/// How many rows there are, each of which holds.
+fn rows(rt: &impl Abort, alloc: Global, table: &str) -> Result<usize, AllocError> {
+    let mut count = 0usize;
+    for row in table.split("‡\\n") {
+        if let Some((line, want)) = row.split_once('⇒') {
+            let found = told(alloc, line)?;
+            assert!(rt; found.as_str() == want, "{line}");
+            count = count.wrapping_add(1);
+        }
+    }
+    Ok(count)
+}
+"""
+
+TEST = """
+#[test]
+fn reads_lines_{n}(rt: HostRuntime) -> Result<(), Fail> {{
+    let count = rows(&rt, rt.alloc(), LINES_{n})?;
+    assert_eq!(rt; count, {count});
+    Ok(())
+}}
+"""
+
+if __name__ == "__main__":
+    main()
