@@ -1,0 +1,31 @@
+-- The journal of a history, and what each of its lines tells.
+use Rattle.std.specs.Prelude.{ℕ, List, [], ◌∷◌, ◌++◌, codes, is_some, ◌≡◌}
+use Rattle.std.specs.List.{concat}
+use Rattle.ipam_model.specs.declared.entry.Entry.{Entry}
+use Rattle.ipam_model.specs.declared.entry.Entry.TheVariants as entry
+use Rattle.ipam_model.specs.declared.entry.Called.{Called}
+use Rattle.ipam_answer_text.specs.Entries.{call_text, told_text, entry_line}
+
+-- the lines of a history's entries, the oldest first
+abbrev pub lines_of : List Entry → List (List ℕ)
+lines_of [] = []
+lines_of (new ∷ history) = lines_of history ++ entry_line new ∷ []
+
+abbrev pub journal_of : List Entry → List ℕ
+journal_of history = concat (lines_of history)
+
+-- the word of an entry's kind
+abbrev pub kind_word : Entry → List ℕ
+kind_word (entry.Began slot request) = codes "began"
+kind_word (entry.Fed slot at live) = codes "fed"
+kind_word (entry.Called called) = codes "called"
+kind_word (entry.Stopped slot) = codes "stopped"
+
+-- calls that are told alike: the same name and reply in their texts, the same fate, and whether a
+-- record was written and an answer given
+pub record CallsAgree (c d : Called) : Type 0 where
+  pub call : call_text c.call ≡ call_text d.call
+  pub fate : c.fate ≡ d.fate
+  pub reply : told_text c.reply ≡ told_text d.reply
+  pub wrote : is_some c.written ≡ is_some d.written
+  pub ended : is_some c.answer ≡ is_some d.answer
