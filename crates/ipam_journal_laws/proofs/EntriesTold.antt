@@ -1,5 +1,5 @@
 -- What the line of an entry tells.
-use Rattle.std.proofs.Common.{◌≡◌, ◌≢◌, ℕ, ◌<◌, ◌^◌, List, [], ◌∷◌, ◌++◌, Bool, true, false, ◌||◌, codes, decimal, bytes_eq, is_some, Option, Some, None, refl, sym, ap, ap₂, ◌∙◌, subst, arith, append_assoc, append-nil}
+use Rattle.std.proofs.Common.{◌≡◌, ◌≢◌, ℕ, ◌<◌, List, [], ◌∷◌, ◌++◌, Bool, true, false, ◌||◌, codes, decimal, bytes_eq, is_some, Option, Some, None, refl, sym, ap, ap₂, ◌∙◌, arith, append_assoc, append-nil}
 use Rattle.std.proofs.lemmas.Fmt.{decimal_injective}
 use Rattle.std.proofs.lemmas.List.{append_cancel_left, append_cancel_right}
 use Rattle.json.specs.Print.{quoted, escape}
@@ -34,8 +34,8 @@ use Rattle.ipam_request_text.specs.Requests.{request_text, live_text}
 use Rattle.ipam_answer_text.specs.Answers.{answer_data, answer_text}
 use Rattle.ipam_answer_text.specs.Entries.{kind_text, call_text, fate_text, told_text, written_text, ending_text, at_text, began_line, fed_line, stopped_line, asked_text, heard_text, called_line, entry_line}
 use Rattle.ipam_journal_laws.specs.Journals.{kind_word, CallsAgree}
-use Rattle.ipam_journal_laws.specs.Names.{IsAboutName, HasNames}
-use Rattle.ipam_journal_laws.proofs.Plain.{is_visible, IsVisible, Lacks, lacks-passed, visible-text, visible-decimal}
+use Rattle.ipam_journal_laws.specs.Names.{IsAboutName}
+use Rattle.ipam_journal_laws.proofs.Plain.{is_visible, IsVisible, lacks-passed, visible-text, visible-decimal}
 use Rattle.ipam_journal_laws.proofs.PlainKeys.{key-visible}
 use Rattle.ipam_journal_laws.proofs.WholeLines.{first_of, cut_at}
 

@@ -9,3 +9,5 @@ pub mod NamedRequests
 pub mod NamedHistories
 pub mod Journals
 pub mod EntriesTold
+pub mod EntriesRead
+pub mod Alike

@@ -1,5 +1,5 @@
 -- Each entry of a lawful history is about what has a name.
-use Rattle.std.proofs.Common.{◌≡◌, ◌≢◌, ℕ, ◌+◌, Bool, true, false, cond, List, [], ◌∷◌, ◌++◌, Option, Some, None, refl, sym, ap, subst}
+use Rattle.std.proofs.Common.{◌≡◌, ℕ, ◌+◌, Bool, true, false, cond, List, [], ◌∷◌, Option, Some, None, refl, ap, subst}
 use Rattle.std.specs.Prelude.{nat_lt, ◌==◌}
 use Rattle.std.specs.List.{AllByRecursion, filter}
 use Rattle.std.proofs.lemmas.List.Elements.{recursion_from_All}
@@ -7,7 +7,7 @@ use Rattle.ipam_records.specs.declared.call.Call.{Call}
 use Rattle.ipam_records.specs.declared.call.Call.TheVariants.{Get, List as ListAll, Create, Update, Delete}
 use Rattle.ipam_records.specs.declared.key.Key.{Key}
 use Rattle.ipam_records.specs.declared.key.Kind.{Kind}
-use Rattle.ipam_records.specs.Datastore.{Datastore, last_revision, granted, has_room, listed, reply_of, reply_to_get, reply_to_create, reply_to_change, row_key, row_of}
+use Rattle.ipam_records.specs.Datastore.{Datastore, last_revision, granted, has_room, reply_of, reply_to_get, reply_to_create, reply_to_change, row_key, row_of}
 use Rattle.ipam_records.specs.Key.{key_of}
 use Rattle.ipam_records.specs.KeyOrder.{is_of_kind}
 use Rattle.ipam_records.specs.Said.{Said, Can, Full, Spent, Conflict}
@@ -21,7 +21,7 @@ use Rattle.ipam_model.specs.declared.entry.Entry.TheVariants as entry
 use Rattle.ipam_model.specs.declared.entry.Fate.{Fate}
 use Rattle.ipam_model.specs.declared.entry.Fate.TheVariants.{Well, Before, After}
 use Rattle.ipam_model.specs.Cluster.{Running, after, answered, begun, call_entry, called, fed_with, goes_on}
-use Rattle.ipam_model.specs.History.{Base, Lawful, cluster_at, store_at}
+use Rattle.ipam_model.specs.History.{Base, Lawful, cluster_at}
 use Rattle.ipam_model.specs.Named.{name_of}
 use Rattle.ipam_model.specs.Reads.{Row}
 use Rattle.ipam_laws.proofs.KeptWords.{slot-is}

@@ -1,5 +1,5 @@
 -- Parts of requests call for what has a name, whatever sound records they are told of.
-use Rattle.std.proofs.Common.{◌≡◌, ℕ, zero, suc, Bool, true, false, cond, List, [], ◌∷◌, Option, Some, None}
+use Rattle.std.proofs.Common.{ℕ, zero, suc, Bool, true, false, cond, List, [], ◌∷◌, Option, Some, None}
 use Rattle.std.specs.Prelude.{nat_le}
 use Rattle.std.specs.List.{count_by, AllByRecursion}
 use Rattle.ipam_addr.specs.declared.address.Family.{Family}
@@ -11,7 +11,6 @@ use Rattle.ipam_affinity.specs.declared.state.State.{State}
 use Rattle.ipam_affinity.specs.declared.state.State.TheVariants.{Pending, Confirmed, PendingDeletion}
 use Rattle.ipam_handle.specs.Shape as handle
 use Rattle.ipam_handle.specs.Operations.{count_of, raised, lowered}
-use Rattle.ipam_records.specs.declared.call.Call.{Call}
 use Rattle.ipam_records.specs.declared.record.Record.{Record}
 use Rattle.ipam_records.specs.declared.record.Record.TheVariants as record_of
 use Rattle.ipam_records.specs.Key.{key_of}
@@ -24,19 +23,18 @@ use Rattle.ipam_model.specs.declared.outcome.ClaimAnswer.{ClaimAnswer}
 use Rattle.ipam_model.specs.declared.outcome.ClaimAnswer.TheVariants as claimed
 use Rattle.ipam_model.specs.declared.outcome.ReleaseAnswer.{ReleaseAnswer}
 use Rattle.ipam_model.specs.declared.outcome.ReleaseAnswer.TheVariants as released
-use Rattle.ipam_model.specs.declared.part.Assigned.{Assigned}
 use Rattle.ipam_model.specs.declared.part.Left.{Left}
 use Rattle.ipam_model.specs.declared.part.Outcome.{Outcome}
 use Rattle.ipam_model.specs.declared.part.Outcome.TheVariants.{Went, Stops}
 use Rattle.ipam_model.specs.declared.part.Stop.TheVariants.{OutOfTries, NoRoom, NoRevisions, CountAtLimit}
 use Rattle.ipam_model.specs.Add.{five_reads}
 use Rattle.ipam_model.specs.Affinities.{BlockRead, Tie, on_claim_write, claim, claim_found, claim_kept, claim_block, claim_confirm, claiming, baring, is_at_mark, release, release_once, release_found, release_look, release_block, release_delete, release_stops}
-use Rattle.ipam_model.specs.Assigning.{Target, assign, assign_block, assign_lost, after_claim, after_confirmed, claim_for}
+use Rattle.ipam_model.specs.Assigning.{Target, assign, assign_block, assign_lost, after_claim, claim_for}
 use Rattle.ipam_model.specs.Choice.{Seen}
-use Rattle.ipam_model.specs.Counting.{most_count, raise, raise_once, raise_write, lower, lower_once, lowering, written_or_deleted, revision_said, Freeing, free, free_once, free_found, free_these, credit_of}
+use Rattle.ipam_model.specs.Counting.{most_count, raise, raise_once, raise_write, lower, lower_once, written_or_deleted, revision_said, Freeing, free, free_once, free_found, free_these, credit_of}
 use Rattle.ipam_model.specs.Named.{name_of}
 use Rattle.ipam_model.specs.Reads.{Row, config_said, pools_said, reservations_said, rows_said, handle_said, block_said, affinity_said}
-use Rattle.ipam_model.specs.Step.{all_left, left_of, Part, StopAnswers, answer_of, goes, stops, tries, retried, rounds, settled, after_write, after_lost, on_write, onward, followed, write_back}
+use Rattle.ipam_model.specs.Step.{all_left, left_of, Part, StopAnswers, answer_of, goes, stops, tries, retried, rounds, settled, after_write, on_write, onward, followed, write_back}
 use Rattle.ipam_journal_laws.specs.Names.{HasName, IsAboutName}
 
 -- ---- words

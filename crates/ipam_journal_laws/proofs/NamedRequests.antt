@@ -1,6 +1,6 @@
 -- Each sound request calls for what has a name.
 use Rattle.std.proofs.Common.{◌≡◌, ℕ, ◌+◌, ◌-◌, Bool, true, false, cond, List, [], ◌∷◌, ◌++◌, map, Option, Some, None, ◌&&◌, not, refl, sym, subst}
-use Rattle.std.specs.List.{AllByRecursion, All, filter, flat_map}
+use Rattle.std.specs.List.{AllByRecursion, filter}
 use Rattle.std.proofs.lemmas.List.Elements.{recursion_from_All}
 use Rattle.ipam_addr.specs.declared.address.Family.{Family}
 use Rattle.ipam_addr.specs.Shape.{AddrValue, CidrValue}
@@ -52,13 +52,12 @@ use Rattle.ipam_model.specs.Assigning.{Target, target_in, assign, claim_for}
 use Rattle.ipam_model.specs.Choice.{Share, Takes, Claims, Leaves, by_share, share_of, Rank, Own, Unconfirmed, Unclaimed, Foreign, Pick, Unknown, Lacks, Picks, pick_of, choice_of}
 use Rattle.ipam_model.specs.Counting.{freeing_all, free}
 use Rattle.ipam_model.specs.Look as look
-use Rattle.ipam_model.specs.Named.{name_of}
 use Rattle.ipam_model.specs.Owners.{is_owner_in}
 use Rattle.ipam_model.specs.Reads.{Row, config_said, pools_said, rows_said, handle_said, block_said}
 use Rattle.ipam_model.specs.Remove as remove
 use Rattle.ipam_model.specs.Requests.{word_of, told_as}
 use Rattle.ipam_model.specs.SoundRequest.{IsSoundRequest}
-use Rattle.ipam_model.specs.Step.{all_left, Part, goes, rounds, retried, write_back, in_rounds}
+use Rattle.ipam_model.specs.Step.{all_left, Part, goes, retried, in_rounds}
 use Rattle.ipam_model.specs.Told.{of_add, of_add_this, of_del, of_check, of_release, of_collect, of_admin, of_probe}
 use Rattle.ipam_model.specs.Usable.{families_if, pool_of, usable_pool_of}
 use Rattle.ipam_laws.proofs.RequestSteps.{key-changed}

@@ -1,5 +1,5 @@
 -- The compact text of JSON has no line feed.
-use Rattle.std.proofs.Common.{◌≡◌, ℕ, zero, suc, ◌<◌, ◌≤◌, List, [], ◌∷◌, ◌++◌, Bool, true, false, ◌&&◌, inl, inr, ℤ, pos, negsuc, refl, arith}
+use Rattle.std.proofs.Common.{◌≡◌, ℕ, zero, suc, ◌<◌, List, [], ◌∷◌, Bool, true, false, ◌&&◌, inl, inr, pos, negsuc, refl, arith}
 use Rattle.std.specs.List.{list_all}
 use Rattle.std.proofs.lemmas.Bool.{and_parts, cases_lt, cases_eq}
 use Rattle.json.specs.Print.{escape_byte, escape, quoted}
@@ -7,7 +7,7 @@ use Rattle.json.proofs.Printed.Strings.{escape_byte_plain}
 use Rattle.serde_json.specs.Data.{unsigned, negative, float, Num, Data, null, boolean, number, string, array, object, Items, no_items, item, Members, no_members, member}
 use Rattle.serde_json.specs.Written.{comma_if, number_text, compact_text, items_text, members_text}
 use Rattle.ipam_lines.specs.Feeds.{HasNoFeed}
-use Rattle.ipam_journal_laws.proofs.Plain.{is_no_feed, IsPlain, passes, no_feed-above, passes-append, passes-cons, plain-text, plain-decimal, HasNoFeed-plain}
+use Rattle.ipam_journal_laws.proofs.Plain.{is_no_feed, IsPlain, no_feed-above, passes-append, passes-cons, plain-text, plain-decimal, HasNoFeed-plain}
 
 -- ---- strings
 

@@ -2,7 +2,6 @@
 use Rattle.std.proofs.Common.{◌≡◌, ◌≢◌, ℕ, List, [], ◌∷◌, ◌++◌, codes, refl, sym, ap, ap₂, ◌∙◌, append_assoc}
 use Rattle.std.specs.List.{concat, AllByRecursion}
 use Rattle.std.proofs.lemmas.List.Elements.{All-append, recursion_from_All}
-use Rattle.ipam_lines.specs.Feeds.{HasNoFeed}
 use Rattle.ipam_journal_laws.specs.Whole.{IsWholeLine}
 use Rattle.ipam_journal_laws.proofs.Plain.{IsPlain, Lacks, HasNoFeed-plain}
 

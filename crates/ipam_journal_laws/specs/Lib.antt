@@ -2,3 +2,4 @@
 pub mod Whole
 pub mod Names
 pub mod Journals
+pub mod Limits

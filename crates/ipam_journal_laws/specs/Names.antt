@@ -1,11 +1,10 @@
 -- Which entries are about what has a name.
-use Rattle.std.specs.Prelude.{ℕ, List, ⊤}
+use Rattle.std.specs.Prelude.{⊤}
 use Rattle.ipam_records.specs.declared.key.Key.{Key}
 use Rattle.ipam_records.specs.declared.key.Key.TheVariants as key
 use Rattle.ipam_records.specs.Sound.{IsName, IsHandleId}
 use Rattle.ipam_model.specs.declared.entry.CallName.{CallName}
 use Rattle.ipam_model.specs.declared.entry.CallName.TheVariants as name
-use Rattle.ipam_model.specs.declared.entry.Called.{Called}
 use Rattle.ipam_model.specs.declared.entry.Entry.{Entry}
 use Rattle.ipam_model.specs.declared.entry.Entry.TheVariants as entry
 

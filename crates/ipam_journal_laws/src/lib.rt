@@ -2,20 +2,25 @@
 //! the law.
 #![tactic(auto)]
 
-ghost use Rattle.std.specs.Prelude.{◌≡◌, ℕ, ◌<◌, List, ◌++◌, map};
+ghost use Rattle.std.specs.Prelude.{◌≡◌, ℕ, ◌<◌, ◌^◌, List, ◌++◌, map};
 ghost use Rattle.std.specs.List.{AllByRecursion, concat};
 ghost use Rattle.serde_json.specs.Data.{Data};
 ghost use Rattle.serde_json.specs.Written.{compact_text};
 ghost use Rattle.ipam_lines.specs.Feeds.{HasNoFeed};
-ghost use Rattle.ipam_records.specs.Sound.{IsDatastore};
+ghost use Rattle.ipam_records.specs.Sound.{IsDatastore, IsHandleId};
 ghost use Rattle.ipam_model.specs.declared.entry.Called.{Called};
+ghost use Rattle.ipam_model.specs.declared.entry.CallName.{CallName};
 ghost use Rattle.ipam_model.specs.declared.entry.Entry.{Entry};
+ghost use Rattle.ipam_model.specs.declared.entry.Told.{Told};
+ghost use Rattle.ipam_model.specs.declared.request.Request.{Request};
 ghost use Rattle.ipam_model.specs.Course.{slot_count};
+ghost use Rattle.ipam_model.specs.SoundRequest.{IsSoundRequest};
 ghost use Rattle.ipam_model.specs.History.{Base, Lawful, slot_of_entry};
-ghost use Rattle.ipam_answer_text.specs.Entries.{called_line, entry_line};
+ghost use Rattle.ipam_answer_text.specs.Entries.{began_line, call_text, called_line, entry_line, fed_line, told_text};
 ghost use Rattle.ipam_session.specs.declared.replies.Reply.{Reply};
 ghost use Rattle.ipam_session.specs.Replies.{reply_line};
-ghost use Rattle.ipam_journal_laws.specs.Journals.{CallsAgree, journal_of, kind_word, lines_of};
+ghost use Rattle.ipam_journal_laws.specs.Journals.{AreToldAlike, CallsAgree, journal_of, kind_word, lines_of};
+ghost use Rattle.ipam_journal_laws.specs.Limits.{IsSoundName, IsSoundTold};
 ghost use Rattle.ipam_journal_laws.specs.Names.{HasNames, IsAboutName};
 ghost use Rattle.ipam_journal_laws.specs.Whole.{IsWholeLine};
 
@@ -97,4 +102,30 @@ pub fn the_line_of_an_entry_tells_what_happened()
         → kind_word one ≡ kind_word other }
     ensures call { (c d : Called) → IsAboutName c.call → IsAboutName d.call
         → called_line c ≡ called_line d → CallsAgree c d }
+{}
+
+/// Where its parts are sound, the line of a request that begins tells the request, and that of a second
+/// list its time and its handles. The texts of a call's name and of its reply tell the name and the
+/// reply.
+#[tactic(auto, using(crate::proofs::EntriesRead::began_told, crate::proofs::EntriesRead::fed_told, crate::proofs::EntriesRead::name_told, crate::proofs::EntriesRead::reply_told))]
+pub fn the_parts_of_an_entry_are_told_by_its_line()
+    ensures began { (slot other : ℕ) (request further : Request) → IsSoundRequest request
+        → IsSoundRequest further → began_line slot request ≡ began_line other further
+        → request ≡ further }
+    ensures fed { (slot other at later : ℕ) (live further : List (List ℕ)) → at < 2 ^ 64
+        → later < 2 ^ 64 → AllByRecursion IsHandleId live → AllByRecursion IsHandleId further
+        → fed_line slot at live ≡ fed_line other later further → (at ≡ later) × (live ≡ further) }
+    ensures name { (c d : CallName) → IsSoundName c → IsSoundName d → call_text c ≡ call_text d
+        → c ≡ d }
+    ensures reply { (t u : Told) → IsSoundTold t → IsSoundTold u → told_text t ≡ told_text u
+        → t ≡ u }
+{}
+
+/// Two lawful histories whose journals are one text have as many entries, and entry by entry the same
+/// slots and kinds, and calls of the same names, fates and replies that wrote a record and were
+/// answered alike.
+pub fn histories_of_one_journal_are_told_alike()
+    ensures { (base other : Base) (history further : List Entry) → IsDatastore base.store
+        → IsDatastore other.store → Lawful base history → Lawful other further
+        → journal_of history ≡ journal_of further → AreToldAlike history further }
 {}
