@@ -5,7 +5,7 @@ use Rattle.std.proofs.lemmas.List.{append_cancel_left, append_cancel_right}
 use Rattle.json.specs.Print.{quoted, escape}
 use Rattle.serde_json.specs.Data.{Data, null, boolean, number, array, Members, no_members, member, object, string}
 use Rattle.serde_json.specs.Written.{comma_if, compact_text, members_text}
-use Rattle.ipam_block_text.specs.Body.{block_body, parts_data}
+use Rattle.ipam_block_text.specs.Body.{block_body, block_data, parts_data}
 use Rattle.ipam_record_text.specs.Config.{config_body, config_data}
 use Rattle.ipam_record_text.specs.Pools.{pools_body, pools_data}
 use Rattle.ipam_record_text.specs.Reservations.{reservations_body, reservations_data}
@@ -35,6 +35,7 @@ use Rattle.ipam_answer_text.specs.Answers.{answer_data, answer_text}
 use Rattle.ipam_answer_text.specs.Entries.{kind_text, call_text, fate_text, told_text, written_text, ending_text, at_text, began_line, fed_line, stopped_line, asked_text, heard_text, called_line, entry_line}
 use Rattle.ipam_journal_laws.specs.Journals.{kind_word, CallsAgree}
 use Rattle.ipam_journal_laws.specs.Names.{IsAboutName}
+use Rattle.ipam_journal_laws.proofs.ObjectEnds.{behind_object, object-behind}
 use Rattle.ipam_journal_laws.proofs.Plain.{is_visible, IsVisible, lacks-passed, visible-text, visible-decimal}
 use Rattle.ipam_journal_laws.proofs.PlainKeys.{key-visible}
 use Rattle.ipam_journal_laws.proofs.WholeLines.{first_of, cut_at}
@@ -384,6 +385,25 @@ same-written None (Some b) r s same = absurd (omega (arith, ap first_of same ∙
 same-written (Some a) None r s same = absurd (omega (arith, sym (ap first_of same) ∙ body-first a r))
 same-written (Some a) (Some b) r s same = refl
 
+body-behind : (r : Record) (t : List ℕ) → behind_object (body_of r ++ t) ≡ t
+unfolding config_body config_data pools_body pools_data reservations_body reservations_data block_body parts_data affinity_body affinity_data handle_body handle_data
+body-behind (record_of.Config config) t = object-behind (config_data config) t refl
+body-behind (record_of.Pools pools) t = object-behind (pools_data pools) t refl
+body-behind (record_of.Reservations reservations) t = object-behind (reservations_data reservations) t refl
+body-behind (record_of.Block block) t = object-behind (block_data block) t refl
+body-behind (record_of.Affinity affinity) t = object-behind (affinity_data affinity) t refl
+body-behind (record_of.Handle handle) t = object-behind (handle_data handle) t refl
+
+-- what was written shows its end
+cut-written : (v w : Option Record) (r s : List ℕ) → written_text v ++ (codes " " ++ r) ≡ written_text w ++ (codes " " ++ s) → (written_text v ≡ written_text w) × (r ≡ s)
+cut-written None None r s same = (refl, append_cancel_left (codes "- ") r s same)
+cut-written None (Some b) r s same = absurd (omega (arith, ap first_of same ∙ body-first b (codes " " ++ s)))
+cut-written (Some a) None r s same = absurd (omega (arith, sym (ap first_of same) ∙ body-first a (codes " " ++ r)))
+cut-written (Some a) (Some b) r s same =
+    let rest : codes " " ++ r ≡ codes " " ++ s = sym (body-behind a (codes " " ++ r)) ∙ ap behind_object same ∙ body-behind b (codes " " ++ s) in
+    let left : body_of a ++ (codes " " ++ r) ≡ body_of b ++ (codes " " ++ r) = same ∙ ap (λ (t : List ℕ). body_of b ++ t) (sym rest) in
+    (append_cancel_right (body_of a) (body_of b) (codes " " ++ r) left, append_cancel_left (codes " ") r s rest)
+
 -- ---- the whole call
 
 -- what was written, and the answer
@@ -405,10 +425,13 @@ calls_agree c d h k same =
     let fates = cut-words (fate_text c.fate) (fate_text d.fate) _ _ (fate-visible c.fate) (fate-visible d.fate) calls.1 in
     let replies = cut-told c.reply d.reply _ _ fates.1 in
     let rest = append_cancel_right (left_of_call c) (left_of_call d) (codes "\n") replies.1 in
+    let texts = cut-written c.written d.written (ending_text c.answer) (ending_text d.answer) rest in
     record {
       call = calls.0;
       fate = fate-of c.fate d.fate fates.0;
       reply = replies.0;
+      written = texts.0;
+      answer = texts.1;
       wrote = same-written c.written d.written _ _ rest;
       ended = same-ended (written_text c.written) (written_text d.written) c.answer d.answer rest;
     }

@@ -11,3 +11,4 @@ pub mod Journals
 pub mod EntriesTold
 pub mod EntriesRead
 pub mod Alike
+pub mod ObjectEnds

@@ -5,7 +5,7 @@ use Rattle.ipam_model.specs.declared.entry.Entry.{Entry}
 use Rattle.ipam_model.specs.declared.entry.Entry.TheVariants as entry
 use Rattle.ipam_model.specs.declared.entry.Called.{Called}
 use Rattle.ipam_model.specs.History.{slot_of_entry}
-use Rattle.ipam_answer_text.specs.Entries.{call_text, told_text, entry_line}
+use Rattle.ipam_answer_text.specs.Entries.{call_text, ending_text, entry_line, told_text, written_text}
 
 -- the lines of a history's entries, the oldest first
 abbrev pub lines_of : List Entry → List (List ℕ)
@@ -22,12 +22,14 @@ kind_word (entry.Fed slot at live) = codes "fed"
 kind_word (entry.Called called) = codes "called"
 kind_word (entry.Stopped slot) = codes "stopped"
 
--- calls that are told alike: the same name and reply in their texts, the same fate, and whether a
--- record was written and an answer given
+-- calls that are told alike: the same name, reply, record and answer in their texts, the same fate, and
+-- whether a record was written and an answer given
 pub record CallsAgree (c d : Called) : Type 0 where
   pub call : call_text c.call ≡ call_text d.call
   pub fate : c.fate ≡ d.fate
   pub reply : told_text c.reply ≡ told_text d.reply
+  pub written : written_text c.written ≡ written_text d.written
+  pub answer : ending_text c.answer ≡ ending_text d.answer
   pub wrote : is_some c.written ≡ is_some d.written
   pub ended : is_some c.answer ≡ is_some d.answer
 

@@ -91,8 +91,8 @@ pub fn replies_are_read_line_by_line_in_one_way()
         → map reply_line replies ≡ map reply_line others }
 {}
 
-/// The line of an entry tells its slot and its kind, and of a call its name, its fate, its reply, and
-/// whether a record was written and an answer given.
+/// The line of an entry tells its slot and its kind, and of a call the texts of its name, its reply, the
+/// record that it wrote and the answer that it gave, its fate, and whether it wrote and was answered.
 #[tactic(auto, using(crate::proofs::EntriesTold::slot_told, crate::proofs::EntriesTold::kind_told))]
 pub fn the_line_of_an_entry_tells_what_happened()
     ensures slot { (one other : Entry) → slot_of_entry one < slot_count
