@@ -1,0 +1,5 @@
+-- Whole lines, what entries are about, and journals.
+pub mod Whole
+pub mod Names
+pub mod Journals
+pub mod Limits
