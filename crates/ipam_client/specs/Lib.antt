@@ -1,0 +1,2 @@
+-- What is written where the daemon isn't reached.
+pub mod Unreached
