@@ -1,5 +1,5 @@
 -- What requests and lists come to that go on.
-use Rattle.std.proofs.Common.{◌≡◌, ◌≤◌, ℕ, arith, true, List, [], ◌∷◌, Option, Some, None, Result, Ok, Err, IsSome, refl, ◌∙◌, subst}
+use Rattle.std.proofs.Common.{◌≡◌, ◌≤◌, ℕ, arith, Bool, true, List, [], ◌∷◌, Option, Some, None, Result, Ok, Err, IsSome, refl, sym, ◌∙◌, subst}
 use Rattle.std.specs.Prelude.{IfOk, OnErr}
 use Rattle.ipam_io.specs.Counts.{Rose}
 use Rattle.ipam_model.specs.declared.answer.Answer.{Answer}
@@ -12,9 +12,9 @@ use Rattle.ipam_serve.specs.declared.ran.Broken.TheVariants.{Halted, Worn, Memor
 use Rattle.ipam_serve.specs.declared.ran.Ran.{Ran}
 use Rattle.ipam_serve.specs.declared.ran.Ran.TheVariants.{Answered, Waits}
 use Rattle.ipam_serve.specs.Faults.{Halts, IfAnswered, OnWaits, OnWorn, answer_ran, spared_by}
-use Rattle.ipam_serve.specs.Gains.{Took, asked_in, is_waiting}
+use Rattle.ipam_serve.specs.Gains.{Took, asked_in, is_early, is_waiting}
 use Rattle.ipam_serve.specs.Runs.{Does, DoesPart, FeedsList, Taker, WentOn}
-use Rattle.ipam_serve.specs.Spans.{Begins, Calls, Deed, Feeds, own_feed}
+use Rattle.ipam_serve.specs.Spans.{Begins, Calls, Deed, Feeds, list_deed, own_feed}
 use Rattle.ipam_serve.specs.Turns.{Fed}
 use Rattle.ipam_serve.specs.declared.turns.Feeding.TheVariants as feeding
 use Rattle.ipam_serve.proofs.Running.{begins-calls, begun-then, does-part, fed-asked, fed-then, not-begun, own-part, own-then, same-some, waiting-some, went-asked, went-idle}
@@ -104,9 +104,10 @@ fed-found old middle new live at (Ok (Some told)) fed h = feeds-told old middle 
 fed-found old middle new live at (Err broken) fed h = tt
 
 pub fed-broken : (old : Taker) (middle : PassValue) (new : Taker) (live : List (List ℕ)) (at : ℕ) (r : Result (Option Answer) Broken) → Fed old.pass live at feeding.Fed middle
-    → OnErr r (WentOn (record { pass = middle; turns = old.turns }) None 1 new) → OnErr r (DoesPart old (Feeds live at) 1 new)
+    → OnErr r (WentOn (record { pass = middle; turns = old.turns }) None 1 new) → OnErr r (DoesPart old (list_deed (is_early (runs_in old.pass) at) live at) 1 new)
 fed-broken old middle new live at (Ok found) fed h = tt
-fed-broken old middle new live at (Err broken) fed h = feeds-broken old middle new live at fed h
+fed-broken old middle new live at (Err broken) fed h =
+    subst (λ (b : Bool). DoesPart old (list_deed b live at) 1 new) (sym fed.1) (feeds-broken old middle new live at fed h)
 
 -- what was fed still runs
 pub fed-runs : (old new : PassValue) (live : List (List ℕ)) (at : ℕ) → is_waiting (runs_in old) ≡ true → Fed old live at feeding.Fed new → asked_in (runs_in new) ≡ asked_in (runs_in old) × IsSome (runs_in new)

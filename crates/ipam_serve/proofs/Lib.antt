@@ -5,3 +5,4 @@ pub mod Turning
 pub mod Coming
 pub mod Running
 pub mod Going
+pub mod LineParts

@@ -182,13 +182,15 @@ fed-asked old new live at took = took.runs
 -- ---- the request of a CNI call
 
 -- a list at the time 0 is never early where there is no grace
-pub never-early : (o : Option Running) (asked : CollectRequest) → asked_in o ≡ Some (Collect asked) → IsTimeless (Collect asked) → is_early o 0 ≡ true → ⊥
-never-early None asked e timeless early = cc e
-never-early (Some running) asked e timeless early =
+pub due-own : (o : Option Running) (asked : CollectRequest) → asked_in o ≡ Some (Collect asked) → IsTimeless (Collect asked) → is_early o 0 ≡ false
+due-own None asked e timeless = absurd (cc e)
+due-own (Some running) asked e timeless =
     let its : running.request ≡ Collect asked = cc e in
     let none : due asked ≡ 0 = let first = timeless.0 in let second = timeless.1 in omega arith in
-    let is : is_early (Some running) 0 ≡ false = ap (λ r. not (is_due r 0)) its ∙ ap (λ n. not (nat_le n 0)) none in
-    cc (is, early)
+    ap (λ r. not (is_due r 0)) its ∙ ap (λ n. not (nat_le n 0)) none
+
+pub never-early : (o : Option Running) (asked : CollectRequest) → asked_in o ≡ Some (Collect asked) → IsTimeless (Collect asked) → is_early o 0 ≡ true → ⊥
+never-early o asked e timeless early = let is = due-own o asked e timeless in cc (is, early)
 
 did-slot : (slot other : ℕ) (deed : Deed) (answer : Option Answer) (entries : List Entry) → other ≡ slot → Did other deed answer entries → Did slot deed answer entries
 did-slot slot other deed answer entries e h = subst (λ (s : ℕ). Did s deed answer entries) e h

@@ -4,3 +4,4 @@ pub mod Spans
 pub mod Faults
 pub mod Turns
 pub mod Runs
+pub mod Lines

@@ -1,5 +1,5 @@
 -- What a request makes of its slot, from its beginning to its answer.
-use Rattle.std.specs.Prelude.{◌≡◌, ℕ, ◌⊎◌, List, [], ◌∷◌, ◌++◌, Option, Some, None}
+use Rattle.std.specs.Prelude.{◌≡◌, ℕ, ◌⊎◌, List, [], ◌∷◌, ◌++◌, Option, Some, None, Bool, true, false}
 use Rattle.ipam_model.specs.declared.answer.Answer.{Answer}
 use Rattle.ipam_model.specs.declared.entry.Entry.{Entry}
 use Rattle.ipam_model.specs.declared.entry.Entry.TheVariants as entry
@@ -60,6 +60,11 @@ pub data Deed : Type 0 where
   Feeds : List (List ℕ) → (at : ℕ) → Deed
   -- the collection that waits is stopped
   Stops : Deed
+
+-- a second list that is early is not fed
+abbrev pub list_deed : (early : Bool) → (live : List (List ℕ)) (at : ℕ) → Deed
+list_deed true live at = Nothing
+list_deed false live at = Feeds live at
 
 -- a collection that waits is fed the list that it began with, at the time 0
 abbrev pub own_feed : Request → Deed

@@ -9,9 +9,9 @@ ghost use Rattle.ipam_model.specs.SoundRequest.{IsSoundCollect, IsSoundRequest};
 ghost use Rattle.ipam_shared.specs.Passes.{runs_in};
 ghost use Rattle.ipam_io.specs.Counts.{next_count};
 ghost use Rattle.ipam_serve.specs.Faults.{Halts, IfAnswered, IsWorn, OnWaits, OnWorn, answer_ran, spared_by};
-ghost use Rattle.ipam_serve.specs.Gains.{Took, asked_in, is_waiting};
+ghost use Rattle.ipam_serve.specs.Gains.{Took, asked_in, is_early, is_waiting};
 ghost use Rattle.ipam_serve.specs.Runs.{Does, DoesPart, FeedsList, WentOn};
-ghost use Rattle.ipam_serve.specs.Spans.{Begins, Calls, Feeds, IsTimeless, own_feed};
+ghost use Rattle.ipam_serve.specs.Spans.{Begins, Calls, Feeds, IsTimeless, list_deed, own_feed};
 ghost use Rattle.ipam_serve.specs.Turns.{Called};
 
 use crate::ran::{Broken, Ran};
@@ -193,7 +193,7 @@ pub fn run_feed<R: Wait, D: Keeper, G: Gate>(
         (record { pass = pass.old; turns = G.turns gate.old }) live.now at told
         (record { pass = pass.new; turns = G.turns gate.new })) }
     ensures broken { OnErr result (DoesPart
-        (record { pass = pass.old; turns = G.turns gate.old }) (Feeds live.now at) 1
+        (record { pass = pass.old; turns = G.turns gate.old }) (list_deed (is_early (runs_in pass.old) at) live.now at) 1
         (record { pass = pass.new; turns = G.turns gate.new })) }
     ensures can_answer { (request : Asked) → asked_in (runs_in pass.old) ≡ Some request
         → IfOk result (λ told. IfSome told (CanAnswer request)) }

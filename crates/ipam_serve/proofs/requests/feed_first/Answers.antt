@@ -1,5 +1,5 @@
 use Rattle.ipam_shared.specs.Passes.{runs_in}
-use Rattle.ipam_serve.proofs.Running.{never-early}
+use Rattle.ipam_serve.proofs.Running.{due-own, never-early}
 use Rattle.ipam_serve.proofs.requests.feed_first.Goals as goal
 
 pub unreachable-requires : goal.unreachable-requires
@@ -16,4 +16,6 @@ pub returns-in-Ok-Some-clause-can_answer : goal.returns-in-Ok-Some-clause-can_an
 returns-in-Ok-Some-clause-can_answer g c = rw c.in-Ok-Some.field-0-is at (c.in-Ok-Some.ensures.can_answer _ c.requires.asked)
 
 pub returns-in-Err-clause-broken : goal.returns-in-Err-clause-broken
-returns-in-Err-clause-broken g c = rw (← c.as_slice-live.ensures) c.in-Err.ensures.broken
+returns-in-Err-clause-broken g c =
+    rw (← c.as_slice-live.ensures)
+    (rw (due-own (runs_in c.args.pass.now) c.args.asked.now c.requires.asked c.requires.timeless) at c.in-Err.ensures.broken)
