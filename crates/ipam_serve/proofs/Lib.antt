@@ -1,0 +1,8 @@
+-- What a session's turns, lines and whole come to.
+pub mod Entries
+pub mod Slots
+pub mod Turning
+pub mod Coming
+pub mod Running
+pub mod Going
+pub mod LineParts

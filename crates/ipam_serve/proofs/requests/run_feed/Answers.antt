@@ -1,0 +1,32 @@
+use Rattle.std.proofs.Common.{◌∙◌}
+use Rattle.ipam_serve.proofs.Going.{fed-broken, fed-found, fed-runs, feeds-early}
+use Rattle.ipam_serve.proofs.Running.{not-begun}
+use Rattle.ipam_serve.proofs.requests.run_feed.Goals as goal
+
+pub run_fed-requires-clause-runs : goal.run_fed-requires-clause-runs
+run_fed-requires-clause-runs g c =
+    (fed-runs c.args.pass.now c.feed.new.pass c.args.live.now c.args.at c.requires.waits (rw c.in-Ok-Fed.field-0-is at c.in-Ok-Fed.ensures.fed)).1
+
+pub returns-in-Ok-Fed-clause-fed : goal.returns-in-Ok-Fed-clause-fed
+returns-in-Ok-Fed-clause-fed g c =
+    fed-found (record { pass = c.args.pass.now; turns = g.G.Gate.turns c.args.gate.now }) c.feed.new.pass (record { pass = c.run_fed.new.pass; turns = g.G.Gate.turns c.run_fed.new.gate })
+    c.args.live.now c.args.at c.run_fed.result (rw c.in-Ok-Fed.field-0-is at c.in-Ok-Fed.ensures.fed) c.run_fed.ensures.ran
+
+pub returns-in-Ok-Fed-clause-broken : goal.returns-in-Ok-Fed-clause-broken
+returns-in-Ok-Fed-clause-broken g c =
+    fed-broken (record { pass = c.args.pass.now; turns = g.G.Gate.turns c.args.gate.now }) c.feed.new.pass (record { pass = c.run_fed.new.pass; turns = g.G.Gate.turns c.run_fed.new.gate })
+    c.args.live.now c.args.at c.run_fed.result (rw c.in-Ok-Fed.field-0-is at c.in-Ok-Fed.ensures.fed) c.run_fed.ensures.broken
+
+pub returns-in-Ok-Fed-clause-can_answer : goal.returns-in-Ok-Fed-clause-can_answer
+returns-in-Ok-Fed-clause-can_answer g c request asked =
+    c.run_fed.ensures.can_answer request
+    ((fed-runs c.args.pass.now c.feed.new.pass c.args.live.now c.args.at c.requires.waits (rw c.in-Ok-Fed.field-0-is at c.in-Ok-Fed.ensures.fed)).0 ∙ asked)
+
+pub returns-in-Ok-TooSoon-clause-fed : goal.returns-in-Ok-TooSoon-clause-fed
+returns-in-Ok-TooSoon-clause-fed g c =
+    feeds-early (record { pass = c.args.pass.now; turns = g.G.Gate.turns c.args.gate.now }) c.feed.new.pass c.args.live.now c.args.at
+    (rw c.in-Ok-TooSoon.field-0-is at c.in-Ok-TooSoon.ensures.fed)
+
+pub returns-in-Err-clause-broken : goal.returns-in-Err-clause-broken
+returns-in-Err-clause-broken g c =
+    not-begun (record { pass = c.args.pass.now; turns = g.G.Gate.turns c.args.gate.now }) c.feed.new.pass _ c.in-Err.ensures.not_fed

@@ -1,0 +1,17 @@
+use Rattle.std.proofs.Common.{◌≡◌, None, IsSome}
+use Rattle.ipam_shared.specs.Passes.{runs_in}
+use Rattle.ipam_serve.specs.Gains.{asked_in}
+use Rattle.ipam_serve.specs.Runs.{WentOn}
+use Rattle.ipam_serve.proofs.requests.run_on.Given as goal
+
+abbrev pub invariant-loop-ran : goal.invariant-loop-ran
+invariant-loop-ran g l = record {
+  far : WentOn (record { pass = l.initial.pass; turns = g.G.Gate.turns l.initial.gate }) None 0 (record { pass = l.pass; turns = g.G.Gate.turns l.gate });
+  runs : IsSome (runs_in l.pass);
+  asked : asked_in (runs_in l.pass) ≡ asked_in (runs_in l.initial.pass);
+  stops : g.G.Gate.stops l.gate ≡ g.G.Gate.stops l.initial.gate;
+}
+
+-- how many turns are left
+abbrev pub decreases-loop-ran : goal.decreases-loop-ran
+decreases-loop-ran g l = l.pass.left

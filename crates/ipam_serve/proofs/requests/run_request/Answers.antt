@@ -1,0 +1,35 @@
+use Rattle.ipam_serve.proofs.Going.{broken-begun, ran-begun, ran-idle, ran-waits}
+use Rattle.ipam_serve.proofs.Running.{begun-asked, not-begun, some-asked}
+use Rattle.ipam_serve.proofs.requests.run_request.Goals as goal
+
+pub run_on-requires-clause-runs : goal.run_on-requires-clause-runs
+run_on-requires-clause-runs g c =
+    some-asked _ c.args.request.now (begun-asked c.args.pass.now c.begin.new.pass c.args.request.now c.in-Ok.ensures.begun)
+
+pub returns-in-Ok-clause-ran : goal.returns-in-Ok-clause-ran
+returns-in-Ok-clause-ran g c =
+    ran-begun (record { pass = c.args.pass.now; turns = g.G.Gate.turns c.args.gate.now }) c.begin.new.pass (record { pass = c.run_on.new.pass; turns = g.G.Gate.turns c.run_on.new.gate })
+    c.args.request.now c.run_on.result c.in-Ok.ensures.begun c.run_on.ensures.ran
+
+pub returns-in-Ok-clause-broken : goal.returns-in-Ok-clause-broken
+returns-in-Ok-clause-broken g c =
+    broken-begun (record { pass = c.args.pass.now; turns = g.G.Gate.turns c.args.gate.now }) c.begin.new.pass (record { pass = c.run_on.new.pass; turns = g.G.Gate.turns c.run_on.new.gate })
+    c.args.request.now c.run_on.result c.in-Ok.ensures.begun c.run_on.ensures.broken
+
+pub returns-in-Ok-clause-can_answer : goal.returns-in-Ok-clause-can_answer
+returns-in-Ok-clause-can_answer g c =
+    c.run_on.ensures.can_answer c.args.request.now (begun-asked c.args.pass.now c.begin.new.pass c.args.request.now c.in-Ok.ensures.begun)
+
+pub returns-in-Ok-clause-idle : goal.returns-in-Ok-clause-idle
+returns-in-Ok-clause-idle g c =
+    ran-idle (record { pass = c.begin.new.pass; turns = g.G.Gate.turns c.args.gate.now }) (record { pass = c.run_on.new.pass; turns = g.G.Gate.turns c.run_on.new.gate })
+    c.run_on.result c.run_on.ensures.ran
+
+pub returns-in-Ok-clause-waits : goal.returns-in-Ok-clause-waits
+returns-in-Ok-clause-waits g c =
+    ran-waits (record { pass = c.begin.new.pass; turns = g.G.Gate.turns c.args.gate.now }) (record { pass = c.run_on.new.pass; turns = g.G.Gate.turns c.run_on.new.gate })
+    c.args.request.now c.run_on.result (begun-asked c.args.pass.now c.begin.new.pass c.args.request.now c.in-Ok.ensures.begun) c.run_on.ensures.ran c.run_on.ensures.waits
+
+pub returns-in-Err-clause-broken : goal.returns-in-Err-clause-broken
+returns-in-Err-clause-broken g c =
+    not-begun (record { pass = c.args.pass.now; turns = g.G.Gate.turns c.args.gate.now }) c.begin.new.pass _ c.in-Err.ensures.not_begun

@@ -1,0 +1,28 @@
+use Rattle.std.proofs.Common.{◌≤◌, Err, ap}
+use Rattle.ipam_serve.proofs.Coming.{called-so, on-err, sees-none, took-err, waits-called}
+use Rattle.ipam_serve.proofs.Turning.{took-rest}
+use Rattle.ipam_serve.proofs.turns.call.Goals as goal
+
+pub returns-then-left-lt2-clause-not_called : goal.returns-then-left-lt2-clause-not_called
+returns-then-left-lt2-clause-not_called g c = took-rest c.args.pass.now
+
+pub returns-in-Ok-clause-called : goal.returns-in-Ok-clause-called
+returns-in-Ok-clause-called g c =
+    let enough : 2 ≤ c.args.pass.now.left = rw (← c.left.ensures) c.if-left-lt2.false in
+    rw c.told.ensures
+    (called-so g.D.Keeper.faults c.in-Ok.ensures.turned.before c.in-Ok.ensures.turned.after c.args.pass.now c.turn.new.pass c.in-Ok.entry
+    c.in-Ok.ensures.turned.deed c.in-Ok.ensures.same c.in-Ok.ensures.seen c.in-Ok.ensures.left enough c.in-Ok.ensures.lawful.lawful)
+
+pub returns-in-Err-clause-called : goal.returns-in-Err-clause-called
+returns-in-Err-clause-called g c =
+    let enough : 2 ≤ c.args.pass.now.left = rw (← c.left.ensures) c.if-left-lt2.false in
+    let sees = sees-none c.args.pass.now c.turn.new.pass c.in-Err.fault c.in-Err.ensures.spent enough c.in-Err.ensures.seen in
+    waits-called c.args.pass.now c.turn.new.pass c.not_called.result _ c.not_called.ensures.waits
+    (λ e. (c.in-Err.ensures.waiting.0 (ap Err e)).1) c.in-Err.ensures.same sees
+    (took-err c.args.pass.now c.turn.new.pass c.in-Err.fault c.in-Err.ensures.spent enough c.in-Err.ensures.same c.in-Err.ensures.seen c.in-Err.ensures.left)
+
+pub returns-in-Err-clause-not_called : goal.returns-in-Err-clause-not_called
+returns-in-Err-clause-not_called g c =
+    let enough : 2 ≤ c.args.pass.now.left = rw (← c.left.ensures) c.if-left-lt2.false in
+    on-err c.not_called.result
+    (took-err c.args.pass.now c.turn.new.pass c.in-Err.fault c.in-Err.ensures.spent enough c.in-Err.ensures.same c.in-Err.ensures.seen c.in-Err.ensures.left)

@@ -1,0 +1,55 @@
+-- Why what runs is not brought to its end.
+use Rattle.std.specs.Prelude.{◌≡◌, ℕ, ⊤, ◌<◌, ◌≤◌, ◌^◌, ◌⊎◌, Option, Some, None, Result, Ok, Err}
+use Rattle.ipam_io.specs.Counts.{Rose}
+use Rattle.ipam_model.specs.declared.answer.Answer.{Answer}
+use Rattle.ipam_model.specs.History.{moment_of}
+use Rattle.ipam_shared.specs.PassValue.{PassValue}
+use Rattle.ipam_serve.specs.declared.ran.Broken.{Broken}
+use Rattle.ipam_serve.specs.declared.ran.Broken.TheVariants.{Halted, Worn, Memory}
+use Rattle.ipam_serve.specs.declared.ran.Ran.{Ran}
+use Rattle.ipam_serve.specs.declared.ran.Ran.TheVariants.{Answered, Waits}
+
+-- the answer, where what ran came to one
+abbrev pub answer_ran : Ran → Option Answer
+answer_ran (Answered told) = Some told
+answer_ran Waits = None
+
+-- how many of the turns were spared an entry: the one that found that it waits
+abbrev pub spared_by : Ran → ℕ
+spared_by (Answered told) = 0
+spared_by Waits = 1
+
+-- a fact where it waits
+abbrev pub OnWaits : Ran → Type 0 → Type 0
+OnWaits (Answered told) p = ⊤
+OnWaits Waits p = p
+
+-- a fact of the answer
+abbrev pub IfAnswered : Ran → (Answer → Type 0) → Type 0
+IfAnswered (Answered told) p = p told
+IfAnswered Waits p = ⊤
+
+-- the pass has too few turns left for one more and a last stop, or there are too many entries
+abbrev pub IsWorn : PassValue → Type 0
+IsWorn pass = (pass.left < 2) ⊎ (2 ^ 62 ≤ moment_of pass.base pass.seen)
+
+-- a fact where there were too few turns or too many entries
+abbrev pub OnWorn : {T : Type 0} → Result T Broken → Type 0 → Type 0
+OnWorn (Ok value) p = ⊤
+OnWorn (Err Halted) p = ⊤
+OnWorn (Err Worn) p = p
+OnWorn (Err Memory) p = ⊤
+
+-- no gate was passed, so none stopped it
+abbrev pub OnHalted : {T : Type 0} → Result T Broken → Type 0 → Type 0
+OnHalted (Ok value) p = ⊤
+OnHalted (Err Halted) p = p
+OnHalted (Err Worn) p = ⊤
+OnHalted (Err Memory) p = ⊤
+
+-- the gate stopped a pass exactly where it was halted
+abbrev pub Halts : {T : Type 0} → Result T Broken → (old new : ℕ) → Type 0
+Halts (Ok value) old new = new ≡ old
+Halts (Err Halted) old new = Rose old new
+Halts (Err Worn) old new = new ≡ old
+Halts (Err Memory) old new = new ≡ old

@@ -1,0 +1,7 @@
+-- What a session makes of its slot, line by line.
+pub mod Gains
+pub mod Spans
+pub mod Faults
+pub mod Turns
+pub mod Runs
+pub mod Lines

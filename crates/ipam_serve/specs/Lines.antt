@@ -1,0 +1,135 @@
+-- What a line has a session do, and what it is replied.
+use Rattle.std.specs.Prelude.{◌≡◌, ◌⊎◌, ℕ, Bool, true, false, List, [], ◌∷◌, Option, Some, None, option_map, if◌then◌else◌}
+use Rattle.ipam_io.specs.Readings.{prepend_known_readings}
+use Rattle.ipam_model.specs.declared.answer.Answer.{Answer}
+use Rattle.ipam_model.specs.declared.request.Request.{Request}
+use Rattle.ipam_model.specs.declared.request.Request.TheVariants.{Collect}
+use Rattle.ipam_model.specs.Cluster.{Running}
+use Rattle.ipam_session.specs.declared.call.CallBegun.{CallBegun}
+use Rattle.ipam_session.specs.declared.call.CallBegun.TheVariants.{Told, Runs}
+use Rattle.ipam_session.specs.declared.replies.Reply.{Reply}
+use Rattle.ipam_session.specs.declared.route.Since.TheVariants.{Compacted}
+use Rattle.ipam_session.specs.declared.wish.Wish.{Wish}
+use Rattle.ipam_session.specs.declared.wish.Wish.TheVariants as wish
+use Rattle.cni_types.specs.declared.version.Version.{Version}
+use Rattle.ipam_session.specs.declared.refusal.Refusal.TheVariants.{TooSoon}
+use Rattle.ipam_session.specs.declared.replies.Reply.TheVariants as reply
+use Rattle.ipam_session.specs.Calls.{call_begun, call_told}
+use Rattle.ipam_session.specs.Lines.{Standing, called, reply_unless_unread}
+use Rattle.ipam_session.specs.Wishes.{wish_of_line}
+use Rattle.ipam_shared.specs.Passes.{runs_in}
+use Rattle.ipam_serve.specs.declared.ran.Ran.{Ran}
+use Rattle.ipam_serve.specs.declared.ran.Ran.TheVariants.{Answered, Waits}
+use Rattle.ipam_serve.specs.Gains.{is_early, is_waiting}
+use Rattle.ipam_serve.specs.Runs.{Does, DoesPart, Taker}
+use Rattle.ipam_serve.specs.Spans.{Begins, Calls, Deed, Nothing, Stops, list_deed}
+
+-- A session serves no routes yet: a line that asks for them asks nothing.
+abbrev pub served : Option Wish → Option Wish
+served None = None
+served (Some (wish.Cni env stdin)) = Some (wish.Cni env stdin)
+served (Some (wish.Request request)) = Some (wish.Request request)
+served (Some (wish.Feed live)) = Some (wish.Feed live)
+served (Some wish.Stop) = Some wish.Stop
+served (Some wish.Routes) = None
+served (Some (wish.RoutesSince revision)) = None
+
+-- what the line asks of a session
+abbrev pub asked_by : List ℕ → Option Wish
+asked_by line = served (wish_of_line line)
+
+-- ---- what is done
+
+-- the request as it is begun: the time of a collection is the clock's
+abbrev pub timed : (at : ℕ) → Request → Request
+timed at (Collect asked) = Collect (record asked { at = at })
+timed at other = other
+
+abbrev pub is_collect : Request → Bool
+is_collect (Collect asked) = true
+is_collect other = false
+
+-- what a CNI call has the session do
+abbrev pub deed_of_call : Option CallBegun → Deed
+deed_of_call None = Nothing
+deed_of_call (Some (Told status text)) = Nothing
+deed_of_call (Some (Runs request version)) = Calls request
+
+-- what is done for a wish where this runs in the slot, at this time by the clock
+abbrev pub deed_of : Option Wish → Option Running → (at : ℕ) → Deed
+deed_of None runs at = Nothing
+deed_of (Some (wish.Cni env stdin)) runs at =
+    if is_waiting runs then Nothing else deed_of_call (call_begun env stdin)
+deed_of (Some (wish.Request request)) runs at = if is_waiting runs then Nothing else Begins (timed at request)
+deed_of (Some (wish.Feed live)) runs at =
+    if is_waiting runs then list_deed (is_early runs at) live at else Nothing
+deed_of (Some wish.Stop) runs at = if is_waiting runs then Stops else Nothing
+deed_of (Some wish.Routes) runs at = Nothing
+deed_of (Some (wish.RoutesSince revision)) runs at = Nothing
+
+-- The clock is read for a collection that is to be begun, and for a second list while one waits.
+abbrev pub reads_clock : Option Wish → Option Running → Bool
+reads_clock None runs = false
+reads_clock (Some (wish.Cni env stdin)) runs = false
+reads_clock (Some (wish.Request request)) runs = if is_waiting runs then false else is_collect request
+reads_clock (Some (wish.Feed live)) runs = is_waiting runs
+reads_clock (Some wish.Stop) runs = false
+reads_clock (Some wish.Routes) runs = false
+reads_clock (Some (wish.RoutesSince revision)) runs = false
+
+abbrev pub reading : Bool → (at : ℕ) → List ℕ
+reading read at = if read then at ∷ [] else []
+
+-- ---- replies
+
+-- on what the reply rests
+abbrev pub standing : (old new : Option Running) (at : ℕ) → Option Answer → Standing
+standing old new at answer = record {
+  waited = is_waiting old;
+  waits = is_waiting new;
+  too_soon = is_early old at;
+  answer = answer;
+  revision = 0;
+  routes = [];
+  since = λ revision. Compacted 0;
+}
+
+-- ---- a line
+
+-- What a session serves a line with: what takes turns, and the readings that its clock is still to give,
+-- where the clock tells them.
+pub record Server : Type 0 where
+  pub taker : Taker
+  pub ahead : Option (ℕ → ℕ)
+
+-- a wish was done, and this is its reply
+pub record Replies (asked : Option Wish) (reply : Reply) (old new : Server) : Type 0 where
+  pub at : ℕ
+  pub answer : Option Answer
+  pub does : Does old.taker (deed_of asked (runs_in old.taker.pass) at) answer 1 new.taker
+  pub reads : old.ahead ≡ prepend_known_readings (reading (reads_clock asked (runs_in old.taker.pass)) at) new.ahead
+  pub replied : reply_unless_unread asked (standing (runs_in old.taker.pass) (runs_in new.taker.pass) at answer) ≡ Some reply
+
+-- a wish was done as far as it came
+pub record Breaks (asked : Option Wish) (old new : Server) : Type 0 where
+  pub at : ℕ
+  pub does : DoesPart old.taker (deed_of asked (runs_in old.taker.pass) at) 2 new.taker
+  pub reads : (new.ahead ≡ old.ahead)
+      ⊎ (old.ahead ≡ prepend_known_readings (reading (reads_clock asked (runs_in old.taker.pass)) at) new.ahead)
+
+-- ---- parts of a line
+
+abbrev pub reply_ran : Ran → Reply
+reply_ran (Answered told) = reply.Answered told
+reply_ran Waits = reply.Waiting
+
+-- no answer: the list came too early
+abbrev pub reply_fed : Option Answer → Reply
+reply_fed (Some told) = reply.Answered told
+reply_fed None = reply.Refused TooSoon
+
+-- the request of a CNI call was answered, and this tells so
+pub record TellsRun (request : Request) (version : Version) (old : Taker) (reply : Reply) (new : Taker) : Type 0 where
+  pub told : Answer
+  pub does : Does old (Calls request) (Some told) 1 new
+  pub tells : option_map called (call_told request version told) ≡ Some reply

@@ -1,0 +1,45 @@
+-- What a session's turns come to.
+use Rattle.std.specs.Prelude.{◌≡◌, ℕ, true, false, List, [], ◌∷◌, Option, Some, None, option_map}
+use Rattle.ipam_model.specs.declared.answer.Answer.{Answer}
+use Rattle.ipam_model.specs.declared.entry.Called.{Called as OneCall}
+use Rattle.ipam_model.specs.declared.entry.Entry.{Entry}
+use Rattle.ipam_model.specs.declared.entry.Entry.TheVariants as entry
+use Rattle.ipam_model.specs.declared.request.Request.{Request}
+use Rattle.ipam_model.specs.CanAnswer.{CanAnswer}
+use Rattle.ipam_shared.specs.PassValue.{PassValue}
+use Rattle.ipam_shared.specs.Passes.{runs_in}
+use Rattle.ipam_serve.specs.declared.ran.Ran.{Ran}
+use Rattle.ipam_serve.specs.declared.ran.Ran.TheVariants.{Answered, Waits}
+use Rattle.ipam_serve.specs.declared.turns.Feeding.{Feeding}
+use Rattle.ipam_serve.specs.declared.turns.Feeding.TheVariants as feeding
+use Rattle.ipam_serve.specs.Gains.{Took, asked_in, is_early, is_waiting}
+
+-- what an entry tells of a call's answer
+abbrev pub answer_told : Entry → Option Ran
+answer_told (entry.Called c) = option_map Answered c.answer
+answer_told (entry.Began slot request) = None
+answer_told (entry.Fed slot at live) = None
+answer_told (entry.Stopped slot) = None
+
+-- a call was made, which has this answer or none
+pub record Made (old : PassValue) (answer : Option Answer) (new : PassValue) : Type 0 where
+  pub made : OneCall
+  pub own : made.slot ≡ old.slot
+  pub answers : made.answer ≡ answer
+  pub took : Took old (entry.Called made ∷ []) 0 new
+
+-- what a turn came to for what runs: a call without an answer, one with an answer that its request can
+-- have, or that it waits
+abbrev pub Called : PassValue → Option Ran → PassValue → Type 0
+Called old None new = Made old None new
+Called old (Some (Answered told)) new =
+    Made old (Some told) new
+    × ((request : Request) → asked_in (runs_in old) ≡ Some request → CanAnswer request told)
+Called old (Some Waits) new = Took old [] 1 new × (is_waiting (runs_in new) ≡ true)
+
+-- what a turn came to for a second list
+abbrev pub Fed : PassValue → List (List ℕ) → (at : ℕ) → Feeding → PassValue → Type 0
+Fed old live at feeding.Fed new =
+    Took old (entry.Fed old.slot at live ∷ []) 0 new × (is_early (runs_in old) at ≡ false)
+Fed old live at feeding.TooSoon new =
+    Took old [] 1 new × (is_early (runs_in old) at ≡ true) × (is_waiting (runs_in new) ≡ true)

@@ -1,0 +1,15 @@
+//! One session of the node daemon: lines are read, what each asks is done in the session's slot of a
+//! shared cluster, and each is replied to.
+#![tactic(auto)]
+
+mod lines;
+mod ran;
+mod requests;
+mod turns;
+
+pub use ipam_io::{Clock, Gate, Link};
+pub use ipam_session::{Refusal, Reply};
+pub use ipam_shared::{Keeper, Pass, Shared};
+pub use lines::answer_line;
+pub use ran::{Broken, Ran};
+pub use requests::{run_call, run_feed, run_request};

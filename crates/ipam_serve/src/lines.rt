@@ -1,0 +1,363 @@
+//! A line is answered.
+ghost use Rattle.std.specs.Prelude.{◌≡◌, ℕ, Option, Some, None, Err, true, IfOk, OnOk, OnErr, IsTrue, option_map};
+ghost use Rattle.std.specs.List.{All};
+ghost use Rattle.ipam_io.specs.Readings.{prepend_known_readings};
+ghost use Rattle.ipam_records.specs.Sound.{IsHandleId};
+ghost use Rattle.ipam_model.specs.SoundRequest.{IsSoundRequest};
+ghost use Rattle.ipam_model.specs.CanAnswer.{CanAnswer};
+ghost use Rattle.ipam_session.specs.Calls.{call_told, is_of_call};
+ghost use Rattle.ipam_session.specs.Lines.{called};
+ghost use Rattle.ipam_session.specs.Wishes.{IsSoundWish};
+ghost use Rattle.ipam_serve.specs.Spans.{Calls, IsTimeless};
+ghost use Rattle.ipam_session.specs.declared.wish.Wish.TheVariants as wish;
+ghost use Rattle.ipam_shared.specs.Passes.{runs_in};
+ghost use Rattle.ipam_serve.specs.Faults.{Halts, IsWorn, OnHalted, OnWorn};
+ghost use Rattle.ipam_serve.specs.Gains.{is_waiting};
+ghost use Rattle.ipam_serve.specs.Lines.{Breaks, Replies, TellsRun, asked_by, is_collect, reading, reply_fed, reply_ran, served, timed};
+ghost use Rattle.ipam_serve.specs.Runs.{DoesPart, IsAtRest};
+
+use crate::ran::{Broken, Ran};
+use crate::requests::{run_call, run_feed, run_request};
+use crate::turns::stop;
+use cni_types::Version;
+use ipam_io::{Clock, Gate};
+use ipam_model::{Answer, Request};
+use ipam_session::{AskFault, CallBegun, Refusal, Reply, Wish, begin_call, read_wish, tell_call};
+use ipam_shared::{Keeper, Pass, Shared};
+use ipam_text::Text;
+use std::alloc::Global;
+use std::sync::Wait;
+
+/// Does what the line asks, in the pass's slot, and gives its reply. What is begun goes on to its
+/// answer, or until a collection waits. On `Err` what was begun still runs.
+pub fn answer_line<R: Wait, D: Keeper, G: Gate, C: Clock>(
+    rt: &R,
+    alloc: Global,
+    shared: &Shared<D>,
+    pass: &mut Pass,
+    gate: &mut G,
+    clock: &mut C,
+    line: &[u8],
+) -> Result<Reply, Broken>
+    requires lock { pass.old.lock ≡ shared.now }
+    requires rests { IsAtRest (runs_in pass.old) }
+    ensures replied { IfOk result (λ reply. Replies (asked_by line.now) reply
+        (record { taker = record { pass = pass.old; turns = G.turns gate.old }; ahead = C.ahead clock.old })
+        (record { taker = record { pass = pass.new; turns = G.turns gate.new }; ahead = C.ahead clock.new })) }
+    ensures broken { OnErr result (Breaks (asked_by line.now)
+        (record { taker = record { pass = pass.old; turns = G.turns gate.old }; ahead = C.ahead clock.old })
+        (record { taker = record { pass = pass.new; turns = G.turns gate.new }; ahead = C.ahead clock.new })) }
+    ensures rests { OnOk result (IsAtRest (runs_in pass.new)) }
+    ensures worn { OnWorn result (IsWorn pass.new) }
+    ensures stops { Halts result (G.stops gate.old) (G.stops gate.new) }
+{
+    match read_wish(alloc, line) {
+        Ok(wish) => answer_wish(rt, alloc, shared, pass, gate, clock, wish),
+        Err(AskFault::Unreadable) => Ok(Reply::Refused(Refusal::Line)),
+        Err(AskFault::Memory) => Err(Broken::Memory),
+    }
+}
+
+fn answer_wish<R: Wait, D: Keeper, G: Gate, C: Clock>(
+    rt: &R,
+    alloc: Global,
+    shared: &Shared<D>,
+    pass: &mut Pass,
+    gate: &mut G,
+    clock: &mut C,
+    wish: Wish,
+) -> Result<Reply, Broken>
+    requires lock { pass.old.lock ≡ shared.now }
+    requires rests { IsAtRest (runs_in pass.old) }
+    requires sound { IsSoundWish wish }
+    ensures replied { IfOk result (λ reply. Replies (served (Some wish)) reply
+        (record { taker = record { pass = pass.old; turns = G.turns gate.old }; ahead = C.ahead clock.old })
+        (record { taker = record { pass = pass.new; turns = G.turns gate.new }; ahead = C.ahead clock.new })) }
+    ensures broken { OnErr result (Breaks (served (Some wish))
+        (record { taker = record { pass = pass.old; turns = G.turns gate.old }; ahead = C.ahead clock.old })
+        (record { taker = record { pass = pass.new; turns = G.turns gate.new }; ahead = C.ahead clock.new })) }
+    ensures rests { OnOk result (IsAtRest (runs_in pass.new)) }
+    ensures worn { OnWorn result (IsWorn pass.new) }
+    ensures stops { Halts result (G.stops gate.old) (G.stops gate.new) }
+{
+    match wish {
+        Wish::Cni(env, stdin) => answer_call(
+            rt,
+            alloc,
+            shared,
+            pass,
+            gate,
+            clock,
+            env.as_slice(),
+            stdin.as_str(),
+        ),
+        Wish::Request(mut request) => {
+            let reply = answer_request(rt, alloc, shared, pass, gate, clock, &mut request);
+            drop(request);
+            reply
+        }
+        Wish::Feed(live) => answer_feed(rt, alloc, shared, pass, gate, clock, live.as_slice()),
+        Wish::Stop => answer_stop(rt, shared, pass),
+        Wish::Routes => Ok(Reply::Refused(Refusal::Line)),
+        Wish::RoutesSince(_) => Ok(Reply::Refused(Refusal::Line)),
+    }
+}
+
+/// A CNI call.
+fn answer_call<R: Wait, D: Keeper, G: Gate, C: Clock>(
+    rt: &R,
+    alloc: Global,
+    shared: &Shared<D>,
+    pass: &mut Pass,
+    gate: &mut G,
+    clock: &mut C,
+    env: &[(Text, Text)],
+    stdin: &str,
+) -> Result<Reply, Broken>
+    requires lock { pass.old.lock ≡ shared.now }
+    requires rests { IsAtRest (runs_in pass.old) }
+    ensures replied { IfOk result (λ reply. Replies (Some (wish.Cni env.now stdin.now)) reply
+        (record { taker = record { pass = pass.old; turns = G.turns gate.old }; ahead = C.ahead clock.old })
+        (record { taker = record { pass = pass.new; turns = G.turns gate.new }; ahead = C.ahead clock.new })) }
+    ensures broken { OnErr result (Breaks (Some (wish.Cni env.now stdin.now))
+        (record { taker = record { pass = pass.old; turns = G.turns gate.old }; ahead = C.ahead clock.old })
+        (record { taker = record { pass = pass.new; turns = G.turns gate.new }; ahead = C.ahead clock.new })) }
+    ensures rests { OnOk result (IsAtRest (runs_in pass.new)) }
+    ensures worn { OnWorn result (IsWorn pass.new) }
+    ensures stops { Halts result (G.stops gate.old) (G.stops gate.new) }
+{
+    if pass.running() {
+        return Ok(Reply::Refused(Refusal::Waiting));
+    }
+    match begin_call(alloc, env, stdin) {
+        Ok(CallBegun::Told(status, text)) => Ok(Reply::Called(status, text)),
+        Ok(CallBegun::Runs(request, version)) => {
+            tell_run(rt, alloc, shared, pass, gate, &request, version)
+        }
+        Err(_) => Err(Broken::Memory),
+    }
+}
+
+/// A request.
+fn answer_request<R: Wait, D: Keeper, G: Gate, C: Clock>(
+    rt: &R,
+    alloc: Global,
+    shared: &Shared<D>,
+    pass: &mut Pass,
+    gate: &mut G,
+    clock: &mut C,
+    request: &mut Request,
+) -> Result<Reply, Broken>
+    requires lock { pass.old.lock ≡ shared.now }
+    requires rests { IsAtRest (runs_in pass.old) }
+    requires sound { IsSoundRequest request.old }
+    ensures replied { IfOk result (λ reply. Replies (Some (wish.Request request.old)) reply
+        (record { taker = record { pass = pass.old; turns = G.turns gate.old }; ahead = C.ahead clock.old })
+        (record { taker = record { pass = pass.new; turns = G.turns gate.new }; ahead = C.ahead clock.new })) }
+    ensures broken { OnErr result (Breaks (Some (wish.Request request.old))
+        (record { taker = record { pass = pass.old; turns = G.turns gate.old }; ahead = C.ahead clock.old })
+        (record { taker = record { pass = pass.new; turns = G.turns gate.new }; ahead = C.ahead clock.new })) }
+    ensures rests { OnOk result (IsAtRest (runs_in pass.new)) }
+    ensures worn { OnWorn result (IsWorn pass.new) }
+    ensures stops { Halts result (G.stops gate.old) (G.stops gate.new) }
+{
+    if pass.running() {
+        return Ok(Reply::Refused(Refusal::Waiting));
+    }
+    let _at = set_time(clock, request);
+    match run_request(rt, alloc, shared, pass, gate, request) {
+        Ok(ran) => Ok(reply_ran(ran)),
+        Err(broken) => Err(broken),
+    }
+}
+
+/// A second list.
+fn answer_feed<R: Wait, D: Keeper, G: Gate, C: Clock>(
+    rt: &R,
+    alloc: Global,
+    shared: &Shared<D>,
+    pass: &mut Pass,
+    gate: &mut G,
+    clock: &mut C,
+    live: &[Text],
+) -> Result<Reply, Broken>
+    requires lock { pass.old.lock ≡ shared.now }
+    requires rests { IsAtRest (runs_in pass.old) }
+    requires sound { All IsHandleId live.now }
+    ensures replied { IfOk result (λ reply. Replies (Some (wish.Feed live.now)) reply
+        (record { taker = record { pass = pass.old; turns = G.turns gate.old }; ahead = C.ahead clock.old })
+        (record { taker = record { pass = pass.new; turns = G.turns gate.new }; ahead = C.ahead clock.new })) }
+    ensures broken { OnErr result (Breaks (Some (wish.Feed live.now))
+        (record { taker = record { pass = pass.old; turns = G.turns gate.old }; ahead = C.ahead clock.old })
+        (record { taker = record { pass = pass.new; turns = G.turns gate.new }; ahead = C.ahead clock.new })) }
+    ensures rests { OnOk result (IsAtRest (runs_in pass.new)) }
+    ensures worn { OnWorn result (IsWorn pass.new) }
+    ensures stops { Halts result (G.stops gate.old) (G.stops gate.new) }
+{
+    if pass.running() {
+        return feed_waiting(rt, alloc, shared, pass, gate, clock, live);
+    }
+    Ok(Reply::Refused(Refusal::NotWaiting))
+}
+
+/// A second list of the collection that waits.
+fn feed_waiting<R: Wait, D: Keeper, G: Gate, C: Clock>(
+    rt: &R,
+    alloc: Global,
+    shared: &Shared<D>,
+    pass: &mut Pass,
+    gate: &mut G,
+    clock: &mut C,
+    live: &[Text],
+) -> Result<Reply, Broken>
+    requires lock { pass.old.lock ≡ shared.now }
+    requires waits { is_waiting (runs_in pass.old) ≡ true }
+    requires sound { All IsHandleId live.now }
+    ensures replied { IfOk result (λ reply. Replies (Some (wish.Feed live.now)) reply
+        (record { taker = record { pass = pass.old; turns = G.turns gate.old }; ahead = C.ahead clock.old })
+        (record { taker = record { pass = pass.new; turns = G.turns gate.new }; ahead = C.ahead clock.new })) }
+    ensures broken { OnErr result (Breaks (Some (wish.Feed live.now))
+        (record { taker = record { pass = pass.old; turns = G.turns gate.old }; ahead = C.ahead clock.old })
+        (record { taker = record { pass = pass.new; turns = G.turns gate.new }; ahead = C.ahead clock.new })) }
+    ensures rests { OnOk result (IsAtRest (runs_in pass.new)) }
+    ensures worn { OnWorn result (IsWorn pass.new) }
+    ensures stops { Halts result (G.stops gate.old) (G.stops gate.new) }
+{
+    let at = clock.now();
+    match run_feed(rt, alloc, shared, pass, gate, live, at) {
+        Ok(told) => Ok(reply_fed(told)),
+        Err(broken) => Err(broken),
+    }
+}
+
+/// A stop.
+fn answer_stop<R: Wait, D: Keeper>(
+    rt: &R,
+    shared: &Shared<D>,
+    pass: &mut Pass,
+) -> Result<Reply, Broken>
+    requires lock { pass.old.lock ≡ shared.now }
+    requires rests { IsAtRest (runs_in pass.old) }
+    ensures replied { (turns : Option ℕ) (ahead : Option (ℕ → ℕ)) → IfOk result (λ reply. Replies (Some wish.Stop) reply
+        (record { taker = record { pass = pass.old; turns = turns }; ahead = ahead })
+        (record { taker = record { pass = pass.new; turns = turns }; ahead = ahead })) }
+    ensures broken { (turns : Option ℕ) (ahead : Option (ℕ → ℕ)) → OnErr result (Breaks (Some wish.Stop)
+        (record { taker = record { pass = pass.old; turns = turns }; ahead = ahead })
+        (record { taker = record { pass = pass.new; turns = turns }; ahead = ahead })) }
+    ensures rests { OnOk result (IsAtRest (runs_in pass.new)) }
+    ensures worn { OnWorn result (IsWorn pass.new) }
+    ensures not_halted { OnHalted result ⊥ }
+{
+    if pass.running() {
+        return stop_waiting(rt, shared, pass);
+    }
+    Ok(Reply::Refused(Refusal::NotWaiting))
+}
+
+/// A stop of the collection that waits.
+fn stop_waiting<R: Wait, D: Keeper>(
+    rt: &R,
+    shared: &Shared<D>,
+    pass: &mut Pass,
+) -> Result<Reply, Broken>
+    requires lock { pass.old.lock ≡ shared.now }
+    requires waits { is_waiting (runs_in pass.old) ≡ true }
+    ensures replied { (turns : Option ℕ) (ahead : Option (ℕ → ℕ)) → IfOk result (λ reply. Replies (Some wish.Stop) reply
+        (record { taker = record { pass = pass.old; turns = turns }; ahead = ahead })
+        (record { taker = record { pass = pass.new; turns = turns }; ahead = ahead })) }
+    ensures broken { (turns : Option ℕ) (ahead : Option (ℕ → ℕ)) → OnErr result (Breaks (Some wish.Stop)
+        (record { taker = record { pass = pass.old; turns = turns }; ahead = ahead })
+        (record { taker = record { pass = pass.new; turns = turns }; ahead = ahead })) }
+    ensures rests { OnOk result (IsAtRest (runs_in pass.new)) }
+    ensures worn { OnWorn result (IsWorn pass.new) }
+    ensures not_halted { OnHalted result ⊥ }
+{
+    match stop(rt, shared, pass) {
+        Ok(()) => Ok(Reply::Stopped),
+        Err(broken) => Err(broken),
+    }
+}
+
+/// Runs the request of a CNI call, and tells its answer.
+fn tell_run<R: Wait, D: Keeper, G: Gate>(
+    rt: &R,
+    alloc: Global,
+    shared: &Shared<D>,
+    pass: &mut Pass,
+    gate: &mut G,
+    request: &Request,
+    version: Version,
+) -> Result<Reply, Broken>
+    requires lock { pass.old.lock ≡ shared.now }
+    requires idle { runs_in pass.old ≡ None }
+    requires sound { IsSoundRequest request.now }
+    requires of_call { IsTrue (is_of_call request.now) }
+    requires timeless { IsTimeless request.now }
+    ensures told { IfOk result (λ reply. TellsRun request.now version
+        (record { pass = pass.old; turns = G.turns gate.old }) reply
+        (record { pass = pass.new; turns = G.turns gate.new })) }
+    ensures broken { OnErr result (DoesPart
+        (record { pass = pass.old; turns = G.turns gate.old }) (Calls request.now) 2
+        (record { pass = pass.new; turns = G.turns gate.new })) }
+    ensures idle { OnOk result (runs_in pass.new ≡ None) }
+    ensures worn { OnWorn result (IsWorn pass.new) }
+    ensures stops { Halts result (G.stops gate.old) (G.stops gate.new) }
+{
+    match run_call(rt, alloc, shared, pass, gate, request) {
+        Ok(answer) => call_reply(alloc, request, &answer, version),
+        Err(broken) => Err(broken),
+    }
+}
+
+fn call_reply(
+    alloc: Global,
+    request: &Request,
+    answer: &Answer,
+    version: Version,
+) -> Result<Reply, Broken>
+    requires of_call { IsTrue (is_of_call request.now) }
+    requires can_answer { CanAnswer request.now answer.now }
+    ensures told { IfOk result (λ reply.
+        option_map called (call_told request.now version answer.now) ≡ Some reply) }
+    ensures memory { OnErr result (result ≡ Err Broken.Memory) }
+{
+    match tell_call(alloc, request, answer, version) {
+        Ok((status, text)) => Ok(Reply::Called(status, text)),
+        Err(_) => Err(Broken::Memory),
+    }
+}
+
+/// Gives a collection the clock's time, and tells it.
+fn set_time<C: Clock>(clock: &mut C, request: &mut Request) -> u64
+    ensures timed { request.new ≡ timed result request.old }
+    ensures reads { C.ahead clock.old
+        ≡ prepend_known_readings (reading (is_collect request.old) result) (C.ahead clock.new) }
+    ensures sound { IsSoundRequest request.old → IsSoundRequest request.new }
+{
+    match request {
+        Request::Collect(asked) => {
+            let at = clock.now();
+            asked.at = at;
+            at
+        }
+        _ => 0,
+    }
+}
+
+fn reply_ran(ran: Ran) -> Reply
+    ensures { result ≡ reply_ran ran }
+{
+    match ran {
+        Ran::Answered(answer) => Reply::Answered(answer),
+        Ran::Waits => Reply::Waiting,
+    }
+}
+
+fn reply_fed(told: Option<Answer>) -> Reply
+    ensures { result ≡ reply_fed told }
+{
+    match told {
+        Some(answer) => Reply::Answered(answer),
+        None => Reply::Refused(Refusal::TooSoon),
+    }
+}

@@ -1,0 +1,304 @@
+//! What a session's slot is given goes on to its answer. The gate is passed before each call.
+ghost use Rattle.std.specs.Prelude.{◌≡◌, ◌⊎◌, [], ◌∷◌, Some, None, Err, true, IsSome, IfOk, OnOk, OnErr, IfSome, option_map};
+ghost use Rattle.std.specs.List.{All};
+ghost use Rattle.ipam_records.specs.Sound.{IsHandleId};
+ghost use Rattle.ipam_model.specs.declared.request.Request.{Request as Asked};
+ghost use Rattle.ipam_model.specs.declared.request.Request.TheVariants.{Collect};
+ghost use Rattle.ipam_model.specs.CanAnswer.{CanAnswer};
+ghost use Rattle.ipam_model.specs.SoundRequest.{IsSoundCollect, IsSoundRequest};
+ghost use Rattle.ipam_shared.specs.Passes.{runs_in};
+ghost use Rattle.ipam_io.specs.Counts.{next_count};
+ghost use Rattle.ipam_serve.specs.Faults.{Halts, IfAnswered, IsWorn, OnWaits, OnWorn, answer_ran, spared_by};
+ghost use Rattle.ipam_serve.specs.Gains.{Took, asked_in, is_early, is_waiting};
+ghost use Rattle.ipam_serve.specs.Runs.{Does, DoesPart, FeedsList, WentOn};
+ghost use Rattle.ipam_serve.specs.Spans.{Begins, Calls, Feeds, IsTimeless, list_deed, own_feed};
+ghost use Rattle.ipam_serve.specs.Turns.{Called};
+
+use crate::ran::{Broken, Ran};
+use crate::turns::{Feeding, begin, call, feed};
+use ipam_io::{Gate, Passed, Point};
+use ipam_model::{Answer, CollectRequest, Request};
+use ipam_shared::{Keeper, Pass, Shared};
+use ipam_text::Text;
+use std::alloc::Global;
+use std::sync::Wait;
+
+/// Begins the request and goes on with it to its answer, or until it waits. It is one turn of the pass
+/// for the beginning and one for each call, so that others may come between; the gate is passed before
+/// each call. On `Err` what was begun still runs.
+pub fn run_request<R: Wait, D: Keeper, G: Gate>(
+    rt: &R,
+    alloc: Global,
+    shared: &Shared<D>,
+    pass: &mut Pass,
+    gate: &mut G,
+    request: &Request,
+) -> Result<Ran, Broken>
+    requires lock { pass.old.lock ≡ shared.now }
+    requires idle { runs_in pass.old ≡ None }
+    requires sound { IsSoundRequest request.now }
+    ensures ran { IfOk result (λ ran. Does
+        (record { pass = pass.old; turns = G.turns gate.old }) (Begins request.now) (answer_ran ran) (spared_by ran)
+        (record { pass = pass.new; turns = G.turns gate.new })) }
+    ensures broken { OnErr result (DoesPart
+        (record { pass = pass.old; turns = G.turns gate.old }) (Begins request.now) 1
+        (record { pass = pass.new; turns = G.turns gate.new })) }
+    ensures can_answer { IfOk result (λ ran. IfAnswered ran (CanAnswer request.now)) }
+    ensures idle { IfOk result (λ ran. IfAnswered ran (λ told. runs_in pass.new ≡ None)) }
+    ensures waits { IfOk result (λ ran. OnWaits ran
+        ((is_waiting (runs_in pass.new) ≡ true) × (asked_in (runs_in pass.new) ≡ Some request.now))) }
+    ensures worn { OnWorn result (IsWorn pass.new) }
+    ensures stops { Halts result (G.stops gate.old) (G.stops gate.new) }
+{
+    match begin(rt, alloc, shared, pass, request) {
+        Ok(()) => run_on(rt, alloc, shared, pass, gate),
+        Err(broken) => Err(broken),
+    }
+}
+
+/// Goes on with what runs to its answer, or until it waits.
+pub(crate) fn run_on<R: Wait, D: Keeper, G: Gate>(
+    rt: &R,
+    alloc: Global,
+    shared: &Shared<D>,
+    pass: &mut Pass,
+    gate: &mut G,
+) -> Result<Ran, Broken>
+    requires lock { pass.old.lock ≡ shared.now }
+    requires runs { IsSome (runs_in pass.old) }
+    ensures ran { IfOk result (λ ran. WentOn
+        (record { pass = pass.old; turns = G.turns gate.old }) (answer_ran ran) (spared_by ran)
+        (record { pass = pass.new; turns = G.turns gate.new })) }
+    ensures broken { OnErr result (WentOn
+        (record { pass = pass.old; turns = G.turns gate.old }) None 1
+        (record { pass = pass.new; turns = G.turns gate.new })) }
+    ensures can_answer { (request : Asked) → asked_in (runs_in pass.old) ≡ Some request
+        → IfOk result (λ ran. IfAnswered ran (CanAnswer request)) }
+    ensures waits { IfOk result (λ ran. OnWaits ran (is_waiting (runs_in pass.new) ≡ true)) }
+    ensures worn { OnWorn result (IsWorn pass.new) }
+    ensures stops { Halts result (G.stops gate.old) (G.stops gate.new) }
+{
+    loop {
+        match step_on(rt, alloc, shared, pass, gate) {
+            Ok(Some(ran)) => return Ok(ran),
+            Ok(None) => {}
+            Err(broken) => return Err(broken),
+        }
+    }
+}
+
+/// Makes the next call of what runs, or finds that it waits. None where the call has no answer.
+fn step_on<R: Wait, D: Keeper, G: Gate>(
+    rt: &R,
+    alloc: Global,
+    shared: &Shared<D>,
+    pass: &mut Pass,
+    gate: &mut G,
+) -> Result<Option<Ran>, Broken>
+    requires lock { pass.old.lock ≡ shared.now }
+    requires runs { IsSome (runs_in pass.old) }
+    ensures step { IfOk result (λ ran. Called pass.old ran pass.new) }
+    ensures no_step { OnErr result (Took pass.old [] 1 pass.new) }
+    ensures passed { G.turns gate.new ≡ option_map next_count (G.turns gate.old) }
+    ensures worn { OnWorn result (IsWorn pass.new) }
+    ensures stops { Halts result (G.stops gate.old) (G.stops gate.new) }
+{
+    match gate.pass(Point::Turn) {
+        Passed::Stop => Err(Broken::Halted),
+        Passed::Go => call(rt, alloc, shared, pass),
+    }
+}
+
+/// Goes on with what runs to its answer. What waits though it was fed would never be answered; no
+/// request does, and one that did would be told as want of memory.
+fn run_to_answer<R: Wait, D: Keeper, G: Gate>(
+    rt: &R,
+    alloc: Global,
+    shared: &Shared<D>,
+    pass: &mut Pass,
+    gate: &mut G,
+) -> Result<Answer, Broken>
+    requires lock { pass.old.lock ≡ shared.now }
+    requires runs { IsSome (runs_in pass.old) }
+    ensures ran { IfOk result (λ told. WentOn
+        (record { pass = pass.old; turns = G.turns gate.old }) (Some told) 0
+        (record { pass = pass.new; turns = G.turns gate.new })) }
+    ensures broken { OnErr result (WentOn
+        (record { pass = pass.old; turns = G.turns gate.old }) None 1
+        (record { pass = pass.new; turns = G.turns gate.new })) }
+    ensures can_answer { (request : Asked) → asked_in (runs_in pass.old) ≡ Some request
+        → IfOk result (CanAnswer request) }
+    ensures worn { OnWorn result (IsWorn pass.new) }
+    ensures stops { Halts result (G.stops gate.old) (G.stops gate.new) }
+{
+    match run_on(rt, alloc, shared, pass, gate) {
+        Ok(ran) => answer_of(ran),
+        Err(broken) => Err(broken),
+    }
+}
+
+fn answer_of(ran: Ran) -> Result<Answer, Broken>
+    ensures told { IfOk result (λ told. ran ≡ Ran.Answered told) }
+    ensures waits { OnErr result (ran ≡ Ran.Waits) }
+    ensures memory { OnErr result (result ≡ Err Broken.Memory) }
+{
+    match ran {
+        Ran::Answered(answer) => Ok(answer),
+        Ran::Waits => Err(Broken::Memory),
+    }
+}
+
+/// The same, as an answer that there may be.
+fn run_fed<R: Wait, D: Keeper, G: Gate>(
+    rt: &R,
+    alloc: Global,
+    shared: &Shared<D>,
+    pass: &mut Pass,
+    gate: &mut G,
+) -> Result<Option<Answer>, Broken>
+    requires lock { pass.old.lock ≡ shared.now }
+    requires runs { IsSome (runs_in pass.old) }
+    ensures ran { IfOk result (λ found. IsSome found × WentOn
+        (record { pass = pass.old; turns = G.turns gate.old }) found 0
+        (record { pass = pass.new; turns = G.turns gate.new })) }
+    ensures broken { OnErr result (WentOn
+        (record { pass = pass.old; turns = G.turns gate.old }) None 1
+        (record { pass = pass.new; turns = G.turns gate.new })) }
+    ensures can_answer { (request : Asked) → asked_in (runs_in pass.old) ≡ Some request
+        → IfOk result (λ found. IfSome found (CanAnswer request)) }
+    ensures worn { OnWorn result (IsWorn pass.new) }
+    ensures stops { Halts result (G.stops gate.old) (G.stops gate.new) }
+{
+    match run_to_answer(rt, alloc, shared, pass, gate) {
+        Ok(answer) => Ok(Some(answer)),
+        Err(broken) => Err(broken),
+    }
+}
+
+/// Feeds the collection that waits its second list, and goes on to its answer. None where the grace is
+/// not over, and it waits as before.
+pub fn run_feed<R: Wait, D: Keeper, G: Gate>(
+    rt: &R,
+    alloc: Global,
+    shared: &Shared<D>,
+    pass: &mut Pass,
+    gate: &mut G,
+    live: &[Text],
+    at: u64,
+) -> Result<Option<Answer>, Broken>
+    requires lock { pass.old.lock ≡ shared.now }
+    requires waits { is_waiting (runs_in pass.old) ≡ true }
+    requires sound { All IsHandleId live.now }
+    ensures fed { IfOk result (λ told. FeedsList
+        (record { pass = pass.old; turns = G.turns gate.old }) live.now at told
+        (record { pass = pass.new; turns = G.turns gate.new })) }
+    ensures broken { OnErr result (DoesPart
+        (record { pass = pass.old; turns = G.turns gate.old }) (list_deed (is_early (runs_in pass.old) at) live.now at) 1
+        (record { pass = pass.new; turns = G.turns gate.new })) }
+    ensures can_answer { (request : Asked) → asked_in (runs_in pass.old) ≡ Some request
+        → IfOk result (λ told. IfSome told (CanAnswer request)) }
+    ensures worn { OnWorn result (IsWorn pass.new) }
+    ensures stops { Halts result (G.stops gate.old) (G.stops gate.new) }
+{
+    match feed(rt, alloc, shared, pass, live, at) {
+        Ok(Feeding::Fed) => run_fed(rt, alloc, shared, pass, gate),
+        Ok(Feeding::TooSoon) => Ok(None),
+        Err(broken) => Err(broken),
+    }
+}
+
+/// Begins the request of a CNI call and goes on with it to its answer. A collection is fed its own list
+/// once it waits, at the time 0. On `Err` what was begun still runs.
+pub fn run_call<R: Wait, D: Keeper, G: Gate>(
+    rt: &R,
+    alloc: Global,
+    shared: &Shared<D>,
+    pass: &mut Pass,
+    gate: &mut G,
+    request: &Request,
+) -> Result<Answer, Broken>
+    requires lock { pass.old.lock ≡ shared.now }
+    requires idle { runs_in pass.old ≡ None }
+    requires sound { IsSoundRequest request.now }
+    requires timeless { IsTimeless request.now }
+    ensures ran { IfOk result (λ told. Does
+        (record { pass = pass.old; turns = G.turns gate.old }) (Calls request.now) (Some told) 1
+        (record { pass = pass.new; turns = G.turns gate.new })) }
+    ensures broken { OnErr result (DoesPart
+        (record { pass = pass.old; turns = G.turns gate.old }) (Calls request.now) 2
+        (record { pass = pass.new; turns = G.turns gate.new })) }
+    ensures can_answer { IfOk result (CanAnswer request.now) }
+    ensures idle { OnOk result (runs_in pass.new ≡ None) }
+    ensures worn { OnWorn result (IsWorn pass.new) }
+    ensures stops { Halts result (G.stops gate.old) (G.stops gate.new) }
+{
+    match run_request(rt, alloc, shared, pass, gate, request) {
+        Ok(Ran::Answered(answer)) => Ok(answer),
+        Ok(Ran::Waits) => feed_own(rt, alloc, shared, pass, gate, request),
+        Err(broken) => Err(broken),
+    }
+}
+
+/// Feeds the collection that waits its own list. Nothing else waits, and what did would be told as want
+/// of memory.
+fn feed_own<R: Wait, D: Keeper, G: Gate>(
+    rt: &R,
+    alloc: Global,
+    shared: &Shared<D>,
+    pass: &mut Pass,
+    gate: &mut G,
+    request: &Request,
+) -> Result<Answer, Broken>
+    requires lock { pass.old.lock ≡ shared.now }
+    requires waits { is_waiting (runs_in pass.old) ≡ true }
+    requires asked { asked_in (runs_in pass.old) ≡ Some request.now }
+    requires sound { IsSoundRequest request.now }
+    requires timeless { IsTimeless request.now }
+    ensures fed { IfOk result (λ told. Does
+        (record { pass = pass.old; turns = G.turns gate.old }) (own_feed request.now) (Some told) 0
+        (record { pass = pass.new; turns = G.turns gate.new })) }
+    ensures broken { OnErr result (DoesPart
+        (record { pass = pass.old; turns = G.turns gate.old }) (own_feed request.now) 1
+        (record { pass = pass.new; turns = G.turns gate.new })) }
+    ensures can_answer { IfOk result (CanAnswer request.now) }
+    ensures idle { OnOk result (runs_in pass.new ≡ None) }
+    ensures worn { OnWorn result (IsWorn pass.new) }
+    ensures stops { Halts result (G.stops gate.old) (G.stops gate.new) }
+{
+    match request {
+        Request::Collect(asked) => feed_first(rt, alloc, shared, pass, gate, asked),
+        _ => Err(Broken::Memory),
+    }
+}
+
+fn feed_first<R: Wait, D: Keeper, G: Gate>(
+    rt: &R,
+    alloc: Global,
+    shared: &Shared<D>,
+    pass: &mut Pass,
+    gate: &mut G,
+    asked: &CollectRequest,
+) -> Result<Answer, Broken>
+    requires lock { pass.old.lock ≡ shared.now }
+    requires waits { is_waiting (runs_in pass.old) ≡ true }
+    requires asked { asked_in (runs_in pass.old) ≡ Some (Collect asked.now) }
+    requires sound { IsSoundCollect asked.now }
+    requires timeless { IsTimeless (Collect asked.now) }
+    ensures fed { IfOk result (λ told. Does
+        (record { pass = pass.old; turns = G.turns gate.old }) (Feeds asked.now.live 0) (Some told) 0
+        (record { pass = pass.new; turns = G.turns gate.new })) }
+    ensures broken { OnErr result (DoesPart
+        (record { pass = pass.old; turns = G.turns gate.old }) (Feeds asked.now.live 0) 1
+        (record { pass = pass.new; turns = G.turns gate.new })) }
+    ensures can_answer { IfOk result (CanAnswer (Collect asked.now)) }
+    ensures idle { OnOk result (runs_in pass.new ≡ None) }
+    ensures worn { OnWorn result (IsWorn pass.new) }
+    ensures stops { Halts result (G.stops gate.old) (G.stops gate.new) }
+{
+    let live = asked.live.as_slice();
+    match run_feed(rt, alloc, shared, pass, gate, live, 0) {
+        Ok(Some(answer)) => Ok(answer),
+        Ok(None) => unreachable!(),
+        Err(broken) => Err(broken),
+    }
+}

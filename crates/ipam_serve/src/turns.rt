@@ -1,0 +1,199 @@
+//! One turn of a session's slot. Each leaves a turn for the last stop.
+ghost use Rattle.std.specs.Prelude.{◌≡◌, ◌≢◌, ◌⊎◌, ◌≤◌, ◌^◌, [], ◌∷◌, Some, None, Ok, Err, true, false, IsSome, IfOk, OnOk, OnErr, ℕ};
+ghost use Rattle.std.specs.List.{All};
+ghost use Rattle.ipam_records.specs.Sound.{IsHandleId};
+ghost use Rattle.ipam_model.specs.declared.entry.Entry.TheVariants as entry;
+ghost use Rattle.ipam_model.specs.declared.entry.SlotState.TheVariants as state;
+ghost use Rattle.ipam_model.specs.CanAnswer.{CanAnswer};
+ghost use Rattle.ipam_model.specs.Cluster.{state_of};
+ghost use Rattle.ipam_model.specs.SoundRequest.{IsSoundRequest};
+ghost use Rattle.ipam_shared.specs.Passes.{runs_in};
+ghost use Rattle.ipam_serve.specs.Faults.{IsWorn, OnHalted, OnWorn};
+ghost use Rattle.ipam_serve.specs.Gains.{Took, asked_in, is_early, is_waiting};
+ghost use Rattle.ipam_serve.specs.Turns.{Called, Fed, answer_told};
+
+use crate::ran::{Broken, Ran};
+use ipam_model::{Answer, Entry, Request};
+use ipam_shared::{
+    BeginFault, FeedFault, Keeper, Pass, PrepareFault, Shared, SharedFault, SpentPass,
+};
+use ipam_text::Text;
+use std::alloc::Global;
+use std::sync::Wait;
+
+/// Begins the request.
+pub(crate) fn begin<R: Wait, D: Keeper>(
+    rt: &R,
+    alloc: Global,
+    shared: &Shared<D>,
+    pass: &mut Pass,
+    request: &Request,
+) -> Result<(), Broken>
+    requires lock { pass.old.lock ≡ shared.now }
+    requires idle { runs_in pass.old ≡ None }
+    requires sound { IsSoundRequest request.now }
+    ensures begun { OnOk result
+        (Took pass.old (entry.Began pass.old.slot request.now ∷ []) 0 pass.new) }
+    ensures not_begun { OnErr result (Took pass.old [] 1 pass.new) }
+    ensures worn { OnWorn result (IsWorn pass.new) }
+    ensures not_halted { OnHalted result ⊥ }
+{
+    if pass.left() < 2 {
+        return Err(Broken::Worn);
+    }
+    match shared.begin(rt, alloc, pass, request) {
+        Ok(entry) => {
+            drop(entry);
+            Ok(())
+        }
+        Err(fault) => Err(not_begun(fault)),
+    }
+}
+
+fn not_begun(fault: SharedFault<BeginFault>) -> Broken
+    requires turn { fault ≢ SharedFault.SpentPass }
+    requires idle { fault ≢ SharedFault.Inner BeginFault.SlotBusy }
+    ensures worn { result ≡ Broken.Worn → fault ≡ SharedFault.Inner BeginFault.Worn }
+    ensures not_halted { result ≢ Broken.Halted }
+{
+    match fault {
+        SharedFault::SpentPass => unreachable!(),
+        SharedFault::Inner(inner) => match inner {
+            BeginFault::SlotBusy => unreachable!(),
+            BeginFault::Worn => Broken::Worn,
+            BeginFault::Memory => Broken::Memory,
+        },
+    }
+}
+
+/// Makes the next call of what runs, or finds that it waits. None where the call has no answer.
+pub(crate) fn call<R: Wait, D: Keeper>(
+    rt: &R,
+    alloc: Global,
+    shared: &Shared<D>,
+    pass: &mut Pass,
+) -> Result<Option<Ran>, Broken>
+    requires lock { pass.old.lock ≡ shared.now }
+    requires runs { IsSome (runs_in pass.old) }
+    ensures called { IfOk result (λ ran. Called pass.old ran pass.new) }
+    ensures not_called { OnErr result (Took pass.old [] 1 pass.new) }
+    ensures worn { OnWorn result (IsWorn pass.new) }
+    ensures not_halted { OnHalted result ⊥ }
+{
+    if pass.left() < 2 {
+        return Err(Broken::Worn);
+    }
+    match shared.turn(rt, alloc, pass) {
+        Ok(entry) => Ok(told(entry)),
+        Err(fault) => not_called(fault),
+    }
+}
+
+fn told(entry: Entry) -> Option<Ran>
+    ensures { result ≡ answer_told entry }
+{
+    match entry {
+        Entry::Called(called) => called.answer.map(Ran::Answered),
+        Entry::Began(_, _) | Entry::Fed(_, _, _) | Entry::Stopped(_) => None,
+    }
+}
+
+fn not_called(fault: SharedFault<PrepareFault>) -> Result<Option<Ran>, Broken>
+    requires turn { fault ≢ SharedFault.SpentPass }
+    requires runs { fault ≢ SharedFault.Inner PrepareFault.SlotIdle }
+    ensures waits { IfOk result
+        (λ ran. (ran ≡ Some Ran.Waits) × (fault ≡ SharedFault.Inner PrepareFault.Waiting)) }
+    ensures worn { OnWorn result (fault ≡ SharedFault.Inner PrepareFault.Worn) }
+    ensures not_halted { OnHalted result ⊥ }
+{
+    match fault {
+        SharedFault::SpentPass => unreachable!(),
+        SharedFault::Inner(inner) => match inner {
+            PrepareFault::SlotIdle => unreachable!(),
+            PrepareFault::Waiting => Ok(Some(Ran::Waits)),
+            PrepareFault::Worn => Err(Broken::Worn),
+            PrepareFault::Memory => Err(Broken::Memory),
+        },
+    }
+}
+
+/// What became of a second list.
+#[derive(Clone, Copy, Debug, PartialEq, Eq)]
+pub(crate) enum Feeding {
+    Fed,
+    /// The grace is not over.
+    TooSoon,
+}
+
+/// Feeds the collection that waits.
+pub(crate) fn feed<R: Wait, D: Keeper>(
+    rt: &R,
+    alloc: Global,
+    shared: &Shared<D>,
+    pass: &mut Pass,
+    live: &[Text],
+    at: u64,
+) -> Result<Feeding, Broken>
+    requires lock { pass.old.lock ≡ shared.now }
+    requires waits { is_waiting (runs_in pass.old) ≡ true }
+    requires sound { All IsHandleId live.now }
+    ensures fed { IfOk result (λ feeding. Fed pass.old live.now at feeding pass.new) }
+    ensures not_fed { OnErr result (Took pass.old [] 1 pass.new) }
+    ensures worn { OnWorn result (IsWorn pass.new) }
+    ensures not_halted { OnHalted result ⊥ }
+{
+    if pass.left() < 2 {
+        return Err(Broken::Worn);
+    }
+    match shared.feed(rt, alloc, pass, live, at) {
+        Ok(entry) => {
+            drop(entry);
+            Ok(Feeding::Fed)
+        }
+        Err(fault) => not_fed(fault),
+    }
+}
+
+fn not_fed(fault: SharedFault<FeedFault>) -> Result<Feeding, Broken>
+    requires turn { fault ≢ SharedFault.SpentPass }
+    requires waits { fault ≢ SharedFault.Inner FeedFault.NotWaiting }
+    ensures too_soon { IfOk result (λ feeding. (feeding ≡ Feeding.TooSoon)
+        × (since grace : ℕ) × (fault ≡ SharedFault.Inner (FeedFault.TooSoon since grace))) }
+    ensures worn { OnWorn result (fault ≡ SharedFault.Inner FeedFault.Worn) }
+    ensures not_halted { OnHalted result ⊥ }
+{
+    match fault {
+        SharedFault::SpentPass => unreachable!(),
+        SharedFault::Inner(inner) => match inner {
+            FeedFault::NotWaiting => unreachable!(),
+            FeedFault::TooSoon { at: _, grace: _ } => Ok(Feeding::TooSoon),
+            FeedFault::Worn => Err(Broken::Worn),
+            FeedFault::Memory => Err(Broken::Memory),
+        },
+    }
+}
+
+/// Stops the collection that waits.
+pub(crate) fn stop<R: Wait, D: Keeper>(
+    rt: &R,
+    shared: &Shared<D>,
+    pass: &mut Pass,
+) -> Result<(), Broken>
+    requires lock { pass.old.lock ≡ shared.now }
+    requires runs { IsSome (runs_in pass.old) }
+    ensures stopped { OnOk result (Took pass.old (entry.Stopped pass.old.slot ∷ []) 0 pass.new) }
+    ensures not_stopped { OnErr result (pass.new ≡ pass.old) }
+    ensures worn { OnWorn result (IsWorn pass.new) }
+    ensures not_halted { OnHalted result ⊥ }
+{
+    if pass.left() < 2 {
+        return Err(Broken::Worn);
+    }
+    match shared.stop(rt, pass) {
+        Ok(entry) => {
+            drop(entry);
+            Ok(())
+        }
+        Err(SpentPass) => unreachable!(),
+    }
+}
