@@ -1,1 +1,3 @@
+pub mod CourseRuns
+pub mod ReleaseRuns
 pub mod RouteLines

@@ -1,3 +1,5 @@
 -- What the operator's commands write.
+pub mod Courses
+pub mod Releasing
 pub mod Telling
 pub mod Texts

@@ -22,13 +22,25 @@ broken_line number about = codes "datastore OR" ++ (decimal number ++ (codes " "
 
 -- ---- what is written
 
+-- a command that ends so has something to write
+abbrev pub IsSaid : Status → Type 0
+IsSaid status.NoMemory = ⊥
+IsSaid _ = Unit {0}
+
+-- what a command that ends so writes takes memory to be made; the line of a fault of the source or of
+-- the keeper does not
+abbrev pub IsMade : Status → Type 0
+IsMade status.ReadFault = ⊥
+IsMade status.KeeperFault = ⊥
+IsMade _ = Unit {0}
+
 -- What a sink took of the text that a command ends with, what its count of faults came to, and the
 -- status: all of it, with the text's own status; or a front part, since the sink failed; or nothing,
 -- since there was no memory.
 pub data Writes (old new : Option (List ℕ)) (faults faults' : ℕ) (text : List ℕ) (own : Status) : Status → Type 0 where
   Whole : new ≡ append_known old text → faults' ≡ faults → Writes old new faults faults' text own own
-  Cut : AppendsPrefix old new text → Rose faults faults' → Writes old new faults faults' text own status.WriteFault
-  Untold : new ≡ old → faults' ≡ faults → Writes old new faults faults' text own status.NoMemory
+  Cut : IsSaid own → AppendsPrefix old new text → Rose faults faults' → Writes old new faults faults' text own status.WriteFault
+  Untold : IsMade own → new ≡ old → faults' ≡ faults → Writes old new faults faults' text own status.NoMemory
 
 -- ---- what is told of a keeper's rows
 

@@ -3,10 +3,15 @@
 
 mod getting;
 mod loading;
+mod outcome;
+mod releasing;
 mod routing;
 mod status;
 mod telling;
 
 pub use getting::get;
+pub use outcome::ReleaseOutcome;
+pub use releasing::release;
 pub use routing::routes;
 pub use status::Status;
+pub use telling::{tell, tell_fault, tell_made};

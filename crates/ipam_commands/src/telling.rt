@@ -1,6 +1,6 @@
 //! What a command has to say, and how it ends.
 ghost use Rattle.std.specs.Prelude.{◌≡◌, ℕ, List, IfOk, string_bytes};
-ghost use Rattle.ipam_commands.specs.Telling.{FaultWrites, Writes, broken_line};
+ghost use Rattle.ipam_commands.specs.Telling.{FaultWrites, IsMade, IsSaid, Writes, broken_line};
 
 use crate::status::Status;
 use ipam_io::Sink;
@@ -8,7 +8,8 @@ use ipam_kept::KeptFault;
 use std::alloc::{AllocError, Global};
 
 /// Ends with this text and its status.
-pub(crate) fn tell<K: Sink>(sink: &mut K, text: &str, own: Status) -> Status
+pub fn tell<K: Sink>(sink: &mut K, text: &str, own: Status) -> Status
+    requires { IsSaid own }
     ensures written { Writes (K.written sink.old) (K.written sink.new)
         (K.write_faults sink.old) (K.write_faults sink.new) text.now own result }
     ensures rest { K.write_rest sink.new ≡ K.write_rest sink.old }
@@ -20,11 +21,9 @@ pub(crate) fn tell<K: Sink>(sink: &mut K, text: &str, own: Status) -> Status
 }
 
 /// Ends with this text and its status, where there was memory for the text.
-pub(crate) fn tell_made<K: Sink>(
-    sink: &mut K,
-    text: Result<String, AllocError>,
-    own: Status,
-) -> Status
+pub fn tell_made<K: Sink>(sink: &mut K, text: Result<String, AllocError>, own: Status) -> Status
+    requires said { IsSaid own }
+    requires made { IsMade own }
     ensures written { (said : List ℕ) → IfOk text (λ made. string_bytes made ≡ said)
         → Writes (K.written sink.old) (K.written sink.new)
         (K.write_faults sink.old) (K.write_faults sink.new) said own result }
@@ -37,7 +36,7 @@ pub(crate) fn tell_made<K: Sink>(
 }
 
 /// Ends where the rows were not opened.
-pub(crate) fn tell_fault<K: Sink>(alloc: Global, sink: &mut K, fault: KeptFault) -> Status
+pub fn tell_fault<K: Sink>(alloc: Global, sink: &mut K, fault: KeptFault) -> Status
     ensures written { FaultWrites (λ text own. Writes (K.written sink.old) (K.written sink.new)
         (K.write_faults sink.old) (K.write_faults sink.new) text own result) fault }
     ensures rest { K.write_rest sink.new ≡ K.write_rest sink.old }

@@ -10,4 +10,4 @@ returns-in-Ok-clause-written g c =
 
 pub returns-in-Err-clause-written : goal.returns-in-Err-clause-written
 returns-in-Err-clause-written g c =
-    Cut (subst (AppendsPrefix (g.K.Sink.written c.args.sink.now) (g.K.Sink.written c.write.new.self)) c.as_bytes.ensures.value c.in-Err.ensures.part) c.in-Err.ensures.fault
+    Cut c.requires (subst (AppendsPrefix (g.K.Sink.written c.args.sink.now) (g.K.Sink.written c.write.new.self)) c.as_bytes.ensures.value c.in-Err.ensures.part) c.in-Err.ensures.fault

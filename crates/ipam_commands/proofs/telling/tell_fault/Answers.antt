@@ -6,4 +6,4 @@ pub returns-in-Keeper-clause-written : goal.returns-in-Keeper-clause-written
 returns-in-Keeper-clause-written g c = rw c.in-Keeper.is c.tell.ensures.written
 
 pub returns-in-Memory-clause-written : goal.returns-in-Memory-clause-written
-returns-in-Memory-clause-written g c = rw c.in-Memory.is (Untold refl refl)
+returns-in-Memory-clause-written g c = rw c.in-Memory.is (Untold tt refl refl)

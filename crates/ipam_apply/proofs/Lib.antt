@@ -1,0 +1,6 @@
+pub mod AdminWords
+pub mod DocumentKinds
+pub mod Readiness
+pub mod Steps
+pub mod Runs
+pub mod Endings

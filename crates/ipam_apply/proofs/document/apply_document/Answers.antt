@@ -1,0 +1,20 @@
+use Rattle.std.proofs.Common.{refl}
+use Rattle.ipam_apply.specs.Applied.{Good}
+use Rattle.ipam_apply.proofs.DocumentKinds.{document_kinds}
+use Rattle.ipam_apply.proofs.Endings.{fault-ends}
+use Rattle.ipam_apply.proofs.document.apply_document.Goals as goal
+
+pub apply_resources-requires : goal.apply_resources-requires
+apply_resources-requires g c =
+    λ k d below. record {
+      sound = c.in-Ok.ensures.sound k d below;
+      of_document = (document_kinds c.args.document.now c.in-Ok.resources c.in-Ok.ensures.read).0 k d below;
+    }
+
+pub returns-in-Ok-clause-ended : goal.returns-in-Ok-clause-ended
+returns-in-Ok-clause-ended g c = Good c.in-Ok.resources c.in-Ok.ensures.read c.apply_resources.ensures.ended
+
+pub returns-in-Err-clause-ended : goal.returns-in-Err-clause-ended
+returns-in-Err-clause-ended g c =
+    fault-ends _ c.args.document.now _ _ c.tell_document.result c.in-Err.fault refl c.in-Err.ensures.refused
+    c.tell_document.ensures.told c.tell_document.ensures.untold c.tell_document.ensures.no_fault

@@ -1,0 +1,109 @@
+//! Resources are applied over a keeper's rows.
+ghost use Rattle.std.specs.Prelude.{◌≡◌};
+ghost use Rattle.std.specs.List.{All};
+ghost use Rattle.ipam_apply.specs.Applied.{ResourcesEnd};
+ghost use Rattle.ipam_apply.specs.Applying.{RunEnds};
+ghost use Rattle.ipam_apply.specs.Ready.{IsFit, IsReady};
+
+use crate::step::{Step, apply_one};
+use ipam_commands::{Status, tell_fault};
+use ipam_io::Sink;
+use ipam_keeper::Keeper;
+use ipam_kept::Kept;
+use ipam_resources::Resource;
+use ipam_text::Seq;
+use std::alloc::Global;
+
+/// Opens the keeper's rows, and applies the resources.
+pub(crate) fn apply_resources<K: Sink, D: Keeper>(
+    alloc: Global,
+    sink: &mut K,
+    keeper: &mut D,
+    resources: Seq<Resource>,
+) -> Status
+    requires { All IsFit resources }
+    ensures ended { ResourcesEnd resources
+        (record {
+          written = K.written sink.old;
+          write_faults = K.write_faults sink.old;
+          rows = D.rows keeper.old;
+          keeper_faults = D.faults keeper.old;
+        })
+        (record {
+          written = K.written sink.new;
+          write_faults = K.write_faults sink.new;
+          rows = D.rows keeper.new;
+          keeper_faults = D.faults keeper.new;
+        }) result }
+    ensures rest { K.write_rest sink.new ≡ K.write_rest sink.old }
+{
+    let (end, _keeper) = open_and_run(alloc, sink, &mut *keeper, resources);
+    end
+}
+
+/// Opens the keeper's rows, and applies the resources. The keeper comes back.
+fn open_and_run<K: Sink, D: Keeper>(
+    alloc: Global,
+    sink: &mut K,
+    keeper: D,
+    resources: Seq<Resource>,
+) -> (Status, D)
+    requires { All IsFit resources }
+    ensures ended { ResourcesEnd resources
+        (record {
+          written = K.written sink.old;
+          write_faults = K.write_faults sink.old;
+          rows = D.rows keeper;
+          keeper_faults = D.faults keeper;
+        })
+        (record {
+          written = K.written sink.new;
+          write_faults = K.write_faults sink.new;
+          rows = D.rows result.1;
+          keeper_faults = D.faults result.1;
+        }) result.0 }
+    ensures same { D.name result.1 ≡ D.name keeper }
+    ensures rest { K.write_rest sink.new ≡ K.write_rest sink.old }
+{
+    match Kept::open(alloc, keeper, 0) {
+        Ok(mut kept) => {
+            let end = run(alloc, sink, &mut kept, resources.into_vec());
+            (end, kept.into_keeper())
+        }
+        Err((keeper, fault)) => (tell_fault(alloc, sink, fault), keeper),
+    }
+}
+
+/// Applies the resources, up to one at which the run ends.
+fn run<K: Sink, D: Keeper>(
+    alloc: Global,
+    sink: &mut K,
+    kept: &mut Kept<D>,
+    resources: Vec<Resource>,
+) -> Status
+    requires sound { All IsFit resources.items }
+    requires ready { IsReady D.rows kept.old }
+    ensures ended { RunEnds kept.old.cluster.store.store resources.items
+        (record {
+          written = K.written sink.old;
+          write_faults = K.write_faults sink.old;
+          rows = D.rows kept.old.keeper;
+          keeper_faults = D.faults kept.old.keeper;
+        })
+        (record {
+          written = K.written sink.new;
+          write_faults = K.write_faults sink.new;
+          rows = D.rows kept.new.keeper;
+          keeper_faults = D.faults kept.new.keeper;
+        }) result }
+    ensures same { D.name kept.new.keeper ≡ D.name kept.old.keeper }
+    ensures rest { K.write_rest sink.new ≡ K.write_rest sink.old }
+{
+    for resource in resources {
+        match apply_one(alloc, sink, kept, resource) {
+            Step::Applied => {}
+            Step::Ended(end) => return end,
+        }
+    }
+    Status::Done
+}
