@@ -1,0 +1,202 @@
+-- How a call goes: what is read, what becomes of the rows, and which counts of faults rise.
+use Rattle.std.specs.Prelude.{◌≡◌, ◌≢◌, ℕ, ◌≤◌, ◌⊎◌, List, ◌∷◌, length, Option, Some, IfSome, Result, Ok, Err}
+use Rattle.std.specs.Io.KnownBytes.{IsAtEnd, prepend_known}
+use Rattle.ipam_io.specs.Counts.{Rose}
+use Rattle.ipam_keeper.specs.Keeping.{IsTold}
+use Rattle.ipam_records.specs.declared.call.Row.{Row as RowText}
+use Rattle.ipam_records.specs.Datastore.{Datastore}
+use Rattle.ipam_model.specs.declared.answer.Answer.{Answer}
+use Rattle.ipam_model.specs.declared.answer.Answer.TheVariants.{Fault}
+use Rattle.ipam_model.specs.declared.entry.Called.{Called}
+use Rattle.ipam_model.specs.declared.entry.Entry.{Entry}
+use Rattle.ipam_model.specs.declared.entry.Entry.TheVariants as entry
+use Rattle.ipam_model.specs.declared.entry.Fate.TheVariants.{Before}
+use Rattle.ipam_model.specs.declared.request.Request.{Request}
+use Rattle.ipam_model.specs.Alone.{IsAlone, alone_over}
+use Rattle.ipam_model.specs.History.{Lawful, store_at}
+use Rattle.ipam_model.specs.Opened.{OpensAs}
+use Rattle.ipam_kept.specs.declared.kept.KeptFault.{KeptFault}
+use Rattle.ipam_kept.specs.declared.kept.KeptFault.TheVariants as fault
+use Rattle.ipam_kept.specs.declared.write.RowWrite.{RowWrite}
+use Rattle.ipam_kept.specs.Doubt.{IsDoubt}
+use Rattle.ipam_kept.specs.Rows.{AreTextsOf, AreToldKept, texts_loaded}
+use Rattle.ipam_solo.specs.Solo.{IsStoppedAlone}
+use Rattle.cni_types.specs.declared.calls.Look.{Look}
+use Rattle.cni_types.specs.declared.error.CniError.{CniError}
+use Rattle.cni_types.specs.declared.version.Version.{Version}
+use Rattle.cni_types.specs.declared.version.Version.TheVariants.{V1_0_0}
+use Rattle.cni_types.specs.Looking.{look_reading}
+use Rattle.cni_types.specs.Reading.{Pair}
+use Rattle.cni_types.specs.Texts.{error_text}
+use Rattle.cni_asks.specs.declared.asks.Ask.TheVariants.{Begin}
+use Rattle.cni_asks.specs.declared.replies.CniReply.{CniReply}
+use Rattle.cni_asks.specs.Replying.{reply_status, reply_text, told}
+use Rattle.ipam_cni.specs.declared.end.CniEnd.{CniEnd}
+use Rattle.ipam_cni.specs.declared.end.CniEnd.TheVariants.{Told, Failed}
+use Rattle.ipam_cni.specs.declared.end.CniFault.TheVariants.{Read, Keeper, Memory}
+use Rattle.ipam_cni.specs.Replies.{ComesTo, RequestComesTo, bad_rows, begun_by, opened, reply_to, version_of}
+
+-- ---- an end by itself
+
+-- the end with this reply, or without memory for it
+abbrev pub end_of : {E : Type 0} → Version → Result (ℕ × List ℕ) E → CniEnd
+end_of version (Ok reply) = Told reply.0 reply.1
+end_of version (Err none) = Failed version Memory
+
+-- the error is told, or there is no memory for it
+abbrev pub TellsError : CniError → CniEnd → Type 0
+TellsError error end = (end ≡ Told 1 (error_text error)) ⊎ (end ≡ Failed error.version Memory)
+
+-- what is told of rows that were not opened
+abbrev pub IsNotOpenedEnd : Version → KeptFault → CniEnd → Type 0
+IsNotOpenedEnd version fault.Keeper end = end ≡ Failed version Keeper
+IsNotOpenedEnd version fault.Memory end = end ≡ Failed version Memory
+IsNotOpenedEnd version (fault.Refused number about) end = TellsError (bad_rows version number about) end
+
+-- the answer is told, or there is no memory for its text; a keeper that failed is told as that
+pub data AnswerEnds (asked : Request) (found : Answer) (version : Version) : CniEnd → Type 0 where
+  KeeperFailed : found ≡ Fault → AnswerEnds asked found version (Failed version Keeper)
+  AnswerTold : (reply : CniReply) → found ≢ Fault → reply_to asked found ≡ Some reply
+      → AnswerEnds asked found version (Told (reply_status reply) (reply_text version reply))
+  NoMemory : found ≢ Fault → AnswerEnds asked found version (Failed version Memory)
+
+-- ---- a request over opened rows
+
+-- the rows are those of a course of the request that ends in a call at which the keeper failed, but for
+-- the row in doubt
+pub record IsFaultCourse (store : Datastore) (asked : Request) (new : Option (List RowText)) : Type 0 where
+  pub last : Called
+  pub earlier : List Entry
+  pub lawful : Lawful (opened store) (entry.Called last ∷ earlier)
+  pub alone : IsAlone asked earlier
+  pub own : last.slot ≡ 0
+  pub failed : last.fate ≡ Before
+  pub ends : last.answer ≡ Some Fault
+  pub doubt : Option RowWrite
+  pub rows : AreToldKept new (store_at (opened store) (entry.Called last ∷ earlier)) doubt
+  pub is_doubt : IsDoubt doubt (opened store) (entry.Called last ∷ earlier)
+
+-- the rows are those of a course of the request that ends in a stop or in its answer
+pub record IsStopCourse (store : Datastore) (asked : Request) (new : Option (List RowText)) : Type 0 where
+  pub entries : List Entry
+  pub lawful : Lawful (opened store) entries
+  pub alone : IsStoppedAlone asked entries ⊎ IsAlone asked entries
+  pub rows : IfSome new (λ after. AreTextsOf after (store_at (opened store) entries))
+
+-- the answer is that of the request alone, and the rows are those of the datastore that it leaves
+pub record IsAloneReply (store : Datastore) (asked : Request) (version : Version) (new : Option (List RowText)) (reply : ℕ × List ℕ) : Type 0 where
+  pub is_told : CniReply
+  pub answer : reply_to asked (alone_over (opened store) asked).0 ≡ Some is_told
+  pub text : told version is_told ≡ reply
+  pub rows : IfSome new (λ after. AreTextsOf after (alone_over (opened store) asked).1)
+
+-- How a request ends that runs by itself over the rows of a datastore.
+abbrev pub RunEnds : (store : Datastore) → Request → Version → CniEnd → (new : Option (List RowText)) → (faults faults' : ℕ) → Type 0
+RunEnds store asked version (Told status text) new faults faults' =
+    (faults' ≡ faults) × IsAloneReply store asked version new (status, text)
+RunEnds store asked version (Failed in_version Read) new faults faults' = ⊥
+RunEnds store asked version (Failed in_version Keeper) new faults faults' =
+    (in_version ≡ version) × Rose faults faults' × IsFaultCourse store asked new
+RunEnds store asked version (Failed in_version Memory) new faults faults' =
+    (in_version ≡ version) × (faults' ≡ faults) × IsStopCourse store asked new
+
+-- ---- a request over a keeper's rows
+
+-- the rows open as the datastore
+pub record Opens (old : Option (List RowText)) (store : Datastore) : Type 0 where
+  pub loaded : List RowText
+  pub is_told : IsTold old loaded
+  pub opens : OpensAs (texts_loaded loaded) store
+
+-- the rows stayed, or they opened and it is so of what they opened as
+abbrev pub StayOr : (old new : Option (List RowText)) → (Datastore → Type 0) → Type 0
+StayOr old new p = (new ≡ old) ⊎ ((store : Datastore) × Opens old store × p store)
+
+-- How a request ends over a keeper's rows.
+abbrev pub RequestEnds : Request → Version → CniEnd → (old new : Option (List RowText)) → (faults faults' : ℕ) → Type 0
+RequestEnds asked version (Told status text) old new faults faults' =
+    (faults' ≡ faults) × RequestComesTo asked version old new (status, text)
+RequestEnds asked version (Failed in_version Read) old new faults faults' = ⊥
+RequestEnds asked version (Failed in_version Keeper) old new faults faults' =
+    (in_version ≡ version) × Rose faults faults' × StayOr old new (λ store. IsFaultCourse store asked new)
+RequestEnds asked version (Failed in_version Memory) old new faults faults' =
+    (in_version ≡ version) × (faults' ≡ faults) × StayOr old new (λ store. IsStopCourse store asked new)
+
+-- ---- a call
+
+-- the call begins this request, which is answered in this version
+pub record Begins (env : List Pair) (stdin : List ℕ) (asked : Request) (version : Version) : Type 0 where
+  pub look : Look
+  pub is_look : look_reading env stdin ≡ Ok look
+  pub begins : begun_by look ≡ Begin asked version
+
+-- the version of what a call is looked at as
+abbrev pub version_looked : Result Look CniError → Version
+version_looked (Ok look) = version_of look
+version_looked (Err error) = error.version
+
+-- Nothing was begun, so the rows stayed. The version is the call's, or 1.0.0 before that is known.
+pub record IsUnbegun (env : List Pair) (stdin : List ℕ) (version : Version) (old new : Option (List RowText)) : Type 0 where
+  pub in_version : (version ≡ V1_0_0) ⊎ (version ≡ version_looked (look_reading env stdin))
+  pub rows : new ≡ old
+
+-- a request was begun, and there was no memory to go on or to tell its answer
+pub record IsCutShort (env : List Pair) (stdin : List ℕ) (version : Version) (old new : Option (List RowText)) : Type 0 where
+  pub asked : Request
+  pub begins : Begins env stdin asked version
+  pub rows : StayOr old new (λ store. IsStopCourse store asked new)
+
+-- How a call ends with this standard input.
+abbrev pub CallEnds : List Pair → (stdin : List ℕ) → CniEnd → (old new : Option (List RowText)) → (faults faults' : ℕ) → Type 0
+CallEnds env stdin (Told status text) old new faults faults' =
+    (faults' ≡ faults) × ComesTo env stdin old new (status, text)
+CallEnds env stdin (Failed version Read) old new faults faults' = ⊥
+CallEnds env stdin (Failed version Keeper) old new faults faults' =
+    Rose faults faults' × (asked : Request) × Begins env stdin asked version
+    × StayOr old new (λ store. IsFaultCourse store asked new)
+CallEnds env stdin (Failed version Memory) old new faults faults' =
+    (faults' ≡ faults) × (IsUnbegun env stdin version old new ⊎ IsCutShort env stdin version old new)
+
+-- ---- a call with its standard input
+
+-- What there is of a source and a keeper: the bytes that are left and the rows, where they are told,
+-- and the counts of faults.
+pub record Sides : Type 0 where
+  pub input : Option (List ℕ)
+  pub input_faults : ℕ
+  pub rows : Option (List RowText)
+  pub keeper_faults : ℕ
+
+-- these bytes were read: all that was left, or one more than standard input may have
+pub record IsInput (stdin : List ℕ) (old new : Option (List ℕ)) : Type 0 where
+  pub bytes : old ≡ prepend_known stdin new
+  pub bound : length stdin ≤ 1048577
+  pub whole : length stdin ≤ 1048576 → IsAtEnd new
+
+-- a read of the source failed
+pub record IsReadFault (version : Version) (old new : Sides) : Type 0 where
+  pub in_version : version ≡ V1_0_0
+  pub input_faults : Rose old.input_faults new.input_faults
+  pub keeper_faults : new.keeper_faults ≡ old.keeper_faults
+  pub rows : new.rows ≡ old.rows
+
+-- there was no memory for standard input
+pub record IsUnread (version : Version) (old new : Sides) : Type 0 where
+  pub in_version : version ≡ V1_0_0
+  pub input_faults : new.input_faults ≡ old.input_faults
+  pub keeper_faults : new.keeper_faults ≡ old.keeper_faults
+  pub rows : new.rows ≡ old.rows
+
+-- standard input was read, and then the call was made with it
+pub record IsMade (env : List Pair) (end : CniEnd) (old new : Sides) : Type 0 where
+  pub stdin : List ℕ
+  pub input : IsInput stdin old.input new.input
+  pub input_faults : new.input_faults ≡ old.input_faults
+  pub ends : CallEnds env stdin end old.rows new.rows old.keeper_faults new.keeper_faults
+
+-- How a call with this environment went that ended so.
+abbrev pub Went : List Pair → CniEnd → (old new : Sides) → Type 0
+Went env (Told status text) old new = IsMade env (Told status text) old new
+Went env (Failed version Read) old new = IsReadFault version old new
+Went env (Failed version Keeper) old new = IsMade env (Failed version Keeper) old new
+Went env (Failed version Memory) old new = IsUnread version old new ⊎ IsMade env (Failed version Memory) old new

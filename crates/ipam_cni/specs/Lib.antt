@@ -1,0 +1,4 @@
+-- What comes of one CNI call.
+pub mod Replies
+pub mod Calls
+pub mod Ends

@@ -1,0 +1,15 @@
+//! One CNI call over a keeper: standard input is read, the call is looked at, and its request runs by
+//! itself over the keeper's rows.
+#![tactic(auto)]
+
+mod asking;
+mod calling;
+mod end;
+mod run;
+mod telling;
+
+pub use calling::make_call;
+pub use end::{CniEnd, CniFault};
+pub use run::cni;
+pub use std::alloc::AllocError as Memory;
+pub use telling::tell_end;

@@ -1,0 +1,49 @@
+//! A whole call.
+ghost use Rattle.std.specs.Prelude.{◌≡◌};
+ghost use Rattle.std.specs.Io.KnownBytes.{IsAtEnd};
+ghost use Rattle.ipam_cni.specs.declared.end.CniEnd.{CniEnd as End};
+ghost use Rattle.ipam_cni.specs.Calls.{Went};
+ghost use Rattle.ipam_cni.specs.Ends.{IsStatus, Tells};
+
+use crate::calling::make_call;
+use crate::telling::tell_end;
+use ipam_io::{Sink, Source};
+use ipam_keeper::Keeper;
+use ipam_text::Text;
+use std::alloc::Global;
+
+/// Makes one CNI call: reads standard input, looks at the call, opens the keeper's rows, runs the
+/// request by itself and writes the reply. Gives 0, or 1 with an error.
+///
+/// It gives 4 where the sink failed, and 6 where there was no memory for the error of a fault.
+pub fn cni<S: Source, K: Sink, D: Keeper>(
+    alloc: Global,
+    env: &[(Text, Text)],
+    source: &mut S,
+    sink: &mut K,
+    keeper: &mut D,
+) -> u8
+    ensures called { (end : End)
+        × Went env.now end
+        (record {
+          input = S.left source.old;
+          input_faults = S.read_faults source.old;
+          rows = D.rows keeper.old;
+          keeper_faults = D.faults keeper.old;
+        })
+        (record {
+          input = S.left source.new;
+          input_faults = S.read_faults source.new;
+          rows = D.rows keeper.new;
+          keeper_faults = D.faults keeper.new;
+        })
+        × Tells end (K.written sink.old) (K.written sink.new)
+        (K.write_faults sink.old) (K.write_faults sink.new) result }
+    ensures to_end { result ≡ 0 → IsAtEnd (S.left source.new) }
+    ensures status { IsStatus result }
+    ensures source_rest { S.read_rest source.new ≡ S.read_rest source.old }
+    ensures sink_rest { K.write_rest sink.new ≡ K.write_rest sink.old }
+{
+    let end = make_call(alloc, env, source, keeper);
+    tell_end(alloc, sink, &end)
+}

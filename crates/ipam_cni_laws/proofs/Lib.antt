@@ -1,0 +1,2 @@
+mod TryAgain
+mod Ready

@@ -1,0 +1,82 @@
+-- No call is told to try again later.
+use Rattle.std.proofs.Common.{◌≡◌, ℕ, refl}
+use Rattle.ipam_model.specs.declared.answer.Answer.{Answer}
+use Rattle.ipam_model.specs.declared.answer.Answer.TheVariants as answer
+use Rattle.ipam_model.specs.declared.request.Request.{Request}
+use Rattle.ipam_model.specs.declared.request.Request.TheVariants.{Add, AddThis, Del, Check, Release, Collect, Admin, Probe}
+use Rattle.ipam_model.specs.Alone.{alone_over}
+use Rattle.ipam_laws.proofs.AloneAgain.{alone_again}
+use Rattle.ipam_laws.proofs.OpenedHistory.{opened_law}
+use Rattle.ipam_addr.specs.Shape.{AddrValue}
+use Rattle.cni_asks.specs.Replying.{failure_of, reply_to_add, reply_to_this, reply_to_del, reply_to_check}
+use Rattle.cni_gc.specs.Replies.{gc_reply_of, status_reply_of}
+use Rattle.ipam_cni.specs.Replies.{opened, reply_to}
+use Rattle.ipam_cni_laws.specs.Alone.{NoTryAgainLaw, SaysTryAgain}
+
+abbrev IsAgain : Answer → Type 0
+IsAgain found = (lost claims : ℕ) × (found ≡ answer.Again lost claims)
+
+failure-again : (found : Answer) → SaysTryAgain (failure_of found) → IsAgain found
+failure-again (answer.Added given) h = absurd h
+failure-again (answer.AddedThis given) h = absurd h
+failure-again (answer.Exhausted scan) h = absurd h
+failure-again (answer.NoPool name moment) h = absurd h
+failure-again (answer.NotInPool moment) h = absurd h
+failure-again (answer.Taken holder moment) h = absurd h
+failure-again (answer.NotAffine cidr moment) h = absurd h
+failure-again (answer.Deleted moment) h = absurd h
+failure-again answer.Checked h = absurd h
+failure-again (answer.NotRecorded address moment) h = absurd h
+failure-again answer.Released h = absurd h
+failure-again (answer.NoAffinity moment) h = absurd h
+failure-again (answer.Collected collected) h = absurd h
+failure-again (answer.Done revision) h = absurd h
+failure-again (answer.Refused number name) h = absurd h
+failure-again (answer.Again lost claims) h = (lost, claims, refl)
+failure-again answer.Full h = absurd h
+failure-again (answer.CountFull moment) h = absurd h
+failure-again answer.Spent h = absurd h
+failure-again answer.Fault h = absurd h
+failure-again (answer.Ready scans) h = absurd h
+
+add-again : (found : Answer) → SaysTryAgain (reply_to_add found) → IsAgain found
+add-again (answer.Added given) h = absurd h
+add-again other h = failure-again other h
+
+this-again : (address : AddrValue) (found : Answer) → SaysTryAgain (reply_to_this address found) → IsAgain found
+this-again address (answer.AddedThis given) h = absurd h
+this-again address (answer.NotInPool moment) h = absurd h
+this-again address other h = failure-again other h
+
+del-again : (found : Answer) → SaysTryAgain (reply_to_del found) → IsAgain found
+del-again (answer.Deleted moment) h = absurd h
+del-again other h = failure-again other h
+
+check-again : (found : Answer) → SaysTryAgain (reply_to_check found) → IsAgain found
+check-again answer.Checked h = absurd h
+check-again other h = failure-again other h
+
+gc-again : (found : Answer) → SaysTryAgain (gc_reply_of found) → IsAgain found
+gc-again (answer.Collected collected) h = absurd h
+gc-again other h = failure-again other h
+
+status-again : (found : Answer) → SaysTryAgain (status_reply_of found) → IsAgain found
+status-again (answer.Ready scans) h = absurd h
+status-again (answer.Exhausted scan) h = absurd h
+status-again (answer.NoPool name moment) h = absurd h
+status-again other h = failure-again other h
+
+told-again : (asked : Request) (found : Answer) → SaysTryAgain (reply_to asked found) → IsAgain found
+told-again (Add request) found h = add-again found h
+told-again (AddThis request address) found h = this-again address found h
+told-again (Del id) found h = del-again found h
+told-again (Check id addresses) found h = check-again found h
+told-again (Release node cidr) found h = absurd h
+told-again (Collect request) found h = gc-again found h
+told-again (Admin change) found h = absurd h
+told-again (Probe request) found h = status-again found h
+
+pub no_try_again : NoTryAgainLaw
+no_try_again texts store asked opens sound h =
+    let (lost, claims, is) = told-again asked (alone_over (opened store) asked).0 h in
+    alone_again (opened store) asked lost claims (opened_law texts store opens) sound is

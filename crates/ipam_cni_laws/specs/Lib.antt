@@ -1,0 +1,2 @@
+-- What CNI calls are told that run by themselves.
+pub mod Alone

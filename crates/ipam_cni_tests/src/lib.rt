@@ -1,0 +1,10 @@
+//! Tests of whole CNI calls over rows in memory: the worked examples byte for byte, and faults of
+//! standard input, of standard output and of the keeper.
+#![tactic(auto)]
+
+#[cfg(test)]
+mod play;
+#[cfg(test)]
+mod scenarios;
+#[cfg(test)]
+mod tests;
