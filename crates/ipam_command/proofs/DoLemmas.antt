@@ -9,6 +9,8 @@ use Rattle.ipam_words.specs.Words.{Asked, Cni, Play, Apply, Get, Routes, Release
 use Rattle.ipam_play_run.specs.declared.end.PlayEnd.{PlayEnd}
 use Rattle.ipam_gen.specs.declared.end.GenEnd.{GenEnd}
 use Rattle.ipam_gen.specs.Summary as gen
+use Rattle.ipam_apply.specs.Applied.{ApplyEnds, DocumentEnds, Input, Read, ReadFailed, NoInput, Good, Bad, NoRoom}
+use Rattle.ipam_apply.specs.Outside as apply_outside
 use Rattle.ipam_commands.specs.declared.status.Status.{Status}
 use Rattle.ipam_commands.specs.Telling.{Tells, Writes}
 use Rattle.ipam_command.specs.Commands.{Does, DoesGen, DoesPlay, DoesTell, IsPlayed, IsUnknown, LeavesKeeper, LeavesSource, Outside, TellsUnknown}
@@ -35,3 +37,17 @@ pub does-tell : (text : List RowText → Datastore → List ℕ) (old new : Outs
     → Tells old.rows old.keeper_faults new.keeper_faults text (λ said own. Writes old.written new.written old.write_faults new.write_faults said own ending)
     → LeavesSource old new → new.rows ≡ old.rows → DoesTell text old new status
 does-tell text old new ending status is tells source rows = record { ending = ending; has_status = is; tells = tells; source = source; same_rows = rows }
+
+-- ---- `apply`: that the keeper is the same may be said in a weaker way
+
+document-ends : {same other : Type 0} {document : List ℕ} {old new : apply_outside.Outside} {end : Status} → (same → other)
+    → DocumentEnds same document old new end → DocumentEnds other document old new end
+document-ends weaker (Good resources is ends) = Good resources is ends
+document-ends weaker (Bad fault is same says) = Bad fault is (weaker same) says
+document-ends weaker (NoRoom same untold) = NoRoom (weaker same) untold
+
+pub apply-ends : {same other : Type 0} {input input' : Input} {old new : apply_outside.Outside} {end : Status} → (same → other)
+    → ApplyEnds same input input' old new end → ApplyEnds other input input' old new end
+apply-ends weaker (Read document is faults ends) = Read document is faults (document-ends weaker ends)
+apply-ends weaker (ReadFailed rose same says) = ReadFailed rose (weaker same) says
+apply-ends weaker (NoInput faults same untold) = NoInput faults (weaker same) untold

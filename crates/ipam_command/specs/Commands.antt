@@ -23,6 +23,9 @@ use Rattle.ipam_kept.specs.declared.kept.KeptFault.{KeptFault}
 use Rattle.ipam_model.specs.declared.request.Request.TheVariants as request
 use Rattle.ipam_addr.specs.Shape.{CidrValue}
 use Rattle.cni_types.specs.Reading.{Pair}
+use Rattle.ipam_apply.specs.Applied as apply
+use Rattle.ipam_apply.specs.Outside as apply_outside
+use Rattle.ipam_commands.specs.declared.status.Status.TheVariants as status_of
 use Rattle.ipam_cni.specs.declared.end.CniEnd.{CniEnd}
 use Rattle.ipam_cni.specs.Calls as cni
 use Rattle.ipam_cni.specs.Ends as cni_ends
@@ -115,6 +118,26 @@ pub record DoesRelease (node : List ℕ) (cidr : CidrValue) (old new : Outside) 
   pub writes : ReleaseWrites (λ said own. Writes old.written new.written old.write_faults new.write_faults said own ending) came
   pub source : LeavesSource old new
 
+-- ---- `apply`
+
+abbrev pub input_of : Outside → apply.Input
+input_of outside = record { left = outside.left; faults = outside.read_faults }
+
+abbrev pub kept_of : Outside → apply_outside.Outside
+kept_of outside = record {
+  written = outside.written;
+  write_faults = outside.write_faults;
+  rows = outside.rows;
+  keeper_faults = outside.keeper_faults;
+}
+
+-- the source's document is applied over the keeper's rows, which stay where nothing of it is
+pub record DoesApply (old new : Outside) (status : ℕ) : Type 0 where
+  pub ending : Status
+  pub has_status : status ≡ code_of ending
+  pub ends : apply.ApplyEnds (LeavesKeeper old new) (input_of old) (input_of new) (kept_of old) (kept_of new) ending
+  pub at_end : ending ≡ status_of.Done → IsAtEnd new.left
+
 -- ---- no word, or `cni`
 
 -- what a call finds and leaves, but for what it writes
@@ -149,5 +172,5 @@ Does env (Some (Gen count)) old new status = DoesGen count old new status
 Does env (Some (Get kind)) old new status = DoesTell (λ rows store. rows_text kind rows) old new status
 Does env (Some (Routes node)) old new status = DoesTell (λ rows store. routes_text node store) old new status
 Does env (Some (Release node cidr)) old new status = DoesRelease node cidr old new status
-Does env (Some Apply) old new status = IsUnknown old new status
+Does env (Some Apply) old new status = DoesApply old new status
 Does env None old new status = IsUnknown old new status

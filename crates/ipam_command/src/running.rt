@@ -4,6 +4,7 @@ ghost use Rattle.ipam_words.specs.Words.{asked_by, command_named};
 ghost use Rattle.ipam_command.specs.Commands.{Does, IsSound, TellsUnknown};
 
 use crate::statuses::{UNKNOWN_WORDS, WRITE_FAULT, code_of, code_of_gen, code_of_play};
+use ipam_apply::apply;
 use ipam_cni::cni;
 use ipam_commands::{get, release, routes};
 use ipam_gen::generate;
@@ -16,7 +17,7 @@ use std::alloc::Global;
 
 /// Runs the command that the words name, and answers the exit status. It always returns.
 ///
-/// The source is read by `play` and `cni` alone, the environment is looked at by `cni` alone, and the
+/// The source is read by `play`, `apply` and `cni` alone, the environment is looked at by `cni` alone, and the
 /// keeper is not asked by `play` and `gen`. Words that name no command are answered `unknown words`.
 pub fn run_command<S: Source, K: Sink, D: Keeper>(
     alloc: Global,
@@ -89,7 +90,7 @@ fn run<S: Source, K: Sink, D: Keeper>(
         Command::Routes(node) => code_of(routes(alloc, sink, keeper, node)),
         Command::Release(node, block) => code_of(release(alloc, sink, keeper, node, block)),
         Command::Cni => cni(alloc, env, source, sink, keeper),
-        Command::Apply => unknown(sink),
+        Command::Apply => code_of(apply(alloc, source, sink, keeper)),
     }
 }
 

@@ -18,6 +18,7 @@ Pod addresses, handed out once.
   ipam                 makes one CNI call; so does ipam cni
   ipam play < SCRIPT   plays a script of datastore calls, and writes the journal of what happened
   ipam gen N           runs N drawn requests and a collection, and writes a summary
+  ipam apply < FILE    applies an IPPool, an IPReservation, an IPAMConfiguration or a list of them, in JSON
   ipam get             writes every row of the database: its key, its revision and its body
   ipam get KIND        the same of one kind: config, pools, reservations, block, affinity or handle
   ipam routes NODE     writes the blocks that are confirmed to the node
@@ -92,8 +93,8 @@ fn run(rt: &HostRuntime, words: &[String]) -> Result<u8, AllocError> {
 /// Whether the words name a command over the database.
 fn uses_database(words: &[String]) -> bool {
     match read_words(words) {
-        Some(Command::Cni | Command::Get(_) | Command::Routes(_) | Command::Release(_, _)) => true,
-        _ => false,
+        Some(Command::Play | Command::Gen(_)) | None => false,
+        Some(_) => true,
     }
 }
 

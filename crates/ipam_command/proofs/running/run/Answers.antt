@@ -3,7 +3,7 @@ use Rattle.ipam_words.specs.declared.command.Command.{Command}
 use Rattle.ipam_words.specs.Words.{Cni, Play, Apply, Get, Routes, Release, Gen, asked_by}
 use Rattle.ipam_commands.specs.Texts.{rows_text, routes_text}
 use Rattle.ipam_command.specs.Commands.{IsSound}
-use Rattle.ipam_command.proofs.DoLemmas.{asked, does-gen, does-play, does-tell}
+use Rattle.ipam_command.proofs.DoLemmas.{apply-ends, asked, does-gen, does-play, does-tell}
 use Rattle.ipam_command.proofs.running.run.Goals as goal
 
 pub release-requires : goal.release-requires
@@ -67,4 +67,9 @@ returns-in-Cni-clause-does g c =
 pub returns-in-Apply-clause-does : goal.returns-in-Apply-clause-does
 returns-in-Apply-clause-does g c =
     asked c.args.env.now _ (Some Apply) _ _ _ (ap (λ (x : Command). Some (asked_by x)) c.in-Apply.is)
-    (record { told = c.unknown.ensures.told; source = record { left = refl; read_faults = refl }; keeper = record { rows = refl; keeper_faults = refl } })
+    (record {
+      ending = c.apply.result;
+      has_status = search rules;
+      ends = apply-ends (λ same. record { rows = search rules; keeper_faults = search rules }) c.apply.ensures.applied;
+      at_end = c.apply.ensures.whole;
+    })
