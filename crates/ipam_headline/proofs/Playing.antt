@@ -1,5 +1,5 @@
 -- What is played is a right history.
-use Rattle.std.proofs.Common.{◌≡◌, ◌≢◌, ℕ, List, [], ◌∷◌, Option, drop, length, refl, sym, ap, ◌∙◌, subst}
+use Rattle.std.proofs.Common.{◌≡◌, ◌≢◌, ℕ, List, [], ◌∷◌, length, refl, sym, ◌∙◌, subst}
 use Rattle.std.specs.Prelude.{◌++◌, reverse, Contains}
 use Rattle.std.proofs.Math.Seq.{drop-append_seam}
 use Rattle.std.proofs.lemmas.List.{reverse-append}
@@ -7,9 +7,8 @@ use Rattle.std.proofs.lemmas.List.Sorted.{Contains-permutation, IsPermutation-sy
 use Rattle.ipam_records.specs.declared.call.Row.{Row as RowText}
 use Rattle.ipam_records.specs.Datastore.{Datastore}
 use Rattle.ipam_model.specs.declared.entry.Entry.{Entry}
-use Rattle.ipam_model.specs.Course.{Event}
 use Rattle.ipam_model.specs.History.{Base, Lawful}
-use Rattle.ipam_model.specs.Opened.{OpensAs, Texts}
+use Rattle.ipam_model.specs.Opened.{Texts}
 use Rattle.ipam_laws.proofs.EventHistory.{courses_are_lawful}
 use Rattle.ipam_laws.proofs.OneRecord.{drop-lawful}
 use Rattle.ipam_laws.proofs.OpenedHistory.{opened_law}

@@ -13,7 +13,7 @@ use Rattle.ipam_script.specs.Reading.{line_reading}
 use Rattle.ipam_play.specs.declared.refusal.LineRefusal.TheVariants as refusal
 use Rattle.ipam_play.specs.Played.{events_in}
 use Rattle.ipam_play.specs.Readings.{Reading, read_or_not, reading_of, readings}
-use Rattle.ipam_play.specs.Script.{Stops, Ended, Broken, Gathered, Place, OfBase, Again, Happens, Script, behind_step, events_of, nothing_gathered, place_of, happening, has_key, script_from, script_of, steps_from, stopped, with_row, with_counter}
+use Rattle.ipam_play.specs.Script.{Stops, Ended, Broken, Gathered, Place, OfBase, Again, Happens, Script, behind_step, events_of, nothing_gathered, place_of, has_key, script_from, script_of, steps_from, stopped, with_row, with_counter}
 use Rattle.ipam_play.specs.SoundLine.{IsSoundLine}
 use Rattle.ipam_play.proofs.SoundLines.{reading_sound}
 

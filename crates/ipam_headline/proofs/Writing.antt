@@ -1,16 +1,13 @@
 -- What is written of a script tells of a right history.
-use Rattle.std.proofs.Common.{◌≡◌, ℕ, ◌⊎◌, inl, inr, List, [], Option, refl, sym, ap, ◌∙◌, subst}
+use Rattle.std.proofs.Common.{◌≡◌, ℕ, inl, inr, List, [], Option, sym, subst}
 use Rattle.std.specs.Prelude.{◌++◌}
-use Rattle.std.specs.Io.KnownBytes.{append_known}
-use Rattle.std.proofs.lemmas.List.{append-nil}
 use Rattle.ipam_io.specs.Streams.{AppendsPrefix}
 use Rattle.ipam_model.specs.declared.entry.Entry.{Entry}
-use Rattle.ipam_play.specs.Output.{ending_text, journal_text}
+use Rattle.ipam_play.specs.Output.{ending_text}
 use Rattle.ipam_play.specs.Played.{Ending, Whole, LineRefused, NotOpened}
-use Rattle.ipam_play_run.specs.declared.end.PlayEnd.{PlayEnd}
 use Rattle.ipam_play_run.specs.declared.end.PlayEnd.TheVariants as end
-use Rattle.ipam_play_run.specs.Writing.{HasWritten, IsFront, IsPart, IsText, OfAll, OfFront, WritesAll, WritesFront, IsWhole, IsRefusedLine, IsRefusedBase, read_fault_text}
-use Rattle.ipam_headline.specs.Headline.{HasWrittenRight, IsRightOf, OfEnding, OfReadFault, WrittenRightLaw, WrotePartRight, WroteRight, script_in}
+use Rattle.ipam_play_run.specs.Writing.{IsFront, IsText, OfAll, OfFront, WritesAll, WritesFront, IsWhole, IsRefusedLine, IsRefusedBase, read_fault_text}
+use Rattle.ipam_headline.specs.Headline.{IsRightOf, OfEnding, OfReadFault, WrittenRightLaw, WrotePartRight, WroteRight, script_in}
 use Rattle.ipam_headline.proofs.Playing.{front_lawful, lawful_right, nothing_right, played_lawful, played_right}
 
 front-right : (bytes : List ℕ) (done : List Entry) → IsFront (script_in bytes) done → IsRightOf (script_in bytes) done
