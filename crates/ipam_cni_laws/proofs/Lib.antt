@@ -1,2 +1,3 @@
 mod TryAgain
 mod Ready
+mod Spared

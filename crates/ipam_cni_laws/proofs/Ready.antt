@@ -13,7 +13,7 @@ use Rattle.cni_gc.specs.Replies.{status_reply_of}
 use Rattle.ipam_cni.specs.Replies.{opened}
 use Rattle.ipam_cni_laws.specs.Alone.{StatusLaw}
 
-ready-plain : (found : Answer) → status_reply_of found ≡ Some Success → plain_of found ≡ Some CanGive
+pub ready-plain : (found : Answer) → status_reply_of found ≡ Some Success → plain_of found ≡ Some CanGive
 ready-plain (answer.Added given) e = absurd cc
 ready-plain (answer.AddedThis given) e = absurd cc
 ready-plain (answer.Exhausted scan) e = absurd cc
@@ -36,7 +36,7 @@ ready-plain answer.Spent e = absurd cc
 ready-plain answer.Fault e = absurd cc
 ready-plain (answer.Ready scans) e = refl
 
-plain-ready : (found : Answer) → plain_of found ≡ Some CanGive → status_reply_of found ≡ Some Success
+pub plain-ready : (found : Answer) → plain_of found ≡ Some CanGive → status_reply_of found ≡ Some Success
 plain-ready (answer.Added given) e = absurd cc
 plain-ready (answer.AddedThis given) e = absurd cc
 plain-ready (answer.Exhausted scan) e = absurd cc

@@ -1,2 +1,3 @@
 -- What CNI calls are told that run by themselves.
 pub mod Alone
+pub mod Spare

@@ -2,6 +2,7 @@
 #![tactic(auto)]
 
 ghost use Rattle.ipam_cni_laws.specs.Alone.{NoTryAgainLaw, StatusLaw};
+ghost use Rattle.ipam_cni_laws.specs.Spare.{GcLeavesLaw, StatusAddsLaw};
 
 /// No call is told to try again later, code 11: nobody else runs.
 pub fn no_call_is_told_to_try_again()
@@ -11,4 +12,16 @@ pub fn no_call_is_told_to_try_again()
 /// STATUS of one family tells of the ADD that asks for the same on the same rows.
 pub fn status_tells_of_the_add()
     ensures { StatusLaw }
+{}
+
+/// GC leaves exactly the owners of other networks and nodes, and those whose handles are of valid
+/// attachments, where the rows that were opened have spare.
+pub fn gc_leaves_what_is_outside_the_scope_or_listed()
+    ensures { GcLeavesLaw }
+{}
+
+/// STATUS has the status 0 exactly where the ADD that asks for the same would be given its addresses,
+/// where the rows that were opened have spare.
+pub fn status_succeeds_where_the_add_gives_addresses()
+    ensures { StatusAddsLaw }
 {}

@@ -1,0 +1,2 @@
+-- What the program writes tells of right histories.
+pub mod Headline

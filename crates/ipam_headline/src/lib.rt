@@ -1,0 +1,22 @@
+//! What the program tells of is right in the whole sense of the model. Each function does nothing: its
+//! contract is the law.
+#![tactic(auto)]
+
+ghost use Rattle.ipam_headline.specs.Headline.{PlayedRightLaw, WrittenRightLaw};
+
+/// Whatever bytes a script has, and however it ends: the entries that are played are, over what its
+/// base opens as, a history that is right in all that the model says of records, owners, counts,
+/// claims, labels, answers and bounds, at each of its moments. A restart is one of the events, and what
+/// runs then is stopped.
+#[tactic(auto, using(crate::proofs::Playing::played_right))]
+pub fn what_is_played_is_right()
+    ensures { PlayedRightLaw }
+{}
+
+/// What `play` has written is the journal of a right history, with the last line of its ending. Where
+/// the source failed or memory was wanted, it is one of the entries so far; where the sink failed, a
+/// front part was written of the journal of a right history.
+#[tactic(auto, using(crate::proofs::Writing::written_right))]
+pub fn what_play_writes_tells_of_a_right_history()
+    ensures { WrittenRightLaw }
+{}
