@@ -1,0 +1,10 @@
+#!/usr/bin/env bash
+# Times CNI ADD and DEL as processes beside host-local's, of Debian's package containernetworking-plugins.
+set -eu
+top=$(cd "$(dirname "$0")/.." && pwd)
+local=${HOST_LOCAL:-/usr/lib/cni/host-local}
+[ -x "$local" ] || { echo "bench/cni.sh: there is no $local: install containernetworking-plugins, or name it in HOST_LOCAL" >&2; exit 1; }
+"$top/ipam" --version >&2
+program=$top/release/ipam
+[ -x "$program" ] || program=$top/crates/ipamd/out/ipamd
+exec python3 "$top/bench/cni.py" "$program" "$local" "$@"
