@@ -122,8 +122,8 @@ pub fn the_parts_of_an_entry_are_told_by_its_line()
 {}
 
 /// Two lawful histories whose journals are one text have as many entries, and entry by entry the same
-/// slots and kinds, and calls of the same names, fates and replies that wrote a record and were
-/// answered alike.
+/// slots and kinds, and calls that have the same fates, and in their texts the same names, replies,
+/// records and answers.
 pub fn histories_of_one_journal_are_told_alike()
     ensures { (base other : Base) (history further : List Entry) → IsDatastore base.store
         → IsDatastore other.store → Lawful base history → Lawful other further

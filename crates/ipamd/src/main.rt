@@ -1,24 +1,53 @@
-//! The program: its commands over standard input and output.
+//! The program: its commands over standard input and output, and over a database file.
 #![tactic(auto)]
 
-mod command;
-
-use command::{NO_MEMORY, WRITE_FAULT, run_command};
+use ipam_command::{NO_MEMORY, WRITE_FAULT, run_command};
 use ipam_io::{StdSink, StdSource};
+use ipam_keeper::{Keeper, MemoryKeeper};
+use ipam_sqlite::SqliteKeeper;
+use ipam_text::Text;
+use ipam_words::{Command, read_words};
+use std::alloc::AllocError;
+use std::env::VarError;
 use std::process::ExitCode;
 use std::{env, io};
 
 const HELP: &str = "\
 Pod addresses, handed out once.
 
+  ipam                 makes one CNI call; so does ipam cni
   ipam play < SCRIPT   plays a script of datastore calls, and writes the journal of what happened
+  ipam gen N           runs N drawn requests and a collection, and writes a summary
+  ipam apply < FILE    applies an IPPool, an IPReservation, an IPAMConfiguration or a list of them, in JSON
+  ipam get             writes every row of the database: its key, its revision and its body
+  ipam get KIND        the same of one kind: config, pools, reservations, block, affinity or handle
+  ipam routes NODE     writes the blocks that are confirmed to the node
+  ipam release NODE CIDR
+                       releases the node's affinity to the block
   ipam --help          writes this
   ipam --version       writes the version
+
+The database is the file that IPAM_DB names, else ipam.db.
 
 Example: ipam play < examples/first-run.script
 ";
 
 const VERSION: &str = "ipam 0.1.0\n";
+
+/// The database file, where the environment names none.
+const DATABASE: &str = "ipam.db";
+
+/// What a CNI call takes of the environment.
+const CNI_NAMES: [&str; 5] = [
+    "CNI_COMMAND",
+    "CNI_CONTAINERID",
+    "CNI_NETNS",
+    "CNI_IFNAME",
+    "CNI_ARGS",
+];
+
+/// Stands for a value that is no text, and is refused wherever it is looked at.
+const NO_TEXT: &str = "\u{fffd}";
 
 fn main(rt: HostRuntime) -> ExitCode {
     let Ok(words) = words_of(&rt) else {
@@ -27,11 +56,10 @@ fn main(rt: HostRuntime) -> ExitCode {
     if let Some(text) = told_at_once(&words) {
         return told(&rt, text);
     }
-    let environment = Vec::new(rt.alloc());
-    let mut source = StdSource::new(rt.stdin());
-    let mut sink = StdSink::new(io::writer(&rt));
-    let status = run_command(rt.alloc(), &words, &environment, &mut source, &mut sink);
-    ExitCode::from(status)
+    match run(&rt, &words) {
+        Ok(status) => ExitCode::from(status),
+        Err(AllocError) => ExitCode::from(NO_MEMORY),
+    }
 }
 
 /// What is written of these words without a command.
@@ -48,6 +76,78 @@ fn told(rt: &HostRuntime, text: &str) -> ExitCode {
     match print!(rt; "{text}") {
         Ok(()) => ExitCode::SUCCESS,
         Err(_) => ExitCode::from(WRITE_FAULT),
+    }
+}
+
+/// Runs the command, over the database file where it uses that.
+fn run(rt: &HostRuntime, words: &[String]) -> Result<u8, AllocError> {
+    if !uses_database(words) {
+        let mut none = MemoryKeeper::new(Vec::new(rt.alloc()), Vec::new(rt.alloc()));
+        return run_over(rt, words, &mut none);
+    }
+    let path = database(rt)?;
+    let mut keeper = SqliteKeeper::open(rt, path.as_str());
+    run_over(rt, words, &mut keeper)
+}
+
+/// Whether the words name a command over the database.
+fn uses_database(words: &[String]) -> bool {
+    match read_words(words) {
+        Some(Command::Play | Command::Gen(_)) | None => false,
+        Some(_) => true,
+    }
+}
+
+/// Runs the command over standard input and output and the keeper.
+fn run_over<D: Keeper>(
+    rt: &HostRuntime,
+    words: &[String],
+    keeper: &mut D,
+) -> Result<u8, AllocError> {
+    let environment = environment(rt)?;
+    let mut source = StdSource::new(rt.stdin());
+    let mut sink = StdSink::new(io::writer(rt));
+    Ok(run_command(
+        rt.alloc(),
+        words,
+        environment.as_slice(),
+        &mut source,
+        &mut sink,
+        keeper,
+    ))
+}
+
+/// What the environment says of a CNI call.
+fn environment(rt: &HostRuntime) -> Result<Vec<(Text, Text)>, AllocError> {
+    let mut pairs = Vec::new(rt.alloc());
+    for name in CNI_NAMES {
+        push_pair(rt, &mut pairs, name)?;
+    }
+    Ok(pairs)
+}
+
+/// Appends the variable, where it is there.
+fn push_pair(
+    rt: &HostRuntime,
+    pairs: &mut Vec<(Text, Text)>,
+    name: &str,
+) -> Result<(), AllocError> {
+    let value = match env::var(rt, name) {
+        Ok(value) => Text::of(value),
+        Err(VarError::NotUnicode) => Text::copied(rt.alloc(), NO_TEXT)?,
+        Err(VarError::NotPresent) => return Ok(()),
+        Err(VarError::OutOfMemory) => return Err(AllocError),
+    };
+    pairs.push((Text::copied(rt.alloc(), name)?, value))?;
+    Ok(())
+}
+
+/// The name of the database file.
+fn database(rt: &HostRuntime) -> Result<Text, AllocError> {
+    match env::var(rt, "IPAM_DB") {
+        Ok(path) => Ok(Text::of(path)),
+        Err(VarError::NotPresent | VarError::NotUnicode) => Text::copied(rt.alloc(), DATABASE),
+        Err(VarError::OutOfMemory) => Err(AllocError),
     }
 }
 

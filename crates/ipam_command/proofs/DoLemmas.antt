@@ -1,0 +1,53 @@
+-- What each command does is what is asked by its words.
+use Rattle.std.proofs.Common.{◌≡◌, ℕ, List, Option, Some, None, refl, sym, subst, ap, ◌∙◌}
+use Rattle.std.specs.Prelude.{option_map}
+use Rattle.cni_types.specs.Reading.{Pair}
+use Rattle.ipam_records.specs.declared.call.Row.{Row as RowText}
+use Rattle.ipam_records.specs.Datastore.{Datastore}
+use Rattle.ipam_words.specs.declared.command.Command.{Command}
+use Rattle.ipam_words.specs.Words.{Asked, Cni, Play, Apply, Get, Routes, Release, Gen, asked_by}
+use Rattle.ipam_play_run.specs.declared.end.PlayEnd.{PlayEnd}
+use Rattle.ipam_gen.specs.declared.end.GenEnd.{GenEnd}
+use Rattle.ipam_gen.specs.Summary as gen
+use Rattle.ipam_apply.specs.Applied.{ApplyEnds, DocumentEnds, Input, Read, ReadFailed, NoInput, Good, Bad, NoRoom}
+use Rattle.ipam_apply.specs.Outside as apply_outside
+use Rattle.ipam_commands.specs.declared.status.Status.{Status}
+use Rattle.ipam_commands.specs.Telling.{Tells, Writes}
+use Rattle.ipam_command.specs.Commands.{Does, DoesGen, DoesPlay, DoesTell, IsPlayed, IsUnknown, LeavesKeeper, LeavesSource, Outside, TellsUnknown}
+use Rattle.ipam_command.specs.Statuses.{code_of, code_of_gen, code_of_play}
+
+-- what is done of what is asked
+pub asked : (env : List Pair) (one other : Option Asked) (old new : Outside) (status : ℕ) → one ≡ other → Does env other old new status → Does env one old new status
+asked env one other old new status is does = subst (λ (a : Option Asked). Does env a old new status) (sym is) does
+
+-- words that name no command
+pub does-unknown : (env : List Pair) (words : Option Asked) (old new : Outside) (status : ℕ) → words ≡ None → TellsUnknown old.written new.written old.write_faults new.write_faults status
+    → LeavesSource old new → LeavesKeeper old new → Does env words old new status
+does-unknown env words old new status is told source keeper = asked env words None old new status is (record { told = told; source = source; keeper = keeper })
+
+pub does-play : (old new : Outside) (ending : PlayEnd) (status : ℕ) → status ≡ code_of_play ending → IsPlayed old new ending → LeavesKeeper old new → DoesPlay old new status
+does-play old new ending status is played keeper = record { ending = ending; has_status = is; played = played; keeper = keeper }
+
+pub does-gen : (count : ℕ) (old new : Outside) (ending : GenEnd) (status : ℕ) → status ≡ code_of_gen ending → gen.HasWritten ending count old.written new.written
+    → gen.CountsFaults ending old.write_faults new.write_faults → LeavesSource old new → LeavesKeeper old new → DoesGen count old new status
+does-gen count old new ending status is written faults source keeper =
+    record { ending = ending; has_status = is; written = written; faults = faults; source = source; keeper = keeper }
+
+pub does-tell : (text : List RowText → Datastore → List ℕ) (old new : Outside) (ending : Status) (status : ℕ) → status ≡ code_of ending
+    → Tells old.rows old.keeper_faults new.keeper_faults text (λ said own. Writes old.written new.written old.write_faults new.write_faults said own ending)
+    → LeavesSource old new → new.rows ≡ old.rows → DoesTell text old new status
+does-tell text old new ending status is tells source rows = record { ending = ending; has_status = is; tells = tells; source = source; same_rows = rows }
+
+-- ---- `apply`: that the keeper is the same may be said in a weaker way
+
+document-ends : {same other : Type 0} {document : List ℕ} {old new : apply_outside.Outside} {end : Status} → (same → other)
+    → DocumentEnds same document old new end → DocumentEnds other document old new end
+document-ends weaker (Good resources is ends) = Good resources is ends
+document-ends weaker (Bad fault is same says) = Bad fault is (weaker same) says
+document-ends weaker (NoRoom same untold) = NoRoom (weaker same) untold
+
+pub apply-ends : {same other : Type 0} {input input' : Input} {old new : apply_outside.Outside} {end : Status} → (same → other)
+    → ApplyEnds same input input' old new end → ApplyEnds other input input' old new end
+apply-ends weaker (Read document is faults ends) = Read document is faults (document-ends weaker ends)
+apply-ends weaker (ReadFailed rose same says) = ReadFailed rose (weaker same) says
+apply-ends weaker (NoInput faults same untold) = NoInput faults (weaker same) untold

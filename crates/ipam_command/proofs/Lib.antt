@@ -1,0 +1,2 @@
+pub mod DoLemmas
+pub mod WordLemmas

@@ -1,0 +1,176 @@
+-- What each command does, and the status that it ends with.
+use Rattle.std.specs.Prelude.{◌≡◌, ◌≢◌, ◌⊎◌, ℕ, List, Option, Some, None, IfSome, Result, codes}
+use Rattle.std.specs.Io.KnownBytes.{append_known, IsAtEnd}
+use Rattle.ipam_io.specs.Counts.{Rose}
+use Rattle.ipam_io.specs.Streams.{AppendsPrefix}
+use Rattle.ipam_records.specs.declared.call.Row.{Row as RowText}
+use Rattle.ipam_records.specs.Datastore.{Datastore}
+use Rattle.ipam_records.specs.Sound.{IsName}
+use Rattle.ipam_words.specs.Words.{Asked, Cni, Play, Apply, Get, Routes, Release, Gen}
+use Rattle.ipam_play.specs.Readings.{readings}
+use Rattle.ipam_play.specs.Script.{script_of}
+use Rattle.ipam_play_run.specs.declared.end.PlayEnd.{PlayEnd}
+use Rattle.ipam_play_run.specs.declared.end.PlayEnd.TheVariants as play
+use Rattle.ipam_play_run.specs.Writing as play_run
+use Rattle.ipam_gen.specs.declared.end.GenEnd.{GenEnd}
+use Rattle.ipam_gen.specs.Summary as gen
+use Rattle.ipam_commands.specs.declared.status.Status.{Status}
+use Rattle.ipam_commands.specs.Telling.{Tells, Writes}
+use Rattle.ipam_commands.specs.Texts.{rows_text, routes_text}
+use Rattle.ipam_commands.specs.declared.outcome.ReleaseOutcome.{ReleaseOutcome}
+use Rattle.ipam_commands.specs.Releasing.{ReleaseEnds, ReleaseWrites}
+use Rattle.ipam_kept.specs.declared.kept.KeptFault.{KeptFault}
+use Rattle.ipam_model.specs.declared.request.Request.TheVariants as request
+use Rattle.ipam_addr.specs.Shape.{CidrValue}
+use Rattle.cni_types.specs.Reading.{Pair}
+use Rattle.ipam_apply.specs.Applied as apply
+use Rattle.ipam_apply.specs.Outside as apply_outside
+use Rattle.ipam_commands.specs.declared.status.Status.TheVariants as status_of
+use Rattle.ipam_cni.specs.declared.end.CniEnd.{CniEnd}
+use Rattle.ipam_cni.specs.Calls as cni
+use Rattle.ipam_cni.specs.Ends as cni_ends
+use Rattle.ipam_command.specs.Statuses.{code_of, code_of_gen, code_of_play}
+
+-- ---- the outside
+
+-- What a command finds outside, and leaves there: the bytes that the source has left and how many of its
+-- reads failed, the bytes that the sink took and how many of its writes failed, the keeper's rows and
+-- how many of its calls failed.
+pub record Outside : Type 0 where
+  pub left : Option (List ℕ)
+  pub read_faults : ℕ
+  pub written : Option (List ℕ)
+  pub write_faults : ℕ
+  pub rows : Option (List RowText)
+  pub keeper_faults : ℕ
+
+-- the source and its count of faults are as they were
+pub record LeavesSource (old new : Outside) : Type 0 where
+  pub left : new.left ≡ old.left
+  pub read_faults : new.read_faults ≡ old.read_faults
+
+-- the keeper's rows and its count of faults are as they were
+pub record LeavesKeeper (old new : Outside) : Type 0 where
+  pub rows : new.rows ≡ old.rows
+  pub keeper_faults : new.keeper_faults ≡ old.keeper_faults
+
+-- ---- words that name no command
+
+abbrev pub unknown_text : List ℕ
+unknown_text = codes "unknown words\n"
+
+-- the text was written, or a front part of it where the sink failed
+pub data TellsUnknown (old new : Option (List ℕ)) (faults faults' : ℕ) : (status : ℕ) → Type 0 where
+  Told : new ≡ append_known old unknown_text → faults' ≡ faults → TellsUnknown old new faults faults' 2
+  Cut : AppendsPrefix old new unknown_text → Rose faults faults' → TellsUnknown old new faults faults' 4
+
+pub record IsUnknown (old new : Outside) (status : ℕ) : Type 0 where
+  pub told : TellsUnknown old.written new.written old.write_faults new.write_faults status
+  pub source : LeavesSource old new
+  pub keeper : LeavesKeeper old new
+
+-- ---- `play`
+
+-- the script that the source has was played to this end, and each fault has its cause
+pub record IsPlayed (old new : Outside) (ending : PlayEnd) : Type 0 where
+  pub written : IfSome old.left (λ bytes. play_run.HasWritten ending (script_of (readings bytes)) old.written new.written)
+  pub at_end : ending ≡ play.Done → IsAtEnd new.left
+  pub read_fault : ending ≡ play.ReadFault → Rose old.read_faults new.read_faults
+  pub no_read_fault : ending ≢ play.ReadFault → ending ≢ play.WriteFault → new.read_faults ≡ old.read_faults
+  pub write_fault : ending ≡ play.WriteFault → Rose old.write_faults new.write_faults
+  pub no_write_fault : ending ≢ play.WriteFault → new.write_faults ≡ old.write_faults
+
+pub record DoesPlay (old new : Outside) (status : ℕ) : Type 0 where
+  pub ending : PlayEnd
+  pub has_status : status ≡ code_of_play ending
+  pub played : IsPlayed old new ending
+  pub keeper : LeavesKeeper old new
+
+-- ---- `gen N`
+
+pub record DoesGen (count : ℕ) (old new : Outside) (status : ℕ) : Type 0 where
+  pub ending : GenEnd
+  pub has_status : status ≡ code_of_gen ending
+  pub written : gen.HasWritten ending count old.written new.written
+  pub faults : gen.CountsFaults ending old.write_faults new.write_faults
+  pub source : LeavesSource old new
+  pub keeper : LeavesKeeper old new
+
+-- ---- `get`, `get KIND` and `routes NODE`
+
+-- this text is told of the keeper's rows, which stay as they are
+pub record DoesTell (text : List RowText → Datastore → List ℕ) (old new : Outside) (status : ℕ) : Type 0 where
+  pub ending : Status
+  pub has_status : status ≡ code_of ending
+  pub tells : Tells old.rows old.keeper_faults new.keeper_faults text
+      (λ said own. Writes old.written new.written old.write_faults new.write_faults said own ending)
+  pub source : LeavesSource old new
+  pub same_rows : new.rows ≡ old.rows
+
+-- ---- `release NODE CIDR`
+
+-- the release runs alone over the keeper's rows
+pub record DoesRelease (node : List ℕ) (cidr : CidrValue) (old new : Outside) (status : ℕ) : Type 0 where
+  pub came : Result ReleaseOutcome KeptFault
+  pub ending : Status
+  pub has_status : status ≡ code_of ending
+  pub ends : ReleaseEnds (request.Release node cidr) came old.rows new.rows old.keeper_faults new.keeper_faults
+  pub writes : ReleaseWrites (λ said own. Writes old.written new.written old.write_faults new.write_faults said own ending) came
+  pub source : LeavesSource old new
+
+-- ---- `apply`
+
+abbrev pub input_of : Outside → apply.Input
+input_of outside = record { left = outside.left; faults = outside.read_faults }
+
+abbrev pub kept_of : Outside → apply_outside.Outside
+kept_of outside = record {
+  written = outside.written;
+  write_faults = outside.write_faults;
+  rows = outside.rows;
+  keeper_faults = outside.keeper_faults;
+}
+
+-- the source's document is applied over the keeper's rows, which stay where nothing of it is
+pub record DoesApply (old new : Outside) (status : ℕ) : Type 0 where
+  pub ending : Status
+  pub has_status : status ≡ code_of ending
+  pub ends : apply.ApplyEnds (LeavesKeeper old new) (input_of old) (input_of new) (kept_of old) (kept_of new) ending
+  pub at_end : ending ≡ status_of.Done → IsAtEnd new.left
+
+-- ---- no word, or `cni`
+
+-- what a call finds and leaves, but for what it writes
+abbrev pub sides_of : Outside → cni.Sides
+sides_of outside = record {
+  input = outside.left;
+  input_faults = outside.read_faults;
+  rows = outside.rows;
+  keeper_faults = outside.keeper_faults;
+}
+
+-- the call of this environment is made over the keeper's rows
+pub record DoesCni (env : List Pair) (old new : Outside) (status : ℕ) : Type 0 where
+  pub ending : CniEnd
+  pub went : cni.Went env ending (sides_of old) (sides_of new)
+  pub tells : cni_ends.Tells ending old.written new.written old.write_faults new.write_faults status
+  pub at_end : status ≡ 0 → IsAtEnd new.left
+  pub is_status : cni_ends.IsStatus status
+
+-- ---- all
+
+-- the node that is named has a name's form
+abbrev pub IsSound : Asked → Type 0
+IsSound (Release node cidr) = IsName node
+IsSound _ = Unit {0}
+
+-- what is done, by what the words ask
+abbrev pub Does : (env : List Pair) → Option Asked → (old new : Outside) → (status : ℕ) → Type 0
+Does env (Some Cni) old new status = DoesCni env old new status
+Does env (Some Play) old new status = DoesPlay old new status
+Does env (Some (Gen count)) old new status = DoesGen count old new status
+Does env (Some (Get kind)) old new status = DoesTell (λ rows store. rows_text kind rows) old new status
+Does env (Some (Routes node)) old new status = DoesTell (λ rows store. routes_text node store) old new status
+Does env (Some (Release node cidr)) old new status = DoesRelease node cidr old new status
+Does env (Some Apply) old new status = DoesApply old new status
+Does env None old new status = IsUnknown old new status

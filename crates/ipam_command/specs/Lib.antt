@@ -1,0 +1,3 @@
+-- What the commands of the program do.
+pub mod Statuses
+pub mod Commands

@@ -1,0 +1,11 @@
+//! The commands of the program, over any source, sink and keeper.
+#![tactic(auto)]
+
+mod running;
+mod statuses;
+
+pub use running::run_command;
+pub use statuses::{
+    BROKEN_ROWS, DONE, KEEPER_FAULT, LINE_REFUSED, NO_MEMORY, READ_FAULT, REFUSED, UNKNOWN_WORDS,
+    WRITE_FAULT,
+};

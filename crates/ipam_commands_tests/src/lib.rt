@@ -1,0 +1,10 @@
+//! Tests of the operator's commands over a keeper in memory: rows by hand, the words, and what is
+//! written.
+#![tactic(auto)]
+
+#[cfg(test)]
+mod runs;
+#[cfg(test)]
+mod tables;
+#[cfg(test)]
+mod tests;

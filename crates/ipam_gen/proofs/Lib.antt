@@ -1,0 +1,10 @@
+pub mod NameLemmas
+pub mod BaseLemmas
+pub mod CountLemmas
+pub mod RunLemmas
+pub mod AddLemmas
+pub mod DrawLemmas
+pub mod RunOutLemmas
+pub mod CollectLemmas
+pub mod OwnerLemmas
+pub mod CourseLemmas

@@ -1,0 +1,20 @@
+use Rattle.std.proofs.Common.{arith}
+use Rattle.ipam_model.specs.Course.{Feed}
+use Rattle.ipam_gen.proofs.CountLemmas.{few-again, few-exhausted, happens}
+use Rattle.ipam_gen.proofs.counted.Counted.feed.Goals as goal
+
+pub note-requires-clause-again : goal.note-requires-clause-again
+note-requires-clause-again c =
+    let few = few-again c.args.self.now c.requires.somewhere in
+    let room = c.in_ok-entry.ensures.counts.few in
+    omega arith
+
+pub note-requires-clause-exhausted : goal.note-requires-clause-exhausted
+note-requires-clause-exhausted c =
+    let few = few-exhausted c.args.self.now c.requires.somewhere in
+    let room = c.in_ok-entry.ensures.counts.few in
+    omega arith
+
+pub returns-clause-happens : goal.returns-clause-happens
+returns-clause-happens c =
+    (c.in_ok-entry.entry, happens c.args.self.now c.note.new.self c.feed.new.cluster (Feed 0 0 c.args.live.now) c.in_ok-entry.entry c.note.ensures.cluster c.in_ok-entry.ensures.adds c.note.ensures.again c.note.ensures.exhausted)

@@ -1,3 +1,0 @@
--- What the commands promise.
-pub mod Words
-pub mod Statuses
