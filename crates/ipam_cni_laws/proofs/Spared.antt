@@ -114,7 +114,6 @@ gc_leaves env stdin call old new reply store look comes opens spare =
     let is : r.is_told ≡ Success = cc (r.answer, success) in (
       sym r.text ∙ ap (λ (t : CniReply). told call.version t) is,
       record {
-        left = (alone_over (opened store) (Collect (collect_of call))).1;
         texts = r.rows;
         owners = collect_leaves (opened store) (collect_of call) consistent sound spare refl;
       },
