@@ -1,6 +1,6 @@
 -- What GC leaves and what STATUS tells, where there is spare.
-use Rattle.std.proofs.Common.{◌≡◌, ℕ, List, [], map, Option, Some, None, refl, sym, ap, ◌∙◌, subst, lit<}
-use Rattle.std.specs.Prelude.{◌↔◌, IfSome, Ok, Err}
+use Rattle.std.proofs.Common.{◌≡◌, ℕ, List, map, Option, Some, None, refl, sym, ap, ◌∙◌, subst, lit<}
+use Rattle.std.specs.Prelude.{◌↔◌, IfSome, Ok}
 use Rattle.ipam_records.specs.declared.call.Row.{Row as RowText}
 use Rattle.ipam_records.specs.Datastore.{Datastore}
 use Rattle.ipam_model.specs.declared.answer.Answer.{Answer}
@@ -21,7 +21,6 @@ use Rattle.ipam_plain.proofs.Readying.{ready_adds}
 use Rattle.ipam_plain.proofs.Whole.{collect_alone}
 use Rattle.ipam_kept.specs.Rows.{AreTextsOf, texts_loaded}
 use Rattle.cni_types.specs.declared.calls.CniGc.{CniGc}
-use Rattle.cni_types.specs.declared.calls.CniStatus.{CniStatus}
 use Rattle.cni_types.specs.declared.calls.Look.{Look}
 use Rattle.cni_types.specs.declared.calls.Look.TheVariants.{Gc, Status}
 use Rattle.cni_types.specs.Looking.{look_reading}
@@ -36,7 +35,7 @@ use Rattle.cni_asks.specs.Replying.{reply_status, told}
 use Rattle.cni_gc.specs.Begun.{collect_of, probe_of}
 use Rattle.cni_gc.specs.Replies.{gc_reply_of, status_reply_of}
 use Rattle.ipam_cni.specs.Replies.{Answered, Asked, AtOnce, BadRows, ComesTo, Refused, Reply, RequestComesTo, begun_by, opened, reply_to}
-use Rattle.ipam_cni_laws.specs.Spare.{GcLeavesLaw, LeavesSpared, StatusAddsLaw}
+use Rattle.ipam_cni_laws.specs.Spare.{GcLeavesLaw, StatusAddsLaw}
 use Rattle.ipam_cni_laws.proofs.Ready.{plain-ready, ready-plain}
 
 -- ---- what a call is replied
@@ -112,13 +111,13 @@ gc_leaves env stdin call old new reply store look comes opens spare =
     let result = plain_collect (collect_of call) store.rows in
     let plain = (collect_alone (collect_of call) (opened store) result consistent sound spare refl).0 in
     let success = collects-told (alone_over (opened store) (Collect (collect_of call))).0 (map (λ (leak : Leak). leak.owner) (leaks (suspects (collect_of call) store.rows) call.live store.rows)) plain in
-    let is : r.is_told ≡ Success = cc (r.answer, success) in
-    (sym r.text ∙ ap (λ (t : CniReply). told call.version t) is,
-     record {
-       left = (alone_over (opened store) (Collect (collect_of call))).1;
-       texts = r.rows;
-       owners = collect_leaves (opened store) (collect_of call) consistent sound spare refl;
-     })
+    let is : r.is_told ≡ Success = cc (r.answer, success) in (
+      sym r.text ∙ ap (λ (t : CniReply). told call.version t) is,
+      record {
+        texts = r.rows;
+        owners = collect_leaves (opened store) (collect_of call) consistent sound spare refl;
+      },
+    )
 
 -- ---- STATUS
 

@@ -30,11 +30,14 @@ use Rattle.ipam_cni.specs.Replies.{ComesTo, Reply, opened}
 abbrev pub IsSpared : CniGc → Allocation → Type 0
 IsSpared call a = (is_in_scope (Some (call.network, call.node)) a ≡ false) ⊎ (is_live call.live a.attributes.handle ≡ true)
 
--- the rows are the texts of a datastore whose owners are exactly those that are spared
+-- the datastore that the request of the call leaves by itself
+abbrev pub left_by : CniGc → Datastore → Datastore
+left_by call store = (alone_over (opened store) (Collect (collect_of call))).1
+
+-- the rows are its texts, and its owners are exactly those that are spared
 pub record LeavesSpared (store : Datastore) (call : CniGc) (after : List RowText) : Type 0 where
-  pub left : Datastore
-  pub texts : AreTextsOf after left
-  pub owners : (o : Owner) → Owns left o ↔ ((a : Allocation) × Recorded store o a × IsSpared call a)
+  pub texts : AreTextsOf after (left_by call store)
+  pub owners : (o : Owner) → Owns (left_by call store) o ↔ ((a : Allocation) × Recorded store o a × IsSpared call a)
 
 -- A GC call that is replied, over rows that open and have spare, succeeds without a text, and leaves
 -- exactly the owners that are outside of its scope or whose handle is listed.

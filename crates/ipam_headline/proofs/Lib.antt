@@ -2,3 +2,4 @@
 pub mod SoundScripts
 pub mod Playing
 pub mod Writing
+pub mod Generating

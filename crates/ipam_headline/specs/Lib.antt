@@ -1,2 +1,3 @@
 -- What the program writes tells of right histories.
 pub mod Headline
+pub mod Generating

@@ -3,12 +3,12 @@
 #![tactic(auto)]
 
 ghost use Rattle.ipam_headline.specs.Headline.{PlayedRightLaw, WrittenRightLaw};
+ghost use Rattle.ipam_headline.specs.Generating.{GeneratedRightLaw, SummaryRightLaw};
 
 /// Whatever bytes a script has, and however it ends: the entries that are played are, over what its
 /// base opens as, a history that is right in all that the model says of records, owners, counts,
 /// claims, labels, answers and bounds, at each of its moments. A restart is one of the events, and what
 /// runs then is stopped.
-#[tactic(auto, using(crate::proofs::Playing::played_right))]
 pub fn what_is_played_is_right()
     ensures { PlayedRightLaw }
 {}
@@ -16,7 +16,16 @@ pub fn what_is_played_is_right()
 /// What `play` has written is the journal of a right history, with the last line of its ending. Where
 /// the source failed or memory was wanted, it is one of the entries so far; where the sink failed, a
 /// front part was written of the journal of a right history.
-#[tactic(auto, using(crate::proofs::Writing::written_right))]
 pub fn what_play_writes_tells_of_a_right_history()
     ensures { WrittenRightLaw }
+{}
+
+/// The course of the generator's events is a right history, whatever number of requests is asked for.
+pub fn what_is_generated_is_right()
+    ensures { GeneratedRightLaw }
+{}
+
+/// The summary that the generator has to write is counted on a right history.
+pub fn what_gen_writes_is_counted_on_a_right_history()
+    ensures { SummaryRightLaw }
 {}
