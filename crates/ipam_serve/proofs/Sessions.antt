@@ -168,12 +168,6 @@ serves-same how old last pass s stops = from stops
 
 -- ---- exchanges
 
-pub exchanges-lock : (x : Exchange) (old new : Talk) → Exchanges x old new → new.server.taker.pass.lock ≡ old.server.taker.pass.lock
-exchanges-lock x old new e = ap (λ (p : PassValue). p.lock) e.replies.does.took.same
-
-pub serves-lock : (how : SessionEnd) (old new : Talk) → Serves how old new → new.server.taker.pass.lock ≡ old.server.taker.pass.lock
-serves-lock how old new s = ap (λ (p : PassValue). p.lock) (serves-spent how old new s).took.same
-
 pub known-append : (xs ys : List ℕ) (known : Option (List ℕ)) → prepend_known (xs ++ ys) known ≡ prepend_known xs (prepend_known ys known)
 known-append xs ys None = refl
 known-append xs ys (Some zs) = ap Some (append_assoc xs ys zs)

@@ -1,5 +1,5 @@
 -- Whole exchanges were made so far.
-use Rattle.std.proofs.Common.{◌≡◌, ◌≤◌, List}
+use Rattle.std.proofs.Common.{◌≡◌, List}
 use Rattle.std.specs.Io.KnownBytes.{prepend_known}
 use Rattle.ipam_shared.specs.Passes.{runs_in}
 use Rattle.ipam_serve.specs.Runs.{IsAtRest}
