@@ -6,3 +6,4 @@ pub mod Coming
 pub mod Running
 pub mod Going
 pub mod LineParts
+pub mod Sessions

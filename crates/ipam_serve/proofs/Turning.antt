@@ -78,7 +78,7 @@ took-slot old new entries spared t = ap (λ (p : PassValue). p.slot) t.same
 pub took-lock : (old new : PassValue) (entries : List Entry) (spared : ℕ) → Took old entries spared new → new.lock ≡ old.lock
 took-lock old new entries spared t = ap (λ (p : PassValue). p.lock) t.same
 
-then-gained : (slot : ℕ) (one two three earlier later : List Entry) → Gained slot one earlier two → Gained slot two later three → Gained slot one (later ++ earlier) three
+pub then-gained : (slot : ℕ) (one two three earlier later : List Entry) → Gained slot one earlier two → Gained slot two later three → Gained slot one (later ++ earlier) three
 then-gained slot one two three earlier later a b = record {
   more = b.more ++ a.more;
   grew = b.grew ∙ ap (λ s. b.more ++ s) a.grew ∙ sym (append_assoc b.more a.more one);

@@ -5,3 +5,4 @@ pub mod Faults
 pub mod Turns
 pub mod Runs
 pub mod Lines
+pub mod Sessions

@@ -1,15 +1,20 @@
 //! One session of the node daemon: lines are read, what each asks is done in the session's slot of a
-//! shared cluster, and each is replied to.
+//! shared cluster, and each is replied to. A line that asks for routes is replied to as one that is
+//! not read.
 #![tactic(auto)]
 
+mod ends;
 mod lines;
 mod ran;
 mod requests;
+mod session;
 mod turns;
 
+pub use ends::SessionEnd;
 pub use ipam_io::{Clock, Gate, Link};
 pub use ipam_session::{Refusal, Reply};
 pub use ipam_shared::{Keeper, Pass, Shared};
 pub use lines::answer_line;
 pub use ran::{Broken, Ran};
 pub use requests::{run_call, run_feed, run_request};
+pub use session::serve_session;

@@ -1,0 +1,217 @@
+-- What the lines of a session come to.
+use Rattle.std.proofs.Common.{◌≡◌, ◌↔◌, ◌⊎◌, ◌<◌, ◌≤◌, ℕ, zero, suc, ◌+◌, arith, inl, inr, List, [], ◌∷◌, ◌++◌, length, Option, Some, None, IsSome, refl, sym, ap, ◌∙◌, subst, append_assoc}
+use Rattle.std.specs.Prelude.{IfErr, IfSome, OnOk, OnErr, Result, Ok, Err}
+use Rattle.std.specs.Io.KnownBytes.{append_known, prepend_known}
+use Rattle.ipam_io.specs.Streams.{AppendsPrefix}
+use Rattle.ipam_lines.specs.Feeds.{IsLine}
+use Rattle.ipam_model.specs.declared.entry.Entry.{Entry}
+use Rattle.ipam_model.specs.declared.entry.Entry.TheVariants as entry
+use Rattle.ipam_model.specs.Cluster.{Running}
+use Rattle.ipam_session.specs.declared.replies.Reply.{Reply}
+use Rattle.ipam_session.specs.Replies.{reply_line}
+use Rattle.ipam_session.specs.declared.wish.Wish.{Wish}
+use Rattle.ipam_shared.specs.PassValue.{PassValue}
+use Rattle.ipam_shared.specs.declared.faults.SpentPass.{SpentPass}
+use Rattle.ipam_shared.specs.Deeds.{told_if}
+use Rattle.ipam_shared.specs.Passes.{IsSamePass, runs_in}
+use Rattle.ipam_shared.specs.Turning.{SeesNext}
+use Rattle.ipam_serve.specs.declared.ends.SessionEnd.{SessionEnd}
+use Rattle.ipam_serve.specs.declared.ends.SessionEnd.TheVariants as end
+use Rattle.ipam_serve.specs.declared.ran.Broken.{Broken}
+use Rattle.ipam_serve.specs.declared.ran.Broken.TheVariants.{Halted, Worn, Memory}
+use Rattle.ipam_serve.specs.Faults.{IsWorn, OnWorn}
+use Rattle.ipam_serve.specs.Gains.{Gained, Passed, Took, asked_after, asked_in, calls_in}
+use Rattle.ipam_serve.specs.Lines.{Breaks, Replies, Server, asked_by}
+use Rattle.ipam_serve.specs.Runs.{Taker}
+use Rattle.ipam_serve.specs.Sessions.{Ends, Exchange, Exchanges, IsCause, IsStopped, Leaves, LeavesUndone, LeavesUntold, Nothing, ReadsLine, Rest, Serves, Session, StopsLast, Sums, Talk, Talks, Undone, Untold, end_of, line_limit, lines_in, lines_read, with_pass}
+use Rattle.ipam_serve.proofs.Entries.{of_slot-told}
+use Rattle.ipam_serve.proofs.Running.{none-asked}
+use Rattle.ipam_serve.proofs.Turning.{passed-nothing, passed-then, then-gained, took-nothing, took-slot, took-spared, took-then}
+
+-- what was taken, line by line
+pub record Spent (spared : ℕ) (old new : Taker) : Type 0 where
+  pub entries : List Entry
+  pub took : Took old.pass entries spared new.pass
+  pub passed : Passed entries old.turns new.turns
+
+spent-none : (taker : Taker) → Spent 0 taker taker
+spent-none taker = record { entries = []; took = took-nothing taker.pass; passed = passed-nothing taker.turns }
+
+spent-then : (m n : ℕ) (one two three : Taker) → Spent m one two → Spent n two three → Spent (m + n) one three
+spent-then m n one two three a b = record {
+  entries = b.entries ++ a.entries;
+  took = took-then one.pass two.pass three.pass a.entries b.entries m n a.took b.took;
+  passed = passed-then one.turns two.turns three.turns a.entries b.entries a.passed b.passed;
+}
+
+spent-more : (m n : ℕ) (old new : Taker) → m ≤ n → Spent m old new → Spent n old new
+spent-more m n old new less s = record { entries = s.entries; took = took-spared old.pass new.pass s.entries m n less s.took; passed = s.passed }
+
+replies-spent : (asked : Option Wish) (reply : Reply) (old new : Server) → Replies asked reply old new → Spent 1 old.taker new.taker
+replies-spent asked reply old new r = record { entries = r.does.entries; took = r.does.took; passed = r.does.passed }
+
+breaks-spent : (asked : Option Wish) (old new : Server) → Breaks asked old new → Spent 2 old.taker new.taker
+breaks-spent asked old new b = record { entries = b.does.entries; took = b.does.took; passed = b.does.passed }
+
+talks-spent : (exchanges : List Exchange) (old new : Talk) → Talks exchanges old new → Spent (length exchanges) old.server.taker new.server.taker
+talks-spent [] old new same = subst (λ (t : Talk). Spent 0 old.server.taker t.server.taker) (sym same) (spent-none old.server.taker)
+talks-spent (x ∷ earlier) old new talks =
+    spent-more (length earlier + 1) (length (x ∷ earlier)) old.server.taker new.server.taker (omega arith)
+    (spent-then (length earlier) 1 old.server.taker talks.0.server.taker new.server.taker (talks-spent earlier old talks.0 talks.1)
+    (replies-spent (asked_by x.line) x.reply talks.0.server new.server talks.2.replies))
+
+leaves-spent : (rest : Rest) (old new : Talk) → Leaves rest old new → Spent (lines_in rest + 1) old.server.taker new.server.taker
+leaves-spent Nothing old new same = spent-more 0 1 old.server.taker new.server.taker (omega arith) (subst (λ (t : Talk). Spent 0 old.server.taker t.server.taker) (sym same) (spent-none old.server.taker))
+leaves-spent (Undone line) old new l = breaks-spent (asked_by line) old.server new.server l.breaks
+leaves-spent (Untold line reply) old new l = spent-more 1 2 old.server.taker new.server.taker (omega arith) (replies-spent (asked_by line) reply old.server new.server l.replies)
+
+pub serves-spent : (how : SessionEnd) (old new : Talk) (s : Serves how old new) → Spent (lines_read s + 1) old.server.taker new.server.taker
+serves-spent how old new s =
+    spent-more (length s.exchanges + (lines_in s.ends.rest + 1)) (lines_read s + 1) old.server.taker new.server.taker (omega arith)
+    (spent-then (length s.exchanges) (lines_in s.ends.rest + 1) old.server.taker s.between.server.taker new.server.taker
+    (talks-spent s.exchanges old s.between s.talks) (leaves-spent s.ends.rest s.between new s.ends.leaves))
+
+-- ---- the last stop
+
+no-entries : (entries : List Entry) → length entries ≤ 0 → asked_after None entries ≡ None
+unfolding asked_after
+no-entries [] none = refl
+no-entries (new ∷ entries) none = absurd (omega arith)
+
+-- what was idle is so, or has a turn left
+idle-or-left : (old new : PassValue) (entries : List Entry) (spared : ℕ) → Took old entries spared new → runs_in old ≡ None → (runs_in new ≡ None) ⊎ (0 < new.left)
+idle-or-left old new entries spared t idle = from old.left refl
+  where
+    from : (n : ℕ) → old.left ≡ n → (runs_in new ≡ None) ⊎ (0 < new.left)
+    from zero e =
+        let least = t.at_least in
+        let few : length entries ≤ 0 = omega arith in
+        inl (none-asked (runs_in new) (t.runs ∙ ap (λ o. asked_after (asked_in o) entries) idle ∙ no-entries entries few))
+    from (suc n) e = let some : 0 < old.left = omega arith in inr (t.one_stays some)
+
+pub serves-stop : (how : SessionEnd) (old new : Talk) → Serves how old new → runs_in old.server.taker.pass ≡ None → (runs_in new.server.taker.pass ≡ None) ⊎ (0 < new.server.taker.pass.left)
+serves-stop how old new s idle = let spent = serves-spent how old new s in
+    idle-or-left old.server.taker.pass new.server.taker.pass spent.entries (lines_read s + 1) spent.took idle
+
+gained-told : (old new : PassValue) (told : List Entry) → SeesNext old told new → Gained old.slot old.seen told new.seen
+gained-told old new told sees = record {
+  more = told ++ sees.between;
+  grew = sees.seen ∙ sym (append_assoc told sees.between old.seen);
+  own = of_slot-told old.slot told sees.between sees.own sees.others;
+}
+
+pub stopped-so : (old new : PassValue) (told : Option Entry) → ((◌≡◌ {A = Result (Option Entry) SpentPass} (Ok told) (Ok None)) ↔ (0 < old.left × runs_in old ≡ None)) → IfSome told (λ stopped. stopped ≡ entry.Stopped old.slot) → IsSome (runs_in old)
+    → IsSamePass old new → SeesNext old (told_if told) new → new.left + 1 ≡ old.left → IsStopped old new
+stopped-so old new None idle is runs same sees left = let none = (idle.0 refl).1 in absurd (cc (none, runs))
+stopped-so old new (Some told) idle is runs same sees left = record {
+  runs = runs;
+  same = same;
+  gained = subst (λ (e : Entry). Gained old.slot old.seen (e ∷ []) new.seen) is (gained-told old new (told ∷ []) sees);
+  left = left;
+}
+
+pub some-left : (o : Option Running) (left : ℕ) → (o ≡ None) ⊎ (0 < left) → IsSome o → 0 < left
+some-left o left (inl none) some = absurd (cc (none, some))
+some-left o left (inr more) some = more
+
+sums-stopped : (lines : ℕ) (old last new : Taker) → Spent (lines + 1) old last → IsStopped last.pass new.pass → new.turns ≡ last.turns → Sums lines old new
+unfolding calls_in
+sums-stopped lines old last new s stopped turns =
+    let least = s.took.at_least in
+    let most = s.took.at_most in
+    let left = stopped.left in
+    record {
+      entries = entry.Stopped last.pass.slot ∷ s.entries;
+      gained = then-gained old.pass.slot old.pass.seen last.pass.seen new.pass.seen s.entries (entry.Stopped last.pass.slot ∷ []) s.took.gained
+          (subst (λ (n : ℕ). Gained n last.pass.seen (entry.Stopped last.pass.slot ∷ []) new.pass.seen) (took-slot old.pass last.pass s.entries (lines + 1) s.took) stopped.gained);
+      at_least = omega arith;
+      at_most = omega arith;
+      passed = record { passes = s.passed.passes; enough = s.passed.enough; counts = turns ∙ s.passed.counts };
+    }
+
+sums-idle : (lines : ℕ) (old new : Taker) → Spent (lines + 1) old new → Sums lines old new
+sums-idle lines old new s =
+    let least = s.took.at_least in
+    let most = s.took.at_most in
+    record { entries = s.entries; gained = s.took.gained; at_least = least; at_most = omega arith; passed = s.passed }
+
+pub session-so : (how : SessionEnd) (old new : Talk) (last : PassValue) → Serves how old (with_pass last new) → StopsLast last new.server.taker.pass → Session how old new
+session-so how old new last s stops = record { last = last; serves = s; stops = stops; sums = sums stops }
+  where
+    lines : ℕ
+    lines = lines_read s
+
+    before : Taker
+    before = (with_pass last new).server.taker
+
+    spent : Spent (lines + 1) old.server.taker before
+    spent = serves-spent how old (with_pass last new) s
+
+    sums : StopsLast last new.server.taker.pass → Sums lines old.server.taker new.server.taker
+    sums (inl none) = sums-idle lines old.server.taker new.server.taker
+        (subst (λ (p : PassValue). Spent (lines + 1) old.server.taker (record { pass = p; turns = new.server.taker.turns })) (sym none.1) spent)
+    sums (inr stopped) = sums-stopped lines old.server.taker before new.server.taker spent stopped refl
+
+-- nothing but the turns that are left and what was seen is another
+pub serves-same : (how : SessionEnd) (old last : Talk) (pass : PassValue) → Serves how old last → StopsLast last.server.taker.pass pass → IsSamePass old.server.taker.pass pass
+serves-same how old last pass s stops = from stops
+  where
+    first : PassValue
+    first = old.server.taker.pass
+
+    before : IsSamePass first last.server.taker.pass
+    before = (serves-spent how old last s).took.same
+
+    from : StopsLast last.server.taker.pass pass → IsSamePass first pass
+    from (inl none) = subst (λ (p : PassValue). IsSamePass first p) (sym none.1) before
+    from (inr stopped) = stopped.same ∙ ap (λ (p : PassValue). record p { left = pass.left; seen = pass.seen }) before
+
+-- ---- exchanges
+
+pub known-append : (xs ys : List ℕ) (known : Option (List ℕ)) → prepend_known (xs ++ ys) known ≡ prepend_known xs (prepend_known ys known)
+known-append xs ys None = refl
+known-append xs ys (Some zs) = ap Some (append_assoc xs ys zs)
+
+pub line-read : (line held : List ℕ) (left before : Option (List ℕ)) → IsLine line_limit line → before ≡ prepend_known ((line ++ 10 ∷ []) ++ held) left → ReadsLine line before (prepend_known held left)
+line-read line held left before is_line bytes = record { is_line = is_line; bytes = bytes ∙ known-append (line ++ 10 ∷ []) held left }
+
+abbrev pub with_turns : Option ℕ → Server → Server
+with_turns turns server = record { taker = record { pass = server.taker.pass; turns = turns }; ahead = server.ahead }
+
+module _ (line : List ℕ) (old new : Talk) (turns : Option ℕ) (coming mid : Option (List ℕ))
+    (same_turns : turns ≡ old.server.taker.turns) (reads : ReadsLine line old.coming coming) (same : new.coming ≡ coming) (kept : mid ≡ old.written) where
+  reads-new : ReadsLine line old.coming new.coming
+  reads-new = record { is_line = reads.is_line; bytes = reads.bytes ∙ ap (prepend_known (line ++ 10 ∷ [])) (sym same) }
+
+  -- it was not done to its end
+  pub ends-undone : (why : Broken) → Breaks (asked_by line) (with_turns turns old.server) new.server → OnWorn {T = Reply} (Err why) (IsWorn new.server.taker.pass) → new.written ≡ mid → Ends (end_of why) old new
+  ends-undone why breaks worn written = record { rest = Undone line; leaves = leaves; cause = cause why worn }
+    where
+      leaves : LeavesUndone line old new
+      leaves = record { reads = reads-new; breaks = subst (λ t. Breaks (asked_by line) (with_turns t old.server) new.server) same_turns breaks; writes = written ∙ kept }
+
+      cause : (b : Broken) → OnWorn {T = Reply} (Err b) (IsWorn new.server.taker.pass) → IsCause (end_of b) (Undone line) old.coming new.server.taker.pass
+      cause Halted w = inr tt
+      cause Worn w = (tt, w)
+      cause Memory w = tt
+
+  module _ (reply : Reply) (replied : Replies (asked_by line) reply (with_turns turns old.server) new.server) where
+    replies-new : Replies (asked_by line) reply old.server new.server
+    replies-new = subst (λ t. Replies (asked_by line) reply (with_turns t old.server) new.server) same_turns replied
+
+    -- its reply was written
+    pub exchanged : (r : Result (Unit {0}) SessionEnd) → OnOk r (new.written ≡ append_known mid (reply_line reply)) → OnOk r ((x : Exchange) × Exchanges x old new)
+    exchanged (Ok done) wrote = (record { line = line; reply = reply }, record { reads = reads-new; replies = replies-new; writes = wrote ∙ ap (λ w. append_known w (reply_line reply)) kept })
+    exchanged (Err how) wrote = tt
+
+    -- or a front part of it
+    pub ends-untold : (r : Result (Unit {0}) SessionEnd) → OnErr r (AppendsPrefix mid new.written (reply_line reply)) → IfErr r (λ how. (how ≡ end.WriteFault) ⊎ (how ≡ end.Memory)) → IfErr r (λ how. Ends how old new)
+    ends-untold (Ok done) part causes = tt
+    ends-untold (Err how) part causes = record { rest = Untold line reply; leaves = leaves; cause = cause causes }
+      where
+        leaves : LeavesUntold line reply old new
+        leaves = record { reads = reads-new; replies = replies-new; writes = subst (λ w. AppendsPrefix w new.written (reply_line reply)) kept part }
+
+        cause : (how ≡ end.WriteFault) ⊎ (how ≡ end.Memory) → IsCause how (Untold line reply) old.coming new.server.taker.pass
+        cause (inl e) = subst (λ h. IsCause h (Untold line reply) old.coming new.server.taker.pass) (sym e) tt
+        cause (inr e) = subst (λ h. IsCause h (Untold line reply) old.coming new.server.taker.pass) (sym e) tt

@@ -1,0 +1,26 @@
+use Rattle.std.proofs.Common.{◌∷◌, ◌∙◌}
+use Rattle.std.specs.Io.KnownBytes.{prepend_known}
+use Rattle.ipam_serve.specs.Sessions.{Talk}
+use Rattle.ipam_serve.proofs.session.serve_lines.Goals as goal
+
+pub exchange-requires-clause-lock : goal.exchange-requires-clause-lock
+exchange-requires-clause-lock g c = c.loop.invariant.lock ∙ c.requires.lock
+
+pub exchange-requires-clause-rests : goal.exchange-requires-clause-rests
+exchange-requires-clause-rests g c = c.loop.invariant.rests
+
+pub loop-preserved : goal.loop-preserved
+loop-preserved g c =
+    let between : Talk = record { server = record { taker = record { pass = c.loop.pass; turns = g.G.Gate.turns c.loop.gate }; ahead = g.C.Clock.ahead c.loop.clock }; coming = prepend_known c.loop.lines (g.L.Source.left c.loop.link); written = g.L.Sink.written c.loop.link } in
+    let made = c.loop.invariant.talks in
+    let next = c.in-Ok.ensures.exchanged in
+    record {
+      can = tt;
+      finite = tt;
+      lock = c.in-Ok.ensures.lock ∙ c.loop.invariant.lock;
+      rests = c.in-Ok.ensures.rests;
+      talks = (next.0 ∷ made.0, (between, made.1, next.1));
+      reads = c.in-Ok.ensures.reads ∙ c.loop.invariant.reads;
+      writes = c.in-Ok.ensures.writes ∙ c.loop.invariant.writes;
+      stops = c.in-Ok.ensures.stops ∙ c.loop.invariant.stops;
+    }

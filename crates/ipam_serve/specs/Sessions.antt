@@ -1,0 +1,188 @@
+-- What a session comes to: lines that are read, done and replied to, one after another, up to its end.
+use Rattle.std.specs.Prelude.{◌≡◌, ◌≢◌, ◌⊎◌, ℕ, ◌+◌, ◌≤◌, ⊤, Bool, true, false, List, [], ◌∷◌, ◌++◌, length, Option, None, IsSome, IfSome, Result, Ok, Err}
+use Rattle.std.specs.Io.KnownBytes.{prepend_known, append_known}
+use Rattle.ipam_io.specs.Counts.{Rose}
+use Rattle.ipam_io.specs.Streams.{AppendsPrefix}
+use Rattle.ipam_lines.specs.Feeds.{IsLine, IsTooLong}
+use Rattle.ipam_model.specs.declared.entry.Entry.{Entry}
+use Rattle.ipam_model.specs.declared.entry.Entry.TheVariants as entry
+use Rattle.ipam_session.specs.declared.replies.Reply.{Reply}
+use Rattle.ipam_session.specs.Replies.{reply_line}
+use Rattle.ipam_shared.specs.PassValue.{PassValue}
+use Rattle.ipam_shared.specs.Passes.{IsSamePass, runs_in}
+use Rattle.ipam_serve.specs.declared.ends.SessionEnd.{SessionEnd}
+use Rattle.ipam_serve.specs.declared.ends.SessionEnd.TheVariants as end
+use Rattle.ipam_serve.specs.declared.ran.Broken.{Broken}
+use Rattle.ipam_serve.specs.declared.ran.Broken.TheVariants as broken
+use Rattle.ipam_serve.specs.Faults.{IsWorn}
+use Rattle.ipam_serve.specs.Gains.{Gained, Passed}
+use Rattle.ipam_serve.specs.Lines.{Breaks, Replies, Server, asked_by}
+use Rattle.ipam_serve.specs.Runs.{Taker}
+
+-- how many bytes a line has at the most, with its line feed
+abbrev pub line_limit : ℕ
+line_limit = 1048576
+
+-- ---- lines and replies
+
+-- A session in its midst: its server, the bytes that are still to come of the link and those that went
+-- to it, where it tells them.
+pub record Talk : Type 0 where
+  pub server : Server
+  pub coming : Option (List ℕ)
+  pub written : Option (List ℕ)
+
+-- a line, without its line feed, and its reply
+pub record Exchange : Type 0 where
+  pub line : List ℕ
+  pub reply : Reply
+
+-- the line was read
+pub record ReadsLine (line : List ℕ) (old new : Option (List ℕ)) : Type 0 where
+  pub is_line : IsLine line_limit line
+  pub bytes : old ≡ prepend_known (line ++ 10 ∷ []) new
+
+-- the line was read and done, and its reply was written
+pub record Exchanges (x : Exchange) (old new : Talk) : Type 0 where
+  pub reads : ReadsLine x.line old.coming new.coming
+  pub replies : Replies (asked_by x.line) x.reply old.server new.server
+  pub writes : new.written ≡ append_known old.written (reply_line x.reply)
+
+-- these exchanges were made, one after another; the newest stands first
+abbrev pub Talks : List Exchange → Talk → Talk → Type 0
+Talks [] old new = new ≡ old
+Talks (x ∷ earlier) old new = (between : Talk) × Talks earlier old between × Exchanges x between new
+
+-- ---- the end
+
+-- what stands behind the whole exchanges: nothing, a line that was not done to its end, or one whose
+-- reply was not wholly written
+pub data Rest : Type 0 where
+  Nothing : Rest
+  Undone : (line : List ℕ) → Rest
+  Untold : (line : List ℕ) → Reply → Rest
+
+-- the line was read, and done as far as it came
+pub record LeavesUndone (line : List ℕ) (old new : Talk) : Type 0 where
+  pub reads : ReadsLine line old.coming new.coming
+  pub breaks : Breaks (asked_by line) old.server new.server
+  pub writes : new.written ≡ old.written
+
+-- the line was read and done, and of its reply a front part was written
+pub record LeavesUntold (line : List ℕ) (reply : Reply) (old new : Talk) : Type 0 where
+  pub reads : ReadsLine line old.coming new.coming
+  pub replies : Replies (asked_by line) reply old.server new.server
+  pub writes : AppendsPrefix old.written new.written (reply_line reply)
+
+abbrev pub Leaves : Rest → Talk → Talk → Type 0
+Leaves Nothing old new = new ≡ old
+Leaves (Undone line) old new = LeavesUndone line old new
+Leaves (Untold line reply) old new = LeavesUntold line reply old new
+
+abbrev pub IsUndone : Rest → Type 0
+IsUndone Nothing = ⊥
+IsUndone (Undone line) = ⊤
+IsUndone (Untold line reply) = ⊥
+
+abbrev pub IsUntold : Rest → Type 0
+IsUntold Nothing = ⊥
+IsUntold (Undone line) = ⊥
+IsUntold (Untold line reply) = ⊤
+
+-- why the session ends so, where this stands behind its whole exchanges and these bytes were to come then
+abbrev pub IsCause : SessionEnd → Rest → (coming : Option (List ℕ)) → (last : PassValue) → Type 0
+IsCause end.Closed rest coming last = (rest ≡ Nothing) × IfSome coming (λ bytes. bytes ≡ [])
+IsCause end.Cut rest coming last = (rest ≡ Nothing) × IfSome coming (λ bytes. IsLine line_limit bytes × (bytes ≢ []))
+IsCause end.LineTooLong rest coming last = (rest ≡ Nothing) × IfSome coming (IsTooLong line_limit)
+IsCause end.ReadFault rest coming last = rest ≡ Nothing
+IsCause end.WriteFault rest coming last = IsUntold rest
+IsCause end.Halted rest coming last = (rest ≡ Nothing) ⊎ IsUndone rest
+IsCause end.Worn rest coming last = IsUndone rest × IsWorn last
+IsCause end.Memory rest coming last = ⊤
+
+-- from here the session ends
+pub record Ends (how : SessionEnd) (old new : Talk) : Type 0 where
+  pub rest : Rest
+  pub leaves : Leaves rest old new
+  pub cause : IsCause how rest old.coming new.server.taker.pass
+
+-- whole exchanges were made, and then the session ended
+pub record Serves (how : SessionEnd) (old new : Talk) : Type 0 where
+  pub exchanges : List Exchange
+  pub between : Talk
+  pub talks : Talks exchanges old between
+  pub ends : Ends how between new
+
+-- how many whole lines were read
+abbrev pub lines_in : Rest → ℕ
+lines_in Nothing = 0
+lines_in (Undone line) = 1
+lines_in (Untold line reply) = 1
+
+abbrev pub lines_read : {how : SessionEnd} {old new : Talk} → Serves how old new → ℕ
+lines_read served = length served.exchanges + lines_in served.ends.rest
+
+-- ---- the last stop
+
+-- what ran in the slot was stopped by one turn
+pub record IsStopped (old new : PassValue) : Type 0 where
+  pub runs : IsSome (runs_in old)
+  pub same : IsSamePass old new
+  pub gained : Gained old.slot old.seen (entry.Stopped old.slot ∷ []) new.seen
+  pub left : new.left + 1 ≡ old.left
+
+-- nothing ran, or it was stopped
+abbrev pub StopsLast : (old new : PassValue) → Type 0
+StopsLast old new = ((runs_in old ≡ None) × (new ≡ old)) ⊎ IsStopped old new
+
+-- ---- the whole
+
+-- What it came to, with so many lines read: each entry of the slot took a turn, and no more than one turn
+-- for each line and one more was spared an entry.
+pub record Sums (lines : ℕ) (old new : Taker) : Type 0 where
+  pub entries : List Entry
+  pub gained : Gained old.pass.slot old.pass.seen entries new.pass.seen
+  pub at_least : new.pass.left + length entries ≤ old.pass.left
+  pub at_most : old.pass.left ≤ new.pass.left + length entries + lines + 1
+  pub passed : Passed entries old.turns new.turns
+
+-- as it stands with this pass
+abbrev pub with_pass : PassValue → Talk → Talk
+with_pass pass talk = record talk { server = record talk.server { taker = record talk.server.taker { pass = pass } } }
+
+-- a session up to its end, with the pass that it had before the last stop
+pub record Session (how : SessionEnd) (old new : Talk) : Type 0 where
+  pub last : PassValue
+  pub serves : Serves how old (with_pass last new)
+  pub stops : StopsLast last new.server.taker.pass
+  pub sums : Sums (lines_read serves) old.server.taker new.server.taker
+
+-- ---- counts
+
+abbrev pub is_read_fault : SessionEnd → Bool
+is_read_fault end.ReadFault = true
+is_read_fault other = false
+
+abbrev pub is_write_fault : SessionEnd → Bool
+is_write_fault end.WriteFault = true
+is_write_fault other = false
+
+abbrev pub is_halted : SessionEnd → Bool
+is_halted end.Halted = true
+is_halted other = false
+
+-- the count rose, or stands as it was
+abbrev pub RoseIf : Bool → (old new : ℕ) → Type 0
+RoseIf true old new = Rose old new
+RoseIf false old new = new ≡ old
+
+-- the count rose where the session ended so
+abbrev pub RoseAt : {T : Type 0} → (SessionEnd → Bool) → Result T SessionEnd → (old new : ℕ) → Type 0
+RoseAt which (Ok value) old new = new ≡ old
+RoseAt which (Err how) old new = RoseIf (which how) old new
+
+-- how a session ends where what its line asked was broken off
+abbrev pub end_of : Broken → SessionEnd
+end_of broken.Halted = end.Halted
+end_of broken.Worn = end.Worn
+end_of broken.Memory = end.Memory

@@ -1,0 +1,20 @@
+/// How a session ended.
+#[derive(Clone, Copy, Debug, PartialEq, Eq)]
+pub enum SessionEnd {
+    /// The input ended between lines.
+    Closed,
+    /// The input ended inside a line.
+    Cut,
+    /// There were 1,048,576 bytes without a line end.
+    LineTooLong,
+    /// A read of the link failed.
+    ReadFault,
+    /// A write to the link failed.
+    WriteFault,
+    /// The gate stopped it.
+    Halted,
+    /// The pass has too few turns left, or the cluster has 2^62 entries.
+    Worn,
+    /// There was no memory.
+    Memory,
+}

@@ -1,0 +1,247 @@
+//! A session, line by line up to its end.
+ghost use Rattle.std.specs.Prelude.{◌≡◌, ◌⊎◌, ◌<◌, ℕ, List, Option, None, IsSome, IfOk, IfErr, OnOk, OnErr, false};
+ghost use Rattle.std.specs.Io.KnownBytes.{append_known, prepend_known};
+ghost use Rattle.ipam_io.specs.Streams.{AppendsPrefix};
+ghost use Rattle.ipam_session.specs.Replies.{reply_line};
+ghost use Rattle.ipam_shared.specs.PassValue.{PassValue};
+ghost use Rattle.ipam_shared.specs.Passes.{IsSamePass, runs_in};
+ghost use Rattle.ipam_serve.specs.Runs.{IsAtRest};
+ghost use Rattle.ipam_serve.specs.Sessions.{Ends, Exchange, Exchanges, IsCause, IsStopped, Nothing, ReadsLine, RoseAt, RoseIf, Serves, Session, StopsLast, end_of, is_halted, is_read_fault, is_write_fault};
+
+use crate::ends::SessionEnd;
+use crate::lines::answer_line;
+use crate::ran::Broken;
+use ipam_io::{Clock, Gate, Link, Passed, Point};
+use ipam_lines::{Got, Lines, LinesFault};
+use ipam_session::{Reply, push_reply};
+use ipam_shared::{Keeper, Pass, Shared, SpentPass};
+use std::alloc::Global;
+use std::sync::Wait;
+
+/// A line has at most so many bytes, its line feed among them.
+const LINE_LIMIT: usize = 1_048_576;
+
+/// Serves a session over the link, in the pass's slot, until it ends. A line is replied to before the
+/// next is read. What waits in the slot at the end is stopped by one more turn. It waits for the link
+/// and for turns at the cluster.
+pub fn serve_session<R: Wait, L: Link, D: Keeper, G: Gate, C: Clock>(
+    rt: &R,
+    alloc: Global,
+    shared: &Shared<D>,
+    pass: &mut Pass,
+    gate: &mut G,
+    clock: &mut C,
+    link: &mut L,
+) -> SessionEnd
+    requires lock { pass.old.lock ≡ shared.now }
+    requires idle { runs_in pass.old ≡ None }
+    ensures served { (held : List ℕ) × Session result
+        (record {
+          server = record { taker = record { pass = pass.old; turns = G.turns gate.old }; ahead = C.ahead clock.old };
+          coming = L.left link.old;
+          written = L.written link.old;
+        })
+        (record {
+          server = record { taker = record { pass = pass.new; turns = G.turns gate.new }; ahead = C.ahead clock.new };
+          coming = prepend_known held (L.left link.new);
+          written = L.written link.new;
+        }) }
+    ensures idle { runs_in pass.new ≡ None }
+    ensures same { IsSamePass pass.old pass.new }
+    ensures reads { RoseIf (is_read_fault result) (L.read_faults link.old) (L.read_faults link.new) }
+    ensures writes { RoseIf (is_write_fault result) (L.write_faults link.old) (L.write_faults link.new) }
+    ensures stops { RoseIf (is_halted result) (G.stops gate.old) (G.stops gate.new) }
+{
+    let end = serve_lines(rt, alloc, shared, pass, gate, clock, link);
+    stop_last(rt, shared, pass);
+    end
+}
+
+/// Reads, does and replies to lines until the session ends. What waits in the slot then still does.
+fn serve_lines<R: Wait, D: Keeper, G: Gate, C: Clock, L: Link>(
+    rt: &R,
+    alloc: Global,
+    shared: &Shared<D>,
+    pass: &mut Pass,
+    gate: &mut G,
+    clock: &mut C,
+    link: &mut L,
+) -> SessionEnd
+    requires lock { pass.old.lock ≡ shared.now }
+    requires rests { IsAtRest (runs_in pass.old) }
+    ensures served { (held : List ℕ) × Serves result
+        (record {
+          server = record { taker = record { pass = pass.old; turns = G.turns gate.old }; ahead = C.ahead clock.old };
+          coming = L.left link.old;
+          written = L.written link.old;
+        })
+        (record {
+          server = record { taker = record { pass = pass.new; turns = G.turns gate.new }; ahead = C.ahead clock.new };
+          coming = prepend_known held (L.left link.new);
+          written = L.written link.new;
+        }) }
+    ensures lock { pass.new.lock ≡ pass.old.lock }
+    ensures reads { RoseIf (is_read_fault result) (L.read_faults link.old) (L.read_faults link.new) }
+    ensures writes { RoseIf (is_write_fault result) (L.write_faults link.old) (L.write_faults link.new) }
+    ensures stops { RoseIf (is_halted result) (G.stops gate.old) (G.stops gate.new) }
+{
+    let mut lines = Lines::<LINE_LIMIT>::new(alloc);
+    for _ in rt.forever() {
+        match exchange(rt, alloc, shared, pass, gate, clock, link, &mut lines) {
+            Ok(()) => {}
+            Err(end) => return end,
+        }
+    }
+    unreachable!()
+}
+
+/// Reads a line, does what it asks and writes its reply.
+fn exchange<R: Wait, D: Keeper, G: Gate, C: Clock, L: Link>(
+    rt: &R,
+    alloc: Global,
+    shared: &Shared<D>,
+    pass: &mut Pass,
+    gate: &mut G,
+    clock: &mut C,
+    link: &mut L,
+    lines: &mut Lines<LINE_LIMIT>,
+) -> Result<(), SessionEnd>
+    requires lock { pass.old.lock ≡ shared.now }
+    requires rests { IsAtRest (runs_in pass.old) }
+    ensures exchanged { OnOk result ((x : Exchange) × Exchanges x
+        (record {
+          server = record { taker = record { pass = pass.old; turns = G.turns gate.old }; ahead = C.ahead clock.old };
+          coming = prepend_known lines.old (L.left link.old);
+          written = L.written link.old;
+        })
+        (record {
+          server = record { taker = record { pass = pass.new; turns = G.turns gate.new }; ahead = C.ahead clock.new };
+          coming = prepend_known lines.new (L.left link.new);
+          written = L.written link.new;
+        })) }
+    ensures ended { IfErr result (λ how. Ends how
+        (record {
+          server = record { taker = record { pass = pass.old; turns = G.turns gate.old }; ahead = C.ahead clock.old };
+          coming = prepend_known lines.old (L.left link.old);
+          written = L.written link.old;
+        })
+        (record {
+          server = record { taker = record { pass = pass.new; turns = G.turns gate.new }; ahead = C.ahead clock.new };
+          coming = prepend_known lines.new (L.left link.new);
+          written = L.written link.new;
+        })) }
+    ensures rests { OnOk result (IsAtRest (runs_in pass.new)) }
+    ensures lock { pass.new.lock ≡ pass.old.lock }
+    ensures reads { RoseAt is_read_fault result (L.read_faults link.old) (L.read_faults link.new) }
+    ensures writes { RoseAt is_write_fault result (L.write_faults link.old) (L.write_faults link.new) }
+    ensures stops { RoseAt is_halted result (G.stops gate.old) (G.stops gate.new) }
+{
+    match read_line(gate, link, lines) {
+        Ok(line) => {
+            let told = answer_line(rt, alloc, shared, pass, gate, clock, line.as_slice());
+            drop(line);
+            match told {
+                Ok(reply) => write_reply(alloc, link, reply),
+                Err(broken) => Err(end_of(broken)),
+            }
+        }
+        Err(end) => Err(end),
+    }
+}
+
+fn end_of(broken: Broken) -> SessionEnd
+    ensures { result ≡ end_of broken }
+{
+    match broken {
+        Broken::Halted => SessionEnd::Halted,
+        Broken::Worn => SessionEnd::Worn,
+        Broken::Memory => SessionEnd::Memory,
+    }
+}
+
+/// Reads the next line, once the gate lets it.
+fn read_line<G: Gate, L: Link>(
+    gate: &mut G,
+    link: &mut L,
+    lines: &mut Lines<LINE_LIMIT>,
+) -> Result<Vec<u8>, SessionEnd>
+    ensures line { IfOk result (λ line. ReadsLine line.items (prepend_known lines.old (L.left link.old)) (prepend_known lines.new (L.left link.new))) }
+    ensures none { OnErr result (prepend_known lines.new (L.left link.new) ≡ prepend_known lines.old (L.left link.old)) }
+    ensures cause { (pass : PassValue) → IfErr result (λ how. IsCause how Nothing (prepend_known lines.old (L.left link.old)) pass) }
+    ensures turns { G.turns gate.new ≡ G.turns gate.old }
+    ensures written { L.written link.new ≡ L.written link.old }
+    ensures reads { RoseAt is_read_fault result (L.read_faults link.old) (L.read_faults link.new) }
+    ensures writes { RoseAt is_write_fault result (L.write_faults link.old) (L.write_faults link.new) }
+    ensures stops { RoseAt is_halted result (G.stops gate.old) (G.stops gate.new) }
+{
+    match gate.pass(Point::Line) {
+        Passed::Go => next_line(link, lines),
+        Passed::Stop => Err(SessionEnd::Halted),
+    }
+}
+
+/// Reads the next line.
+fn next_line<L: Link>(link: &mut L, lines: &mut Lines<LINE_LIMIT>) -> Result<Vec<u8>, SessionEnd>
+    ensures line { IfOk result (λ line. ReadsLine line.items (prepend_known lines.old (L.left link.old)) (prepend_known lines.new (L.left link.new))) }
+    ensures none { OnErr result (prepend_known lines.new (L.left link.new) ≡ prepend_known lines.old (L.left link.old)) }
+    ensures cause { (pass : PassValue) → IfErr result (λ how. IsCause how Nothing (prepend_known lines.old (L.left link.old)) pass) }
+    ensures written { L.written link.new ≡ L.written link.old }
+    ensures reads { RoseAt is_read_fault result (L.read_faults link.old) (L.read_faults link.new) }
+    ensures writes { RoseAt is_write_fault result (L.write_faults link.old) (L.write_faults link.new) }
+    ensures not_halted { IfErr result (λ how. is_halted how ≡ false) }
+{
+    match lines.next(link) {
+        Ok(Got::Line(line)) => Ok(line),
+        Ok(Got::End) => Err(SessionEnd::Closed),
+        Ok(Got::Cut) => Err(SessionEnd::Cut),
+        Err(LinesFault::TooLong) => Err(SessionEnd::LineTooLong),
+        Err(LinesFault::Read) => Err(SessionEnd::ReadFault),
+        Err(LinesFault::Memory) => Err(SessionEnd::Memory),
+    }
+}
+
+/// Writes the line of the reply in one write.
+fn write_reply<L: Link>(alloc: Global, link: &mut L, reply: Reply) -> Result<(), SessionEnd>
+    ensures wrote { OnOk result (L.written link.new ≡ append_known (L.written link.old) (reply_line reply)) }
+    ensures part { OnErr result (AppendsPrefix (L.written link.old) (L.written link.new) (reply_line reply)) }
+    ensures cause { IfErr result (λ how. (how ≡ SessionEnd.WriteFault) ⊎ (how ≡ SessionEnd.Memory)) }
+    ensures left { L.left link.new ≡ L.left link.old }
+    ensures reads { L.read_faults link.new ≡ L.read_faults link.old }
+    ensures writes { RoseAt is_write_fault result (L.write_faults link.old) (L.write_faults link.new) }
+{
+    let mut text = String::new(alloc);
+    let pushed = push_reply(alloc, &mut text, &reply);
+    drop(reply);
+    match pushed {
+        Ok(()) => match link.write(text.as_bytes()) {
+            Ok(()) => Ok(()),
+            Err(_) => Err(SessionEnd::WriteFault),
+        },
+        Err(_) => Err(SessionEnd::Memory),
+    }
+}
+
+/// Stops what runs in the slot.
+fn stop_last<R: Wait, D: Keeper>(rt: &R, shared: &Shared<D>, pass: &mut Pass)
+    requires lock { pass.old.lock ≡ shared.now }
+    requires left { (runs_in pass.old ≡ None) ⊎ (0 < pass.old.left) }
+    ensures stopped { StopsLast pass.old pass.new }
+    ensures idle { runs_in pass.new ≡ None }
+{
+    if pass.running() {
+        stop_running(rt, shared, pass);
+    }
+}
+
+fn stop_running<R: Wait, D: Keeper>(rt: &R, shared: &Shared<D>, pass: &mut Pass)
+    requires lock { pass.old.lock ≡ shared.now }
+    requires runs { IsSome (runs_in pass.old) }
+    requires left { 0 < pass.old.left }
+    ensures stopped { IsStopped pass.old pass.new }
+    ensures idle { runs_in pass.new ≡ None }
+{
+    match shared.stop(rt, pass) {
+        Ok(entry) => drop(entry),
+        Err(SpentPass) => unreachable!(),
+    }
+}
