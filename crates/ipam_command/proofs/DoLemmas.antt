@@ -1,6 +1,12 @@
 -- What each command does is what is asked by its words.
 use Rattle.std.proofs.Common.{◌≡◌, ℕ, List, Option, Some, None, refl, sym, subst, ap, ◌∙◌}
-use Rattle.std.specs.Prelude.{option_map}
+use Rattle.std.specs.Prelude.{IfSome, option_map}
+use Rattle.ipam_play.specs.Readings.{readings}
+use Rattle.ipam_play.specs.Script.{script_of}
+use Rattle.ipam_play_run.specs.Writing as play_run
+use Rattle.ipam_headline.specs.Headline.{HasWrittenRight}
+use Rattle.ipam_headline.proofs.Generating.{summary_right}
+use Rattle.ipam_headline.proofs.Writing.{written_right}
 use Rattle.cni_types.specs.Reading.{Pair}
 use Rattle.ipam_records.specs.declared.call.Row.{Row as RowText}
 use Rattle.ipam_records.specs.Datastore.{Datastore}
@@ -31,7 +37,7 @@ does-play old new ending status is played keeper = record { ending = ending; has
 pub does-gen : (count : ℕ) (old new : Outside) (ending : GenEnd) (status : ℕ) → status ≡ code_of_gen ending → gen.HasWritten ending count old.written new.written
     → gen.CountsFaults ending old.write_faults new.write_faults → LeavesSource old new → LeavesKeeper old new → DoesGen count old new status
 does-gen count old new ending status is written faults source keeper =
-    record { ending = ending; has_status = is; written = written; faults = faults; source = source; keeper = keeper }
+    record { ending = ending; has_status = is; written = written; right = summary_right count; faults = faults; source = source; keeper = keeper }
 
 pub does-tell : (text : List RowText → Datastore → List ℕ) (old new : Outside) (ending : Status) (status : ℕ) → status ≡ code_of ending
     → Tells old.rows old.keeper_faults new.keeper_faults text (λ said own. Writes old.written new.written old.write_faults new.write_faults said own ending)
@@ -51,3 +57,11 @@ pub apply-ends : {same other : Type 0} {input input' : Input} {old new : apply_o
 apply-ends weaker (Read document is faults ends) = Read document is faults (document-ends weaker ends)
 apply-ends weaker (ReadFailed rose same says) = ReadFailed rose (weaker same) says
 apply-ends weaker (NoInput faults same untold) = NoInput faults (weaker same) untold
+
+-- ---- `play`: what was written of a script tells of a right history
+
+pub written-right : (left : Option (List ℕ)) (ending : PlayEnd) (first now : Option (List ℕ))
+    → IfSome left (λ bytes. play_run.HasWritten ending (script_of (readings bytes)) first now)
+    → IfSome left (λ bytes. HasWrittenRight ending (script_of (readings bytes)) first now)
+written-right (Some bytes) ending first now written = written_right bytes ending first now written
+written-right None ending first now written = written

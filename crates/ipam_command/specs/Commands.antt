@@ -14,6 +14,8 @@ use Rattle.ipam_play_run.specs.declared.end.PlayEnd.TheVariants as play
 use Rattle.ipam_play_run.specs.Writing as play_run
 use Rattle.ipam_gen.specs.declared.end.GenEnd.{GenEnd}
 use Rattle.ipam_gen.specs.Summary as gen
+use Rattle.ipam_headline.specs.Headline.{HasWrittenRight}
+use Rattle.ipam_headline.specs.Generating.{IsRightSummary}
 use Rattle.ipam_commands.specs.declared.status.Status.{Status}
 use Rattle.ipam_commands.specs.Telling.{Tells, Writes}
 use Rattle.ipam_commands.specs.Texts.{rows_text, routes_text}
@@ -71,9 +73,11 @@ pub record IsUnknown (old new : Outside) (status : ℕ) : Type 0 where
 
 -- ---- `play`
 
--- the script that the source has was played to this end, and each fault has its cause
+-- the script that the source has was played to this end, what was written tells of a right history, and
+-- each fault has its cause
 pub record IsPlayed (old new : Outside) (ending : PlayEnd) : Type 0 where
   pub written : IfSome old.left (λ bytes. play_run.HasWritten ending (script_of (readings bytes)) old.written new.written)
+  pub right : IfSome old.left (λ bytes. HasWrittenRight ending (script_of (readings bytes)) old.written new.written)
   pub at_end : ending ≡ play.Done → IsAtEnd new.left
   pub read_fault : ending ≡ play.ReadFault → Rose old.read_faults new.read_faults
   pub no_read_fault : ending ≢ play.ReadFault → ending ≢ play.WriteFault → new.read_faults ≡ old.read_faults
@@ -88,10 +92,12 @@ pub record DoesPlay (old new : Outside) (status : ℕ) : Type 0 where
 
 -- ---- `gen N`
 
+-- the numbers are those that are counted on the generator's course, which is a right history
 pub record DoesGen (count : ℕ) (old new : Outside) (status : ℕ) : Type 0 where
   pub ending : GenEnd
   pub has_status : status ≡ code_of_gen ending
   pub written : gen.HasWritten ending count old.written new.written
+  pub right : (text : List ℕ) → gen.IsSummaryText count text → IsRightSummary count text
   pub faults : gen.CountsFaults ending old.write_faults new.write_faults
   pub source : LeavesSource old new
   pub keeper : LeavesKeeper old new

@@ -3,7 +3,7 @@ use Rattle.ipam_words.specs.declared.command.Command.{Command}
 use Rattle.ipam_words.specs.Words.{Cni, Play, Apply, Get, Routes, Release, Gen, asked_by}
 use Rattle.ipam_commands.specs.Texts.{rows_text, routes_text}
 use Rattle.ipam_command.specs.Commands.{IsSound}
-use Rattle.ipam_command.proofs.DoLemmas.{apply-ends, asked, does-gen, does-play, does-tell}
+use Rattle.ipam_command.proofs.DoLemmas.{apply-ends, asked, does-gen, does-play, does-tell, written-right}
 use Rattle.ipam_command.proofs.running.run.Goals as goal
 
 pub release-requires : goal.release-requires
@@ -15,6 +15,7 @@ returns-in-Play-clause-does g c =
     (does-play _ _ c.play.result _ c.code_of_play.ensures
     (record {
       written = c.play.ensures.written;
+      right = written-right _ _ _ _ c.play.ensures.written;
       at_end = c.play.ensures.read;
       read_fault = c.play.ensures.read_fault;
       no_read_fault = c.play.ensures.no_read_fault;
