@@ -3,7 +3,6 @@ use Rattle.std.proofs.Common.{◌≡◌, ◌↔◌, ◌⊎◌, ◌<◌, ◌≤�
 use Rattle.std.specs.Prelude.{IfErr, IfSome, OnOk, OnErr, Result, Ok, Err}
 use Rattle.std.specs.Io.KnownBytes.{append_known, prepend_known}
 use Rattle.ipam_io.specs.Streams.{AppendsPrefix}
-use Rattle.ipam_lines.specs.Feeds.{IsLine}
 use Rattle.ipam_model.specs.declared.entry.Entry.{Entry}
 use Rattle.ipam_model.specs.declared.entry.Entry.TheVariants as entry
 use Rattle.ipam_model.specs.Cluster.{Running}
@@ -23,7 +22,7 @@ use Rattle.ipam_serve.specs.Faults.{IsWorn, OnWorn}
 use Rattle.ipam_serve.specs.Gains.{Gained, Passed, Took, asked_after, asked_in, calls_in}
 use Rattle.ipam_serve.specs.Lines.{Breaks, Replies, Server, asked_by}
 use Rattle.ipam_serve.specs.Runs.{Taker}
-use Rattle.ipam_serve.specs.Sessions.{Ends, Exchange, Exchanges, IsCause, IsStopped, Leaves, LeavesUndone, LeavesUntold, Nothing, ReadsLine, Rest, Serves, Session, StopsLast, Sums, Talk, Talks, Undone, Untold, end_of, line_limit, lines_in, lines_read, with_pass}
+use Rattle.ipam_serve.specs.Sessions.{Ends, Exchange, Exchanges, IsCause, IsStopped, Leaves, LeavesUndone, LeavesUntold, Nothing, ReadsLine, Rest, Serves, Session, StopsLast, Sums, Talk, Talks, Undone, Untold, end_of, lines_in, lines_read, with_pass}
 use Rattle.ipam_serve.proofs.Entries.{of_slot-told}
 use Rattle.ipam_serve.proofs.Running.{none-asked}
 use Rattle.ipam_serve.proofs.Turning.{passed-nothing, passed-then, then-gained, took-nothing, took-slot, took-spared, took-then}
@@ -167,13 +166,6 @@ serves-same how old last pass s stops = from stops
     from (inr stopped) = stopped.same ∙ ap (λ (p : PassValue). record p { left = pass.left; seen = pass.seen }) before
 
 -- ---- exchanges
-
-pub known-append : (xs ys : List ℕ) (known : Option (List ℕ)) → prepend_known (xs ++ ys) known ≡ prepend_known xs (prepend_known ys known)
-known-append xs ys None = refl
-known-append xs ys (Some zs) = ap Some (append_assoc xs ys zs)
-
-pub line-read : (line held : List ℕ) (left before : Option (List ℕ)) → IsLine line_limit line → before ≡ prepend_known ((line ++ 10 ∷ []) ++ held) left → ReadsLine line before (prepend_known held left)
-line-read line held left before is_line bytes = record { is_line = is_line; bytes = bytes ∙ known-append (line ++ 10 ∷ []) held left }
 
 abbrev pub with_turns : Option ℕ → Server → Server
 with_turns turns server = record { taker = record { pass = server.taker.pass; turns = turns }; ahead = server.ahead }
