@@ -7,13 +7,16 @@ ghost use Rattle.ipam_records.specs.Said.{said};
 ghost use Rattle.ipam_records.specs.Said as says;
 ghost use Rattle.ipam_records.specs.Datastore.{listed};
 ghost use Rattle.ipam_store.specs.AlwaysSound.{IsAlwaysSound, IsSoundCall};
+ghost use Rattle.ipam_store_tests.specs.RecordCall.{IsRecordCall, IsCountedWrite};
 
 use ipam_addr::{Addr, Cidr, Family, cidr, read_cidr};
 use ipam_affinity::{Affinity, State};
 use ipam_block::Block;
 use ipam_handle::Handle;
 use ipam_pool::PoolTable;
-use ipam_records::{Call, Config, Key, Kind, MOST_BLOCKS, MOST_ROWS, Record, Reply, key_of_text};
+use ipam_records::{
+    Call, Config, Key, Kind, MOST_BLOCKS, MOST_ROWS, Record, Reply, Write, key_of_text,
+};
 use ipam_store::{LoadFault, Store};
 use ipam_text::{Seq, Text};
 use std::alloc::{AllocError, Global};
@@ -158,6 +161,32 @@ pub fn ask(store: &mut Store, call: Call) -> Result<Answer, AllocError>
     if let Answer::Can(revision) = answer {
         if let Some(write) = call.into_write(revision) {
             store.apply(write);
+        }
+    }
+    Ok(answer)
+}
+
+/// Whether a block that the write puts was written less often than the write's revision says.
+fn is_counted(write: &Write) -> bool
+    ensures { IsTrue result → IsCountedWrite write.now }
+{
+    match write {
+        Write::Put(revision, Record::Block(block)) => block.sequence() < *revision,
+        _ => true,
+    }
+}
+
+/// Asks the store, and applies the write that it grants unless a block in it was written too often.
+pub fn ask_counted(store: &mut Store, call: Call) -> Result<Answer, AllocError>
+    requires { IsRecordCall call }
+{
+    store.reserve()?;
+    let answer = answer_of(&store.reply(&call));
+    if let Answer::Can(revision) = answer {
+        if let Some(write) = call.into_write(revision) {
+            if is_counted(&write) {
+                store.apply(write);
+            }
         }
     }
     Ok(answer)

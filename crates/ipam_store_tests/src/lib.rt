@@ -4,4 +4,8 @@
 #[cfg(test)]
 mod calls;
 #[cfg(test)]
+mod compared;
+#[cfg(test)]
+mod plain;
+#[cfg(test)]
 mod tests;
