@@ -2,9 +2,11 @@
 #![tactic(auto)]
 
 mod command;
+mod serving;
 
 use command::{NO_MEMORY, WRITE_FAULT, run_command};
 use ipam_io::{StdSink, StdSource};
+use serving::{read_online, run_online};
 use std::process::ExitCode;
 use std::{env, io};
 
@@ -12,6 +14,8 @@ const HELP: &str = "\
 Pod addresses, handed out once.
 
   ipam play < SCRIPT   plays a script of datastore calls, and writes the journal of what happened
+  ipam serve ADDRESS N serves CNI calls at HOST:PORT, by N workers (1 to 16)
+  ipam call ADDRESS    makes the CNI call of its environment and standard input there
   ipam --help          writes this
   ipam --version       writes the version
 
@@ -26,6 +30,9 @@ fn main(rt: HostRuntime) -> ExitCode {
     };
     if let Some(text) = told_at_once(&words) {
         return told(&rt, text);
+    }
+    if let Some(asked) = read_online(&words) {
+        return ExitCode::from(run_online(&rt, asked));
     }
     let environment = Vec::new(rt.alloc());
     let mut source = StdSource::new(rt.stdin());
