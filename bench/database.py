@@ -6,7 +6,7 @@
 Each step is a run over a file of so many rows that ends where the next step would begin:
 
     start   `--version`: the process alone
-    open    `apply` of a bad document: the file is opened, and its table made where there is none
+    open    `apply` of a bad document: the file is opened, which reads and checks all of it
     load    `get`, with a last row whose revision is negative: all rows are loaded, which is a fault
     texts   `get`, with a first row whose key is none: all keys and bodies are read too
     tests   `get`, with a row whose revision is too high: all ten rules are tested too
@@ -89,9 +89,13 @@ def tell_steps(bench, count):
         bench.checks.same(f"{count} rows, {name}", (got, one.status), (want, status))
         own = one.processor - before
         a_row = f"{own / count * 1e6:>8.2f}" if count else f"{'':>8}"
-        print(f"{count:>8} {name:<14}{one.wall * 1e3:>9.1f}{one.processor * 1e3:>9.1f}{own * 1e3:>9.1f}{a_row}{one.peak:>10}", flush=True)
+        tell(count, name, one, f"{own * 1e3:>9.1f}{a_row}")
         before = one.processor
     others(count, file, runs)
+
+
+def tell(count, name, one, own=""):
+    print(f"{count:>8} {name:<14}{one.wall * 1e3:>9.1f}{one.processor * 1e3:>9.1f}{own:>17}{one.peak:>10}", flush=True)
 
 
 def others(count, file, runs):
@@ -100,12 +104,13 @@ def others(count, file, runs):
     for name, words in (("sqlite3", ["sqlite3", file, SELECT]), ("Python", [sys.executable, "-c", script])):
         if shutil.which(words[0]):
             one = median([ran(words) for _ in range(runs)])
-            print(f"{count:>8} {name:<14}{one.wall * 1e3:>9.1f}{one.processor * 1e3:>9.1f}{'':>17}{one.peak:>10}", flush=True)
+            tell(count, name, one)
 
 
 def tell_puts(bench, count):
     """Puts one row so many times, each in a transaction of its own."""
-    print(f"\nputs of a row, each on the disk before the next, in a file of 1,008 rows\n{'':<44}{'puts':>6}{'wall s':>9}{'cpu s':>8}{'a second':>10}")
+    print("\nputs of a row, each on the disk before the next, in a file of 1,008 rows")
+    print(f"{'':<44}{'puts':>6}{'wall s':>9}{'cpu s':>8}{'a second':>10}")
     rows = so_many_rows(1_008)
     items = [{"kind": "IPAMConfig", "spec": {"maxBlocksPerHost": number}} for number in range(count)]
     file = fresh(bench, rows)
@@ -181,7 +186,7 @@ def main():
             one, got = bench.words(["get"], f"{folder}/most.db", runs=1)
             want = "".join(f"{key} {revision} {body}\n" for key, revision, body in rows)
             bench.checks.same("262144 rows", (got == want, one.status), (True, 0))
-            print(f"{262_144:>8} {'all of it':<14}{one.wall * 1e3:>9.1f}{one.processor * 1e3:>9.1f}{'':>17}{one.peak:>10}", flush=True)
+            tell(len(rows), "all of it", one)
         tell_puts(bench, 300)
         bench.checks.end()
 

@@ -2,7 +2,5 @@
 # Times `get` over a SQLite file of 0 to 100,000 rows, and puts of rows, beside SQLite's own programs.
 set -eu
 top=$(cd "$(dirname "$0")/.." && pwd)
-"$top/ipam" --version >&2
-program=$top/release/ipam
-[ -x "$program" ] || program=$top/crates/ipamd/out/ipamd
+program=$("$top/bench/program.sh")
 exec python3 "$top/bench/database.py" "$program" "$@"

@@ -2,7 +2,5 @@
 # Plays long scripts, and tells how many entries a second were made and what the most memory was.
 set -eu
 top=$(cd "$(dirname "$0")/.." && pwd)
-"$top/ipam" --version >&2
-program=$top/release/ipam
-[ -x "$program" ] || program=$top/crates/ipamd/out/ipamd
+program=$("$top/bench/program.sh")
 exec python3 "$top/bench/play.py" "$program" "$@"
