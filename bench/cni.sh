@@ -4,7 +4,5 @@ set -eu
 top=$(cd "$(dirname "$0")/.." && pwd)
 local=${HOST_LOCAL:-/usr/lib/cni/host-local}
 [ -x "$local" ] || { echo "bench/cni.sh: there is no $local: install containernetworking-plugins, or name it in HOST_LOCAL" >&2; exit 1; }
-"$top/ipam" --version >&2
-program=$top/release/ipam
-[ -x "$program" ] || program=$top/crates/ipamd/out/ipamd
+program=$("$top/bench/program.sh")
 exec python3 "$top/bench/cni.py" "$program" "$local" "$@"
