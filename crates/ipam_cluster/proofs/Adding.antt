@@ -1,6 +1,7 @@
 -- What may come is added to each history that a cluster stands for.
-use Rattle.std.proofs.Common.{◌≡◌, ℕ, ◌+◌, ◌^◌, ◌<◌, List, length, set, Option, Some, None, IsSome, IsTrue, refl, sym, ap, ◌∙◌, subst}
+use Rattle.std.proofs.Common.{◌≡◌, ℕ, ◌+◌, ◌^◌, ◌<◌, List, ◌∷◌, length, set, Option, Some, None, IsSome, IsTrue, refl, sym, ap, ◌∙◌, subst}
 use Rattle.std.specs.List.{All}
+use Rattle.ipam_laws.proofs.RightWhole.{right_law}
 use Rattle.ipam_laws.proofs.StandsFor.{stands}
 use Rattle.ipam_records.specs.Datastore.{Datastore}
 use Rattle.ipam_records.specs.Sound.{IsHandleId}
@@ -18,7 +19,7 @@ use Rattle.ipam_model.specs.SoundRequest.{IsSoundRequest}
 use Rattle.ipam_running.specs.declared.running.Running.{Running}
 use Rattle.ipam_running.specs.Running.{running_rest, running_grace, grace_of, is_over}
 use Rattle.ipam_cluster.specs.declared.cluster.Cluster.{Cluster}
-use Rattle.ipam_cluster.specs.Cluster.{slot_of, Runs, IsSlot, IsCluster, AddsTo}
+use Rattle.ipam_cluster.specs.Cluster.{slot_of, Runs, IsSlot, IsCluster, AddsTo, StaysRight}
 use Rattle.ipam_cluster.specs.Slots.{slot_in, IsDue, RunsOn}
 use Rattle.ipam_cluster.proofs.SlotLemmas.{slots_with}
 
@@ -33,6 +34,13 @@ adds old new added may base history stood =
       is_cluster = next.1;
       stands = stands.adds (cluster_at base history) added next.0 base history stood.stands;
     }
+
+-- what adds itself to each history leaves each right
+pub stays_right : (old new : Cluster) (added : Entry) → AddsTo old new added → StaysRight old added
+unfolding StaysRight
+stays_right old new added adds base history stood =
+    let next = adds base history stood in
+    right_law base (added ∷ history) next.stands.consistent next.stands.lawful
 
 -- this datastore, one entry more, and this in the slot
 pub moved : (old new : Cluster) (one : model.Cluster) (slot : ℕ) (code : Option Running) (running : Option model.Running) (store : Datastore)

@@ -6,6 +6,7 @@ use Rattle.ipam_model.specs.declared.entry.SlotState.{SlotState}
 use Rattle.ipam_model.specs.declared.entry.SlotState.TheVariants as state
 use Rattle.ipam_model.specs.Cluster as model
 use Rattle.ipam_model.specs.History.{Base, cluster_at}
+use Rattle.ipam_model.specs.Right.{IsRight}
 use Rattle.ipam_model.specs.Stands.{Stands}
 use Rattle.ipam_collect.specs.declared.collect.Grace.{Grace}
 use Rattle.ipam_running.specs.declared.running.Running.{Running}
@@ -53,6 +54,11 @@ Stood cluster = (base : Base) × ((history : List Entry) × StandsFor cluster ba
 abbrev pub AddsTo : (old new : Cluster) → Entry → Type 0
 AddsTo old new added =
     (base : Base) (history : List Entry) → StandsFor old base history → StandsFor new base (added ∷ history)
+
+-- whatever history it stands for, that history with this entry is right
+unfoldable pub StaysRight : Cluster → Entry → Type 0
+StaysRight cluster added =
+    (base : Base) (history : List Entry) → StandsFor cluster base history → IsRight base (added ∷ history)
 
 -- the datastore, the entries and what runs in each slot are the same
 pub record IsUnchanged (old new : Cluster) : Type 0 where

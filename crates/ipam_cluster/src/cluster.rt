@@ -41,7 +41,7 @@ pub struct Cluster {
 }
 
 impl Cluster {
-    ghost use Rattle.ipam_cluster.specs.Cluster.{slot_of, state_in, AddsTo, IsUnchanged, StandsFor, WaitsWith};
+    ghost use Rattle.ipam_cluster.specs.Cluster.{slot_of, state_in, AddsTo, IsUnchanged, StandsFor, StaysRight, WaitsWith};
     ghost use Rattle.ipam_cluster.specs.Turns.{IsBaseOf, texts_in};
     ghost use Rattle.ipam_collect.specs.declared.collect.Grace.{Grace};
     ghost use Rattle.ipam_model.specs.declared.entry.SlotState.TheVariants as state;
@@ -124,6 +124,7 @@ impl Cluster {
         ensures worn { (result ≡ Err BeginFault.Worn) ↔ (slot_of self.old slot ≡ None × 2 ^ 62 ≤ self.old.entries) }
         ensures entry { IfOk result (λ began. began ≡ entry.Began slot request.now) }
         ensures adds { IfOk result (AddsTo self.old self.new) }
+        ensures right { IfOk result (StaysRight self.old) }
         ensures unchanged { OnErr result (IsUnchanged self.old self.new) }
     {
         if self.slots[slot as usize].is_some() {
@@ -159,6 +160,7 @@ impl Cluster {
             × (grace : Grace) × WaitsWith (slot_of self.old slot) grace × grace.at + grace.grace ≤ at) }
         ensures entry { IfOk result (λ fed. fed ≡ entry.Fed slot at live.now) }
         ensures adds { IfOk result (AddsTo self.old self.new) }
+        ensures right { IfOk result (StaysRight self.old) }
         ensures unchanged { OnErr result (IsUnchanged self.old self.new) }
     {
         let grace = match self.awaited(slot) {
@@ -221,6 +223,7 @@ impl Cluster {
         ensures idle { IsNone result ↔ (slot_of self.old slot ≡ None) }
         ensures entry { IfSome result (λ stopped. stopped ≡ entry.Stopped slot) }
         ensures adds { IfSome result (AddsTo self.old self.new) }
+        ensures right { IfSome result (StaysRight self.old) }
         ensures idle_after { slot_of self.new slot ≡ None }
         ensures others { (other : ℕ) → ¬ (other ≡ slot) → slot_of self.new other ≡ slot_of self.old other }
         ensures store { self.new.store.store ≡ self.old.store.store }

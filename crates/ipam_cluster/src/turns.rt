@@ -7,7 +7,7 @@ ghost use Rattle.ipam_model.specs.Cluster.{store_with};
 ghost use Rattle.ipam_records.specs.Datastore.{write_granted};
 ghost use Rattle.ipam_records.specs.Said.{said};
 ghost use Rattle.ipam_store.specs.Granted.{IsGranted, IsSoundWrite};
-ghost use Rattle.ipam_cluster.specs.Cluster.{slot_of, state_in, AddsTo, IsUnchanged, Stood};
+ghost use Rattle.ipam_cluster.specs.Cluster.{slot_of, state_in, AddsTo, IsUnchanged, StaysRight, Stood};
 ghost use Rattle.ipam_cluster.specs.Preparing.{IsPrepared, TellsOf, record_put};
 ghost use Rattle.ipam_cluster.specs.Turns.{IsTurn, write_by};
 
@@ -138,6 +138,7 @@ impl Cluster {
         ensures store { self.new.store.store ≡ store_with (write_by fate prepared.write) self.old.store.store }
         ensures others { (other : ℕ) → ¬ (other ≡ prepared.slot) → slot_of self.new other ≡ slot_of self.old other }
         ensures adds { AddsTo self.old self.new result }
+        ensures right { StaysRight self.old result }
     {
         match fate {
             Fate::Well => self.done(prepared),

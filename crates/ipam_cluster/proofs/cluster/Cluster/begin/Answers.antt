@@ -4,7 +4,7 @@ use Rattle.ipam_cluster.specs.Cluster.{slot_of, AddsTo}
 use Rattle.ipam_model.specs.declared.entry.Entry.TheVariants as entry
 use Rattle.ipam_model.specs.declared.entry.Entry.{Entry}
 use Rattle.std.proofs.Common.{subst}
-use Rattle.ipam_cluster.proofs.Adding.{begins}
+use Rattle.ipam_cluster.proofs.Adding.{begins, stays_right}
 use Rattle.ipam_cluster.proofs.SlotLemmas.{put_room}
 use Rattle.ipam_cluster.proofs.cluster.Cluster.begin.Goals as goal
 
@@ -20,3 +20,7 @@ returns-in-Ok-clause-adds c =
     c.requires.slot c.args.self.now.all_slots c.if-self-ge-MOST_ENTRIES.false idle c.requires.sound
     c.in-Ok.ensures.word c.in-Ok.ensures.grace (ap (λ s. s.store) c.put.ensures.store) c.put.ensures.entries c.put.ensures.slots in
     subst (λ (e : Entry). AddsTo c.args.self.now c.put.new.self e) (sym c.in-Ok.ensures.entry) added
+
+pub returns-in-Ok-clause-right : goal.returns-in-Ok-clause-right
+returns-in-Ok-clause-right c =
+    stays_right c.args.self.now c.put.new.self c.in-Ok.entry (returns-in-Ok-clause-adds c)
