@@ -209,10 +209,14 @@ fn first_feed(bytes: &[u8]) -> Option<usize>
     bytes.iter().position(|byte| *byte == b'\n')
 }
 
+// Moves no byte where there is nothing to drop: a long line comes in many reads.
 fn drop_front(bytes: &mut Vec<u8>, count: usize)
     requires { count ≤ vec_len bytes.old }
     ensures { bytes.new.items ≡ drop count bytes.old.items }
 {
+    if count == 0 {
+        return;
+    }
     let kept = bytes.len() - count;
     bytes.copy_within(count.., 0);
     bytes.truncate(kept);

@@ -1,6 +1,11 @@
 -- Handles whose count of a block is below their addresses there, and which of their keys is first.
 use Rattle.std.specs.Prelude.{ℕ, Bool, nat_lt, List, [], ◌∷◌, Option, Some, Result, Ok, if◌then◌else◌}
 use Rattle.std.specs.List.{count_by}
+use Rattle.std.specs.Borrow.{Bor}
+use Rattle.std.specs.BTreeMap.{BTreeMap, get_by}
+use Rattle.std.specs.Cmp.Lexicographic.{slice_cmp}
+use Rattle.std.specs.Option.{unwrap_or}
+use Rattle.std.specs.Ordering.{nat_cmp}
 use Rattle.ipam_addr.specs.Shape.{CidrValue}
 use Rattle.ipam_block.specs.declared.allocation.Allocation.{Allocation}
 use Rattle.ipam_block.specs.Operations.{is_owned}
@@ -19,6 +24,10 @@ use Rattle.ipam_opening.specs.Rules.{found_in}
 abbrev pub count_found : CidrValue → Option Record → ℕ
 count_found cidr (Some (record_of.Handle h)) = count_of h cidr
 count_found cidr _ = 0
+
+-- how many addresses are counted by the id of their handle
+abbrev pub held_in : BTreeMap (Bor (List ℕ)) ℕ → List ℕ → ℕ
+held_in counts id = unwrap_or (get_by (λ k. slice_cmp nat_cmp id k.now) counts) 0
 
 -- whether the handle of this id counts fewer addresses of the block than it owns there
 abbrev pub is_short : List Row → BlockValue → List ℕ → Bool

@@ -1,10 +1,10 @@
-ghost use Rattle.std.specs.Prelude.{◌≡◌, IfOk, None};
+ghost use Rattle.std.specs.Prelude.{◌≡◌, ℕ, List, IfOk, None};
 ghost use Rattle.std.specs.List.{count_by};
 ghost use Rattle.std.specs.Option.{option_copied};
 ghost use Rattle.ipam_block.specs.Operations.{is_owned};
 ghost use Rattle.ipam_model.specs.Opened.{readable};
 ghost use Rattle.ipam_opening.specs.Given.{IsRead};
-ghost use Rattle.ipam_opening.specs.Counts.{count_found, with_short, with_shorts, with_shorts_in, first_short};
+ghost use Rattle.ipam_opening.specs.Counts.{count_found, held_in, with_short, with_shorts, with_shorts_in, first_short};
 
 use crate::earlier::earlier;
 use crate::given::{Given, Reading};
@@ -13,6 +13,7 @@ use ipam_block::Block;
 use ipam_records::{Key, Record, key_text};
 use ipam_text::Text;
 use std::alloc::{AllocError, Global};
+use std::collections::BTreeMap;
 
 impl Given<'_> {
     /// The first key of a handle, there or not, that counts fewer addresses of some block than it
@@ -54,27 +55,32 @@ impl Given<'_> {
         ensures { IfOk result (λ f. f
             ≡ with_shorts (readable self.now.rows.now) block.now first block.now.allocations) }
     {
+        let held = held_counts(alloc, block)?;
         let mut first = first;
         for allocation in block.allocations() {
-            first = self.with_short(alloc, block, &allocation.attributes.handle, first)?;
+            let id = &allocation.attributes.handle;
+            first = self.with_short(alloc, block, id, held_of(&held, id), first)?;
         }
         Ok(first)
     }
 
-    // The first key, where the handle of this id is one more if it is short.
+    // The first key, where the handle of this id, which owns so many addresses of the block, is one
+    // more if it is short.
     fn with_short(
         &self,
         alloc: Global,
         block: &Block,
         id: &Text,
+        held: usize,
         first: Option<Text>,
     ) -> Result<Option<Text>, AllocError>
-        requires { IsRead self.now }
+        requires read { IsRead self.now }
+        requires held { held ≡ count_by (is_owned id.now) block.now.allocations }
         ensures { IfOk result (λ f. f ≡ with_short (readable self.now.rows.now) block.now id.now first) }
     {
         let key = Key::Handle(id.clone()?);
         let counted = count_found(block.cidr(), self.find(alloc, &key)?);
-        if (counted as usize) < held(block, id) {
+        if (counted as usize) < held {
             let text = Text::of(key_text(alloc, &key)?);
             return Ok(earlier(first, Some(text)));
         }
@@ -91,13 +97,23 @@ fn count_found(cidr: Cidr, found: Option<&Record>) -> u32
     }
 }
 
-/// How many addresses of the block the handle of this id owns.
-fn held(block: &Block, id: &Text) -> usize
-    ensures { result ≡ count_by (is_owned id.now) block.now.allocations }
+/// How many addresses of the block each handle owns, by its id. They are counted once for all
+/// handles: a block may have thousands of addresses.
+fn held_counts<'a>(alloc: Global, block: &'a Block) -> Result<BTreeMap<&'a str, usize>, AllocError>
+    ensures { IfOk result (λ counts. (id : List ℕ) → held_in counts id
+        ≡ count_by (is_owned id) block.now.allocations) }
 {
-    block
-        .allocations()
-        .iter()
-        .filter(|allocation| allocation.attributes.handle.as_str() == id.as_str())
-        .count()
+    let mut counts = BTreeMap::new(alloc);
+    for allocation in block.allocations() {
+        *counts
+            .entry(allocation.attributes.handle.as_str())?
+            .or_insert(0) += 1;
+    }
+    Ok(counts)
+}
+
+fn held_of(counts: &BTreeMap<&str, usize>, id: &Text) -> usize
+    ensures { result ≡ held_in counts.now id.now }
+{
+    counts.get(id.as_str()).copied().unwrap_or(0)
 }
