@@ -1,0 +1,5 @@
+use Rattle.ipam_audit.proofs.Bounds.{owners_few}
+use Rattle.ipam_audit.proofs.auditing.audit.Goals as goal
+
+pub report-requires-clause-few : goal.report-requires-clause-few
+report-requires-clause-few g c = owners_few _ c.in_ok-store.store.store c.in_ok-store.ensures
