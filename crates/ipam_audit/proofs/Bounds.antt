@@ -13,13 +13,11 @@ use Rattle.ipam_records.specs.declared.record.Record.TheVariants as record_of
 use Rattle.ipam_records.specs.Datastore.{Datastore}
 use Rattle.ipam_records.specs.Sound.{IsRow, IsRecord}
 use Rattle.ipam_model.specs.Consistent.{IsConsistent}
-use Rattle.ipam_model.specs.Opened.{Texts, OpensAs}
 use Rattle.ipam_model.specs.Owners.{owners, owners_in, owners_in_row}
 use Rattle.std.proofs.lemmas.Grind.{flat_map-append}
 use Rattle.std.specs.Global.{Vec}
 use Rattle.ipam_records.specs.Pages.{rows_of_pages}
 use Rattle.ipam_records.proofs.RowSearch.{rows-take-drop}
-use Rattle.ipam_laws.proofs.OpenedHistory.{opened_law}
 
 held_few : (b : BlockValue) → IsBlock b → length b.allocations ≤ 4096
 held_few b is =
@@ -45,9 +43,9 @@ few_in counter (row ∷ rows) all =
     let rest = few_in counter rows (All-tail (IsRow counter) row rows all) in
     simp length-append (omega arith)
 
-pub owners_few : (texts : Texts) (store : Datastore) → OpensAs texts store → length (owners store) < 2 ^ 64
-owners_few texts store opens =
-    let consistent = opened_law texts store opens in
+-- so many in a datastore of so few rows
+pub owners_small : (store : Datastore) → IsConsistent store → length (owners store) < 2 ^ 64
+owners_small store consistent =
     let few = few_in store.counter store.rows consistent.sound.rows in
     let rows = consistent.few_rows in
     omega arith

@@ -4,3 +4,4 @@ pub mod Listing
 pub mod Bounds
 pub mod Counting
 pub mod Joining
+pub mod Opened

@@ -1,4 +1,4 @@
-use Rattle.ipam_audit.proofs.Bounds.{owners_few}
+use Rattle.ipam_audit.proofs.Opened.{owners_few}
 use Rattle.ipam_audit.proofs.auditing.audit.Goals as goal
 
 pub report-requires-clause-few : goal.report-requires-clause-few

@@ -1,0 +1,10 @@
+-- What is opened has few owners.
+use Rattle.std.proofs.Common.{ℕ, ◌<◌, ◌^◌, length}
+use Rattle.ipam_records.specs.Datastore.{Datastore}
+use Rattle.ipam_model.specs.Opened.{Texts, OpensAs}
+use Rattle.ipam_model.specs.Owners.{owners}
+use Rattle.ipam_laws.proofs.OpenedHistory.{opened_law}
+use Rattle.ipam_audit.proofs.Bounds.{owners_small}
+
+pub owners_few : (texts : Texts) (store : Datastore) → OpensAs texts store → length (owners store) < 2 ^ 64
+owners_few texts store opens = owners_small store (opened_law texts store opens)
