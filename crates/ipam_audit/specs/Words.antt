@@ -1,10 +1,5 @@
 -- The words `audit N`.
-use Rattle.std.specs.Prelude.{ℕ, ◌+◌, ◌-◌, ◌==◌, List, [], ◌∷◌, ◌&&◌, nat_le, bytes_eq, codes, map, Option, Some, None, if◌then◌else◌}
-use Rattle.std.specs.String.{string_bytes}
-use Rattle.std.specs.Global.{String}
-
-abbrev pub words_in : List String → List (List ℕ)
-words_in = map string_bytes
+use Rattle.std.specs.Prelude.{ℕ, ◌+◌, ◌-◌, ◌==◌, List, [], ◌∷◌, ◌&&◌, nat_le, bytes_eq, codes, Option, Some, None, if◌then◌else◌}
 
 -- how many workers a word asks for: `1` to `9`, or `10` to `16`
 abbrev pub at_most_nine : ℕ → Option ℕ

@@ -1,7 +1,7 @@
 ghost use Rattle.std.specs.Prelude.{◌≡◌, ◌++◌, IfOk, OnOk, decimal};
 ghost use Rattle.std.specs.List.{flat_map};
 ghost use Rattle.std.specs.String.{string_bytes};
-ghost use Rattle.ipam_audit.specs.Printed.{excess_line, affinity_line, affinity_lines, numbers_line, report_text};
+ghost use Rattle.ipam_audit.specs.Printed.{affinity_line, affinity_lines, counts_text, excess_line, named_block, numbers_line, report_text};
 
 use crate::report::{Excess, Report};
 use ipam_addr::{Cidr, push_cidr};
@@ -34,18 +34,38 @@ fn push_excess_lines(
     Ok(())
 }
 
+#[tactic(auto, unfolding(crate::specs::Printed::excess_line))]
 fn push_excess(alloc: Global, out: &mut String, excess: &Excess) -> Result<(), AllocError>
     ensures { OnOk result (string_bytes out.new ≡ string_bytes out.old ++ excess_line excess.now) }
 {
-    out.push_str("excess ")?;
-    out.push_str(excess.handle.as_str())?;
+    push_named(alloc, out, "excess", excess.handle.as_str(), excess.cidr)?;
+    push_counts(alloc, out, excess.count, excess.owned)
+}
+
+/// The word, and behind it the name and the block.
+#[tactic(auto, unfolding(crate::specs::Printed::named_block))]
+fn push_named(
+    alloc: Global,
+    out: &mut String,
+    word: &str,
+    name: &str,
+    cidr: Cidr,
+) -> Result<(), AllocError>
+    ensures { OnOk result (string_bytes out.new ≡ string_bytes out.old ++ named_block word.now name.now cidr) }
+{
+    out.push_str(word)?;
     out.push_str(" ")?;
-    push_cidr(alloc, out, excess.cidr)?;
+    out.push_str(name)?;
     out.push_str(" ")?;
-    push_number(alloc, out, u64::from(excess.count))?;
-    out.push_str(" ")?;
-    push_number(alloc, out, u64::from(excess.owned))?;
-    out.push_str("\n")
+    push_cidr(alloc, out, cidr)
+}
+
+#[tactic(auto, unfolding(crate::specs::Printed::counts_text))]
+fn push_counts(alloc: Global, out: &mut String, count: u32, owned: u32) -> Result<(), AllocError>
+    ensures { OnOk result (string_bytes out.new ≡ string_bytes out.old ++ counts_text count owned) }
+{
+    let text = format!(in alloc; " {count} {owned}\n")?;
+    out.push_str(text.as_str())
 }
 
 fn push_affinity_lines(
@@ -63,6 +83,7 @@ fn push_affinity_lines(
     Ok(())
 }
 
+#[tactic(auto, unfolding(crate::specs::Printed::affinity_line))]
 fn push_affinity(
     alloc: Global,
     out: &mut String,
@@ -72,29 +93,17 @@ fn push_affinity(
     ensures { OnOk result (string_bytes out.new
         ≡ string_bytes out.old ++ affinity_line word.now affinity.now) }
 {
-    out.push_str(word)?;
-    out.push_str(" ")?;
-    out.push_str(affinity.0.as_str())?;
-    out.push_str(" ")?;
-    push_cidr(alloc, out, affinity.1)?;
+    push_named(alloc, out, word, affinity.0.as_str(), affinity.1)?;
     out.push_str("\n")
 }
 
+#[tactic(auto, unfolding(crate::specs::Printed::numbers_line))]
 fn push_numbers(alloc: Global, out: &mut String, report: &Report) -> Result<(), AllocError>
     ensures { OnOk result (string_bytes out.new ≡ string_bytes out.old ++ numbers_line report.now) }
 {
-    out.push_str("blocks ")?;
-    push_number(alloc, out, report.blocks)?;
-    out.push_str(" owners ")?;
-    push_number(alloc, out, report.owners)?;
-    out.push_str(" handles ")?;
-    push_number(alloc, out, report.handles)?;
-    out.push_str("\n")
-}
-
-pub(crate) fn push_number(alloc: Global, out: &mut String, number: u64) -> Result<(), AllocError>
-    ensures { OnOk result (string_bytes out.new ≡ string_bytes out.old ++ decimal number) }
-{
-    let text = format!(in alloc; "{number}")?;
+    let blocks = report.blocks;
+    let owners = report.owners;
+    let handles = report.handles;
+    let text = format!(in alloc; "blocks {blocks} owners {owners} handles {handles}\n")?;
     out.push_str(text.as_str())
 }

@@ -1,5 +1,5 @@
 //! The program's words `audit N`.
-ghost use Rattle.std.specs.Prelude.{◌≡◌, ◌≤◌, ◌<◌, None, IsSome, IfOk, IfErr, OnOk};
+ghost use Rattle.std.specs.Prelude.{◌≡◌, ◌≤◌, ◌<◌, None, IsSome, IfOk, IfErr, OnOk, map, string_bytes};
 ghost use Rattle.ipam_commands.specs.Telling.{IsNotLoaded, Tells, Writes};
 ghost use Rattle.ipam_commands.specs.declared.status.Status.TheVariants.{UnknownWords};
 ghost use Rattle.ipam_keeper.specs.Rows.{Ascend};
@@ -9,7 +9,7 @@ ghost use Rattle.ipam_audit.specs.Parts.{IsReportOf};
 ghost use Rattle.ipam_audit.specs.Printed.{report_text};
 ghost use Rattle.ipam_audit.specs.Reported.{report_of};
 ghost use Rattle.ipam_audit.specs.Run.{EndsSo, IsReportTold, code_of, unknown_line};
-ghost use Rattle.ipam_audit.specs.Words.{words_in, workers_asked};
+ghost use Rattle.ipam_audit.specs.Words.{workers_asked};
 
 use crate::auditing::audit;
 use crate::printed::report_text;
@@ -36,14 +36,14 @@ pub fn run_audit<R: Threads + Sync, K: Sink, D: Keeper>(
     sink: &mut K,
     keeper: &mut D,
 ) -> u8
-    ensures audited { IsSome (workers_asked (words_in words.now)) → EndsSo result (λ ending.
+    ensures audited { IsSome (workers_asked (map string_bytes words.now)) → EndsSo result (λ ending.
         Tells (D.rows keeper.old) (D.faults keeper.old) (D.faults keeper.new) (λ rows store. report_text (report_of store))
         (λ text own. Writes (K.written sink.old) (K.written sink.new)
         (K.write_faults sink.old) (K.write_faults sink.new) text own ending)) }
-    ensures unknown { workers_asked (words_in words.now) ≡ None → EndsSo result (λ ending.
+    ensures unknown { workers_asked (map string_bytes words.now) ≡ None → EndsSo result (λ ending.
         Writes (K.written sink.old) (K.written sink.new)
         (K.write_faults sink.old) (K.write_faults sink.new) unknown_line UnknownWords ending) }
-    ensures unasked { workers_asked (words_in words.now) ≡ None → D.faults keeper.new ≡ D.faults keeper.old }
+    ensures unasked { workers_asked (map string_bytes words.now) ≡ None → D.faults keeper.new ≡ D.faults keeper.old }
     ensures same_rows { D.rows keeper.new ≡ D.rows keeper.old }
     ensures same { D.name keeper.new ≡ D.name keeper.old }
     ensures rest { K.write_rest sink.new ≡ K.write_rest sink.old }

@@ -1,11 +1,11 @@
 //! The words of an audit.
-ghost use Rattle.std.specs.Prelude.{◌≡◌, ◌≤◌, ◌<◌, IfSome};
-ghost use Rattle.ipam_audit.specs.Words.{at_most_nine, ten_or_more, workers_in, workers_asked, words_in};
+ghost use Rattle.std.specs.Prelude.{◌≡◌, ◌≤◌, ◌<◌, IfSome, map, string_bytes};
+ghost use Rattle.ipam_audit.specs.Words.{at_most_nine, ten_or_more, workers_in, workers_asked};
 
 /// How many workers the words `audit N` ask for, from 1 to 16. None where they have not this form.
 /// Takes no memory.
 pub fn workers_asked(words: &[String]) -> Option<u8>
-    ensures value { result ≡ workers_asked (words_in words.now) }
+    ensures value { result ≡ workers_asked (map string_bytes words.now) }
     ensures some { IfSome result (λ workers. 0 < workers) }
     ensures few { IfSome result (λ workers. workers ≤ 16) }
 {

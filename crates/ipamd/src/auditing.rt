@@ -6,6 +6,7 @@ use ipam_keeper::{Keeper, MemoryKeeper};
 use ipam_sqlite::SqliteKeeper;
 use std::alloc::AllocError;
 use std::io;
+use std::thread::Threads;
 
 /// Whether the words begin with that of an audit.
 pub(crate) fn are_of_audit(words: &[String]) -> bool {
@@ -16,19 +17,28 @@ pub(crate) fn are_of_audit(words: &[String]) -> bool {
 }
 
 /// Audits the database file, and answers the exit status. Where the words do not say by how many
-/// workers, no file is opened.
-pub(crate) fn audit(rt: &HostRuntime, words: &[String]) -> Result<u8, AllocError> {
+/// workers, no file is opened. `threads` is the runtime too: what makes threads.
+pub(crate) fn audit<R: Threads + Sync>(
+    rt: &HostRuntime,
+    threads: &R,
+    words: &[String],
+) -> Result<u8, AllocError> {
     if workers_asked(words).is_none() {
         let mut none = MemoryKeeper::new(Vec::new(rt.alloc()), Vec::new(rt.alloc()));
-        return Ok(audit_over(rt, words, &mut none));
+        return Ok(audit_over(rt, threads, words, &mut none));
     }
     let path = database(rt)?;
     let mut keeper = SqliteKeeper::open(rt, path.as_str());
-    Ok(audit_over(rt, words, &mut keeper))
+    Ok(audit_over(rt, threads, words, &mut keeper))
 }
 
 /// Audits the keeper's rows, and writes to standard output.
-fn audit_over<D: Keeper>(rt: &HostRuntime, words: &[String], keeper: &mut D) -> u8 {
+fn audit_over<R: Threads + Sync, D: Keeper>(
+    rt: &HostRuntime,
+    threads: &R,
+    words: &[String],
+    keeper: &mut D,
+) -> u8 {
     let mut sink = StdSink::new(io::writer(rt));
-    run_audit(rt, rt.alloc(), words, &mut sink, keeper)
+    run_audit(threads, rt.alloc(), words, &mut sink, keeper)
 }

@@ -61,7 +61,12 @@ fn main(rt: HostRuntime) -> ExitCode {
     if let Some(text) = told_at_once(&words) {
         return told(&rt, text);
     }
-    match run_words(&rt, &words) {
+    let ended = if are_of_audit(&words) {
+        audit(&rt, &rt, &words)
+    } else {
+        run(&rt, &words)
+    };
+    match ended {
         Ok(status) => ExitCode::from(status),
         Err(AllocError) => ExitCode::from(NO_MEMORY),
     }
@@ -81,15 +86,6 @@ fn told(rt: &HostRuntime, text: &str) -> ExitCode {
     match print!(rt; "{text}") {
         Ok(()) => ExitCode::SUCCESS,
         Err(_) => ExitCode::from(WRITE_FAULT),
-    }
-}
-
-/// Runs what the words name.
-fn run_words(rt: &HostRuntime, words: &[String]) -> Result<u8, AllocError> {
-    if are_of_audit(words) {
-        audit(rt, words)
-    } else {
-        run(rt, words)
     }
 }
 
