@@ -3,5 +3,4 @@ pub mod Steps
 pub mod Listing
 pub mod Bounds
 pub mod Counting
-pub mod Joining
 pub mod Opened

@@ -1,5 +1,5 @@
 -- What is found in the rows of one kind is what is found in all.
-use Rattle.std.proofs.Common.{◌≡◌, ℕ, Bool, true, false, cond, Option, None, List, [], ◌∷◌, ◌++◌, length, sym, ap, ◌∙◌, refl, append_assoc}
+use Rattle.std.proofs.Common.{◌≡◌, ℕ, Bool, true, false, cond, Option, None, List, [], ◌∷◌, ◌++◌, length, sym, ap, ◌∙◌, refl}
 use Rattle.std.specs.List.{flat_map, filter_map, filter, cons_option}
 use Rattle.ipam_records.specs.declared.key.Kind.TheVariants as kind
 use Rattle.ipam_records.specs.declared.record.Record.{Record}
@@ -7,9 +7,6 @@ use Rattle.ipam_records.specs.declared.record.Record.TheVariants as record_of
 use Rattle.ipam_records.specs.Key.{key_of}
 use Rattle.ipam_records.specs.KeyOrder.{is_of_kind}
 use Rattle.ipam_records.specs.Datastore.{Datastore, listed, row_key}
-use Rattle.ipam_records.specs.Pages.{rows_of_pages}
-use Rattle.std.specs.Global.{Vec}
-use Rattle.std.proofs.lemmas.Grind.{flat_map-append}
 use Rattle.ipam_model.specs.Owners.{owners, owners_in, owners_in_row}
 use Rattle.ipam_audit.specs.declared.report.Report.{Report}
 use Rattle.ipam_audit.specs.Reported.{excess_of, excess_in, stale_of, stale_in, stray_of, stray_in, report_of}
@@ -76,19 +73,6 @@ module _ (store : Datastore) where
 
   pub owners-listed : owners_in (listed kind.Block store) ≡ owners store
   owners-listed = flat_map-filter owners_in_row (λ row. is_of_kind kind.Block (row_key row)) (λ row. none_owned row.0 row.1) store.rows
-
--- ---- the rows of some pages, and of others behind them
-
-rows-append : (pages others : List (Vec (ℕ × Record))) → rows_of_pages (pages ++ others) ≡ rows_of_pages pages ++ rows_of_pages others
-rows-append [] others = refl
-rows-append (page ∷ pages) others =
-    ap (λ rows. page.items ++ rows) (rows-append pages others)
-    ∙ sym (append_assoc {A = ℕ × Record} page.items (rows_of_pages pages) (rows_of_pages others))
-
-pub pages_split : (store : Datastore) (pages others : List (Vec (ℕ × Record))) → excess_in store (rows_of_pages (pages ++ others)) ≡ excess_in store (rows_of_pages pages) ++ excess_in store (rows_of_pages others)
-pages_split store pages others =
-    ap (excess_in store) (rows-append pages others)
-    ∙ flat_map-append (λ (row : ℕ × Record). excess_of store row.1) (rows_of_pages pages) (rows_of_pages others)
 
 -- the parts of a report
 pub report_is : (store : Datastore) (report : Report) → report.excess ≡ excess_in store (listed kind.Handle store) → report.stale ≡ stale_in (listed kind.Affinity store) → report.stray ≡ stray_in store (listed kind.Affinity store) → report.blocks ≡ length (listed kind.Block store) → report.owners ≡ length (owners store) → report.handles ≡ length (listed kind.Handle store) → report ≡ report_of store

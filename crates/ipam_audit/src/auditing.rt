@@ -9,7 +9,7 @@ ghost use Rattle.ipam_audit.specs.Parts.{IsReportOf};
 
 use crate::affinities::{stale, stray};
 use crate::counted::owners;
-use crate::excess::excess;
+use crate::excess::excess_in;
 use crate::look::listing;
 use crate::report::Report;
 use ipam_cluster::Base;
@@ -54,7 +54,8 @@ fn report<R: Threads + Sync>(
     requires few { length (owners store.now.store) < 2 ^ 64 }
     ensures { IfOk result (λ report. report ≡ report_of store.now.store) }
 {
-    let excess = excess(rt, alloc, store, workers)?;
+    let handles = listing(store, Kind::Handle);
+    let excess = excess_in(alloc, store, handles.pages())?;
     let stale = stale(alloc, store)?;
     let stray = stray(alloc, store)?;
     let owners = owners(rt, alloc, store, workers)?;
@@ -64,6 +65,6 @@ fn report<R: Threads + Sync>(
         stray: Seq::of(stray),
         blocks: listing(store, Kind::Block).len() as u64,
         owners,
-        handles: listing(store, Kind::Handle).len() as u64,
+        handles: handles.len() as u64,
     })
 }

@@ -1,47 +1,21 @@
 //! The counts of handles that are above what they own.
-ghost use Rattle.std.specs.Prelude.{◌≡◌, ◌++◌, ◌<◌, IfOk, OnOk};
+ghost use Rattle.std.specs.Prelude.{◌≡◌, ◌++◌, IfOk, OnOk};
 ghost use Rattle.std.specs.List.{filter_map};
-ghost use Rattle.ipam_records.specs.declared.key.Kind.TheVariants as kind;
-ghost use Rattle.ipam_records.specs.Datastore.{listed};
 ghost use Rattle.ipam_records.specs.Pages.{rows_of_pages};
 ghost use Rattle.ipam_audit.specs.Reported.{excess_at, excess_of, excess_in};
 
-use crate::joined::joined;
-use crate::look::{held_count, listing};
-use crate::parts::part_size;
+use crate::look::held_count;
 use crate::report::Excess;
 use ipam_addr::Cidr;
 use ipam_handle::Handle;
-use ipam_records::{Kind, Record};
+use ipam_records::Record;
 use ipam_store::Store;
 use ipam_text::Text;
 use std::alloc::{AllocError, Global};
-use std::thread;
-use std::thread::Threads;
 
-/// The counts that are above what their handle owns, by the handle's id and then by the block. The
-/// pages of handles are gone through in no more parts than there are workers, at once where threads
-/// can be made.
-pub(crate) fn excess<R: Threads + Sync>(
-    rt: &R,
-    alloc: Global,
-    store: &Store,
-    workers: u8,
-) -> Result<Vec<Excess>, AllocError>
-    requires { 0 < workers }
-    ensures { IfOk result (λ found. found.items ≡ excess_in store.now.store (listed kind.Handle store.now.store)) }
-{
-    let pages = listing(store, Kind::Handle).pages();
-    let find = |_start: usize, part: &[Vec<(u64, Record)>]| -> Result<Vec<Excess>, AllocError>
-        ensures { IfOk result (λ found. found.items ≡ excess_in store.entry.now.store (rows_of_pages part.now)) }
-    { excess_in(alloc, store, part) };
-    let size = part_size(pages.len(), workers);
-    let parts = thread::map_chunks(rt, alloc, pages, size, &find)?;
-    joined(alloc, parts)
-}
-
-/// Those of the rows in these pages.
-fn excess_in(
+/// The counts of the handles in these pages that are above what their handle owns, in the order of the
+/// pages and then by block.
+pub(crate) fn excess_in(
     alloc: Global,
     store: &Store,
     pages: &[Vec<(u64, Record)>],

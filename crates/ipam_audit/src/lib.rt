@@ -6,7 +6,6 @@ mod affinities;
 mod auditing;
 mod counted;
 mod excess;
-mod joined;
 mod look;
 mod parts;
 mod printed;
