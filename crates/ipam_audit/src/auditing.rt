@@ -25,6 +25,7 @@ use std::thread::Threads;
 ///
 /// Fails with `Refused` where the rows break one of the ten rules, with the number of the first of
 /// them and, of the keys that break it, the first by its bytes.
+#[tactic(auto, using(crate::proofs::Opened::reported))]
 pub fn audit<R: Threads + Sync>(
     rt: &R,
     alloc: Global,

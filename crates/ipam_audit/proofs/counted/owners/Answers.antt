@@ -7,7 +7,7 @@ use Rattle.ipam_audit.proofs.Counting.{owners_in_parts, part_fits}
 use Rattle.ipam_audit.proofs.counted.owners.Goals as goal
 
 pub map_chunks-requires-clause-accepts : goal.map_chunks-requires-clause-accepts
-map_chunks-requires-clause-accepts g c = λ κs start p is.
+map_chunks-requires-clause-accepts g c = λ κs within start p is.
     let fits = part_fits c.args.store.now.store c.part_size-size.result start c.pages-pages.result.now (c.pages-pages.ensures ∙ c.listing.ensures) c.requires.few in
     subst (λ (ps : List (Vec (ℕ × Record))). length (owners_in (rows_of_pages ps)) < 2 ^ 64) (sym is.value) fits
 
