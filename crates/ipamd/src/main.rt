@@ -1,6 +1,9 @@
 //! The program: its commands over standard input and output, and over a database file.
 #![tactic(auto)]
 
+mod auditing;
+
+use auditing::{are_of_audit, audit};
 use ipam_command::{NO_MEMORY, WRITE_FAULT, run_command};
 use ipam_io::{StdSink, StdSource};
 use ipam_keeper::{Keeper, MemoryKeeper};
@@ -24,6 +27,8 @@ Pod addresses, handed out once.
   ipam routes NODE     writes the blocks that are confirmed to the node
   ipam release NODE CIDR
                        releases the node's affinity to the block
+  ipam audit N         opens the database with N workers, 1 to 16, and writes which counts and affinities are
+                       left over; docs/OPERATING.md says what to do about them
   ipam --help          writes this
   ipam --version       writes the version
 
@@ -56,7 +61,12 @@ fn main(rt: HostRuntime) -> ExitCode {
     if let Some(text) = told_at_once(&words) {
         return told(&rt, text);
     }
-    match run(&rt, &words) {
+    let ended = if are_of_audit(&words) {
+        audit(&rt, &rt, &words)
+    } else {
+        run(&rt, &words)
+    };
+    match ended {
         Ok(status) => ExitCode::from(status),
         Err(AllocError) => ExitCode::from(NO_MEMORY),
     }

@@ -1,0 +1,6 @@
+-- Lemmas on reports.
+pub mod Steps
+pub mod Listing
+pub mod Bounds
+pub mod Counting
+pub mod Opened

@@ -1,0 +1,71 @@
+//! The audit of rows.
+ghost use Rattle.std.specs.Prelude.{◌≡◌, ◌≤◌, ◌<◌, ◌^◌, length, IfOk, IfErr};
+ghost use Rattle.ipam_cluster.specs.Turns.{texts_in};
+ghost use Rattle.ipam_model.specs.Opened.{AreByKey};
+ghost use Rattle.ipam_model.specs.Owners.{owners};
+ghost use Rattle.ipam_opening.specs.Opening.{IsFaultOf};
+ghost use Rattle.ipam_audit.specs.Reported.{report_of};
+ghost use Rattle.ipam_audit.specs.Parts.{IsReportOf};
+
+use crate::affinities::{stale, stray};
+use crate::counted::owners;
+use crate::excess::excess_in;
+use crate::look::listing;
+use crate::report::Report;
+use ipam_cluster::Base;
+use ipam_opening::{OpenFault, open};
+use ipam_records::Kind;
+use ipam_store::Store;
+use ipam_text::Seq;
+use std::alloc::{AllocError, Global};
+use std::thread::Threads;
+
+/// Opens the rows as a cluster does, and reports on them: with 1 to 16 workers, and the same for every
+/// number of them.
+///
+/// Fails with `Refused` where the rows break one of the ten rules, with the number of the first of
+/// them and, of the keys that break it, the first by its bytes.
+#[tactic(auto, using(crate::proofs::Opened::reported))]
+pub fn audit<R: Threads + Sync>(
+    rt: &R,
+    alloc: Global,
+    base: &Base,
+    workers: u8,
+) -> Result<Report, OpenFault>
+    requires by_key { AreByKey base.now.rows.items }
+    requires some { 0 < workers }
+    requires few { workers ≤ 16 }
+    ensures report { IfOk result (IsReportOf (texts_in base.now)) }
+    ensures refused { IfErr result (IsFaultOf (texts_in base.now)) }
+{
+    let store = open(alloc, base.rows.as_slice(), base.counter)?;
+    match report(rt, alloc, &store, workers) {
+        Ok(report) => Ok(report),
+        Err(_) => Err(OpenFault::Memory),
+    }
+}
+
+fn report<R: Threads + Sync>(
+    rt: &R,
+    alloc: Global,
+    store: &Store,
+    workers: u8,
+) -> Result<Report, AllocError>
+    requires some { 0 < workers }
+    requires few { length (owners store.now.store) < 2 ^ 64 }
+    ensures { IfOk result (λ report. report ≡ report_of store.now.store) }
+{
+    let handles = listing(store, Kind::Handle);
+    let excess = excess_in(alloc, store, handles.pages())?;
+    let stale = stale(alloc, store)?;
+    let stray = stray(alloc, store)?;
+    let owners = owners(rt, alloc, store, workers)?;
+    Ok(Report {
+        excess: Seq::of(excess),
+        stale: Seq::of(stale),
+        stray: Seq::of(stray),
+        blocks: listing(store, Kind::Block).len() as u64,
+        owners,
+        handles: handles.len() as u64,
+    })
+}

@@ -1,0 +1,158 @@
+//! The program's words `audit N`.
+ghost use Rattle.std.specs.Prelude.{◌≡◌, ◌≤◌, ◌<◌, None, IsSome, IfOk, IfErr, OnOk, map, string_bytes};
+ghost use Rattle.ipam_commands.specs.Telling.{IsNotLoaded, Tells, Writes};
+ghost use Rattle.ipam_commands.specs.declared.status.Status.TheVariants.{UnknownWords};
+ghost use Rattle.ipam_keeper.specs.Rows.{Ascend};
+ghost use Rattle.ipam_kept.specs.Rows.{greatest, texts_loaded};
+ghost use Rattle.ipam_opening.specs.Opening.{IsFaultOf};
+ghost use Rattle.ipam_audit.specs.Parts.{IsReportOf};
+ghost use Rattle.ipam_audit.specs.Printed.{report_text};
+ghost use Rattle.ipam_audit.specs.Reported.{report_of};
+ghost use Rattle.ipam_audit.specs.Run.{EndsSo, IsReportTold, code_of, unknown_line};
+ghost use Rattle.ipam_audit.specs.Words.{workers_asked};
+
+use crate::auditing::audit;
+use crate::printed::report_text;
+use crate::report::Report;
+use crate::words::workers_asked;
+use ipam_cluster::Base;
+use ipam_commands::{Status, tell, tell_fault, tell_made};
+use ipam_io::Sink;
+use ipam_keeper::{KeepFault, Keeper};
+use ipam_kept::KeptFault;
+use ipam_opening::OpenFault;
+use ipam_records::Row;
+use std::alloc::Global;
+use std::thread::Threads;
+
+/// Runs the words `audit N` over the rows of a keeper, with N workers from 1 to 16, and answers the
+/// exit status: 0 where the report was written, 2 where the words have not this form, 4 and 5 where
+/// the sink or the keeper failed, 6 where there was no memory, 7 where the rows may not be opened. The
+/// rows stay.
+pub fn run_audit<R: Threads + Sync, K: Sink, D: Keeper>(
+    rt: &R,
+    alloc: Global,
+    words: &[String],
+    sink: &mut K,
+    keeper: &mut D,
+) -> u8
+    ensures audited { IsSome (workers_asked (map string_bytes words.now)) → EndsSo result (λ ending.
+        Tells (D.rows keeper.old) (D.faults keeper.old) (D.faults keeper.new) (λ rows store. report_text (report_of store))
+        (λ text own. Writes (K.written sink.old) (K.written sink.new)
+        (K.write_faults sink.old) (K.write_faults sink.new) text own ending)) }
+    ensures unknown { workers_asked (map string_bytes words.now) ≡ None → EndsSo result (λ ending.
+        Writes (K.written sink.old) (K.written sink.new)
+        (K.write_faults sink.old) (K.write_faults sink.new) unknown_line UnknownWords ending) }
+    ensures unasked { workers_asked (map string_bytes words.now) ≡ None → D.faults keeper.new ≡ D.faults keeper.old }
+    ensures same_rows { D.rows keeper.new ≡ D.rows keeper.old }
+    ensures same { D.name keeper.new ≡ D.name keeper.old }
+    ensures rest { K.write_rest sink.new ≡ K.write_rest sink.old }
+{
+    match workers_asked(words) {
+        Some(workers) => code_of(tell_audit(rt, alloc, workers, sink, keeper)),
+        None => code_of(tell(sink, "unknown words\n", Status::UnknownWords)),
+    }
+}
+
+/// Writes the report on the keeper's rows, or why there is none.
+fn tell_audit<R: Threads + Sync, K: Sink, D: Keeper>(
+    rt: &R,
+    alloc: Global,
+    workers: u8,
+    sink: &mut K,
+    keeper: &mut D,
+) -> Status
+    requires some { 0 < workers }
+    requires few { workers ≤ 16 }
+    ensures told { Tells (D.rows keeper.old) (D.faults keeper.old) (D.faults keeper.new) (λ rows store. report_text (report_of store))
+        (λ text own. Writes (K.written sink.old) (K.written sink.new)
+        (K.write_faults sink.old) (K.write_faults sink.new) text own result) }
+    ensures same_rows { D.rows keeper.new ≡ D.rows keeper.old }
+    ensures same { D.name keeper.new ≡ D.name keeper.old }
+    ensures rest { K.write_rest sink.new ≡ K.write_rest sink.old }
+{
+    match audit_kept(rt, alloc, workers, keeper) {
+        Ok(report) => {
+            let text = report_text(alloc, &report);
+            tell_made(sink, text, Status::Done)
+        }
+        Err(fault) => tell_fault(alloc, sink, fault),
+    }
+}
+
+/// The report on the keeper's rows.
+fn audit_kept<R: Threads + Sync, D: Keeper>(
+    rt: &R,
+    alloc: Global,
+    workers: u8,
+    keeper: &mut D,
+) -> Result<Report, KeptFault>
+    requires some { 0 < workers }
+    requires few { workers ≤ 16 }
+    ensures reported { IfOk result (IsReportTold (D.rows keeper.old)) }
+    ensures no_fault { OnOk result (D.faults keeper.new ≡ D.faults keeper.old) }
+    ensures refused { IfErr result (IsNotLoaded (D.rows keeper.old) (D.faults keeper.old) (D.faults keeper.new)) }
+    ensures same_rows { D.rows keeper.new ≡ D.rows keeper.old }
+    ensures same { D.name keeper.new ≡ D.name keeper.old }
+{
+    let rows = match keeper.load() {
+        Ok(rows) => rows,
+        Err(KeepFault::Failed) => return Err(KeptFault::Keeper),
+        Err(KeepFault::Memory) => return Err(KeptFault::Memory),
+    };
+    match audit_loaded(rt, alloc, workers, rows) {
+        Ok(report) => Ok(report),
+        Err(OpenFault::Refused(number, about)) => Err(KeptFault::Refused(number, about)),
+        Err(OpenFault::Memory) => Err(KeptFault::Memory),
+    }
+}
+
+/// The report on these rows, with their greatest revision as the counter.
+fn audit_loaded<R: Threads + Sync>(
+    rt: &R,
+    alloc: Global,
+    workers: u8,
+    rows: Vec<Row>,
+) -> Result<Report, OpenFault>
+    requires by_key { Ascend rows.items }
+    requires some { 0 < workers }
+    requires few { workers ≤ 16 }
+    ensures report { IfOk result (IsReportOf (texts_loaded rows.items)) }
+    ensures refused { IfErr result (IsFaultOf (texts_loaded rows.items)) }
+{
+    let counter = greatest(&rows);
+    let base = Base {
+        rows,
+        counter,
+        first: 0,
+    };
+    audit(rt, alloc, &base, workers)
+}
+
+/// The greatest revision of the rows, or 0.
+fn greatest(rows: &[Row]) -> u64
+    ensures { result ≡ greatest rows.now }
+{
+    let mut most = 0;
+    for row in rows {
+        most = most.max(row.revision);
+    }
+    most
+}
+
+/// The exit status of what ended so.
+fn code_of(status: Status) -> u8
+    ensures { result ≡ code_of status }
+{
+    match status {
+        Status::Done => 0,
+        Status::Refused => 1,
+        Status::UnknownWords => 2,
+        Status::ReadFault => 3,
+        Status::WriteFault => 4,
+        Status::KeeperFault => 5,
+        Status::NoMemory => 6,
+        Status::BrokenRows => 7,
+        Status::LineRefused => 8,
+    }
+}
