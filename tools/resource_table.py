@@ -31,9 +31,7 @@ class Fault(Exception):
 
 def whole(text):
     number = int(text)
-    if text.startswith("-"):
-        return float(number)
-    return number if number < 2**64 else float(number)
+    return number if 0 <= number < 2**64 and not text.startswith("-") else floating(text)
 
 
 def floating(text):

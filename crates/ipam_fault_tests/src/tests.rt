@@ -1,0 +1,66 @@
+use crate::commands::told;
+use crate::doubt_table::DOUBTS;
+use crate::fault_table::FAULTS;
+use crate::long::{repeated, told_of};
+use crate::stop_table::RUNS;
+use crate::stops::leaves_no_owner;
+use std::alloc::{AllocError, Global};
+use std::process::Abort;
+use std::test::Fail;
+
+/// How many scenarios there are, each of which is told as it says.
+fn run_all(rt: &impl Abort, alloc: Global, scenarios: &str) -> Result<usize, AllocError> {
+    let mut count = 0usize;
+    for scenario in scenarios.split("\n\n") {
+        let (told, wanted) = told(alloc, scenario)?;
+        assert_eq!(rt; told.as_str(), wanted.as_str(), "{scenario}");
+        count = count.wrapping_add(1);
+    }
+    Ok(count)
+}
+
+#[test]
+fn each_failure_is_told_by_its_cause(rt: HostRuntime) -> Result<(), Fail> {
+    let count = run_all(&rt, rt.alloc(), FAULTS)?;
+    assert_eq!(rt; count, 8);
+    Ok(())
+}
+
+#[test]
+fn rows_in_doubt_are_opened_again(rt: HostRuntime) -> Result<(), Fail> {
+    let count = run_all(&rt, rt.alloc(), DOUBTS)?;
+    assert_eq!(rt; count, 14);
+    Ok(())
+}
+
+#[test]
+fn no_stop_leaves_an_owner(rt: HostRuntime) -> Result<(), Fail> {
+    let mut count = 0usize;
+    for run in RUNS.lines() {
+        assert!(&rt; leaves_no_owner(rt.alloc(), run)?, "{run}");
+        count = count.wrapping_add(1);
+    }
+    assert_eq!(rt; count, 136);
+    Ok(())
+}
+
+const CNI: &str = "CNI_COMMAND=ADD¦CNI_CONTAINERID=c1";
+
+const UNDECODABLE: &str = "1 {\"cniVersion\":\"1.0.0\",\"code\":6,\"details\":\"\",\
+    \"msg\":\"cannot decode network configuration\"}\n";
+
+#[test]
+fn long_and_deep_input_is_refused(rt: HostRuntime) -> Result<(), Fail> {
+    let alloc = rt.alloc();
+    let long_line = repeated(alloc, "", "x", 1_048_577)?;
+    let found = told_of(alloc, "play", "", long_line.as_str())?;
+    assert_eq!(&rt; found.as_str(), "8 line 1: long\n");
+    let found = told_of(alloc, "cni", CNI, long_line.as_str())?;
+    assert_eq!(&rt; found.as_str(), UNDECODABLE);
+    let deep = repeated(alloc, "{\"x\":", "[", 200)?;
+    let found = told_of(alloc, "cni", CNI, deep.as_str())?;
+    assert_eq!(&rt; found.as_str(), UNDECODABLE);
+    let found = told_of(alloc, "apply", "", deep.as_str())?;
+    assert_eq!(&rt; found.as_str(), "1 refused: not JSON\n");
+    Ok(())
+}

@@ -1,0 +1,238 @@
+#!/usr/bin/env python3
+"""Writes what the tests of faults and stops expect, by the second allocator.
+
+Stops: four requests race in four slots, an ADD on each of two nodes, the release of a block and a
+collection, round by round. For each turn of theirs, and for each of `stop`, `fail` and `lose` in its
+place, the others go on to their ends; then all is stopped and opened again, and both handles are
+deleted. The second allocator has to leave no owner. A row of the table is the run, a sign for each
+line of its script.
+
+Doubts: a call by itself, a write of which fails, done or not; what is told of it and of the calls
+behind it, and the rows that are left.
+
+Run it from the top of the repository: python3 tools/fault_table.py
+With --states FOLDER it writes there an ADD, and the rows behind each front part of its writes.
+"""
+
+import json
+import sqlite3
+import sys
+from pathlib import Path
+
+from play_table import POOLS, add, begin, delete
+from resource_table import escaped
+from second_allocator import Script, compact
+from second_records import Block
+
+TOP = Path(__file__).resolve().parent.parent
+OUT = TOP / "crates/ipam_fault_tests/src"
+LIVE = '["n.c2"]'
+
+# ---- stops
+
+BEGUN = POOLS + (
+    add("n.c1", "a")
+    + add("n.c2", "b", slot=1)
+    + begin(2, '{"release":{"cidr":"10.0.0.0/30","node":"a"}}')
+    + begin(3, f'{{"collect":{{"live":{LIVE}}}}}')
+)
+# the sign of each line: a turn of a slot, or what stands in the place of one
+LINES = {str(slot): f"turn {slot}\n" for slot in range(4)}
+LINES |= {"w": f"feed 3 {LIVE}\n", "r": "restart\n", "x": delete("n.c1"), "y": delete("n.c2")}
+LINES |= {"c": begin(0, '{"collect":{"live":[]}}'), "z": "feed 0 []\n"}
+IN_PLACE = {"stop": "efgh", "fail": "ijkl", "lose": "mnop"}
+for word, signs in IN_PLACE.items():
+    LINES |= {sign: f"{word} {slot}\n" for slot, sign in enumerate(signs)}
+
+
+class Run:
+    """A script that grows line by line, as the second allocator plays it."""
+
+    def __init__(self):
+        self.script, self.signs = Script(), ""
+        for line in BEGUN.splitlines():
+            self.script.line(line)
+        self.slots = self.script.cluster.slots
+
+    def add(self, sign):
+        self.script.line(LINES[sign].rstrip("\n"))
+        self.signs += sign
+
+    def turn(self, slot):
+        self.add("w" if self.slots[slot].waits() else str(slot))
+
+    def to_end(self):
+        while self.slots:
+            for slot in range(4):
+                if slot in self.slots:
+                    self.turn(slot)
+
+    def follow(self, signs):
+        """The turns and feeds of these signs whose slots still run."""
+        for sign in signs:
+            slot = 3 if sign == "w" else int(sign)
+            if slot in self.slots and self.slots[slot].waits() == (sign == "w"):
+                self.add(sign)
+
+    def clean(self):
+        """All is opened again, and both handles are deleted; then a collection tells all owners."""
+        self.add("r")
+        for sign in "xy":
+            self.add(sign)
+            while 0 in self.slots:
+                self.turn(0)
+        owners = [h for _, body in self.script.cluster.store.listed("block") for h in Block(body).held]
+        assert not owners, (self.signs, owners)
+        for sign in "c0z0":
+            self.add(sign)
+        last = self.script.cluster.journal[-1]
+        assert last.endswith('"items":[]}}') and not self.slots, last
+
+
+def stops():
+    whole = Run()
+    whole.to_end()
+    turns = whole.signs
+    runs = []
+    for place, sign in enumerate(turns):
+        slot = 3 if sign == "w" else int(sign)
+        for word, signs in IN_PLACE.items():
+            if sign == "w" and word != "stop":
+                continue
+            run = Run()
+            for earlier in turns[:place]:
+                run.add(earlier)
+            run.add(signs[slot])
+            run.follow(turns[place + 1 :])
+            run.clean()
+            runs.append(run.signs)
+    return turns, runs
+
+
+# ---- doubts
+
+V = {"cniVersion": "1.0.0", "name": "n", "type": "calico", "nodename": "a", "ipam": {"type": "calico-ipam"}}
+CONF = json.dumps(V, separators=(",", ":"))
+FAULT = '1 {"cniVersion":"1.0.0","code":5,"details":"keeper","msg":"input or output fault"}'
+
+
+def call(command, container):
+    return f"do cni⇒CNI_COMMAND={command}¦CNI_CONTAINERID={container}⇒{CONF}\n"
+
+
+class Rows:
+    """The rows under calls that come one by one, and what is told of these."""
+
+    def __init__(self, base):
+        self.script, self.text = Script(), ""
+        for line in base.splitlines():
+            self.script.line(line)
+        self.script.open()
+
+    def run(self, request, failing=0, lost=False):
+        """Runs the request by itself; its write of this number fails, done where it is lost."""
+        (line,) = request.splitlines()
+        self.script.line(line)
+        cluster, writes = self.script.cluster, 0
+        while 0 in cluster.slots:
+            is_write = cluster.slots[0].call[0] not in ("get", "list")
+            writes += is_write
+            fate = ("lose" if lost else "fail") if is_write and writes == failing else "turn"
+            self.script.line(f"{fate} 0")
+        said = cluster.journal[-1].rsplit(" ", 1)[1]
+        # a call by itself opens the rows anew: its counter is their greatest revision
+        cluster.store.counter = max(revision for revision, _ in cluster.store.rows.values())
+        return json.loads(said)
+
+    def rows(self):
+        rows = self.script.cluster.store.rows
+        return "".join(f"= {key} {rows[key][0]} {compact(rows[key][1])}\n" for key in sorted(rows, key=str.encode))
+
+
+def secondary():
+    return ',"secondary":{"network":"n","node":"a"}'
+
+
+def told(answer):
+    if "added" in answer:
+        return f'= 0 {{"cniVersion":"1.0.0","ips":[{{"address":"{answer["added"][0]["address"]}/32"}}]}}\n'
+    assert "deleted" in answer, answer
+    return "= 0 |\n"
+
+
+def doubt(base, first, writes):
+    """A scenario for each write of the first call that fails, done or not."""
+    out = []
+    for number in range(1, writes + 1):
+        for lost in (False, True):
+            rows = Rows(base)
+            text = f"{'lose' if lost else 'fail'} {number}\n"
+            for command, container, failing in [*first, ("DEL", "c1", 0), ("ADD", "c2", 0)]:
+                request = add(f"n.{container}", "a", secondary()) if command == "ADD" else delete(f"n.{container}")
+                answer = rows.run(request, number if failing else 0, lost)
+                text += call(command, container)
+                text += f"= {FAULT}\n" if failing else told(answer)
+                assert (answer == "fault") == bool(failing), (text, answer)
+                text += "do get⇒⇒\n" + rows.rows().replace("= ", "= 0 ", 1)
+            out.append(base + text)
+    return out
+
+
+ADD = [("ADD", "c1", 1)]
+BASE_DELETED = POOLS + """\
+row 2 affinity/a/10.0.0.0/30 {"cidr":"10.0.0.0/30","node":"a","state":"confirmed"}
+row 4 block/10.0.0.0/30 {"affinity":"host:a","allocations":[0,null,null,null],\
+"attributes":[{"handle_id":"n.c1","secondary":{"network":"n","node":"a"}}],"cidr":"10.0.0.0/30","sequenceNumber":1,\
+"sequenceNumberForAllocation":{"0":1},"unallocated":[1,2,3]}
+row 3 handle/n.c1 {"block":{"10.0.0.0/30":1},"handleID":"n.c1"}
+"""
+
+
+def doubts():
+    return doubt(POOLS, ADD, 5) + doubt(BASE_DELETED, [("DEL", "c1", 1)], 2)
+
+
+def write_states(place):
+    """Writes to the folder an ADD over one pool, its reply, and the rows behind 0 to 5 of its writes."""
+    for number in range(6):
+        rows = Rows(POOLS)
+        answer = rows.run(add("n.c1", "a", secondary()), number + 1)
+        (place / f"state.{number}").write_text(rows.rows().replace("= ", ""))
+    (place / "reply").write_text(told(answer)[4:])
+    (place / "memory").write_text('{"cniVersion":"1.0.0","code":101,"details":"","msg":"want of memory"}\n')
+    (place / "conf").write_text(CONF)
+    with sqlite3.connect(place / "base.db") as database:
+        database.execute("CREATE TABLE rows(key TEXT PRIMARY KEY, revision INTEGER NOT NULL, body TEXT NOT NULL)")
+        database.execute("INSERT INTO rows VALUES('pools', 1, ?)", [POOLS.split(" ", 3)[3].rstrip("\n")])
+    database.close()
+
+
+# ---- the files
+
+
+def constant(name, text):
+    return f'\npub(crate) const {name}: &str = "\\\n{escaped(text)}\\\n";\n'
+
+
+def write(name, about, text):
+    head = "// Written by tools/fault_table.py: change that, and not this file.\n"
+    (OUT / f"{name}.rt").write_text(f"{head}// {about}\n{text}")
+
+
+def main():
+    if sys.argv[1:2] == ["--states"]:
+        write_states(Path(sys.argv[2]))
+        return
+    OUT.mkdir(parents=True, exist_ok=True)
+    turns, runs = stops()
+    signs = [f"{sign}{line}" for sign, line in LINES.items()]
+    text = constant("BEGUN", BEGUN) + constant("LINES", "".join(f"{one}‡" for one in signs))
+    text += constant("RUNS", "\n".join(runs))
+    write("stop_table", "Runs with a stop in the place of each turn, a sign for each line.", text)
+    scenarios = doubts()
+    write("doubt_table", "Calls by themselves, a write of which fails.", constant("DOUBTS", "\n".join(scenarios)))
+    print(f"{len(turns)} turns, {len(runs)} runs, {sum(map(len, runs))} signs; {len(scenarios)} doubts")
+
+
+if __name__ == "__main__":
+    main()
