@@ -32,6 +32,8 @@ module _ {D : Type 0} (tells : Tells D) (faults : D → ℕ) (asked : Request) (
       record {
         last = e.last;
         earlier = e.earlier;
+        lawful = is.cluster.stands.lawful;
+        ends = e.ends;
         failed = e.failed;
         own = e.own;
         alone = e.alone;
@@ -47,6 +49,7 @@ module _ {D : Type 0} (tells : Tells D) (faults : D → ℕ) (asked : Request) (
   pub stop-course : old.doubt ≡ None → IsStopped tells faults asked old new → IsStopCourse base asked (tells new.keeper)
   stop-course sure e = record {
     entries = e.entries;
+    lawful = (ends-kept e.entries e.keeps).cluster.stands.lawful;
     stopped = e.stopped;
     rows = sure-rows e.entries (ends-kept e.entries e.keeps) (no-doubt e.doubt sure);
   }
