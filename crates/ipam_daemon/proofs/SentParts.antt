@@ -9,7 +9,11 @@ use Rattle.ipam_parts.specs.contracts.found.BlockCidr as BlockCidr
 use Rattle.ipam_parts.specs.contracts.found.FoundBlock as FoundBlock
 use Rattle.ipam_parts.specs.contracts.lowering.Lowering as Lowering
 use Rattle.ipam_parts.specs.contracts.raising.Raising as Raising
+use Rattle.ipam_parts.specs.contracts.freeing.Picks as Picks
+use Rattle.ipam_parts.specs.contracts.freeing.Freed as Freed
+use Rattle.ipam_parts.specs.contracts.freeing.Stage as FreeingStage
 use Rattle.ipam_parts.specs.contracts.freeing.Freeing as Freeing
+use Rattle.ipam_claim.specs.contracts.claim.Stage as ClaimStage
 use Rattle.ipam_claim.specs.contracts.claim.ClaimProc as ClaimProc
 use Rattle.ipam_assign.specs.contracts.place.Place as Place
 use Rattle.ipam_assign.specs.contracts.assigning.Assigning as Assigning
@@ -43,11 +47,23 @@ lowering_send = search (handle_send, parts) depth 20 fits 100000
 raising_send : IsSend Raising.the_row
 raising_send = search (handle_send, parts) depth 20 fits 100000
 
+freed_send : IsSend Freed.the_row
+freed_send = search (block_send, parts) depth 20 fits 100000
+
+freeing_stage_send : IsSend FreeingStage.the_row
+freeing_stage_send = search (lowering_send, freed_send, parts) depth 20 fits 100000
+
+picks_send : IsSend Picks.the_row
+picks_send = search (parts) depth 20 fits 100000
+
 pub freeing_send : IsSend Freeing.the_row
-freeing_send = search (lowering_send, block_send, parts) depth 20 fits 100000
+freeing_send = search (freeing_stage_send, picks_send, parts) depth 20 fits 100000
+
+claim_stage_send : IsSend ClaimStage.the_row
+claim_stage_send = search (parts) depth 20 fits 100000
 
 pub claim_send : IsSend ClaimProc.the_row
-claim_send = search (block_cidr_send, found_send, parts) depth 20 fits 100000
+claim_send = search (block_cidr_send, found_send, claim_stage_send, parts) depth 20 fits 100000
 
 -- ---- how an address is chosen and assigned
 
