@@ -1,15 +1,19 @@
-//! The program: its commands over standard input and output, and over a database file.
+//! The program: its commands over standard input and output, and over a database file, and its daemon.
 #![tactic(auto)]
 
 mod auditing;
+mod online;
 
 use auditing::{are_of_audit, audit};
+use ipam_client::call;
 use ipam_command::{NO_MEMORY, WRITE_FAULT, run_command};
+use ipam_daemon::{Served, tell_served};
 use ipam_io::{StdSink, StdSource};
 use ipam_keeper::{Keeper, MemoryKeeper};
 use ipam_sqlite::SqliteKeeper;
 use ipam_text::Text;
 use ipam_words::{Command, read_words};
+use online::{Online, read_online, serve_stored};
 use std::alloc::AllocError;
 use std::env::VarError;
 use std::process::ExitCode;
@@ -29,6 +33,8 @@ Pod addresses, handed out once.
                        releases the node's affinity to the block
   ipam audit N         opens the database with N workers, 1 to 16, and writes which counts and affinities are
                        left over; docs/OPERATING.md says what to do about them
+  ipam serve ADDRESS N serves CNI calls and requests at HOST:PORT, by N workers (1 to 16)
+  ipam call ADDRESS    makes one CNI call of the daemon at HOST:PORT
   ipam --help          writes this
   ipam --version       writes the version
 
@@ -61,12 +67,20 @@ fn main(rt: HostRuntime) -> ExitCode {
     if let Some(text) = told_at_once(&words) {
         return told(&rt, text);
     }
-    let ended = if are_of_audit(&words) {
-        audit(&rt, &rt, &words)
-    } else {
-        run(&rt, &words)
+    let done = match read_online(&words) {
+        Some(Online::Serve(address, workers)) => match database(&rt) {
+            Ok(path) => {
+                let keeper = SqliteKeeper::open(&rt, path.as_str());
+                let served = serve_stored(rt, rt.alloc(), keeper, address, workers);
+                Ok(tell(&rt, &served))
+            }
+            Err(failed) => Err(failed),
+        },
+        Some(Online::Call(address)) => call_at(&rt, address),
+        None if are_of_audit(&words) => audit(&rt, &rt, &words),
+        None => run(&rt, &words),
     };
-    match ended {
+    match done {
         Ok(status) => ExitCode::from(status),
         Err(AllocError) => ExitCode::from(NO_MEMORY),
     }
@@ -87,6 +101,28 @@ fn told(rt: &HostRuntime, text: &str) -> ExitCode {
         Ok(()) => ExitCode::SUCCESS,
         Err(_) => ExitCode::from(WRITE_FAULT),
     }
+}
+
+/// Writes why the daemon serves no more, and gives the status for it.
+fn tell(rt: &HostRuntime, served: &Served) -> u8 {
+    let mut sink = StdSink::new(io::writer(rt));
+    tell_served(rt.alloc(), &mut sink, served)
+}
+
+/// Makes a CNI call of the daemon, over standard input and output.
+fn call_at(rt: &HostRuntime, address: &str) -> Result<u8, AllocError> {
+    let environment = environment(rt)?;
+    let mut source = StdSource::new(rt.stdin());
+    let mut sink = StdSink::new(io::writer(rt));
+    let alloc = rt.alloc();
+    Ok(call(
+        rt,
+        alloc,
+        address,
+        environment.as_slice(),
+        &mut source,
+        &mut sink,
+    ))
 }
 
 /// Runs the command, over the database file where it uses that.

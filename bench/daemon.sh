@@ -1,0 +1,31 @@
+#!/usr/bin/env bash
+# ADD and DEL through the daemon, over one connection and over sixteen, by one node and by a node for each
+# connection: calls a second, the median and the 99th percentile. First on a file in the folder for temporary
+# files (TMPDIR), whose sync is timed, and then on one in memory. The words are how many addresses each run
+# adds and deletes (2000) and the port (9431).
+set -eu
+top=$(cd "$(dirname "$0")/.." && pwd)
+calls=${1:-2000}
+port=${2:-9431}
+work=$(mktemp -d)
+memory=$(mktemp -d -p /dev/shm)
+daemon=
+finish() {
+    if [ -n "$daemon" ]; then
+        kill "$daemon" 2>/dev/null || true
+        wait "$daemon" 2>/dev/null || true
+        daemon=
+    fi
+}
+trap 'finish; rm -rf "$work" "$memory"' EXIT
+"$top/ipam" --version >/dev/null
+for folder in "$work" "$memory"; do
+    for shape in "1 1" "16 1" "16 16"; do
+        rm -f "$folder"/ipam.db*
+        IPAM_DB=$folder/ipam.db "$top/ipam" serve "127.0.0.1:$port" 16 >"$work/said" 2>"$work/log" &
+        daemon=$!
+        # shellcheck disable=SC2086
+        python3 "$top/bench/daemon_client.py" "$port" "$folder" "$calls" $shape || { cat "$work/said"; exit 1; }
+        finish
+    done
+done

@@ -1,0 +1,7 @@
+pub mod Idle
+pub mod SentSelectors
+pub mod SentRows
+pub mod SentStore
+pub mod SentParts
+pub mod SentProcedures
+pub mod SentCluster

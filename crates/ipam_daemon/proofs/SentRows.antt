@@ -1,0 +1,60 @@
+-- Which records of a store may cross threads.
+use denote.RattleType.{RattleType}
+use mathlib.Core.List.{[], ◌∷◌}
+use denote.Struct.Field.{row_field}
+use denote.Struct.Tuple.{Tuple, tuple_type}
+use denote.Param.Send.{IsSend, view_send, sendable}
+use denote.Param.SendFields.{as_row_send, declared_send, variants_send}
+use Rattle.std.proofs.Crossing.{Vec-send, Deque-send}
+use Rattle.ipam_text.specs.contracts.sequence.Seq as Seq
+use Rattle.ipam_text.specs.contracts.sequence.Seq.TheInside as seq_inside
+use Rattle.ipam_addr.specs.contracts.address.Addr as Addr
+use Rattle.ipam_addr.specs.contracts.cidrs.Cidr as Cidr
+use Rattle.ipam_pool.specs.contracts.pools.Pool as Pool
+use Rattle.ipam_pool.specs.contracts.table.PoolTable as PoolTable
+use Rattle.ipam_reserve.specs.contracts.reservations.Reservation as Reservation
+use Rattle.ipam_block.specs.contracts.allocation.Attributes as Attributes
+use Rattle.ipam_block.specs.contracts.allocation.Allocation as Allocation
+use Rattle.ipam_block.specs.contracts.block_record.Block as Block
+use Rattle.ipam_affinity.specs.contracts.record.Affinity as Affinity
+use Rattle.ipam_handle.specs.contracts.handles.Handle as Handle
+use Rattle.ipam_daemon.proofs.SentSelectors.{text_send, node_selector_send}
+
+pub addr_send : IsSend Addr.the_row
+addr_send = search (declared_send, variants_send, sendable) depth 20 fits 100000
+
+pub cidr_send : IsSend Cidr.the_row
+cidr_send = search (declared_send, variants_send, sendable) depth 20 fits 100000
+
+pub seq_send : (T : RattleType) → IsSend T → IsSend (Seq.the_row T)
+seq_send T s = view_send (seq_inside.the_row T) _ _ _ _ (declared_send (seq_inside.the_type T) (Vec-send T s, tt))
+
+pub pair_send : (A B : RattleType) → IsSend A → IsSend B → IsSend (Tuple (A ∷ B ∷ []))
+pair_send A B a b = declared_send (tuple_type (A ∷ B ∷ [])) (as_row_send (row_field A) a, (as_row_send (row_field B) b, tt))
+
+-- what a type holds may cross threads where each part may
+pub ruleset parts = (text_send, addr_send, cidr_send, seq_send, pair_send, Vec-send, Deque-send, declared_send, variants_send, sendable)
+
+pub pool_send : IsSend Pool.the_row
+pool_send = search (node_selector_send, parts) depth 20 fits 100000
+
+pub pools_send : IsSend PoolTable.the_row
+pools_send = search (pool_send, parts) depth 20 fits 100000
+
+pub reservation_send : IsSend Reservation.the_row
+reservation_send = search (parts) depth 20 fits 100000
+
+pub attributes_send : IsSend Attributes.the_row
+attributes_send = search (parts) depth 20 fits 100000
+
+allocation_send : IsSend Allocation.the_row
+allocation_send = search (attributes_send, parts) depth 20 fits 100000
+
+pub block_send : IsSend Block.the_row
+block_send = search (allocation_send, parts) depth 20 fits 100000
+
+pub affinity_send : IsSend Affinity.the_row
+affinity_send = search (parts) depth 20 fits 100000
+
+pub handle_send : IsSend Handle.the_row
+handle_send = search (parts) depth 20 fits 100000

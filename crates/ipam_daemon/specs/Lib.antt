@@ -1,0 +1,3 @@
+-- How serving ends.
+pub mod Served
+pub mod Opening

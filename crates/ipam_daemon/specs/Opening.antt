@@ -1,0 +1,25 @@
+-- How the daemon ends where the keeper's rows are not opened.
+use Rattle.std.specs.Prelude.{◌≡◌, ◌⊎◌, ℕ, Option, List}
+use Rattle.ipam_kept.specs.declared.kept.KeptFault.{KeptFault}
+use Rattle.ipam_kept.specs.declared.kept.KeptFault.TheVariants.{Keeper, Refused, Memory}
+use Rattle.ipam_kept.specs.Kept.{Tells}
+use Rattle.ipam_kept.specs.Opening.{IsNotOpened}
+use Rattle.ipam_daemon.specs.declared.served.Served.{Served}
+use Rattle.ipam_daemon.specs.declared.served.Served.TheVariants.{KeeperFault, NoMemory, BrokenRows, ListenFault}
+
+abbrev pub end_of : KeptFault → Served
+end_of Keeper = KeeperFault
+end_of (Refused number about) = BrokenRows number about
+end_of Memory = NoMemory
+
+-- the keeper's rows were not opened, for the reason that this end tells
+pub record IsUnopened {D : Type 0} (tells : Tells D) (faults name : D → ℕ) (keeper : D) (served : Served) : Type 0 where
+  pub after : D
+  pub fault : KeptFault
+  pub not_opened : IsNotOpened tells faults name keeper (after, fault)
+  pub told : served ≡ end_of fault
+
+-- the rows were not opened, or there was no memory, or listening failed
+abbrev pub IsEnd : {D : Type 0} → Tells D → (faults name : D → ℕ) → D → Served → Type 0
+IsEnd tells faults name keeper served =
+    IsUnopened tells faults name keeper served ⊎ (served ≡ NoMemory) ⊎ (served ≡ ListenFault)
