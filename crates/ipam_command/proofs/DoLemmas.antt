@@ -19,7 +19,8 @@ use Rattle.ipam_apply.specs.Applied.{ApplyEnds, DocumentEnds, Input, Read, ReadF
 use Rattle.ipam_apply.specs.Outside as apply_outside
 use Rattle.ipam_commands.specs.declared.status.Status.{Status}
 use Rattle.ipam_commands.specs.Telling.{Tells, Writes}
-use Rattle.ipam_command.specs.Commands.{Does, DoesGen, DoesPlay, DoesTell, IsPlayed, IsUnknown, LeavesKeeper, LeavesSource, Outside, TellsUnknown}
+use Rattle.ipam_command.specs.Commands.{Does, DoesGen, DoesPlay, DoesTell, IsPlayed, IsUnknown, TellsUnknown}
+use Rattle.ipam_command.specs.Outside.{LeavesKeeper, LeavesSource, Outside}
 use Rattle.ipam_command.specs.Statuses.{code_of, code_of_gen, code_of_play}
 
 -- what is done of what is asked

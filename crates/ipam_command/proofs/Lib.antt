@@ -1,2 +1,3 @@
 pub mod DoLemmas
 pub mod WordLemmas
+pub mod CallLemmas
