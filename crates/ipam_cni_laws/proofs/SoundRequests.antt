@@ -1,5 +1,5 @@
 -- The request that a call begins is sound.
-use Rattle.std.proofs.Common.{◌≡◌, ℕ, List, Option, Some, None, Result, Ok, Err, refl, sym, ◌∙◌, subst}
+use Rattle.std.proofs.Common.{◌≡◌, ℕ, List, Option, Some, None, Result, Ok, Err, codes, refl, sym, ap, subst}
 use Rattle.serde_json.specs.Data.{Data}
 use Rattle.ipam_addr.specs.Shape.{AddrValue}
 use Rattle.ipam_addr.specs.Text.{address_of}
@@ -18,7 +18,7 @@ use Rattle.cni_types.specs.declared.refusal.Refusal.{Refusal}
 use Rattle.cni_types.specs.declared.version.Version as versions
 use Rattle.cni_types.specs.Asked.{add_asked, argument_asked, asked}
 use Rattle.cni_types.specs.Looking.{command_in, decoded, look_from, look_reading, looked, or_error, tested}
-use Rattle.cni_types.specs.Reading.{Pair}
+use Rattle.cni_types.specs.Reading.{Pair, ◌>>=◌}
 use Rattle.cni_types.specs.Sound.{IsSoundAdd, IsSoundLook}
 use Rattle.cni_types.proofs.Soundness.{look_reading-sound}
 use Rattle.cni_asks.specs.declared.asks.Ask.{Ask}
@@ -39,25 +39,31 @@ HasRead other = Unit {0}
 
 asked-read : (c : Command) (version : versions.Version) (env : List Pair) (d : Data) → HasRead (asked c version env d)
 unfolding add_asked
-asked-read command.Add version env d = (_, refl)
+asked-read command.Add version env d = (argument_asked (codes "IP") env, refl)
 asked-read command.Del version env d = tt
 asked-read command.Check version env d = tt
 asked-read command.Version version env d = tt
 asked-read command.Gc version env d = tt
 asked-read command.Status version env d = tt
 
-tested-read : (c : Command) (env : List Pair) (d : Data) (found : Result versions.Version Refusal) (look : Look) → tested c env d ≡ found → looked (Some c) env d ≡ Ok look → HasRead look
-tested-read c env d (Err refusal) look is e = absurd (cc (is, e))
-tested-read c env d (Ok version) look is e = let same : asked c version env d ≡ look = cc (is, e) in rw (← same) (asked-read c version env d)
+bound : (m : Result versions.Version Refusal) (f : versions.Version → Result Look Refusal) (look : Look) → (m >>= f) ≡ Ok look → (version : versions.Version) × (f version ≡ Ok look)
+bound (Ok version) f look e = (version, e)
+bound (Err refusal) f look e = absurd cc
 
-looked-read : (o : Option Command) (env : List Pair) (d : Data) (found : Result Look Refusal) (look : Look) → looked o env d ≡ found → or_error d found ≡ Ok look → HasRead look
-looked-read None env d found look is e = absurd (cc (is, e))
-looked-read (Some c) env d (Err refusal) look is e = absurd cc
-looked-read (Some c) env d (Ok other) look is e = tested-read c env d (tested c env d) look refl (is ∙ e)
+no_error : (d : Data) (r : Result Look Refusal) (look : Look) → or_error d r ≡ Ok look → r ≡ Ok look
+no_error d (Ok l) look e = let same : l ≡ look = cc in ap Ok same
+no_error d (Err refusal) look e = absurd cc
+
+looked-read : (o : Option Command) (env : List Pair) (d : Data) (look : Look) → looked o env d ≡ Ok look → HasRead look
+looked-read None env d look e = absurd cc
+looked-read (Some c) env d look e =
+    let (version, after) = bound (tested c env d) _ look e in
+    let same : asked c version env d ≡ look = cc in
+    rw (← same) (asked-read c version env d)
 
 from-read : (c : Option Command) (env : List Pair) (o : Option Data) (look : Look) → look_from c env o ≡ Ok look → HasRead look
 from-read c env None look e = absurd cc
-from-read c env (Some d) look e = looked-read c env d (looked c env d) look refl e
+from-read c env (Some d) look e = looked-read c env d look (no_error d (looked c env d) look e)
 
 look-read : (env : List Pair) (stdin : List ℕ) (look : Look) → look_reading env stdin ≡ Ok look → HasRead look
 unfolding look_reading
