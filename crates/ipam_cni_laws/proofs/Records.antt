@@ -1,5 +1,5 @@
 -- What a call is replied and leaves is what the function of the records says.
-use Rattle.std.proofs.Common.{◌≡◌, List, Some, ap, subst}
+use Rattle.std.proofs.Common.{◌≡◌, Some, ap, subst}
 use Rattle.ipam_records.specs.Datastore.{Datastore}
 use Rattle.ipam_model.specs.declared.request.Request.{Request}
 use Rattle.ipam_model.specs.declared.request.Request.TheVariants.{Add, AddThis, Del, Check, Release, Collect, Admin, Probe}

@@ -14,7 +14,6 @@ use Rattle.cni_types.specs.declared.calls.Look.{Look}
 use Rattle.cni_types.specs.declared.calls.Look.TheVariants.{Version, Add, Del, Check, Gc, Status}
 use Rattle.cni_types.specs.declared.command.Command.{Command}
 use Rattle.cni_types.specs.declared.command.Command.TheVariants as command
-use Rattle.cni_types.specs.declared.refusal.Refusal.{Refusal}
 use Rattle.cni_types.specs.declared.version.Version as versions
 use Rattle.cni_types.specs.Asked.{add_asked, argument_asked, asked}
 use Rattle.cni_types.specs.Looking.{command_in, decoded, look_from, look_reading, looked, or_error, tested}
@@ -25,7 +24,7 @@ use Rattle.cni_asks.specs.declared.asks.Ask.{Ask}
 use Rattle.cni_asks.specs.declared.asks.Ask.TheVariants.{Tell, Begin}
 use Rattle.cni_asks.specs.Asking.{add_of, wanting}
 use Rattle.cni_asks.proofs.SoundCalls.{add_sound}
-use Rattle.cni_gc.specs.Begun.{collect_of, probe_of}
+use Rattle.cni_gc.specs.Begun.{probe_of}
 use Rattle.cni_gc.proofs.SoundProbe.{copy_sound}
 use Rattle.ipam_cni.specs.Replies.{begun_by}
 use Rattle.ipam_cni_laws.proofs.Spared.{gc-sound}
@@ -46,18 +45,18 @@ asked-read command.Version version env d = tt
 asked-read command.Gc version env d = tt
 asked-read command.Status version env d = tt
 
-bound : (m : Result versions.Version Refusal) (f : versions.Version → Result Look Refusal) (look : Look) → (m >>= f) ≡ Ok look → (version : versions.Version) × (f version ≡ Ok look)
-bound (Ok version) f look e = (version, e)
-bound (Err refusal) f look e = absurd cc
+bound : {A B E : Type 0} (m : Result A E) (f : A → Result B E) (v : B) → (m >>= f) ≡ Ok v → (a : A) × (m ≡ Ok a) × (f a ≡ Ok v)
+bound (Ok a) f v e = (a, refl, e)
+bound (Err fault) f v e = absurd cc
 
-no_error : (d : Data) (r : Result Look Refusal) (look : Look) → or_error d r ≡ Ok look → r ≡ Ok look
+no_error : (d : Data) (r : Result Look _) (look : Look) → or_error d r ≡ Ok look → r ≡ Ok look
 no_error d (Ok l) look e = let same : l ≡ look = cc in ap Ok same
 no_error d (Err refusal) look e = absurd cc
 
 looked-read : (o : Option Command) (env : List Pair) (d : Data) (look : Look) → looked o env d ≡ Ok look → HasRead look
 looked-read None env d look e = absurd cc
 looked-read (Some c) env d look e =
-    let (version, after) = bound (tested c env d) _ look e in
+    let (version, is, after) = bound (tested c env d) _ look e in
     let same : asked c version env d ≡ look = cc in
     rw (← same) (asked-read c version env d)
 

@@ -1,5 +1,5 @@
 -- What an answer is told as, its answer without moments is told as too.
-use Rattle.std.proofs.Common.{◌≡◌, Option, Some, refl, ap, ◌∙◌, sym, option_and_then}
+use Rattle.std.proofs.Common.{◌≡◌, Option, Some, ap, ◌∙◌, sym, option_and_then}
 use Rattle.ipam_addr.specs.Shape.{AddrValue}
 use Rattle.ipam_model.specs.declared.answer.Answer.{Answer}
 use Rattle.ipam_model.specs.declared.answer.Answer.TheVariants as answer

@@ -1,5 +1,5 @@
 -- What a CNI call is replied and leaves as a function of the records, where there is spare.
-use Rattle.std.specs.Prelude.{◌≡◌, ℕ, List, [], Option, Some, None, IfSome, Ok}
+use Rattle.std.specs.Prelude.{◌≡◌, ℕ, List, Option, Some, None, IfSome, Ok}
 use Rattle.ipam_addr.specs.Shape.{AddrValue}
 use Rattle.ipam_addr.specs.Text.{address_text, cidr_text_of}
 use Rattle.ipam_records.specs.declared.call.Row.{Row as RowText}
