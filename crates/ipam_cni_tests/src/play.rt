@@ -155,11 +155,7 @@ fn call(
     push_reply(alloc, status, sink.written(), told)
 }
 
-fn environment(
-    alloc: Global,
-    common: &str,
-    text: &str,
-) -> Result<Vec<(Text, Text)>, AllocError> {
+fn environment(alloc: Global, common: &str, text: &str) -> Result<Vec<(Text, Text)>, AllocError> {
     let mut env = Vec::new(alloc);
     push_pairs(alloc, common, &mut env)?;
     push_pairs(alloc, text, &mut env)?;

@@ -1,5 +1,5 @@
 -- What a CNI call writes and leaves that goes well over rows with spare.
-use Rattle.std.specs.Prelude.{◌≡◌, ◌≢◌, ◌↔◌, ℕ, List, [], Option, Some, IfSome, Ok}
+use Rattle.std.specs.Prelude.{◌≡◌, ◌≢◌, ◌↔◌, ℕ, List, [], Some, Ok}
 use Rattle.std.specs.Io.KnownBytes.{append_known}
 use Rattle.ipam_io.specs.Counts.{Rose}
 use Rattle.ipam_records.specs.declared.call.Row.{Row as RowText}

@@ -106,7 +106,8 @@ fail 2 3
 session closed"#;
 
 /// Collections, whose second list is a line of its own.
-pub(crate) const COLLECTIONS: &str = r#"A second list that comes too soon is refused, and a later one is taken.
+pub(crate) const COLLECTIONS: &str =
+    r#"A second list that comes too soon is refused, and a later one is taken.
 row 1 pools {"pools":[{"blockSize":30,"cidr":"10.0.0.0/29","disabled":false,"name":"p"}]}
 row 2 affinity/a/10.0.0.0/30 {"cidr":"10.0.0.0/30","node":"a","state":"confirmed"}
 row 3 block/10.0.0.0/30 {"affinity":"host:a","allocations":[0,null,null,null],"attributes":[{"handle_id":"n.c1","secondary":{}}],"cidr":"10.0.0.0/30","sequenceNumber":1,"sequenceNumberForAllocation":{"0":1},"unallocated":[1,2,3]}
