@@ -1,3 +1,7 @@
+-- Proofs of the laws.
 mod TryAgain
 mod Ready
-mod Spared
+pub mod Spared
+mod Told
+mod SoundRequests
+pub mod Records

@@ -41,11 +41,11 @@ use Rattle.ipam_cni_laws.proofs.Ready.{plain-ready, ready-plain}
 -- ---- what a call is replied
 
 -- the request alone over the store has this reply
-record IsReplied (store : Datastore) (asked : Request) (version : Version) (new : Option (List RowText)) (reply : Reply) : Type 0 where
-  is_told : CniReply
-  answer : reply_to asked (alone_over (opened store) asked).0 ≡ Some is_told
-  rows : IfSome new (λ after. AreTextsOf after (alone_over (opened store) asked).1)
-  text : told version is_told ≡ reply
+pub record IsReplied (store : Datastore) (asked : Request) (version : Version) (new : Option (List RowText)) (reply : Reply) : Type 0 where
+  pub is_told : CniReply
+  pub answer : reply_to asked (alone_over (opened store) asked).0 ≡ Some is_told
+  pub rows : IfSome new (λ after. AreTextsOf after (alone_over (opened store) asked).1)
+  pub text : told version is_told ≡ reply
 
 request-replied : (asked : Request) (version : Version) (old : List RowText) (new : Option (List RowText)) (reply : Reply) (store : Datastore) → OpensAs (texts_loaded old) store → RequestComesTo asked version (Some old) new reply → IsReplied store asked version new reply
 request-replied asked version old new reply store opens (BadRows loaded number about is refused same) =
@@ -62,7 +62,7 @@ request-replied asked version old new reply store opens (Answered loaded other s
 tell-begin : (text : List ℕ) (asked : Request) (version : Version) → Tell text ≡ Begin asked version → ⊥
 tell-begin text asked version e = absurd cc
 
-replied : (env : List Pair) (stdin : List ℕ) (look : Look) (asked : Request) (version : Version) (old : List RowText) (new : Option (List RowText)) (reply : Reply) (store : Datastore) → look_reading env stdin ≡ Ok look → begun_by look ≡ Begin asked version → OpensAs (texts_loaded old) store → ComesTo env stdin (Some old) new reply → IsReplied store asked version new reply
+pub replied : (env : List Pair) (stdin : List ℕ) (look : Look) (asked : Request) (version : Version) (old : List RowText) (new : Option (List RowText)) (reply : Reply) (store : Datastore) → look_reading env stdin ≡ Ok look → begun_by look ≡ Begin asked version → OpensAs (texts_loaded old) store → ComesTo env stdin (Some old) new reply → IsReplied store asked version new reply
 replied env stdin look asked version old new reply store is begins opens (Refused error e same) = absurd (cc (is, e))
 replied env stdin look asked version old new reply store is begins opens (AtOnce other text e tells same) =
     let one : other ≡ look = cc (is, e) in
@@ -77,7 +77,7 @@ replied env stdin look asked version old new reply store is begins opens (Asked 
 
 -- ---- GC
 
-gc-sound : (call : CniGc) → IsSoundGc call → IsSoundRequest (Collect (collect_of call))
+pub gc-sound : (call : CniGc) → IsSoundGc call → IsSoundRequest (Collect (collect_of call))
 gc-sound call h = record { live = h.live; at = lit< tt; grace = lit< tt; scope = (h.network, h.node) }
 
 collects-told : (found : Answer) (owners : List Owner) → plain_of found ≡ Some (Collects owners) → gc_reply_of found ≡ Some Success
@@ -106,7 +106,7 @@ collects-told (answer.Ready scans) owners e = absurd cc
 pub gc_leaves : GcLeavesLaw
 gc_leaves env stdin call old new reply store look comes opens spare =
     let sound = gc-sound call (look_reading-sound env stdin (Gc call) look) in
-    let r = replied env stdin (Gc call) (Collect (collect_of call)) call.version old (Some new) reply store look refl opens comes in
+    let r = replied env stdin (Gc call) (Collect (collect_of call)) call.version old new reply store look refl opens comes in
     let consistent = opened_law (texts_loaded old) store opens in
     let result = plain_collect (collect_of call) store.rows in
     let plain = (collect_alone (collect_of call) (opened store) result consistent sound spare refl).0 in

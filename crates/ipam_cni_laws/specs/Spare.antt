@@ -1,5 +1,5 @@
 -- What GC leaves and what STATUS tells over rows that were opened, where there is spare.
-use Rattle.std.specs.Prelude.{◌≡◌, ◌⊎◌, ◌↔◌, ℕ, false, true, List, [], Option, Some, Ok}
+use Rattle.std.specs.Prelude.{◌≡◌, ◌⊎◌, ◌↔◌, ℕ, false, true, List, [], Option, Some, IfSome, Ok}
 use Rattle.ipam_block.specs.declared.allocation.Allocation.{Allocation}
 use Rattle.ipam_records.specs.declared.call.Row.{Row as RowText}
 use Rattle.ipam_records.specs.Datastore.{Datastore}
@@ -34,18 +34,18 @@ IsSpared call a = (is_in_scope (Some (call.network, call.node)) a ≡ false) ⊎
 abbrev pub left_by : CniGc → Datastore → Datastore
 left_by call store = (alone_over (opened store) (Collect (collect_of call))).1
 
--- the rows are its texts, and its owners are exactly those that are spared
-pub record LeavesSpared (store : Datastore) (call : CniGc) (after : List RowText) : Type 0 where
-  pub texts : AreTextsOf after (left_by call store)
+-- the rows, where they are told, are its texts, and its owners are exactly those that are spared
+pub record LeavesSpared (store : Datastore) (call : CniGc) (new : Option (List RowText)) : Type 0 where
+  pub texts : IfSome new (λ after. AreTextsOf after (left_by call store))
   pub owners : (o : Owner) → Owns (left_by call store) o ↔ ((a : Allocation) × Recorded store o a × IsSpared call a)
 
 -- A GC call that is replied, over rows that open and have spare, succeeds without a text, and leaves
 -- exactly the owners that are outside of its scope or whose handle is listed.
 abbrev pub GcLeavesLaw : Type 0
 GcLeavesLaw =
-    (env : List Pair) (stdin : List ℕ) (call : CniGc) (old new : List RowText) (reply : Reply) (store : Datastore)
+    (env : List Pair) (stdin : List ℕ) (call : CniGc) (old : List RowText) (new : Option (List RowText)) (reply : Reply) (store : Datastore)
     → look_reading env stdin ≡ Ok (Gc call)
-    → ComesTo env stdin (Some old) (Some new) reply
+    → ComesTo env stdin (Some old) new reply
     → OpensAs (texts_loaded old) store
     → HasSpareFor store (Collect (collect_of call))
     → (reply ≡ (0, [])) × LeavesSpared store call new

@@ -2,6 +2,7 @@
 #![tactic(auto)]
 
 ghost use Rattle.ipam_cni_laws.specs.Alone.{NoTryAgainLaw, StatusLaw};
+ghost use Rattle.ipam_cni_laws.specs.ByRecords.{ByRecordsLaw};
 ghost use Rattle.ipam_cni_laws.specs.Spare.{GcLeavesLaw, StatusAddsLaw};
 
 /// No call is told to try again later, code 11: nobody else runs.
@@ -24,4 +25,10 @@ pub fn gc_leaves_what_is_outside_the_scope_or_listed()
 /// where the rows that were opened have spare.
 pub fn status_succeeds_where_the_add_gives_addresses()
     ensures { StatusAddsLaw }
+{}
+
+/// A call is replied what the function of the records says, and leaves the records that it says, where
+/// the rows that were opened have spare.
+pub fn a_call_is_told_what_the_records_say()
+    ensures { ByRecordsLaw }
 {}

@@ -5,7 +5,7 @@ use ipam_keeper::{Keeper, MemoryKeeper, Row};
 use ipam_text::Text;
 use std::alloc::{AllocError, Global};
 
-/// The pairs that stand in the environment of each call beside its own.
+/// The pairs that stand in the environment of a call before its own.
 const COMMON: &str = "CNI_NETNS=/var/run/netns/x¦CNI_IFNAME=eth0¦CNI_PATH=/opt/cni/bin";
 
 /// What of a call fails beside the keeper.
@@ -114,9 +114,9 @@ fn number_after(number: &str, before: usize) -> u64 {
 
 // ---- the steps
 
-/// Plays a line, and appends what is told of it: `call` makes a call, `unread` one whose standard input
-/// can't be read, and `cut` one whose reply can't be written; `get` tells the rows whose keys begin so;
-/// `same` tells whether all rows are as they were at the last `keep`.
+/// Plays a line, and appends what is told of it: `call` makes a call, `bare` one without the common pairs,
+/// `unread` one whose standard input can't be read, and `cut` one whose reply can't be written; `get`
+/// tells the rows whose keys begin so; `same` tells whether all rows are as they were at the last `keep`.
 fn step(
     alloc: Global,
     keeper: &mut MemoryKeeper,
@@ -126,9 +126,10 @@ fn step(
 ) -> Result<(), AllocError> {
     let (word, rest) = line.split_once(' ').unwrap_or((line, ""));
     match word {
-        "call" => call(alloc, keeper, Failing::Nothing, rest, told),
-        "unread" => call(alloc, keeper, Failing::Read, rest, told),
-        "cut" => call(alloc, keeper, Failing::Write, rest, told),
+        "call" => call(alloc, keeper, COMMON, Failing::Nothing, rest, told),
+        "bare" => call(alloc, keeper, "", Failing::Nothing, rest, told),
+        "unread" => call(alloc, keeper, COMMON, Failing::Read, rest, told),
+        "cut" => call(alloc, keeper, COMMON, Failing::Write, rest, told),
         "get" => push_rows(alloc, keeper, rest, told),
         "keep" => keep(alloc, keeper, kept),
         "same" => push_same(alloc, keeper, kept, told),
@@ -136,25 +137,27 @@ fn step(
     }
 }
 
-/// Makes the call of a line `ENVIRONMENT⇒STANDARD INPUT`, and appends its status and what it wrote.
+/// Makes the call of a line `ENVIRONMENT⇒STANDARD INPUT`, with the common pairs before its own, and
+/// appends its status and what it wrote.
 fn call(
     alloc: Global,
     keeper: &mut MemoryKeeper,
+    common: &str,
     failing: Failing,
     line: &str,
     told: &mut String,
 ) -> Result<(), AllocError> {
     let (env, stdin) = line.split_once('⇒').unwrap_or((line, ""));
-    let env = environment(alloc, env)?;
+    let env = environment(alloc, common, env)?;
     let mut source = source_of(alloc, failing, stdin)?;
     let mut sink = sink_of(alloc, failing)?;
     let status = cni(alloc, env.as_slice(), &mut source, &mut sink, keeper);
     push_reply(alloc, status, sink.written(), told)
 }
 
-fn environment(alloc: Global, text: &str) -> Result<Vec<(Text, Text)>, AllocError> {
+fn environment(alloc: Global, common: &str, text: &str) -> Result<Vec<(Text, Text)>, AllocError> {
     let mut env = Vec::new(alloc);
-    push_pairs(alloc, COMMON, &mut env)?;
+    push_pairs(alloc, common, &mut env)?;
     push_pairs(alloc, text, &mut env)?;
     Ok(env)
 }

@@ -1,3 +1,4 @@
+use crate::broken::{BROKEN, CALLS, SCENARIOS};
 use crate::play::play;
 use crate::scenarios::{FAULTS, GC_AND_STATUS, REFUSALS, WORKED};
 use std::alloc::{AllocError, Global};
@@ -40,6 +41,25 @@ fn gc_and_status_are_told(rt: HostRuntime) -> Result<(), Fail> {
 fn faults_are_told(rt: HostRuntime) -> Result<(), Fail> {
     let count = played(&rt, rt.alloc(), FAULTS)?;
     assert_eq!(rt; count, 6);
+    Ok(())
+}
+
+/// How many lines make a call without the common pairs.
+fn calls_in(scenarios: &str) -> usize {
+    let mut count = 0usize;
+    for line in scenarios.lines() {
+        if line.starts_with("bare ") {
+            count = count.wrapping_add(1);
+        }
+    }
+    count
+}
+
+#[test]
+fn calls_with_one_thing_broken_are_told(rt: HostRuntime) -> Result<(), Fail> {
+    let count = played(&rt, rt.alloc(), BROKEN)?;
+    assert_eq!(rt; count, SCENARIOS);
+    assert_eq!(rt; calls_in(BROKEN), CALLS);
     Ok(())
 }
 

@@ -1,6 +1,6 @@
 -- What each command does is what is asked by its words.
-use Rattle.std.proofs.Common.{◌≡◌, ℕ, List, Option, Some, None, refl, sym, subst, ap, ◌∙◌}
-use Rattle.std.specs.Prelude.{IfSome, option_map}
+use Rattle.std.proofs.Common.{◌≡◌, ℕ, List, Option, Some, None, sym, subst}
+use Rattle.std.specs.Prelude.{IfSome}
 use Rattle.ipam_play.specs.Readings.{readings}
 use Rattle.ipam_play.specs.Script.{script_of}
 use Rattle.ipam_play_run.specs.Writing as play_run
@@ -10,8 +10,7 @@ use Rattle.ipam_headline.proofs.Writing.{written_right}
 use Rattle.cni_types.specs.Reading.{Pair}
 use Rattle.ipam_records.specs.declared.call.Row.{Row as RowText}
 use Rattle.ipam_records.specs.Datastore.{Datastore}
-use Rattle.ipam_words.specs.declared.command.Command.{Command}
-use Rattle.ipam_words.specs.Words.{Asked, Cni, Play, Apply, Get, Routes, Release, Gen, asked_by}
+use Rattle.ipam_words.specs.Words.{Asked}
 use Rattle.ipam_play_run.specs.declared.end.PlayEnd.{PlayEnd}
 use Rattle.ipam_gen.specs.declared.end.GenEnd.{GenEnd}
 use Rattle.ipam_gen.specs.Summary as gen
@@ -19,7 +18,8 @@ use Rattle.ipam_apply.specs.Applied.{ApplyEnds, DocumentEnds, Input, Read, ReadF
 use Rattle.ipam_apply.specs.Outside as apply_outside
 use Rattle.ipam_commands.specs.declared.status.Status.{Status}
 use Rattle.ipam_commands.specs.Telling.{Tells, Writes}
-use Rattle.ipam_command.specs.Commands.{Does, DoesGen, DoesPlay, DoesTell, IsPlayed, IsUnknown, LeavesKeeper, LeavesSource, Outside, TellsUnknown}
+use Rattle.ipam_command.specs.Commands.{Does, DoesGen, DoesPlay, DoesTell, IsPlayed, TellsUnknown}
+use Rattle.ipam_command.specs.Outside.{LeavesKeeper, LeavesSource, Outside}
 use Rattle.ipam_command.specs.Statuses.{code_of, code_of_gen, code_of_play}
 
 -- what is done of what is asked

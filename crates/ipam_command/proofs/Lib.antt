@@ -1,2 +1,4 @@
 pub mod DoLemmas
 pub mod WordLemmas
+pub mod ShortCalls
+pub mod CallLemmas

@@ -1,13 +1,13 @@
 -- The node that words name has a name's form.
-use Rattle.std.proofs.Common.{◌≡◌, ℕ, Bool, true, false, List, [], ◌∷◌, Option, Some, None, refl, sym, ap, ◌∙◌, subst}
-use Rattle.std.specs.Prelude.{IsTrue, bytes_eq, codes, option_map, option_and_then, Result, Ok, Err, if◌then◌else◌}
+use Rattle.std.proofs.Common.{◌≡◌, ℕ, Bool, true, false, List, [], ◌∷◌, Option, Some, None, refl, sym, subst}
+use Rattle.std.specs.Prelude.{bytes_eq, codes, option_map, Result, Ok, Err, if◌then◌else◌}
 use Rattle.ipam_addr.specs.declared.cidrs.AddrFault.{AddrFault}
 use Rattle.ipam_addr.specs.Names.{is_name_text}
 use Rattle.ipam_addr.specs.Shape.{CidrValue}
 use Rattle.ipam_addr.specs.Text.{cidr_reading}
 use Rattle.ipam_words.specs.declared.kind.RowKind.{RowKind}
 use Rattle.ipam_words.specs.Kinds.{kind_named}
-use Rattle.ipam_words.specs.Words.{Asked, Cni, Play, Apply, Get, Routes, Release, Gen, command_named, count_named, count_of, first_named, get_named, get_of, release_named, release_of, routes_named, second_named, word_named}
+use Rattle.ipam_words.specs.Words.{Asked, Cni, Play, Apply, Get, Routes, Gen, command_named, count_named, count_of, first_named, get_named, get_of, release_named, release_of, routes_named, second_named, word_named}
 use Rattle.ipam_command.specs.Commands.{IsSound}
 
 -- what is asked, if anything, is sound

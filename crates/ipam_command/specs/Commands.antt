@@ -1,5 +1,5 @@
 -- What each command does, and the status that it ends with.
-use Rattle.std.specs.Prelude.{◌≡◌, ◌≢◌, ◌⊎◌, ℕ, List, Option, Some, None, IfSome, Result, codes}
+use Rattle.std.specs.Prelude.{◌≡◌, ◌≢◌, ℕ, List, Option, Some, None, IfSome, Result, codes}
 use Rattle.std.specs.Io.KnownBytes.{append_known, IsAtEnd}
 use Rattle.ipam_io.specs.Counts.{Rose}
 use Rattle.ipam_io.specs.Streams.{AppendsPrefix}
@@ -31,30 +31,9 @@ use Rattle.ipam_commands.specs.declared.status.Status.TheVariants as status_of
 use Rattle.ipam_cni.specs.declared.end.CniEnd.{CniEnd}
 use Rattle.ipam_cni.specs.Calls as cni
 use Rattle.ipam_cni.specs.Ends as cni_ends
+use Rattle.ipam_command.specs.CniCalls.{IsCallByRecords, LeavesWhatIsSpared, TellsOfAdd}
+use Rattle.ipam_command.specs.Outside.{LeavesKeeper, LeavesSource, Outside, sides_of}
 use Rattle.ipam_command.specs.Statuses.{code_of, code_of_gen, code_of_play}
-
--- ---- the outside
-
--- What a command finds outside, and leaves there: the bytes that the source has left and how many of its
--- reads failed, the bytes that the sink took and how many of its writes failed, the keeper's rows and
--- how many of its calls failed.
-pub record Outside : Type 0 where
-  pub left : Option (List ℕ)
-  pub read_faults : ℕ
-  pub written : Option (List ℕ)
-  pub write_faults : ℕ
-  pub rows : Option (List RowText)
-  pub keeper_faults : ℕ
-
--- the source and its count of faults are as they were
-pub record LeavesSource (old new : Outside) : Type 0 where
-  pub left : new.left ≡ old.left
-  pub read_faults : new.read_faults ≡ old.read_faults
-
--- the keeper's rows and its count of faults are as they were
-pub record LeavesKeeper (old new : Outside) : Type 0 where
-  pub rows : new.rows ≡ old.rows
-  pub keeper_faults : new.keeper_faults ≡ old.keeper_faults
 
 -- ---- words that name no command
 
@@ -146,20 +125,16 @@ pub record DoesApply (old new : Outside) (status : ℕ) : Type 0 where
 
 -- ---- no word, or `cni`
 
--- what a call finds and leaves, but for what it writes
-abbrev pub sides_of : Outside → cni.Sides
-sides_of outside = record {
-  input = outside.left;
-  input_faults = outside.read_faults;
-  rows = outside.rows;
-  keeper_faults = outside.keeper_faults;
-}
-
--- the call of this environment is made over the keeper's rows
+-- The call of this environment is made over the keeper's rows. Where it goes well and the rows have
+-- spare, what it writes and leaves is as the function of the records says, what GC leaves is known by its
+-- owners, and STATUS tells of the ADD that asks for the same.
 pub record DoesCni (env : List Pair) (old new : Outside) (status : ℕ) : Type 0 where
   pub ending : CniEnd
   pub went : cni.Went env ending (sides_of old) (sides_of new)
   pub tells : cni_ends.Tells ending old.written new.written old.write_faults new.write_faults status
+  pub by_records : IsCallByRecords env ending old new status
+  pub gc : LeavesWhatIsSpared env ending old new status
+  pub status_of_add : TellsOfAdd env ending old new status
   pub at_end : status ≡ 0 → IsAtEnd new.left
   pub is_status : cni_ends.IsStatus status
 

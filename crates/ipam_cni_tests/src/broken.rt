@@ -1,0 +1,1149 @@
+// Written by tools/broken_calls.py: change that, and not this file.
+// Scenarios: rows, calls with one thing broken each, and what is told of them.
+
+pub(crate) const SCENARIOS: usize = 74;
+
+pub(crate) const CALLS: usize = 246;
+
+pub(crate) const BROKEN: &str = "\
+Each is refused with the code 1.\n\
+row 1 pools {\"pools\":[{\"blockSize\":30,\"cidr\":\"10.0.0.0/29\",\"disabled\":false,\"name\":\"p\"}]}\n\
+row 2 affinity/a/10.0.0.0/30 {\"cidr\":\"10.0.0.0/30\",\"node\":\"a\",\"state\":\"confirmed\"}\n\
+row 3 handle/net.c1 {\"block\":{\"10.0.0.0/30\":1},\"handleID\":\"net.c1\"}\n\
+row 4 block/10.0.0.0/30 {\"affinity\":\"host:a\",\"allocations\":[0,null,null,null],\"attributes\":[{\"handle_id\":\"net.c1\",\"secondary\":{\"network\":\"net\",\"node\":\"a\"}}],\"cidr\":\"10.0.0.0/30\",\"sequenceNumber\":1,\"sequenceNumberForAllocation\":{\"0\":1},\"unallocated\":[1,2,3]}\n\
+keep\n\
+bare CNI_COMMAND=ADD¦CNI_CONTAINERID=c1¦CNI_NETNS=/x¦CNI_IFNAME=eth0⇒{\"cniVersion\":\"2.0.0\",\"name\":\"net\",\"nodename\":\"a\",\"ipam\":{\"type\":\"calico-ipam\"}}\n\
+= 1 {\"cniVersion\":\"1.0.0\",\"code\":1,\"details\":\"2.0.0\",\"msg\":\"incompatible CNI version\"}\n\
+bare CNI_COMMAND=ADD¦CNI_CONTAINERID=c1¦CNI_NETNS=/x¦CNI_IFNAME=eth0⇒{\"cniVersion\":\"0.2.0\",\"name\":\"net\",\"nodename\":\"a\",\"ipam\":{\"type\":\"calico-ipam\"}}\n\
+= 1 {\"cniVersion\":\"1.0.0\",\"code\":1,\"details\":\"0.2.0\",\"msg\":\"incompatible CNI version\"}\n\
+bare CNI_COMMAND=ADD¦CNI_CONTAINERID=c1¦CNI_NETNS=/x¦CNI_IFNAME=eth0⇒{\"cniVersion\":\"1.0\",\"name\":\"net\",\"nodename\":\"a\",\"ipam\":{\"type\":\"calico-ipam\"}}\n\
+= 1 {\"cniVersion\":\"1.0.0\",\"code\":1,\"details\":\"1.0\",\"msg\":\"incompatible CNI version\"}\n\
+bare CNI_COMMAND=ADD¦CNI_CONTAINERID=c1¦CNI_NETNS=/x¦CNI_IFNAME=eth0⇒{\"cniVersion\":\"\",\"name\":\"net\",\"nodename\":\"a\",\"ipam\":{\"type\":\"calico-ipam\"}}\n\
+= 1 {\"cniVersion\":\"1.0.0\",\"code\":1,\"details\":\"\",\"msg\":\"incompatible CNI version\"}\n\
+bare CNI_COMMAND=ADD¦CNI_CONTAINERID=c1¦CNI_NETNS=/x¦CNI_IFNAME=eth0⇒{\"cniVersion\":1,\"name\":\"net\",\"nodename\":\"a\",\"ipam\":{\"type\":\"calico-ipam\"}}\n\
+= 1 {\"cniVersion\":\"1.0.0\",\"code\":1,\"details\":\"\",\"msg\":\"incompatible CNI version\"}\n\
+bare CNI_COMMAND=ADD¦CNI_CONTAINERID=c1¦CNI_NETNS=/x¦CNI_IFNAME=eth0⇒{\"cniVersion\":null,\"name\":\"net\",\"nodename\":\"a\",\"ipam\":{\"type\":\"calico-ipam\"}}\n\
+= 1 {\"cniVersion\":\"1.0.0\",\"code\":1,\"details\":\"\",\"msg\":\"incompatible CNI version\"}\n\
+bare CNI_COMMAND=ADD¦CNI_CONTAINERID=c1¦CNI_NETNS=/x¦CNI_IFNAME=eth0⇒{\"name\":\"net\",\"nodename\":\"a\",\"ipam\":{\"type\":\"calico-ipam\"}}\n\
+= 1 {\"cniVersion\":\"1.0.0\",\"code\":1,\"details\":\"\",\"msg\":\"incompatible CNI version\"}\n\
+bare CNI_COMMAND=DEL¦CNI_CONTAINERID=c1¦CNI_NETNS=/x¦CNI_IFNAME=eth0⇒{\"cniVersion\":\"2.0.0\",\"name\":\"net\",\"nodename\":\"a\",\"ipam\":{\"type\":\"calico-ipam\"}}\n\
+= 1 {\"cniVersion\":\"1.0.0\",\"code\":1,\"details\":\"2.0.0\",\"msg\":\"incompatible CNI version\"}\n\
+bare CNI_COMMAND=DEL¦CNI_CONTAINERID=c1¦CNI_NETNS=/x¦CNI_IFNAME=eth0⇒{\"cniVersion\":\"0.2.0\",\"name\":\"net\",\"nodename\":\"a\",\"ipam\":{\"type\":\"calico-ipam\"}}\n\
+= 1 {\"cniVersion\":\"1.0.0\",\"code\":1,\"details\":\"0.2.0\",\"msg\":\"incompatible CNI version\"}\n\
+bare CNI_COMMAND=DEL¦CNI_CONTAINERID=c1¦CNI_NETNS=/x¦CNI_IFNAME=eth0⇒{\"cniVersion\":\"1.0\",\"name\":\"net\",\"nodename\":\"a\",\"ipam\":{\"type\":\"calico-ipam\"}}\n\
+= 1 {\"cniVersion\":\"1.0.0\",\"code\":1,\"details\":\"1.0\",\"msg\":\"incompatible CNI version\"}\n\
+bare CNI_COMMAND=DEL¦CNI_CONTAINERID=c1¦CNI_NETNS=/x¦CNI_IFNAME=eth0⇒{\"cniVersion\":\"\",\"name\":\"net\",\"nodename\":\"a\",\"ipam\":{\"type\":\"calico-ipam\"}}\n\
+= 1 {\"cniVersion\":\"1.0.0\",\"code\":1,\"details\":\"\",\"msg\":\"incompatible CNI version\"}\n\
+bare CNI_COMMAND=DEL¦CNI_CONTAINERID=c1¦CNI_NETNS=/x¦CNI_IFNAME=eth0⇒{\"cniVersion\":1,\"name\":\"net\",\"nodename\":\"a\",\"ipam\":{\"type\":\"calico-ipam\"}}\n\
+= 1 {\"cniVersion\":\"1.0.0\",\"code\":1,\"details\":\"\",\"msg\":\"incompatible CNI version\"}\n\
+bare CNI_COMMAND=DEL¦CNI_CONTAINERID=c1¦CNI_NETNS=/x¦CNI_IFNAME=eth0⇒{\"cniVersion\":null,\"name\":\"net\",\"nodename\":\"a\",\"ipam\":{\"type\":\"calico-ipam\"}}\n\
+= 1 {\"cniVersion\":\"1.0.0\",\"code\":1,\"details\":\"\",\"msg\":\"incompatible CNI version\"}\n\
+bare CNI_COMMAND=DEL¦CNI_CONTAINERID=c1¦CNI_NETNS=/x¦CNI_IFNAME=eth0⇒{\"name\":\"net\",\"nodename\":\"a\",\"ipam\":{\"type\":\"calico-ipam\"}}\n\
+= 1 {\"cniVersion\":\"1.0.0\",\"code\":1,\"details\":\"\",\"msg\":\"incompatible CNI version\"}\n\
+bare CNI_COMMAND=CHECK¦CNI_CONTAINERID=c1¦CNI_NETNS=/x¦CNI_IFNAME=eth0⇒{\"cniVersion\":\"2.0.0\",\"name\":\"net\",\"nodename\":\"a\",\"ipam\":{\"type\":\"calico-ipam\"},\"prevResult\":{\"ips\":[{\"address\":\"10.0.0.1/32\"},{\"address\":\"2001:db8::1/64\"}]}}\n\
+= 1 {\"cniVersion\":\"1.0.0\",\"code\":1,\"details\":\"2.0.0\",\"msg\":\"incompatible CNI version\"}\n\
+bare CNI_COMMAND=CHECK¦CNI_CONTAINERID=c1¦CNI_NETNS=/x¦CNI_IFNAME=eth0⇒{\"cniVersion\":\"0.2.0\",\"name\":\"net\",\"nodename\":\"a\",\"ipam\":{\"type\":\"calico-ipam\"},\"prevResult\":{\"ips\":[{\"address\":\"10.0.0.1/32\"},{\"address\":\"2001:db8::1/64\"}]}}\n\
+= 1 {\"cniVersion\":\"1.0.0\",\"code\":1,\"details\":\"0.2.0\",\"msg\":\"incompatible CNI version\"}\n\
+bare CNI_COMMAND=CHECK¦CNI_CONTAINERID=c1¦CNI_NETNS=/x¦CNI_IFNAME=eth0⇒{\"cniVersion\":\"1.0\",\"name\":\"net\",\"nodename\":\"a\",\"ipam\":{\"type\":\"calico-ipam\"},\"prevResult\":{\"ips\":[{\"address\":\"10.0.0.1/32\"},{\"address\":\"2001:db8::1/64\"}]}}\n\
+= 1 {\"cniVersion\":\"1.0.0\",\"code\":1,\"details\":\"1.0\",\"msg\":\"incompatible CNI version\"}\n\
+bare CNI_COMMAND=CHECK¦CNI_CONTAINERID=c1¦CNI_NETNS=/x¦CNI_IFNAME=eth0⇒{\"cniVersion\":\"\",\"name\":\"net\",\"nodename\":\"a\",\"ipam\":{\"type\":\"calico-ipam\"},\"prevResult\":{\"ips\":[{\"address\":\"10.0.0.1/32\"},{\"address\":\"2001:db8::1/64\"}]}}\n\
+= 1 {\"cniVersion\":\"1.0.0\",\"code\":1,\"details\":\"\",\"msg\":\"incompatible CNI version\"}\n\
+bare CNI_COMMAND=CHECK¦CNI_CONTAINERID=c1¦CNI_NETNS=/x¦CNI_IFNAME=eth0⇒{\"cniVersion\":1,\"name\":\"net\",\"nodename\":\"a\",\"ipam\":{\"type\":\"calico-ipam\"},\"prevResult\":{\"ips\":[{\"address\":\"10.0.0.1/32\"},{\"address\":\"2001:db8::1/64\"}]}}\n\
+= 1 {\"cniVersion\":\"1.0.0\",\"code\":1,\"details\":\"\",\"msg\":\"incompatible CNI version\"}\n\
+bare CNI_COMMAND=CHECK¦CNI_CONTAINERID=c1¦CNI_NETNS=/x¦CNI_IFNAME=eth0⇒{\"cniVersion\":null,\"name\":\"net\",\"nodename\":\"a\",\"ipam\":{\"type\":\"calico-ipam\"},\"prevResult\":{\"ips\":[{\"address\":\"10.0.0.1/32\"},{\"address\":\"2001:db8::1/64\"}]}}\n\
+= 1 {\"cniVersion\":\"1.0.0\",\"code\":1,\"details\":\"\",\"msg\":\"incompatible CNI version\"}\n\
+bare CNI_COMMAND=CHECK¦CNI_CONTAINERID=c1¦CNI_NETNS=/x¦CNI_IFNAME=eth0⇒{\"name\":\"net\",\"nodename\":\"a\",\"ipam\":{\"type\":\"calico-ipam\"},\"prevResult\":{\"ips\":[{\"address\":\"10.0.0.1/32\"},{\"address\":\"2001:db8::1/64\"}]}}\n\
+= 1 {\"cniVersion\":\"1.0.0\",\"code\":1,\"details\":\"\",\"msg\":\"incompatible CNI version\"}\n\
+bare CNI_COMMAND=GC¦CNI_CONTAINERID=c1¦CNI_NETNS=/x¦CNI_IFNAME=eth0⇒{\"cniVersion\":\"2.0.0\",\"name\":\"net\",\"nodename\":\"a\",\"ipam\":{\"type\":\"calico-ipam\"},\"cni.dev/valid-attachments\":[{\"containerID\":\"c2\",\"ifname\":\"eth0\"},{\"containerID\":\"c3\",\"ifname\":\"\"}]}\n\
+= 1 {\"cniVersion\":\"1.0.0\",\"code\":1,\"details\":\"2.0.0\",\"msg\":\"incompatible CNI version\"}\n\
+bare CNI_COMMAND=GC¦CNI_CONTAINERID=c1¦CNI_NETNS=/x¦CNI_IFNAME=eth0⇒{\"cniVersion\":\"0.2.0\",\"name\":\"net\",\"nodename\":\"a\",\"ipam\":{\"type\":\"calico-ipam\"},\"cni.dev/valid-attachments\":[{\"containerID\":\"c2\",\"ifname\":\"eth0\"},{\"containerID\":\"c3\",\"ifname\":\"\"}]}\n\
+= 1 {\"cniVersion\":\"1.0.0\",\"code\":1,\"details\":\"0.2.0\",\"msg\":\"incompatible CNI version\"}\n\
+bare CNI_COMMAND=GC¦CNI_CONTAINERID=c1¦CNI_NETNS=/x¦CNI_IFNAME=eth0⇒{\"cniVersion\":\"1.0\",\"name\":\"net\",\"nodename\":\"a\",\"ipam\":{\"type\":\"calico-ipam\"},\"cni.dev/valid-attachments\":[{\"containerID\":\"c2\",\"ifname\":\"eth0\"},{\"containerID\":\"c3\",\"ifname\":\"\"}]}\n\
+= 1 {\"cniVersion\":\"1.0.0\",\"code\":1,\"details\":\"1.0\",\"msg\":\"incompatible CNI version\"}\n\
+bare CNI_COMMAND=GC¦CNI_CONTAINERID=c1¦CNI_NETNS=/x¦CNI_IFNAME=eth0⇒{\"cniVersion\":\"\",\"name\":\"net\",\"nodename\":\"a\",\"ipam\":{\"type\":\"calico-ipam\"},\"cni.dev/valid-attachments\":[{\"containerID\":\"c2\",\"ifname\":\"eth0\"},{\"containerID\":\"c3\",\"ifname\":\"\"}]}\n\
+= 1 {\"cniVersion\":\"1.0.0\",\"code\":1,\"details\":\"\",\"msg\":\"incompatible CNI version\"}\n\
+bare CNI_COMMAND=GC¦CNI_CONTAINERID=c1¦CNI_NETNS=/x¦CNI_IFNAME=eth0⇒{\"cniVersion\":1,\"name\":\"net\",\"nodename\":\"a\",\"ipam\":{\"type\":\"calico-ipam\"},\"cni.dev/valid-attachments\":[{\"containerID\":\"c2\",\"ifname\":\"eth0\"},{\"containerID\":\"c3\",\"ifname\":\"\"}]}\n\
+= 1 {\"cniVersion\":\"1.0.0\",\"code\":1,\"details\":\"\",\"msg\":\"incompatible CNI version\"}\n\
+bare CNI_COMMAND=GC¦CNI_CONTAINERID=c1¦CNI_NETNS=/x¦CNI_IFNAME=eth0⇒{\"cniVersion\":null,\"name\":\"net\",\"nodename\":\"a\",\"ipam\":{\"type\":\"calico-ipam\"},\"cni.dev/valid-attachments\":[{\"containerID\":\"c2\",\"ifname\":\"eth0\"},{\"containerID\":\"c3\",\"ifname\":\"\"}]}\n\
+= 1 {\"cniVersion\":\"1.0.0\",\"code\":1,\"details\":\"\",\"msg\":\"incompatible CNI version\"}\n\
+bare CNI_COMMAND=GC¦CNI_CONTAINERID=c1¦CNI_NETNS=/x¦CNI_IFNAME=eth0⇒{\"name\":\"net\",\"nodename\":\"a\",\"ipam\":{\"type\":\"calico-ipam\"},\"cni.dev/valid-attachments\":[{\"containerID\":\"c2\",\"ifname\":\"eth0\"},{\"containerID\":\"c3\",\"ifname\":\"\"}]}\n\
+= 1 {\"cniVersion\":\"1.0.0\",\"code\":1,\"details\":\"\",\"msg\":\"incompatible CNI version\"}\n\
+bare CNI_COMMAND=STATUS¦CNI_CONTAINERID=c1¦CNI_NETNS=/x¦CNI_IFNAME=eth0⇒{\"cniVersion\":\"2.0.0\",\"name\":\"net\",\"nodename\":\"a\",\"ipam\":{\"type\":\"calico-ipam\"}}\n\
+= 1 {\"cniVersion\":\"1.0.0\",\"code\":1,\"details\":\"2.0.0\",\"msg\":\"incompatible CNI version\"}\n\
+bare CNI_COMMAND=STATUS¦CNI_CONTAINERID=c1¦CNI_NETNS=/x¦CNI_IFNAME=eth0⇒{\"cniVersion\":\"0.2.0\",\"name\":\"net\",\"nodename\":\"a\",\"ipam\":{\"type\":\"calico-ipam\"}}\n\
+= 1 {\"cniVersion\":\"1.0.0\",\"code\":1,\"details\":\"0.2.0\",\"msg\":\"incompatible CNI version\"}\n\
+bare CNI_COMMAND=STATUS¦CNI_CONTAINERID=c1¦CNI_NETNS=/x¦CNI_IFNAME=eth0⇒{\"cniVersion\":\"1.0\",\"name\":\"net\",\"nodename\":\"a\",\"ipam\":{\"type\":\"calico-ipam\"}}\n\
+= 1 {\"cniVersion\":\"1.0.0\",\"code\":1,\"details\":\"1.0\",\"msg\":\"incompatible CNI version\"}\n\
+bare CNI_COMMAND=STATUS¦CNI_CONTAINERID=c1¦CNI_NETNS=/x¦CNI_IFNAME=eth0⇒{\"cniVersion\":\"\",\"name\":\"net\",\"nodename\":\"a\",\"ipam\":{\"type\":\"calico-ipam\"}}\n\
+= 1 {\"cniVersion\":\"1.0.0\",\"code\":1,\"details\":\"\",\"msg\":\"incompatible CNI version\"}\n\
+bare CNI_COMMAND=STATUS¦CNI_CONTAINERID=c1¦CNI_NETNS=/x¦CNI_IFNAME=eth0⇒{\"cniVersion\":1,\"name\":\"net\",\"nodename\":\"a\",\"ipam\":{\"type\":\"calico-ipam\"}}\n\
+= 1 {\"cniVersion\":\"1.0.0\",\"code\":1,\"details\":\"\",\"msg\":\"incompatible CNI version\"}\n\
+bare CNI_COMMAND=STATUS¦CNI_CONTAINERID=c1¦CNI_NETNS=/x¦CNI_IFNAME=eth0⇒{\"cniVersion\":null,\"name\":\"net\",\"nodename\":\"a\",\"ipam\":{\"type\":\"calico-ipam\"}}\n\
+= 1 {\"cniVersion\":\"1.0.0\",\"code\":1,\"details\":\"\",\"msg\":\"incompatible CNI version\"}\n\
+bare CNI_COMMAND=STATUS¦CNI_CONTAINERID=c1¦CNI_NETNS=/x¦CNI_IFNAME=eth0⇒{\"name\":\"net\",\"nodename\":\"a\",\"ipam\":{\"type\":\"calico-ipam\"}}\n\
+= 1 {\"cniVersion\":\"1.0.0\",\"code\":1,\"details\":\"\",\"msg\":\"incompatible CNI version\"}\n\
+bare CNI_COMMAND=CHECK¦CNI_CONTAINERID=c1¦CNI_NETNS=/x¦CNI_IFNAME=eth0⇒{\"cniVersion\":\"0.3.0\",\"name\":\"net\",\"nodename\":\"a\",\"ipam\":{\"type\":\"calico-ipam\"},\"prevResult\":{\"ips\":[{\"address\":\"10.0.0.1/32\"},{\"address\":\"2001:db8::1/64\"}]}}\n\
+= 1 {\"cniVersion\":\"0.3.0\",\"code\":1,\"details\":\"0.3.0\",\"msg\":\"incompatible CNI version\"}\n\
+bare CNI_COMMAND=CHECK¦CNI_CONTAINERID=c1¦CNI_NETNS=/x¦CNI_IFNAME=eth0⇒{\"cniVersion\":\"0.3.1\",\"name\":\"net\",\"nodename\":\"a\",\"ipam\":{\"type\":\"calico-ipam\"},\"prevResult\":{\"ips\":[{\"address\":\"10.0.0.1/32\"},{\"address\":\"2001:db8::1/64\"}]}}\n\
+= 1 {\"cniVersion\":\"0.3.1\",\"code\":1,\"details\":\"0.3.1\",\"msg\":\"incompatible CNI version\"}\n\
+bare CNI_COMMAND=GC¦CNI_CONTAINERID=c1¦CNI_NETNS=/x¦CNI_IFNAME=eth0⇒{\"cniVersion\":\"0.3.0\",\"name\":\"net\",\"nodename\":\"a\",\"ipam\":{\"type\":\"calico-ipam\"},\"cni.dev/valid-attachments\":[{\"containerID\":\"c2\",\"ifname\":\"eth0\"},{\"containerID\":\"c3\",\"ifname\":\"\"}]}\n\
+= 1 {\"cniVersion\":\"0.3.0\",\"code\":1,\"details\":\"0.3.0\",\"msg\":\"incompatible CNI version\"}\n\
+bare CNI_COMMAND=GC¦CNI_CONTAINERID=c1¦CNI_NETNS=/x¦CNI_IFNAME=eth0⇒{\"cniVersion\":\"0.3.1\",\"name\":\"net\",\"nodename\":\"a\",\"ipam\":{\"type\":\"calico-ipam\"},\"cni.dev/valid-attachments\":[{\"containerID\":\"c2\",\"ifname\":\"eth0\"},{\"containerID\":\"c3\",\"ifname\":\"\"}]}\n\
+= 1 {\"cniVersion\":\"0.3.1\",\"code\":1,\"details\":\"0.3.1\",\"msg\":\"incompatible CNI version\"}\n\
+bare CNI_COMMAND=GC¦CNI_CONTAINERID=c1¦CNI_NETNS=/x¦CNI_IFNAME=eth0⇒{\"cniVersion\":\"0.4.0\",\"name\":\"net\",\"nodename\":\"a\",\"ipam\":{\"type\":\"calico-ipam\"},\"cni.dev/valid-attachments\":[{\"containerID\":\"c2\",\"ifname\":\"eth0\"},{\"containerID\":\"c3\",\"ifname\":\"\"}]}\n\
+= 1 {\"cniVersion\":\"0.4.0\",\"code\":1,\"details\":\"0.4.0\",\"msg\":\"incompatible CNI version\"}\n\
+bare CNI_COMMAND=GC¦CNI_CONTAINERID=c1¦CNI_NETNS=/x¦CNI_IFNAME=eth0⇒{\"cniVersion\":\"1.0.0\",\"name\":\"net\",\"nodename\":\"a\",\"ipam\":{\"type\":\"calico-ipam\"},\"cni.dev/valid-attachments\":[{\"containerID\":\"c2\",\"ifname\":\"eth0\"},{\"containerID\":\"c3\",\"ifname\":\"\"}]}\n\
+= 1 {\"cniVersion\":\"1.0.0\",\"code\":1,\"details\":\"1.0.0\",\"msg\":\"incompatible CNI version\"}\n\
+bare CNI_COMMAND=STATUS¦CNI_CONTAINERID=c1¦CNI_NETNS=/x¦CNI_IFNAME=eth0⇒{\"cniVersion\":\"0.3.0\",\"name\":\"net\",\"nodename\":\"a\",\"ipam\":{\"type\":\"calico-ipam\"}}\n\
+= 1 {\"cniVersion\":\"0.3.0\",\"code\":1,\"details\":\"0.3.0\",\"msg\":\"incompatible CNI version\"}\n\
+bare CNI_COMMAND=STATUS¦CNI_CONTAINERID=c1¦CNI_NETNS=/x¦CNI_IFNAME=eth0⇒{\"cniVersion\":\"0.3.1\",\"name\":\"net\",\"nodename\":\"a\",\"ipam\":{\"type\":\"calico-ipam\"}}\n\
+= 1 {\"cniVersion\":\"0.3.1\",\"code\":1,\"details\":\"0.3.1\",\"msg\":\"incompatible CNI version\"}\n\
+bare CNI_COMMAND=STATUS¦CNI_CONTAINERID=c1¦CNI_NETNS=/x¦CNI_IFNAME=eth0⇒{\"cniVersion\":\"0.4.0\",\"name\":\"net\",\"nodename\":\"a\",\"ipam\":{\"type\":\"calico-ipam\"}}\n\
+= 1 {\"cniVersion\":\"0.4.0\",\"code\":1,\"details\":\"0.4.0\",\"msg\":\"incompatible CNI version\"}\n\
+bare CNI_COMMAND=STATUS¦CNI_CONTAINERID=c1¦CNI_NETNS=/x¦CNI_IFNAME=eth0⇒{\"cniVersion\":\"1.0.0\",\"name\":\"net\",\"nodename\":\"a\",\"ipam\":{\"type\":\"calico-ipam\"}}\n\
+= 1 {\"cniVersion\":\"1.0.0\",\"code\":1,\"details\":\"1.0.0\",\"msg\":\"incompatible CNI version\"}\n\
+same\n\
+= same\n\
+\n\
+Each is refused with the code 4.\n\
+row 1 pools {\"pools\":[{\"blockSize\":30,\"cidr\":\"10.0.0.0/29\",\"disabled\":false,\"name\":\"p\"}]}\n\
+row 2 affinity/a/10.0.0.0/30 {\"cidr\":\"10.0.0.0/30\",\"node\":\"a\",\"state\":\"confirmed\"}\n\
+row 3 handle/net.c1 {\"block\":{\"10.0.0.0/30\":1},\"handleID\":\"net.c1\"}\n\
+row 4 block/10.0.0.0/30 {\"affinity\":\"host:a\",\"allocations\":[0,null,null,null],\"attributes\":[{\"handle_id\":\"net.c1\",\"secondary\":{\"network\":\"net\",\"node\":\"a\"}}],\"cidr\":\"10.0.0.0/30\",\"sequenceNumber\":1,\"sequenceNumberForAllocation\":{\"0\":1},\"unallocated\":[1,2,3]}\n\
+keep\n\
+bare CNI_COMMAND=ADD¦CNI_NETNS=/x¦CNI_IFNAME=eth0⇒{\"cniVersion\":\"1.0.0\",\"name\":\"net\",\"nodename\":\"a\",\"ipam\":{\"type\":\"calico-ipam\"}}\n\
+= 1 {\"cniVersion\":\"1.0.0\",\"code\":4,\"details\":\"CNI_CONTAINERID\",\"msg\":\"invalid environment variable\"}\n\
+bare CNI_COMMAND=DEL¦CNI_NETNS=/x¦CNI_IFNAME=eth0¦CNI_CONTAINERID=⇒{\"cniVersion\":\"1.0.0\",\"name\":\"net\",\"nodename\":\"a\",\"ipam\":{\"type\":\"calico-ipam\"}}\n\
+= 1 {\"cniVersion\":\"1.0.0\",\"code\":4,\"details\":\"CNI_CONTAINERID\",\"msg\":\"invalid environment variable\"}\n\
+bare CNI_COMMAND=CHECK¦CNI_NETNS=/x¦CNI_IFNAME=eth0¦CNI_CONTAINERID=-c⇒{\"cniVersion\":\"1.0.0\",\"name\":\"net\",\"nodename\":\"a\",\"ipam\":{\"type\":\"calico-ipam\"},\"prevResult\":{\"ips\":[{\"address\":\"10.0.0.1/32\"},{\"address\":\"2001:db8::1/64\"}]}}\n\
+= 1 {\"cniVersion\":\"1.0.0\",\"code\":4,\"details\":\"CNI_CONTAINERID\",\"msg\":\"invalid environment variable\"}\n\
+bare CNI_COMMAND=ADD¦CNI_NETNS=/x¦CNI_IFNAME=eth0¦CNI_CONTAINERID=c 1⇒{\"cniVersion\":\"1.0.0\",\"name\":\"net\",\"nodename\":\"a\",\"ipam\":{\"type\":\"calico-ipam\"}}\n\
+= 1 {\"cniVersion\":\"1.0.0\",\"code\":4,\"details\":\"CNI_CONTAINERID\",\"msg\":\"invalid environment variable\"}\n\
+bare CNI_COMMAND=DEL¦CNI_NETNS=/x¦CNI_IFNAME=eth0¦CNI_CONTAINERID=cccccccccccccccccccccccccccccccccccccccccccccccccccccccccccccccccccccccccccccccccccccccccccccccccccccccccccccccccccccccccccccccccccccccccccccccccccccccccccccccccccccccccccccccccccccccccccccccccccccccccccccccccccccccccccccccccccccccccccccccccccccccccccccc⇒{\"cniVersion\":\"1.0.0\",\"name\":\"net\",\"nodename\":\"a\",\"ipam\":{\"type\":\"calico-ipam\"}}\n\
+= 1 {\"cniVersion\":\"1.0.0\",\"code\":4,\"details\":\"CNI_CONTAINERID\",\"msg\":\"invalid environment variable\"}\n\
+bare CNI_COMMAND=ADD¦CNI_CONTAINERID=c1¦CNI_IFNAME=eth0⇒{\"cniVersion\":\"1.0.0\",\"name\":\"net\",\"nodename\":\"a\",\"ipam\":{\"type\":\"calico-ipam\"}}\n\
+= 1 {\"cniVersion\":\"1.0.0\",\"code\":4,\"details\":\"CNI_NETNS\",\"msg\":\"invalid environment variable\"}\n\
+bare CNI_COMMAND=CHECK¦CNI_CONTAINERID=c1¦CNI_IFNAME=eth0¦CNI_NETNS=⇒{\"cniVersion\":\"1.0.0\",\"name\":\"net\",\"nodename\":\"a\",\"ipam\":{\"type\":\"calico-ipam\"},\"prevResult\":{\"ips\":[{\"address\":\"10.0.0.1/32\"},{\"address\":\"2001:db8::1/64\"}]}}\n\
+= 1 {\"cniVersion\":\"1.0.0\",\"code\":4,\"details\":\"CNI_NETNS\",\"msg\":\"invalid environment variable\"}\n\
+bare CNI_COMMAND=ADD¦CNI_CONTAINERID=c1¦CNI_NETNS=/x⇒{\"cniVersion\":\"1.0.0\",\"name\":\"net\",\"nodename\":\"a\",\"ipam\":{\"type\":\"calico-ipam\"}}\n\
+= 1 {\"cniVersion\":\"1.0.0\",\"code\":4,\"details\":\"CNI_IFNAME\",\"msg\":\"invalid environment variable\"}\n\
+bare CNI_COMMAND=DEL¦CNI_CONTAINERID=c1¦CNI_NETNS=/x¦CNI_IFNAME=⇒{\"cniVersion\":\"1.0.0\",\"name\":\"net\",\"nodename\":\"a\",\"ipam\":{\"type\":\"calico-ipam\"}}\n\
+= 1 {\"cniVersion\":\"1.0.0\",\"code\":4,\"details\":\"CNI_IFNAME\",\"msg\":\"invalid environment variable\"}\n\
+bare CNI_COMMAND=CHECK¦CNI_CONTAINERID=c1¦CNI_NETNS=/x¦CNI_IFNAME=.⇒{\"cniVersion\":\"1.0.0\",\"name\":\"net\",\"nodename\":\"a\",\"ipam\":{\"type\":\"calico-ipam\"},\"prevResult\":{\"ips\":[{\"address\":\"10.0.0.1/32\"},{\"address\":\"2001:db8::1/64\"}]}}\n\
+= 1 {\"cniVersion\":\"1.0.0\",\"code\":4,\"details\":\"CNI_IFNAME\",\"msg\":\"invalid environment variable\"}\n\
+bare CNI_COMMAND=ADD¦CNI_CONTAINERID=c1¦CNI_NETNS=/x¦CNI_IFNAME=..⇒{\"cniVersion\":\"1.0.0\",\"name\":\"net\",\"nodename\":\"a\",\"ipam\":{\"type\":\"calico-ipam\"}}\n\
+= 1 {\"cniVersion\":\"1.0.0\",\"code\":4,\"details\":\"CNI_IFNAME\",\"msg\":\"invalid environment variable\"}\n\
+bare CNI_COMMAND=DEL¦CNI_CONTAINERID=c1¦CNI_NETNS=/x¦CNI_IFNAME=eth/0⇒{\"cniVersion\":\"1.0.0\",\"name\":\"net\",\"nodename\":\"a\",\"ipam\":{\"type\":\"calico-ipam\"}}\n\
+= 1 {\"cniVersion\":\"1.0.0\",\"code\":4,\"details\":\"CNI_IFNAME\",\"msg\":\"invalid environment variable\"}\n\
+bare CNI_COMMAND=CHECK¦CNI_CONTAINERID=c1¦CNI_NETNS=/x¦CNI_IFNAME=eth:0⇒{\"cniVersion\":\"1.0.0\",\"name\":\"net\",\"nodename\":\"a\",\"ipam\":{\"type\":\"calico-ipam\"},\"prevResult\":{\"ips\":[{\"address\":\"10.0.0.1/32\"},{\"address\":\"2001:db8::1/64\"}]}}\n\
+= 1 {\"cniVersion\":\"1.0.0\",\"code\":4,\"details\":\"CNI_IFNAME\",\"msg\":\"invalid environment variable\"}\n\
+bare CNI_COMMAND=ADD¦CNI_CONTAINERID=c1¦CNI_NETNS=/x¦CNI_IFNAME=eth 0⇒{\"cniVersion\":\"1.0.0\",\"name\":\"net\",\"nodename\":\"a\",\"ipam\":{\"type\":\"calico-ipam\"}}\n\
+= 1 {\"cniVersion\":\"1.0.0\",\"code\":4,\"details\":\"CNI_IFNAME\",\"msg\":\"invalid environment variable\"}\n\
+bare CNI_COMMAND=DEL¦CNI_CONTAINERID=c1¦CNI_NETNS=/x¦CNI_IFNAME=eth\t0⇒{\"cniVersion\":\"1.0.0\",\"name\":\"net\",\"nodename\":\"a\",\"ipam\":{\"type\":\"calico-ipam\"}}\n\
+= 1 {\"cniVersion\":\"1.0.0\",\"code\":4,\"details\":\"CNI_IFNAME\",\"msg\":\"invalid environment variable\"}\n\
+bare CNI_COMMAND=CHECK¦CNI_CONTAINERID=c1¦CNI_NETNS=/x¦CNI_IFNAME=abcdefghijklmnop⇒{\"cniVersion\":\"1.0.0\",\"name\":\"net\",\"nodename\":\"a\",\"ipam\":{\"type\":\"calico-ipam\"},\"prevResult\":{\"ips\":[{\"address\":\"10.0.0.1/32\"},{\"address\":\"2001:db8::1/64\"}]}}\n\
+= 1 {\"cniVersion\":\"1.0.0\",\"code\":4,\"details\":\"CNI_IFNAME\",\"msg\":\"invalid environment variable\"}\n\
+bare CNI_COMMAND=ADD¦CNI_CONTAINERID=c1¦CNI_NETNS=/x¦CNI_IFNAME=eth0¦CNI_ARGS=IP⇒{\"cniVersion\":\"1.0.0\",\"name\":\"net\",\"nodename\":\"a\",\"ipam\":{\"type\":\"calico-ipam\"}}\n\
+= 1 {\"cniVersion\":\"1.0.0\",\"code\":4,\"details\":\"CNI_ARGS\",\"msg\":\"invalid environment variable\"}\n\
+bare CNI_COMMAND=DEL¦CNI_CONTAINERID=c1¦CNI_NETNS=/x¦CNI_IFNAME=eth0¦CNI_ARGS=a=b;c⇒{\"cniVersion\":\"1.0.0\",\"name\":\"net\",\"nodename\":\"a\",\"ipam\":{\"type\":\"calico-ipam\"}}\n\
+= 1 {\"cniVersion\":\"1.0.0\",\"code\":4,\"details\":\"CNI_ARGS\",\"msg\":\"invalid environment variable\"}\n\
+bare CNI_COMMAND=CHECK¦CNI_CONTAINERID=c1¦CNI_NETNS=/x¦CNI_IFNAME=eth0¦CNI_ARGS=IP=x⇒{\"cniVersion\":\"1.0.0\",\"name\":\"net\",\"nodename\":\"a\",\"ipam\":{\"type\":\"calico-ipam\"},\"prevResult\":{\"ips\":[{\"address\":\"10.0.0.1/32\"},{\"address\":\"2001:db8::1/64\"}]}}\n\
+= 1 {\"cniVersion\":\"1.0.0\",\"code\":4,\"details\":\"CNI_ARGS\",\"msg\":\"invalid environment variable\"}\n\
+bare CNI_COMMAND=ADD¦CNI_CONTAINERID=c1¦CNI_NETNS=/x¦CNI_IFNAME=eth0¦CNI_ARGS=IP=10.0.0.1;IP=10.0.0⇒{\"cniVersion\":\"1.0.0\",\"name\":\"net\",\"nodename\":\"a\",\"ipam\":{\"type\":\"calico-ipam\"}}\n\
+= 1 {\"cniVersion\":\"1.0.0\",\"code\":4,\"details\":\"CNI_ARGS\",\"msg\":\"invalid environment variable\"}\n\
+bare CNI_COMMAND=DEL¦CNI_CONTAINERID=c1¦CNI_NETNS=/x¦CNI_IFNAME=eth0¦CNI_ARGS=IP=10.0.0.1/32⇒{\"cniVersion\":\"1.0.0\",\"name\":\"net\",\"nodename\":\"a\",\"ipam\":{\"type\":\"calico-ipam\"}}\n\
+= 1 {\"cniVersion\":\"1.0.0\",\"code\":4,\"details\":\"CNI_ARGS\",\"msg\":\"invalid environment variable\"}\n\
+bare CNI_COMMAND=CHECK¦CNI_CONTAINERID=c1¦CNI_NETNS=/x¦CNI_IFNAME=eth0¦CNI_ARGS=K8S_POD_NAME=pppppppppppppppppppppppppppppppppppppppppppppppppppppppppppppppppppppppppppppppppppppppppppppppppppppppppppppppppppppppppppppppppppppppppppppppppppppppppppppppppppppppppppppppppppppppppppppppppppppppppppppppppppppppppppppppppppppppppppppppppppppppppppppp⇒{\"cniVersion\":\"1.0.0\",\"name\":\"net\",\"nodename\":\"a\",\"ipam\":{\"type\":\"calico-ipam\"},\"prevResult\":{\"ips\":[{\"address\":\"10.0.0.1/32\"},{\"address\":\"2001:db8::1/64\"}]}}\n\
+= 1 {\"cniVersion\":\"1.0.0\",\"code\":4,\"details\":\"CNI_ARGS\",\"msg\":\"invalid environment variable\"}\n\
+bare CNI_COMMAND=ADD¦CNI_CONTAINERID=c1¦CNI_NETNS=/x¦CNI_IFNAME=eth0¦CNI_ARGS=K8S_POD_NAMESPACE=pppppppppppppppppppppppppppppppppppppppppppppppppppppppppppppppppppppppppppppppppppppppppppppppppppppppppppppppppppppppppppppppppppppppppppppppppppppppppppppppppppppppppppppppppppppppppppppppppppppppppppppppppppppppppppppppppppppppppppppppppppppppppppppp⇒{\"cniVersion\":\"1.0.0\",\"name\":\"net\",\"nodename\":\"a\",\"ipam\":{\"type\":\"calico-ipam\"}}\n\
+= 1 {\"cniVersion\":\"1.0.0\",\"code\":4,\"details\":\"CNI_ARGS\",\"msg\":\"invalid environment variable\"}\n\
+bare CNI_CONTAINERID=c1¦CNI_NETNS=/x¦CNI_IFNAME=eth0⇒{\"cniVersion\":\"1.0.0\",\"name\":\"net\",\"nodename\":\"a\",\"ipam\":{\"type\":\"calico-ipam\"}}\n\
+= 1 {\"cniVersion\":\"1.0.0\",\"code\":4,\"details\":\"CNI_COMMAND\",\"msg\":\"invalid environment variable\"}\n\
+bare CNI_CONTAINERID=c1¦CNI_NETNS=/x¦CNI_IFNAME=eth0¦CNI_COMMAND=⇒{\"cniVersion\":\"1.0.0\",\"name\":\"net\",\"nodename\":\"a\",\"ipam\":{\"type\":\"calico-ipam\"}}\n\
+= 1 {\"cniVersion\":\"1.0.0\",\"code\":4,\"details\":\"CNI_COMMAND\",\"msg\":\"invalid environment variable\"}\n\
+bare CNI_CONTAINERID=c1¦CNI_NETNS=/x¦CNI_IFNAME=eth0¦CNI_COMMAND=add⇒{\"cniVersion\":\"1.0.0\",\"name\":\"net\",\"nodename\":\"a\",\"ipam\":{\"type\":\"calico-ipam\"}}\n\
+= 1 {\"cniVersion\":\"1.0.0\",\"code\":4,\"details\":\"CNI_COMMAND\",\"msg\":\"invalid environment variable\"}\n\
+bare CNI_CONTAINERID=c1¦CNI_NETNS=/x¦CNI_IFNAME=eth0¦CNI_COMMAND=ADD ⇒{\"cniVersion\":\"1.0.0\",\"name\":\"net\",\"nodename\":\"a\",\"ipam\":{\"type\":\"calico-ipam\"}}\n\
+= 1 {\"cniVersion\":\"1.0.0\",\"code\":4,\"details\":\"CNI_COMMAND\",\"msg\":\"invalid environment variable\"}\n\
+bare CNI_CONTAINERID=c1¦CNI_NETNS=/x¦CNI_IFNAME=eth0¦CNI_COMMAND=MOVE⇒{\"cniVersion\":\"1.0.0\",\"name\":\"net\",\"nodename\":\"a\",\"ipam\":{\"type\":\"calico-ipam\"}}\n\
+= 1 {\"cniVersion\":\"1.0.0\",\"code\":4,\"details\":\"CNI_COMMAND\",\"msg\":\"invalid environment variable\"}\n\
+same\n\
+= same\n\
+\n\
+Each is refused with the code 6.\n\
+row 1 pools {\"pools\":[{\"blockSize\":30,\"cidr\":\"10.0.0.0/29\",\"disabled\":false,\"name\":\"p\"}]}\n\
+row 2 affinity/a/10.0.0.0/30 {\"cidr\":\"10.0.0.0/30\",\"node\":\"a\",\"state\":\"confirmed\"}\n\
+row 3 handle/net.c1 {\"block\":{\"10.0.0.0/30\":1},\"handleID\":\"net.c1\"}\n\
+row 4 block/10.0.0.0/30 {\"affinity\":\"host:a\",\"allocations\":[0,null,null,null],\"attributes\":[{\"handle_id\":\"net.c1\",\"secondary\":{\"network\":\"net\",\"node\":\"a\"}}],\"cidr\":\"10.0.0.0/30\",\"sequenceNumber\":1,\"sequenceNumberForAllocation\":{\"0\":1},\"unallocated\":[1,2,3]}\n\
+keep\n\
+bare CNI_COMMAND=ADD¦CNI_CONTAINERID=c1¦CNI_NETNS=/x¦CNI_IFNAME=eth0⇒\n\
+= 1 {\"cniVersion\":\"1.0.0\",\"code\":6,\"details\":\"\",\"msg\":\"cannot decode network configuration\"}\n\
+bare CNI_COMMAND=DEL¦CNI_CONTAINERID=c1¦CNI_NETNS=/x¦CNI_IFNAME=eth0⇒ \n\
+= 1 {\"cniVersion\":\"1.0.0\",\"code\":6,\"details\":\"\",\"msg\":\"cannot decode network configuration\"}\n\
+bare CNI_COMMAND=CHECK¦CNI_CONTAINERID=c1¦CNI_NETNS=/x¦CNI_IFNAME=eth0⇒{\n\
+= 1 {\"cniVersion\":\"1.0.0\",\"code\":6,\"details\":\"\",\"msg\":\"cannot decode network configuration\"}\n\
+bare CNI_COMMAND=GC¦CNI_CONTAINERID=c1¦CNI_NETNS=/x¦CNI_IFNAME=eth0⇒[]\n\
+= 1 {\"cniVersion\":\"1.0.0\",\"code\":6,\"details\":\"\",\"msg\":\"cannot decode network configuration\"}\n\
+bare CNI_COMMAND=STATUS¦CNI_CONTAINERID=c1¦CNI_NETNS=/x¦CNI_IFNAME=eth0⇒null\n\
+= 1 {\"cniVersion\":\"1.0.0\",\"code\":6,\"details\":\"\",\"msg\":\"cannot decode network configuration\"}\n\
+bare CNI_COMMAND=ADD¦CNI_CONTAINERID=c1¦CNI_NETNS=/x¦CNI_IFNAME=eth0⇒7\n\
+= 1 {\"cniVersion\":\"1.0.0\",\"code\":6,\"details\":\"\",\"msg\":\"cannot decode network configuration\"}\n\
+bare CNI_COMMAND=DEL¦CNI_CONTAINERID=c1¦CNI_NETNS=/x¦CNI_IFNAME=eth0⇒\"x\"\n\
+= 1 {\"cniVersion\":\"1.0.0\",\"code\":6,\"details\":\"\",\"msg\":\"cannot decode network configuration\"}\n\
+bare CNI_COMMAND=CHECK¦CNI_CONTAINERID=c1¦CNI_NETNS=/x¦CNI_IFNAME=eth0⇒{}{}\n\
+= 1 {\"cniVersion\":\"1.0.0\",\"code\":6,\"details\":\"\",\"msg\":\"cannot decode network configuration\"}\n\
+bare CNI_COMMAND=GC¦CNI_CONTAINERID=c1¦CNI_NETNS=/x¦CNI_IFNAME=eth0⇒{\"cniVersion\":\"1.0.0\",\"na\n\
+= 1 {\"cniVersion\":\"1.0.0\",\"code\":6,\"details\":\"\",\"msg\":\"cannot decode network configuration\"}\n\
+bare CNI_COMMAND=STATUS¦CNI_CONTAINERID=c1¦CNI_NETNS=/x¦CNI_IFNAME=eth0⇒{\"a\":1e999}\n\
+= 1 {\"cniVersion\":\"1.0.0\",\"code\":6,\"details\":\"\",\"msg\":\"cannot decode network configuration\"}\n\
+bare CNI_COMMAND=ADD¦CNI_CONTAINERID=c1¦CNI_NETNS=/x¦CNI_IFNAME=eth0⇒{'a':1}\n\
+= 1 {\"cniVersion\":\"1.0.0\",\"code\":6,\"details\":\"\",\"msg\":\"cannot decode network configuration\"}\n\
+bare CNI_COMMAND=VERSION¦CNI_CONTAINERID=c1¦CNI_NETNS=/x¦CNI_IFNAME=eth0⇒[]\n\
+= 1 {\"cniVersion\":\"1.0.0\",\"code\":6,\"details\":\"\",\"msg\":\"cannot decode network configuration\"}\n\
+bare CNI_COMMAND=VERSION¦CNI_CONTAINERID=c1¦CNI_NETNS=/x¦CNI_IFNAME=eth0⇒{\n\
+= 1 {\"cniVersion\":\"1.0.0\",\"code\":6,\"details\":\"\",\"msg\":\"cannot decode network configuration\"}\n\
+bare CNI_COMMAND=VERSION¦CNI_CONTAINERID=c1¦CNI_NETNS=/x¦CNI_IFNAME=eth0⇒\"1.0.0\"\n\
+= 1 {\"cniVersion\":\"1.0.0\",\"code\":6,\"details\":\"\",\"msg\":\"cannot decode network configuration\"}\n\
+same\n\
+= same\n\
+\n\
+Each is refused with the code 7.\n\
+row 1 pools {\"pools\":[{\"blockSize\":30,\"cidr\":\"10.0.0.0/29\",\"disabled\":false,\"name\":\"p\"}]}\n\
+row 2 affinity/a/10.0.0.0/30 {\"cidr\":\"10.0.0.0/30\",\"node\":\"a\",\"state\":\"confirmed\"}\n\
+row 3 handle/net.c1 {\"block\":{\"10.0.0.0/30\":1},\"handleID\":\"net.c1\"}\n\
+row 4 block/10.0.0.0/30 {\"affinity\":\"host:a\",\"allocations\":[0,null,null,null],\"attributes\":[{\"handle_id\":\"net.c1\",\"secondary\":{\"network\":\"net\",\"node\":\"a\"}}],\"cidr\":\"10.0.0.0/30\",\"sequenceNumber\":1,\"sequenceNumberForAllocation\":{\"0\":1},\"unallocated\":[1,2,3]}\n\
+keep\n\
+bare CNI_COMMAND=ADD¦CNI_CONTAINERID=c1¦CNI_NETNS=/x¦CNI_IFNAME=eth0⇒{\"cniVersion\":\"1.0.0\",\"nodename\":\"a\",\"ipam\":{\"type\":\"calico-ipam\"}}\n\
+= 1 {\"cniVersion\":\"1.0.0\",\"code\":7,\"details\":\"name\",\"msg\":\"invalid network configuration\"}\n\
+bare CNI_COMMAND=DEL¦CNI_CONTAINERID=c1¦CNI_NETNS=/x¦CNI_IFNAME=eth0⇒{\"cniVersion\":\"1.0.0\",\"name\":null,\"nodename\":\"a\",\"ipam\":{\"type\":\"calico-ipam\"}}\n\
+= 1 {\"cniVersion\":\"1.0.0\",\"code\":7,\"details\":\"name\",\"msg\":\"invalid network configuration\"}\n\
+bare CNI_COMMAND=CHECK¦CNI_CONTAINERID=c1¦CNI_NETNS=/x¦CNI_IFNAME=eth0⇒{\"cniVersion\":\"1.0.0\",\"name\":7,\"nodename\":\"a\",\"ipam\":{\"type\":\"calico-ipam\"},\"prevResult\":{\"ips\":[{\"address\":\"10.0.0.1/32\"},{\"address\":\"2001:db8::1/64\"}]}}\n\
+= 1 {\"cniVersion\":\"1.0.0\",\"code\":7,\"details\":\"name\",\"msg\":\"invalid network configuration\"}\n\
+bare CNI_COMMAND=GC¦CNI_CONTAINERID=c1¦CNI_NETNS=/x¦CNI_IFNAME=eth0⇒{\"cniVersion\":\"1.1.0\",\"name\":\"\",\"nodename\":\"a\",\"ipam\":{\"type\":\"calico-ipam\"},\"cni.dev/valid-attachments\":[{\"containerID\":\"c2\",\"ifname\":\"eth0\"},{\"containerID\":\"c3\",\"ifname\":\"\"}]}\n\
+= 1 {\"cniVersion\":\"1.1.0\",\"code\":7,\"details\":\"name\",\"msg\":\"invalid network configuration\"}\n\
+bare CNI_COMMAND=STATUS¦CNI_CONTAINERID=c1¦CNI_NETNS=/x¦CNI_IFNAME=eth0⇒{\"cniVersion\":\"1.1.0\",\"name\":\".a\",\"nodename\":\"a\",\"ipam\":{\"type\":\"calico-ipam\"}}\n\
+= 1 {\"cniVersion\":\"1.1.0\",\"code\":7,\"details\":\"name\",\"msg\":\"invalid network configuration\"}\n\
+bare CNI_COMMAND=ADD¦CNI_CONTAINERID=c1¦CNI_NETNS=/x¦CNI_IFNAME=eth0⇒{\"cniVersion\":\"1.0.0\",\"name\":\"-\",\"nodename\":\"a\",\"ipam\":{\"type\":\"calico-ipam\"}}\n\
+= 1 {\"cniVersion\":\"1.0.0\",\"code\":7,\"details\":\"name\",\"msg\":\"invalid network configuration\"}\n\
+bare CNI_COMMAND=DEL¦CNI_CONTAINERID=c1¦CNI_NETNS=/x¦CNI_IFNAME=eth0⇒{\"cniVersion\":\"1.0.0\",\"name\":\"a b\",\"nodename\":\"a\",\"ipam\":{\"type\":\"calico-ipam\"}}\n\
+= 1 {\"cniVersion\":\"1.0.0\",\"code\":7,\"details\":\"name\",\"msg\":\"invalid network configuration\"}\n\
+bare CNI_COMMAND=CHECK¦CNI_CONTAINERID=c1¦CNI_NETNS=/x¦CNI_IFNAME=eth0⇒{\"cniVersion\":\"1.0.0\",\"name\":\"a/b\",\"nodename\":\"a\",\"ipam\":{\"type\":\"calico-ipam\"},\"prevResult\":{\"ips\":[{\"address\":\"10.0.0.1/32\"},{\"address\":\"2001:db8::1/64\"}]}}\n\
+= 1 {\"cniVersion\":\"1.0.0\",\"code\":7,\"details\":\"name\",\"msg\":\"invalid network configuration\"}\n\
+bare CNI_COMMAND=GC¦CNI_CONTAINERID=c1¦CNI_NETNS=/x¦CNI_IFNAME=eth0⇒{\"cniVersion\":\"1.1.0\",\"name\":\"é\",\"nodename\":\"a\",\"ipam\":{\"type\":\"calico-ipam\"},\"cni.dev/valid-attachments\":[{\"containerID\":\"c2\",\"ifname\":\"eth0\"},{\"containerID\":\"c3\",\"ifname\":\"\"}]}\n\
+= 1 {\"cniVersion\":\"1.1.0\",\"code\":7,\"details\":\"name\",\"msg\":\"invalid network configuration\"}\n\
+bare CNI_COMMAND=STATUS¦CNI_CONTAINERID=c1¦CNI_NETNS=/x¦CNI_IFNAME=eth0⇒{\"cniVersion\":\"1.1.0\",\"name\":\"aaaaaaaaaaaaaaaaaaaaaaaaaaaaaaaaaaaaaaaaaaaaaaaaaaaaaaaaaaaaaaaaaaaaaaaaaaaaaaaaaaaaaaaaaaaaaaaaaaaaaaaaaaaaaaaaaaaaaaaaaaaaaaaaaaaaaaaaaaaaaaaaaaaaaaaaaaaaaaaaaaaaaaaaaaaaaaaaaaaaaaaaaaaaaaaaaaaaaaaaaaaaaaaaaaaaaaaaaaaaaaaaaaaaaaaaaaaaaaaaaaaaaaaaaaaaaa\",\"nodename\":\"a\",\"ipam\":{\"type\":\"calico-ipam\"}}\n\
+= 1 {\"cniVersion\":\"1.1.0\",\"code\":7,\"details\":\"name\",\"msg\":\"invalid network configuration\"}\n\
+bare CNI_COMMAND=ADD¦CNI_CONTAINERID=c1¦CNI_NETNS=/x¦CNI_IFNAME=eth0⇒{\"cniVersion\":\"1.0.0\",\"name\":\"net\",\"ipam\":{\"type\":\"calico-ipam\"}}\n\
+= 1 {\"cniVersion\":\"1.0.0\",\"code\":7,\"details\":\"nodename\",\"msg\":\"invalid network configuration\"}\n\
+bare CNI_COMMAND=DEL¦CNI_CONTAINERID=c1¦CNI_NETNS=/x¦CNI_IFNAME=eth0⇒{\"cniVersion\":\"1.0.0\",\"name\":\"net\",\"nodename\":null,\"ipam\":{\"type\":\"calico-ipam\"}}\n\
+= 1 {\"cniVersion\":\"1.0.0\",\"code\":7,\"details\":\"nodename\",\"msg\":\"invalid network configuration\"}\n\
+bare CNI_COMMAND=CHECK¦CNI_CONTAINERID=c1¦CNI_NETNS=/x¦CNI_IFNAME=eth0⇒{\"cniVersion\":\"1.0.0\",\"name\":\"net\",\"nodename\":7,\"ipam\":{\"type\":\"calico-ipam\"},\"prevResult\":{\"ips\":[{\"address\":\"10.0.0.1/32\"},{\"address\":\"2001:db8::1/64\"}]}}\n\
+= 1 {\"cniVersion\":\"1.0.0\",\"code\":7,\"details\":\"nodename\",\"msg\":\"invalid network configuration\"}\n\
+bare CNI_COMMAND=GC¦CNI_CONTAINERID=c1¦CNI_NETNS=/x¦CNI_IFNAME=eth0⇒{\"cniVersion\":\"1.1.0\",\"name\":\"net\",\"nodename\":\"\",\"ipam\":{\"type\":\"calico-ipam\"},\"cni.dev/valid-attachments\":[{\"containerID\":\"c2\",\"ifname\":\"eth0\"},{\"containerID\":\"c3\",\"ifname\":\"\"}]}\n\
+= 1 {\"cniVersion\":\"1.1.0\",\"code\":7,\"details\":\"nodename\",\"msg\":\"invalid network configuration\"}\n\
+bare CNI_COMMAND=STATUS¦CNI_CONTAINERID=c1¦CNI_NETNS=/x¦CNI_IFNAME=eth0⇒{\"cniVersion\":\"1.1.0\",\"name\":\"net\",\"nodename\":\".a\",\"ipam\":{\"type\":\"calico-ipam\"}}\n\
+= 1 {\"cniVersion\":\"1.1.0\",\"code\":7,\"details\":\"nodename\",\"msg\":\"invalid network configuration\"}\n\
+bare CNI_COMMAND=ADD¦CNI_CONTAINERID=c1¦CNI_NETNS=/x¦CNI_IFNAME=eth0⇒{\"cniVersion\":\"1.0.0\",\"name\":\"net\",\"nodename\":\"-\",\"ipam\":{\"type\":\"calico-ipam\"}}\n\
+= 1 {\"cniVersion\":\"1.0.0\",\"code\":7,\"details\":\"nodename\",\"msg\":\"invalid network configuration\"}\n\
+bare CNI_COMMAND=DEL¦CNI_CONTAINERID=c1¦CNI_NETNS=/x¦CNI_IFNAME=eth0⇒{\"cniVersion\":\"1.0.0\",\"name\":\"net\",\"nodename\":\"a b\",\"ipam\":{\"type\":\"calico-ipam\"}}\n\
+= 1 {\"cniVersion\":\"1.0.0\",\"code\":7,\"details\":\"nodename\",\"msg\":\"invalid network configuration\"}\n\
+bare CNI_COMMAND=CHECK¦CNI_CONTAINERID=c1¦CNI_NETNS=/x¦CNI_IFNAME=eth0⇒{\"cniVersion\":\"1.0.0\",\"name\":\"net\",\"nodename\":\"a/b\",\"ipam\":{\"type\":\"calico-ipam\"},\"prevResult\":{\"ips\":[{\"address\":\"10.0.0.1/32\"},{\"address\":\"2001:db8::1/64\"}]}}\n\
+= 1 {\"cniVersion\":\"1.0.0\",\"code\":7,\"details\":\"nodename\",\"msg\":\"invalid network configuration\"}\n\
+bare CNI_COMMAND=GC¦CNI_CONTAINERID=c1¦CNI_NETNS=/x¦CNI_IFNAME=eth0⇒{\"cniVersion\":\"1.1.0\",\"name\":\"net\",\"nodename\":\"é\",\"ipam\":{\"type\":\"calico-ipam\"},\"cni.dev/valid-attachments\":[{\"containerID\":\"c2\",\"ifname\":\"eth0\"},{\"containerID\":\"c3\",\"ifname\":\"\"}]}\n\
+= 1 {\"cniVersion\":\"1.1.0\",\"code\":7,\"details\":\"nodename\",\"msg\":\"invalid network configuration\"}\n\
+bare CNI_COMMAND=STATUS¦CNI_CONTAINERID=c1¦CNI_NETNS=/x¦CNI_IFNAME=eth0⇒{\"cniVersion\":\"1.1.0\",\"name\":\"net\",\"nodename\":\"aaaaaaaaaaaaaaaaaaaaaaaaaaaaaaaaaaaaaaaaaaaaaaaaaaaaaaaaaaaaaaaaaaaaaaaaaaaaaaaaaaaaaaaaaaaaaaaaaaaaaaaaaaaaaaaaaaaaaaaaaaaaaaaaaaaaaaaaaaaaaaaaaaaaaaaaaaaaaaaaaaaaaaaaaaaaaaaaaaaaaaaaaaaaaaaaaaaaaaaaaaaaaaaaaaaaaaaaaaaaaaaaaaaaaaaaaaaaaaaaaaaaaaaaaaaaaa\",\"ipam\":{\"type\":\"calico-ipam\"}}\n\
+= 1 {\"cniVersion\":\"1.1.0\",\"code\":7,\"details\":\"nodename\",\"msg\":\"invalid network configuration\"}\n\
+bare CNI_COMMAND=ADD¦CNI_CONTAINERID=c1¦CNI_NETNS=/x¦CNI_IFNAME=eth0⇒{\"cniVersion\":\"1.0.0\",\"name\":\"net\",\"nodename\":\"a\",\"ipam\":{\"type\":\"calico-ipam\"},\"nodeLabels\":null}\n\
+= 1 {\"cniVersion\":\"1.0.0\",\"code\":7,\"details\":\"nodeLabels\",\"msg\":\"invalid network configuration\"}\n\
+bare CNI_COMMAND=DEL¦CNI_CONTAINERID=c1¦CNI_NETNS=/x¦CNI_IFNAME=eth0⇒{\"cniVersion\":\"1.0.0\",\"name\":\"net\",\"nodename\":\"a\",\"ipam\":{\"type\":\"calico-ipam\"},\"nodeLabels\":[]}\n\
+= 1 {\"cniVersion\":\"1.0.0\",\"code\":7,\"details\":\"nodeLabels\",\"msg\":\"invalid network configuration\"}\n\
+bare CNI_COMMAND=CHECK¦CNI_CONTAINERID=c1¦CNI_NETNS=/x¦CNI_IFNAME=eth0⇒{\"cniVersion\":\"1.0.0\",\"name\":\"net\",\"nodename\":\"a\",\"ipam\":{\"type\":\"calico-ipam\"},\"prevResult\":{\"ips\":[{\"address\":\"10.0.0.1/32\"},{\"address\":\"2001:db8::1/64\"}]},\"nodeLabels\":\"zone\"}\n\
+= 1 {\"cniVersion\":\"1.0.0\",\"code\":7,\"details\":\"nodeLabels\",\"msg\":\"invalid network configuration\"}\n\
+bare CNI_COMMAND=GC¦CNI_CONTAINERID=c1¦CNI_NETNS=/x¦CNI_IFNAME=eth0⇒{\"cniVersion\":\"1.1.0\",\"name\":\"net\",\"nodename\":\"a\",\"ipam\":{\"type\":\"calico-ipam\"},\"cni.dev/valid-attachments\":[{\"containerID\":\"c2\",\"ifname\":\"eth0\"},{\"containerID\":\"c3\",\"ifname\":\"\"}],\"nodeLabels\":{\"\":\"x\"}}\n\
+= 1 {\"cniVersion\":\"1.1.0\",\"code\":7,\"details\":\"nodeLabels\",\"msg\":\"invalid network configuration\"}\n\
+bare CNI_COMMAND=STATUS¦CNI_CONTAINERID=c1¦CNI_NETNS=/x¦CNI_IFNAME=eth0⇒{\"cniVersion\":\"1.1.0\",\"name\":\"net\",\"nodename\":\"a\",\"ipam\":{\"type\":\"calico-ipam\"},\"nodeLabels\":{\"a b\":\"x\"}}\n\
+= 1 {\"cniVersion\":\"1.1.0\",\"code\":7,\"details\":\"nodeLabels\",\"msg\":\"invalid network configuration\"}\n\
+bare CNI_COMMAND=ADD¦CNI_CONTAINERID=c1¦CNI_NETNS=/x¦CNI_IFNAME=eth0⇒{\"cniVersion\":\"1.0.0\",\"name\":\"net\",\"nodename\":\"a\",\"ipam\":{\"type\":\"calico-ipam\"},\"nodeLabels\":{\"a\":1}}\n\
+= 1 {\"cniVersion\":\"1.0.0\",\"code\":7,\"details\":\"nodeLabels\",\"msg\":\"invalid network configuration\"}\n\
+bare CNI_COMMAND=DEL¦CNI_CONTAINERID=c1¦CNI_NETNS=/x¦CNI_IFNAME=eth0⇒{\"cniVersion\":\"1.0.0\",\"name\":\"net\",\"nodename\":\"a\",\"ipam\":{\"type\":\"calico-ipam\"},\"nodeLabels\":{\"aaaaaaaaaaaaaaaaaaaaaaaaaaaaaaaaaaaaaaaaaaaaaaaaaaaaaaaaaaaaaaaaaaaaaaaaaaaaaaaaaaaaaaaaaaaaaaaaaaaaaaaaaaaaaaaaaaaaaaaaaaaaaaaaaaaaaaaaaaaaaaaaaaaaaaaaaaaaaaaaaaaaaaaaaaaaaaaaaaaaaaaaaaaaaaaaaaaaaaaaaaaaaaaaaaaaaaaaaaaaaaaaaaaaaaaaaaaaaaaaaaaaaaaaaaaaaaaaaaaaaaaaaaaaaaaaaaaaaaaaaaaaaaaaaaaaaaaaaaaaaaaaaaaaaaaaaaaaaa\":\"x\"}}\n\
+= 1 {\"cniVersion\":\"1.0.0\",\"code\":7,\"details\":\"nodeLabels\",\"msg\":\"invalid network configuration\"}\n\
+bare CNI_COMMAND=CHECK¦CNI_CONTAINERID=c1¦CNI_NETNS=/x¦CNI_IFNAME=eth0⇒{\"cniVersion\":\"1.0.0\",\"name\":\"net\",\"nodename\":\"a\",\"ipam\":{\"type\":\"calico-ipam\"},\"prevResult\":{\"ips\":[{\"address\":\"10.0.0.1/32\"},{\"address\":\"2001:db8::1/64\"}]},\"nodeLabels\":{\"a\":\"vvvvvvvvvvvvvvvvvvvvvvvvvvvvvvvvvvvvvvvvvvvvvvvvvvvvvvvvvvvvvvvvvvvvvvvvvvvvvvvvvvvvvvvvvvvvvvvvvvvvvvvvvvvvvvvvvvvvvvvvvvvvvvvvvvvvvvvvvvvvvvvvvvvvvvvvvvvvvvvvvvvvvvvvvvvvvvvvvvvvvvvvvvvvvvvvvvvvvvvvvvvvvvvvvvvvvvvvvvvvvvvvvvvvvvvvvvvvvvvvvvvvvvvvvvvvvv\"}}\n\
+= 1 {\"cniVersion\":\"1.0.0\",\"code\":7,\"details\":\"nodeLabels\",\"msg\":\"invalid network configuration\"}\n\
+bare CNI_COMMAND=GC¦CNI_CONTAINERID=c1¦CNI_NETNS=/x¦CNI_IFNAME=eth0⇒{\"cniVersion\":\"1.1.0\",\"name\":\"net\",\"nodename\":\"a\",\"ipam\":{\"type\":\"calico-ipam\"},\"cni.dev/valid-attachments\":[{\"containerID\":\"c2\",\"ifname\":\"eth0\"},{\"containerID\":\"c3\",\"ifname\":\"\"}],\"nodeLabels\":{\"k0\":\"\",\"k1\":\"\",\"k2\":\"\",\"k3\":\"\",\"k4\":\"\",\"k5\":\"\",\"k6\":\"\",\"k7\":\"\",\"k8\":\"\",\"k9\":\"\",\"k10\":\"\",\"k11\":\"\",\"k12\":\"\",\"k13\":\"\",\"k14\":\"\",\"k15\":\"\",\"k16\":\"\",\"k17\":\"\",\"k18\":\"\",\"k19\":\"\",\"k20\":\"\",\"k21\":\"\",\"k22\":\"\",\"k23\":\"\",\"k24\":\"\",\"k25\":\"\",\"k26\":\"\",\"k27\":\"\",\"k28\":\"\",\"k29\":\"\",\"k30\":\"\",\"k31\":\"\",\"k32\":\"\",\"k33\":\"\",\"k34\":\"\",\"k35\":\"\",\"k36\":\"\",\"k37\":\"\",\"k38\":\"\",\"k39\":\"\",\"k40\":\"\",\"k41\":\"\",\"k42\":\"\",\"k43\":\"\",\"k44\":\"\",\"k45\":\"\",\"k46\":\"\",\"k47\":\"\",\"k48\":\"\",\"k49\":\"\",\"k50\":\"\",\"k51\":\"\",\"k52\":\"\",\"k53\":\"\",\"k54\":\"\",\"k55\":\"\",\"k56\":\"\",\"k57\":\"\",\"k58\":\"\",\"k59\":\"\",\"k60\":\"\",\"k61\":\"\",\"k62\":\"\",\"k63\":\"\",\"k64\":\"\"}}\n\
+= 1 {\"cniVersion\":\"1.1.0\",\"code\":7,\"details\":\"nodeLabels\",\"msg\":\"invalid network configuration\"}\n\
+bare CNI_COMMAND=ADD¦CNI_CONTAINERID=c1¦CNI_NETNS=/x¦CNI_IFNAME=eth0⇒{\"cniVersion\":\"1.0.0\",\"name\":\"net\",\"nodename\":\"a\"}\n\
+= 1 {\"cniVersion\":\"1.0.0\",\"code\":7,\"details\":\"ipam\",\"msg\":\"invalid network configuration\"}\n\
+bare CNI_COMMAND=DEL¦CNI_CONTAINERID=c1¦CNI_NETNS=/x¦CNI_IFNAME=eth0⇒{\"cniVersion\":\"1.0.0\",\"name\":\"net\",\"nodename\":\"a\",\"ipam\":null}\n\
+= 1 {\"cniVersion\":\"1.0.0\",\"code\":7,\"details\":\"ipam\",\"msg\":\"invalid network configuration\"}\n\
+bare CNI_COMMAND=CHECK¦CNI_CONTAINERID=c1¦CNI_NETNS=/x¦CNI_IFNAME=eth0⇒{\"cniVersion\":\"1.0.0\",\"name\":\"net\",\"nodename\":\"a\",\"ipam\":[],\"prevResult\":{\"ips\":[{\"address\":\"10.0.0.1/32\"},{\"address\":\"2001:db8::1/64\"}]}}\n\
+= 1 {\"cniVersion\":\"1.0.0\",\"code\":7,\"details\":\"ipam\",\"msg\":\"invalid network configuration\"}\n\
+bare CNI_COMMAND=GC¦CNI_CONTAINERID=c1¦CNI_NETNS=/x¦CNI_IFNAME=eth0⇒{\"cniVersion\":\"1.1.0\",\"name\":\"net\",\"nodename\":\"a\",\"ipam\":\"calico-ipam\",\"cni.dev/valid-attachments\":[{\"containerID\":\"c2\",\"ifname\":\"eth0\"},{\"containerID\":\"c3\",\"ifname\":\"\"}]}\n\
+= 1 {\"cniVersion\":\"1.1.0\",\"code\":7,\"details\":\"ipam\",\"msg\":\"invalid network configuration\"}\n\
+bare CNI_COMMAND=ADD¦CNI_CONTAINERID=c1¦CNI_NETNS=/x¦CNI_IFNAME=eth0⇒{\"cniVersion\":\"1.0.0\",\"name\":\"net\",\"nodename\":\"a\",\"ipam\":{}}\n\
+= 1 {\"cniVersion\":\"1.0.0\",\"code\":7,\"details\":\"ipam.type\",\"msg\":\"invalid network configuration\"}\n\
+bare CNI_COMMAND=DEL¦CNI_CONTAINERID=c1¦CNI_NETNS=/x¦CNI_IFNAME=eth0⇒{\"cniVersion\":\"1.0.0\",\"name\":\"net\",\"nodename\":\"a\",\"ipam\":{\"type\":\"host-local\"}}\n\
+= 1 {\"cniVersion\":\"1.0.0\",\"code\":7,\"details\":\"ipam.type\",\"msg\":\"invalid network configuration\"}\n\
+bare CNI_COMMAND=CHECK¦CNI_CONTAINERID=c1¦CNI_NETNS=/x¦CNI_IFNAME=eth0⇒{\"cniVersion\":\"1.0.0\",\"name\":\"net\",\"nodename\":\"a\",\"ipam\":{\"type\":1},\"prevResult\":{\"ips\":[{\"address\":\"10.0.0.1/32\"},{\"address\":\"2001:db8::1/64\"}]}}\n\
+= 1 {\"cniVersion\":\"1.0.0\",\"code\":7,\"details\":\"ipam.type\",\"msg\":\"invalid network configuration\"}\n\
+bare CNI_COMMAND=GC¦CNI_CONTAINERID=c1¦CNI_NETNS=/x¦CNI_IFNAME=eth0⇒{\"cniVersion\":\"1.1.0\",\"name\":\"net\",\"nodename\":\"a\",\"ipam\":{\"type\":\"calico-ipam \"},\"cni.dev/valid-attachments\":[{\"containerID\":\"c2\",\"ifname\":\"eth0\"},{\"containerID\":\"c3\",\"ifname\":\"\"}]}\n\
+= 1 {\"cniVersion\":\"1.1.0\",\"code\":7,\"details\":\"ipam.type\",\"msg\":\"invalid network configuration\"}\n\
+bare CNI_COMMAND=ADD¦CNI_CONTAINERID=c1¦CNI_NETNS=/x¦CNI_IFNAME=eth0⇒{\"cniVersion\":\"1.0.0\",\"name\":\"net\",\"nodename\":\"a\",\"ipam\":{\"type\":\"calico-ipam\",\"assign_ipv4\":null}}\n\
+= 1 {\"cniVersion\":\"1.0.0\",\"code\":7,\"details\":\"ipam.assign_ipv4\",\"msg\":\"invalid network configuration\"}\n\
+bare CNI_COMMAND=DEL¦CNI_CONTAINERID=c1¦CNI_NETNS=/x¦CNI_IFNAME=eth0⇒{\"cniVersion\":\"1.0.0\",\"name\":\"net\",\"nodename\":\"a\",\"ipam\":{\"type\":\"calico-ipam\",\"assign_ipv4\":1}}\n\
+= 1 {\"cniVersion\":\"1.0.0\",\"code\":7,\"details\":\"ipam.assign_ipv4\",\"msg\":\"invalid network configuration\"}\n\
+bare CNI_COMMAND=CHECK¦CNI_CONTAINERID=c1¦CNI_NETNS=/x¦CNI_IFNAME=eth0⇒{\"cniVersion\":\"1.0.0\",\"name\":\"net\",\"nodename\":\"a\",\"ipam\":{\"type\":\"calico-ipam\",\"assign_ipv4\":\"yes\"},\"prevResult\":{\"ips\":[{\"address\":\"10.0.0.1/32\"},{\"address\":\"2001:db8::1/64\"}]}}\n\
+= 1 {\"cniVersion\":\"1.0.0\",\"code\":7,\"details\":\"ipam.assign_ipv4\",\"msg\":\"invalid network configuration\"}\n\
+bare CNI_COMMAND=STATUS¦CNI_CONTAINERID=c1¦CNI_NETNS=/x¦CNI_IFNAME=eth0⇒{\"cniVersion\":\"1.1.0\",\"name\":\"net\",\"nodename\":\"a\",\"ipam\":{\"type\":\"calico-ipam\",\"assign_ipv4\":\"True\"}}\n\
+= 1 {\"cniVersion\":\"1.1.0\",\"code\":7,\"details\":\"ipam.assign_ipv4\",\"msg\":\"invalid network configuration\"}\n\
+bare CNI_COMMAND=ADD¦CNI_CONTAINERID=c1¦CNI_NETNS=/x¦CNI_IFNAME=eth0⇒{\"cniVersion\":\"1.0.0\",\"name\":\"net\",\"nodename\":\"a\",\"ipam\":{\"type\":\"calico-ipam\",\"assign_ipv4\":false}}\n\
+= 1 {\"cniVersion\":\"1.0.0\",\"code\":7,\"details\":\"ipam.assign_ipv4\",\"msg\":\"invalid network configuration\"}\n\
+bare CNI_COMMAND=DEL¦CNI_CONTAINERID=c1¦CNI_NETNS=/x¦CNI_IFNAME=eth0⇒{\"cniVersion\":\"1.0.0\",\"name\":\"net\",\"nodename\":\"a\",\"ipam\":{\"type\":\"calico-ipam\",\"assign_ipv4\":\"false\"}}\n\
+= 1 {\"cniVersion\":\"1.0.0\",\"code\":7,\"details\":\"ipam.assign_ipv4\",\"msg\":\"invalid network configuration\"}\n\
+bare CNI_COMMAND=ADD¦CNI_CONTAINERID=c1¦CNI_NETNS=/x¦CNI_IFNAME=eth0⇒{\"cniVersion\":\"1.0.0\",\"name\":\"net\",\"nodename\":\"a\",\"ipam\":{\"type\":\"calico-ipam\",\"assign_ipv6\":null}}\n\
+= 1 {\"cniVersion\":\"1.0.0\",\"code\":7,\"details\":\"ipam.assign_ipv6\",\"msg\":\"invalid network configuration\"}\n\
+bare CNI_COMMAND=DEL¦CNI_CONTAINERID=c1¦CNI_NETNS=/x¦CNI_IFNAME=eth0⇒{\"cniVersion\":\"1.0.0\",\"name\":\"net\",\"nodename\":\"a\",\"ipam\":{\"type\":\"calico-ipam\",\"assign_ipv6\":0}}\n\
+= 1 {\"cniVersion\":\"1.0.0\",\"code\":7,\"details\":\"ipam.assign_ipv6\",\"msg\":\"invalid network configuration\"}\n\
+bare CNI_COMMAND=CHECK¦CNI_CONTAINERID=c1¦CNI_NETNS=/x¦CNI_IFNAME=eth0⇒{\"cniVersion\":\"1.0.0\",\"name\":\"net\",\"nodename\":\"a\",\"ipam\":{\"type\":\"calico-ipam\",\"assign_ipv6\":\"\"},\"prevResult\":{\"ips\":[{\"address\":\"10.0.0.1/32\"},{\"address\":\"2001:db8::1/64\"}]}}\n\
+= 1 {\"cniVersion\":\"1.0.0\",\"code\":7,\"details\":\"ipam.assign_ipv6\",\"msg\":\"invalid network configuration\"}\n\
+bare CNI_COMMAND=STATUS¦CNI_CONTAINERID=c1¦CNI_NETNS=/x¦CNI_IFNAME=eth0⇒{\"cniVersion\":\"1.1.0\",\"name\":\"net\",\"nodename\":\"a\",\"ipam\":{\"type\":\"calico-ipam\",\"assign_ipv6\":\"TRUE\"}}\n\
+= 1 {\"cniVersion\":\"1.1.0\",\"code\":7,\"details\":\"ipam.assign_ipv6\",\"msg\":\"invalid network configuration\"}\n\
+bare CNI_COMMAND=ADD¦CNI_CONTAINERID=c1¦CNI_NETNS=/x¦CNI_IFNAME=eth0⇒{\"cniVersion\":\"1.0.0\",\"name\":\"net\",\"nodename\":\"a\",\"ipam\":{\"type\":\"calico-ipam\",\"ipv4_pools\":null}}\n\
+= 1 {\"cniVersion\":\"1.0.0\",\"code\":7,\"details\":\"ipam.ipv4_pools\",\"msg\":\"invalid network configuration\"}\n\
+bare CNI_COMMAND=DEL¦CNI_CONTAINERID=c1¦CNI_NETNS=/x¦CNI_IFNAME=eth0⇒{\"cniVersion\":\"1.0.0\",\"name\":\"net\",\"nodename\":\"a\",\"ipam\":{\"type\":\"calico-ipam\",\"ipv4_pools\":\"p\"}}\n\
+= 1 {\"cniVersion\":\"1.0.0\",\"code\":7,\"details\":\"ipam.ipv4_pools\",\"msg\":\"invalid network configuration\"}\n\
+bare CNI_COMMAND=CHECK¦CNI_CONTAINERID=c1¦CNI_NETNS=/x¦CNI_IFNAME=eth0⇒{\"cniVersion\":\"1.0.0\",\"name\":\"net\",\"nodename\":\"a\",\"ipam\":{\"type\":\"calico-ipam\",\"ipv4_pools\":{}},\"prevResult\":{\"ips\":[{\"address\":\"10.0.0.1/32\"},{\"address\":\"2001:db8::1/64\"}]}}\n\
+= 1 {\"cniVersion\":\"1.0.0\",\"code\":7,\"details\":\"ipam.ipv4_pools\",\"msg\":\"invalid network configuration\"}\n\
+bare CNI_COMMAND=STATUS¦CNI_CONTAINERID=c1¦CNI_NETNS=/x¦CNI_IFNAME=eth0⇒{\"cniVersion\":\"1.1.0\",\"name\":\"net\",\"nodename\":\"a\",\"ipam\":{\"type\":\"calico-ipam\",\"ipv4_pools\":[1]}}\n\
+= 1 {\"cniVersion\":\"1.1.0\",\"code\":7,\"details\":\"ipam.ipv4_pools\",\"msg\":\"invalid network configuration\"}\n\
+bare CNI_COMMAND=ADD¦CNI_CONTAINERID=c1¦CNI_NETNS=/x¦CNI_IFNAME=eth0⇒{\"cniVersion\":\"1.0.0\",\"name\":\"net\",\"nodename\":\"a\",\"ipam\":{\"type\":\"calico-ipam\",\"ipv4_pools\":[\"\"]}}\n\
+= 1 {\"cniVersion\":\"1.0.0\",\"code\":7,\"details\":\"ipam.ipv4_pools\",\"msg\":\"invalid network configuration\"}\n\
+bare CNI_COMMAND=DEL¦CNI_CONTAINERID=c1¦CNI_NETNS=/x¦CNI_IFNAME=eth0⇒{\"cniVersion\":\"1.0.0\",\"name\":\"net\",\"nodename\":\"a\",\"ipam\":{\"type\":\"calico-ipam\",\"ipv4_pools\":[\"10.0.0.1/24\"]}}\n\
+= 1 {\"cniVersion\":\"1.0.0\",\"code\":7,\"details\":\"ipam.ipv4_pools\",\"msg\":\"invalid network configuration\"}\n\
+bare CNI_COMMAND=CHECK¦CNI_CONTAINERID=c1¦CNI_NETNS=/x¦CNI_IFNAME=eth0⇒{\"cniVersion\":\"1.0.0\",\"name\":\"net\",\"nodename\":\"a\",\"ipam\":{\"type\":\"calico-ipam\",\"ipv4_pools\":[\"10.0.0.0/33\"]},\"prevResult\":{\"ips\":[{\"address\":\"10.0.0.1/32\"},{\"address\":\"2001:db8::1/64\"}]}}\n\
+= 1 {\"cniVersion\":\"1.0.0\",\"code\":7,\"details\":\"ipam.ipv4_pools\",\"msg\":\"invalid network configuration\"}\n\
+bare CNI_COMMAND=STATUS¦CNI_CONTAINERID=c1¦CNI_NETNS=/x¦CNI_IFNAME=eth0⇒{\"cniVersion\":\"1.1.0\",\"name\":\"net\",\"nodename\":\"a\",\"ipam\":{\"type\":\"calico-ipam\",\"ipv4_pools\":[\"10.0.0.0/024\"]}}\n\
+= 1 {\"cniVersion\":\"1.1.0\",\"code\":7,\"details\":\"ipam.ipv4_pools\",\"msg\":\"invalid network configuration\"}\n\
+bare CNI_COMMAND=ADD¦CNI_CONTAINERID=c1¦CNI_NETNS=/x¦CNI_IFNAME=eth0⇒{\"cniVersion\":\"1.0.0\",\"name\":\"net\",\"nodename\":\"a\",\"ipam\":{\"type\":\"calico-ipam\",\"ipv4_pools\":[\"p0\",\"p1\",\"p2\",\"p3\",\"p4\",\"p5\",\"p6\",\"p7\",\"p8\",\"p9\",\"p10\",\"p11\",\"p12\",\"p13\",\"p14\",\"p15\",\"p16\",\"p17\",\"p18\",\"p19\",\"p20\",\"p21\",\"p22\",\"p23\",\"p24\",\"p25\",\"p26\",\"p27\",\"p28\",\"p29\",\"p30\",\"p31\",\"p32\",\"p33\",\"p34\",\"p35\",\"p36\",\"p37\",\"p38\",\"p39\",\"p40\",\"p41\",\"p42\",\"p43\",\"p44\",\"p45\",\"p46\",\"p47\",\"p48\",\"p49\",\"p50\",\"p51\",\"p52\",\"p53\",\"p54\",\"p55\",\"p56\",\"p57\",\"p58\",\"p59\",\"p60\",\"p61\",\"p62\",\"p63\",\"p64\"]}}\n\
+= 1 {\"cniVersion\":\"1.0.0\",\"code\":7,\"details\":\"ipam.ipv4_pools\",\"msg\":\"invalid network configuration\"}\n\
+bare CNI_COMMAND=ADD¦CNI_CONTAINERID=c1¦CNI_NETNS=/x¦CNI_IFNAME=eth0⇒{\"cniVersion\":\"1.0.0\",\"name\":\"net\",\"nodename\":\"a\",\"ipam\":{\"type\":\"calico-ipam\",\"ipv6_pools\":null}}\n\
+= 1 {\"cniVersion\":\"1.0.0\",\"code\":7,\"details\":\"ipam.ipv6_pools\",\"msg\":\"invalid network configuration\"}\n\
+bare CNI_COMMAND=DEL¦CNI_CONTAINERID=c1¦CNI_NETNS=/x¦CNI_IFNAME=eth0⇒{\"cniVersion\":\"1.0.0\",\"name\":\"net\",\"nodename\":\"a\",\"ipam\":{\"type\":\"calico-ipam\",\"ipv6_pools\":[\"::/129\"]}}\n\
+= 1 {\"cniVersion\":\"1.0.0\",\"code\":7,\"details\":\"ipam.ipv6_pools\",\"msg\":\"invalid network configuration\"}\n\
+bare CNI_COMMAND=CHECK¦CNI_CONTAINERID=c1¦CNI_NETNS=/x¦CNI_IFNAME=eth0⇒{\"cniVersion\":\"1.0.0\",\"name\":\"net\",\"nodename\":\"a\",\"ipam\":{\"type\":\"calico-ipam\",\"ipv6_pools\":[\"p\",\"a/b\"]},\"prevResult\":{\"ips\":[{\"address\":\"10.0.0.1/32\"},{\"address\":\"2001:db8::1/64\"}]}}\n\
+= 1 {\"cniVersion\":\"1.0.0\",\"code\":7,\"details\":\"ipam.ipv6_pools\",\"msg\":\"invalid network configuration\"}\n\
+bare CNI_COMMAND=CHECK¦CNI_CONTAINERID=c1¦CNI_NETNS=/x¦CNI_IFNAME=eth0⇒{\"cniVersion\":\"1.0.0\",\"name\":\"net\",\"nodename\":\"a\",\"ipam\":{\"type\":\"calico-ipam\"}}\n\
+= 1 {\"cniVersion\":\"1.0.0\",\"code\":7,\"details\":\"prevResult\",\"msg\":\"invalid network configuration\"}\n\
+bare CNI_COMMAND=CHECK¦CNI_CONTAINERID=c1¦CNI_NETNS=/x¦CNI_IFNAME=eth0⇒{\"cniVersion\":\"1.0.0\",\"name\":\"net\",\"nodename\":\"a\",\"ipam\":{\"type\":\"calico-ipam\"},\"prevResult\":null}\n\
+= 1 {\"cniVersion\":\"1.0.0\",\"code\":7,\"details\":\"prevResult\",\"msg\":\"invalid network configuration\"}\n\
+bare CNI_COMMAND=CHECK¦CNI_CONTAINERID=c1¦CNI_NETNS=/x¦CNI_IFNAME=eth0⇒{\"cniVersion\":\"1.0.0\",\"name\":\"net\",\"nodename\":\"a\",\"ipam\":{\"type\":\"calico-ipam\"},\"prevResult\":[]}\n\
+= 1 {\"cniVersion\":\"1.0.0\",\"code\":7,\"details\":\"prevResult\",\"msg\":\"invalid network configuration\"}\n\
+bare CNI_COMMAND=CHECK¦CNI_CONTAINERID=c1¦CNI_NETNS=/x¦CNI_IFNAME=eth0⇒{\"cniVersion\":\"1.0.0\",\"name\":\"net\",\"nodename\":\"a\",\"ipam\":{\"type\":\"calico-ipam\"},\"prevResult\":{\"ips\":null}}\n\
+= 1 {\"cniVersion\":\"1.0.0\",\"code\":7,\"details\":\"prevResult.ips\",\"msg\":\"invalid network configuration\"}\n\
+bare CNI_COMMAND=CHECK¦CNI_CONTAINERID=c1¦CNI_NETNS=/x¦CNI_IFNAME=eth0⇒{\"cniVersion\":\"1.0.0\",\"name\":\"net\",\"nodename\":\"a\",\"ipam\":{\"type\":\"calico-ipam\"},\"prevResult\":{\"ips\":{}}}\n\
+= 1 {\"cniVersion\":\"1.0.0\",\"code\":7,\"details\":\"prevResult.ips\",\"msg\":\"invalid network configuration\"}\n\
+bare CNI_COMMAND=CHECK¦CNI_CONTAINERID=c1¦CNI_NETNS=/x¦CNI_IFNAME=eth0⇒{\"cniVersion\":\"1.0.0\",\"name\":\"net\",\"nodename\":\"a\",\"ipam\":{\"type\":\"calico-ipam\"},\"prevResult\":{\"ips\":[1]}}\n\
+= 1 {\"cniVersion\":\"1.0.0\",\"code\":7,\"details\":\"prevResult.ips\",\"msg\":\"invalid network configuration\"}\n\
+bare CNI_COMMAND=CHECK¦CNI_CONTAINERID=c1¦CNI_NETNS=/x¦CNI_IFNAME=eth0⇒{\"cniVersion\":\"1.0.0\",\"name\":\"net\",\"nodename\":\"a\",\"ipam\":{\"type\":\"calico-ipam\"},\"prevResult\":{\"ips\":[{}]}}\n\
+= 1 {\"cniVersion\":\"1.0.0\",\"code\":7,\"details\":\"prevResult.ips\",\"msg\":\"invalid network configuration\"}\n\
+bare CNI_COMMAND=CHECK¦CNI_CONTAINERID=c1¦CNI_NETNS=/x¦CNI_IFNAME=eth0⇒{\"cniVersion\":\"1.0.0\",\"name\":\"net\",\"nodename\":\"a\",\"ipam\":{\"type\":\"calico-ipam\"},\"prevResult\":{\"ips\":[{\"address\":1}]}}\n\
+= 1 {\"cniVersion\":\"1.0.0\",\"code\":7,\"details\":\"prevResult.ips\",\"msg\":\"invalid network configuration\"}\n\
+bare CNI_COMMAND=CHECK¦CNI_CONTAINERID=c1¦CNI_NETNS=/x¦CNI_IFNAME=eth0⇒{\"cniVersion\":\"1.0.0\",\"name\":\"net\",\"nodename\":\"a\",\"ipam\":{\"type\":\"calico-ipam\"},\"prevResult\":{\"ips\":[{\"address\":\"10.0.0.1\"}]}}\n\
+= 1 {\"cniVersion\":\"1.0.0\",\"code\":7,\"details\":\"prevResult.ips\",\"msg\":\"invalid network configuration\"}\n\
+bare CNI_COMMAND=CHECK¦CNI_CONTAINERID=c1¦CNI_NETNS=/x¦CNI_IFNAME=eth0⇒{\"cniVersion\":\"1.0.0\",\"name\":\"net\",\"nodename\":\"a\",\"ipam\":{\"type\":\"calico-ipam\"},\"prevResult\":{\"ips\":[{\"address\":\"10.0.0.1/33\"}]}}\n\
+= 1 {\"cniVersion\":\"1.0.0\",\"code\":7,\"details\":\"prevResult.ips\",\"msg\":\"invalid network configuration\"}\n\
+bare CNI_COMMAND=CHECK¦CNI_CONTAINERID=c1¦CNI_NETNS=/x¦CNI_IFNAME=eth0⇒{\"cniVersion\":\"1.0.0\",\"name\":\"net\",\"nodename\":\"a\",\"ipam\":{\"type\":\"calico-ipam\"},\"prevResult\":{\"ips\":[{\"address\":\"10.0.0.1/08\"}]}}\n\
+= 1 {\"cniVersion\":\"1.0.0\",\"code\":7,\"details\":\"prevResult.ips\",\"msg\":\"invalid network configuration\"}\n\
+bare CNI_COMMAND=CHECK¦CNI_CONTAINERID=c1¦CNI_NETNS=/x¦CNI_IFNAME=eth0⇒{\"cniVersion\":\"1.0.0\",\"name\":\"net\",\"nodename\":\"a\",\"ipam\":{\"type\":\"calico-ipam\"},\"prevResult\":{\"ips\":[{\"address\":\"10.0.0.01/8\"}]}}\n\
+= 1 {\"cniVersion\":\"1.0.0\",\"code\":7,\"details\":\"prevResult.ips\",\"msg\":\"invalid network configuration\"}\n\
+bare CNI_COMMAND=CHECK¦CNI_CONTAINERID=c1¦CNI_NETNS=/x¦CNI_IFNAME=eth0⇒{\"cniVersion\":\"1.0.0\",\"name\":\"net\",\"nodename\":\"a\",\"ipam\":{\"type\":\"calico-ipam\"},\"prevResult\":{\"ips\":[{\"address\":\"::1%eth0/64\"}]}}\n\
+= 1 {\"cniVersion\":\"1.0.0\",\"code\":7,\"details\":\"prevResult.ips\",\"msg\":\"invalid network configuration\"}\n\
+bare CNI_COMMAND=CHECK¦CNI_CONTAINERID=c1¦CNI_NETNS=/x¦CNI_IFNAME=eth0⇒{\"cniVersion\":\"1.0.0\",\"name\":\"net\",\"nodename\":\"a\",\"ipam\":{\"type\":\"calico-ipam\"},\"prevResult\":{\"ips\":[{\"address\":\"::1/129\"}]}}\n\
+= 1 {\"cniVersion\":\"1.0.0\",\"code\":7,\"details\":\"prevResult.ips\",\"msg\":\"invalid network configuration\"}\n\
+bare CNI_COMMAND=CHECK¦CNI_CONTAINERID=c1¦CNI_NETNS=/x¦CNI_IFNAME=eth0⇒{\"cniVersion\":\"1.0.0\",\"name\":\"net\",\"nodename\":\"a\",\"ipam\":{\"type\":\"calico-ipam\"},\"prevResult\":{\"ips\":[{\"address\":\"10.0.0.1/\"}]}}\n\
+= 1 {\"cniVersion\":\"1.0.0\",\"code\":7,\"details\":\"prevResult.ips\",\"msg\":\"invalid network configuration\"}\n\
+bare CNI_COMMAND=CHECK¦CNI_CONTAINERID=c1¦CNI_NETNS=/x¦CNI_IFNAME=eth0⇒{\"cniVersion\":\"1.0.0\",\"name\":\"net\",\"nodename\":\"a\",\"ipam\":{\"type\":\"calico-ipam\"},\"prevResult\":{\"ips\":[{\"address\":\"10.0.0.1/32\"},{\"address\":\"10.0.0.1/32\"},{\"address\":\"10.0.0.1/32\"},{\"address\":\"10.0.0.1/32\"},{\"address\":\"10.0.0.1/32\"},{\"address\":\"10.0.0.1/32\"},{\"address\":\"10.0.0.1/32\"},{\"address\":\"10.0.0.1/32\"},{\"address\":\"10.0.0.1/32\"},{\"address\":\"10.0.0.1/32\"},{\"address\":\"10.0.0.1/32\"},{\"address\":\"10.0.0.1/32\"},{\"address\":\"10.0.0.1/32\"},{\"address\":\"10.0.0.1/32\"},{\"address\":\"10.0.0.1/32\"},{\"address\":\"10.0.0.1/32\"},{\"address\":\"10.0.0.1/32\"},{\"address\":\"10.0.0.1/32\"},{\"address\":\"10.0.0.1/32\"},{\"address\":\"10.0.0.1/32\"},{\"address\":\"10.0.0.1/32\"},{\"address\":\"10.0.0.1/32\"},{\"address\":\"10.0.0.1/32\"},{\"address\":\"10.0.0.1/32\"},{\"address\":\"10.0.0.1/32\"},{\"address\":\"10.0.0.1/32\"},{\"address\":\"10.0.0.1/32\"},{\"address\":\"10.0.0.1/32\"},{\"address\":\"10.0.0.1/32\"},{\"address\":\"10.0.0.1/32\"},{\"address\":\"10.0.0.1/32\"},{\"address\":\"10.0.0.1/32\"},{\"address\":\"10.0.0.1/32\"},{\"address\":\"10.0.0.1/32\"},{\"address\":\"10.0.0.1/32\"},{\"address\":\"10.0.0.1/32\"},{\"address\":\"10.0.0.1/32\"},{\"address\":\"10.0.0.1/32\"},{\"address\":\"10.0.0.1/32\"},{\"address\":\"10.0.0.1/32\"},{\"address\":\"10.0.0.1/32\"},{\"address\":\"10.0.0.1/32\"},{\"address\":\"10.0.0.1/32\"},{\"address\":\"10.0.0.1/32\"},{\"address\":\"10.0.0.1/32\"},{\"address\":\"10.0.0.1/32\"},{\"address\":\"10.0.0.1/32\"},{\"address\":\"10.0.0.1/32\"},{\"address\":\"10.0.0.1/32\"},{\"address\":\"10.0.0.1/32\"},{\"address\":\"10.0.0.1/32\"},{\"address\":\"10.0.0.1/32\"},{\"address\":\"10.0.0.1/32\"},{\"address\":\"10.0.0.1/32\"},{\"address\":\"10.0.0.1/32\"},{\"address\":\"10.0.0.1/32\"},{\"address\":\"10.0.0.1/32\"},{\"address\":\"10.0.0.1/32\"},{\"address\":\"10.0.0.1/32\"},{\"address\":\"10.0.0.1/32\"},{\"address\":\"10.0.0.1/32\"},{\"address\":\"10.0.0.1/32\"},{\"address\":\"10.0.0.1/32\"},{\"address\":\"10.0.0.1/32\"},{\"address\":\"10.0.0.1/32\"}]}}\n\
+= 1 {\"cniVersion\":\"1.0.0\",\"code\":7,\"details\":\"prevResult.ips\",\"msg\":\"invalid network configuration\"}\n\
+bare CNI_COMMAND=GC¦CNI_CONTAINERID=c1¦CNI_NETNS=/x¦CNI_IFNAME=eth0⇒{\"cniVersion\":\"1.1.0\",\"name\":\"net\",\"nodename\":\"a\",\"ipam\":{\"type\":\"calico-ipam\"}}\n\
+= 1 {\"cniVersion\":\"1.1.0\",\"code\":7,\"details\":\"cni.dev/valid-attachments\",\"msg\":\"invalid network configuration\"}\n\
+bare CNI_COMMAND=GC¦CNI_CONTAINERID=c1¦CNI_NETNS=/x¦CNI_IFNAME=eth0⇒{\"cniVersion\":\"1.1.0\",\"name\":\"net\",\"nodename\":\"a\",\"ipam\":{\"type\":\"calico-ipam\"},\"cni.dev/valid-attachments\":null}\n\
+= 1 {\"cniVersion\":\"1.1.0\",\"code\":7,\"details\":\"cni.dev/valid-attachments\",\"msg\":\"invalid network configuration\"}\n\
+bare CNI_COMMAND=GC¦CNI_CONTAINERID=c1¦CNI_NETNS=/x¦CNI_IFNAME=eth0⇒{\"cniVersion\":\"1.1.0\",\"name\":\"net\",\"nodename\":\"a\",\"ipam\":{\"type\":\"calico-ipam\"},\"cni.dev/valid-attachments\":{}}\n\
+= 1 {\"cniVersion\":\"1.1.0\",\"code\":7,\"details\":\"cni.dev/valid-attachments\",\"msg\":\"invalid network configuration\"}\n\
+bare CNI_COMMAND=GC¦CNI_CONTAINERID=c1¦CNI_NETNS=/x¦CNI_IFNAME=eth0⇒{\"cniVersion\":\"1.1.0\",\"name\":\"net\",\"nodename\":\"a\",\"ipam\":{\"type\":\"calico-ipam\"},\"cni.dev/valid-attachments\":\"c1\"}\n\
+= 1 {\"cniVersion\":\"1.1.0\",\"code\":7,\"details\":\"cni.dev/valid-attachments\",\"msg\":\"invalid network configuration\"}\n\
+bare CNI_COMMAND=GC¦CNI_CONTAINERID=c1¦CNI_NETNS=/x¦CNI_IFNAME=eth0⇒{\"cniVersion\":\"1.1.0\",\"name\":\"net\",\"nodename\":\"a\",\"ipam\":{\"type\":\"calico-ipam\"},\"cni.dev/valid-attachments\":[null,{\"containerID\":\"c3\",\"ifname\":\"\"}]}\n\
+= 1 {\"cniVersion\":\"1.1.0\",\"code\":7,\"details\":\"cni.dev/valid-attachments.0\",\"msg\":\"invalid network configuration\"}\n\
+bare CNI_COMMAND=GC¦CNI_CONTAINERID=c1¦CNI_NETNS=/x¦CNI_IFNAME=eth0⇒{\"cniVersion\":\"1.1.0\",\"name\":\"net\",\"nodename\":\"a\",\"ipam\":{\"type\":\"calico-ipam\"},\"cni.dev/valid-attachments\":[\"c1\",{\"containerID\":\"c3\",\"ifname\":\"\"}]}\n\
+= 1 {\"cniVersion\":\"1.1.0\",\"code\":7,\"details\":\"cni.dev/valid-attachments.0\",\"msg\":\"invalid network configuration\"}\n\
+bare CNI_COMMAND=GC¦CNI_CONTAINERID=c1¦CNI_NETNS=/x¦CNI_IFNAME=eth0⇒{\"cniVersion\":\"1.1.0\",\"name\":\"net\",\"nodename\":\"a\",\"ipam\":{\"type\":\"calico-ipam\"},\"cni.dev/valid-attachments\":[[],{\"containerID\":\"c3\",\"ifname\":\"\"}]}\n\
+= 1 {\"cniVersion\":\"1.1.0\",\"code\":7,\"details\":\"cni.dev/valid-attachments.0\",\"msg\":\"invalid network configuration\"}\n\
+bare CNI_COMMAND=GC¦CNI_CONTAINERID=c1¦CNI_NETNS=/x¦CNI_IFNAME=eth0⇒{\"cniVersion\":\"1.1.0\",\"name\":\"net\",\"nodename\":\"a\",\"ipam\":{\"type\":\"calico-ipam\"},\"cni.dev/valid-attachments\":[{\"containerID\":\"c2\",\"ifname\":\"eth0\"},{\"ifname\":\"\"}]}\n\
+= 1 {\"cniVersion\":\"1.1.0\",\"code\":7,\"details\":\"cni.dev/valid-attachments.1.containerID\",\"msg\":\"invalid network configuration\"}\n\
+bare CNI_COMMAND=GC¦CNI_CONTAINERID=c1¦CNI_NETNS=/x¦CNI_IFNAME=eth0⇒{\"cniVersion\":\"1.1.0\",\"name\":\"net\",\"nodename\":\"a\",\"ipam\":{\"type\":\"calico-ipam\"},\"cni.dev/valid-attachments\":[{\"containerID\":\"c2\",\"ifname\":\"eth0\"},{\"containerID\":\"\",\"ifname\":\"\"}]}\n\
+= 1 {\"cniVersion\":\"1.1.0\",\"code\":7,\"details\":\"cni.dev/valid-attachments.1.containerID\",\"msg\":\"invalid network configuration\"}\n\
+bare CNI_COMMAND=GC¦CNI_CONTAINERID=c1¦CNI_NETNS=/x¦CNI_IFNAME=eth0⇒{\"cniVersion\":\"1.1.0\",\"name\":\"net\",\"nodename\":\"a\",\"ipam\":{\"type\":\"calico-ipam\"},\"cni.dev/valid-attachments\":[{\"containerID\":\"c2\",\"ifname\":\"eth0\"},{\"containerID\":1,\"ifname\":\"\"}]}\n\
+= 1 {\"cniVersion\":\"1.1.0\",\"code\":7,\"details\":\"cni.dev/valid-attachments.1.containerID\",\"msg\":\"invalid network configuration\"}\n\
+bare CNI_COMMAND=GC¦CNI_CONTAINERID=c1¦CNI_NETNS=/x¦CNI_IFNAME=eth0⇒{\"cniVersion\":\"1.1.0\",\"name\":\"net\",\"nodename\":\"a\",\"ipam\":{\"type\":\"calico-ipam\"},\"cni.dev/valid-attachments\":[{\"containerID\":\"c2\",\"ifname\":\"eth0\"},{\"containerID\":\"a/b\",\"ifname\":\"\"}]}\n\
+= 1 {\"cniVersion\":\"1.1.0\",\"code\":7,\"details\":\"cni.dev/valid-attachments.1.containerID\",\"msg\":\"invalid network configuration\"}\n\
+bare CNI_COMMAND=GC¦CNI_CONTAINERID=c1¦CNI_NETNS=/x¦CNI_IFNAME=eth0⇒{\"cniVersion\":\"1.1.0\",\"name\":\"net\",\"nodename\":\"a\",\"ipam\":{\"type\":\"calico-ipam\"},\"cni.dev/valid-attachments\":[{\"containerID\":\"c2\",\"ifname\":\"eth0\"},{\"containerID\":\"c3\"}]}\n\
+= 1 {\"cniVersion\":\"1.1.0\",\"code\":7,\"details\":\"cni.dev/valid-attachments.1.ifname\",\"msg\":\"invalid network configuration\"}\n\
+bare CNI_COMMAND=GC¦CNI_CONTAINERID=c1¦CNI_NETNS=/x¦CNI_IFNAME=eth0⇒{\"cniVersion\":\"1.1.0\",\"name\":\"net\",\"nodename\":\"a\",\"ipam\":{\"type\":\"calico-ipam\"},\"cni.dev/valid-attachments\":[{\"containerID\":\"c2\",\"ifname\":\"eth0\"},{\"containerID\":\"c3\",\"ifname\":null}]}\n\
+= 1 {\"cniVersion\":\"1.1.0\",\"code\":7,\"details\":\"cni.dev/valid-attachments.1.ifname\",\"msg\":\"invalid network configuration\"}\n\
+bare CNI_COMMAND=GC¦CNI_CONTAINERID=c1¦CNI_NETNS=/x¦CNI_IFNAME=eth0⇒{\"cniVersion\":\"1.1.0\",\"name\":\"net\",\"nodename\":\"a\",\"ipam\":{\"type\":\"calico-ipam\"},\"cni.dev/valid-attachments\":[{\"containerID\":\"c2\",\"ifname\":\"eth0\"},{\"containerID\":\"c3\",\"ifname\":0}]}\n\
+= 1 {\"cniVersion\":\"1.1.0\",\"code\":7,\"details\":\"cni.dev/valid-attachments.1.ifname\",\"msg\":\"invalid network configuration\"}\n\
+same\n\
+= same\n\
+\n\
+ADD with nothing broken succeeds.\n\
+row 1 pools {\"pools\":[{\"blockSize\":30,\"cidr\":\"10.0.0.0/29\",\"disabled\":false,\"name\":\"p\"}]}\n\
+row 2 affinity/a/10.0.0.0/30 {\"cidr\":\"10.0.0.0/30\",\"node\":\"a\",\"state\":\"confirmed\"}\n\
+row 3 handle/net.c1 {\"block\":{\"10.0.0.0/30\":1},\"handleID\":\"net.c1\"}\n\
+row 4 block/10.0.0.0/30 {\"affinity\":\"host:a\",\"allocations\":[0,null,null,null],\"attributes\":[{\"handle_id\":\"net.c1\",\"secondary\":{\"network\":\"net\",\"node\":\"a\"}}],\"cidr\":\"10.0.0.0/30\",\"sequenceNumber\":1,\"sequenceNumberForAllocation\":{\"0\":1},\"unallocated\":[1,2,3]}\n\
+bare CNI_COMMAND=ADD¦CNI_CONTAINERID=c1¦CNI_NETNS=/x¦CNI_IFNAME=eth0⇒{\"cniVersion\":\"1.0.0\",\"name\":\"net\",\"nodename\":\"a\",\"ipam\":{\"type\":\"calico-ipam\"}}\n\
+= 0 {\"cniVersion\":\"1.0.0\",\"ips\":[{\"address\":\"10.0.0.1/32\"}]}\n\
+\n\
+DEL with nothing broken succeeds.\n\
+row 1 pools {\"pools\":[{\"blockSize\":30,\"cidr\":\"10.0.0.0/29\",\"disabled\":false,\"name\":\"p\"}]}\n\
+row 2 affinity/a/10.0.0.0/30 {\"cidr\":\"10.0.0.0/30\",\"node\":\"a\",\"state\":\"confirmed\"}\n\
+row 3 handle/net.c1 {\"block\":{\"10.0.0.0/30\":1},\"handleID\":\"net.c1\"}\n\
+row 4 block/10.0.0.0/30 {\"affinity\":\"host:a\",\"allocations\":[0,null,null,null],\"attributes\":[{\"handle_id\":\"net.c1\",\"secondary\":{\"network\":\"net\",\"node\":\"a\"}}],\"cidr\":\"10.0.0.0/30\",\"sequenceNumber\":1,\"sequenceNumberForAllocation\":{\"0\":1},\"unallocated\":[1,2,3]}\n\
+bare CNI_COMMAND=DEL¦CNI_CONTAINERID=c1¦CNI_NETNS=/x¦CNI_IFNAME=eth0⇒{\"cniVersion\":\"1.0.0\",\"name\":\"net\",\"nodename\":\"a\",\"ipam\":{\"type\":\"calico-ipam\"}}\n\
+= 0 |\n\
+\n\
+CHECK with nothing broken succeeds.\n\
+row 1 pools {\"pools\":[{\"blockSize\":30,\"cidr\":\"10.0.0.0/29\",\"disabled\":false,\"name\":\"p\"}]}\n\
+row 2 affinity/a/10.0.0.0/30 {\"cidr\":\"10.0.0.0/30\",\"node\":\"a\",\"state\":\"confirmed\"}\n\
+row 3 handle/net.c1 {\"block\":{\"10.0.0.0/30\":1},\"handleID\":\"net.c1\"}\n\
+row 4 block/10.0.0.0/30 {\"affinity\":\"host:a\",\"allocations\":[0,null,null,null],\"attributes\":[{\"handle_id\":\"net.c1\",\"secondary\":{\"network\":\"net\",\"node\":\"a\"}}],\"cidr\":\"10.0.0.0/30\",\"sequenceNumber\":1,\"sequenceNumberForAllocation\":{\"0\":1},\"unallocated\":[1,2,3]}\n\
+bare CNI_COMMAND=CHECK¦CNI_CONTAINERID=c1¦CNI_NETNS=/x¦CNI_IFNAME=eth0⇒{\"cniVersion\":\"1.0.0\",\"name\":\"net\",\"nodename\":\"a\",\"ipam\":{\"type\":\"calico-ipam\"},\"prevResult\":{\"ips\":[{\"address\":\"10.0.0.0/30\"}]}}\n\
+= 0 |\n\
+\n\
+GC with nothing broken succeeds.\n\
+row 1 pools {\"pools\":[{\"blockSize\":30,\"cidr\":\"10.0.0.0/29\",\"disabled\":false,\"name\":\"p\"}]}\n\
+row 2 affinity/a/10.0.0.0/30 {\"cidr\":\"10.0.0.0/30\",\"node\":\"a\",\"state\":\"confirmed\"}\n\
+row 3 handle/net.c1 {\"block\":{\"10.0.0.0/30\":1},\"handleID\":\"net.c1\"}\n\
+row 4 block/10.0.0.0/30 {\"affinity\":\"host:a\",\"allocations\":[0,null,null,null],\"attributes\":[{\"handle_id\":\"net.c1\",\"secondary\":{\"network\":\"net\",\"node\":\"a\"}}],\"cidr\":\"10.0.0.0/30\",\"sequenceNumber\":1,\"sequenceNumberForAllocation\":{\"0\":1},\"unallocated\":[1,2,3]}\n\
+bare CNI_COMMAND=GC¦CNI_CONTAINERID=c1¦CNI_NETNS=/x¦CNI_IFNAME=eth0⇒{\"cniVersion\":\"1.1.0\",\"name\":\"net\",\"nodename\":\"a\",\"ipam\":{\"type\":\"calico-ipam\"},\"cni.dev/valid-attachments\":[{\"containerID\":\"c2\",\"ifname\":\"eth0\"},{\"containerID\":\"c3\",\"ifname\":\"\"}]}\n\
+= 0 |\n\
+\n\
+STATUS with nothing broken succeeds.\n\
+row 1 pools {\"pools\":[{\"blockSize\":30,\"cidr\":\"10.0.0.0/29\",\"disabled\":false,\"name\":\"p\"}]}\n\
+row 2 affinity/a/10.0.0.0/30 {\"cidr\":\"10.0.0.0/30\",\"node\":\"a\",\"state\":\"confirmed\"}\n\
+row 3 handle/net.c1 {\"block\":{\"10.0.0.0/30\":1},\"handleID\":\"net.c1\"}\n\
+row 4 block/10.0.0.0/30 {\"affinity\":\"host:a\",\"allocations\":[0,null,null,null],\"attributes\":[{\"handle_id\":\"net.c1\",\"secondary\":{\"network\":\"net\",\"node\":\"a\"}}],\"cidr\":\"10.0.0.0/30\",\"sequenceNumber\":1,\"sequenceNumberForAllocation\":{\"0\":1},\"unallocated\":[1,2,3]}\n\
+bare CNI_COMMAND=STATUS¦CNI_CONTAINERID=c1¦CNI_NETNS=/x¦CNI_IFNAME=eth0⇒{\"cniVersion\":\"1.1.0\",\"name\":\"net\",\"nodename\":\"a\",\"ipam\":{\"type\":\"calico-ipam\"}}\n\
+= 0 |\n\
+\n\
+Rows have no member of the pools.\n\
+row 1 pools {}\n\
+row 2 affinity/a/10.0.0.0/30 {\"cidr\":\"10.0.0.0/30\",\"node\":\"a\",\"state\":\"confirmed\"}\n\
+row 3 handle/net.c1 {\"block\":{\"10.0.0.0/30\":1},\"handleID\":\"net.c1\"}\n\
+row 4 block/10.0.0.0/30 {\"affinity\":\"host:a\",\"allocations\":[0,null,null,null],\"attributes\":[{\"handle_id\":\"net.c1\",\"secondary\":{\"network\":\"net\",\"node\":\"a\"}}],\"cidr\":\"10.0.0.0/30\",\"sequenceNumber\":1,\"sequenceNumberForAllocation\":{\"0\":1},\"unallocated\":[1,2,3]}\n\
+keep\n\
+bare CNI_COMMAND=ADD¦CNI_CONTAINERID=c1¦CNI_NETNS=/x¦CNI_IFNAME=eth0⇒{\"cniVersion\":\"1.0.0\",\"name\":\"net\",\"nodename\":\"a\",\"ipam\":{\"type\":\"calico-ipam\"}}\n\
+= 1 {\"cniVersion\":\"1.0.0\",\"code\":106,\"details\":\"OR1 pools\",\"msg\":\"bad datastore\"}\n\
+same\n\
+= same\n\
+\n\
+Rows have a body with a space.\n\
+row 1 pools {\"pools\": [{\"blockSize\":30,\"cidr\":\"10.0.0.0/29\",\"disabled\":false,\"name\":\"p\"}]}\n\
+row 2 affinity/a/10.0.0.0/30 {\"cidr\":\"10.0.0.0/30\",\"node\":\"a\",\"state\":\"confirmed\"}\n\
+row 3 handle/net.c1 {\"block\":{\"10.0.0.0/30\":1},\"handleID\":\"net.c1\"}\n\
+row 4 block/10.0.0.0/30 {\"affinity\":\"host:a\",\"allocations\":[0,null,null,null],\"attributes\":[{\"handle_id\":\"net.c1\",\"secondary\":{\"network\":\"net\",\"node\":\"a\"}}],\"cidr\":\"10.0.0.0/30\",\"sequenceNumber\":1,\"sequenceNumberForAllocation\":{\"0\":1},\"unallocated\":[1,2,3]}\n\
+keep\n\
+bare CNI_COMMAND=DEL¦CNI_CONTAINERID=c1¦CNI_NETNS=/x¦CNI_IFNAME=eth0⇒{\"cniVersion\":\"1.0.0\",\"name\":\"net\",\"nodename\":\"a\",\"ipam\":{\"type\":\"calico-ipam\"}}\n\
+= 1 {\"cniVersion\":\"1.0.0\",\"code\":106,\"details\":\"OR1 pools\",\"msg\":\"bad datastore\"}\n\
+same\n\
+= same\n\
+\n\
+Rows have a body that is no JSON.\n\
+row 1 pools {\"pools\":[{\"blockSize\":30,\"cidr\":\"10.0.0.0/29\",\"disabled\":false,\"name\":\"p\"}]}\n\
+row 2 affinity/a/10.0.0.0/30 {\"cidr\":\"10.0.0.0/30\",\"node\":\"a\",\"state\":\"confirmed\"}\n\
+row 3 handle/net.c1 {\"block\":{\"10.0.0.0/30\":1},\"handleID\":\"net.c1\"}\n\
+row 4 block/10.0.0.0/30 {\"affinity\":\"host:a\",\"allocations\":[0,null,null,null],\"attributes\":[{\"handle_id\":\"net.c1\",\"secondary\":{\"network\":\"net\",\"node\":\"a\"}}],\"cidr\":\"10.0.0.0/30\",\"sequenceNumber\":1,\"sequenceNumberForAllocation\":{\"0\":1},\"unallocated\":[1,2,3]\n\
+keep\n\
+bare CNI_COMMAND=CHECK¦CNI_CONTAINERID=c1¦CNI_NETNS=/x¦CNI_IFNAME=eth0⇒{\"cniVersion\":\"1.0.0\",\"name\":\"net\",\"nodename\":\"a\",\"ipam\":{\"type\":\"calico-ipam\"},\"prevResult\":{\"ips\":[{\"address\":\"10.0.0.0/30\"}]}}\n\
+= 1 {\"cniVersion\":\"1.0.0\",\"code\":106,\"details\":\"OR1 block/10.0.0.0/30\",\"msg\":\"bad datastore\"}\n\
+same\n\
+= same\n\
+\n\
+Rows have a key of no kind.\n\
+row 1 pools {\"pools\":[{\"blockSize\":30,\"cidr\":\"10.0.0.0/29\",\"disabled\":false,\"name\":\"p\"}]}\n\
+row 2 affinity/a/10.0.0.0/30 {\"cidr\":\"10.0.0.0/30\",\"node\":\"a\",\"state\":\"confirmed\"}\n\
+row 3 handle/net.c1 {\"block\":{\"10.0.0.0/30\":1},\"handleID\":\"net.c1\"}\n\
+row 4 block/10.0.0.0/30 {\"affinity\":\"host:a\",\"allocations\":[0,null,null,null],\"attributes\":[{\"handle_id\":\"net.c1\",\"secondary\":{\"network\":\"net\",\"node\":\"a\"}}],\"cidr\":\"10.0.0.0/30\",\"sequenceNumber\":1,\"sequenceNumberForAllocation\":{\"0\":1},\"unallocated\":[1,2,3]}\n\
+row 5 pool {\"pools\":[{\"blockSize\":30,\"cidr\":\"10.0.0.0/29\",\"disabled\":false,\"name\":\"p\"}]}\n\
+keep\n\
+bare CNI_COMMAND=GC¦CNI_CONTAINERID=c1¦CNI_NETNS=/x¦CNI_IFNAME=eth0⇒{\"cniVersion\":\"1.1.0\",\"name\":\"net\",\"nodename\":\"a\",\"ipam\":{\"type\":\"calico-ipam\"},\"cni.dev/valid-attachments\":[{\"containerID\":\"c2\",\"ifname\":\"eth0\"},{\"containerID\":\"c3\",\"ifname\":\"\"}]}\n\
+= 1 {\"cniVersion\":\"1.1.0\",\"code\":106,\"details\":\"OR1 pool\",\"msg\":\"bad datastore\"}\n\
+same\n\
+= same\n\
+\n\
+Rows have a key whose CIDR is not spelled as it is printed.\n\
+row 1 pools {\"pools\":[{\"blockSize\":30,\"cidr\":\"10.0.0.0/29\",\"disabled\":false,\"name\":\"p\"}]}\n\
+row 2 affinity/a/10.0.0.0/30 {\"cidr\":\"10.0.0.0/30\",\"node\":\"a\",\"state\":\"confirmed\"}\n\
+row 3 handle/net.c1 {\"block\":{\"10.0.0.0/30\":1},\"handleID\":\"net.c1\"}\n\
+row 4 block/10.0.0.0/30 {\"affinity\":\"host:a\",\"allocations\":[0,null,null,null],\"attributes\":[{\"handle_id\":\"net.c1\",\"secondary\":{\"network\":\"net\",\"node\":\"a\"}}],\"cidr\":\"10.0.0.0/30\",\"sequenceNumber\":1,\"sequenceNumberForAllocation\":{\"0\":1},\"unallocated\":[1,2,3]}\n\
+row 5 affinity/a/10.0.0.4/030 {\"cidr\":\"10.0.0.4/30\",\"node\":\"a\",\"state\":\"confirmed\"}\n\
+keep\n\
+bare CNI_COMMAND=STATUS¦CNI_CONTAINERID=c1¦CNI_NETNS=/x¦CNI_IFNAME=eth0⇒{\"cniVersion\":\"1.1.0\",\"name\":\"net\",\"nodename\":\"a\",\"ipam\":{\"type\":\"calico-ipam\"}}\n\
+= 1 {\"cniVersion\":\"1.1.0\",\"code\":106,\"details\":\"OR1 affinity/a/10.0.0.4/030\",\"msg\":\"bad datastore\"}\n\
+same\n\
+= same\n\
+\n\
+Rows have a state of no name.\n\
+row 1 pools {\"pools\":[{\"blockSize\":30,\"cidr\":\"10.0.0.0/29\",\"disabled\":false,\"name\":\"p\"}]}\n\
+row 2 affinity/a/10.0.0.0/30 {\"cidr\":\"10.0.0.0/30\",\"node\":\"a\",\"state\":\"ready\"}\n\
+row 3 handle/net.c1 {\"block\":{\"10.0.0.0/30\":1},\"handleID\":\"net.c1\"}\n\
+row 4 block/10.0.0.0/30 {\"affinity\":\"host:a\",\"allocations\":[0,null,null,null],\"attributes\":[{\"handle_id\":\"net.c1\",\"secondary\":{\"network\":\"net\",\"node\":\"a\"}}],\"cidr\":\"10.0.0.0/30\",\"sequenceNumber\":1,\"sequenceNumberForAllocation\":{\"0\":1},\"unallocated\":[1,2,3]}\n\
+keep\n\
+bare CNI_COMMAND=ADD¦CNI_CONTAINERID=c1¦CNI_NETNS=/x¦CNI_IFNAME=eth0⇒{\"cniVersion\":\"1.0.0\",\"name\":\"net\",\"nodename\":\"a\",\"ipam\":{\"type\":\"calico-ipam\"}}\n\
+= 1 {\"cniVersion\":\"1.0.0\",\"code\":106,\"details\":\"OR1 affinity/a/10.0.0.0/30\",\"msg\":\"bad datastore\"}\n\
+same\n\
+= same\n\
+\n\
+Rows have a member that no block has.\n\
+row 1 pools {\"pools\":[{\"blockSize\":30,\"cidr\":\"10.0.0.0/29\",\"disabled\":false,\"name\":\"p\"}]}\n\
+row 2 affinity/a/10.0.0.0/30 {\"cidr\":\"10.0.0.0/30\",\"node\":\"a\",\"state\":\"confirmed\"}\n\
+row 3 handle/net.c1 {\"block\":{\"10.0.0.0/30\":1},\"handleID\":\"net.c1\"}\n\
+row 4 block/10.0.0.0/30 {\"affinity\":\"host:a\",\"allocations\":[0,null,null,null],\"attributes\":[{\"handle_id\":\"net.c1\",\"secondary\":{\"network\":\"net\",\"node\":\"a\"}}],\"cidr\":\"10.0.0.0/30\",\"sequenceNumber\":1,\"sequenceNumberForAllocation\":{\"0\":1},\"unallocated\":[1,2,3],\"zone\":\"w\"}\n\
+keep\n\
+bare CNI_COMMAND=DEL¦CNI_CONTAINERID=c1¦CNI_NETNS=/x¦CNI_IFNAME=eth0⇒{\"cniVersion\":\"1.0.0\",\"name\":\"net\",\"nodename\":\"a\",\"ipam\":{\"type\":\"calico-ipam\"}}\n\
+= 1 {\"cniVersion\":\"1.0.0\",\"code\":106,\"details\":\"OR1 block/10.0.0.0/30\",\"msg\":\"bad datastore\"}\n\
+same\n\
+= same\n\
+\n\
+Rows have a block without its queue.\n\
+row 1 pools {\"pools\":[{\"blockSize\":30,\"cidr\":\"10.0.0.0/29\",\"disabled\":false,\"name\":\"p\"}]}\n\
+row 2 affinity/a/10.0.0.0/30 {\"cidr\":\"10.0.0.0/30\",\"node\":\"a\",\"state\":\"confirmed\"}\n\
+row 3 handle/net.c1 {\"block\":{\"10.0.0.0/30\":1},\"handleID\":\"net.c1\"}\n\
+row 4 block/10.0.0.0/30 {\"affinity\":\"host:a\",\"allocations\":[0,null,null,null],\"attributes\":[{\"handle_id\":\"net.c1\",\"secondary\":{\"network\":\"net\",\"node\":\"a\"}}],\"cidr\":\"10.0.0.0/30\",\"sequenceNumber\":1,\"sequenceNumberForAllocation\":{\"0\":1}}\n\
+keep\n\
+bare CNI_COMMAND=CHECK¦CNI_CONTAINERID=c1¦CNI_NETNS=/x¦CNI_IFNAME=eth0⇒{\"cniVersion\":\"1.0.0\",\"name\":\"net\",\"nodename\":\"a\",\"ipam\":{\"type\":\"calico-ipam\"},\"prevResult\":{\"ips\":[{\"address\":\"10.0.0.0/30\"}]}}\n\
+= 1 {\"cniVersion\":\"1.0.0\",\"code\":106,\"details\":\"OR1 block/10.0.0.0/30\",\"msg\":\"bad datastore\"}\n\
+same\n\
+= same\n\
+\n\
+Rows have an affinity under the key of another node.\n\
+row 1 pools {\"pools\":[{\"blockSize\":30,\"cidr\":\"10.0.0.0/29\",\"disabled\":false,\"name\":\"p\"}]}\n\
+row 2 affinity/a/10.0.0.0/30 {\"cidr\":\"10.0.0.0/30\",\"node\":\"a\",\"state\":\"confirmed\"}\n\
+row 3 handle/net.c1 {\"block\":{\"10.0.0.0/30\":1},\"handleID\":\"net.c1\"}\n\
+row 4 block/10.0.0.0/30 {\"affinity\":\"host:a\",\"allocations\":[0,null,null,null],\"attributes\":[{\"handle_id\":\"net.c1\",\"secondary\":{\"network\":\"net\",\"node\":\"a\"}}],\"cidr\":\"10.0.0.0/30\",\"sequenceNumber\":1,\"sequenceNumberForAllocation\":{\"0\":1},\"unallocated\":[1,2,3]}\n\
+row 5 affinity/b/10.0.0.4/30 {\"cidr\":\"10.0.0.4/30\",\"node\":\"a\",\"state\":\"pending\"}\n\
+keep\n\
+bare CNI_COMMAND=GC¦CNI_CONTAINERID=c1¦CNI_NETNS=/x¦CNI_IFNAME=eth0⇒{\"cniVersion\":\"1.1.0\",\"name\":\"net\",\"nodename\":\"a\",\"ipam\":{\"type\":\"calico-ipam\"},\"cni.dev/valid-attachments\":[{\"containerID\":\"c2\",\"ifname\":\"eth0\"},{\"containerID\":\"c3\",\"ifname\":\"\"}]}\n\
+= 1 {\"cniVersion\":\"1.1.0\",\"code\":106,\"details\":\"OR2 affinity/b/10.0.0.4/30\",\"msg\":\"bad datastore\"}\n\
+same\n\
+= same\n\
+\n\
+Rows have a handle under the key of another one.\n\
+row 1 pools {\"pools\":[{\"blockSize\":30,\"cidr\":\"10.0.0.0/29\",\"disabled\":false,\"name\":\"p\"}]}\n\
+row 2 affinity/a/10.0.0.0/30 {\"cidr\":\"10.0.0.0/30\",\"node\":\"a\",\"state\":\"confirmed\"}\n\
+row 3 handle/net.c1 {\"block\":{\"10.0.0.0/30\":1},\"handleID\":\"net.c1\"}\n\
+row 4 block/10.0.0.0/30 {\"affinity\":\"host:a\",\"allocations\":[0,null,null,null],\"attributes\":[{\"handle_id\":\"net.c1\",\"secondary\":{\"network\":\"net\",\"node\":\"a\"}}],\"cidr\":\"10.0.0.0/30\",\"sequenceNumber\":1,\"sequenceNumberForAllocation\":{\"0\":1},\"unallocated\":[1,2,3]}\n\
+row 5 handle/net.c2 {\"block\":{\"10.0.0.0/30\":1},\"handleID\":\"net.c3\"}\n\
+keep\n\
+bare CNI_COMMAND=STATUS¦CNI_CONTAINERID=c1¦CNI_NETNS=/x¦CNI_IFNAME=eth0⇒{\"cniVersion\":\"1.1.0\",\"name\":\"net\",\"nodename\":\"a\",\"ipam\":{\"type\":\"calico-ipam\"}}\n\
+= 1 {\"cniVersion\":\"1.1.0\",\"code\":106,\"details\":\"OR2 handle/net.c2\",\"msg\":\"bad datastore\"}\n\
+same\n\
+= same\n\
+\n\
+Rows have pools that overlap.\n\
+row 1 pools {\"pools\":[{\"blockSize\":30,\"cidr\":\"10.0.0.0/29\",\"disabled\":false,\"name\":\"p\"},{\"blockSize\":30,\"cidr\":\"10.0.0.0/24\",\"disabled\":false,\"name\":\"q\"}]}\n\
+row 2 affinity/a/10.0.0.0/30 {\"cidr\":\"10.0.0.0/30\",\"node\":\"a\",\"state\":\"confirmed\"}\n\
+row 3 handle/net.c1 {\"block\":{\"10.0.0.0/30\":1},\"handleID\":\"net.c1\"}\n\
+row 4 block/10.0.0.0/30 {\"affinity\":\"host:a\",\"allocations\":[0,null,null,null],\"attributes\":[{\"handle_id\":\"net.c1\",\"secondary\":{\"network\":\"net\",\"node\":\"a\"}}],\"cidr\":\"10.0.0.0/30\",\"sequenceNumber\":1,\"sequenceNumberForAllocation\":{\"0\":1},\"unallocated\":[1,2,3]}\n\
+keep\n\
+bare CNI_COMMAND=ADD¦CNI_CONTAINERID=c1¦CNI_NETNS=/x¦CNI_IFNAME=eth0⇒{\"cniVersion\":\"1.0.0\",\"name\":\"net\",\"nodename\":\"a\",\"ipam\":{\"type\":\"calico-ipam\"}}\n\
+= 1 {\"cniVersion\":\"1.0.0\",\"code\":106,\"details\":\"OR3 pools\",\"msg\":\"bad datastore\"}\n\
+same\n\
+= same\n\
+\n\
+Rows have two pools of one name.\n\
+row 1 pools {\"pools\":[{\"blockSize\":30,\"cidr\":\"10.0.0.0/29\",\"disabled\":false,\"name\":\"p\"},{\"blockSize\":30,\"cidr\":\"10.1.0.0/29\",\"disabled\":false,\"name\":\"p\"}]}\n\
+row 2 affinity/a/10.0.0.0/30 {\"cidr\":\"10.0.0.0/30\",\"node\":\"a\",\"state\":\"confirmed\"}\n\
+row 3 handle/net.c1 {\"block\":{\"10.0.0.0/30\":1},\"handleID\":\"net.c1\"}\n\
+row 4 block/10.0.0.0/30 {\"affinity\":\"host:a\",\"allocations\":[0,null,null,null],\"attributes\":[{\"handle_id\":\"net.c1\",\"secondary\":{\"network\":\"net\",\"node\":\"a\"}}],\"cidr\":\"10.0.0.0/30\",\"sequenceNumber\":1,\"sequenceNumberForAllocation\":{\"0\":1},\"unallocated\":[1,2,3]}\n\
+keep\n\
+bare CNI_COMMAND=DEL¦CNI_CONTAINERID=c1¦CNI_NETNS=/x¦CNI_IFNAME=eth0⇒{\"cniVersion\":\"1.0.0\",\"name\":\"net\",\"nodename\":\"a\",\"ipam\":{\"type\":\"calico-ipam\"}}\n\
+= 1 {\"cniVersion\":\"1.0.0\",\"code\":106,\"details\":\"OR3 pools\",\"msg\":\"bad datastore\"}\n\
+same\n\
+= same\n\
+\n\
+Rows have an affinity for no slot.\n\
+row 1 pools {\"pools\":[{\"blockSize\":30,\"cidr\":\"10.0.0.0/29\",\"disabled\":false,\"name\":\"p\"}]}\n\
+row 2 affinity/a/10.0.0.0/30 {\"cidr\":\"10.0.0.0/30\",\"node\":\"a\",\"state\":\"confirmed\"}\n\
+row 3 handle/net.c1 {\"block\":{\"10.0.0.0/30\":1},\"handleID\":\"net.c1\"}\n\
+row 4 block/10.0.0.0/30 {\"affinity\":\"host:a\",\"allocations\":[0,null,null,null],\"attributes\":[{\"handle_id\":\"net.c1\",\"secondary\":{\"network\":\"net\",\"node\":\"a\"}}],\"cidr\":\"10.0.0.0/30\",\"sequenceNumber\":1,\"sequenceNumberForAllocation\":{\"0\":1},\"unallocated\":[1,2,3]}\n\
+row 5 affinity/a/10.0.0.8/30 {\"cidr\":\"10.0.0.8/30\",\"node\":\"a\",\"state\":\"pending\"}\n\
+keep\n\
+bare CNI_COMMAND=CHECK¦CNI_CONTAINERID=c1¦CNI_NETNS=/x¦CNI_IFNAME=eth0⇒{\"cniVersion\":\"1.0.0\",\"name\":\"net\",\"nodename\":\"a\",\"ipam\":{\"type\":\"calico-ipam\"},\"prevResult\":{\"ips\":[{\"address\":\"10.0.0.0/30\"}]}}\n\
+= 1 {\"cniVersion\":\"1.0.0\",\"code\":106,\"details\":\"OR4 affinity/a/10.0.0.8/30\",\"msg\":\"bad datastore\"}\n\
+same\n\
+= same\n\
+\n\
+Rows have blocks of another size.\n\
+row 1 pools {\"pools\":[{\"blockSize\":31,\"cidr\":\"10.0.0.0/29\",\"disabled\":false,\"name\":\"p\"}]}\n\
+row 2 affinity/a/10.0.0.0/30 {\"cidr\":\"10.0.0.0/30\",\"node\":\"a\",\"state\":\"confirmed\"}\n\
+row 3 handle/net.c1 {\"block\":{\"10.0.0.0/30\":1},\"handleID\":\"net.c1\"}\n\
+row 4 block/10.0.0.0/30 {\"affinity\":\"host:a\",\"allocations\":[0,null,null,null],\"attributes\":[{\"handle_id\":\"net.c1\",\"secondary\":{\"network\":\"net\",\"node\":\"a\"}}],\"cidr\":\"10.0.0.0/30\",\"sequenceNumber\":1,\"sequenceNumberForAllocation\":{\"0\":1},\"unallocated\":[1,2,3]}\n\
+keep\n\
+bare CNI_COMMAND=GC¦CNI_CONTAINERID=c1¦CNI_NETNS=/x¦CNI_IFNAME=eth0⇒{\"cniVersion\":\"1.1.0\",\"name\":\"net\",\"nodename\":\"a\",\"ipam\":{\"type\":\"calico-ipam\"},\"cni.dev/valid-attachments\":[{\"containerID\":\"c2\",\"ifname\":\"eth0\"},{\"containerID\":\"c3\",\"ifname\":\"\"}]}\n\
+= 1 {\"cniVersion\":\"1.1.0\",\"code\":106,\"details\":\"OR4 affinity/a/10.0.0.0/30\",\"msg\":\"bad datastore\"}\n\
+same\n\
+= same\n\
+\n\
+Rows have an address that is held and queued.\n\
+row 1 pools {\"pools\":[{\"blockSize\":30,\"cidr\":\"10.0.0.0/29\",\"disabled\":false,\"name\":\"p\"}]}\n\
+row 2 affinity/a/10.0.0.0/30 {\"cidr\":\"10.0.0.0/30\",\"node\":\"a\",\"state\":\"confirmed\"}\n\
+row 3 handle/net.c1 {\"block\":{\"10.0.0.0/30\":1},\"handleID\":\"net.c1\"}\n\
+row 4 block/10.0.0.0/30 {\"affinity\":\"host:a\",\"allocations\":[0,null,null,null],\"attributes\":[{\"handle_id\":\"net.c1\",\"secondary\":{\"network\":\"net\",\"node\":\"a\"}}],\"cidr\":\"10.0.0.0/30\",\"sequenceNumber\":1,\"sequenceNumberForAllocation\":{\"0\":1},\"unallocated\":[0,1,2,3]}\n\
+keep\n\
+bare CNI_COMMAND=STATUS¦CNI_CONTAINERID=c1¦CNI_NETNS=/x¦CNI_IFNAME=eth0⇒{\"cniVersion\":\"1.1.0\",\"name\":\"net\",\"nodename\":\"a\",\"ipam\":{\"type\":\"calico-ipam\"}}\n\
+= 1 {\"cniVersion\":\"1.1.0\",\"code\":106,\"details\":\"OR5 block/10.0.0.0/30\",\"msg\":\"bad datastore\"}\n\
+same\n\
+= same\n\
+\n\
+Rows have an address that is queued twice.\n\
+row 1 pools {\"pools\":[{\"blockSize\":30,\"cidr\":\"10.0.0.0/29\",\"disabled\":false,\"name\":\"p\"}]}\n\
+row 2 affinity/a/10.0.0.0/30 {\"cidr\":\"10.0.0.0/30\",\"node\":\"a\",\"state\":\"confirmed\"}\n\
+row 3 handle/net.c1 {\"block\":{\"10.0.0.0/30\":1},\"handleID\":\"net.c1\"}\n\
+row 4 block/10.0.0.0/30 {\"affinity\":\"host:a\",\"allocations\":[0,null,null,null],\"attributes\":[{\"handle_id\":\"net.c1\",\"secondary\":{\"network\":\"net\",\"node\":\"a\"}}],\"cidr\":\"10.0.0.0/30\",\"sequenceNumber\":1,\"sequenceNumberForAllocation\":{\"0\":1},\"unallocated\":[1,2,2]}\n\
+keep\n\
+bare CNI_COMMAND=ADD¦CNI_CONTAINERID=c1¦CNI_NETNS=/x¦CNI_IFNAME=eth0⇒{\"cniVersion\":\"1.0.0\",\"name\":\"net\",\"nodename\":\"a\",\"ipam\":{\"type\":\"calico-ipam\"}}\n\
+= 1 {\"cniVersion\":\"1.0.0\",\"code\":106,\"details\":\"OR5 block/10.0.0.0/30\",\"msg\":\"bad datastore\"}\n\
+same\n\
+= same\n\
+\n\
+Rows have an address that is neither held nor queued.\n\
+row 1 pools {\"pools\":[{\"blockSize\":30,\"cidr\":\"10.0.0.0/29\",\"disabled\":false,\"name\":\"p\"}]}\n\
+row 2 affinity/a/10.0.0.0/30 {\"cidr\":\"10.0.0.0/30\",\"node\":\"a\",\"state\":\"confirmed\"}\n\
+row 3 handle/net.c1 {\"block\":{\"10.0.0.0/30\":1},\"handleID\":\"net.c1\"}\n\
+row 4 block/10.0.0.0/30 {\"affinity\":\"host:a\",\"allocations\":[0,null,null,null],\"attributes\":[{\"handle_id\":\"net.c1\",\"secondary\":{\"network\":\"net\",\"node\":\"a\"}}],\"cidr\":\"10.0.0.0/30\",\"sequenceNumber\":1,\"sequenceNumberForAllocation\":{\"0\":1},\"unallocated\":[1,2]}\n\
+keep\n\
+bare CNI_COMMAND=DEL¦CNI_CONTAINERID=c1¦CNI_NETNS=/x¦CNI_IFNAME=eth0⇒{\"cniVersion\":\"1.0.0\",\"name\":\"net\",\"nodename\":\"a\",\"ipam\":{\"type\":\"calico-ipam\"}}\n\
+= 1 {\"cniVersion\":\"1.0.0\",\"code\":106,\"details\":\"OR5 block/10.0.0.0/30\",\"msg\":\"bad datastore\"}\n\
+same\n\
+= same\n\
+\n\
+Rows have a stamp above the sequence number.\n\
+row 1 pools {\"pools\":[{\"blockSize\":30,\"cidr\":\"10.0.0.0/29\",\"disabled\":false,\"name\":\"p\"}]}\n\
+row 2 affinity/a/10.0.0.0/30 {\"cidr\":\"10.0.0.0/30\",\"node\":\"a\",\"state\":\"confirmed\"}\n\
+row 3 handle/net.c1 {\"block\":{\"10.0.0.0/30\":1},\"handleID\":\"net.c1\"}\n\
+row 4 block/10.0.0.0/30 {\"affinity\":\"host:a\",\"allocations\":[0,null,null,null],\"attributes\":[{\"handle_id\":\"net.c1\",\"secondary\":{\"network\":\"net\",\"node\":\"a\"}}],\"cidr\":\"10.0.0.0/30\",\"sequenceNumber\":1,\"sequenceNumberForAllocation\":{\"0\":2},\"unallocated\":[1,2,3]}\n\
+keep\n\
+bare CNI_COMMAND=CHECK¦CNI_CONTAINERID=c1¦CNI_NETNS=/x¦CNI_IFNAME=eth0⇒{\"cniVersion\":\"1.0.0\",\"name\":\"net\",\"nodename\":\"a\",\"ipam\":{\"type\":\"calico-ipam\"},\"prevResult\":{\"ips\":[{\"address\":\"10.0.0.0/30\"}]}}\n\
+= 1 {\"cniVersion\":\"1.0.0\",\"code\":106,\"details\":\"OR5 block/10.0.0.0/30\",\"msg\":\"bad datastore\"}\n\
+same\n\
+= same\n\
+\n\
+Rows have a sequence number that is the revision.\n\
+row 1 pools {\"pools\":[{\"blockSize\":30,\"cidr\":\"10.0.0.0/29\",\"disabled\":false,\"name\":\"p\"}]}\n\
+row 2 affinity/a/10.0.0.0/30 {\"cidr\":\"10.0.0.0/30\",\"node\":\"a\",\"state\":\"confirmed\"}\n\
+row 3 handle/net.c1 {\"block\":{\"10.0.0.0/30\":1},\"handleID\":\"net.c1\"}\n\
+row 4 block/10.0.0.0/30 {\"affinity\":\"host:a\",\"allocations\":[0,null,null,null],\"attributes\":[{\"handle_id\":\"net.c1\",\"secondary\":{\"network\":\"net\",\"node\":\"a\"}}],\"cidr\":\"10.0.0.0/30\",\"sequenceNumber\":4,\"sequenceNumberForAllocation\":{\"0\":1},\"unallocated\":[1,2,3]}\n\
+keep\n\
+bare CNI_COMMAND=GC¦CNI_CONTAINERID=c1¦CNI_NETNS=/x¦CNI_IFNAME=eth0⇒{\"cniVersion\":\"1.1.0\",\"name\":\"net\",\"nodename\":\"a\",\"ipam\":{\"type\":\"calico-ipam\"},\"cni.dev/valid-attachments\":[{\"containerID\":\"c2\",\"ifname\":\"eth0\"},{\"containerID\":\"c3\",\"ifname\":\"\"}]}\n\
+= 1 {\"cniVersion\":\"1.1.0\",\"code\":106,\"details\":\"OR5 block/10.0.0.0/30\",\"msg\":\"bad datastore\"}\n\
+same\n\
+= same\n\
+\n\
+Rows have an address without a handle.\n\
+row 1 pools {\"pools\":[{\"blockSize\":30,\"cidr\":\"10.0.0.0/29\",\"disabled\":false,\"name\":\"p\"}]}\n\
+row 2 affinity/a/10.0.0.0/30 {\"cidr\":\"10.0.0.0/30\",\"node\":\"a\",\"state\":\"confirmed\"}\n\
+row 4 block/10.0.0.0/30 {\"affinity\":\"host:a\",\"allocations\":[0,null,null,null],\"attributes\":[{\"handle_id\":\"net.c1\",\"secondary\":{\"network\":\"net\",\"node\":\"a\"}}],\"cidr\":\"10.0.0.0/30\",\"sequenceNumber\":1,\"sequenceNumberForAllocation\":{\"0\":1},\"unallocated\":[1,2,3]}\n\
+keep\n\
+bare CNI_COMMAND=STATUS¦CNI_CONTAINERID=c1¦CNI_NETNS=/x¦CNI_IFNAME=eth0⇒{\"cniVersion\":\"1.1.0\",\"name\":\"net\",\"nodename\":\"a\",\"ipam\":{\"type\":\"calico-ipam\"}}\n\
+= 1 {\"cniVersion\":\"1.1.0\",\"code\":106,\"details\":\"OR6 handle/net.c1\",\"msg\":\"bad datastore\"}\n\
+same\n\
+= same\n\
+\n\
+Rows have a handle that counts another block.\n\
+row 1 pools {\"pools\":[{\"blockSize\":30,\"cidr\":\"10.0.0.0/29\",\"disabled\":false,\"name\":\"p\"}]}\n\
+row 2 affinity/a/10.0.0.0/30 {\"cidr\":\"10.0.0.0/30\",\"node\":\"a\",\"state\":\"confirmed\"}\n\
+row 3 handle/net.c1 {\"block\":{\"10.0.0.4/30\":1},\"handleID\":\"net.c1\"}\n\
+row 4 block/10.0.0.0/30 {\"affinity\":\"host:a\",\"allocations\":[0,null,null,null],\"attributes\":[{\"handle_id\":\"net.c1\",\"secondary\":{\"network\":\"net\",\"node\":\"a\"}}],\"cidr\":\"10.0.0.0/30\",\"sequenceNumber\":1,\"sequenceNumberForAllocation\":{\"0\":1},\"unallocated\":[1,2,3]}\n\
+keep\n\
+bare CNI_COMMAND=ADD¦CNI_CONTAINERID=c1¦CNI_NETNS=/x¦CNI_IFNAME=eth0⇒{\"cniVersion\":\"1.0.0\",\"name\":\"net\",\"nodename\":\"a\",\"ipam\":{\"type\":\"calico-ipam\"}}\n\
+= 1 {\"cniVersion\":\"1.0.0\",\"code\":106,\"details\":\"OR6 handle/net.c1\",\"msg\":\"bad datastore\"}\n\
+same\n\
+= same\n\
+\n\
+Rows have a block without its affinity.\n\
+row 1 pools {\"pools\":[{\"blockSize\":30,\"cidr\":\"10.0.0.0/29\",\"disabled\":false,\"name\":\"p\"}]}\n\
+row 3 handle/net.c1 {\"block\":{\"10.0.0.0/30\":1},\"handleID\":\"net.c1\"}\n\
+row 4 block/10.0.0.0/30 {\"affinity\":\"host:a\",\"allocations\":[0,null,null,null],\"attributes\":[{\"handle_id\":\"net.c1\",\"secondary\":{\"network\":\"net\",\"node\":\"a\"}}],\"cidr\":\"10.0.0.0/30\",\"sequenceNumber\":1,\"sequenceNumberForAllocation\":{\"0\":1},\"unallocated\":[1,2,3]}\n\
+keep\n\
+bare CNI_COMMAND=DEL¦CNI_CONTAINERID=c1¦CNI_NETNS=/x¦CNI_IFNAME=eth0⇒{\"cniVersion\":\"1.0.0\",\"name\":\"net\",\"nodename\":\"a\",\"ipam\":{\"type\":\"calico-ipam\"}}\n\
+= 1 {\"cniVersion\":\"1.0.0\",\"code\":106,\"details\":\"OR7 block/10.0.0.0/30\",\"msg\":\"bad datastore\"}\n\
+same\n\
+= same\n\
+\n\
+Rows have a block of a node without an affinity.\n\
+row 1 pools {\"pools\":[{\"blockSize\":30,\"cidr\":\"10.0.0.0/29\",\"disabled\":false,\"name\":\"p\"}]}\n\
+row 2 affinity/a/10.0.0.0/30 {\"cidr\":\"10.0.0.0/30\",\"node\":\"a\",\"state\":\"pending\"}\n\
+row 3 handle/net.c1 {\"block\":{\"10.0.0.0/30\":1},\"handleID\":\"net.c1\"}\n\
+row 4 block/10.0.0.0/30 {\"affinity\":\"host:b\",\"allocations\":[0,null,null,null],\"attributes\":[{\"handle_id\":\"net.c1\",\"secondary\":{\"network\":\"net\",\"node\":\"a\"}}],\"cidr\":\"10.0.0.0/30\",\"sequenceNumber\":1,\"sequenceNumberForAllocation\":{\"0\":1},\"unallocated\":[1,2,3]}\n\
+keep\n\
+bare CNI_COMMAND=CHECK¦CNI_CONTAINERID=c1¦CNI_NETNS=/x¦CNI_IFNAME=eth0⇒{\"cniVersion\":\"1.0.0\",\"name\":\"net\",\"nodename\":\"a\",\"ipam\":{\"type\":\"calico-ipam\"},\"prevResult\":{\"ips\":[{\"address\":\"10.0.0.0/30\"}]}}\n\
+= 1 {\"cniVersion\":\"1.0.0\",\"code\":106,\"details\":\"OR7 block/10.0.0.0/30\",\"msg\":\"bad datastore\"}\n\
+same\n\
+= same\n\
+\n\
+Rows have a confirmed affinity without a block.\n\
+row 1 pools {\"pools\":[{\"blockSize\":30,\"cidr\":\"10.0.0.0/29\",\"disabled\":false,\"name\":\"p\"}]}\n\
+row 2 affinity/a/10.0.0.0/30 {\"cidr\":\"10.0.0.0/30\",\"node\":\"a\",\"state\":\"confirmed\"}\n\
+row 3 handle/net.c1 {\"block\":{\"10.0.0.0/30\":1},\"handleID\":\"net.c1\"}\n\
+row 4 block/10.0.0.0/30 {\"affinity\":\"host:a\",\"allocations\":[0,null,null,null],\"attributes\":[{\"handle_id\":\"net.c1\",\"secondary\":{\"network\":\"net\",\"node\":\"a\"}}],\"cidr\":\"10.0.0.0/30\",\"sequenceNumber\":1,\"sequenceNumberForAllocation\":{\"0\":1},\"unallocated\":[1,2,3]}\n\
+row 5 affinity/a/10.0.0.4/30 {\"cidr\":\"10.0.0.4/30\",\"node\":\"a\",\"state\":\"confirmed\"}\n\
+keep\n\
+bare CNI_COMMAND=GC¦CNI_CONTAINERID=c1¦CNI_NETNS=/x¦CNI_IFNAME=eth0⇒{\"cniVersion\":\"1.1.0\",\"name\":\"net\",\"nodename\":\"a\",\"ipam\":{\"type\":\"calico-ipam\"},\"cni.dev/valid-attachments\":[{\"containerID\":\"c2\",\"ifname\":\"eth0\"},{\"containerID\":\"c3\",\"ifname\":\"\"}]}\n\
+= 1 {\"cniVersion\":\"1.1.0\",\"code\":106,\"details\":\"OR8 affinity/a/10.0.0.4/30\",\"msg\":\"bad datastore\"}\n\
+same\n\
+= same\n\
+\n\
+Rows have a confirmed affinity for a block of nobody.\n\
+row 1 pools {\"pools\":[{\"blockSize\":30,\"cidr\":\"10.0.0.0/29\",\"disabled\":false,\"name\":\"p\"}]}\n\
+row 2 affinity/a/10.0.0.0/30 {\"cidr\":\"10.0.0.0/30\",\"node\":\"a\",\"state\":\"confirmed\"}\n\
+row 3 handle/net.c1 {\"block\":{\"10.0.0.0/30\":1},\"handleID\":\"net.c1\"}\n\
+row 4 block/10.0.0.0/30 {\"affinity\":null,\"allocations\":[0,null,null,null],\"attributes\":[{\"handle_id\":\"net.c1\",\"secondary\":{\"network\":\"net\",\"node\":\"a\"}}],\"cidr\":\"10.0.0.0/30\",\"sequenceNumber\":1,\"sequenceNumberForAllocation\":{\"0\":1},\"unallocated\":[1,2,3]}\n\
+keep\n\
+bare CNI_COMMAND=STATUS¦CNI_CONTAINERID=c1¦CNI_NETNS=/x¦CNI_IFNAME=eth0⇒{\"cniVersion\":\"1.1.0\",\"name\":\"net\",\"nodename\":\"a\",\"ipam\":{\"type\":\"calico-ipam\"}}\n\
+= 1 {\"cniVersion\":\"1.1.0\",\"code\":106,\"details\":\"OR8 affinity/a/10.0.0.0/30\",\"msg\":\"bad datastore\"}\n\
+same\n\
+= same\n\
+\n\
+Rows have a row of the revision 0.\n\
+row 1 pools {\"pools\":[{\"blockSize\":30,\"cidr\":\"10.0.0.0/29\",\"disabled\":false,\"name\":\"p\"}]}\n\
+row 0 affinity/a/10.0.0.0/30 {\"cidr\":\"10.0.0.0/30\",\"node\":\"a\",\"state\":\"confirmed\"}\n\
+row 3 handle/net.c1 {\"block\":{\"10.0.0.0/30\":1},\"handleID\":\"net.c1\"}\n\
+row 4 block/10.0.0.0/30 {\"affinity\":\"host:a\",\"allocations\":[0,null,null,null],\"attributes\":[{\"handle_id\":\"net.c1\",\"secondary\":{\"network\":\"net\",\"node\":\"a\"}}],\"cidr\":\"10.0.0.0/30\",\"sequenceNumber\":1,\"sequenceNumberForAllocation\":{\"0\":1},\"unallocated\":[1,2,3]}\n\
+keep\n\
+bare CNI_COMMAND=ADD¦CNI_CONTAINERID=c1¦CNI_NETNS=/x¦CNI_IFNAME=eth0⇒{\"cniVersion\":\"1.0.0\",\"name\":\"net\",\"nodename\":\"a\",\"ipam\":{\"type\":\"calico-ipam\"}}\n\
+= 1 {\"cniVersion\":\"1.0.0\",\"code\":106,\"details\":\"OR10 affinity/a/10.0.0.0/30\",\"msg\":\"bad datastore\"}\n\
+same\n\
+= same\n\
+\n\
+Rows have a row past the last revision.\n\
+row 1 pools {\"pools\":[{\"blockSize\":30,\"cidr\":\"10.0.0.0/29\",\"disabled\":false,\"name\":\"p\"}]}\n\
+row 4611686018427387905 affinity/a/10.0.0.0/30 {\"cidr\":\"10.0.0.0/30\",\"node\":\"a\",\"state\":\"confirmed\"}\n\
+row 3 handle/net.c1 {\"block\":{\"10.0.0.0/30\":1},\"handleID\":\"net.c1\"}\n\
+row 4 block/10.0.0.0/30 {\"affinity\":\"host:a\",\"allocations\":[0,null,null,null],\"attributes\":[{\"handle_id\":\"net.c1\",\"secondary\":{\"network\":\"net\",\"node\":\"a\"}}],\"cidr\":\"10.0.0.0/30\",\"sequenceNumber\":1,\"sequenceNumberForAllocation\":{\"0\":1},\"unallocated\":[1,2,3]}\n\
+keep\n\
+bare CNI_COMMAND=DEL¦CNI_CONTAINERID=c1¦CNI_NETNS=/x¦CNI_IFNAME=eth0⇒{\"cniVersion\":\"1.0.0\",\"name\":\"net\",\"nodename\":\"a\",\"ipam\":{\"type\":\"calico-ipam\"}}\n\
+= 1 {\"cniVersion\":\"1.0.0\",\"code\":106,\"details\":\"OR10 affinity/a/10.0.0.0/30\",\"msg\":\"bad datastore\"}\n\
+same\n\
+= same\n\
+\n\
+Rows have a counter past the last revision.\n\
+row 4611686018427387905 pools {\"pools\":[{\"blockSize\":30,\"cidr\":\"10.0.0.0/29\",\"disabled\":false,\"name\":\"p\"}]}\n\
+row 2 affinity/a/10.0.0.0/30 {\"cidr\":\"10.0.0.0/30\",\"node\":\"a\",\"state\":\"confirmed\"}\n\
+row 3 handle/net.c1 {\"block\":{\"10.0.0.0/30\":1},\"handleID\":\"net.c1\"}\n\
+row 4 block/10.0.0.0/30 {\"affinity\":\"host:a\",\"allocations\":[0,null,null,null],\"attributes\":[{\"handle_id\":\"net.c1\",\"secondary\":{\"network\":\"net\",\"node\":\"a\"}}],\"cidr\":\"10.0.0.0/30\",\"sequenceNumber\":1,\"sequenceNumberForAllocation\":{\"0\":1},\"unallocated\":[1,2,3]}\n\
+keep\n\
+bare CNI_COMMAND=CHECK¦CNI_CONTAINERID=c1¦CNI_NETNS=/x¦CNI_IFNAME=eth0⇒{\"cniVersion\":\"1.0.0\",\"name\":\"net\",\"nodename\":\"a\",\"ipam\":{\"type\":\"calico-ipam\"},\"prevResult\":{\"ips\":[{\"address\":\"10.0.0.0/30\"}]}}\n\
+= 1 {\"cniVersion\":\"1.0.0\",\"code\":106,\"details\":\"OR10 counter\",\"msg\":\"bad datastore\"}\n\
+same\n\
+= same\n\
+\n\
+There is no pools.\n\
+keep\n\
+bare CNI_COMMAND=ADD¦CNI_CONTAINERID=c1¦CNI_NETNS=/x¦CNI_IFNAME=eth0⇒{\"cniVersion\":\"1.0.0\",\"name\":\"net\",\"nodename\":\"a\",\"ipam\":{\"type\":\"calico-ipam\"}}\n\
+= 1 {\"cniVersion\":\"1.0.0\",\"code\":100,\"details\":\"IPv4\",\"msg\":\"no address available\"}\n\
+same\n\
+= same\n\
+\n\
+There is a pool that is disabled.\n\
+row 1 pools {\"pools\":[{\"blockSize\":30,\"cidr\":\"10.0.0.0/29\",\"disabled\":true,\"name\":\"p\"}]}\n\
+row 2 affinity/a/10.0.0.0/30 {\"cidr\":\"10.0.0.0/30\",\"node\":\"a\",\"state\":\"confirmed\"}\n\
+row 3 handle/net.c1 {\"block\":{\"10.0.0.0/30\":1},\"handleID\":\"net.c1\"}\n\
+row 4 block/10.0.0.0/30 {\"affinity\":\"host:a\",\"allocations\":[0,null,null,null],\"attributes\":[{\"handle_id\":\"net.c1\",\"secondary\":{\"network\":\"net\",\"node\":\"a\"}}],\"cidr\":\"10.0.0.0/30\",\"sequenceNumber\":1,\"sequenceNumberForAllocation\":{\"0\":1},\"unallocated\":[1,2,3]}\n\
+keep\n\
+bare CNI_COMMAND=ADD¦CNI_CONTAINERID=c1¦CNI_NETNS=/x¦CNI_IFNAME=eth0⇒{\"cniVersion\":\"1.0.0\",\"name\":\"net\",\"nodename\":\"a\",\"ipam\":{\"type\":\"calico-ipam\"}}\n\
+= 1 {\"cniVersion\":\"1.0.0\",\"code\":100,\"details\":\"IPv4\",\"msg\":\"no address available\"}\n\
+same\n\
+= same\n\
+\n\
+There is a pool for those that name it.\n\
+row 1 pools {\"pools\":[{\"assignmentMode\":\"Manual\",\"blockSize\":30,\"cidr\":\"10.0.0.0/29\",\"disabled\":false,\"name\":\"p\"}]}\n\
+row 2 affinity/a/10.0.0.0/30 {\"cidr\":\"10.0.0.0/30\",\"node\":\"a\",\"state\":\"confirmed\"}\n\
+row 3 handle/net.c1 {\"block\":{\"10.0.0.0/30\":1},\"handleID\":\"net.c1\"}\n\
+row 4 block/10.0.0.0/30 {\"affinity\":\"host:a\",\"allocations\":[0,null,null,null],\"attributes\":[{\"handle_id\":\"net.c1\",\"secondary\":{\"network\":\"net\",\"node\":\"a\"}}],\"cidr\":\"10.0.0.0/30\",\"sequenceNumber\":1,\"sequenceNumberForAllocation\":{\"0\":1},\"unallocated\":[1,2,3]}\n\
+keep\n\
+bare CNI_COMMAND=ADD¦CNI_CONTAINERID=c1¦CNI_NETNS=/x¦CNI_IFNAME=eth0⇒{\"cniVersion\":\"1.0.0\",\"name\":\"net\",\"nodename\":\"a\",\"ipam\":{\"type\":\"calico-ipam\"}}\n\
+= 1 {\"cniVersion\":\"1.0.0\",\"code\":100,\"details\":\"IPv4\",\"msg\":\"no address available\"}\n\
+same\n\
+= same\n\
+\n\
+There is a pool for other nodes.\n\
+row 1 pools {\"pools\":[{\"blockSize\":30,\"cidr\":\"10.0.0.0/29\",\"disabled\":false,\"name\":\"p\",\"nodeSelector\":\"zone == 'west'\"}]}\n\
+row 2 affinity/a/10.0.0.0/30 {\"cidr\":\"10.0.0.0/30\",\"node\":\"a\",\"state\":\"confirmed\"}\n\
+row 3 handle/net.c1 {\"block\":{\"10.0.0.0/30\":1},\"handleID\":\"net.c1\"}\n\
+row 4 block/10.0.0.0/30 {\"affinity\":\"host:a\",\"allocations\":[0,null,null,null],\"attributes\":[{\"handle_id\":\"net.c1\",\"secondary\":{\"network\":\"net\",\"node\":\"a\"}}],\"cidr\":\"10.0.0.0/30\",\"sequenceNumber\":1,\"sequenceNumberForAllocation\":{\"0\":1},\"unallocated\":[1,2,3]}\n\
+keep\n\
+bare CNI_COMMAND=ADD¦CNI_CONTAINERID=c1¦CNI_NETNS=/x¦CNI_IFNAME=eth0⇒{\"cniVersion\":\"1.0.0\",\"name\":\"net\",\"nodename\":\"a\",\"ipam\":{\"type\":\"calico-ipam\"}}\n\
+= 1 {\"cniVersion\":\"1.0.0\",\"code\":100,\"details\":\"IPv4\",\"msg\":\"no address available\"}\n\
+same\n\
+= same\n\
+\n\
+There is a pool whose selector the labels miss.\n\
+row 1 pools {\"pools\":[{\"blockSize\":30,\"cidr\":\"10.0.0.0/29\",\"disabled\":false,\"name\":\"p\",\"nodeSelector\":\"zone == 'west'\"}]}\n\
+row 2 affinity/a/10.0.0.0/30 {\"cidr\":\"10.0.0.0/30\",\"node\":\"a\",\"state\":\"confirmed\"}\n\
+row 3 handle/net.c1 {\"block\":{\"10.0.0.0/30\":1},\"handleID\":\"net.c1\"}\n\
+row 4 block/10.0.0.0/30 {\"affinity\":\"host:a\",\"allocations\":[0,null,null,null],\"attributes\":[{\"handle_id\":\"net.c1\",\"secondary\":{\"network\":\"net\",\"node\":\"a\"}}],\"cidr\":\"10.0.0.0/30\",\"sequenceNumber\":1,\"sequenceNumberForAllocation\":{\"0\":1},\"unallocated\":[1,2,3]}\n\
+keep\n\
+bare CNI_COMMAND=ADD¦CNI_CONTAINERID=c1¦CNI_NETNS=/x¦CNI_IFNAME=eth0⇒{\"cniVersion\":\"1.0.0\",\"name\":\"net\",\"nodename\":\"a\",\"ipam\":{\"type\":\"calico-ipam\"},\"nodeLabels\":{\"zone\":\"east\"}}\n\
+= 1 {\"cniVersion\":\"1.0.0\",\"code\":100,\"details\":\"IPv4\",\"msg\":\"no address available\"}\n\
+same\n\
+= same\n\
+\n\
+There is all reserved.\n\
+row 1 pools {\"pools\":[{\"blockSize\":30,\"cidr\":\"10.0.0.0/29\",\"disabled\":false,\"name\":\"p\"}]}\n\
+row 2 affinity/a/10.0.0.0/30 {\"cidr\":\"10.0.0.0/30\",\"node\":\"a\",\"state\":\"confirmed\"}\n\
+row 3 handle/net.c1 {\"block\":{\"10.0.0.0/30\":1},\"handleID\":\"net.c1\"}\n\
+row 4 block/10.0.0.0/30 {\"affinity\":\"host:a\",\"allocations\":[0,null,null,null],\"attributes\":[{\"handle_id\":\"net.c1\",\"secondary\":{\"network\":\"net\",\"node\":\"a\"}}],\"cidr\":\"10.0.0.0/30\",\"sequenceNumber\":1,\"sequenceNumberForAllocation\":{\"0\":1},\"unallocated\":[1,2,3]}\n\
+row 5 reservations {\"reservations\":[{\"name\":\"r\",\"reservedCIDRs\":[\"10.0.0.0/8\"]}]}\n\
+keep\n\
+bare CNI_COMMAND=ADD¦CNI_CONTAINERID=c1¦CNI_NETNS=/x¦CNI_IFNAME=eth0⇒{\"cniVersion\":\"1.0.0\",\"name\":\"net\",\"nodename\":\"a\",\"ipam\":{\"type\":\"calico-ipam\"}}\n\
+= 1 {\"cniVersion\":\"1.0.0\",\"code\":100,\"details\":\"IPv4\",\"msg\":\"no address available\"}\n\
+same\n\
+= same\n\
+\n\
+There is a node without a block, and none to be claimed or borrowed.\n\
+row 1 pools {\"pools\":[{\"blockSize\":30,\"cidr\":\"10.0.0.0/29\",\"disabled\":false,\"name\":\"p\"}]}\n\
+row 2 affinity/a/10.0.0.0/30 {\"cidr\":\"10.0.0.0/30\",\"node\":\"a\",\"state\":\"confirmed\"}\n\
+row 3 handle/net.c1 {\"block\":{\"10.0.0.0/30\":1},\"handleID\":\"net.c1\"}\n\
+row 4 block/10.0.0.0/30 {\"affinity\":\"host:a\",\"allocations\":[0,null,null,null],\"attributes\":[{\"handle_id\":\"net.c1\",\"secondary\":{\"network\":\"net\",\"node\":\"a\"}}],\"cidr\":\"10.0.0.0/30\",\"sequenceNumber\":1,\"sequenceNumberForAllocation\":{\"0\":1},\"unallocated\":[1,2,3]}\n\
+row 5 config {\"autoAllocateBlocks\":false,\"maxBlocksPerHost\":0,\"strictAffinity\":true}\n\
+keep\n\
+bare CNI_COMMAND=ADD¦CNI_CONTAINERID=c1¦CNI_NETNS=/x¦CNI_IFNAME=eth0⇒{\"cniVersion\":\"1.0.0\",\"name\":\"net\",\"nodename\":\"b\",\"ipam\":{\"type\":\"calico-ipam\"}}\n\
+= 1 {\"cniVersion\":\"1.0.0\",\"code\":100,\"details\":\"IPv4\",\"msg\":\"no address available\"}\n\
+same\n\
+= same\n\
+\n\
+There is no pool of IPv6.\n\
+row 1 pools {\"pools\":[{\"blockSize\":30,\"cidr\":\"10.0.0.0/29\",\"disabled\":false,\"name\":\"p\"}]}\n\
+row 2 affinity/a/10.0.0.0/30 {\"cidr\":\"10.0.0.0/30\",\"node\":\"a\",\"state\":\"confirmed\"}\n\
+row 3 handle/net.c1 {\"block\":{\"10.0.0.0/30\":1},\"handleID\":\"net.c1\"}\n\
+row 4 block/10.0.0.0/30 {\"affinity\":\"host:a\",\"allocations\":[0,null,null,null],\"attributes\":[{\"handle_id\":\"net.c1\",\"secondary\":{\"network\":\"net\",\"node\":\"a\"}}],\"cidr\":\"10.0.0.0/30\",\"sequenceNumber\":1,\"sequenceNumberForAllocation\":{\"0\":1},\"unallocated\":[1,2,3]}\n\
+keep\n\
+bare CNI_COMMAND=ADD¦CNI_CONTAINERID=c1¦CNI_NETNS=/x¦CNI_IFNAME=eth0⇒{\"cniVersion\":\"1.0.0\",\"name\":\"net\",\"nodename\":\"a\",\"ipam\":{\"type\":\"calico-ipam\",\"assign_ipv4\":false,\"assign_ipv6\":true}}\n\
+= 1 {\"cniVersion\":\"1.0.0\",\"code\":100,\"details\":\"IPv6\",\"msg\":\"no address available\"}\n\
+same\n\
+= same\n\
+\n\
+There is pools of the other family.\n\
+row 1 pools {\"pools\":[{\"blockSize\":30,\"cidr\":\"10.0.0.0/29\",\"disabled\":false,\"name\":\"p\"},{\"blockSize\":122,\"cidr\":\"2001:db8::/120\",\"disabled\":false,\"name\":\"q\"}]}\n\
+row 2 affinity/a/10.0.0.0/30 {\"cidr\":\"10.0.0.0/30\",\"node\":\"a\",\"state\":\"confirmed\"}\n\
+row 3 handle/net.c1 {\"block\":{\"10.0.0.0/30\":1},\"handleID\":\"net.c1\"}\n\
+row 4 block/10.0.0.0/30 {\"affinity\":\"host:a\",\"allocations\":[0,null,null,null],\"attributes\":[{\"handle_id\":\"net.c1\",\"secondary\":{\"network\":\"net\",\"node\":\"a\"}}],\"cidr\":\"10.0.0.0/30\",\"sequenceNumber\":1,\"sequenceNumberForAllocation\":{\"0\":1},\"unallocated\":[1,2,3]}\n\
+keep\n\
+bare CNI_COMMAND=ADD¦CNI_CONTAINERID=c1¦CNI_NETNS=/x¦CNI_IFNAME=eth0⇒{\"cniVersion\":\"1.0.0\",\"name\":\"net\",\"nodename\":\"a\",\"ipam\":{\"type\":\"calico-ipam\",\"assign_ipv4\":false,\"assign_ipv6\":true,\"ipv6_pools\":[\"p\"]}}\n\
+= 1 {\"cniVersion\":\"1.0.0\",\"code\":107,\"details\":\"p\",\"msg\":\"no such pool\"}\n\
+same\n\
+= same\n\
+\n\
+There is an address that is free.\n\
+row 1 pools {\"pools\":[{\"blockSize\":30,\"cidr\":\"10.0.0.0/29\",\"disabled\":false,\"name\":\"p\"}]}\n\
+row 2 affinity/a/10.0.0.0/30 {\"cidr\":\"10.0.0.0/30\",\"node\":\"a\",\"state\":\"confirmed\"}\n\
+row 3 handle/net.c1 {\"block\":{\"10.0.0.0/30\":1},\"handleID\":\"net.c1\"}\n\
+row 4 block/10.0.0.0/30 {\"affinity\":\"host:a\",\"allocations\":[0,null,null,null],\"attributes\":[{\"handle_id\":\"net.c1\",\"secondary\":{\"network\":\"net\",\"node\":\"a\"}}],\"cidr\":\"10.0.0.0/30\",\"sequenceNumber\":1,\"sequenceNumberForAllocation\":{\"0\":1},\"unallocated\":[1,2,3]}\n\
+keep\n\
+bare CNI_COMMAND=CHECK¦CNI_CONTAINERID=c1¦CNI_NETNS=/x¦CNI_IFNAME=eth0⇒{\"cniVersion\":\"1.0.0\",\"name\":\"net\",\"nodename\":\"a\",\"ipam\":{\"type\":\"calico-ipam\"},\"prevResult\":{\"ips\":[{\"address\":\"10.0.0.1/30\"}]}}\n\
+= 1 {\"cniVersion\":\"1.0.0\",\"code\":102,\"details\":\"10.0.0.1\",\"msg\":\"address not recorded\"}\n\
+same\n\
+= same\n\
+\n\
+There is an address of another container.\n\
+row 1 pools {\"pools\":[{\"blockSize\":30,\"cidr\":\"10.0.0.0/29\",\"disabled\":false,\"name\":\"p\"}]}\n\
+row 2 affinity/a/10.0.0.0/30 {\"cidr\":\"10.0.0.0/30\",\"node\":\"a\",\"state\":\"confirmed\"}\n\
+row 3 handle/net.c1 {\"block\":{\"10.0.0.0/30\":1},\"handleID\":\"net.c1\"}\n\
+row 4 block/10.0.0.0/30 {\"affinity\":\"host:a\",\"allocations\":[0,null,null,null],\"attributes\":[{\"handle_id\":\"net.c1\",\"secondary\":{\"network\":\"net\",\"node\":\"a\"}}],\"cidr\":\"10.0.0.0/30\",\"sequenceNumber\":1,\"sequenceNumberForAllocation\":{\"0\":1},\"unallocated\":[1,2,3]}\n\
+keep\n\
+bare CNI_COMMAND=CHECK¦CNI_NETNS=/x¦CNI_IFNAME=eth0¦CNI_CONTAINERID=c2⇒{\"cniVersion\":\"1.0.0\",\"name\":\"net\",\"nodename\":\"a\",\"ipam\":{\"type\":\"calico-ipam\"},\"prevResult\":{\"ips\":[{\"address\":\"10.0.0.0/30\"}]}}\n\
+= 1 {\"cniVersion\":\"1.0.0\",\"code\":102,\"details\":\"10.0.0.0\",\"msg\":\"address not recorded\"}\n\
+same\n\
+= same\n\
+\n\
+There is an address of another network.\n\
+row 1 pools {\"pools\":[{\"blockSize\":30,\"cidr\":\"10.0.0.0/29\",\"disabled\":false,\"name\":\"p\"}]}\n\
+row 2 affinity/a/10.0.0.0/30 {\"cidr\":\"10.0.0.0/30\",\"node\":\"a\",\"state\":\"confirmed\"}\n\
+row 3 handle/net.c1 {\"block\":{\"10.0.0.0/30\":1},\"handleID\":\"net.c1\"}\n\
+row 4 block/10.0.0.0/30 {\"affinity\":\"host:a\",\"allocations\":[0,null,null,null],\"attributes\":[{\"handle_id\":\"net.c1\",\"secondary\":{\"network\":\"net\",\"node\":\"a\"}}],\"cidr\":\"10.0.0.0/30\",\"sequenceNumber\":1,\"sequenceNumberForAllocation\":{\"0\":1},\"unallocated\":[1,2,3]}\n\
+keep\n\
+bare CNI_COMMAND=CHECK¦CNI_CONTAINERID=c1¦CNI_NETNS=/x¦CNI_IFNAME=eth0⇒{\"cniVersion\":\"1.0.0\",\"name\":\"other\",\"nodename\":\"a\",\"ipam\":{\"type\":\"calico-ipam\"},\"prevResult\":{\"ips\":[{\"address\":\"10.0.0.0/30\"}]}}\n\
+= 1 {\"cniVersion\":\"1.0.0\",\"code\":102,\"details\":\"10.0.0.0\",\"msg\":\"address not recorded\"}\n\
+same\n\
+= same\n\
+\n\
+There is an address of no pool.\n\
+row 1 pools {\"pools\":[{\"blockSize\":30,\"cidr\":\"10.0.0.0/29\",\"disabled\":false,\"name\":\"p\"}]}\n\
+row 2 affinity/a/10.0.0.0/30 {\"cidr\":\"10.0.0.0/30\",\"node\":\"a\",\"state\":\"confirmed\"}\n\
+row 3 handle/net.c1 {\"block\":{\"10.0.0.0/30\":1},\"handleID\":\"net.c1\"}\n\
+row 4 block/10.0.0.0/30 {\"affinity\":\"host:a\",\"allocations\":[0,null,null,null],\"attributes\":[{\"handle_id\":\"net.c1\",\"secondary\":{\"network\":\"net\",\"node\":\"a\"}}],\"cidr\":\"10.0.0.0/30\",\"sequenceNumber\":1,\"sequenceNumberForAllocation\":{\"0\":1},\"unallocated\":[1,2,3]}\n\
+keep\n\
+bare CNI_COMMAND=CHECK¦CNI_CONTAINERID=c1¦CNI_NETNS=/x¦CNI_IFNAME=eth0⇒{\"cniVersion\":\"1.0.0\",\"name\":\"net\",\"nodename\":\"a\",\"ipam\":{\"type\":\"calico-ipam\"},\"prevResult\":{\"ips\":[{\"address\":\"10.9.0.0/30\"}]}}\n\
+= 1 {\"cniVersion\":\"1.0.0\",\"code\":102,\"details\":\"10.9.0.0\",\"msg\":\"address not recorded\"}\n\
+same\n\
+= same\n\
+\n\
+There is an address of the other family.\n\
+row 1 pools {\"pools\":[{\"blockSize\":30,\"cidr\":\"10.0.0.0/29\",\"disabled\":false,\"name\":\"p\"}]}\n\
+row 2 affinity/a/10.0.0.0/30 {\"cidr\":\"10.0.0.0/30\",\"node\":\"a\",\"state\":\"confirmed\"}\n\
+row 3 handle/net.c1 {\"block\":{\"10.0.0.0/30\":1},\"handleID\":\"net.c1\"}\n\
+row 4 block/10.0.0.0/30 {\"affinity\":\"host:a\",\"allocations\":[0,null,null,null],\"attributes\":[{\"handle_id\":\"net.c1\",\"secondary\":{\"network\":\"net\",\"node\":\"a\"}}],\"cidr\":\"10.0.0.0/30\",\"sequenceNumber\":1,\"sequenceNumberForAllocation\":{\"0\":1},\"unallocated\":[1,2,3]}\n\
+keep\n\
+bare CNI_COMMAND=CHECK¦CNI_CONTAINERID=c1¦CNI_NETNS=/x¦CNI_IFNAME=eth0⇒{\"cniVersion\":\"1.0.0\",\"name\":\"net\",\"nodename\":\"a\",\"ipam\":{\"type\":\"calico-ipam\"},\"prevResult\":{\"ips\":[{\"address\":\"2001:DB8::1/64\"}]}}\n\
+= 1 {\"cniVersion\":\"1.0.0\",\"code\":102,\"details\":\"2001:db8::1\",\"msg\":\"address not recorded\"}\n\
+same\n\
+= same\n\
+\n\
+There is a second address that is free.\n\
+row 1 pools {\"pools\":[{\"blockSize\":30,\"cidr\":\"10.0.0.0/29\",\"disabled\":false,\"name\":\"p\"}]}\n\
+row 2 affinity/a/10.0.0.0/30 {\"cidr\":\"10.0.0.0/30\",\"node\":\"a\",\"state\":\"confirmed\"}\n\
+row 3 handle/net.c1 {\"block\":{\"10.0.0.0/30\":1},\"handleID\":\"net.c1\"}\n\
+row 4 block/10.0.0.0/30 {\"affinity\":\"host:a\",\"allocations\":[0,null,null,null],\"attributes\":[{\"handle_id\":\"net.c1\",\"secondary\":{\"network\":\"net\",\"node\":\"a\"}}],\"cidr\":\"10.0.0.0/30\",\"sequenceNumber\":1,\"sequenceNumberForAllocation\":{\"0\":1},\"unallocated\":[1,2,3]}\n\
+keep\n\
+bare CNI_COMMAND=CHECK¦CNI_CONTAINERID=c1¦CNI_NETNS=/x¦CNI_IFNAME=eth0⇒{\"cniVersion\":\"1.0.0\",\"name\":\"net\",\"nodename\":\"a\",\"ipam\":{\"type\":\"calico-ipam\"},\"prevResult\":{\"ips\":[{\"address\":\"10.0.0.0/8\"},{\"address\":\"10.0.0.3/8\"}]}}\n\
+= 1 {\"cniVersion\":\"1.0.0\",\"code\":102,\"details\":\"10.0.0.3\",\"msg\":\"address not recorded\"}\n\
+same\n\
+= same\n\
+\n\
+There is a count at its limit.\n\
+row 1 pools {\"pools\":[{\"blockSize\":30,\"cidr\":\"10.0.0.0/29\",\"disabled\":false,\"name\":\"p\"}]}\n\
+row 2 affinity/a/10.0.0.0/30 {\"cidr\":\"10.0.0.0/30\",\"node\":\"a\",\"state\":\"confirmed\"}\n\
+row 3 handle/net.c1 {\"block\":{\"10.0.0.0/30\":4294967295},\"handleID\":\"net.c1\"}\n\
+row 4 block/10.0.0.0/30 {\"affinity\":\"host:a\",\"allocations\":[0,null,null,null],\"attributes\":[{\"handle_id\":\"net.c1\",\"secondary\":{\"network\":\"net\",\"node\":\"a\"}}],\"cidr\":\"10.0.0.0/30\",\"sequenceNumber\":1,\"sequenceNumberForAllocation\":{\"0\":1},\"unallocated\":[1,2,3]}\n\
+keep\n\
+bare CNI_COMMAND=ADD¦CNI_CONTAINERID=c1¦CNI_NETNS=/x¦CNI_IFNAME=eth0⇒{\"cniVersion\":\"1.0.0\",\"name\":\"net\",\"nodename\":\"a\",\"ipam\":{\"type\":\"calico-ipam\"}}\n\
+= 1 {\"cniVersion\":\"1.0.0\",\"code\":104,\"details\":\"\",\"msg\":\"handle count full\"}\n\
+same\n\
+= same\n\
+\n\
+There is a count at its limit, and one address asked for.\n\
+row 1 pools {\"pools\":[{\"blockSize\":30,\"cidr\":\"10.0.0.0/29\",\"disabled\":false,\"name\":\"p\"}]}\n\
+row 2 affinity/a/10.0.0.0/30 {\"cidr\":\"10.0.0.0/30\",\"node\":\"a\",\"state\":\"confirmed\"}\n\
+row 3 handle/net.c1 {\"block\":{\"10.0.0.0/30\":4294967295},\"handleID\":\"net.c1\"}\n\
+row 4 block/10.0.0.0/30 {\"affinity\":\"host:a\",\"allocations\":[0,null,null,null],\"attributes\":[{\"handle_id\":\"net.c1\",\"secondary\":{\"network\":\"net\",\"node\":\"a\"}}],\"cidr\":\"10.0.0.0/30\",\"sequenceNumber\":1,\"sequenceNumberForAllocation\":{\"0\":1},\"unallocated\":[1,2,3]}\n\
+keep\n\
+bare CNI_COMMAND=ADD¦CNI_NETNS=/x¦CNI_IFNAME=eth0¦CNI_CONTAINERID=c1¦CNI_ARGS=IP=10.0.0.2⇒{\"cniVersion\":\"1.0.0\",\"name\":\"net\",\"nodename\":\"a\",\"ipam\":{\"type\":\"calico-ipam\"}}\n\
+= 1 {\"cniVersion\":\"1.0.0\",\"code\":104,\"details\":\"\",\"msg\":\"handle count full\"}\n\
+same\n\
+= same\n\
+\n\
+There is no revision for an ADD.\n\
+row 4611686018427387904 pools {\"pools\":[{\"blockSize\":30,\"cidr\":\"10.0.0.0/29\",\"disabled\":false,\"name\":\"p\"}]}\n\
+row 2 affinity/a/10.0.0.0/30 {\"cidr\":\"10.0.0.0/30\",\"node\":\"a\",\"state\":\"confirmed\"}\n\
+row 3 handle/net.c1 {\"block\":{\"10.0.0.0/30\":1},\"handleID\":\"net.c1\"}\n\
+row 4 block/10.0.0.0/30 {\"affinity\":\"host:a\",\"allocations\":[0,null,null,null],\"attributes\":[{\"handle_id\":\"net.c1\",\"secondary\":{\"network\":\"net\",\"node\":\"a\"}}],\"cidr\":\"10.0.0.0/30\",\"sequenceNumber\":1,\"sequenceNumberForAllocation\":{\"0\":1},\"unallocated\":[1,2,3]}\n\
+keep\n\
+bare CNI_COMMAND=ADD¦CNI_CONTAINERID=c1¦CNI_NETNS=/x¦CNI_IFNAME=eth0⇒{\"cniVersion\":\"1.0.0\",\"name\":\"net\",\"nodename\":\"a\",\"ipam\":{\"type\":\"calico-ipam\"}}\n\
+= 1 {\"cniVersion\":\"1.0.0\",\"code\":105,\"details\":\"\",\"msg\":\"revisions spent\"}\n\
+same\n\
+= same\n\
+\n\
+There is no revision for a DEL.\n\
+row 4611686018427387904 pools {\"pools\":[{\"blockSize\":30,\"cidr\":\"10.0.0.0/29\",\"disabled\":false,\"name\":\"p\"}]}\n\
+row 2 affinity/a/10.0.0.0/30 {\"cidr\":\"10.0.0.0/30\",\"node\":\"a\",\"state\":\"confirmed\"}\n\
+row 3 handle/net.c1 {\"block\":{\"10.0.0.0/30\":1},\"handleID\":\"net.c1\"}\n\
+row 4 block/10.0.0.0/30 {\"affinity\":\"host:a\",\"allocations\":[0,null,null,null],\"attributes\":[{\"handle_id\":\"net.c1\",\"secondary\":{\"network\":\"net\",\"node\":\"a\"}}],\"cidr\":\"10.0.0.0/30\",\"sequenceNumber\":1,\"sequenceNumberForAllocation\":{\"0\":1},\"unallocated\":[1,2,3]}\n\
+keep\n\
+bare CNI_COMMAND=DEL¦CNI_CONTAINERID=c1¦CNI_NETNS=/x¦CNI_IFNAME=eth0⇒{\"cniVersion\":\"1.0.0\",\"name\":\"net\",\"nodename\":\"a\",\"ipam\":{\"type\":\"calico-ipam\"}}\n\
+= 1 {\"cniVersion\":\"1.0.0\",\"code\":105,\"details\":\"\",\"msg\":\"revisions spent\"}\n\
+same\n\
+= same\n\
+\n\
+There is no revision for GC.\n\
+row 4611686018427387904 pools {\"pools\":[{\"blockSize\":30,\"cidr\":\"10.0.0.0/29\",\"disabled\":false,\"name\":\"p\"}]}\n\
+row 2 affinity/a/10.0.0.0/30 {\"cidr\":\"10.0.0.0/30\",\"node\":\"a\",\"state\":\"confirmed\"}\n\
+row 3 handle/net.c1 {\"block\":{\"10.0.0.0/30\":1},\"handleID\":\"net.c1\"}\n\
+row 4 block/10.0.0.0/30 {\"affinity\":\"host:a\",\"allocations\":[0,null,null,null],\"attributes\":[{\"handle_id\":\"net.c1\",\"secondary\":{\"network\":\"net\",\"node\":\"a\"}}],\"cidr\":\"10.0.0.0/30\",\"sequenceNumber\":1,\"sequenceNumberForAllocation\":{\"0\":1},\"unallocated\":[1,2,3]}\n\
+keep\n\
+bare CNI_COMMAND=GC¦CNI_CONTAINERID=c1¦CNI_NETNS=/x¦CNI_IFNAME=eth0⇒{\"cniVersion\":\"1.1.0\",\"name\":\"net\",\"nodename\":\"a\",\"ipam\":{\"type\":\"calico-ipam\"},\"cni.dev/valid-attachments\":[{\"containerID\":\"c2\",\"ifname\":\"eth0\"},{\"containerID\":\"c3\",\"ifname\":\"\"}]}\n\
+= 1 {\"cniVersion\":\"1.1.0\",\"code\":105,\"details\":\"\",\"msg\":\"revisions spent\"}\n\
+same\n\
+= same\n\
+\n\
+There is a pool of no such name.\n\
+row 1 pools {\"pools\":[{\"blockSize\":30,\"cidr\":\"10.0.0.0/29\",\"disabled\":false,\"name\":\"p\"}]}\n\
+row 2 affinity/a/10.0.0.0/30 {\"cidr\":\"10.0.0.0/30\",\"node\":\"a\",\"state\":\"confirmed\"}\n\
+row 3 handle/net.c1 {\"block\":{\"10.0.0.0/30\":1},\"handleID\":\"net.c1\"}\n\
+row 4 block/10.0.0.0/30 {\"affinity\":\"host:a\",\"allocations\":[0,null,null,null],\"attributes\":[{\"handle_id\":\"net.c1\",\"secondary\":{\"network\":\"net\",\"node\":\"a\"}}],\"cidr\":\"10.0.0.0/30\",\"sequenceNumber\":1,\"sequenceNumberForAllocation\":{\"0\":1},\"unallocated\":[1,2,3]}\n\
+keep\n\
+bare CNI_COMMAND=ADD¦CNI_CONTAINERID=c1¦CNI_NETNS=/x¦CNI_IFNAME=eth0⇒{\"cniVersion\":\"1.0.0\",\"name\":\"net\",\"nodename\":\"a\",\"ipam\":{\"type\":\"calico-ipam\",\"ipv4_pools\":[\"x\"]}}\n\
+= 1 {\"cniVersion\":\"1.0.0\",\"code\":107,\"details\":\"x\",\"msg\":\"no such pool\"}\n\
+same\n\
+= same\n\
+\n\
+There is a pool of no such CIDR.\n\
+row 1 pools {\"pools\":[{\"blockSize\":30,\"cidr\":\"10.0.0.0/29\",\"disabled\":false,\"name\":\"p\"}]}\n\
+row 2 affinity/a/10.0.0.0/30 {\"cidr\":\"10.0.0.0/30\",\"node\":\"a\",\"state\":\"confirmed\"}\n\
+row 3 handle/net.c1 {\"block\":{\"10.0.0.0/30\":1},\"handleID\":\"net.c1\"}\n\
+row 4 block/10.0.0.0/30 {\"affinity\":\"host:a\",\"allocations\":[0,null,null,null],\"attributes\":[{\"handle_id\":\"net.c1\",\"secondary\":{\"network\":\"net\",\"node\":\"a\"}}],\"cidr\":\"10.0.0.0/30\",\"sequenceNumber\":1,\"sequenceNumberForAllocation\":{\"0\":1},\"unallocated\":[1,2,3]}\n\
+keep\n\
+bare CNI_COMMAND=ADD¦CNI_CONTAINERID=c1¦CNI_NETNS=/x¦CNI_IFNAME=eth0⇒{\"cniVersion\":\"1.0.0\",\"name\":\"net\",\"nodename\":\"a\",\"ipam\":{\"type\":\"calico-ipam\",\"ipv4_pools\":[\"10.0.0.0/30\"]}}\n\
+= 1 {\"cniVersion\":\"1.0.0\",\"code\":107,\"details\":\"10.0.0.0/30\",\"msg\":\"no such pool\"}\n\
+same\n\
+= same\n\
+\n\
+There is a second pool of no such name.\n\
+row 1 pools {\"pools\":[{\"blockSize\":30,\"cidr\":\"10.0.0.0/29\",\"disabled\":false,\"name\":\"p\"}]}\n\
+row 2 affinity/a/10.0.0.0/30 {\"cidr\":\"10.0.0.0/30\",\"node\":\"a\",\"state\":\"confirmed\"}\n\
+row 3 handle/net.c1 {\"block\":{\"10.0.0.0/30\":1},\"handleID\":\"net.c1\"}\n\
+row 4 block/10.0.0.0/30 {\"affinity\":\"host:a\",\"allocations\":[0,null,null,null],\"attributes\":[{\"handle_id\":\"net.c1\",\"secondary\":{\"network\":\"net\",\"node\":\"a\"}}],\"cidr\":\"10.0.0.0/30\",\"sequenceNumber\":1,\"sequenceNumberForAllocation\":{\"0\":1},\"unallocated\":[1,2,3]}\n\
+keep\n\
+bare CNI_COMMAND=ADD¦CNI_CONTAINERID=c1¦CNI_NETNS=/x¦CNI_IFNAME=eth0⇒{\"cniVersion\":\"1.0.0\",\"name\":\"net\",\"nodename\":\"a\",\"ipam\":{\"type\":\"calico-ipam\",\"ipv4_pools\":[\"p\",\"x\",\"y\"]}}\n\
+= 1 {\"cniVersion\":\"1.0.0\",\"code\":107,\"details\":\"x\",\"msg\":\"no such pool\"}\n\
+same\n\
+= same\n\
+\n\
+There is a pool that is named and disabled.\n\
+row 1 pools {\"pools\":[{\"blockSize\":30,\"cidr\":\"10.0.0.0/29\",\"disabled\":true,\"name\":\"p\"}]}\n\
+row 2 affinity/a/10.0.0.0/30 {\"cidr\":\"10.0.0.0/30\",\"node\":\"a\",\"state\":\"confirmed\"}\n\
+row 3 handle/net.c1 {\"block\":{\"10.0.0.0/30\":1},\"handleID\":\"net.c1\"}\n\
+row 4 block/10.0.0.0/30 {\"affinity\":\"host:a\",\"allocations\":[0,null,null,null],\"attributes\":[{\"handle_id\":\"net.c1\",\"secondary\":{\"network\":\"net\",\"node\":\"a\"}}],\"cidr\":\"10.0.0.0/30\",\"sequenceNumber\":1,\"sequenceNumberForAllocation\":{\"0\":1},\"unallocated\":[1,2,3]}\n\
+keep\n\
+bare CNI_COMMAND=ADD¦CNI_CONTAINERID=c1¦CNI_NETNS=/x¦CNI_IFNAME=eth0⇒{\"cniVersion\":\"1.0.0\",\"name\":\"net\",\"nodename\":\"a\",\"ipam\":{\"type\":\"calico-ipam\",\"ipv4_pools\":[\"p\"]}}\n\
+= 1 {\"cniVersion\":\"1.0.0\",\"code\":107,\"details\":\"p\",\"msg\":\"no such pool\"}\n\
+same\n\
+= same\n\
+\n\
+There is an address of no pool is asked for.\n\
+row 1 pools {\"pools\":[{\"blockSize\":30,\"cidr\":\"10.0.0.0/29\",\"disabled\":false,\"name\":\"p\"}]}\n\
+row 2 affinity/a/10.0.0.0/30 {\"cidr\":\"10.0.0.0/30\",\"node\":\"a\",\"state\":\"confirmed\"}\n\
+row 3 handle/net.c1 {\"block\":{\"10.0.0.0/30\":1},\"handleID\":\"net.c1\"}\n\
+row 4 block/10.0.0.0/30 {\"affinity\":\"host:a\",\"allocations\":[0,null,null,null],\"attributes\":[{\"handle_id\":\"net.c1\",\"secondary\":{\"network\":\"net\",\"node\":\"a\"}}],\"cidr\":\"10.0.0.0/30\",\"sequenceNumber\":1,\"sequenceNumberForAllocation\":{\"0\":1},\"unallocated\":[1,2,3]}\n\
+keep\n\
+bare CNI_COMMAND=ADD¦CNI_NETNS=/x¦CNI_IFNAME=eth0¦CNI_CONTAINERID=c2¦CNI_ARGS=IP=10.9.0.1⇒{\"cniVersion\":\"1.0.0\",\"name\":\"net\",\"nodename\":\"a\",\"ipam\":{\"type\":\"calico-ipam\"}}\n\
+= 1 {\"cniVersion\":\"1.0.0\",\"code\":108,\"details\":\"10.9.0.1\",\"msg\":\"address not in a usable pool\"}\n\
+same\n\
+= same\n\
+\n\
+There is an address behind the pool is asked for.\n\
+row 1 pools {\"pools\":[{\"blockSize\":30,\"cidr\":\"10.0.0.0/29\",\"disabled\":false,\"name\":\"p\"}]}\n\
+row 2 affinity/a/10.0.0.0/30 {\"cidr\":\"10.0.0.0/30\",\"node\":\"a\",\"state\":\"confirmed\"}\n\
+row 3 handle/net.c1 {\"block\":{\"10.0.0.0/30\":1},\"handleID\":\"net.c1\"}\n\
+row 4 block/10.0.0.0/30 {\"affinity\":\"host:a\",\"allocations\":[0,null,null,null],\"attributes\":[{\"handle_id\":\"net.c1\",\"secondary\":{\"network\":\"net\",\"node\":\"a\"}}],\"cidr\":\"10.0.0.0/30\",\"sequenceNumber\":1,\"sequenceNumberForAllocation\":{\"0\":1},\"unallocated\":[1,2,3]}\n\
+keep\n\
+bare CNI_COMMAND=ADD¦CNI_NETNS=/x¦CNI_IFNAME=eth0¦CNI_CONTAINERID=c2¦CNI_ARGS=IP=10.0.0.8⇒{\"cniVersion\":\"1.0.0\",\"name\":\"net\",\"nodename\":\"a\",\"ipam\":{\"type\":\"calico-ipam\"}}\n\
+= 1 {\"cniVersion\":\"1.0.0\",\"code\":108,\"details\":\"10.0.0.8\",\"msg\":\"address not in a usable pool\"}\n\
+same\n\
+= same\n\
+\n\
+There is an address of IPv6 is asked for.\n\
+row 1 pools {\"pools\":[{\"blockSize\":30,\"cidr\":\"10.0.0.0/29\",\"disabled\":false,\"name\":\"p\"}]}\n\
+row 2 affinity/a/10.0.0.0/30 {\"cidr\":\"10.0.0.0/30\",\"node\":\"a\",\"state\":\"confirmed\"}\n\
+row 3 handle/net.c1 {\"block\":{\"10.0.0.0/30\":1},\"handleID\":\"net.c1\"}\n\
+row 4 block/10.0.0.0/30 {\"affinity\":\"host:a\",\"allocations\":[0,null,null,null],\"attributes\":[{\"handle_id\":\"net.c1\",\"secondary\":{\"network\":\"net\",\"node\":\"a\"}}],\"cidr\":\"10.0.0.0/30\",\"sequenceNumber\":1,\"sequenceNumberForAllocation\":{\"0\":1},\"unallocated\":[1,2,3]}\n\
+keep\n\
+bare CNI_COMMAND=ADD¦CNI_NETNS=/x¦CNI_IFNAME=eth0¦CNI_CONTAINERID=c2¦CNI_ARGS=IP=2001:db8:0:0::5⇒{\"cniVersion\":\"1.0.0\",\"name\":\"net\",\"nodename\":\"a\",\"ipam\":{\"type\":\"calico-ipam\"}}\n\
+= 1 {\"cniVersion\":\"1.0.0\",\"code\":108,\"details\":\"2001:db8::5\",\"msg\":\"address not in a usable pool\"}\n\
+same\n\
+= same\n\
+\n\
+There is an address of a disabled pool is asked for.\n\
+row 1 pools {\"pools\":[{\"blockSize\":30,\"cidr\":\"10.0.0.0/29\",\"disabled\":true,\"name\":\"p\"}]}\n\
+row 2 affinity/a/10.0.0.0/30 {\"cidr\":\"10.0.0.0/30\",\"node\":\"a\",\"state\":\"confirmed\"}\n\
+row 3 handle/net.c1 {\"block\":{\"10.0.0.0/30\":1},\"handleID\":\"net.c1\"}\n\
+row 4 block/10.0.0.0/30 {\"affinity\":\"host:a\",\"allocations\":[0,null,null,null],\"attributes\":[{\"handle_id\":\"net.c1\",\"secondary\":{\"network\":\"net\",\"node\":\"a\"}}],\"cidr\":\"10.0.0.0/30\",\"sequenceNumber\":1,\"sequenceNumberForAllocation\":{\"0\":1},\"unallocated\":[1,2,3]}\n\
+keep\n\
+bare CNI_COMMAND=ADD¦CNI_NETNS=/x¦CNI_IFNAME=eth0¦CNI_CONTAINERID=c2¦CNI_ARGS=IP=10.0.0.1⇒{\"cniVersion\":\"1.0.0\",\"name\":\"net\",\"nodename\":\"a\",\"ipam\":{\"type\":\"calico-ipam\"}}\n\
+= 1 {\"cniVersion\":\"1.0.0\",\"code\":108,\"details\":\"10.0.0.1\",\"msg\":\"address not in a usable pool\"}\n\
+same\n\
+= same\n\
+\n\
+There is an address of a pool for other nodes is asked for.\n\
+row 1 pools {\"pools\":[{\"blockSize\":30,\"cidr\":\"10.0.0.0/29\",\"disabled\":false,\"name\":\"p\",\"nodeSelector\":\"has(gpu)\"}]}\n\
+row 2 affinity/a/10.0.0.0/30 {\"cidr\":\"10.0.0.0/30\",\"node\":\"a\",\"state\":\"confirmed\"}\n\
+row 3 handle/net.c1 {\"block\":{\"10.0.0.0/30\":1},\"handleID\":\"net.c1\"}\n\
+row 4 block/10.0.0.0/30 {\"affinity\":\"host:a\",\"allocations\":[0,null,null,null],\"attributes\":[{\"handle_id\":\"net.c1\",\"secondary\":{\"network\":\"net\",\"node\":\"a\"}}],\"cidr\":\"10.0.0.0/30\",\"sequenceNumber\":1,\"sequenceNumberForAllocation\":{\"0\":1},\"unallocated\":[1,2,3]}\n\
+keep\n\
+bare CNI_COMMAND=ADD¦CNI_NETNS=/x¦CNI_IFNAME=eth0¦CNI_CONTAINERID=c2¦CNI_ARGS=IP=10.0.0.1⇒{\"cniVersion\":\"1.0.0\",\"name\":\"net\",\"nodename\":\"a\",\"ipam\":{\"type\":\"calico-ipam\"}}\n\
+= 1 {\"cniVersion\":\"1.0.0\",\"code\":108,\"details\":\"10.0.0.1\",\"msg\":\"address not in a usable pool\"}\n\
+same\n\
+= same\n\
+\n\
+There is an address is asked for that is held.\n\
+row 1 pools {\"pools\":[{\"blockSize\":30,\"cidr\":\"10.0.0.0/29\",\"disabled\":false,\"name\":\"p\"}]}\n\
+row 2 affinity/a/10.0.0.0/30 {\"cidr\":\"10.0.0.0/30\",\"node\":\"a\",\"state\":\"confirmed\"}\n\
+row 3 handle/net.c1 {\"block\":{\"10.0.0.0/30\":1},\"handleID\":\"net.c1\"}\n\
+row 4 block/10.0.0.0/30 {\"affinity\":\"host:a\",\"allocations\":[0,null,null,null],\"attributes\":[{\"handle_id\":\"net.c1\",\"secondary\":{\"network\":\"net\",\"node\":\"a\"}}],\"cidr\":\"10.0.0.0/30\",\"sequenceNumber\":1,\"sequenceNumberForAllocation\":{\"0\":1},\"unallocated\":[1,2,3]}\n\
+keep\n\
+bare CNI_COMMAND=ADD¦CNI_NETNS=/x¦CNI_IFNAME=eth0¦CNI_CONTAINERID=c2¦CNI_ARGS=IP=10.0.0.0⇒{\"cniVersion\":\"1.0.0\",\"name\":\"net\",\"nodename\":\"a\",\"ipam\":{\"type\":\"calico-ipam\"}}\n\
+= 1 {\"cniVersion\":\"1.0.0\",\"code\":109,\"details\":\"net.c1\",\"msg\":\"address taken\"}\n\
+same\n\
+= same\n\
+\n\
+There is an address is asked for by who holds it.\n\
+row 1 pools {\"pools\":[{\"blockSize\":30,\"cidr\":\"10.0.0.0/29\",\"disabled\":false,\"name\":\"p\"}]}\n\
+row 2 affinity/a/10.0.0.0/30 {\"cidr\":\"10.0.0.0/30\",\"node\":\"a\",\"state\":\"confirmed\"}\n\
+row 3 handle/net.c1 {\"block\":{\"10.0.0.0/30\":1},\"handleID\":\"net.c1\"}\n\
+row 4 block/10.0.0.0/30 {\"affinity\":\"host:a\",\"allocations\":[0,null,null,null],\"attributes\":[{\"handle_id\":\"net.c1\",\"secondary\":{\"network\":\"net\",\"node\":\"a\"}}],\"cidr\":\"10.0.0.0/30\",\"sequenceNumber\":1,\"sequenceNumberForAllocation\":{\"0\":1},\"unallocated\":[1,2,3]}\n\
+keep\n\
+bare CNI_COMMAND=ADD¦CNI_NETNS=/x¦CNI_IFNAME=eth0¦CNI_CONTAINERID=c1¦CNI_ARGS=IP=10.0.0.0⇒{\"cniVersion\":\"1.0.0\",\"name\":\"net\",\"nodename\":\"a\",\"ipam\":{\"type\":\"calico-ipam\"}}\n\
+= 1 {\"cniVersion\":\"1.0.0\",\"code\":109,\"details\":\"net.c1\",\"msg\":\"address taken\"}\n\
+same\n\
+= same\n\
+\n\
+There is an address of a block of another node is asked for.\n\
+row 1 pools {\"pools\":[{\"blockSize\":30,\"cidr\":\"10.0.0.0/29\",\"disabled\":false,\"name\":\"p\"}]}\n\
+row 2 affinity/a/10.0.0.0/30 {\"cidr\":\"10.0.0.0/30\",\"node\":\"a\",\"state\":\"confirmed\"}\n\
+row 3 handle/net.c1 {\"block\":{\"10.0.0.0/30\":1},\"handleID\":\"net.c1\"}\n\
+row 4 block/10.0.0.0/30 {\"affinity\":\"host:a\",\"allocations\":[0,null,null,null],\"attributes\":[{\"handle_id\":\"net.c1\",\"secondary\":{\"network\":\"net\",\"node\":\"a\"}}],\"cidr\":\"10.0.0.0/30\",\"sequenceNumber\":1,\"sequenceNumberForAllocation\":{\"0\":1},\"unallocated\":[1,2,3]}\n\
+row 5 config {\"autoAllocateBlocks\":true,\"maxBlocksPerHost\":0,\"strictAffinity\":true}\n\
+keep\n\
+bare CNI_COMMAND=ADD¦CNI_NETNS=/x¦CNI_IFNAME=eth0¦CNI_CONTAINERID=c2¦CNI_ARGS=IP=10.0.0.1⇒{\"cniVersion\":\"1.0.0\",\"name\":\"net\",\"nodename\":\"b\",\"ipam\":{\"type\":\"calico-ipam\"}}\n\
+= 1 {\"cniVersion\":\"1.0.0\",\"code\":110,\"details\":\"10.0.0.0/30\",\"msg\":\"block not affine to this node\"}\n\
+same\n\
+= same\n\
+\n\
+There is STATUS without pools.\n\
+keep\n\
+bare CNI_COMMAND=STATUS¦CNI_CONTAINERID=c1¦CNI_NETNS=/x¦CNI_IFNAME=eth0⇒{\"cniVersion\":\"1.1.0\",\"name\":\"net\",\"nodename\":\"a\",\"ipam\":{\"type\":\"calico-ipam\"}}\n\
+= 1 {\"cniVersion\":\"1.1.0\",\"code\":112,\"details\":\"IPv4\",\"msg\":\"plugin not available\"}\n\
+same\n\
+= same\n\
+\n\
+There is STATUS of a pool that is disabled.\n\
+row 1 pools {\"pools\":[{\"blockSize\":30,\"cidr\":\"10.0.0.0/29\",\"disabled\":true,\"name\":\"p\"}]}\n\
+row 2 affinity/a/10.0.0.0/30 {\"cidr\":\"10.0.0.0/30\",\"node\":\"a\",\"state\":\"confirmed\"}\n\
+row 3 handle/net.c1 {\"block\":{\"10.0.0.0/30\":1},\"handleID\":\"net.c1\"}\n\
+row 4 block/10.0.0.0/30 {\"affinity\":\"host:a\",\"allocations\":[0,null,null,null],\"attributes\":[{\"handle_id\":\"net.c1\",\"secondary\":{\"network\":\"net\",\"node\":\"a\"}}],\"cidr\":\"10.0.0.0/30\",\"sequenceNumber\":1,\"sequenceNumberForAllocation\":{\"0\":1},\"unallocated\":[1,2,3]}\n\
+keep\n\
+bare CNI_COMMAND=STATUS¦CNI_CONTAINERID=c1¦CNI_NETNS=/x¦CNI_IFNAME=eth0⇒{\"cniVersion\":\"1.1.0\",\"name\":\"net\",\"nodename\":\"a\",\"ipam\":{\"type\":\"calico-ipam\"}}\n\
+= 1 {\"cniVersion\":\"1.1.0\",\"code\":112,\"details\":\"IPv4\",\"msg\":\"plugin not available\"}\n\
+same\n\
+= same\n\
+\n\
+There is STATUS of a pool for other nodes.\n\
+row 1 pools {\"pools\":[{\"blockSize\":30,\"cidr\":\"10.0.0.0/29\",\"disabled\":false,\"name\":\"p\",\"nodeSelector\":\"!has(gpu)\"}]}\n\
+row 2 affinity/a/10.0.0.0/30 {\"cidr\":\"10.0.0.0/30\",\"node\":\"a\",\"state\":\"confirmed\"}\n\
+row 3 handle/net.c1 {\"block\":{\"10.0.0.0/30\":1},\"handleID\":\"net.c1\"}\n\
+row 4 block/10.0.0.0/30 {\"affinity\":\"host:a\",\"allocations\":[0,null,null,null],\"attributes\":[{\"handle_id\":\"net.c1\",\"secondary\":{\"network\":\"net\",\"node\":\"a\"}}],\"cidr\":\"10.0.0.0/30\",\"sequenceNumber\":1,\"sequenceNumberForAllocation\":{\"0\":1},\"unallocated\":[1,2,3]}\n\
+keep\n\
+bare CNI_COMMAND=STATUS¦CNI_CONTAINERID=c1¦CNI_NETNS=/x¦CNI_IFNAME=eth0⇒{\"cniVersion\":\"1.1.0\",\"name\":\"net\",\"nodename\":\"a\",\"ipam\":{\"type\":\"calico-ipam\"},\"nodeLabels\":{\"gpu\":\"\"}}\n\
+= 1 {\"cniVersion\":\"1.1.0\",\"code\":112,\"details\":\"IPv4\",\"msg\":\"plugin not available\"}\n\
+same\n\
+= same\n\
+\n\
+There is STATUS of both families.\n\
+row 1 pools {\"pools\":[{\"blockSize\":30,\"cidr\":\"10.0.0.0/29\",\"disabled\":false,\"name\":\"p\"}]}\n\
+row 2 affinity/a/10.0.0.0/30 {\"cidr\":\"10.0.0.0/30\",\"node\":\"a\",\"state\":\"confirmed\"}\n\
+row 3 handle/net.c1 {\"block\":{\"10.0.0.0/30\":1},\"handleID\":\"net.c1\"}\n\
+row 4 block/10.0.0.0/30 {\"affinity\":\"host:a\",\"allocations\":[0,null,null,null],\"attributes\":[{\"handle_id\":\"net.c1\",\"secondary\":{\"network\":\"net\",\"node\":\"a\"}}],\"cidr\":\"10.0.0.0/30\",\"sequenceNumber\":1,\"sequenceNumberForAllocation\":{\"0\":1},\"unallocated\":[1,2,3]}\n\
+keep\n\
+bare CNI_COMMAND=STATUS¦CNI_CONTAINERID=c1¦CNI_NETNS=/x¦CNI_IFNAME=eth0⇒{\"cniVersion\":\"1.1.0\",\"name\":\"net\",\"nodename\":\"a\",\"ipam\":{\"type\":\"calico-ipam\",\"assign_ipv6\":true}}\n\
+= 1 {\"cniVersion\":\"1.1.0\",\"code\":112,\"details\":\"IPv6\",\"msg\":\"plugin not available\"}\n\
+same\n\
+= same\n\
+\n\
+There is STATUS of a pool of no such name.\n\
+row 1 pools {\"pools\":[{\"blockSize\":30,\"cidr\":\"10.0.0.0/29\",\"disabled\":false,\"name\":\"p\"}]}\n\
+row 2 affinity/a/10.0.0.0/30 {\"cidr\":\"10.0.0.0/30\",\"node\":\"a\",\"state\":\"confirmed\"}\n\
+row 3 handle/net.c1 {\"block\":{\"10.0.0.0/30\":1},\"handleID\":\"net.c1\"}\n\
+row 4 block/10.0.0.0/30 {\"affinity\":\"host:a\",\"allocations\":[0,null,null,null],\"attributes\":[{\"handle_id\":\"net.c1\",\"secondary\":{\"network\":\"net\",\"node\":\"a\"}}],\"cidr\":\"10.0.0.0/30\",\"sequenceNumber\":1,\"sequenceNumberForAllocation\":{\"0\":1},\"unallocated\":[1,2,3]}\n\
+keep\n\
+bare CNI_COMMAND=STATUS¦CNI_CONTAINERID=c1¦CNI_NETNS=/x¦CNI_IFNAME=eth0⇒{\"cniVersion\":\"1.1.0\",\"name\":\"net\",\"nodename\":\"a\",\"ipam\":{\"type\":\"calico-ipam\",\"ipv4_pools\":[\"x\"]}}\n\
+= 1 {\"cniVersion\":\"1.1.0\",\"code\":112,\"details\":\"x\",\"msg\":\"plugin not available\"}\n\
+same\n\
+= same";

@@ -1,0 +1,73 @@
+-- A CNI call that goes well over rows with spare.
+use Rattle.std.proofs.Common.{◌≡◌, ℕ, ◌≤◌, ◌+◌, inl, inr, List, [], ◌++◌, length, Option, Some, None, Ok, refl, sym, ap, ◌∙◌, subst, arith, append-nil, length-append}
+use Rattle.ipam_records.specs.declared.call.Row.{Row as RowText}
+use Rattle.ipam_records.specs.Datastore.{Datastore}
+use Rattle.cni_types.specs.declared.calls.Look.{Look}
+use Rattle.cni_types.specs.declared.calls.Look.TheVariants.{Gc, Status}
+use Rattle.cni_types.specs.Looking.{look_reading}
+use Rattle.cni_types.specs.Reading.{Pair}
+use Rattle.ipam_cni.specs.declared.end.CniEnd.{CniEnd}
+use Rattle.ipam_cni.specs.declared.end.CniEnd.TheVariants.{Told, Failed}
+use Rattle.ipam_cni.specs.declared.end.CniFault.TheVariants.{Read, Keeper, Memory}
+use Rattle.ipam_cni.specs.Calls as cni
+use Rattle.ipam_cni.specs.Ends as cni_ends
+use Rattle.ipam_cni.specs.Replies.{ComesTo, Reply}
+use Rattle.ipam_cni_laws.proofs.Records.{by_records}
+use Rattle.ipam_cni_laws.proofs.Spared.{gc_leaves, status_adds}
+use Rattle.ipam_command.proofs.ShortCalls.{look_short}
+use Rattle.ipam_command.specs.CniCalls.{Finds, GoesWell, IsCallByRecords, IsSaid, LeavesWhatIsSpared, TellsOfAdd}
+use Rattle.ipam_command.specs.Outside.{Outside, sides_of}
+
+-- what was read of standard input that is a call is all of it
+whole-input : (env : List Pair) (bytes stdin : List ℕ) (old new : Option (List ℕ)) (look : Look) → cni.IsInput bytes old new → old ≡ Some stdin → look_reading env stdin ≡ Ok look → bytes ≡ stdin
+whole-input env bytes stdin old None look is known looks = absurd (cc (is.bytes, known))
+whole-input env bytes stdin old (Some rest) look is known looks =
+    let same : bytes ++ rest ≡ stdin = cc (is.bytes, known) in
+    let short : length (bytes ++ rest) ≤ 1048576 = subst (λ (x : List ℕ). length x ≤ 1048576) (sym same) (look_short env stdin look looks) in
+    let both : length (bytes ++ rest) ≡ length bytes + length rest = length-append bytes rest in
+    let none : rest ≡ [] = is.whole (omega arith) in
+    sym (append-nil bytes) ∙ ap (λ (x : List ℕ). bytes ++ x) (sym none) ∙ same
+
+-- this is what the call comes to, and it was said
+record IsReplied (env : List Pair) (stdin : List ℕ) (loaded : List RowText) (old new : Outside) (status : ℕ) : Type 0 where
+  reply : Reply
+  comes : ComesTo env stdin (Some loaded) new.rows reply
+  said : IsSaid reply old new status
+
+is-said : (own : ℕ) (text : List ℕ) (ending : CniEnd) (old new : Outside) (status : ℕ) → cni_ends.WritesWith own text old.written new.written old.write_faults new.write_faults status → GoesWell ending old new → IsSaid (own, text) old new status
+is-said own text ending old new status (inl (is, same)) well = record { text = is.bytes; has_status = same }
+is-said own text ending old new status (inr (is, same)) well = absurd (well.sink is.fault)
+
+replied : (env : List Pair) (ending : CniEnd) (old new : Outside) (status : ℕ) (look : Look) (store : Datastore) → cni.Went env ending (sides_of old) (sides_of new) → cni_ends.Tells ending old.written new.written old.write_faults new.write_faults status → (found : Finds env old look store) → GoesWell ending old new → IsReplied env found.stdin found.loaded old new status
+replied env (Told own text) old new status look store went tells found well =
+    let same = whole-input env went.stdin found.stdin old.left new.left look went.input found.input found.is_look in
+    let comes = subst (λ (rows : Option (List RowText)). ComesTo env went.stdin rows new.rows (own, text)) found.rows went.ends.1 in
+    record {
+      reply = (own, text);
+      comes = subst (λ (stdin : List ℕ). ComesTo env stdin (Some found.loaded) new.rows (own, text)) same comes;
+      said = is-said own text (Told own text) old new status tells well;
+    }
+replied env (Failed version Read) old new status look store went tells found well = absurd (well.source went.input_faults)
+replied env (Failed version Keeper) old new status look store went tells found well = absurd (well.keeper went.ends.0)
+replied env (Failed version Memory) old new status look store went tells found well = absurd (well.memory version refl)
+
+pub call_by_records : (env : List Pair) (ending : CniEnd) (old new : Outside) (status : ℕ) → cni.Went env ending (sides_of old) (sides_of new) → cni_ends.Tells ending old.written new.written old.write_faults new.write_faults status → IsCallByRecords env ending old new status
+call_by_records env ending old new status went tells look asked version store result found begins spare says well =
+    let r = replied env ending old new status look store went tells found well in
+    record {
+      reply = r.reply;
+      by_records = by_records env found.stdin look asked version found.loaded new.rows r.reply store result found.is_look begins r.comes found.opens spare says;
+      said = r.said;
+    }
+
+pub leaves_spared : (env : List Pair) (ending : CniEnd) (old new : Outside) (status : ℕ) → cni.Went env ending (sides_of old) (sides_of new) → cni_ends.Tells ending old.written new.written old.write_faults new.write_faults status → LeavesWhatIsSpared env ending old new status
+leaves_spared env ending old new status went tells call store found spare well =
+    let r = replied env ending old new status (Gc call) store went tells found well in
+    let leaves = gc_leaves env found.stdin call found.loaded new.rows r.reply store found.is_look r.comes found.opens spare in
+    (subst (λ (reply : Reply). IsSaid reply old new status) leaves.0 r.said, leaves.1)
+
+pub tells_of_add : (env : List Pair) (ending : CniEnd) (old new : Outside) (status : ℕ) → cni.Went env ending (sides_of old) (sides_of new) → cni_ends.Tells ending old.written new.written old.write_faults new.write_faults status → TellsOfAdd env ending old new status
+tells_of_add env ending old new status went tells call store request found same sound spare well =
+    let r = replied env ending old new status (Status call) store went tells found well in
+    let adds = status_adds env found.stdin call found.loaded new.rows r.reply store request found.is_look r.comes found.opens same sound spare in
+    (λ zero. adds.0 (sym r.said.has_status ∙ zero), λ given. r.said.has_status ∙ adds.1 given)

@@ -1,0 +1,34 @@
+-- What a command finds outside, and what it leaves as it was.
+use Rattle.std.specs.Prelude.{◌≡◌, ℕ, List, Option}
+use Rattle.ipam_records.specs.declared.call.Row.{Row as RowText}
+use Rattle.ipam_cni.specs.Calls as cni
+
+-- What a command finds outside, and leaves there: the bytes that the source has left and how many of its
+-- reads failed, the bytes that the sink took and how many of its writes failed, the keeper's rows and
+-- how many of its calls failed.
+pub record Outside : Type 0 where
+  pub left : Option (List ℕ)
+  pub read_faults : ℕ
+  pub written : Option (List ℕ)
+  pub write_faults : ℕ
+  pub rows : Option (List RowText)
+  pub keeper_faults : ℕ
+
+-- the source and its count of faults are as they were
+pub record LeavesSource (old new : Outside) : Type 0 where
+  pub left : new.left ≡ old.left
+  pub read_faults : new.read_faults ≡ old.read_faults
+
+-- the keeper's rows and its count of faults are as they were
+pub record LeavesKeeper (old new : Outside) : Type 0 where
+  pub rows : new.rows ≡ old.rows
+  pub keeper_faults : new.keeper_faults ≡ old.keeper_faults
+
+-- what a call finds and leaves, but for what it writes
+abbrev pub sides_of : Outside → cni.Sides
+sides_of outside = record {
+  input = outside.left;
+  input_faults = outside.read_faults;
+  rows = outside.rows;
+  keeper_faults = outside.keeper_faults;
+}
