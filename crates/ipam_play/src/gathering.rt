@@ -1,17 +1,19 @@
 //! The base of a script is gathered.
-ghost use Rattle.std.specs.Prelude.{◌≡◌, ◌↔◌, IfOk, IfErr, OnOk, OnErr, Err, true, false, is_some, map};
-ghost use Rattle.std.specs.Ordering.{nat_cmp};
-ghost use Rattle.std.specs.Cmp.Lexicographic.{slice_cmp};
-ghost use Rattle.std.proofs.lemmas.Map.Keys.{IsStrictlySortedBy-prop};
+ghost use Rattle.std.specs.Prelude.{◌≡◌, ◌↔◌, ◌∷◌, IfOk, OnOk, OnErr, Err, true, false, is_some};
+ghost use Rattle.std.specs.BTreeMap.{get};
+ghost use Rattle.std.specs.List.Sorted.{IsPermutation};
+ghost use Rattle.ipam_cluster.specs.Turns.{texts_in};
 ghost use Rattle.ipam_model.specs.Opened.{AreByKey};
-ghost use Rattle.ipam_keeper.specs.Rows.{rows_with};
-ghost use Rattle.ipam_keeper.specs.Places.{IsPlace, IsGap};
+ghost use Rattle.ipam_keeper.specs.Rows.{text_cmp};
+ghost use Rattle.ipam_play.specs.Gathering.{row_gathered};
+ghost use Rattle.ipam_play.specs.Played.{AreTextsOf};
 ghost use Rattle.ipam_play.specs.Script.{Gathered, has_key, nothing_gathered, with_row, with_counter};
 
 use ipam_cluster::Base;
 use ipam_records::Row;
 use ipam_text::Text;
 use std::alloc::{AllocError, Global};
+use std::collections::BTreeMap;
 
 /// Where the counter of a base is from.
 #[derive(Clone, Copy, Debug, PartialEq, Eq)]
@@ -30,37 +32,59 @@ pub(crate) enum GatherFault {
     Memory,
 }
 
-/// The base as far as its lines were read.
+/// What a row has beside its key.
+#[derive(Drop)]
+pub(crate) struct Content {
+    revision: u64,
+    body: Text,
+}
+
+/// The base as far as its lines were read. The rows stand by their keys, since a script may give
+/// them in any order.
 #[derive(Drop)]
 pub(crate) struct Gathering {
-    base: Base,
-    counter: Counter,
-    ghost by_key: { AreByKey base.rows.items } by { IsStrictlySortedBy-prop (slice_cmp nat_cmp) (map (λ row. row.key) base.rows.items) },
-    ghost first: { base.first ≡ 0 },
+    rows: BTreeMap<Text, Content>,
+    counter: u64,
+    from: Counter,
 }
 
 impl Gathering {
-    ghost use Rattle.ipam_play.specs.Gathering.{Gathers, raised};
+    ghost use Rattle.ipam_play.specs.Gathering.{Gathers, raised, rows_gathered};
 
     /// No line was read.
     pub(crate) fn new(alloc: Global) -> Gathering
         ensures { Gathers result nothing_gathered }
     {
         Gathering {
-            base: Base {
-                rows: Vec::new(alloc),
-                counter: 0,
-                first: 0,
-            },
-            counter: Counter::Greatest,
+            rows: BTreeMap::new(alloc),
+            counter: 0,
+            from: Counter::Greatest,
         }
     }
 
     /// The base as far as it is known, its rows by ascending key.
-    pub(crate) fn base(&self) -> &Base
-        ensures { result.now ≡ self.now.base }
+    pub(crate) fn base(&self, alloc: Global) -> Result<Base, AllocError>
+        ensures texts { (gathered : Gathered) → Gathers self.now gathered → IfOk result
+            (λ base. AreTextsOf (texts_in base) gathered) }
+        ensures by_key { IfOk result (λ base. AreByKey base.rows.items) }
+        ensures first { IfOk result (λ base. base.first ≡ 0) }
     {
-        &self.base
+        Ok(Base {
+            rows: self.listed(alloc)?,
+            counter: self.counter,
+            first: 0,
+        })
+    }
+
+    fn listed(&self, alloc: Global) -> Result<Vec<Row>, AllocError>
+        ensures rows { IfOk result (λ rows. rows.items ≡ rows_gathered self.now.rows) }
+        ensures by_key { IfOk result (λ rows. AreByKey (rows_gathered self.now.rows)) }
+    {
+        let mut rows = Vec::with_capacity(alloc, self.rows.len())?;
+        for (key, content) in &self.rows {
+            rows.push(copied(alloc, key, content)?)?;
+        }
+        Ok(rows)
     }
 
     /// One row more. On `Err` nothing changes.
@@ -72,12 +96,12 @@ impl Gathering {
         ensures unchanged { (gathered : Gathered) → Gathers self.old gathered → OnErr result
             (Gathers self.new gathered) }
     {
-        match place(self.base.rows.as_slice(), row.key.as_str()) {
-            Ok(_) => Err(GatherFault::Again),
-            Err(place) => match self.insert(alloc, place, row) {
-                Ok(()) => Ok(()),
-                Err(_) => Err(GatherFault::Memory),
-            },
+        if self.rows.contains_key(&row.key) {
+            return Err(GatherFault::Again);
+        }
+        match self.insert(alloc, row) {
+            Ok(()) => Ok(()),
+            Err(_) => Err(GatherFault::Memory),
         }
     }
 
@@ -88,28 +112,32 @@ impl Gathering {
         ensures set { (gathered : Gathered) → Gathers self.old gathered → OnOk result
             (is_some gathered.counter ≡ false × Gathers self.new (with_counter counter gathered)) }
     {
-        if self.counter == Counter::Given {
+        if self.from == Counter::Given {
             return Err(GatherFault::Again);
         }
-        self.base.counter = counter;
-        self.counter = Counter::Given;
+        self.counter = counter;
+        self.from = Counter::Given;
         Ok(())
     }
 
     /// Puts the row where it goes. On `Err` nothing changes.
-    fn insert(&mut self, alloc: Global, place: usize, row: &Row) -> Result<(), AllocError>
-        requires { IsGap self.old.base.rows.items row.now.key place }
-        ensures rows { OnOk result (self.new.base.rows.items ≡ rows_with row.now self.old.base.rows.items) }
+    fn insert(&mut self, alloc: Global, row: &Row) -> Result<(), AllocError>
+        requires { is_some (get text_cmp self.old.rows row.now.key) ≡ false }
+        ensures rows { OnOk result
+            (IsPermutation (row.now ∷ rows_gathered self.old.rows) (rows_gathered self.new.rows)) }
         ensures counter { OnOk result
-            (self.new.base.counter ≡ raised self.old.counter self.old.base.counter row.now.revision) }
-        ensures from { self.new.counter ≡ self.old.counter }
-        ensures rows_kept { OnErr result (self.new.base.rows.items ≡ self.old.base.rows.items) }
-        ensures counter_kept { OnErr result (self.new.base.counter ≡ self.old.base.counter) }
+            (self.new.counter ≡ raised self.old.from self.old.counter row.now.revision) }
+        ensures from { self.new.from ≡ self.old.from }
+        ensures rows_kept { OnErr result (rows_gathered self.new.rows ≡ rows_gathered self.old.rows) }
+        ensures counter_kept { OnErr result (self.new.counter ≡ self.old.counter) }
     {
-        let row = copied(alloc, row)?;
-        let revision = row.revision;
-        self.base.rows.insert(place, row)?;
-        self.base.counter = self.counter.raised(self.base.counter, revision);
+        let key = Text::copied(alloc, row.key.as_str())?;
+        let content = Content {
+            revision: row.revision,
+            body: Text::copied(alloc, row.body.as_str())?,
+        };
+        self.rows.insert(key, content)?;
+        self.counter = self.from.raised(self.counter, row.revision);
         Ok(())
     }
 }
@@ -128,21 +156,12 @@ impl Counter {
     }
 }
 
-/// Where the row of the key is, or where it would go.
-fn place(rows: &[Row], key: &str) -> Result<usize, usize>
-    requires { AreByKey rows.now }
-    ensures found { IfOk result (IsPlace rows.now key.now) }
-    ensures absent { IfErr result (IsGap rows.now key.now) }
-{
-    rows.binary_search_by(|row| row.key.as_str().cmp(&key))
-}
-
-fn copied(alloc: Global, row: &Row) -> Result<Row, AllocError>
-    ensures { IfOk result (λ copy. copy ≡ row.now) }
+fn copied(alloc: Global, key: &Text, content: &Content) -> Result<Row, AllocError>
+    ensures { IfOk result (λ row. row ≡ row_gathered (key.now, content.now)) }
 {
     Ok(Row {
-        key: Text::copied(alloc, row.key.as_str())?,
-        revision: row.revision,
-        body: Text::copied(alloc, row.body.as_str())?,
+        key: Text::copied(alloc, key.as_str())?,
+        revision: content.revision,
+        body: Text::copied(alloc, content.body.as_str())?,
     })
 }

@@ -125,7 +125,10 @@ fn opened(alloc: Global, gathering: &Gathering) -> Result<OpenCluster, PlayFault
         (told ≡ PlayFault.Memory) ⊎ IsNotOpened base told) }
     ensures stood { IfOk result (λ opened. Stood opened.cluster) }
 {
-    match OpenCluster::open(alloc, gathering.base()) {
+    let Ok(base) = gathering.base(alloc) else {
+        return Err(PlayFault::Memory);
+    };
+    match OpenCluster::open(alloc, &base) {
         Ok(cluster) => Ok(cluster),
         Err(OpenFault::Refused(rule, about)) => Err(PlayFault::Open(rule, about)),
         Err(OpenFault::Memory) => Err(PlayFault::Memory),
