@@ -6,14 +6,12 @@ mod address_table;
 #[cfg(test)]
 mod addresses;
 #[cfg(test)]
-mod affinities;
-#[cfg(test)]
-mod fakes;
-#[cfg(test)]
-mod links;
-#[cfg(test)]
 mod pools;
 #[cfg(test)]
 mod reservations;
 #[cfg(test)]
-mod standard;
+mod streams;
+#[cfg(test)]
+mod tables;
+#[cfg(test)]
+mod tests;

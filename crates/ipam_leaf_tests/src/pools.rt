@@ -1,138 +1,118 @@
-use ipam_addr::{read_addr, read_cidr};
-use ipam_pool::{Mode, NoSuchPool, Pool, PoolRefusal, PoolTable};
+//! What a table of three pools says.
+use crate::addresses::{addr_of, cidr_of};
+use ipam_pool::{Mode, Pool, PoolTable};
 use ipam_select::{NodeSelector, Selector};
 use ipam_text::Text;
-use std::alloc::Global;
-use std::test::Fail;
+use std::alloc::{AllocError, Global};
 
-fn pool(alloc: Global, name: &str, cidr: &str, size: u8) -> Result<Pool, Fail> {
+const POOLS: &str = "\
+a 10.0.0.0/24 26
+b 10.0.2.0/24 26
+c 2001:db8::/48 122
+";
+
+/// The pool of `NAME CIDR SIZE`.
+fn pool_of(alloc: Global, text: &str) -> Result<Pool, AllocError> {
+    let Some((name, rest)) = text.split_once(' ') else {
+        return Err(AllocError);
+    };
+    let Some((cidr, size)) = rest.split_once(' ') else {
+        return Err(AllocError);
+    };
     Ok(Pool {
         name: Text::copied(alloc, name)?,
-        cidr: read_cidr(cidr.as_bytes())?,
-        size,
+        cidr: cidr_of(cidr)?,
+        size: size.parse::<u8>().unwrap_or(0),
         disabled: false,
         mode: Mode::Automatic,
         selector: NodeSelector::all(alloc),
     })
 }
 
-#[test]
-fn refuses(rt: HostRuntime) -> Result<(), Fail> {
-    let alloc = rt.alloc();
-    let mut table = PoolTable::new(alloc);
-    table.add(pool(alloc, "a", "10.0.0.0/24", 26)?)?;
-    table.add(pool(alloc, "b", "10.0.2.0/24", 26)?)?;
-    for (name, cidr, size, want) in [
-        ("a", "10.0.0.128/25", 33, PoolRefusal::NameTaken),
-        ("c", "10.0.0.128/25", 33, PoolRefusal::Overlap(0)),
-        ("c", "10.0.2.64/32", 26, PoolRefusal::Overlap(1)),
-        ("c", "10.0.0.0/8", 26, PoolRefusal::Overlap(0)),
-        ("c", "10.1.0.0/24", 33, PoolRefusal::Size),
-        ("c", "10.1.0.0/24", 19, PoolRefusal::Size),
-        ("c", "2001:db8::/64", 64, PoolRefusal::Size),
-        ("c", "10.1.0.0/27", 26, PoolRefusal::Prefix),
-    ] {
-        assert_eq!(rt;
-            table.add(pool(alloc, name, cidr, size)?),
-            Err(want),
-            "{name} {cidr}"
-        );
+/// Adds the pool, and says why it was refused.
+fn add(alloc: Global, table: &mut PoolTable, text: &str) -> Result<String, AllocError> {
+    match table.add(pool_of(alloc, text)?) {
+        Ok(()) => format!(in alloc; "{} pools", table.pools().len()),
+        Err(refusal) => format!(in alloc; "{refusal:?}"),
     }
-    assert_eq!(rt; table.pools().len(), 2);
-    Ok(())
 }
 
-#[test]
-fn refuses_past_64(rt: HostRuntime) -> Result<(), Fail> {
-    let alloc = rt.alloc();
+fn pools(alloc: Global) -> Result<PoolTable, AllocError> {
     let mut table = PoolTable::new(alloc);
-    for i in 0..64u8 {
-        let name = format!(in alloc; "pool-{i}")?;
-        let cidr = format!(in alloc; "10.{i}.0.0/16")?;
-        table.add(pool(alloc, name.as_str(), cidr.as_str(), 26)?)?;
+    for line in POOLS.lines() {
+        add(alloc, &mut table, line)?;
     }
-    assert_eq!(rt;
-        table.add(pool(alloc, "more", "::/120", 122)?),
-        Err(PoolRefusal::TooMany)
-    );
-    assert_eq!(rt;
-        table.add(pool(alloc, "more", "::/124", 122)?),
-        Err(PoolRefusal::Prefix)
-    );
-    assert_eq!(rt; table.pools().len(), 64);
-    Ok(())
+    Ok(table)
 }
 
-#[test]
-fn finds_slots(rt: HostRuntime) -> Result<(), Fail> {
-    let alloc = rt.alloc();
-    let mut table = PoolTable::new(alloc);
-    table.add(pool(alloc, "a", "10.0.0.0/24", 26)?)?;
-    table.add(pool(alloc, "b", "2001:db8::/48", 122)?)?;
-    for (addr, want) in [
-        ("10.0.0.0", Some((0, 0))),
-        ("10.0.0.200", Some((0, 3))),
-        ("10.0.1.0", None),
-        ("2001:db8::40", Some((1, 1))),
-        ("2001:db8:0:1::", Some((1, 288230376151711744))),
-        ("::a00:0", None),
-    ] {
-        assert_eq!(rt; table.slot_of(read_addr(addr.as_bytes())?), want, "{addr}");
-    }
-    for (cidr, want) in [
-        ("10.0.0.64/26", true),
-        ("10.0.0.64/27", false),
-        ("10.0.1.0/26", false),
-        ("10.0.0.0/24", false),
-        ("2001:db8::/122", true),
-    ] {
-        assert_eq!(rt; table.is_slot(read_cidr(cidr.as_bytes())?), want, "{cidr}");
-    }
-    Ok(())
+/// What comes of one more pool.
+pub(crate) fn add_text(alloc: Global, text: &str) -> Result<String, AllocError> {
+    add(alloc, &mut pools(alloc)?, text)
 }
 
-#[test]
-fn disables(rt: HostRuntime) -> Result<(), Fail> {
-    let alloc = rt.alloc();
+/// What comes of one more pool where there are 63 or 64, which are the pools of `COUNT;POOL`.
+pub(crate) fn many_text(alloc: Global, text: &str) -> Result<String, AllocError> {
+    let Some((count, text)) = text.split_once(';') else {
+        return Err(AllocError);
+    };
     let mut table = PoolTable::new(alloc);
-    table.add(pool(alloc, "a", "10.0.0.0/24", 26)?)?;
-    table.add(pool(alloc, "b", "10.0.1.0/24", 26)?)?;
-    table.set_disabled("b", true)?;
-    assert_eq!(rt; table.set_disabled("c", true), Err(NoSuchPool));
-    let copy = table.copy()?;
-    table.set_disabled("b", false)?;
-    for (pool, want) in copy.pools().iter().zip([false, true].iter()) {
-        assert_eq!(rt; pool.disabled, *want);
+    for number in 0..count.parse::<u8>().unwrap_or(0) {
+        let pool = format!(in alloc; "pool-{number} 10.{number}.0.0/16 26")?;
+        add(alloc, &mut table, pool.as_str())?;
     }
+    add(alloc, &mut table, text)
+}
+
+/// The pool and the slot in it that an address lies in.
+pub(crate) fn of_text(alloc: Global, text: &str) -> Result<String, AllocError> {
+    let table = pools(alloc)?;
+    format!(in alloc; "{:?}", table.slot_of(addr_of(text)?))
+}
+
+/// Whether a CIDR is a slot.
+pub(crate) fn is_text(alloc: Global, text: &str) -> Result<String, AllocError> {
+    let table = pools(alloc)?;
+    format!(in alloc; "{}", table.is_slot(cidr_of(text)?))
+}
+
+/// Each pool's name and mode, whether it is disabled, and whether it is for all nodes.
+fn described(alloc: Global, table: &PoolTable) -> Result<String, AllocError> {
+    let mut out = String::new(alloc);
     for pool in table.pools() {
-        assert!(rt; !pool.disabled);
+        let (name, mode) = (pool.name.as_str(), pool.mode);
+        let (disabled, all) = (pool.disabled, pool.selector.is_all());
+        let piece = format!(in alloc; "{name} {mode:?} {disabled} {all},")?;
+        out.push_str(piece.as_str())?;
     }
-    Ok(())
+    Ok(out)
 }
 
-#[test]
-fn sets_rules(rt: HostRuntime) -> Result<(), Fail> {
-    let alloc = rt.alloc();
-    let mut table = PoolTable::new(alloc);
-    table.add(pool(alloc, "a", "10.0.0.0/24", 26)?)?;
-    table.add(pool(alloc, "b", "10.0.1.0/24", 26)?)?;
-    let western = Selector::read(alloc, b"zone == 'west'")?;
-    table.set("b", true, Mode::Manual, NodeSelector::new(alloc, western))?;
-    let all = NodeSelector::all(alloc);
-    assert_eq!(rt; table.set("c", true, Mode::Manual, all), Err(NoSuchPool));
+/// The pools after the named one was disabled, or that there is none.
+pub(crate) fn disable_text(alloc: Global, name: &str) -> Result<String, AllocError> {
+    let mut table = pools(alloc)?;
+    match table.set_disabled(name, true) {
+        Ok(()) => described(alloc, &table),
+        Err(fault) => format!(in alloc; "{fault:?}"),
+    }
+}
+
+/// A copy of the pools after the named one was set, or that there is none. The pool is set back
+/// once the copy is made.
+pub(crate) fn set_text(alloc: Global, name: &str) -> Result<String, AllocError> {
+    let Ok(western) = Selector::read(alloc, b"zone == 'west'") else {
+        return Err(AllocError);
+    };
+    let mut table = pools(alloc)?;
+    let western = NodeSelector::new(alloc, western);
+    if let Err(fault) = table.set(name, true, Mode::Manual, western) {
+        return format!(in alloc; "{fault:?}");
+    }
     let copy = table.copy()?;
-    let all = NodeSelector::all(alloc);
-    table.set("b", false, Mode::Automatic, all)?;
-    let modes = [Mode::Automatic, Mode::Manual];
-    for (pool, mode) in copy.pools().iter().zip(modes.iter()) {
-        let is_manual = *mode == Mode::Manual;
-        assert_eq!(rt; pool.mode, *mode);
-        assert_eq!(rt; pool.disabled, is_manual);
-        assert_eq!(rt; pool.selector.is_all(), !is_manual);
+    if table
+        .set(name, false, Mode::Automatic, NodeSelector::all(alloc))
+        .is_err()
+    {
+        return Err(AllocError);
     }
-    for pool in table.pools() {
-        assert_eq!(rt; pool.mode, Mode::Automatic);
-        assert!(rt; !pool.disabled && pool.selector.is_all());
-    }
-    Ok(())
+    described(alloc, &copy)
 }
