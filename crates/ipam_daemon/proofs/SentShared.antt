@@ -32,14 +32,14 @@ module _ (S V K P : RattleType) (r : rule.Ghosts P.Denot S.Denot V.Denot K.Denot
 
 module _ (T O E : RattleType) (b : booked.Ghosts T.Denot O.Denot E.Denot) where
   lock_send : IsSend T → IsSend (TurnLock.the_row T O E b)
-  lock_send s = view_send (lock_inside.the_row T O E b) _ _ _ _ (declared_send (lock_inside.the_type T O E b) (whole_send T _ _ _ _ s, tt))
+  lock_send s = view_send (lock_inside.the_row T O E b) _ _ _ _ (declared_send (lock_inside.the_type T O E b) (search (whole_send), tt))
 
   lock_sync : IsSend T → IsSync (TurnLock.the_row T O E b)
-  lock_sync s = view_sync (lock_inside.the_row T O E b) _ _ _ _ (declared_sync (lock_inside.the_type T O E b) (whole_sync T _ _ _ _ s, tt))
+  lock_sync s = view_sync (lock_inside.the_row T O E b) _ _ _ _ (declared_sync (lock_inside.the_type T O E b) (search (whole_sync), tt))
 
 module _ (D : RattleType) (g : Ghosts D.Denot) where
   pub shared_send : IsSend D → IsSend (Shared.the_row D g)
-  shared_send s = view_send (inside.the_row D g) _ _ _ _ (declared_send (inside.the_type D g) (lock_send (Locked.the_row D) _ _ _ (locked_send D s), tt))
+  shared_send s = view_send (inside.the_row D g) _ _ _ _ (declared_send (inside.the_type D g) (let l = locked_send D s in search (lock_send), tt))
 
   pub shared_sync : IsSend D → IsSync (Shared.the_row D g)
-  shared_sync s = view_sync (inside.the_row D g) _ _ _ _ (declared_sync (inside.the_type D g) (lock_sync (Locked.the_row D) _ _ _ (locked_send D s), tt))
+  shared_sync s = view_sync (inside.the_row D g) _ _ _ _ (declared_sync (inside.the_type D g) (let l = locked_send D s in search (lock_sync), tt))
