@@ -5,3 +5,4 @@ pub mod SentStore
 pub mod SentParts
 pub mod SentProcedures
 pub mod SentCluster
+pub mod SentShared

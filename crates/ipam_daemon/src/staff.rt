@@ -48,7 +48,6 @@ impl<S: Serves + Drop, C: Clock + Drop> Staff<S, C> {
 }
 
 /// So many workers over the cluster, or as many as threads could be started for.
-#[tactic(auto, using(crate::proofs::Sent::locked_send))]
 pub fn engage<
     R: Threads + Wait + Log + Clock + Copy + Send + Drop + 'static,
     D: Keeper + Send + Drop + 'static,
