@@ -1,6 +1,6 @@
 -- What each call of a kept cluster leaves its feed following, and what the feed answers.
 use Rattle.std.proofs.Common.{◌≡◌, ◌↔◌, ℕ, ◌+◌, ◌<◌, inl, List, [], ◌∷◌, Option, Some, None, Result, Ok, Err, refl, sym, ap, ◌∙◌, subst}
-use Rattle.std.specs.Prelude.{IfOk, IfSome}
+use Rattle.std.specs.Prelude.{IfOk, IfSome, OnErr}
 use Rattle.std.specs.Option.{ForSome}
 use Rattle.ipam_records.specs.declared.call.Write.{Write}
 use Rattle.ipam_records.specs.Datastore.{Datastore}
@@ -58,11 +58,14 @@ stays-fed tells old new stay follows base history h = record { kept_for = stay.k
 pub same-fed : {D : Type 0} (tells : Tells D) (old new : Kept D) → new.ring ≡ old.ring → Stays tells old new → StaysFed tells old new
 same-fed tells old new ring stay = stays-fed tells old new stay (λ base writes h. subst (λ (r : RingValue). Follows r base writes) (sym ring) h)
 
-pub fed-over : {D : Type 0} (tells : Tells D) (old between new : Kept D) (told : Entry) → StaysFed tells old between → FedWith tells between new told → FedWith tells old new told
-fed-over tells old between new told stay feeds base history h = feeds base history (stay base history h)
+module _ {D E : Type 0} (tells : Tells D) (old between new : Kept D) (stay : StaysFed tells old between) where
+  pub fed-over : (result : Result Entry E) → IfOk result (FedWith tells between new) → IfOk result (FedWith tells old new)
+  fed-over (Ok told) feeds = λ base history h. feeds base history (stay base history h)
+  fed-over (Err e) feeds = tt
 
-pub stays-fed-over : {D : Type 0} (tells : Tells D) (old between new : Kept D) → StaysFed tells old between → StaysFed tells between new → StaysFed tells old new
-stays-fed-over tells old between new first second base history h = second base history (first base history h)
+  pub stays-fed-over : (result : Result Entry E) → OnErr result (StaysFed tells between new) → OnErr result (StaysFed tells old new)
+  stays-fed-over (Ok told) second = tt
+  stays-fed-over (Err e) second = λ base history h. second base history (stay base history h)
 
 -- ---- what comes of a call
 
@@ -86,16 +89,15 @@ module _ {D : Type 0} (tells : Tells D) (old new : Kept D) (prepared : Prepared)
       }
 
   -- one that failed
-  pub feeds-failed : IsTurn prepared.slot Before told → new.ring ≡ old.ring → FedWith tells old new told
-  feeds-failed turn ring base history h =
+  pub feeds-failed : IsTurn prepared.slot Before told → ((base : Datastore) (writes : List Write) → Follows old.ring base writes → Follows new.ring base writes) → FedWith tells old new told
+  feeds-failed turn follows base history h =
       let behind = keeps base history h.kept_for in
       let lawful : Lawful base (entry.Called turn.told ∷ history) = subst (λ (e : Entry). Lawful base (e ∷ history)) turn.is_called behind.cluster.stands.lawful in
       let none : write_told turn.told.call turn.told.reply turn.told.written ≡ None = writes-failed base history turn.told lawful turn.has_fate in
       record {
         kept_for = behind;
         follows = subst (λ (e : Entry). Follows new.ring base.store (writes_in (e ∷ history))) (sym turn.is_called)
-            (subst (λ (w : Option Write). Follows new.ring base.store (with_write w (writes_in history))) (sym none)
-            (subst (λ (r : RingValue). Follows r base.store (writes_in history)) (sym ring) h.follows));
+            (subst (λ (w : Option Write). Follows new.ring base.store (with_write w (writes_in history))) (sym none) (follows base.store (writes_in history) h.follows));
       }
 
 -- ---- what it answers

@@ -20,8 +20,9 @@ use std::alloc::{AllocError, Global};
 pub(crate) fn open_ring(alloc: Global, store: &Store) -> Result<Ring, AllocError>
     ensures { IfOk result (λ ring. Follows ring store.now.store []) }
 {
-    let affinities = affinities(store);
-    Ring::open(alloc, &affinities, store.counter())
+    let listing = affinities(store);
+    let ring = Ring::open(alloc, &listing, store.counter())?;
+    Ok(ring)
 }
 
 /// The affinities of the datastore.

@@ -163,9 +163,9 @@ impl<D: Keeper> Kept<D> {
             doubt,
             ring,
         } = self;
-        if prepare(ring, prepared.write()).is_err() {
+        let Ok(()) = prepare(ring, prepared.write()) else {
             return Err(PrepareFault::Memory);
-        }
+        };
         match give(alloc, cluster.store(), keeper, doubt, prepared.write()) {
             Ok(()) => {
                 push(ring, prepared.write());

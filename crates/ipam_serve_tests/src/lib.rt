@@ -1,0 +1,4 @@
+//! Sessions over memory, line by line.
+#![tactic(auto)]
+
+mod routes;
