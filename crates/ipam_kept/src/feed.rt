@@ -38,7 +38,7 @@ fn affinities(store: &Store) -> Listing<'_>
 
 /// Makes the feed ready for the write, where there is one. What it follows stays.
 pub(crate) fn prepare(ring: &mut Ring, write: Option<&Write>) -> Result<(), AllocError>
-    requires next { ForSome (option_copied write.entry) (λ one. write_revision one ≡ ring.old.counter + 1) }
+    requires next { ForSome (option_copied write) (λ one. write_revision one ≡ ring.old.counter + 1) }
     ensures follows { (base : Datastore) (writes : List OneWrite)
         → Follows ring.old base writes → Follows ring.new base writes }
     ensures counter { ring.new.counter ≡ ring.old.counter }
@@ -52,7 +52,7 @@ pub(crate) fn prepare(ring: &mut Ring, write: Option<&Write>) -> Result<(), Allo
 
 /// Has the feed take the write, where there is one. Takes no memory.
 pub(crate) fn push(ring: &mut Ring, write: Option<&Write>)
-    requires { ForSome (option_copied write.entry) (IsPreparedFor ring.old) }
+    requires { ForSome (option_copied write) (IsPreparedFor ring.old) }
     ensures follows { (base : Datastore) (writes : List OneWrite)
         → Follows ring.old base writes → Follows ring.new base (with_write (option_copied write.entry) writes) }
     ensures counter { ring.new.counter ≡ counter_with (option_copied write.entry) ring.old.counter }

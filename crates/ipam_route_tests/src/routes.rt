@@ -23,7 +23,17 @@ const SESSION: &str = "\
 {\"routesSince\":2}
 {\"routesSince\":7}
 {\"routes\":true}
-{\"request\":{\"collect\":{\"at\":0,\"grace\":0,\"live\":[]}}}
+";
+
+const REPLIES: &str = "\
+{\"changes\":[],\"revision\":3}
+{\"revision\":3,\"routes\":[{\"cidr\":\"10.0.0.0/30\",\"node\":\"a\"}]}
+{\"answer\":\"released\"}
+{\"changes\":[{\"cidr\":\"10.0.0.0/30\",\"node\":\"a\",\"revision\":4,\"up\":false}],\"revision\":6}
+{\"changes\":[],\"revision\":6}
+{\"compacted\":3}
+{\"ahead\":6}
+{\"revision\":6,\"routes\":[]}
 ";
 
 fn keeper_of(alloc: Global) -> MemoryKeeper {
@@ -61,6 +71,6 @@ fn a_session_is_told_of_routes(rt: HostRuntime) -> Result<(), Fail> {
     let mut clock = ListClock::new(Vec::new(alloc));
     let end = serve_session(&rt, alloc, &shared, &mut pass, &mut gate, &mut clock, &mut link);
     let written = link.written();
-    assert_eq!(rt; std::str::from_utf8(written).unwrap_or("?"), "x");
+    assert_eq!(rt; std::str::from_utf8(written).unwrap_or("?"), REPLIES);
     Ok(())
 }

@@ -1,4 +1,0 @@
-//! Sessions over memory, line by line.
-#![tactic(auto)]
-
-mod routes;
