@@ -132,8 +132,8 @@ module _ {D : Type 0} (tells : Tells D) (kept : Kept D) (P : Type 0) (revision :
 
 -- the fault is the feed's own, whatever it answers else
 module _ {A B : Type 0} (fault : SinceFault) {P : Type 0} where
-  pub told-no_fault : (found : A) (told : B) → (Ok {T = A} {E = SinceFault} found ≡ Err fault) ↔ P → (Ok {T = B} {E = SinceFault} told ≡ Err fault) ↔ P
+  pub told-no_fault : (found : A) (told : B) → (◌≡◌ {A = Result A SinceFault} (Ok found) (Err fault)) ↔ P → (◌≡◌ {A = Result B SinceFault} (Ok told) (Err fault)) ↔ P
   told-no_fault found told e = ((λ k. absurd (cc k)), λ p. absurd (let k = e.1 p in cc k))
 
-  pub told-fault : (other : SinceFault) → (Err {T = A} {E = SinceFault} other ≡ Err fault) ↔ P → (Err {T = B} {E = SinceFault} other ≡ Err fault) ↔ P
+  pub told-fault : (other : SinceFault) → (◌≡◌ {A = Result A SinceFault} (Err other) (Err fault)) ↔ P → (◌≡◌ {A = Result B SinceFault} (Err other) (Err fault)) ↔ P
   told-fault other e = ((λ k. e.0 (ap (λ (f : SinceFault). Err f) (let same : other ≡ fault = cc k in same))), λ p. ap (λ (f : SinceFault). Err f) (let same : other ≡ fault = cc (e.1 p) in same))

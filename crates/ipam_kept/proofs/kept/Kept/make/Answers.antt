@@ -14,4 +14,4 @@ use Rattle.ipam_kept.proofs.Standing.{in-doubt, keeps-done, keeps-failed, stays}
 use Rattle.ipam_kept.proofs.kept.Kept.make.Goals as goal
 
 pub prepare-requires : goal.prepare-requires
-prepare-requires g c = ready-next g.D.Keeper.rows c.args.self.now c.args.prepared c.requires.kept c.requires.prepared (option_copied c.write.result) c.write.ensures
+prepare-requires g c = record { next = ready-next g.D.Keeper.rows c.args.self.now c.args.prepared c.requires.kept c.requires.prepared (option_copied c.write.result) c.write.ensures }
