@@ -1,5 +1,6 @@
 pub mod FirstLemmas
 pub mod RoomLemmas
+pub mod AheadLemmas
 pub mod BareLemmas
 pub mod ConfirmedLemmas
 pub mod CountLemmas

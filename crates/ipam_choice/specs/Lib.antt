@@ -2,6 +2,8 @@
 pub mod Picked
 pub mod First
 pub mod Sight
+pub mod Blocks
+pub mod Ahead
 pub mod Level
 pub mod Viewed
 pub mod Confirmed

@@ -4,6 +4,7 @@
 //! has, and then those of other nodes.
 #![tactic(auto)]
 
+mod ahead;
 mod choosing;
 mod confirmed;
 mod level;

@@ -1,17 +1,20 @@
-ghost use Rattle.std.specs.Prelude.{◌≡◌, ◌≤◌, false, IfSome, IsNone, ℕ};
+ghost use Rattle.std.specs.Prelude.{◌≡◌, ◌+◌, ◌≤◌, false, IfSome, IsNone, ℕ};
 ghost use Rattle.ipam_addr.specs.Slots.{last_slot_of};
 ghost use Rattle.ipam_pool.specs.Slots.{is_slot_of};
 ghost use Rattle.ipam_reserve.specs.Spans.{is_reserved_by};
+ghost use Rattle.ipam_reserve.specs.Free.{IsNextSlot, AreFullFrom};
 ghost use Rattle.ipam_records.specs.Listing.{rows_of};
 ghost use Rattle.ipam_choice.specs.Picked.{found_in};
 ghost use Rattle.ipam_choice.specs.Sight.{IsSlotted, block_under};
 ghost use Rattle.ipam_choice.specs.Scanned.{IsFirstBare, is_bare_slot};
 
+use crate::ahead::Ahead;
 use crate::picked::Listed;
 use ipam_addr::{Cidr, last_slot, slot};
 use ipam_pool::Pool;
 use ipam_records::{Listing, Record};
 use ipam_reserve::Reserved;
+use std::cmp::Ordering;
 
 /// Whether the CIDR is one of the pool's slots.
 pub(crate) fn is_slot(pool: &Pool, cidr: Cidr) -> bool
@@ -31,22 +34,34 @@ pub(crate) fn listed_at<'a>(blocks: &Listing<'a>, cidr: Cidr) -> Option<Listed<'
 }
 
 /// The number of the pool's first slot without a block that has an address which is not reserved.
-/// The full slots in front of it are passed over together. Takes no memory.
+/// Goes along the slots with such an address and the blocks side by side. Takes no memory.
 pub(crate) fn next_bare(pool: &Pool, blocks: &Listing, reserved: &Reserved) -> Option<u128>
     requires { IsSlotted pool.now }
     ensures found { IfSome result (IsFirstBare (is_reserved_by reserved.now) (rows_of blocks.now) pool.now) }
     ensures none { IsNone result → (k : ℕ) → k ≤ last_slot_of pool.now.cidr pool.now.size
         → is_bare_slot (is_reserved_by reserved.now) (rows_of blocks.now) pool.now k ≡ false }
 {
-    let mut from = 0;
-    while let Some(number) = reserved.next_slot_with_room(pool.cidr, pool.size, from) {
-        if listed_at(blocks, slot(pool.cidr, pool.size, number)).is_none() {
-            return Some(number);
+    let mut ahead = Ahead::of(blocks, slot(pool.cidr, pool.size, 0));
+    let mut number = reserved.next_slot_with_room(pool.cidr, pool.size, 0)?;
+    while let Some(cidr) = ahead.next_block() {
+        match cidr.cmp(&slot(pool.cidr, pool.size, number)) {
+            Ordering::Less => {}
+            Ordering::Equal => number = next_with_room(pool, reserved, number)?,
+            Ordering::Greater => return Some(number),
         }
-        if number == last_slot(pool.cidr, pool.size) {
-            return None;
-        }
-        from = number + 1;
     }
-    None
+    Some(number)
+}
+
+// The number of the first slot behind this one that has an address which is not reserved.
+fn next_with_room(pool: &Pool, reserved: &Reserved, number: u128) -> Option<u128>
+    requires slotted { IsSlotted pool.now }
+    requires within { number ≤ last_slot_of pool.now.cidr pool.now.size }
+    ensures next { IfSome result (IsNextSlot reserved.now pool.now.cidr pool.now.size (number + 1)) }
+    ensures full { IsNone result → AreFullFrom reserved.now pool.now.cidr pool.now.size (number + 1) }
+{
+    if number == last_slot(pool.cidr, pool.size) {
+        return None;
+    }
+    reserved.next_slot_with_room(pool.cidr, pool.size, number + 1)
 }

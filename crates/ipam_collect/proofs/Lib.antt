@@ -1,2 +1,4 @@
 mod SuspectLemmas
 mod FreesLemmas
+mod OwnedLemmas
+mod HeardLemmas

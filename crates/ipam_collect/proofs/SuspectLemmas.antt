@@ -1,33 +1,42 @@
 -- What is found in one row more, and the value of a key.
 use native.Mathlib.Omega.{arith}
-use Rattle.std.proofs.Common.{◌≡◌, ◌+◌, ◌<◌, ◌≤◌, ◌^◌, ◌≢◌, ◌||◌, ne_eqb, refl, ap, ◌∙◌, sym, ℕ, zero, suc, Bool, true, false, List, [], ◌∷◌, ◌++◌, map, take, get_or, Some, None, find}
-use Rattle.std.specs.Prelude.{◌&&◌, slice_get, position, bytes_eq, option_map, unwrap_or}
+use Rattle.std.proofs.Common.{◌≡◌, ◌+◌, ◌<◌, ◌≤◌, ◌^◌, ◌≢◌, ◌||◌, ne_eqb, refl, ap, ◌∙◌, sym, ℕ, Bool, true, false, List, [], ◌∷◌, ◌++◌, length, map, take, drop, get_or, append_assoc, Some, None, find}
+use Rattle.std.specs.Prelude.{◌&&◌, position, bytes_eq, option_map, unwrap_or}
+use Rattle.std.specs.Global.{Vec}
 use Rattle.std.specs.List.{list_any}
 use Rattle.std.proofs.lemmas.Grind.{flat_map-append}
-use Rattle.std.proofs.lemmas.List.Folds.{list_any-append}
 use Rattle.std.proofs.lemmas.List.{take_more, append-nil}
-use Rattle.std.proofs.lemmas.Option.{slice_get_within, get_or_from_slice_get}
+use Rattle.ipam_records.specs.declared.record.Record.{Record}
+use Rattle.ipam_records.specs.Pages.{rows_of_pages}
+use Rattle.ipam_records.proofs.PageLemmas.{rows_of_pages-drop}
 use Rattle.ipam_model.specs.declared.request.CollectRequest.{CollectRequest}
 use Rattle.ipam_addr.specs.Holding.{is_same_family}
 use Rattle.ipam_addr.specs.Shape.{AddrValue, CidrValue}
 use Rattle.ipam_block.specs.Operations.{address_of}
-use Rattle.ipam_model.specs.Owners.{Owner, same_address, is_owner_in, owners_in, owners_in_row, same_owner}
+use Rattle.ipam_model.specs.Owners.{same_address}
 use Rattle.ipam_model.specs.Pairs.{Pair, has_value}
 use Rattle.ipam_model.specs.Reads.{Row}
-use Rattle.ipam_model.specs.Remove.{suspects, leaks_in_row}
+use Rattle.ipam_model.specs.Remove.{Leak, suspects, leaks_in_row}
 use Rattle.ipam_parts.proofs.PlaceFacts.{find_placed, find_nowhere}
 
-take_row : (rows : List Row) (place : ℕ) (row : Row) → slice_get rows place ≡ Some row → take (place + 1) rows ≡ take place rows ++ row ∷ []
-take_row rows place row is =
-    take_more rows place row (slice_get_within rows place row is)
-    ∙ ap (λ r. take place rows ++ r ∷ []) (get_or_from_slice_get rows place row row is)
-
-pub one_row_more : (request : CollectRequest) (rows : List Row) (place : ℕ) (row : Row) → slice_get rows place ≡ Some row
+-- what a row adds to what the rows in front of it gave
+pub one_row_more : (request : CollectRequest) (rows : List Row) (place : ℕ) (row : Row) → row ≡ get_or rows place row → place < length rows
     → suspects request (take place rows) ++ leaks_in_row request row ≡ suspects request (take (place + 1) rows)
-one_row_more request rows place row is =
-    sym (ap (suspects request) (take_row rows place row is)
-    ∙ flat_map-append (leaks_in_row request) (take place rows) (row ∷ [])
-    ∙ ap (λ more. suspects request (take place rows) ++ more) (append-nil (leaks_in_row request row)))
+one_row_more request rows place row is within =
+    sym (ap (suspects request) (take_more rows place row within ∙ ap (λ r. take place rows ++ r ∷ []) (sym is))
+    ∙ (flat_map-append (leaks_in_row request) (take place rows) (row ∷ [])
+    ∙ ap (λ more. suspects request (take place rows) ++ more) (append-nil (leaks_in_row request row))))
+
+-- and a page to what is still to be added
+pub one_page_more : (request : CollectRequest) (old new : List Leak) (pages : List (Vec (ℕ × Record))) (place : ℕ) (page : Vec (ℕ × Record)) → page ≡ get_or pages place page → place < length pages
+    → new ≡ old ++ suspects request page.items
+    → new ++ suspects request (rows_of_pages (drop (place + 1) pages)) ≡ old ++ suspects request (rows_of_pages (drop place pages))
+one_page_more request old new pages place page is within added =
+    let rest = suspects request (rows_of_pages (drop (place + 1) pages)) in
+    ap (λ found. found ++ rest) added
+    ∙ (append_assoc old (suspects request page.items) rest
+    ∙ ap (λ more. old ++ more) (sym (ap (suspects request) (rows_of_pages-drop pages place page is within)
+    ∙ flat_map-append (leaks_in_row request) page.items (rows_of_pages (drop (place + 1) pages)))))
 
 pub value_found : (pairs : List Pair) (key value : List ℕ) (place : ℕ) (d : Pair)
     → position (λ p. bytes_eq p.0 key) pairs ≡ Some place
@@ -49,10 +58,6 @@ pub list_any_map : {A B : Type 0} (test : B → Bool) (f : A → B) (list : List
 list_any_map test f [] = refl
 list_any_map test f (first ∷ rest) = ap (λ b. test (f first) || b) (list_any_map test f rest)
 
-or_true : (a b : Bool) → b ≡ true → a || b ≡ true
-or_true true b is = refl
-or_true false b is = is
-
 and_false : (a : Bool) → false ≡ a && false
 and_false true = refl
 and_false false = refl
@@ -63,29 +68,3 @@ pub too_far : (address : AddrValue) (cidr : CidrValue) (ordinal : ℕ) → addre
 too_far address cidr ordinal small far =
     let differs : address.number ≢ cidr.base + ordinal = λ same. omega arith in
     rw (ne_eqb address.number (cidr.base + ordinal) differs) (and_false (is_same_family address.family cidr.family))
-
-pub owns_in_row : (o : Owner) (rows : List Row) (place : ℕ) (row : Row) → slice_get rows place ≡ Some row
-    → list_any (same_owner o) (owners_in_row row) ≡ true → is_owner_in rows o ≡ true
-owns_in_row o [] place row is owns = absurd (cc is)
-owns_in_row o (first ∷ rest) zero row is owns =
-    let same : first ≡ row = cc is in
-    list_any-append (same_owner o) (owners_in_row first) (owners_in rest)
-    ∙ rw same (rw owns refl)
-owns_in_row o (first ∷ rest) (suc place) row is owns =
-    list_any-append (same_owner o) (owners_in_row first) (owners_in rest)
-    ∙ or_true (list_any (same_owner o) (owners_in_row first)) (is_owner_in rest o) (owns_in_row o rest place row is owns)
-
-or_false : (a b : Bool) → a ≡ false → b ≡ false → a || b ≡ false
-or_false true b is rest = is
-or_false false b is rest = rest
-
--- where it owns in none of the rows so far and not in the next, it owns in none of them
-pub owns_not_in_more : (o : Owner) (rows : List Row) (place : ℕ) (row : Row) → slice_get rows place ≡ Some row
-    → is_owner_in (take place rows) o ≡ false → list_any (same_owner o) (owners_in_row row) ≡ false
-    → is_owner_in (take (place + 1) rows) o ≡ false
-owns_not_in_more o rows place row is none differs =
-    ap (λ list. is_owner_in list o) (take_row rows place row is)
-    ∙ ap (list_any (same_owner o)) (flat_map-append owners_in_row (take place rows) (row ∷ []))
-    ∙ list_any-append (same_owner o) (owners_in (take place rows)) (owners_in (row ∷ []))
-    ∙ or_false (is_owner_in (take place rows) o) (list_any (same_owner o) (owners_in (row ∷ []))) none
-    (ap (list_any (same_owner o)) (append-nil (owners_in_row row)) ∙ differs)

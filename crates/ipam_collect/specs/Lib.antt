@@ -2,3 +2,4 @@ pub mod Suspects
 pub mod Tally
 pub mod Frees
 pub mod Collect
+pub mod Leaks

@@ -8,6 +8,7 @@ ghost use Rattle.ipam_model.specs.Remove.{collect_word, suspects, leaks};
 ghost use Rattle.ipam_model.specs.Step.{all_left as every_try};
 ghost use Rattle.ipam_collect.specs.Collect.{due_from, grace_in, grace_asked, collect_at, collect_rest, collect_goes, collect_leaves, stage_leaves, stage_fed};
 ghost use Rattle.ipam_collect.specs.Frees.{leaks_left};
+ghost use Rattle.ipam_collect.specs.Leaks.{AreSoundRows};
 
 use crate::frees::Frees;
 use crate::leaks::leaks_of;
@@ -215,6 +216,7 @@ impl Found {
 impl FoundTwice {
     /// Where the second listing of the blocks leads.
     fn listed(&self, alloc: Global, moment: u64, listing: &Listing) -> Result<Goes, AllocError>
+        requires { AreSoundRows (rows_of listing.now) }
         ensures { IfOk result (λ goes. (p : CollectProc) → collect_goes p goes
             ≡ leaks_left self.now.b1 moment ([], leaks self.now.suspects self.now.live (rows_of listing.now)) every_try) }
     {

@@ -1,17 +1,23 @@
-ghost use Rattle.std.specs.Prelude.{◌≡◌, ◌&&◌, ℕ, not, IfOk};
+ghost use Rattle.std.specs.Prelude.{◌≡◌, ◌<◌, ◌&&◌, ℕ, not, Some, IfOk};
 ghost use Rattle.std.specs.List.{list_any};
 ghost use Rattle.ipam_block.specs.Operations.{address_of};
 ghost use Rattle.ipam_records.specs.Listing.{rows_of};
 ghost use Rattle.ipam_model.specs.Owners.{is_owner_in, same_owner, same_address, owner_of, owners_in_row};
 ghost use Rattle.ipam_model.specs.Remove.{leaks, is_live};
+ghost use Rattle.ipam_records.specs.Datastore.{row_of};
+ghost use Rattle.ipam_records.specs.declared.key.Key.TheVariants as key;
+ghost use Rattle.ipam_collect.specs.Leaks.{AreSoundRows, block_around, owners_found};
 
 use crate::suspect::Suspect;
 use crate::suspects::is_live;
-use ipam_addr::{Addr, Cidr};
+use ipam_addr::{Addr, Cidr, cidr};
 use ipam_block::{Allocation, Block};
 use ipam_records::{Listing, Record};
 use ipam_text::{Seq, Text};
 use std::alloc::{AllocError, Global};
+
+/// How many sizes of blocks there are: the bits behind the prefix are at most 12.
+const BLOCK_SIZES: u8 = 13;
 
 /// The suspects that hold their addresses still, for handles that are not in this list either.
 pub(crate) fn leaks_of(
@@ -20,6 +26,7 @@ pub(crate) fn leaks_of(
     live: &[Text],
     listing: &Listing,
 ) -> Result<Seq<Suspect>, AllocError>
+    requires { AreSoundRows (rows_of listing.now) }
     ensures { IfOk result (λ found. found ≡ leaks suspects.now live.now (rows_of listing.now)) }
 {
     let mut found = Seq::new(alloc);
@@ -32,23 +39,71 @@ pub(crate) fn leaks_of(
 }
 
 fn is_leak(suspect: &Suspect, live: &[Text], listing: &Listing) -> bool
+    requires { AreSoundRows (rows_of listing.now) }
     ensures { result ≡ (is_owner_in (rows_of listing.now) suspect.now.owner
         && not (is_live live.now suspect.now.owner.handle)) }
 {
     holds_still(suspect, listing) && !is_live(live, suspect.handle())
 }
 
-/// Whether the address is recorded in one of the blocks as the suspect has it.
+/// Whether the address is recorded in one of the blocks as the suspect has it. Most suspects are
+/// found where they were.
 fn holds_still(suspect: &Suspect, listing: &Listing) -> bool
+    requires { AreSoundRows (rows_of listing.now) }
     ensures { result ≡ is_owner_in (rows_of listing.now) suspect.now.owner }
 {
-    for place in 0..listing.len() {
-        let (_, row) = listing.at(place);
-        if is_in_row(suspect, row) {
+    if holds_in(suspect, listing, suspect.block()) {
+        return true;
+    }
+    holds_around(suspect, listing)
+}
+
+/// The same, by a look at the block of each size that would have the address.
+fn holds_around(suspect: &Suspect, listing: &Listing) -> bool
+    requires { AreSoundRows (rows_of listing.now) }
+    ensures { result ≡ is_owner_in (rows_of listing.now) suspect.now.owner }
+{
+    for bits in 0..BLOCK_SIZES {
+        if holds_in_size(suspect, listing, bits) {
             return true;
         }
     }
     false
+}
+
+/// Whether it is recorded in the block with this many bits behind the prefix.
+fn holds_in_size(suspect: &Suspect, listing: &Listing, bits: u8) -> bool
+    requires { bits < 13 }
+    ensures { result ≡ list_any (same_owner suspect.now.owner)
+        (owners_found (row_of (key.Block (block_around suspect.now.owner.address bits)) (rows_of listing.now))) }
+{
+    match around(suspect.address(), bits) {
+        Some(block) => holds_in(suspect, listing, block),
+        None => false,
+    }
+}
+
+/// The block around the address, with this many bits behind the prefix.
+fn around(addr: Addr, bits: u8) -> Option<Cidr>
+    requires { bits < 13 }
+    ensures { result ≡ Some (block_around addr bits) }
+{
+    let first = Addr {
+        family: addr.family,
+        number: addr.number - addr.number % (1 << bits),
+    };
+    cidr(first, addr.family.width() - bits).ok()
+}
+
+/// Whether it is recorded in the block of this CIDR.
+fn holds_in(suspect: &Suspect, listing: &Listing, cidr: Cidr) -> bool
+    ensures { result ≡ list_any (same_owner suspect.now.owner)
+        (owners_found (row_of (key.Block cidr) (rows_of listing.now))) }
+{
+    match listing.find(cidr) {
+        Some((_, row)) => is_in_row(suspect, row),
+        None => false,
+    }
 }
 
 #[tactic(auto, using(crate::proofs::SuspectLemmas::list_any_map))]

@@ -59,6 +59,13 @@ impl Suspect {
         self.address
     }
 
+    /// The block that it was found in.
+    pub(crate) fn block(&self) -> Cidr
+        ensures { result ≡ self.now.block }
+    {
+        self.block
+    }
+
     pub(crate) fn handle(&self) -> &str
         ensures { result.now ≡ self.now.owner.handle }
     {

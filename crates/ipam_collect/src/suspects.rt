@@ -22,11 +22,23 @@ pub(crate) fn suspects_in(
     ensures { IfOk result (λ found. found ≡ suspects request.now (rows_of listing.now)) }
 {
     let mut found = Seq::new(alloc);
-    for place in 0..listing.len() {
-        let (_, row) = listing.at(place);
-        push_row(&mut found, request, row)?;
+    for page in listing.pages() {
+        push_page(&mut found, request, page)?;
     }
     Ok(found)
+}
+
+fn push_page(
+    found: &mut Seq<Suspect>,
+    request: &CollectRequest,
+    page: &[(u64, Record)],
+) -> Result<(), AllocError>
+    ensures { OnOk result (found.new ≡ found.old ++ suspects request.now page.now) }
+{
+    for row in page {
+        push_row(found, request, &row.1)?;
+    }
+    Ok(())
 }
 
 fn push_row(
