@@ -1,6 +1,5 @@
 -- Blocks in the order of their rows, page by page.
-use native.Mathlib.Omega.{arith}
-use Rattle.std.proofs.Common.{◌≡◌, ℕ, ◌+◌, ◌<◌, ◌⊎◌, inl, inr, Bool, true, false, List, [], ◌∷◌, ◌++◌, length, get_or, take, drop, Option, Some, None, refl, sym, ap, ◌∙◌, subst, append_assoc}
+use Rattle.std.proofs.Common.{◌≡◌, ℕ, ◌+◌, ◌<◌, ◌⊎◌, inl, inr, true, List, [], ◌∷◌, ◌++◌, length, get_or, take, drop, Option, Some, None, refl, sym, ap, ◌∙◌, subst, append_assoc}
 use Rattle.std.proofs.lemmas.List.{append-nil, take_more}
 use Rattle.std.proofs.lemmas.List.Elements.{filter_map-append}
 use Rattle.std.specs.declared.cmp.Ordering.{Ordering}
@@ -17,7 +16,7 @@ use Rattle.ipam_records.specs.declared.listing.Listing.{Listing}
 use Rattle.ipam_records.specs.KeyOrderLaws.{cidr_cmp_total}
 use Rattle.ipam_records.specs.Listing.{rows_of}
 use Rattle.ipam_records.specs.Pages.{rows_of_pages}
-use Rattle.ipam_records.specs.BlockLists.{cidr_if, cidrs_where}
+use Rattle.ipam_records.specs.BlockLists.{cidr_if}
 use Rattle.ipam_records.proofs.BlockListLemmas.{cidrs_where-none, cidrs_where-ascends, none-ascends}
 use Rattle.ipam_records.proofs.RowSearch.{rows-take-drop}
 use Rattle.ipam_model.specs.Reads.{Row}

@@ -1,17 +1,22 @@
 -- An owner is recorded in one of the rows exactly where the block of some size around its address
 -- has it.
 use native.Mathlib.Omega.{arith}
-use Rattle.std.proofs.Common.{◌≡◌, ◌⊎◌, inl, inr, ℕ, suc, ◌+◌, ◌-◌, ◌/◌, ◌%◌, ◌^◌, ◌<◌, ◌≤◌, ◌||◌, ◌&&◌, Bool, true, false, cond, List, [], ◌∷◌, map, Option, Some, All, refl, sym, ap, ◌∙◌, eqb-true}
+use Rattle.std.proofs.Common.{◌≡◌, ◌⊎◌, inl, inr, ℕ, suc, ◌+◌, ◌-◌, ◌/◌, ◌%◌, ◌^◌, ◌<◌, ◌≤◌, ◌||◌, ◌&&◌, Bool, true, false, cond, List, [], ◌∷◌, ◌*◌, map, Option, Some, Result, Ok, All, refl, sym, ap, ◌∙◌, subst, eqb-true}
 use Rattle.std.specs.Prelude.{◌==◌, bytes_eq}
 use Rattle.std.specs.List.{list_any, Contains}
 use Rattle.std.proofs.lemmas.Bool.{and_parts, cases_Bool, cases_lt}
 use Rattle.std.proofs.lemmas.List.Folds.{list_any-append}
 use Rattle.std.proofs.lemmas.List.Elements.{All-head, All-tail}
-use Rattle.std.proofs.Math.Nat.{pow-le-pow_right}
-use Rattle.std.proofs.lemmas.Nat.{mod-mul-add}
+use Rattle.std.proofs.Math.Nat.{pow-le-pow_right, mul-mod_left}
+use Rattle.std.proofs.lemmas.Nat.{mod-mul-add, div-add-mod'}
 use Rattle.ipam_addr.specs.Shape.{AddrValue, CidrValue}
-use Rattle.ipam_addr.specs.Width.{width, cidr_size, IsCidr}
+use Rattle.ipam_addr.specs.declared.address.Family.{Family}
+use Rattle.ipam_addr.specs.declared.address.Family.TheVariants.{V4, V6}
+use Rattle.ipam_addr.specs.declared.cidrs.AddrFault.{AddrFault}
+use Rattle.ipam_addr.specs.Made.{made_cidr}
+use Rattle.ipam_addr.specs.Width.{width, address_count, cidr_size, IsCidr}
 use Rattle.ipam_addr.proofs.CidrLemmas.{multiple}
+use Rattle.ipam_addr.proofs.CidrTextLemmas.{made_cidr-IsCidr}
 use Rattle.ipam_addr.proofs.HoldingLemmas.{same_family_from}
 use Rattle.ipam_addr.specs.Holding.{is_same_family}
 use Rattle.ipam_block.specs.declared.allocation.Allocation.{Allocation}
@@ -116,6 +121,32 @@ around_it a cidr ordinal sound below family number =
     ap (λ n. n - n % 2 ^ bits) number ∙ base_around cidr.base ordinal bits sound.no_host_bits below in
     let prefix : width a.family - bits ≡ cidr.prefix = ap (λ f. width f - bits) family ∙ omega (arith, sound.prefix_fits) in
     λ i. record { family = family i; base = base i; prefix = prefix i }
+
+sub_back : (q r : ℕ) → (q + r) - r ≡ q
+sub_back q r = omega arith
+
+wide : (f : Family) → 13 ≤ width f
+wide V4 = omega arith
+wide V6 = omega arith
+
+without_low : (n k : ℕ) → (n - n % 2 ^ k) % 2 ^ k ≡ 0
+without_low n k =
+    let whole : n - n % 2 ^ k ≡ n / 2 ^ k * 2 ^ k = ap (λ x. x - n % 2 ^ k) (sym (div-add-mod' n (2 ^ k))) ∙ sub_back (n / 2 ^ k * 2 ^ k) (n % 2 ^ k) in
+    ap (λ x. x % 2 ^ k) whole ∙ mul-mod_left (n / 2 ^ k) (2 ^ k)
+
+-- the block around an address, as it is made
+pub around_made : (a : AddrValue) (bits low w : ℕ) → bits < 13 → low ≡ a.number % 2 ^ bits → w ≡ width a.family → a.number - low < address_count a.family
+    → (r : Result CidrValue AddrFault) → r ≡ made_cidr (record { family = a.family; number = a.number - low }) (w - bits) → r ≡ Ok (block_around a bits)
+around_made a bits low w few low_is w_is fits r is =
+    let back : width a.family - (width a.family - bits) ≡ bits = omega (arith, wide a.family) in
+    let sound : IsCidr (block_around a bits) = record {
+      prefix_fits = omega arith;
+      base_fits = subst (λ (n : ℕ). a.number - n < address_count a.family) low_is fits;
+      no_host_bits = ap (λ (k : ℕ). (a.number - a.number % 2 ^ bits) % 2 ^ k) back ∙ without_low a.number bits;
+    } in
+    is
+    ∙ ((λ i. made_cidr (record { family = a.family; number = a.number - low_is i }) (w_is i - bits))
+    ∙ made_cidr-IsCidr (record { family = a.family; number = a.number - a.number % 2 ^ bits }) (width a.family - bits) sound)
 
 -- the owner is found around its address
 pub record IsFoundAround (o : Owner) (rows : List Row) : Type 0 where

@@ -1,4 +1,4 @@
-ghost use Rattle.std.specs.Prelude.{◌≡◌, ◌<◌, ◌&&◌, ℕ, not, Some, IfOk};
+ghost use Rattle.std.specs.Prelude.{◌≡◌, ◌<◌, ◌≤◌, ◌%◌, ◌^◌, ◌&&◌, ℕ, not, Some, IfOk};
 ghost use Rattle.std.specs.List.{list_any};
 ghost use Rattle.ipam_block.specs.Operations.{address_of};
 ghost use Rattle.ipam_records.specs.Listing.{rows_of};
@@ -88,11 +88,24 @@ fn around(addr: Addr, bits: u8) -> Option<Cidr>
     requires { bits < 13 }
     ensures { result ≡ Some (block_around addr bits) }
 {
+    let low = low_part(addr.number, bits);
     let first = Addr {
         family: addr.family,
-        number: addr.number - addr.number % (1 << bits),
+        number: addr.number - low,
     };
-    cidr(first, addr.family.width() - bits).ok()
+    match cidr(first, addr.family.width() - bits) {
+        Ok(block) => Some(block),
+        Err(_) => None,
+    }
+}
+
+/// The number that the last bits make.
+fn low_part(number: u128, bits: u8) -> u128
+    requires { bits < 13 }
+    ensures value { result ≡ number % 2 ^ bits }
+    ensures small { result ≤ number }
+{
+    number % (1 << bits)
 }
 
 /// Whether it is recorded in the block of this CIDR.

@@ -1,5 +1,4 @@
 use Rattle.std.proofs.Common.{sym, ◌∙◌}
-use Rattle.ipam_choice.specs.Blocks.{EndsBefore}
 use Rattle.ipam_choice.proofs.ahead.ends_before.Goals as goal
 
 pub returns-in-Some : goal.returns-in-Some

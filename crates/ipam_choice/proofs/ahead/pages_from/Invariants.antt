@@ -1,4 +1,4 @@
-use Rattle.std.proofs.Common.{◌≡◌, ◌-◌, ◌≤◌, length}
+use Rattle.std.proofs.Common.{◌-◌, ◌≤◌, length}
 use Rattle.ipam_choice.proofs.AheadLemmas.{AllBefore}
 use Rattle.ipam_choice.proofs.ahead.pages_from.Given as goal
 

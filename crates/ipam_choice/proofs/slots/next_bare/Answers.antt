@@ -1,4 +1,4 @@
-use Rattle.std.proofs.Common.{◌≡◌, ◌∷◌, List, refl, sym, ap, ◌∙◌, subst, rules}
+use Rattle.std.proofs.Common.{◌≡◌, List, refl, sym, ap, ◌∙◌, subst, rules}
 use Rattle.ipam_addr.specs.Shape.{CidrValue}
 use Rattle.ipam_handle.specs.Order.{cidr_cmp}
 use Rattle.ipam_records.specs.Listing.{rows_of}
