@@ -1,7 +1,7 @@
 -- An owner is recorded in one of the rows exactly where the block of some size around its address
 -- has it.
 use native.Mathlib.Omega.{arith}
-use Rattle.std.proofs.Common.{◌≡◌, ◌⊎◌, inl, inr, ℕ, suc, ◌+◌, ◌-◌, ◌/◌, ◌%◌, ◌^◌, ◌<◌, ◌≤◌, ◌||◌, ◌&&◌, Bool, true, false, cond, List, [], ◌∷◌, ◌*◌, map, Option, Some, Result, Ok, All, refl, sym, ap, ◌∙◌, subst, eqb-true}
+use Rattle.std.proofs.Common.{◌≡◌, ◌⊎◌, inl, inr, ℕ, suc, ◌+◌, ◌-◌, ◌/◌, ◌%◌, ◌^◌, ◌<◌, ◌≤◌, ◌||◌, ◌&&◌, Bool, true, false, cond, List, [], ◌∷◌, ◌*◌, map, Option, Some, Result, Ok, All, refl, sym, ap, ◌∙◌, eqb-true}
 use Rattle.std.specs.Prelude.{◌==◌, bytes_eq}
 use Rattle.std.specs.List.{list_any, Contains}
 use Rattle.std.proofs.lemmas.Bool.{and_parts, cases_Bool, cases_lt}
@@ -135,18 +135,19 @@ without_low n k =
     ap (λ x. x % 2 ^ k) whole ∙ mul-mod_left (n / 2 ^ k) (2 ^ k)
 
 -- the block around an address, as it is made
-pub around_made : (a : AddrValue) (bits low w : ℕ) → bits < 13 → low ≡ a.number % 2 ^ bits → w ≡ width a.family → a.number - low < address_count a.family
-    → (r : Result CidrValue AddrFault) → r ≡ made_cidr (record { family = a.family; number = a.number - low }) (w - bits) → r ≡ Ok (block_around a bits)
-around_made a bits low w few low_is w_is fits r is =
+pub around_made : (a whole : AddrValue) (bits low w : ℕ) → a ≡ whole → a.number < address_count a.family → bits < 13 → low ≡ a.number % 2 ^ bits → w ≡ width a.family
+    → (r : Result CidrValue AddrFault) → r ≡ made_cidr (record { family = a.family; number = a.number - low }) (w - bits) → r ≡ Ok (block_around whole bits)
+around_made a whole bits low w same small few low_is w_is r is =
     let back : width a.family - (width a.family - bits) ≡ bits = omega (arith, wide a.family) in
     let sound : IsCidr (block_around a bits) = record {
       prefix_fits = omega arith;
-      base_fits = subst (λ (n : ℕ). a.number - n < address_count a.family) low_is fits;
+      base_fits = omega (arith, small);
       no_host_bits = ap (λ (k : ℕ). (a.number - a.number % 2 ^ bits) % 2 ^ k) back ∙ without_low a.number bits;
     } in
     is
     ∙ ((λ i. made_cidr (record { family = a.family; number = a.number - low_is i }) (w_is i - bits))
-    ∙ made_cidr-IsCidr (record { family = a.family; number = a.number - a.number % 2 ^ bits }) (width a.family - bits) sound)
+    ∙ (made_cidr-IsCidr (record { family = a.family; number = a.number - a.number % 2 ^ bits }) (width a.family - bits) sound
+    ∙ ap (λ (x : AddrValue). Ok (block_around x bits)) same))
 
 -- the owner is found around its address
 pub record IsFoundAround (o : Owner) (rows : List Row) : Type 0 where

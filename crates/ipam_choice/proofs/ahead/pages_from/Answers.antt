@@ -11,9 +11,11 @@ pub loop-low-preserved-then-ends_before : goal.loop-low-preserved-then-ends_befo
 loop-low-preserved-then-ends_before c =
     let middle = c.loop-low.low + (c.loop-low.high - c.loop-low.low) / 2 in
     let ascends = subst (λ (rows : List Row). IsStrictlySortedBy cidr_cmp (cidrs_in rows)) (sym c.pages-pages.ensures) (blocks_ascend c.args.blocks.now) in
-    let ends = subst (EndsBefore c.args.first) c.deref.ensures.value (c.ends_before.ensures c.if-ends_before.true) in
-    (omega arith, c.loop-low.invariant.1,
-    pages_before c.args.first c.pages-pages.result.now middle c.index-pages-middle.result c.index-pages-middle.is (omega arith) ends ascends)
+    let ends = subst (EndsBefore c.args.first) c.deref.ensures.value (c.ends_before.ensures c.if-ends_before.true) in (
+      omega arith,
+      c.loop-low.invariant.1,
+      pages_before c.args.first c.pages-pages.result.now middle c.index-pages-middle.result c.index-pages-middle.is (omega arith) ends ascends,
+    )
 
 pub returns : goal.returns
 returns c =
