@@ -21,11 +21,7 @@ pub(crate) fn report_text(alloc: Global, report: &Report) -> Result<String, Allo
     Ok(out)
 }
 
-fn push_excess_lines(
-    alloc: Global,
-    out: &mut String,
-    excess: &[Excess],
-) -> Result<(), AllocError>
+fn push_excess_lines(alloc: Global, out: &mut String, excess: &[Excess]) -> Result<(), AllocError>
     ensures { OnOk result (string_bytes out.new ≡ string_bytes out.old ++ flat_map excess_line excess.now) }
 {
     for one in excess {

@@ -43,8 +43,12 @@ fn tells_the_same_by_any_number_of_workers(rt: HostRuntime) -> Result<(), Fail> 
     let alloc = rt.alloc();
     let mut keeper = many(alloc, 150)?;
     let by_one = told(&rt, alloc, "audit 1", &mut keeper, Vec::new(alloc))?;
-    assert!(rt; by_one.starts_with("0 excess n.c0 10.0.0.0/32 2 1\nexcess n.c105 10.0.0.105/32 2 1\n"));
-    assert!(rt; by_one.ends_with("excess n.c98 10.0.0.98/32 2 1\nblocks 150 owners 150 handles 150\n"));
+    assert!(rt;
+        by_one.starts_with("0 excess n.c0 10.0.0.0/32 2 1\nexcess n.c105 10.0.0.105/32 2 1\n")
+    );
+    assert!(rt;
+        by_one.ends_with("excess n.c98 10.0.0.98/32 2 1\nblocks 150 owners 150 handles 150\n")
+    );
     assert_eq!(rt; by_one.lines().count(), 23);
     let by_two = told(&rt, alloc, "audit 2", &mut keeper, Vec::new(alloc))?;
     assert!(rt; by_two == by_one);

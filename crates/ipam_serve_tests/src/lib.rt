@@ -1,0 +1,10 @@
+//! Tests of whole sessions over a link, a keeper, a gate and a clock in memory: the lines that come in,
+//! the lines of replies, how the session ends and the rows that are left.
+#![tactic(auto)]
+
+#[cfg(test)]
+mod play;
+#[cfg(test)]
+mod scenarios;
+#[cfg(test)]
+mod tests;

@@ -1,0 +1,50 @@
+use crate::play::play;
+use crate::scenarios::{CALLS, COLLECTIONS, ENDS, FREE, HELD, LONG};
+use std::alloc::{AllocError, Global};
+use std::process::Abort;
+use std::sync::Wait;
+use std::test::Fail;
+
+/// How many scenarios there are, each of which is told as it says over these rows.
+fn played<R: Wait + Abort>(
+    rt: &R,
+    alloc: Global,
+    rows: &str,
+    scenarios: &str,
+) -> Result<usize, AllocError> {
+    let mut count = 0usize;
+    for scenario in scenarios.split("\n\n") {
+        let (told, wanted) = play(rt, alloc, rows, scenario)?;
+        assert_eq!(rt; told.as_str(), wanted.as_str(), "{scenario}");
+        count = count.wrapping_add(1);
+    }
+    Ok(count)
+}
+
+#[test]
+fn calls_and_requests_are_replied(rt: HostRuntime) -> Result<(), Fail> {
+    let count = played(&rt, rt.alloc(), FREE, CALLS)?;
+    assert_eq!(rt; count, 5);
+    Ok(())
+}
+
+#[test]
+fn collections_wait(rt: HostRuntime) -> Result<(), Fail> {
+    let count = played(&rt, rt.alloc(), HELD, COLLECTIONS)?;
+    assert_eq!(rt; count, 5);
+    Ok(())
+}
+
+#[test]
+fn ends_are_told(rt: HostRuntime) -> Result<(), Fail> {
+    let count = played(&rt, rt.alloc(), FREE, ENDS)?;
+    assert_eq!(rt; count, 10);
+    Ok(())
+}
+
+#[test]
+fn a_line_has_at_most_1048575_bytes(rt: HostRuntime) -> Result<(), Fail> {
+    let count = played(&rt, rt.alloc(), FREE, LONG)?;
+    assert_eq!(rt; count, 2);
+    Ok(())
+}
