@@ -1,0 +1,5 @@
+//! Tests of a cluster near its last entry.
+#![tactic(auto)]
+
+#[cfg(test)]
+mod worn;
