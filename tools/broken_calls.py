@@ -1,5 +1,5 @@
 #!/usr/bin/env python3
-"""Writes crates/ipam_cni_tests/src/broken.rt: CNI calls with one thing broken each, and what is told of them.
+"""Writes broken.rt and broken_rows.rt of crates/ipam_cni_tests/src: CNI calls with one thing broken each, and what is told of them.
 
 What is broken is a member, a variable, a version or the input of a call (the calls of tools/cni_table.py
 whose code and details are stated there), or one thing about the rows that the call meets, or what it
@@ -14,7 +14,7 @@ from pathlib import Path
 
 from cni_table import GONE, good_config, good_env, stated_calls, text_of, with_member, with_variable
 
-OUT = Path(__file__).resolve().parent.parent / "crates/ipam_cni_tests/src/broken.rt"
+OUT = Path(__file__).resolve().parent.parent / "crates/ipam_cni_tests/src"
 
 MESSAGES = {
     1: "incompatible CNI version",
@@ -278,17 +278,21 @@ def escaped(text):
     return text.replace("\n", "\\n\\\n")
 
 
+def write(name, scenarios, calls):
+    text = "\n\n".join(scenarios)
+    assert text.count("\nbare ") == calls
+    table = TEMPLATE.replace("{table}", escaped(text)).replace("{count}", str(len(scenarios)))
+    (OUT / name).write_text(table.replace("{calls}", str(calls)))
+
+
 def main():
     stated = list(stated_scenarios())
-    scenarios = [text for text, _ in stated] + list(good_scenario()) + list(row_scenarios()) + list(wish_scenarios())
-    broken = sum(count for _, count in stated) + len(BROKEN_ROWS) + len(BROKEN_WISHES)
-    text = "\n\n".join(scenarios)
-    calls = broken + len(GOOD_REPLIES)
-    assert text.count("\nbare ") == calls
-    OUT.write_text(
-        TEMPLATE.replace("{table}", escaped(text)).replace("{count}", str(len(scenarios))).replace("{calls}", str(calls))
-    )
-    print(f"{broken} calls with one thing broken, {len(GOOD_REPLIES)} without, in {len(scenarios)} scenarios")
+    made_well = list(good_scenario())
+    broken = sum(count for _, count in stated)
+    write("broken.rt", [text for text, _ in stated] + made_well, broken + len(GOOD_REPLIES))
+    over_rows = list(row_scenarios()) + list(wish_scenarios())
+    write("broken_rows.rt", over_rows, len(BROKEN_ROWS) + len(BROKEN_WISHES))
+    print(f"{broken} calls with one thing broken, {len(GOOD_REPLIES)} without, and {len(over_rows)} over rows")
 
 
 TEMPLATE = """// Written by tools/broken_calls.py: change that, and not this file.

@@ -5,6 +5,8 @@
 #[cfg(test)]
 mod broken;
 #[cfg(test)]
+mod broken_rows;
+#[cfg(test)]
 mod play;
 #[cfg(test)]
 mod scenarios;

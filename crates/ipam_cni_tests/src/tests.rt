@@ -1,6 +1,6 @@
-use crate::broken::{BROKEN, CALLS, SCENARIOS};
 use crate::play::play;
 use crate::scenarios::{FAULTS, GC_AND_STATUS, REFUSALS, WORKED};
+use crate::{broken, broken_rows};
 use std::alloc::{AllocError, Global};
 use std::process::Abort;
 use std::test::Fail;
@@ -57,9 +57,17 @@ fn calls_in(scenarios: &str) -> usize {
 
 #[test]
 fn calls_with_one_thing_broken_are_told(rt: HostRuntime) -> Result<(), Fail> {
-    let count = played(&rt, rt.alloc(), BROKEN)?;
-    assert_eq!(rt; count, SCENARIOS);
-    assert_eq!(rt; calls_in(BROKEN), CALLS);
+    let count = played(&rt, rt.alloc(), broken::BROKEN)?;
+    assert_eq!(rt; count, broken::SCENARIOS);
+    assert_eq!(rt; calls_in(broken::BROKEN), broken::CALLS);
+    Ok(())
+}
+
+#[test]
+fn calls_over_rows_that_do_not_allow_them_are_told(rt: HostRuntime) -> Result<(), Fail> {
+    let count = played(&rt, rt.alloc(), broken_rows::BROKEN)?;
+    assert_eq!(rt; count, broken_rows::SCENARIOS);
+    assert_eq!(rt; calls_in(broken_rows::BROKEN), broken_rows::CALLS);
     Ok(())
 }
 
