@@ -8,7 +8,11 @@ use ipam_model::{Answer, CallName, Called, Entry, Fate, Request, Told};
 use ipam_records::{Key, Kind, Record, key_text, to_text};
 use ipam_request_text::{push_live, push_request};
 use ipam_text::Text;
+use itoa::Buffer;
 use std::alloc::{AllocError, Global};
+
+/// The room that most lines need, in bytes.
+const ROOM: usize = 4_096;
 
 /// Appends the line of the entry, which ends by its line feed.
 pub fn push_entry(alloc: Global, out: &mut String, entry: &Entry) -> Result<(), AllocError>
@@ -34,8 +38,8 @@ fn line_of(alloc: Global, entry: &Entry) -> Result<String, AllocError>
 fn began(alloc: Global, slot: u8, request: &Request) -> Result<String, AllocError>
     ensures { IfOk result (λ s. string_bytes s ≡ began_line slot request.now) }
 {
-    let mut line = String::new(alloc);
-    push_number(alloc, &mut line, u64::from(slot))?;
+    let mut line = String::with_capacity(alloc, ROOM)?;
+    push_number(&mut line, u64::from(slot))?;
     line.push_str(" began ")?;
     push_request(alloc, &mut line, request)?;
     line.push_str("\n")?;
@@ -46,10 +50,10 @@ fn began(alloc: Global, slot: u8, request: &Request) -> Result<String, AllocErro
 fn fed(alloc: Global, slot: u8, at: u64, live: &[Text]) -> Result<String, AllocError>
     ensures { IfOk result (λ s. string_bytes s ≡ fed_line slot at live.now) }
 {
-    let mut line = String::new(alloc);
-    push_number(alloc, &mut line, u64::from(slot))?;
+    let mut line = String::with_capacity(alloc, ROOM)?;
+    push_number(&mut line, u64::from(slot))?;
     line.push_str(" fed ")?;
-    push_at(alloc, &mut line, at)?;
+    push_at(&mut line, at)?;
     push_live(alloc, &mut line, live)?;
     line.push_str("\n")?;
     Ok(line)
@@ -59,8 +63,8 @@ fn fed(alloc: Global, slot: u8, at: u64, live: &[Text]) -> Result<String, AllocE
 fn stopped(alloc: Global, slot: u8) -> Result<String, AllocError>
     ensures { IfOk result (λ s. string_bytes s ≡ stopped_line slot) }
 {
-    let mut line = String::new(alloc);
-    push_number(alloc, &mut line, u64::from(slot))?;
+    let mut line = String::with_capacity(alloc, ROOM)?;
+    push_number(&mut line, u64::from(slot))?;
     line.push_str(" stopped\n")?;
     Ok(line)
 }
@@ -69,8 +73,8 @@ fn stopped(alloc: Global, slot: u8) -> Result<String, AllocError>
 fn called_line(alloc: Global, called: &Called) -> Result<String, AllocError>
     ensures { IfOk result (λ s. string_bytes s ≡ called_line called.now) }
 {
-    let mut line = String::new(alloc);
-    push_number(alloc, &mut line, u64::from(called.slot))?;
+    let mut line = String::with_capacity(alloc, ROOM)?;
+    push_number(&mut line, u64::from(called.slot))?;
     line.push_str(" called ")?;
     push_asked(alloc, &mut line, called)?;
     line.push_str(" ")?;
@@ -94,7 +98,7 @@ fn push_asked(alloc: Global, out: &mut String, called: &Called) -> Result<(), Al
 fn push_heard(alloc: Global, out: &mut String, called: &Called) -> Result<(), AllocError>
     ensures { OnOk result (string_bytes out.new ≡ string_bytes out.old ++ heard_text called.now) }
 {
-    push_told(alloc, out, called.reply)?;
+    push_told(out, called.reply)?;
     out.push_str(" ")?;
     push_written(alloc, out, &called.written)?;
     out.push_str(" ")?;
@@ -135,7 +139,7 @@ fn push_row(alloc: Global, out: &mut String, key: &Key, revision: u64) -> Result
 {
     push_key(alloc, out, key)?;
     out.push_str(" ")?;
-    push_number(alloc, out, revision)
+    push_number(out, revision)
 }
 
 fn push_key(alloc: Global, out: &mut String, key: &Key) -> Result<(), AllocError>
@@ -145,11 +149,11 @@ fn push_key(alloc: Global, out: &mut String, key: &Key) -> Result<(), AllocError
     out.push_str(text.as_str())
 }
 
-fn push_number(alloc: Global, out: &mut String, number: u64) -> Result<(), AllocError>
+fn push_number(out: &mut String, number: u64) -> Result<(), AllocError>
     ensures { OnOk result (string_bytes out.new ≡ string_bytes out.old ++ decimal number) }
 {
-    let text = format!(in alloc; "{number}")?;
-    out.push_str(text.as_str())
+    let mut buffer = Buffer::new();
+    out.push_str(buffer.format(number))
 }
 
 fn kind_name(kind: Kind) -> &'static str
@@ -172,29 +176,29 @@ fn fate_name(fate: Fate) -> &'static str
     }
 }
 
-fn push_told(alloc: Global, out: &mut String, told: Told) -> Result<(), AllocError>
+fn push_told(out: &mut String, told: Told) -> Result<(), AllocError>
     ensures { OnOk result (string_bytes out.new ≡ string_bytes out.old ++ told_text told) }
 {
     match told {
         Told::Nothing => out.push_str("none"),
-        Told::Found(revision) => push_numbered(alloc, out, "found ", revision),
+        Told::Found(revision) => push_numbered(out, "found ", revision),
         Told::Missing => out.push_str("missing"),
-        Told::Listed(count) => push_numbered(alloc, out, "listed ", count),
-        Told::Done(revision) => push_numbered(alloc, out, "done ", revision),
-        Told::Exists(revision) => push_numbered(alloc, out, "exists ", revision),
-        Told::Conflict(revision) => push_numbered(alloc, out, "conflict ", revision),
+        Told::Listed(count) => push_numbered(out, "listed ", count),
+        Told::Done(revision) => push_numbered(out, "done ", revision),
+        Told::Exists(revision) => push_numbered(out, "exists ", revision),
+        Told::Conflict(revision) => push_numbered(out, "conflict ", revision),
         Told::Full => out.push_str("full"),
         Told::Spent => out.push_str("spent"),
     }
 }
 
 /// Appends the word and the number.
-fn push_numbered(alloc: Global, out: &mut String, word: &str, number: u64) -> Result<(), AllocError>
+fn push_numbered(out: &mut String, word: &str, number: u64) -> Result<(), AllocError>
     ensures { OnOk result
         (string_bytes out.new ≡ string_bytes out.old ++ numbered word.now number) }
 {
     out.push_str(word)?;
-    push_number(alloc, out, number)
+    push_number(out, number)
 }
 
 fn push_written(alloc: Global, out: &mut String, written: &Option<Record>) -> Result<(), AllocError>
@@ -219,12 +223,12 @@ fn push_ending(alloc: Global, out: &mut String, answer: &Option<Answer>) -> Resu
 }
 
 /// Appends the time of a list, where it is not 0.
-fn push_at(alloc: Global, out: &mut String, at: u64) -> Result<(), AllocError>
+fn push_at(out: &mut String, at: u64) -> Result<(), AllocError>
     ensures { OnOk result (string_bytes out.new ≡ string_bytes out.old ++ at_text at) }
 {
     if at == 0 {
         return Ok(());
     }
-    push_number(alloc, out, at)?;
+    push_number(out, at)?;
     out.push_str(" ")
 }

@@ -9,10 +9,9 @@ use Rattle.serde_json.specs.View.{items_of}
 use Rattle.serde_json.specs.Written.{compact_text, has_float, items_have_float, members_have_float}
 use Rattle.ipam_block.specs.declared.allocation.Allocation.{Allocation}
 use Rattle.ipam_block.specs.declared.allocation.Attributes.{Attributes}
-use Rattle.ipam_block.specs.Shape.{BlockValue}
 use Rattle.ipam_block_text.specs.declared.parts.Parts.{Parts}
-use Rattle.ipam_block_text.specs.Parts.{block_parts}
-use Rattle.ipam_block_text.specs.Body.{affinity_data, place_data, attributes_data, stamps_data, whole_data, parts_data, block_data, block_body}
+use Rattle.ipam_block_text.specs.Attributes.{Pair}
+use Rattle.ipam_block_text.specs.Body.{affinity_data, place_data, attributes_data, secondary_data, stamps_data, whole_data, parts_data}
 
 items_without : {A : Type 0} (f : A → Data) → ((a : A) → has_float (f a) ≡ false) → (as' : List A) → items_have_float (items_of (map f as')) ≡ false
 items_without f each [] = refl
@@ -40,8 +39,11 @@ affinity_without : (node : Option (List ℕ)) → has_float (affinity_data node)
 affinity_without None = refl
 affinity_without (Some n) = refl
 
+pub has_float-secondary_data : (ps : List Pair) → has_float (secondary_data ps) ≡ false
+has_float-secondary_data ps = fold_without (λ p. p.0) (λ p. string p.1) (λ p. refl) no_members ps refl
+
 attributes_without : (a : Attributes) → has_float (attributes_data a) ≡ false
-attributes_without a = rw (fold_without (λ p. p.0) (λ p. string p.1) (λ p. refl) no_members a.secondary refl) refl
+attributes_without a = rw (has_float-secondary_data a.secondary) refl
 
 pub has_float-stamps_data : (xs : List Allocation) → has_float (stamps_data xs) ≡ false
 has_float-stamps_data xs = fold_without (λ a. decimal a.ordinal) (λ a. whole_data a.stamp) (λ a. refl) no_members xs refl
@@ -51,12 +53,10 @@ unfolding parts_data
 has_float-parts_data p stamps h =
     rw (affinity_without p.node, items_without place_data place_without p.places, items_without attributes_data attributes_without p.attributes, h, items_without whole_data (λ n. refl) p.queue) refl
 
-pub body_written : (r : Result (String Global) AllocError) (b : BlockValue) (d : Data) → d ≡ block_data b → IfOk r (λ s. has_float d ≡ false → string_bytes s ≡ compact_text d) → IfOk r (λ s. string_bytes s ≡ block_body b)
-unfolding block_body
-body_written (Ok s) b d e written =
-    let none = has_float-parts_data (block_parts b) (stamps_data b.allocations) (has_float-stamps_data b.allocations) in
-    written (ap has_float e ∙ none) ∙ ap compact_text e
-body_written (Err e) b d f written = tt
+-- the text of the stamps is written
+pub stamps_written : (r : Result (String Global) AllocError) (xs : List Allocation) (d : Data) → d ≡ stamps_data xs → IfOk r (λ s. has_float d ≡ false → string_bytes s ≡ compact_text d) → IfOk r (λ s. string_bytes s ≡ compact_text (stamps_data xs))
+stamps_written (Ok s) xs d e written = written (ap has_float e ∙ has_float-stamps_data xs) ∙ ap compact_text e
+stamps_written (Err e) xs d f written = tt
 
 -- the text that is compared with a body
 pub text_with : (p : Parts) (stamps d kept : Data) (bytes text body : List ℕ) (r : Bool) → has_float stamps ≡ false → kept ≡ stamps → d ≡ parts_data p kept → (has_float d ≡ false → bytes ≡ compact_text d) → text ≡ bytes → r ≡ bytes_eq text body → r ≡ bytes_eq (compact_text (parts_data p stamps)) body

@@ -12,3 +12,4 @@ pub mod ReadBack
 pub mod Numbers
 pub mod Canonical
 pub mod Exact
+pub mod Written

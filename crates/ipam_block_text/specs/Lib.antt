@@ -4,5 +4,6 @@ pub mod Limits
 pub mod Numbering
 pub mod Parts
 pub mod Body
+pub mod Pieces
 pub mod Reading
 pub mod Form

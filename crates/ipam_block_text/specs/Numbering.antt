@@ -1,5 +1,5 @@
 -- How the code finds the index of attributes.
-use Rattle.std.specs.Prelude.{◌≡◌, ℕ, ◌==◌, List, Option, Some, position}
+use Rattle.std.specs.Prelude.{◌≡◌, ℕ, ◌==◌, List, map, Option, Some, position}
 use Rattle.std.specs.Borrow.{Bor}
 use Rattle.std.specs.BTreeMap.{BTreeMap, get_by}
 use Rattle.std.specs.Cmp.Lexicographic.{slice_cmp}
@@ -9,6 +9,10 @@ use Rattle.std.specs.declared.cmp.Ordering.{Ordering}
 use Rattle.ipam_block.specs.declared.allocation.Allocation.{Allocation}
 use Rattle.ipam_block.specs.declared.allocation.Attributes.{Attributes}
 use Rattle.ipam_block_text.specs.Attributes.{Pair, are_same}
+
+-- the attributes that are borrowed
+abbrev pub borrowed : List (Bor Attributes) → List Attributes
+borrowed found = map (λ a. a.now) found
 
 -- a handle and pairs, as a map's key
 abbrev pub AttributesKey : Type 0

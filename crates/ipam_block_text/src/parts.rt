@@ -1,8 +1,7 @@
 ghost use Rattle.std.specs.Prelude.{◌≡◌, ℕ, ◌<◌, IfOk, OnOk, Some, AllPairs, map, position};
-ghost use Rattle.ipam_block.specs.Operations.{node_bytes};
 ghost use Rattle.ipam_block.specs.Sound.{ordinals_below};
 ghost use Rattle.ipam_block_text.specs.Attributes.{distinct_attributes, with_attributes, are_same};
-ghost use Rattle.ipam_block_text.specs.Numbering.{IsNumbering, placed, numbered_in, index_at};
+ghost use Rattle.ipam_block_text.specs.Numbering.{borrowed, IsNumbering, placed, numbered_in, index_at};
 ghost use Rattle.ipam_block_text.specs.Parts.{block_parts};
 
 use ipam_addr::Cidr;
@@ -23,32 +22,30 @@ pub(crate) struct Parts {
     pub queue: Seq<u64>,
 }
 
-/// What the block's text says.
-pub(crate) fn parts_of(alloc: Global, block: &Block) -> Result<Parts, AllocError>
-    ensures { IfOk result (λ p. p ≡ block_parts block.now) }
-{
-    let cidr = block.cidr();
-    let node = owned(alloc, block.node())?;
-    let (attributes, held) = numbered(alloc, block.allocations())?;
-    let places = places_of(alloc, block.count(), held.as_slice())?;
-    let queue = queue_of(alloc, block)?;
-    Ok(Parts {
-        node,
-        places: Seq::of(places),
-        attributes: Seq::of(attributes),
-        cidr,
-        sequence: block.sequence(),
-        queue: Seq::of(queue),
-    })
+/// The addresses of a block, and how its text numbers the attributes in use.
+#[derive(Debug, Drop)]
+pub(crate) struct Uses<'a> {
+    pub cidr: Cidr,
+    /// The attributes in use, each once, by the least ordinal that has them.
+    pub attributes: Vec<&'a Attributes>,
+    /// For each ordinal that is held the index of its attributes among these.
+    pub places: Vec<Option<usize>>,
 }
 
-fn owned(alloc: Global, node: Option<&str>) -> Result<Option<Text>, AllocError>
-    ensures { IfOk result (λ name. name ≡ node_bytes node.entry) }
+/// The block's addresses, and how its text numbers the attributes in use.
+pub(crate) fn uses_of<'a>(alloc: Global, block: &'a Block) -> Result<Uses<'a>, AllocError>
+    ensures attributes { IfOk result (λ u. borrowed u.attributes.items ≡ (block_parts block.now).attributes) }
+    ensures places { IfOk result (λ u. u.places.items ≡ (block_parts block.now).places) }
+    ensures cidr { IfOk result (λ u. u.cidr ≡ block.now.cidr) }
 {
-    match node {
-        Some(name) => Ok(Some(Text::copied(alloc, name)?)),
-        None => Ok(None),
-    }
+    let cidr = block.cidr();
+    let (attributes, held) = numbered(alloc, block.allocations())?;
+    let places = places_of(alloc, block.count(), held.as_slice())?;
+    Ok(Uses {
+        cidr,
+        attributes,
+        places,
+    })
 }
 
 /// The attributes in use, each once, by the least ordinal that has them, and for each allocation its
@@ -56,14 +53,14 @@ fn owned(alloc: Global, node: Option<&str>) -> Result<Option<Text>, AllocError>
 fn numbered(
     alloc: Global,
     allocations: &[Allocation],
-) -> Result<(Vec<Attributes>, Vec<(u16, usize)>), AllocError>
-    ensures attributes { IfOk result (λ p. p.0.items ≡ distinct_attributes allocations.now) }
+) -> Result<(Vec<&Attributes>, Vec<(u16, usize)>), AllocError>
+    ensures attributes { IfOk result (λ p. borrowed p.0.items ≡ distinct_attributes allocations.now) }
     ensures held { IfOk result (λ p. map placed p.1.items
         ≡ map (numbered_in (distinct_attributes allocations.now)) allocations.now) }
 {
     let mut numbers = BTreeMap::new(alloc);
-    let mut attributes = Vec::new(alloc);
-    let mut held = Vec::new(alloc);
+    let mut attributes = Vec::with_capacity(alloc, allocations.len())?;
+    let mut held = Vec::with_capacity(alloc, allocations.len())?;
     for allocation in allocations {
         let index = number(&mut numbers, &mut attributes, &allocation.attributes)?;
         held.push((allocation.ordinal, index))?;
@@ -74,20 +71,20 @@ fn numbered(
 /// The index of the attributes among these, where they come last if they are not there yet.
 fn number<'a>(
     numbers: &mut BTreeMap<(&'a str, &'a [(Text, Text)]), usize>,
-    attributes: &mut Vec<Attributes>,
+    attributes: &mut Vec<&'a Attributes>,
     own: &'a Attributes,
 ) -> Result<usize, AllocError>
-    requires { IsNumbering numbers.old attributes.old.items }
-    ensures numbering { OnOk result (IsNumbering numbers.new attributes.new.items) }
-    ensures attributes { OnOk result (attributes.new.items ≡ with_attributes attributes.old.items own.now) }
-    ensures index { IfOk result (λ i. position (are_same own.now) attributes.new.items ≡ Some i) }
+    requires { IsNumbering numbers.old (borrowed attributes.old.items) }
+    ensures numbering { OnOk result (IsNumbering numbers.new (borrowed attributes.new.items)) }
+    ensures attributes { OnOk result (borrowed attributes.new.items ≡ with_attributes (borrowed attributes.old.items) own.now) }
+    ensures index { IfOk result (λ i. position (are_same own.now) (borrowed attributes.new.items) ≡ Some i) }
 {
     let key = (own.handle.as_str(), own.secondary.as_slice());
     if let Some(index) = numbers.get(&key) {
         return Ok(*index);
     }
     let index = attributes.len();
-    attributes.push(own.clone()?)?;
+    attributes.push(own)?;
     match numbers.insert(key, index) {
         Ok(_) => Ok(index),
         Err(_) => Err(AllocError),
@@ -103,7 +100,7 @@ fn places_of(
     requires { AllPairs (λ x y. x.0 < y.0) held.now }
     ensures { IfOk result (λ v. v.items ≡ map (index_at held.now) (ordinals_below count)) }
 {
-    let mut places = Vec::new(alloc);
+    let mut places = Vec::with_capacity(alloc, usize::from(count))?;
     let mut next = 0usize;
     for ordinal in 0..count {
         if next < held.len() && held[next].0 == ordinal {
@@ -116,10 +113,10 @@ fn places_of(
     Ok(places)
 }
 
-fn queue_of(alloc: Global, block: &Block) -> Result<Vec<u64>, AllocError>
+pub(crate) fn queue_of(alloc: Global, block: &Block) -> Result<Vec<u64>, AllocError>
     ensures { IfOk result (λ v. v.items ≡ block.now.queue) }
 {
-    let mut numbers = Vec::new(alloc);
+    let mut numbers = Vec::with_capacity(alloc, block.queue().len())?;
     for ordinal in block.queue() {
         numbers.push(u64::from(*ordinal))?;
     }

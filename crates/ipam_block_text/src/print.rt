@@ -1,28 +1,45 @@
 ghost use Rattle.std.specs.Prelude.{◌≡◌, IfOk, OnOk, OnErr, string_bytes, map, Option};
 ghost use Rattle.serde_json.specs.Data.{Data, array};
 ghost use Rattle.serde_json.specs.View.{view, items_of};
-ghost use Rattle.ipam_block_text.specs.Body.{block_data, block_body, parts_data, stamps_data, affinity_data, place_data, attributes_data, secondary_data, cidr_data, whole_data};
+ghost use Rattle.serde_json.specs.Written.{compact_text};
+ghost use Rattle.ipam_block_text.specs.Body.{block_body, parts_data, stamps_data, affinity_data, place_data, attributes_data, secondary_data, cidr_data, whole_data};
 
-use crate::parts::{Parts, parts_of};
+use crate::parts::{Parts, queue_of, uses_of};
+use crate::writing::{push_cidr_member, push_holders, push_rest};
 use ipam_addr::{Cidr, push_cidr};
 use ipam_block::{Allocation, Attributes, Block};
 use ipam_text::Text;
+use itoa::Buffer;
 use serde_json::{Map, Value, json, put};
 use std::alloc::{AllocError, Global};
+
+/// The room that most texts need, in bytes.
+const ROOM: usize = 4_096;
 
 /// The text of the block's record: canonical JSON.
 pub fn block_text(alloc: Global, block: &Block) -> Result<String, AllocError>
     ensures { IfOk result (λ s. string_bytes s ≡ block_body block.now) }
 {
-    block_value(alloc, block)?.to_string(alloc)
+    let uses = uses_of(alloc, block)?;
+    let queue = queue_of(alloc, block)?;
+    let stamps = stamps_text(alloc, block)?;
+    let mut out = String::with_capacity(alloc, ROOM)?;
+    push_holders(alloc, &mut out, block.node(), &uses)?;
+    push_cidr_member(alloc, &mut out, uses.cidr)?;
+    push_rest(
+        &mut out,
+        block.sequence(),
+        stamps.as_str(),
+        queue.as_slice(),
+    )?;
+    Ok(out)
 }
 
-fn block_value(alloc: Global, block: &Block) -> Result<Value, AllocError>
-    ensures { IfOk result (λ v. view v ≡ block_data block.now) }
+/// The text of the stamps of what is held.
+fn stamps_text(alloc: Global, block: &Block) -> Result<String, AllocError>
+    ensures { IfOk result (λ s. string_bytes s ≡ compact_text (stamps_data block.now.allocations)) }
 {
-    let parts = parts_of(alloc, block)?;
-    let stamps = stamps_value(alloc, block.allocations())?;
-    parts_value(alloc, &parts, stamps)
+    stamps_value(alloc, block.allocations())?.to_string(alloc)
 }
 
 /// The JSON value with these parts and stamps.
@@ -53,10 +70,10 @@ fn stamps_value(alloc: Global, allocations: &[Allocation]) -> Result<Value, Allo
 {
     let mut members = Map::new(alloc);
     for allocation in allocations {
-        let ordinal = allocation.ordinal;
-        let name = format!(in alloc; "{ordinal}")?;
+        let mut buffer = Buffer::new();
+        let name = buffer.format(allocation.ordinal);
         let stamp = Value::from(allocation.stamp);
-        put(&mut members, alloc, name.as_str(), stamp)?;
+        put(&mut members, alloc, name, stamp)?;
     }
     Ok(Value::Object(members))
 }
@@ -106,7 +123,7 @@ fn attributes_value(alloc: Global, attributes: &Attributes) -> Result<Value, All
     json!(in alloc; {"handle_id": handle, "secondary": secondary})
 }
 
-fn secondary_value(alloc: Global, pairs: &[(Text, Text)]) -> Result<Value, AllocError>
+pub(crate) fn secondary_value(alloc: Global, pairs: &[(Text, Text)]) -> Result<Value, AllocError>
     ensures { IfOk result (λ v. view v ≡ secondary_data pairs.now) }
 {
     let mut members = Map::new(alloc);

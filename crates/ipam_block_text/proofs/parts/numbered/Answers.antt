@@ -1,5 +1,6 @@
 use Rattle.std.proofs.Common.{◌≡◌, ◌∙◌, ◌+◌, [], ◌∷◌, ◌++◌, take, ap, sym}
 use Rattle.std.proofs.lemmas.List.{take_more}
+use Rattle.ipam_block_text.specs.Numbering.{borrowed}
 use Rattle.ipam_block_text.proofs.Numbers.{attributes_more, held_more}
 use Rattle.ipam_block_text.proofs.parts.numbered.Goals as goal
 
@@ -11,7 +12,7 @@ loop-allocation-preserved c =
     let ys = take (l.allocation-index + 1) c.args.allocations.now in
     let more : ys ≡ xs ++ a ∷ [] = take_more c.args.allocations.now l.allocation-index a c.loop-allocation-test.true ∙ ap (λ x. xs ++ x ∷ []) (sym c.allocation-item.is) in
     record {
-      attributes = attributes_more l.attributes.items c.number.new.attributes.items xs ys a l.invariant.attributes c.in_ok-index.ensures.attributes more;
+      attributes = attributes_more (borrowed l.attributes.items) (borrowed c.number.new.attributes.items) xs ys a l.invariant.attributes c.in_ok-index.ensures.attributes more;
       numbering = c.in_ok-index.ensures.numbering;
-      held = held_more l.held.items c.push.new.self.items l.attributes.items c.number.new.attributes.items xs ys a c.in_ok-index.index l.invariant.held c.in_ok-index.ensures.attributes c.in_ok-index.ensures.index c.in_ok-push.ensures.items more;
+      held = held_more l.held.items c.push.new.self.items (borrowed l.attributes.items) (borrowed c.number.new.attributes.items) xs ys a c.in_ok-index.index l.invariant.held c.in_ok-index.ensures.attributes c.in_ok-index.ensures.index c.in_ok-push.ensures.items more;
     }

@@ -1,0 +1,12 @@
+use Rattle.std.proofs.Common.{◌≡◌, ◌++◌, ◌∷◌, false, drop, map}
+use Rattle.std.specs.Prelude.{string_bytes}
+use Rattle.serde_json.specs.View.{items_of}
+use Rattle.serde_json.specs.Written.{items_text}
+use Rattle.ipam_block_text.specs.Body.{attributes_data}
+use Rattle.ipam_block_text.proofs.writing.push_list.Given as goal
+
+-- what is written, with the text of what is left, is the whole
+abbrev pub invariant-loop-own : goal.invariant-loop-own
+invariant-loop-own l =
+    string_bytes l.out ++ items_text l.later (items_of (map (λ a. attributes_data a.now) (drop l.own-index l.attributes)))
+    ≡ string_bytes l.fn.out ++ 91 ∷ items_text false (items_of (map (λ a. attributes_data a.now) l.attributes))

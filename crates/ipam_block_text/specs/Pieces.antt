@@ -1,0 +1,20 @@
+-- The text of a block in two pieces, as it is written.
+use Rattle.std.specs.Prelude.{ℕ, List, ◌++◌, Option, codes, decimal, map}
+use Rattle.serde_json.specs.Written.{compact_text}
+use Rattle.ipam_block.specs.declared.allocation.Attributes.{Attributes}
+use Rattle.ipam_json.specs.Built.{array_of}
+use Rattle.ipam_block_text.specs.Body.{affinity_data, place_data, attributes_data, whole_data}
+
+-- the node and who holds what
+abbrev pub holders_text : Option (List ℕ) → List (Option ℕ) → List Attributes → List ℕ
+holders_text node places attributes =
+    codes "{\"affinity\":" ++ (compact_text (affinity_data node)
+    ++ (codes ",\"allocations\":" ++ (compact_text (array_of (map place_data places))
+    ++ (codes ",\"attributes\":" ++ compact_text (array_of (map attributes_data attributes))))))
+
+-- the rest behind the CIDR, with the text of the stamps
+abbrev pub rest_text : (sequence : ℕ) → (stamps : List ℕ) → (queue : List ℕ) → List ℕ
+rest_text sequence stamps queue =
+    codes ",\"sequenceNumber\":" ++ (decimal sequence
+    ++ (codes ",\"sequenceNumberForAllocation\":" ++ (stamps
+    ++ (codes ",\"unallocated\":" ++ (compact_text (array_of (map whole_data queue)) ++ codes "}")))))

@@ -1,0 +1,224 @@
+//! What the text of a block is written with, a piece at a time. After an error the text may have got a
+//! part of it.
+ghost use Rattle.std.specs.Prelude.{◌≡◌, ◌++◌, [], ◌∷◌, Some, None, map, codes, decimal, IsTrue, OnOk, string_bytes};
+ghost use Rattle.json.specs.Print.{escape, escape_byte, quoted};
+ghost use Rattle.serde_json.specs.Data.{array};
+ghost use Rattle.serde_json.specs.View.{items_of};
+ghost use Rattle.serde_json.specs.Written.{compact_text, comma_if};
+ghost use Rattle.ipam_block.specs.Operations.{node_bytes};
+ghost use Rattle.ipam_block_text.specs.Numbering.{borrowed};
+ghost use Rattle.ipam_block_text.specs.Pieces.{holders_text, rest_text};
+ghost use Rattle.ipam_block_text.specs.Body.{affinity_data, place_data, attributes_data, secondary_data, cidr_data, whole_data};
+
+use crate::parts::Uses;
+use crate::print::secondary_value;
+use ipam_addr::{Cidr, push_cidr};
+use ipam_block::Attributes;
+use ipam_text::Text;
+use itoa::Buffer;
+use serde_json::Value;
+use std::alloc::{AllocError, Global};
+
+/// Appends the first members: the node, and who holds what.
+pub(crate) fn push_holders(
+    alloc: Global,
+    out: &mut String,
+    node: Option<&str>,
+    uses: &Uses<'_>,
+) -> Result<(), AllocError>
+    ensures { OnOk result (string_bytes out.new ≡ string_bytes out.old
+        ++ holders_text (node_bytes node.entry) uses.now.places.items (borrowed uses.now.attributes.items)) }
+{
+    push(out, "{\"affinity\":")?;
+    push_affinity(alloc, out, node)?;
+    push(out, ",\"allocations\":")?;
+    push_places(out, uses.places.as_slice())?;
+    push(out, ",\"attributes\":")?;
+    push_list(alloc, out, uses.attributes.as_slice())
+}
+
+/// Appends the CIDR.
+pub(crate) fn push_cidr_member(
+    alloc: Global,
+    out: &mut String,
+    cidr: Cidr,
+) -> Result<(), AllocError>
+    ensures { OnOk result (string_bytes out.new
+        ≡ string_bytes out.old ++ (codes ",\"cidr\":" ++ compact_text (cidr_data cidr))) }
+{
+    let mut text = String::new(alloc);
+    push_cidr(alloc, &mut text, cidr)?;
+    push(out, ",\"cidr\":")?;
+    push_quoted(alloc, out, text.as_str())
+}
+
+/// Appends the last members: the sequence number, the stamps and the queue.
+pub(crate) fn push_rest(
+    out: &mut String,
+    sequence: u64,
+    stamps: &str,
+    queue: &[u64],
+) -> Result<(), AllocError>
+    ensures { OnOk result
+        (string_bytes out.new ≡ string_bytes out.old ++ rest_text sequence stamps.now queue.now) }
+{
+    push(out, ",\"sequenceNumber\":")?;
+    push_whole(out, sequence)?;
+    push(out, ",\"sequenceNumberForAllocation\":")?;
+    push(out, stamps)?;
+    push(out, ",\"unallocated\":")?;
+    push_numbers(out, queue)?;
+    push(out, "}")
+}
+
+/// Appends the node that the block is affine to.
+fn push_affinity(alloc: Global, out: &mut String, node: Option<&str>) -> Result<(), AllocError>
+    ensures { OnOk result (string_bytes out.new
+        ≡ string_bytes out.old ++ compact_text (affinity_data (node_bytes node.entry))) }
+{
+    match node {
+        Some(name) => {
+            let mut host = String::from_str(alloc, "host:")?;
+            host.push_str(name)?;
+            push_quoted(alloc, out, host.as_str())
+        }
+        None => push(out, "null"),
+    }
+}
+
+/// Appends the list of the indices, with `null` for what isn't held.
+fn push_places(out: &mut String, places: &[Option<usize>]) -> Result<(), AllocError>
+    ensures { OnOk result (string_bytes out.new
+        ≡ string_bytes out.old ++ compact_text (array (items_of (map place_data places.now)))) }
+{
+    push(out, "[")?;
+    let mut later = false;
+    for place in places {
+        push_comma(out, later)?;
+        push_place(out, *place)?;
+        later = true;
+    }
+    push(out, "]")
+}
+
+fn push_place(out: &mut String, place: Option<usize>) -> Result<(), AllocError>
+    ensures { OnOk result
+        (string_bytes out.new ≡ string_bytes out.old ++ compact_text (place_data place)) }
+{
+    match place {
+        Some(index) => push_whole(out, index as u64),
+        None => push(out, "null"),
+    }
+}
+
+/// Appends the list of the attributes.
+fn push_list(alloc: Global, out: &mut String, attributes: &[&Attributes]) -> Result<(), AllocError>
+    ensures { OnOk result (string_bytes out.new ≡ string_bytes out.old
+        ++ compact_text (array (items_of (map attributes_data (borrowed attributes.now))))) }
+{
+    push(out, "[")?;
+    let mut later = false;
+    for own in attributes {
+        push_comma(out, later)?;
+        push_attributes(alloc, out, own)?;
+        later = true;
+    }
+    push(out, "]")
+}
+
+fn push_attributes(
+    alloc: Global,
+    out: &mut String,
+    attributes: &Attributes,
+) -> Result<(), AllocError>
+    ensures { OnOk result (string_bytes out.new
+        ≡ string_bytes out.old ++ compact_text (attributes_data attributes.now)) }
+{
+    push(out, "{\"handle_id\":")?;
+    push_quoted(alloc, out, attributes.handle.as_str())?;
+    push(out, ",\"secondary\":")?;
+    push_secondary(alloc, out, attributes.secondary.as_slice())?;
+    push(out, "}")
+}
+
+/// Appends the pairs by the bytes of their keys.
+fn push_secondary(alloc: Global, out: &mut String, pairs: &[(Text, Text)]) -> Result<(), AllocError>
+    ensures { OnOk result
+        (string_bytes out.new ≡ string_bytes out.old ++ compact_text (secondary_data pairs.now)) }
+{
+    if pairs.is_empty() {
+        return push(out, "{}");
+    }
+    let text = secondary_value(alloc, pairs)?.to_string(alloc)?;
+    push(out, text.as_str())
+}
+
+/// Appends the list of the numbers.
+fn push_numbers(out: &mut String, numbers: &[u64]) -> Result<(), AllocError>
+    ensures { OnOk result (string_bytes out.new
+        ≡ string_bytes out.old ++ compact_text (array (items_of (map whole_data numbers.now)))) }
+{
+    push(out, "[")?;
+    let mut later = false;
+    for number in numbers {
+        push_comma(out, later)?;
+        push_whole(out, *number)?;
+        later = true;
+    }
+    push(out, "]")
+}
+
+fn push_whole(out: &mut String, number: u64) -> Result<(), AllocError>
+    ensures { OnOk result (string_bytes out.new ≡ string_bytes out.old ++ decimal number) }
+{
+    let mut buffer = Buffer::new();
+    push(out, buffer.format(number))
+}
+
+/// Appends a comma, where something stands before.
+fn push_comma(out: &mut String, later: bool) -> Result<(), AllocError>
+    ensures { OnOk result (string_bytes out.new ≡ string_bytes out.old ++ comma_if later) }
+{
+    if later { push(out, ",") } else { Ok(()) }
+}
+
+/// Appends the text as a JSON string. Most have nothing that is escaped.
+fn push_quoted(alloc: Global, out: &mut String, text: &str) -> Result<(), AllocError>
+    ensures { OnOk result (string_bytes out.new ≡ string_bytes out.old ++ quoted text.now) }
+{
+    if !is_plain(text.as_bytes()) {
+        let text = Value::try_from_str(alloc, text)?.to_string(alloc)?;
+        return push(out, text.as_str());
+    }
+    push(out, "\"")?;
+    push(out, text)?;
+    push(out, "\"")
+}
+
+/// Whether no byte has an escape.
+fn is_plain(bytes: &[u8]) -> bool
+    ensures { IsTrue result → escape bytes.now ≡ bytes.now }
+{
+    for byte in bytes {
+        if !is_plain_byte(*byte) {
+            return false;
+        }
+    }
+    true
+}
+
+/// Whether the byte stands in a JSON string as it is: no control byte, quote or backslash.
+fn is_plain_byte(byte: u8) -> bool
+    ensures { IsTrue result → escape_byte byte ≡ byte ∷ [] }
+{
+    if byte < 32 || byte == 34 {
+        return false;
+    }
+    byte != 92
+}
+
+fn push(out: &mut String, text: &str) -> Result<(), AllocError>
+    ensures { OnOk result (string_bytes out.new ≡ string_bytes out.old ++ text.now) }
+{
+    out.push_str(text)
+}
