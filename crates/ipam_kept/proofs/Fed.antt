@@ -1,22 +1,14 @@
 -- The feed of routes takes what is written.
-use Rattle.std.proofs.Common.{◌≡◌, ◌↔◌, ℕ, ◌+◌, ◌<◌, List, [], ◌∷◌, Option, Some, None, Result, Ok, Err, refl, sym, ap, ◌∙◌, subst}
-use Rattle.std.specs.Prelude.{IfOk, IfSome}
-use Rattle.std.specs.Option.{ForSome}
+use Rattle.std.proofs.Common.{◌≡◌, ℕ, ◌+◌, List, [], ◌∷◌, Option, Some, None, refl, sym, ap, ◌∙◌, subst}
 use Rattle.ipam_records.specs.declared.call.Call.{Call}
 use Rattle.ipam_records.specs.declared.call.Call.TheVariants as call
 use Rattle.ipam_records.specs.declared.call.Write.{Write}
 use Rattle.ipam_records.specs.declared.call.Write.TheVariants as write
-use Rattle.ipam_records.specs.Datastore.{Datastore, reply_of, write_granted, write_of, written}
+use Rattle.ipam_records.specs.Datastore.{Datastore, reply_of, write_granted, write_of}
 use Rattle.ipam_records.specs.Said.{Said, Found, Missing, Listed, Can, Exists, Conflict, Full, Spent}
 use Rattle.ipam_records.specs.Word.{Word, Ends, Asks, Waits, asked, ended}
-use Rattle.ipam_feed.specs.declared.route.Route.{Route}
-use Rattle.ipam_feed.specs.declared.change.Change.{Change}
-use Rattle.ipam_feed.specs.Route.{routes_in}
-use Rattle.ipam_feed.specs.Change.{Leads}
 use Rattle.ipam_feed.specs.Feed.{changes_since, routes_at, write_revision}
 use Rattle.ipam_feed.specs.Feed as feed
-use Rattle.ipam_feed.specs.Follows.{Follows}
-use Rattle.ipam_feed.specs.Shape.{RingValue}
 use Rattle.ipam_model.specs.declared.answer.Answer.{Answer}
 use Rattle.ipam_model.specs.declared.entry.Called.{Called}
 use Rattle.ipam_model.specs.declared.entry.Entry.{Entry}

@@ -1,5 +1,5 @@
 -- What each call of a kept cluster leaves its feed following, and what the feed answers.
-use Rattle.std.proofs.Common.{◌≡◌, ◌↔◌, ℕ, ◌+◌, ◌<◌, inl, List, [], ◌∷◌, Option, Some, None, Result, Ok, Err, refl, sym, ap, ◌∙◌, subst}
+use Rattle.std.proofs.Common.{◌≡◌, ◌↔◌, ℕ, ◌+◌, ◌<◌, List, ◌∷◌, Option, Some, None, Result, Ok, Err, refl, sym, ap, ◌∙◌, subst}
 use Rattle.std.specs.Prelude.{IfOk, IfSome}
 use Rattle.std.specs.Option.{ForSome}
 use Rattle.ipam_records.specs.declared.call.Write.{Write}
@@ -24,7 +24,7 @@ use Rattle.ipam_cluster.specs.Cluster.{slot_of}
 use Rattle.ipam_cluster.specs.Preparing.{IsPrepared, write_next}
 use Rattle.ipam_cluster.specs.Turns.{IsTurn}
 use Rattle.ipam_kept.specs.declared.kept.Kept.{Kept}
-use Rattle.ipam_kept.specs.Feed.{AreChanges, AreRoutes, FedFor, FedWith, IsAhead, IsCompacted, StaysFed, floor_in, routes_then, with_write, writes_in}
+use Rattle.ipam_kept.specs.Feed.{AreChanges, AreRoutes, FedFor, FedWith, IsAhead, IsCompacted, StaysFed, routes_then, with_write, writes_in}
 use Rattle.ipam_kept.specs.Kept.{IsKept, KeepsWith, Stays, Tells}
 use Rattle.ipam_kept.proofs.Fed.{next-revision, store-of, writes-done, writes-failed}
 

@@ -1,13 +1,12 @@
 -- What each call of a kept cluster leaves it kept for.
 use Rattle.std.proofs.Common.{◌≡◌, ◌⊎◌, ℕ, inl, inr, List, [], ◌∷◌, Option, Some, None, Result, Ok, Err, refl, sym, ap, ◌∙◌, subst}
-use Rattle.std.specs.Prelude.{IfOk, IfSome, IsSome}
+use Rattle.std.specs.Prelude.{IfOk, IfSome}
 use Rattle.ipam_records.specs.declared.call.Call.{Call}
 use Rattle.ipam_records.specs.declared.call.Row.{Row as RowText}
 use Rattle.ipam_records.specs.declared.call.Write.{Write}
 use Rattle.ipam_records.specs.Datastore.{Datastore, reply_of, write_granted, written}
 use Rattle.ipam_records.specs.Sound.{IsDatastore}
 use Rattle.ipam_records.specs.Word.{asked}
-use Rattle.ipam_model.specs.declared.entry.CallName.{CallName}
 use Rattle.ipam_model.specs.declared.entry.Called.{Called}
 use Rattle.ipam_model.specs.declared.entry.Entry.{Entry}
 use Rattle.ipam_model.specs.declared.entry.Entry.TheVariants as entry
@@ -24,18 +23,18 @@ use Rattle.ipam_running.specs.declared.running.Running.{Running}
 use Rattle.ipam_running.specs.Running.{running_rest}
 use Rattle.ipam_cluster.specs.declared.cluster.Cluster.{Cluster}
 use Rattle.ipam_cluster.specs.declared.turns.Prepared.{Prepared}
-use Rattle.ipam_cluster.specs.Cluster.{AddsTo, IsCluster, IsSlot, IsUnchanged, Runs, StandsFor, slot_of}
+use Rattle.ipam_cluster.specs.Cluster.{AddsTo, IsSlot, IsUnchanged, StandsFor, slot_of}
 use Rattle.ipam_cluster.specs.Preparing.{IsPrepared, write_asked, write_next}
 use Rattle.ipam_cluster.specs.Turns.{IsTurn}
 use Rattle.ipam_feed.specs.Shape.{RingValue}
 use Rattle.ipam_kept.specs.declared.kept.Kept.{Kept}
 use Rattle.ipam_kept.specs.declared.write.RowWrite.{RowWrite}
-use Rattle.ipam_kept.specs.Doubt.{FailedIn, IsDoubt, WritesKeyOf}
+use Rattle.ipam_kept.specs.Doubt.{FailedIn, IsDoubt}
 use Rattle.ipam_kept.specs.Feed.{counter_with}
 use Rattle.ipam_kept.specs.Giving.{FailsWith, StayKept, WereGiven, known_after, known_written}
 use Rattle.ipam_kept.specs.Kept.{IsKept, KeepsWith, KeptFor, LeavesKeeper, Stays, Tells}
-use Rattle.ipam_kept.specs.Rows.{AreKept, AreTextsOf, AreToldKept, rows_after, texts_loaded, texts_written}
-use Rattle.ipam_kept.specs.Turning.{ComesInDoubt, IsDone, IsFailed, IsRefused, StaysInDoubt}
+use Rattle.ipam_kept.specs.Rows.{AreTextsOf, AreToldKept, rows_after, texts_loaded, texts_written}
+use Rattle.ipam_kept.specs.Turning.{ComesInDoubt, StaysInDoubt}
 use Rattle.ipam_kept.proofs.Doubts.{DoneInstead, done-instead, doubt-later, failed-in}
 use Rattle.ipam_kept.proofs.Fed.{counter-with}
 use Rattle.ipam_kept.proofs.StoreTexts.{opened-stand, stand-after, stand-texts, texts-stand}
@@ -194,7 +193,7 @@ module _ {D : Type 0} (tells : Tells D) (old new : Kept D) (prepared : Prepared)
         rows = subst (λ (d : Option RowWrite). AreToldKept (tells new.keeper) new.cluster.store.store d) (sym sure) (by prepared.write refl between are last);
         doubt = subst (λ (d : Option RowWrite). IsDoubt d base (told ∷ history)) (sym sure) tt;
         counter = counter ∙ (ap (counter_with prepared.write) h.counter
-        ∙ (sym (counter-with prepared.write old.cluster.store.store) ∙ ap (λ (s : Datastore). s.counter) (sym stores)));
+            ∙ (sym (counter-with prepared.write old.cluster.store.store) ∙ ap (λ (s : Datastore). s.counter) (sym stores)));
       }
     where
       rows-written : (done : Write) → prepared.write ≡ Some done → (between : Option (List RowText)) → AreToldKept between old.cluster.store.store None → AreToldKept (known_after (texts_written done) between) new.cluster.store.store None

@@ -1,10 +1,9 @@
-use Rattle.std.proofs.Common.{◌≡◌, inl, inr, List, Option, refl, sym, ap, ◌∙◌, subst}
-use Rattle.std.specs.Option.{option_copied, ForSome}
+use Rattle.std.proofs.Common.{◌≡◌, inl, inr, Option, refl, sym, ap, ◌∙◌, subst}
+use Rattle.std.specs.Option.{option_copied}
 use Rattle.ipam_records.specs.declared.call.Write.{Write}
 use Rattle.ipam_records.specs.Datastore.{Datastore}
 use Rattle.ipam_store.specs.Shape.{StoreValue}
 use Rattle.ipam_feed.specs.Follows.{Follows}
-use Rattle.ipam_feed.specs.Turned.{IsPreparedFor}
 use Rattle.ipam_kept.specs.Feed.{counter_with, with_write}
 use Rattle.ipam_kept.specs.Giving.{FailsWith, StayKept, WereGiven}
 use Rattle.ipam_keeper.specs.declared.keeper.KeepFault.TheVariants.{Failed, Memory}
