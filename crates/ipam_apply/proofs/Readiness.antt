@@ -39,6 +39,7 @@ ready-again tells kept (base, (history, is)) nothing sure = record {
     cluster = stands-anew kept (still-consistent tells kept base history is) nothing;
     rows = is.rows;
     doubt = subst (λ (d : Option RowWrite). IsDoubt d (base_of kept) []) (sym sure) tt;
+    counter = is.counter;
   };
 }
 

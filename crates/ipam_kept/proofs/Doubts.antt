@@ -1,5 +1,5 @@
 -- What a keeper has may be opened, and what a write that failed would have left.
-use Rattle.std.proofs.Common.{◌≡◌, ◌≢◌, ◌⊎◌, ℕ, zero, suc, ◌≤◌, inl, inr, List, [], ◌∷◌, ◌++◌, Option, Some, None, refl, sym, ap, ◌∙◌, subst, arith}
+use Rattle.std.proofs.Common.{◌≡◌, ℕ, ◌≤◌, inl, inr, List, [], ◌∷◌, Option, Some, None, refl, sym, ap, ◌∙◌, subst, arith}
 use Rattle.std.specs.Prelude.{All, Contains, max}
 use Rattle.std.proofs.lemmas.List.Elements.{All-cons, All-contains, All-head, All-tail}
 use Rattle.std.proofs.lemmas.List.Sorted.{Contains-permutation, IsPermutation-sym}
@@ -10,7 +10,7 @@ use Rattle.ipam_records.specs.declared.call.Write.{Write}
 use Rattle.ipam_records.specs.declared.call.Write.TheVariants as write
 use Rattle.ipam_records.specs.declared.key.Key.{Key}
 use Rattle.ipam_records.specs.declared.record.Record.{Record}
-use Rattle.ipam_records.specs.Datastore.{Datastore, granted, has_room, last_revision, reply_of, reply_to_change, reply_to_create, row_key, row_of, with_row, write_granted, written}
+use Rattle.ipam_records.specs.Datastore.{Datastore, last_revision, reply_of, reply_to_change, row_of, with_row, write_granted, written}
 use Rattle.ipam_records.specs.Key.{key_of}
 use Rattle.ipam_records.specs.KeyText.{IsKey}
 use Rattle.ipam_records.specs.Said.{Said, Found, Missing, Listed, Can, Exists, Conflict, Full, Spent}
@@ -23,13 +23,13 @@ use Rattle.ipam_model.specs.declared.entry.Called.{Called}
 use Rattle.ipam_model.specs.declared.entry.Entry.{Entry}
 use Rattle.ipam_model.specs.declared.entry.Entry.TheVariants as entry
 use Rattle.ipam_model.specs.declared.entry.Fate.{Fate}
-use Rattle.ipam_model.specs.declared.entry.Fate.TheVariants.{Well, Before, After}
+use Rattle.ipam_model.specs.declared.entry.Fate.TheVariants.{Before, After}
 use Rattle.ipam_model.specs.Cluster.{Running, after, call_entry, called, store_after, store_with}
 use Rattle.ipam_model.specs.Consistent.{IsConsistent}
 use Rattle.ipam_model.specs.FateLaw.{IsSameCall}
-use Rattle.ipam_model.specs.History.{Base, Lawful, MayCall, cluster_at, store_at}
+use Rattle.ipam_model.specs.History.{Base, Lawful, cluster_at, store_at}
 use Rattle.ipam_model.specs.Named.{name_of}
-use Rattle.ipam_model.specs.Opened.{IsCounterOf, IsTextOf, text_of, texts_of}
+use Rattle.ipam_model.specs.Opened.{IsTextOf, text_of, texts_of}
 use Rattle.ipam_model.specs.Reads.{Row}
 use Rattle.ipam_laws.proofs.Fates.{any_fate}
 use Rattle.ipam_laws.proofs.Members.{all-of, out-map}
@@ -38,8 +38,8 @@ use Rattle.ipam_laws.proofs.RowOrder.{found-member}
 use Rattle.ipam_laws.proofs.SlotsHistory.{consistent_law}
 use Rattle.ipam_laws.proofs.StoreSteps.{write_told-granted}
 use Rattle.ipam_kept.specs.declared.write.RowWrite.{RowWrite}
-use Rattle.ipam_kept.specs.Doubt.{FailedIn, IsDoubt, KeptOpensLaw, OpensAsLawful, WritesKeyOf, key_called}
-use Rattle.ipam_kept.specs.Rows.{AreKept, AreTextsOf, greatest, key_written, rows_after, texts_loaded, texts_written}
+use Rattle.ipam_kept.specs.Doubt.{FailedIn, IsDoubt, KeptOpensLaw, OpensAsLawful, WritesKeyOf}
+use Rattle.ipam_kept.specs.Rows.{AreTextsOf, greatest, rows_after, texts_loaded, texts_written}
 use Rattle.ipam_kept.proofs.StoreTexts.{IsNamed, key-sound, stand-after, stand-texts, texts-stand}
 
 -- ---- what is kept may be opened

@@ -1,5 +1,5 @@
 -- What is given to a keeper keeps its rows those of the datastore.
-use Rattle.std.proofs.Common.{◌≡◌, ◌⊎◌, inl, inr, List, Option, Some, None, Err, refl, sym, ap, ◌∙◌, subst}
+use Rattle.std.proofs.Common.{◌≡◌, inl, inr, List, Option, Some, None, Err, refl, sym, ap, ◌∙◌, subst}
 use Rattle.ipam_records.specs.declared.call.Row.{Row as RowText}
 use Rattle.ipam_records.specs.declared.call.Write.{Write}
 use Rattle.ipam_records.specs.Datastore.{Datastore}
@@ -9,7 +9,7 @@ use Rattle.ipam_keeper.specs.declared.keeper.KeepFault.TheVariants.{Failed, Memo
 use Rattle.ipam_keeper.specs.Keeping.{IsOldOrNew, OnFailed, OnMemory}
 use Rattle.ipam_kept.specs.declared.write.RowWrite.{RowWrite}
 use Rattle.ipam_kept.specs.Giving.{StayKept, WereGiven, known_after, known_written}
-use Rattle.ipam_kept.specs.Rows.{AreKept, AreTextsOf, AreToldKept, key_written, row_back, rows_after, texts_written}
+use Rattle.ipam_kept.specs.Rows.{AreKept, AreTextsOf, AreToldKept, key_written, row_back, rows_after}
 use Rattle.ipam_kept.proofs.StoreTexts.{back-after, back-own, texts-stand}
 
 module _ (store : Datastore) (sound : IsDatastore store) (failed : RowWrite) where

@@ -1,13 +1,12 @@
 -- What each call of a kept cluster leaves it kept for.
 use Rattle.std.proofs.Common.{◌≡◌, ◌⊎◌, ℕ, inl, inr, List, [], ◌∷◌, Option, Some, None, Result, Ok, Err, refl, sym, ap, ◌∙◌, subst}
-use Rattle.std.specs.Prelude.{IfOk, IfSome, IsSome}
+use Rattle.std.specs.Prelude.{IfOk, IfSome}
 use Rattle.ipam_records.specs.declared.call.Call.{Call}
 use Rattle.ipam_records.specs.declared.call.Row.{Row as RowText}
 use Rattle.ipam_records.specs.declared.call.Write.{Write}
 use Rattle.ipam_records.specs.Datastore.{Datastore, reply_of, write_granted, written}
 use Rattle.ipam_records.specs.Sound.{IsDatastore}
 use Rattle.ipam_records.specs.Word.{asked}
-use Rattle.ipam_model.specs.declared.entry.CallName.{CallName}
 use Rattle.ipam_model.specs.declared.entry.Called.{Called}
 use Rattle.ipam_model.specs.declared.entry.Entry.{Entry}
 use Rattle.ipam_model.specs.declared.entry.Entry.TheVariants as entry
@@ -24,17 +23,20 @@ use Rattle.ipam_running.specs.declared.running.Running.{Running}
 use Rattle.ipam_running.specs.Running.{running_rest}
 use Rattle.ipam_cluster.specs.declared.cluster.Cluster.{Cluster}
 use Rattle.ipam_cluster.specs.declared.turns.Prepared.{Prepared}
-use Rattle.ipam_cluster.specs.Cluster.{AddsTo, IsCluster, IsSlot, IsUnchanged, Runs, StandsFor, slot_of}
+use Rattle.ipam_cluster.specs.Cluster.{AddsTo, IsSlot, IsUnchanged, StandsFor, slot_of}
 use Rattle.ipam_cluster.specs.Preparing.{IsPrepared, write_asked, write_next}
 use Rattle.ipam_cluster.specs.Turns.{IsTurn}
+use Rattle.ipam_feed.specs.Shape.{RingValue}
 use Rattle.ipam_kept.specs.declared.kept.Kept.{Kept}
 use Rattle.ipam_kept.specs.declared.write.RowWrite.{RowWrite}
-use Rattle.ipam_kept.specs.Doubt.{FailedIn, IsDoubt, WritesKeyOf}
+use Rattle.ipam_kept.specs.Doubt.{FailedIn, IsDoubt}
+use Rattle.ipam_kept.specs.Feed.{counter_with}
 use Rattle.ipam_kept.specs.Giving.{FailsWith, StayKept, WereGiven, known_after, known_written}
 use Rattle.ipam_kept.specs.Kept.{IsKept, KeepsWith, KeptFor, LeavesKeeper, Stays, Tells}
-use Rattle.ipam_kept.specs.Rows.{AreKept, AreTextsOf, AreToldKept, rows_after, texts_loaded, texts_written}
-use Rattle.ipam_kept.specs.Turning.{ComesInDoubt, IsDone, IsFailed, IsRefused, StaysInDoubt}
+use Rattle.ipam_kept.specs.Rows.{AreTextsOf, AreToldKept, rows_after, texts_loaded, texts_written}
+use Rattle.ipam_kept.specs.Turning.{ComesInDoubt, StaysInDoubt}
 use Rattle.ipam_kept.proofs.Doubts.{DoneInstead, done-instead, doubt-later, failed-in}
+use Rattle.ipam_kept.proofs.Fed.{counter-with}
 use Rattle.ipam_kept.proofs.StoreTexts.{opened-stand, stand-after, stand-texts, texts-stand}
 use Rattle.ipam_kept.proofs.TextRows.{ascend-by_key}
 
@@ -71,23 +73,24 @@ left-doubt doubt left base history (inr sure) h = subst (λ (d : Option RowWrite
 
 module _ {D : Type 0} (tells : Tells D) (old new : Kept D) where
   -- where nothing happened, but that a row may have been put back
-  pub stays : IsUnchanged old.cluster new.cluster → StayKept old.cluster.store.store (tells old.keeper) old.doubt (tells new.keeper) new.doubt → (new.doubt ≡ old.doubt) ⊎ (new.doubt ≡ None) → Stays tells old new
-  stays same rows doubt = record {
+  pub stays : IsUnchanged old.cluster new.cluster → StayKept old.cluster.store.store (tells old.keeper) old.doubt (tells new.keeper) new.doubt → (new.doubt ≡ old.doubt) ⊎ (new.doubt ≡ None) → new.ring.counter ≡ old.ring.counter → Stays tells old new
+  stays same rows doubt counter = record {
     cluster = same;
     kept = λ base history h. record {
       cluster = unchanged-stands old.cluster new.cluster same base history h.cluster;
       rows = subst (λ (s : Datastore). AreToldKept (tells new.keeper) s new.doubt) (sym same.store) (rows (sound-store old.cluster base history h.cluster) h.rows);
       doubt = left-doubt old.doubt new.doubt base history doubt h.doubt;
+      counter = counter ∙ (h.counter ∙ ap (λ (s : Datastore). s.counter) (sym same.store));
     };
   }
 
-  pub stays-left : IsUnchanged old.cluster new.cluster → LeavesKeeper old new → Stays tells old new
-  stays-left same left =
-      stays same (λ sound are. subst (λ (d : Option RowWrite). AreToldKept (tells new.keeper) old.cluster.store.store d) (sym left.doubt) (subst (λ (k : D). AreToldKept (tells k) old.cluster.store.store old.doubt) (sym left.keeper) are)) (inl left.doubt)
+  pub stays-left : IsUnchanged old.cluster new.cluster → LeavesKeeper old new → new.ring ≡ old.ring → Stays tells old new
+  stays-left same left ring =
+      stays same (λ sound are. subst (λ (d : Option RowWrite). AreToldKept (tells new.keeper) old.cluster.store.store d) (sym left.doubt) (subst (λ (k : D). AreToldKept (tells k) old.cluster.store.store old.doubt) (sym left.keeper) are)) (inl left.doubt) (ap (λ (r : RingValue). r.counter) ring)
 
   -- an entry with which the store stays
-  pub keeps-left : (told : Entry) → ((base : Base) (history : List Entry) → store_at base (told ∷ history) ≡ store_at base history) → LeavesKeeper old new → AddsTo old.cluster new.cluster told → KeepsWith tells old new told
-  keeps-left told same left adds base history h =
+  pub keeps-left : (told : Entry) → ((base : Base) (history : List Entry) → store_at base (told ∷ history) ≡ store_at base history) → LeavesKeeper old new → new.ring ≡ old.ring → AddsTo old.cluster new.cluster told → KeepsWith tells old new told
+  keeps-left told same left ring adds base history h =
       let behind = adds base history h.cluster in
       let stores : new.cluster.store.store ≡ old.cluster.store.store = store-is new.cluster base (told ∷ history) behind ∙ (same base history ∙ sym (store-is old.cluster base history h.cluster)) in
       record {
@@ -95,6 +98,7 @@ module _ {D : Type 0} (tells : Tells D) (old new : Kept D) where
         rows = subst (λ (s : Datastore). AreToldKept (tells new.keeper) s new.doubt) (sym stores)
             (subst (λ (d : Option RowWrite). AreToldKept (tells new.keeper) old.cluster.store.store d) (sym left.doubt) (subst (λ (k : D). AreToldKept (tells k) old.cluster.store.store old.doubt) (sym left.keeper) h.rows));
         doubt = subst (λ (d : Option RowWrite). IsDoubt d base (told ∷ history)) (sym left.doubt) (doubt-later old.doubt base history told (same base history) h.doubt);
+        counter = ap (λ (r : RingValue). r.counter) ring ∙ (h.counter ∙ ap (λ (s : Datastore). s.counter) (sym stores));
       }
 
 pub keeps-over : {D : Type 0} (tells : Tells D) (old between new : Kept D) (told : Entry) → Stays tells old between → KeepsWith tells between new told → KeepsWith tells old new told
@@ -127,17 +131,17 @@ stopped-store : (base : Base) (history : List Entry) (slot : ℕ) → store_at b
 unfolding cluster_at after
 stopped-store base history slot = refl
 
-module _ {D : Type 0} (tells : Tells D) (old new : Kept D) (left : LeavesKeeper old new) where
+module _ {D : Type 0} (tells : Tells D) (old new : Kept D) (left : LeavesKeeper old new) (ring : new.ring ≡ old.ring) where
   pub begin-keeps : {E : Type 0} (result : Result Entry E) (slot : ℕ) (request : Request) → IfOk result (λ began. began ≡ entry.Began slot request) → IfOk result (AddsTo old.cluster new.cluster) → IfOk result (KeepsWith tells old new)
-  begin-keeps (Ok told) slot request is adds = keeps-left tells old new told (λ base history. subst (λ (e : Entry). store_at base (e ∷ history) ≡ store_at base history) (sym is) (began-store base history slot request)) left adds
+  begin-keeps (Ok told) slot request is adds = keeps-left tells old new told (λ base history. subst (λ (e : Entry). store_at base (e ∷ history) ≡ store_at base history) (sym is) (began-store base history slot request)) left ring adds
   begin-keeps (Err e) slot request is adds = tt
 
   pub feed-keeps : {E : Type 0} (result : Result Entry E) (slot at : ℕ) (live : List (List ℕ)) → IfOk result (λ fed. fed ≡ entry.Fed slot at live) → IfOk result (AddsTo old.cluster new.cluster) → IfOk result (KeepsWith tells old new)
-  feed-keeps (Ok told) slot at live is adds = keeps-left tells old new told (λ base history. subst (λ (e : Entry). store_at base (e ∷ history) ≡ store_at base history) (sym is) (fed-store base history slot at live)) left adds
+  feed-keeps (Ok told) slot at live is adds = keeps-left tells old new told (λ base history. subst (λ (e : Entry). store_at base (e ∷ history) ≡ store_at base history) (sym is) (fed-store base history slot at live)) left ring adds
   feed-keeps (Err e) slot at live is adds = tt
 
   pub stop-keeps : (result : Option Entry) (slot : ℕ) → IfSome result (λ stopped. stopped ≡ entry.Stopped slot) → IfSome result (AddsTo old.cluster new.cluster) → IfSome result (KeepsWith tells old new)
-  stop-keeps (Some told) slot is adds = keeps-left tells old new told (λ base history. subst (λ (e : Entry). store_at base (e ∷ history) ≡ store_at base history) (sym is) (stopped-store base history slot)) left adds
+  stop-keeps (Some told) slot is adds = keeps-left tells old new told (λ base history. subst (λ (e : Entry). store_at base (e ∷ history) ≡ store_at base history) (sym is) (stopped-store base history slot)) left ring adds
   stop-keeps None slot is adds = tt
 
 -- ---- the write of what is prepared
@@ -180,14 +184,16 @@ module _ (old new : Cluster) (prepared : Prepared) (is : IsPrepared old prepared
 
 module _ {D : Type 0} (tells : Tells D) (old new : Kept D) (prepared : Prepared) (is : IsPrepared old.cluster prepared) (told : Entry) (adds : AddsTo old.cluster new.cluster told) where
   -- one that was done
-  pub keeps-done : IsTurn prepared.slot Well told → new.cluster.store.store ≡ store_with prepared.write old.cluster.store.store → WereGiven prepared.write old.cluster.store.store (tells old.keeper) old.doubt (tells new.keeper) → new.doubt ≡ None → KeepsWith tells old new told
-  keeps-done turn stores given sure base history h =
+  pub keeps-done : IsTurn prepared.slot Well told → new.cluster.store.store ≡ store_with prepared.write old.cluster.store.store → WereGiven prepared.write old.cluster.store.store (tells old.keeper) old.doubt (tells new.keeper) → new.doubt ≡ None → new.ring.counter ≡ counter_with prepared.write old.ring.counter → KeepsWith tells old new told
+  keeps-done turn stores given sure counter base history h =
       let behind = adds base history h.cluster in
       let (between, are, last) = given (sound-store old.cluster base history h.cluster) h.rows in
       record {
         cluster = behind;
         rows = subst (λ (d : Option RowWrite). AreToldKept (tells new.keeper) new.cluster.store.store d) (sym sure) (by prepared.write refl between are last);
         doubt = subst (λ (d : Option RowWrite). IsDoubt d base (told ∷ history)) (sym sure) tt;
+        counter = counter ∙ (ap (counter_with prepared.write) h.counter
+            ∙ (sym (counter-with prepared.write old.cluster.store.store) ∙ ap (λ (s : Datastore). s.counter) (sym stores)));
       }
     where
       rows-written : (done : Write) → prepared.write ≡ Some done → (between : Option (List RowText)) → AreToldKept between old.cluster.store.store None → AreToldKept (known_after (texts_written done) between) new.cluster.store.store None
@@ -211,14 +217,15 @@ module _ {D : Type 0} (tells : Tells D) (old new : Kept D) (prepared : Prepared)
           subst (λ (t : Option (List RowText)). AreToldKept t new.cluster.store.store None) (sym rows) (rows-written done e between are)
 
   -- one that failed
-  pub keeps-failed : IsTurn prepared.slot Before told → new.cluster.store.store ≡ old.cluster.store.store → StayKept old.cluster.store.store (tells old.keeper) old.doubt (tells new.keeper) new.doubt → FailsWith prepared.write old.doubt new.doubt → KeepsWith tells old new told
-  keeps-failed turn stores stay fails base history h =
+  pub keeps-failed : IsTurn prepared.slot Before told → new.cluster.store.store ≡ old.cluster.store.store → StayKept old.cluster.store.store (tells old.keeper) old.doubt (tells new.keeper) new.doubt → FailsWith prepared.write old.doubt new.doubt → new.ring.counter ≡ old.ring.counter → KeepsWith tells old new told
+  keeps-failed turn stores stay fails counter base history h =
       let behind = adds base history h.cluster in
       let same = same-store old.cluster new.cluster base history told h.cluster behind stores in
       record {
         cluster = behind;
         rows = subst (λ (s : Datastore). AreToldKept (tells new.keeper) s new.doubt) (sym stores) (stay (sound-store old.cluster base history h.cluster) h.rows);
         doubt = by same fails;
+        counter = counter ∙ (h.counter ∙ ap (λ (s : Datastore). s.counter) (sym stores));
       }
     where
       by : store_at base (told ∷ history) ≡ store_at base history → FailsWith prepared.write old.doubt new.doubt → IsDoubt new.doubt base (told ∷ history)
@@ -239,13 +246,14 @@ module _ {D : Type 0} (tells : Tells D) (old new : Kept D) (prepared : Prepared)
 -- ---- opening
 
 -- rows that were opened are kept
-pub opened-kept : {D : Type 0} (tells : Tells D) (keeper : D) (first : ℕ) (kept : Kept D) (loaded : List RowText) → Ascend loaded → IsTold (tells keeper) loaded → OpensAs (texts_loaded loaded) kept.cluster.store.store → StandsFor kept.cluster (record { store = kept.cluster.store.store; first = first }) [] → kept.doubt ≡ None → tells kept.keeper ≡ tells keeper
+pub opened-kept : {D : Type 0} (tells : Tells D) (keeper : D) (first : ℕ) (kept : Kept D) (loaded : List RowText) → Ascend loaded → IsTold (tells keeper) loaded → OpensAs (texts_loaded loaded) kept.cluster.store.store → StandsFor kept.cluster (record { store = kept.cluster.store.store; first = first }) [] → kept.doubt ≡ None → tells kept.keeper ≡ tells keeper → kept.ring.counter ≡ kept.cluster.store.store.counter
     → KeptFor tells kept (record { store = kept.cluster.store.store; first = first }) []
-opened-kept tells keeper first kept loaded ascend told opens stands sure same = record {
+opened-kept tells keeper first kept loaded ascend told opens stands sure same counter = record {
   cluster = stands;
   rows = subst (λ (d : Option RowWrite). AreToldKept (tells kept.keeper) store d) (sym sure)
       (subst (λ (t : Option (List RowText)). AreToldKept t store None) (sym same) (by (tells keeper) told));
   doubt = subst (λ (d : Option RowWrite). IsDoubt d (record { store = store; first = first }) []) (sym sure) tt;
+  counter = counter;
 }
   where
     store : Datastore

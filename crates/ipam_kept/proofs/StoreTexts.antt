@@ -1,8 +1,8 @@
 -- The texts of a datastore's rows: what stands at each key, and what a write makes of them.
-use Rattle.std.proofs.Common.{◌≡◌, ◌≢◌, ◌⊎◌, ℕ, zero, suc, inl, inr, Bool, true, false, cond, List, [], ◌∷◌, map, Option, Some, None, Ok, refl, sym, ap, ◌∙◌, subst, arith}
-use Rattle.std.specs.Prelude.{All, AllPairs, Contains}
+use Rattle.std.proofs.Common.{◌≡◌, ◌≢◌, ◌⊎◌, ℕ, inl, inr, Bool, true, false, cond, List, [], ◌∷◌, map, Option, Some, None, Ok, refl, sym, ap, ◌∙◌, subst, arith}
+use Rattle.std.specs.Prelude.{AllPairs, Contains}
 use Rattle.std.specs.Option.{option_map}
-use Rattle.std.specs.List.Sorted.{IsPermutation, IsStrictlySortedBy}
+use Rattle.std.specs.List.Sorted.{IsStrictlySortedBy}
 use Rattle.std.proofs.lemmas.Bool.{cases_Bool}
 use Rattle.std.proofs.lemmas.List.Elements.{All-contains}
 use Rattle.std.proofs.lemmas.List.Kept.{AllPairs-cons}
@@ -12,12 +12,12 @@ use Rattle.ipam_records.specs.declared.call.Write.{Write}
 use Rattle.ipam_records.specs.declared.call.Write.TheVariants as write
 use Rattle.ipam_records.specs.declared.key.Key.{Key}
 use Rattle.ipam_records.specs.declared.record.Record.{Record}
-use Rattle.ipam_records.specs.Datastore.{Datastore, row_key, with_row, without_row, written, row_of as row_at_key}
+use Rattle.ipam_records.specs.Datastore.{Datastore, row_key, written, row_of as row_at_key}
 use Rattle.ipam_records.specs.Key.{key_of}
 use Rattle.ipam_records.specs.KeyOrder.{key_cmp, keys_equal}
 use Rattle.ipam_records.specs.KeyOrderLaws.{keys_equal-itself, same-keys_equal}
-use Rattle.ipam_records.specs.KeyText.{IsKey, IsTextOf as IsTextOfKey, key_bytes, key_read}
-use Rattle.ipam_records.specs.Sound.{IsDatastore, IsRecord, IsRow}
+use Rattle.ipam_records.specs.KeyText.{IsKey, key_bytes, key_read}
+use Rattle.ipam_records.specs.Sound.{IsDatastore, IsRow}
 use Rattle.ipam_records.proofs.DatastoreLemmas.{row_key-row_of, row_of-with_row, row_of-with_row-other, row_of-without_row, row_of-without_row-other}
 use Rattle.ipam_records.proofs.KeyTextLemmas.{IsTextOf-key_read, key_bytes_injective, key_read-key_bytes}
 use Rattle.ipam_records.proofs.RecordTexts.{IsKey-key_of, record_read}
@@ -27,13 +27,12 @@ use Rattle.ipam_keeper.proofs.Lookups.{row_of-rows_with, row_of-rows_without, sa
 use Rattle.ipam_model.specs.Opened.{AreByKey, OpensAs, Texts, reading_of, text_of, texts_of}
 use Rattle.ipam_model.specs.Reads.{Row}
 use Rattle.ipam_laws.proofs.AllRead.{all_read}
-use Rattle.ipam_laws.proofs.Members.{all-of, in-cons, in-here, in-map, in-nothing, in-there, out-map}
-use Rattle.ipam_laws.proofs.OpenedRows.{key-is-read}
+use Rattle.ipam_laws.proofs.Members.{all-of, in-here, in-map, in-there, out-map}
 use Rattle.ipam_laws.proofs.Openings.{less-than, never-less}
 use Rattle.ipam_laws.proofs.RowOrder.{found-member as store-member, member-found as store-found}
 use Rattle.ipam_kept.specs.declared.write.RowWrite.{RowWrite}
 use Rattle.ipam_kept.specs.declared.write.RowWrite.TheVariants.{Put, Remove}
-use Rattle.ipam_kept.specs.Rows.{AreTextsOf, key_written, putting_back, row_back, row_read, rows_after, texts_loaded, texts_written}
+use Rattle.ipam_kept.specs.Rows.{AreTextsOf, key_written, putting_back, row_back, row_read, rows_after, texts_written}
 use Rattle.ipam_kept.proofs.TextRows.{ascend-by_key, by_key-ascend, equal-texts, found-member, member-found, other-texts, permutes, rows-differ, text-itself}
 
 -- ---- what stands at each key

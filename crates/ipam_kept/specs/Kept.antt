@@ -12,12 +12,13 @@ use Rattle.ipam_kept.specs.Rows.{AreToldKept}
 abbrev pub Tells : Type 0 → Type 0
 Tells D = D → Option (List RowText)
 
--- the cluster stands for the history, the keeper has its rows but for the one in doubt, and that one's
--- write failed in the history
+-- the cluster stands for the history, the keeper has its rows but for the one in doubt, that one's
+-- write failed in the history, and the feed of routes is at the datastore's counter
 pub record KeptFor {D : Type 0} (tells : Tells D) (kept : Kept D) (base : Base) (history : List Entry) : Type 0 where
   pub cluster : StandsFor kept.cluster base history
   pub rows : AreToldKept (tells kept.keeper) kept.cluster.store.store kept.doubt
   pub doubt : IsDoubt kept.doubt base history
+  pub counter : kept.ring.counter ≡ kept.cluster.store.store.counter
 
 -- it is kept for some history
 abbrev pub IsKept : {D : Type 0} → Tells D → Kept D → Type 0

@@ -4,5 +4,6 @@ pub mod Doubt
 pub mod Faults
 pub mod Giving
 pub mod Kept
+pub mod Feed
 pub mod Opening
 pub mod Turning

@@ -1,5 +1,5 @@
 -- What comes of opening a keeper's rows.
-use Rattle.std.specs.Prelude.{◌≡◌, ℕ, List, [], Option, None}
+use Rattle.std.specs.Prelude.{◌≡◌, ℕ, List, [], None}
 use Rattle.ipam_io.specs.Counts.{Rose}
 use Rattle.ipam_records.specs.declared.call.Row.{Row as RowText}
 use Rattle.ipam_keeper.specs.Keeping.{IsTold}

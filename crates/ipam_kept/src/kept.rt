@@ -1,4 +1,4 @@
-ghost use Rattle.std.specs.Prelude.{◌≡◌, ◌↔◌, ◌<◌, ◌≤◌, ◌+◌, ◌^◌, ◌⊎◌, ℕ, Some, None, IsSome, IsNone, IfOk, IfErr, IfSome, IfNone, OnErr, Err, option_map};
+ghost use Rattle.std.specs.Prelude.{◌≡◌, ◌↔◌, ◌<◌, ◌≤◌, ◌+◌, ◌^◌, ◌⊎◌, ℕ, List, [], Some, None, IsSome, IsNone, IfOk, IfErr, IfSome, IfNone, OnErr, Err, option_map};
 ghost use Rattle.std.specs.Option.{option_copied};
 ghost use Rattle.ipam_model.specs.declared.entry.Entry.TheVariants as entry;
 ghost use Rattle.ipam_model.specs.declared.entry.SlotState.TheVariants as state;
@@ -8,14 +8,16 @@ ghost use Rattle.ipam_collect.specs.declared.collect.Grace.{Grace};
 ghost use Rattle.std.specs.List.{All};
 ghost use Rattle.ipam_kept.specs.Faults.{not_loaded, not_opened};
 
+use crate::feed::{prepare, push};
 use crate::giving::give;
-use crate::loaded::open_cluster;
+use crate::loaded::open_fed;
 use crate::write::RowWrite;
 use ipam_cluster::{BeginFault, Cluster, FeedFault, OpenFault, PrepareFault, Prepared, SLOTS};
+use ipam_feed::{Change, Ring, Route, SinceFault};
 use ipam_keeper::{KeepFault, Keeper};
 use ipam_model::{Entry, Fate, Request};
 use ipam_text::Text;
-use std::alloc::Global;
+use std::alloc::{AllocError, Global};
 
 /// Why rows were not opened.
 #[derive(Debug, Drop)]
@@ -36,12 +38,17 @@ pub struct Kept<D> {
     /// The write that failed last and was not taken back since. Its row is in doubt: the keeper has
     /// the old one or the new one.
     pub(crate) doubt: Option<RowWrite>,
+    /// The feed of the cluster's routes.
+    pub(crate) ring: Ring,
 }
 
 impl<D: Keeper> Kept<D> {
     ghost use Rattle.ipam_cluster.specs.Cluster.{slot_of, state_in, WaitsWith};
     ghost use Rattle.ipam_kept.specs.Rows.{key_written};
     ghost use Rattle.ipam_kept.specs.Kept.{IsKept, KeepsWith, LeavesKeeper, Stays};
+    ghost use Rattle.ipam_kept.specs.Feed.{FedFor, FedWith, StaysFed, AreRoutes, AreChanges, IsCompacted, IsAhead};
+    ghost use Rattle.ipam_model.specs.declared.entry.Entry.{Entry as OneEntry};
+    ghost use Rattle.ipam_model.specs.History.{Base};
     ghost use Rattle.ipam_kept.specs.Opening.{IsNotOpened, IsOpened};
     ghost use Rattle.ipam_kept.specs.Turning.{IsDone, IsFailed, IsRefused};
     ghost use Rattle.ipam_cluster.specs.Preparing.{IsPrepared};
@@ -51,6 +58,7 @@ impl<D: Keeper> Kept<D> {
     pub fn open(alloc: Global, keeper: D, first: u64) -> Result<Kept<D>, (D, KeptFault)>
         requires { first ≤ 2 ^ 62 + 64 }
         ensures opened { IfOk result (IsOpened D.rows D.faults D.name keeper first) }
+        ensures fed { IfOk result (λ kept. FedFor D.rows kept (record { store = kept.cluster.store.store; first = first }) []) }
         ensures refused { IfErr result (IsNotOpened D.rows D.faults D.name keeper) }
     {
         let mut keeper = keeper;
@@ -58,11 +66,12 @@ impl<D: Keeper> Kept<D> {
             Ok(rows) => rows,
             Err(fault) => return Err((keeper, not_loaded(fault))),
         };
-        match open_cluster(alloc, rows, first) {
-            Ok(cluster) => Ok(Kept {
+        match open_fed(alloc, rows, first) {
+            Ok((cluster, ring)) => Ok(Kept {
                 cluster,
                 keeper,
                 doubt: None,
+                ring,
             }),
             Err(fault) => Err((keeper, not_opened(fault))),
         }
@@ -76,7 +85,9 @@ impl<D: Keeper> Kept<D> {
         ensures worn { (result ≡ Err BeginFault.Worn) ↔ (slot_of self.old.cluster slot ≡ None × 2 ^ 62 ≤ self.old.cluster.entries) }
         ensures entry { IfOk result (λ began. began ≡ entry.Began slot request.now) }
         ensures keeps { IfOk result (KeepsWith D.rows self.old self.new) }
+        ensures feeds { IfOk result (FedWith D.rows self.old self.new) }
         ensures unchanged { OnErr result (Stays D.rows self.old self.new) }
+        ensures still_fed { OnErr result (StaysFed D.rows self.old self.new) }
         ensures keeper { LeavesKeeper self.old self.new }
     {
         self.cluster.begin(alloc, slot, request)
@@ -100,7 +111,9 @@ impl<D: Keeper> Kept<D> {
             × (grace : Grace) × WaitsWith (slot_of self.old.cluster slot) grace × grace.at + grace.grace ≤ at) }
         ensures entry { IfOk result (λ fed. fed ≡ entry.Fed slot at live.now) }
         ensures keeps { IfOk result (KeepsWith D.rows self.old self.new) }
+        ensures feeds { IfOk result (FedWith D.rows self.old self.new) }
         ensures unchanged { OnErr result (Stays D.rows self.old self.new) }
+        ensures still_fed { OnErr result (StaysFed D.rows self.old self.new) }
         ensures keeper { LeavesKeeper self.old self.new }
     {
         self.cluster.feed(alloc, slot, live, at)
@@ -117,34 +130,46 @@ impl<D: Keeper> Kept<D> {
         ensures worn { (result ≡ Err PrepareFault.Worn) ↔ (2 ^ 62 ≤ self.old.cluster.entries × state_in (slot_of self.old.cluster slot) ≡ state.Running) }
         ensures turned { IfOk result (λ told. IsDone D.faults slot self.old self.new told ⊎ IsFailed D.faults slot self.old self.new told) }
         ensures keeps { IfOk result (KeepsWith D.rows self.old self.new) }
+        ensures feeds { IfOk result (FedWith D.rows self.old self.new) }
         ensures others { (other : ℕ) → ¬ (other ≡ slot) → slot_of self.new.cluster other ≡ slot_of self.old.cluster other }
         ensures refused { OnErr result (IsRefused D.faults self.old self.new) }
         ensures unchanged { OnErr result (Stays D.rows self.old self.new) }
+        ensures still_fed { OnErr result (StaysFed D.rows self.old self.new) }
         ensures same { D.name self.new.keeper ≡ D.name self.old.keeper }
     {
         let prepared = self.cluster.prepare(alloc, slot)?;
         self.make(alloc, prepared)
     }
 
-    /// Makes the call that is prepared. On `Err` there is no memory, and the cluster is as it was.
+    /// Makes the call that is prepared, once the feed is ready for what it writes. On `Err` there is no
+    /// memory, and the cluster is as it was.
     fn make(&mut self, alloc: Global, prepared: Prepared) -> Result<Entry, PrepareFault>
         requires prepared { IsPrepared self.old.cluster prepared }
         requires kept { IsKept D.rows self.old }
         ensures memory { IfErr result (λ e. e ≡ PrepareFault.Memory) }
         ensures turned { IfOk result (λ told. IsDone D.faults prepared.slot self.old self.new told ⊎ IsFailed D.faults prepared.slot self.old self.new told) }
         ensures keeps { IfOk result (KeepsWith D.rows self.old self.new) }
+        ensures feeds { IfOk result (FedWith D.rows self.old self.new) }
         ensures others { IfOk result (λ told. (other : ℕ) → ¬ (other ≡ prepared.slot) → slot_of self.new.cluster other ≡ slot_of self.old.cluster other) }
         ensures refused { OnErr result (IsRefused D.faults self.old self.new) }
         ensures unchanged { OnErr result (Stays D.rows self.old self.new) }
+        ensures still_fed { OnErr result (StaysFed D.rows self.old self.new) }
         ensures same { D.name self.new.keeper ≡ D.name self.old.keeper }
     {
         let Kept {
             cluster,
             keeper,
             doubt,
+            ring,
         } = self;
+        let Ok(()) = prepare(ring, prepared.write()) else {
+            return Err(PrepareFault::Memory);
+        };
         match give(alloc, cluster.store(), keeper, doubt, prepared.write()) {
-            Ok(()) => Ok(cluster.commit(prepared, Fate::Well)),
+            Ok(()) => {
+                push(ring, prepared.write());
+                Ok(cluster.commit(prepared, Fate::Well))
+            }
             Err(KeepFault::Failed) => Ok(cluster.commit(prepared, Fate::Before)),
             Err(KeepFault::Memory) => Err(PrepareFault::Memory),
         }
@@ -156,12 +181,39 @@ impl<D: Keeper> Kept<D> {
         ensures idle { IsNone result ↔ (slot_of self.old.cluster slot ≡ None) }
         ensures entry { IfSome result (λ stopped. stopped ≡ entry.Stopped slot) }
         ensures keeps { IfSome result (KeepsWith D.rows self.old self.new) }
+        ensures feeds { IfSome result (FedWith D.rows self.old self.new) }
         ensures idle_after { slot_of self.new.cluster slot ≡ None }
         ensures others { (other : ℕ) → ¬ (other ≡ slot) → slot_of self.new.cluster other ≡ slot_of self.old.cluster other }
         ensures unchanged { IfNone result (Stays D.rows self.old self.new) }
+        ensures still_fed { IfNone result (StaysFed D.rows self.old self.new) }
         ensures keeper { LeavesKeeper self.old self.new }
     {
         self.cluster.stop(slot)
+    }
+
+    /// The datastore's revision, and its routes by node, then by family and base.
+    pub fn routes(&self) -> Result<(u64, Vec<Route>), AllocError>
+        ensures { IfOk result (λ told. (base : Base) (history : List OneEntry)
+            → FedFor D.rows self.now base history → AreRoutes base history told.0 told.1.items) }
+    {
+        let routes = self.ring.snapshot()?;
+        Ok((self.cluster.store().counter(), routes))
+    }
+
+    /// The datastore's revision, and what became of the routes after this one, in the order in which it
+    /// came.
+    pub fn routes_since(&self, revision: u64) -> Result<(u64, Vec<Change>), SinceFault>
+        ensures changes { IfOk result (λ told. (base : Base) (history : List OneEntry)
+            → FedFor D.rows self.now base history → AreChanges base history revision told.0 told.1.items) }
+        ensures compacted { (base : Base) (history : List OneEntry) (floor : ℕ) → FedFor D.rows self.now base history
+            → ((result ≡ Err (SinceFault.Compacted floor)) ↔ IsCompacted base history revision floor) }
+        ensures ahead { (base : Base) (history : List OneEntry) (counter : ℕ) → FedFor D.rows self.now base history
+            → ((result ≡ Err (SinceFault.Ahead counter)) ↔ IsAhead base history revision counter) }
+    {
+        match self.ring.since(revision) {
+            Ok(changes) => Ok((self.cluster.store().counter(), changes)),
+            Err(fault) => Err(fault),
+        }
     }
 }
 

@@ -1,6 +1,8 @@
-//! A cluster whose rows a keeper has: each write goes to the keeper before it is done.
+//! A cluster whose rows a keeper has: each write goes to the keeper before it is done. What that makes
+//! of the routes is told.
 #![tactic(auto)]
 
+mod feed;
 mod giving;
 mod kept;
 mod laws;
@@ -8,7 +10,9 @@ mod loaded;
 mod write;
 
 pub use ipam_cluster::{BeginFault, Cluster, FeedFault, PrepareFault};
+pub use ipam_feed::{Change, Route, SinceFault};
 pub use ipam_keeper::Keeper;
 pub use kept::{Kept, KeptFault};
 pub use laws::what_is_kept_may_be_opened;
+pub use std::alloc::AllocError as Memory;
 pub use write::RowWrite;

@@ -1,17 +1,43 @@
 //! The rows that a keeper loads.
 ghost use Rattle.std.specs.Prelude.{◌≡◌, ◌≤◌, ◌+◌, ◌^◌, ℕ, [], None, IfOk, IfErr};
 ghost use Rattle.ipam_cluster.specs.Cluster.{StandsFor, slot_of};
+ghost use Rattle.ipam_feed.specs.Follows.{Follows};
 ghost use Rattle.ipam_keeper.specs.Rows.{Ascend};
 ghost use Rattle.ipam_model.specs.Opened.{OpensAs};
 ghost use Rattle.ipam_opening.specs.Opening.{IsFaultOf};
 ghost use Rattle.ipam_kept.specs.Rows.{greatest, texts_loaded};
 
+use crate::feed::open_ring;
 use ipam_cluster::{Base, Cluster, OpenFault};
+use ipam_feed::Ring;
 use ipam_records::Row;
 use std::alloc::Global;
 
-/// Opens the rows in a cluster in which nothing runs, with their greatest revision as the counter.
-pub(crate) fn open_cluster(alloc: Global, rows: Vec<Row>, first: u64) -> Result<Cluster, OpenFault>
+/// Opens the rows in a cluster in which nothing runs, with their greatest revision as the counter, and
+/// the feed of its routes.
+pub(crate) fn open_fed(
+    alloc: Global,
+    rows: Vec<Row>,
+    first: u64,
+) -> Result<(Cluster, Ring), OpenFault>
+    requires ascend { Ascend rows.items }
+    requires first { first ≤ 2 ^ 62 + 64 }
+    ensures opens { IfOk result (λ both. OpensAs (texts_loaded rows.items) both.0.store.store) }
+    ensures entries { IfOk result (λ both. both.0.entries ≡ first) }
+    ensures idle { IfOk result (λ both. (slot : ℕ) → slot_of both.0 slot ≡ None) }
+    ensures stands { IfOk result (λ both. StandsFor both.0 (record { store = both.0.store.store; first = first }) []) }
+    ensures fed { IfOk result (λ both. Follows both.1 both.0.store.store []) }
+    ensures refused { IfErr result (IsFaultOf (texts_loaded rows.items)) }
+{
+    let cluster = open_cluster(alloc, rows, first)?;
+    match open_ring(alloc, cluster.store()) {
+        Ok(ring) => Ok((cluster, ring)),
+        Err(_) => Err(OpenFault::Memory),
+    }
+}
+
+/// Opens the rows in a cluster in which nothing runs.
+fn open_cluster(alloc: Global, rows: Vec<Row>, first: u64) -> Result<Cluster, OpenFault>
     requires ascend { Ascend rows.items }
     requires first { first ≤ 2 ^ 62 + 64 }
     ensures opens { IfOk result (λ cluster. OpensAs (texts_loaded rows.items) cluster.store.store) }

@@ -6,4 +6,5 @@ pub mod Coming
 pub mod Running
 pub mod Going
 pub mod LineParts
+pub mod Routing
 pub mod Sessions

@@ -63,7 +63,7 @@ reads-none (Some ahead) = refl
 
 module _ (server : Server) where
   nothing : (asked : Option Wish) (one : Reply) → deed_of asked (runs_in server.taker.pass) 0 ≡ Nothing → reads_clock asked (runs_in server.taker.pass) ≡ false
-      → reply_unless_unread asked (standing (runs_in server.taker.pass) (runs_in server.taker.pass) 0 None) ≡ Some one → Replies asked one server server
+      → reply_unless_unread asked (standing server.taker.pass server.taker.pass 0 None) ≡ Some one → Replies asked one server server
   nothing asked one deed reads replied = record {
     at = 0;
     answer = None;

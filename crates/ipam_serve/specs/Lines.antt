@@ -1,14 +1,19 @@
 -- What a line has a session do, and what it is replied.
-use Rattle.std.specs.Prelude.{◌≡◌, ◌⊎◌, ℕ, Bool, true, false, List, [], ◌∷◌, Option, Some, None, option_map, if◌then◌else◌}
+use Rattle.std.specs.Prelude.{◌≡◌, ◌⊎◌, ℕ, Bool, true, false, List, [], ◌∷◌, Option, Some, None, option_map, nat_lt, if◌then◌else◌}
 use Rattle.ipam_io.specs.Readings.{prepend_known_readings}
 use Rattle.ipam_model.specs.declared.answer.Answer.{Answer}
 use Rattle.ipam_model.specs.declared.request.Request.{Request}
 use Rattle.ipam_model.specs.declared.request.Request.TheVariants.{Collect}
+use Rattle.ipam_feed.specs.Feed.{changes_since}
+use Rattle.ipam_feed.specs.Route.{routes_in}
+use Rattle.ipam_kept.specs.Feed.{floor_in, writes_in}
 use Rattle.ipam_model.specs.Cluster.{Running}
+use Rattle.ipam_model.specs.History.{store_at}
 use Rattle.ipam_session.specs.declared.call.CallBegun.{CallBegun}
 use Rattle.ipam_session.specs.declared.call.CallBegun.TheVariants.{Told, Runs}
 use Rattle.ipam_session.specs.declared.replies.Reply.{Reply}
-use Rattle.ipam_session.specs.declared.route.Since.TheVariants.{Compacted}
+use Rattle.ipam_session.specs.declared.route.Since.{Since}
+use Rattle.ipam_session.specs.declared.route.Since.TheVariants.{Ahead, Changes, Compacted}
 use Rattle.ipam_session.specs.declared.wish.Wish.{Wish}
 use Rattle.ipam_session.specs.declared.wish.Wish.TheVariants as wish
 use Rattle.cni_types.specs.declared.version.Version.{Version}
@@ -17,6 +22,7 @@ use Rattle.ipam_session.specs.declared.replies.Reply.TheVariants as reply
 use Rattle.ipam_session.specs.Calls.{call_begun, call_told}
 use Rattle.ipam_session.specs.Lines.{Standing, called, reply_unless_unread}
 use Rattle.ipam_session.specs.Wishes.{wish_of_line}
+use Rattle.ipam_shared.specs.PassValue.{PassValue}
 use Rattle.ipam_shared.specs.Passes.{runs_in}
 use Rattle.ipam_serve.specs.declared.ran.Ran.{Ran}
 use Rattle.ipam_serve.specs.declared.ran.Ran.TheVariants.{Answered, Waits}
@@ -24,19 +30,9 @@ use Rattle.ipam_serve.specs.Gains.{is_early, is_waiting}
 use Rattle.ipam_serve.specs.Runs.{Does, DoesPart, Taker}
 use Rattle.ipam_serve.specs.Spans.{Begins, Calls, Deed, Nothing, Stops, list_deed}
 
--- A session serves no routes yet: a line that asks for them asks nothing.
-abbrev pub served : Option Wish → Option Wish
-served None = None
-served (Some (wish.Cni env stdin)) = Some (wish.Cni env stdin)
-served (Some (wish.Request request)) = Some (wish.Request request)
-served (Some (wish.Feed live)) = Some (wish.Feed live)
-served (Some wish.Stop) = Some wish.Stop
-served (Some wish.Routes) = None
-served (Some (wish.RoutesSince revision)) = None
-
 -- what the line asks of a session
 abbrev pub asked_by : List ℕ → Option Wish
-asked_by line = served (wish_of_line line)
+asked_by line = wish_of_line line
 
 -- ---- what is done
 
@@ -82,16 +78,23 @@ reading read at = if read then at ∷ [] else []
 
 -- ---- replies
 
--- on what the reply rests
-abbrev pub standing : (old new : Option Running) (at : ℕ) → Option Answer → Standing
+-- what became of the routes after a revision, at the end of what the pass has seen
+abbrev pub since_in : PassValue → (revision : ℕ) → Since
+since_in pass revision =
+    if nat_lt revision (floor_in pass.base pass.seen) then Compacted (floor_in pass.base pass.seen)
+    else (if nat_lt (store_at pass.base pass.seen).counter revision then Ahead (store_at pass.base pass.seen).counter
+    else Changes (store_at pass.base pass.seen).counter (changes_since pass.base.store (writes_in pass.seen) revision))
+
+-- on what the reply rests: what the pass has seen before the line and behind it
+abbrev pub standing : (old new : PassValue) (at : ℕ) → Option Answer → Standing
 standing old new at answer = record {
-  waited = is_waiting old;
-  waits = is_waiting new;
-  too_soon = is_early old at;
+  waited = is_waiting (runs_in old);
+  waits = is_waiting (runs_in new);
+  too_soon = is_early (runs_in old) at;
   answer = answer;
-  revision = 0;
-  routes = [];
-  since = λ revision. Compacted 0;
+  revision = (store_at new.base new.seen).counter;
+  routes = routes_in (store_at new.base new.seen);
+  since = since_in new;
 }
 
 -- ---- a line
@@ -108,7 +111,7 @@ pub record Replies (asked : Option Wish) (reply : Reply) (old new : Server) : Ty
   pub answer : Option Answer
   pub does : Does old.taker (deed_of asked (runs_in old.taker.pass) at) answer 1 new.taker
   pub reads : old.ahead ≡ prepend_known_readings (reading (reads_clock asked (runs_in old.taker.pass)) at) new.ahead
-  pub replied : reply_unless_unread asked (standing (runs_in old.taker.pass) (runs_in new.taker.pass) at answer) ≡ Some reply
+  pub replied : reply_unless_unread asked (standing old.taker.pass new.taker.pass at answer) ≡ Some reply
 
 -- a wish was done as far as it came
 pub record Breaks (asked : Option Wish) (old new : Server) : Type 0 where

@@ -6,6 +6,12 @@ use Rattle.ipam_model.specs.declared.entry.Entry.{Entry}
 use Rattle.ipam_model.specs.declared.entry.Entry.TheVariants as entry
 use Rattle.ipam_model.specs.declared.request.Request.{Request}
 use Rattle.ipam_model.specs.CanAnswer.{CanAnswer}
+use Rattle.ipam_feed.specs.declared.fault.SinceFault.{SinceFault}
+use Rattle.ipam_feed.specs.declared.fault.SinceFault.TheVariants as fault_of
+use Rattle.ipam_session.specs.declared.route.Since.{Since}
+use Rattle.ipam_session.specs.declared.route.Since.TheVariants.{Ahead, Compacted}
+use Rattle.ipam_shared.specs.declared.faults.SharedFault.{SharedFault}
+use Rattle.ipam_shared.specs.declared.faults.SharedFault.TheVariants.{Inner, SpentPass}
 use Rattle.ipam_shared.specs.PassValue.{PassValue}
 use Rattle.ipam_shared.specs.Passes.{runs_in}
 use Rattle.ipam_serve.specs.declared.ran.Ran.{Ran}
@@ -43,3 +49,10 @@ Fed old live at feeding.Fed new =
     Took old (entry.Fed old.slot at live ∷ []) 0 new × (is_early (runs_in old) at ≡ false)
 Fed old live at feeding.TooSoon new =
     Took old [] 1 new × (is_early (runs_in old) at ≡ true) × (is_waiting (runs_in new) ≡ true)
+
+-- the fault tells this of the routes
+abbrev pub IsToldOf : SharedFault SinceFault → Since → Type 0
+IsToldOf SpentPass since = ⊥
+IsToldOf (Inner (fault_of.Compacted floor)) since = since ≡ Compacted floor
+IsToldOf (Inner (fault_of.Ahead counter)) since = since ≡ Ahead counter
+IsToldOf (Inner fault_of.Memory) since = ⊥

@@ -1,6 +1,5 @@
 //! One session of the node daemon: lines are read, what each asks is done in the session's slot of a
-//! shared cluster, and each is replied to. A line that asks for routes is replied to as one that is
-//! not read.
+//! shared cluster, and each is replied to.
 #![tactic(auto)]
 
 mod ends;

@@ -13,18 +13,18 @@ ghost use Rattle.ipam_session.specs.declared.wish.Wish.TheVariants as wish;
 ghost use Rattle.ipam_shared.specs.Passes.{runs_in};
 ghost use Rattle.ipam_serve.specs.Faults.{Halts, IsWorn, OnHalted, OnWorn};
 ghost use Rattle.ipam_serve.specs.Gains.{is_waiting};
-ghost use Rattle.ipam_serve.specs.Lines.{Breaks, Replies, TellsRun, asked_by, is_collect, reading, reply_fed, reply_ran, served, timed};
+ghost use Rattle.ipam_serve.specs.Lines.{Breaks, Replies, TellsRun, asked_by, is_collect, reading, reply_fed, reply_ran, timed};
 ghost use Rattle.ipam_serve.specs.Runs.{DoesPart, IsAtRest};
 
 use crate::ran::{Broken, Ran};
 use crate::requests::{run_call, run_feed, run_request};
-use crate::turns::stop;
+use crate::turns::{routes, routes_since, stop};
 use cni_types::Version;
 use ipam_io::{Clock, Gate};
 use ipam_model::{Answer, Request};
 use ipam_session::{AskFault, CallBegun, Refusal, Reply, Wish, begin_call, read_wish, tell_call};
 use ipam_shared::{Keeper, Pass, Shared};
-use ipam_text::Text;
+use ipam_text::{Seq, Text};
 use std::alloc::Global;
 use std::sync::Wait;
 
@@ -70,10 +70,10 @@ fn answer_wish<R: Wait, D: Keeper, G: Gate, C: Clock>(
     requires lock { pass.old.lock ≡ shared.now }
     requires rests { IsAtRest (runs_in pass.old) }
     requires sound { IsSoundWish wish }
-    ensures replied { IfOk result (λ reply. Replies (served (Some wish)) reply
+    ensures replied { IfOk result (λ reply. Replies (Some wish) reply
         (record { taker = record { pass = pass.old; turns = G.turns gate.old }; ahead = C.ahead clock.old })
         (record { taker = record { pass = pass.new; turns = G.turns gate.new }; ahead = C.ahead clock.new })) }
-    ensures broken { OnErr result (Breaks (served (Some wish))
+    ensures broken { OnErr result (Breaks (Some wish)
         (record { taker = record { pass = pass.old; turns = G.turns gate.old }; ahead = C.ahead clock.old })
         (record { taker = record { pass = pass.new; turns = G.turns gate.new }; ahead = C.ahead clock.new })) }
     ensures rests { OnOk result (IsAtRest (runs_in pass.new)) }
@@ -98,8 +98,8 @@ fn answer_wish<R: Wait, D: Keeper, G: Gate, C: Clock>(
         }
         Wish::Feed(live) => answer_feed(rt, alloc, shared, pass, gate, clock, live.as_slice()),
         Wish::Stop => answer_stop(rt, shared, pass),
-        Wish::Routes => Ok(Reply::Refused(Refusal::Line)),
-        Wish::RoutesSince(_) => Ok(Reply::Refused(Refusal::Line)),
+        Wish::Routes => answer_routes(rt, shared, pass),
+        Wish::RoutesSince(revision) => answer_since(rt, shared, pass, revision),
     }
 }
 
@@ -274,6 +274,55 @@ fn stop_waiting<R: Wait, D: Keeper>(
 {
     match stop(rt, shared, pass) {
         Ok(()) => Ok(Reply::Stopped),
+        Err(broken) => Err(broken),
+    }
+}
+
+/// All routes.
+fn answer_routes<R: Wait, D: Keeper>(
+    rt: &R,
+    shared: &Shared<D>,
+    pass: &mut Pass,
+) -> Result<Reply, Broken>
+    requires lock { pass.old.lock ≡ shared.now }
+    requires rests { IsAtRest (runs_in pass.old) }
+    ensures replied { (turns : Option ℕ) (ahead : Option (ℕ → ℕ)) → IfOk result (λ reply. Replies (Some wish.Routes) reply
+        (record { taker = record { pass = pass.old; turns = turns }; ahead = ahead })
+        (record { taker = record { pass = pass.new; turns = turns }; ahead = ahead })) }
+    ensures broken { (turns : Option ℕ) (ahead : Option (ℕ → ℕ)) → OnErr result (Breaks (Some wish.Routes)
+        (record { taker = record { pass = pass.old; turns = turns }; ahead = ahead })
+        (record { taker = record { pass = pass.new; turns = turns }; ahead = ahead })) }
+    ensures rests { IsAtRest (runs_in pass.new) }
+    ensures worn { OnWorn result (IsWorn pass.new) }
+    ensures not_halted { OnHalted result ⊥ }
+{
+    match routes(rt, shared, pass) {
+        Ok((revision, routes)) => Ok(Reply::Routes(revision, Seq::of(routes))),
+        Err(broken) => Err(broken),
+    }
+}
+
+/// What became of the routes after the revision.
+fn answer_since<R: Wait, D: Keeper>(
+    rt: &R,
+    shared: &Shared<D>,
+    pass: &mut Pass,
+    revision: u64,
+) -> Result<Reply, Broken>
+    requires lock { pass.old.lock ≡ shared.now }
+    requires rests { IsAtRest (runs_in pass.old) }
+    ensures replied { (turns : Option ℕ) (ahead : Option (ℕ → ℕ)) → IfOk result (λ reply. Replies (Some (wish.RoutesSince revision)) reply
+        (record { taker = record { pass = pass.old; turns = turns }; ahead = ahead })
+        (record { taker = record { pass = pass.new; turns = turns }; ahead = ahead })) }
+    ensures broken { (turns : Option ℕ) (ahead : Option (ℕ → ℕ)) → OnErr result (Breaks (Some (wish.RoutesSince revision))
+        (record { taker = record { pass = pass.old; turns = turns }; ahead = ahead })
+        (record { taker = record { pass = pass.new; turns = turns }; ahead = ahead })) }
+    ensures rests { IsAtRest (runs_in pass.new) }
+    ensures worn { OnWorn result (IsWorn pass.new) }
+    ensures not_halted { OnHalted result ⊥ }
+{
+    match routes_since(rt, shared, pass, revision) {
+        Ok(since) => Ok(Reply::RoutesSince(since)),
         Err(broken) => Err(broken),
     }
 }

@@ -10,14 +10,17 @@ ghost use Rattle.ipam_model.specs.SoundRequest.{IsSoundRequest};
 ghost use Rattle.ipam_shared.specs.Passes.{runs_in};
 ghost use Rattle.ipam_serve.specs.Faults.{IsWorn, OnHalted, OnWorn};
 ghost use Rattle.ipam_serve.specs.Gains.{Took, asked_in, is_early, is_waiting};
-ghost use Rattle.ipam_serve.specs.Turns.{Called, Fed, answer_told};
+ghost use Rattle.ipam_kept.specs.Feed.{AreRoutes};
+ghost use Rattle.ipam_serve.specs.Lines.{since_in};
+ghost use Rattle.ipam_serve.specs.Turns.{Called, Fed, IsToldOf, answer_told};
 
 use crate::ran::{Broken, Ran};
 use ipam_model::{Answer, Entry, Request};
+use ipam_session::{Route, Since};
 use ipam_shared::{
-    BeginFault, FeedFault, Keeper, Pass, PrepareFault, Shared, SharedFault, SpentPass,
+    BeginFault, FeedFault, Keeper, Pass, PrepareFault, Shared, SharedFault, SinceFault, SpentPass,
 };
-use ipam_text::Text;
+use ipam_text::{Seq, Text};
 use std::alloc::Global;
 use std::sync::Wait;
 
@@ -195,5 +198,65 @@ pub(crate) fn stop<R: Wait, D: Keeper>(
             Ok(())
         }
         Err(SpentPass) => unreachable!(),
+    }
+}
+
+/// The datastore's revision and its routes.
+pub(crate) fn routes<R: Wait, D: Keeper>(
+    rt: &R,
+    shared: &Shared<D>,
+    pass: &mut Pass,
+) -> Result<(u64, Vec<Route>), Broken>
+    requires lock { pass.old.lock ≡ shared.now }
+    ensures took { Took pass.old [] 1 pass.new }
+    ensures runs { runs_in pass.new ≡ runs_in pass.old }
+    ensures told { IfOk result (λ told. AreRoutes pass.new.base pass.new.seen told.0 told.1.items) }
+    ensures worn { OnWorn result (IsWorn pass.new) }
+    ensures not_halted { OnHalted result ⊥ }
+{
+    if pass.left() < 2 {
+        return Err(Broken::Worn);
+    }
+    match shared.routes(rt, pass) {
+        Ok(told) => Ok(told),
+        Err(_) => Err(Broken::Memory),
+    }
+}
+
+/// What became of the routes after the revision.
+pub(crate) fn routes_since<R: Wait, D: Keeper>(
+    rt: &R,
+    shared: &Shared<D>,
+    pass: &mut Pass,
+    revision: u64,
+) -> Result<Since, Broken>
+    requires lock { pass.old.lock ≡ shared.now }
+    ensures took { Took pass.old [] 1 pass.new }
+    ensures runs { runs_in pass.new ≡ runs_in pass.old }
+    ensures told { IfOk result (λ since. since ≡ since_in pass.new revision) }
+    ensures worn { OnWorn result (IsWorn pass.new) }
+    ensures not_halted { OnHalted result ⊥ }
+{
+    if pass.left() < 2 {
+        return Err(Broken::Worn);
+    }
+    match shared.routes_since(rt, pass, revision) {
+        Ok((counter, changes)) => Ok(Since::Changes(counter, Seq::of(changes))),
+        Err(fault) => not_told(fault),
+    }
+}
+
+fn not_told(fault: SharedFault<SinceFault>) -> Result<Since, Broken>
+    requires { fault ≢ SharedFault.SpentPass }
+    ensures told { IfOk result (IsToldOf fault) }
+    ensures memory { OnErr result (result ≡ Err Broken.Memory) }
+{
+    match fault {
+        SharedFault::SpentPass => unreachable!(),
+        SharedFault::Inner(inner) => match inner {
+            SinceFault::Compacted(floor) => Ok(Since::Compacted(floor)),
+            SinceFault::Ahead(counter) => Ok(Since::Ahead(counter)),
+            SinceFault::Memory => Err(Broken::Memory),
+        },
     }
 }

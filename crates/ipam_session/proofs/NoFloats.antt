@@ -4,8 +4,8 @@ use Rattle.serde_json.specs.Data.{Data}
 use Rattle.serde_json.specs.View.{items_of}
 use Rattle.serde_json.specs.Written.{has_float, items_have_float}
 use Rattle.ipam_answer_text.proofs.Floats.{has_float-answer_data}
-use Rattle.ipam_session.specs.declared.route.Route.{Route as OneRoute}
-use Rattle.ipam_session.specs.declared.route.Change.{Change}
+use Rattle.ipam_feed.specs.declared.route.Route.{Route as OneRoute}
+use Rattle.ipam_feed.specs.declared.change.Change.{Change}
 use Rattle.ipam_session.specs.declared.route.Since.{Since}
 use Rattle.ipam_session.specs.declared.route.Since.TheVariants.{Changes, Compacted, Ahead}
 use Rattle.ipam_session.specs.declared.replies.Reply.{Reply}

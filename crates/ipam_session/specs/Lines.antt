@@ -11,7 +11,7 @@ use Rattle.ipam_session.specs.declared.refusal.Refusal.{Refusal}
 use Rattle.ipam_session.specs.declared.refusal.Refusal.TheVariants as refusal
 use Rattle.ipam_session.specs.declared.replies.Reply.{Reply}
 use Rattle.ipam_session.specs.declared.replies.Reply.TheVariants as reply
-use Rattle.ipam_session.specs.declared.route.Route.{Route as OneRoute}
+use Rattle.ipam_feed.specs.declared.route.Route.{Route as OneRoute}
 use Rattle.ipam_session.specs.declared.route.Since.{Since}
 use Rattle.ipam_session.specs.declared.wish.Wish.{Wish}
 use Rattle.ipam_session.specs.declared.wish.Wish.TheVariants as wish

@@ -7,8 +7,8 @@ use Rattle.ipam_addr.specs.Text.{cidr_text_of}
 use Rattle.ipam_answer_text.specs.Answers.{whole_data, tagged, answer_data}
 use Rattle.ipam_session.specs.declared.refusal.Refusal.{Refusal}
 use Rattle.ipam_session.specs.declared.refusal.Refusal.TheVariants as refusal
-use Rattle.ipam_session.specs.declared.route.Route.{Route as OneRoute}
-use Rattle.ipam_session.specs.declared.route.Change.{Change}
+use Rattle.ipam_feed.specs.declared.route.Route.{Route as OneRoute}
+use Rattle.ipam_feed.specs.declared.change.Change.{Change}
 use Rattle.ipam_session.specs.declared.route.Since.{Since}
 use Rattle.ipam_session.specs.declared.route.Since.TheVariants.{Changes, Compacted, Ahead}
 use Rattle.ipam_session.specs.declared.replies.Reply.{Reply}

@@ -10,10 +10,11 @@ mod route;
 mod wish;
 
 pub use call::{CallBegun, begin_call, tell_call};
+pub use ipam_feed::{Change, Route};
 pub use ipam_request_text::AskFault;
 pub use reading::read_wish;
 pub use refusal::Refusal;
 pub use replies::{Reply, push_cni_reply, push_reply};
-pub use route::{Change, Route, Since};
+pub use route::Since;
 pub use std::alloc::AllocError as Memory;
 pub use wish::Wish;

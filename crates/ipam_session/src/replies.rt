@@ -7,9 +7,10 @@ ghost use Rattle.ipam_answer_text.specs.Answers.{tagged};
 ghost use Rattle.ipam_session.specs.Replies.{call_data, call_text, route_data, change_data, routes_data, changes_data, since_data, reply_data, reply_line};
 
 use crate::refusal::Refusal;
-use crate::route::{Change, Route, Since};
+use crate::route::Since;
 use ipam_addr::{Cidr, push_cidr};
 use ipam_answer_text::answer_value;
+use ipam_feed::{Change, Route};
 use ipam_model::Answer;
 use ipam_text::{Seq, Text};
 use serde_json::{Map, Value, json, put};

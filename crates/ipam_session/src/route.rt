@@ -1,21 +1,5 @@
-use ipam_addr::Cidr;
-use ipam_text::{Seq, Text};
-
-/// The node that has a block.
-#[derive(Debug, Drop)]
-pub struct Route {
-    pub node: Text,
-    pub cidr: Cidr,
-}
-
-/// A route that came or went.
-#[derive(Debug, Drop)]
-pub struct Change {
-    pub revision: u64,
-    pub route: Route,
-    /// Whether it came.
-    pub up: bool,
-}
+use ipam_feed::Change;
+use ipam_text::Seq;
 
 /// What became of the routes after a revision.
 #[derive(Debug, Drop)]

@@ -6,15 +6,16 @@ use Rattle.ipam_shared.specs.declared.faults.SharedFault.TheVariants.{Inner}
 use Rattle.ipam_shared.specs.Deeds.{told_by}
 use Rattle.ipam_shared.specs.Turning.{UnlessSpent, answer_of}
 
-module _ {E : Type 0} where
-  -- a refusal of the deed is one of the turn, where there was a turn
-  refusal : (answer : Option (Result Entry E)) (fault : E) (left : ℕ) (P : Type 0) → (IsNone answer ↔ (left ≡ 0)) → IfSome answer (λ given. (0 < left) × ((given ≡ Err fault) ↔ P))
+-- a refusal of the deed is one of the turn, where there was a turn
+module _ {T E : Type 0} where
+  pub refusal : (answer : Option (Result T E)) (fault : E) (left : ℕ) (P : Type 0) → (IsNone answer ↔ (left ≡ 0)) → IfSome answer (λ given. (0 < left) × ((given ≡ Err fault) ↔ P))
       → (answer_of answer ≡ Err (Inner fault)) ↔ (0 < left × P)
   refusal None fault left P spent given = ((λ e. cc), λ h. let none = spent.0 refl in let some = h.0 in absurd (omega arith))
   refusal (Some (Ok told)) fault left P spent given = ((λ e. cc), λ h. let e = given.1.1 h.1 in cc)
   refusal (Some (Err other)) fault left P spent given =
       ((λ e. (given.0, given.1.0 cc)), λ h. let e = given.1.1 h.1 in cc)
 
+module _ {E : Type 0} where
   -- so is one that goes by what the turn told of
   refusal-told : (answer : Option (Result Entry E)) (fault : E) (left : ℕ) (P : List Entry → Type 0) → (IsNone answer ↔ (left ≡ 0)) → IfSome answer (λ given. (0 < left) × ((given ≡ Err fault) ↔ P (told_by given)))
       → (answer_of answer ≡ Err (Inner fault)) ↔ (0 < left × P (told_by (answer_of answer)))

@@ -3,3 +3,4 @@ mod Passing
 mod Answering
 mod Turning
 mod Calling
+mod Routing

@@ -6,6 +6,7 @@ use Rattle.ipam_model.specs.declared.entry.Entry.{Entry}
 use Rattle.ipam_model.specs.Consistent.{IsConsistent}
 use Rattle.ipam_model.specs.History.{Lawful, cluster_at, slot_of_entry}
 use Rattle.ipam_kept.specs.declared.kept.Kept.{Kept}
+use Rattle.ipam_kept.specs.Feed.{FedFor}
 use Rattle.ipam_kept.specs.Kept.{KeptFor, Tells}
 use Rattle.ipam_shared.specs.declared.locked.Locked.{Locked}
 use Rattle.ipam_shared.specs.declared.opened.Opened.{Opened}
@@ -18,7 +19,7 @@ use Rattle.ipam_shared.proofs.Turning.{drop-told}
 
 -- for which histories the value of the lock stands
 abbrev pub Standing : {D : Type 0} → Tells D → Locked D → Opened → List Entry → Type 0
-Standing tells locked opened history = KeptFor tells locked.kept (base_opened opened) history
+Standing tells locked opened history = FedFor tells locked.kept (base_opened opened) history
 
 -- ---- a pass on an idle slot
 
@@ -32,18 +33,18 @@ pub idle-pass : (turns : Turns Opened Entry) → IsLawfulPass (value_of turns) �
 idle-pass turns lawful unused = record { seen = lawful; knows = idle-known (value_of turns) (unused-idle turns unused) }
 
 -- then the number of entries is that with which the history starts
-pub own-history : {D : Type 0} (tells : Tells D) (kept : Kept D) → IsNewlyKept tells kept → KeptFor tells kept (own_base kept) []
+pub own-history : {D : Type 0} (tells : Tells D) (kept : Kept D) → IsNewlyKept tells kept → FedFor tells kept (own_base kept) []
 unfolding cluster_at
 own-history tells kept new =
-    subst (λ first. KeptFor tells kept (record { store = kept.cluster.store.store; first = first }) []) (sym new.1.cluster.is_cluster.entries) new.1
+    subst (λ first. FedFor tells kept (record { store = kept.cluster.store.store; first = first }) []) (sym new.1.kept_for.cluster.is_cluster.entries) new.1
 
-pub first-pass : {D : Type 0} (tells : Tells D) (kept : Kept D) (turns : Turns Opened Entry) → KeptFor tells kept (own_base kept) []
+pub first-pass : {D : Type 0} (tells : Tells D) (kept : Kept D) (turns : Turns Opened Entry) → FedFor tells kept (own_base kept) []
     → turns.origin ≡ (record { store = kept.cluster.store; first = kept.cluster.entries }) ∷ [] → turns.seen ≡ [] → IsPass (value_of turns) false
 first-pass tells kept turns new origin seen =
     idle-pass turns
     (record {
-      consistent = subst (λ o. IsConsistent (base_in o).store) (sym origin) new.cluster.stands.consistent;
-      lawful = subst (λ h. Lawful (base_in turns.origin) h) (sym seen) (subst (λ o. Lawful (base_in o) []) (sym origin) new.cluster.stands.lawful);
+      consistent = subst (λ o. IsConsistent (base_in o).store) (sym origin) new.kept_for.cluster.stands.consistent;
+      lawful = subst (λ h. Lawful (base_in turns.origin) h) (sym seen) (subst (λ o. Lawful (base_in o) []) (sym origin) new.kept_for.cluster.stands.lawful);
     })
     (subst (λ h. NoneBy slot_of_entry turns.number h) (sym seen) tt)
 
@@ -62,7 +63,7 @@ grown-runs old new same grew =
 
 pub stood-lawful : {D : Type 0} (tells : Tells D) (turns : Turns Opened Entry) → Stood (Standing tells) turns.origin turns.seen → IsLawfulPass (value_of turns)
 stood-lawful tells turns stood =
-    subst (λ o. IsSeenLawful (base_in o) turns.seen) (sym stood.1) (record { consistent = stood.2.1.cluster.stands.consistent; lawful = stood.2.1.cluster.stands.lawful })
+    subst (λ o. IsSeenLawful (base_in o) turns.seen) (sym stood.1) (record { consistent = stood.2.1.kept_for.cluster.stands.consistent; lawful = stood.2.1.kept_for.cluster.stands.lawful })
 
 pub joined-pass : {D : Type 0} (tells : Tells D) (old new : Turns Opened Entry) (running : Bool) → IsPass (value_of old) running
     → new ≡ record old { made = new.made; joined = new.joined; seen = new.seen } → GrewPast slot_of_entry old.number old.seen new.seen → Stood (Standing tells) new.origin new.seen → IsPass (value_of new) running
@@ -83,6 +84,7 @@ had-turn {D} tells did does told passed old new view some_left same t f =
     let origin : new.origin ≡ t.from ∷ [] = ap (λ (u : Turns Opened Entry). u.origin) same ∙ t.origin_is in
     let seen : new.seen ≡ told ++ (t.between ++ old.seen) = t.seen_is ∙ append_assoc told t.between old.seen in
     let met_is : met told (value_of new) ≡ t.between ++ old.seen = ap (drop (length told)) seen ∙ drop-told told (t.between ++ old.seen) in
+    let fed : FedFor tells t.before.kept (base_in new.origin) (met told (value_of new)) = subst (λ o. FedFor tells t.before.kept (base_in o) (met told (value_of new))) (sym origin) (subst (λ h. FedFor tells t.before.kept (base_opened t.from) h) (sym met_is) t.stood) in
     subst (λ p. HadTurn tells did p told (value_of new)) view (record {
       left = omega arith;
       same = ap (λ (u : Turns Opened Entry). record (value_of u) { left = new.left; seen = new.seen }) same;
@@ -90,8 +92,9 @@ had-turn {D} tells did does told passed old new view some_left same t f =
       done = record {
         before = t.before.kept;
         after = t.after.kept;
-        stood = subst (λ o. KeptFor tells t.before.kept (base_in o) (met told (value_of new))) (sym origin) (subst (λ h. KeptFor tells t.before.kept (base_opened t.from) h) (sym met_is) t.stood);
+        stood = fed.kept_for;
+        fed = fed;
         deed = f t.before t.after t.did;
-        stands = subst (λ o. KeptFor tells t.after.kept (base_in o) new.seen) (sym origin) t.stands_now;
+        stands = subst (λ o. KeptFor tells t.after.kept (base_in o) new.seen) (sym origin) t.stands_now.kept_for;
       };
     })

@@ -33,4 +33,4 @@ module _ {D : Type 0} {tells : Tells D} {did : Kept D → Kept D → Type 0} {ol
 
 pub done-as : {D : Type 0} {tells : Tells D} {did did' : Kept D → Kept D → Type 0} {told : List Entry} {new : PassValue}
     → ((before after : Kept D) → did before after → did' before after) → WasDone tells did told new → WasDone tells did' told new
-done-as f h = record { before = h.before; after = h.after; stood = h.stood; deed = f h.before h.after h.deed; stands = h.stands }
+done-as f h = record { before = h.before; after = h.after; stood = h.stood; fed = h.fed; deed = f h.before h.after h.deed; stands = h.stands }

@@ -1,9 +1,15 @@
 -- What is done to the kept cluster in the turns of a pass, as the kept cluster itself says it.
+use Rattle.std.specs.Global.{Vec}
 use Rattle.std.specs.Prelude.{◌≡◌, ◌↔◌, ◌⊎◌, ◌<◌, ◌≤◌, ◌+◌, ◌^◌, ℕ, List, [], ◌∷◌, Option, Some, None, Result, Ok, Err, IsSome, IfOk, IfErr, IfSome}
 use Rattle.ipam_model.specs.declared.entry.Entry.{Entry}
 use Rattle.ipam_model.specs.declared.entry.Entry.TheVariants as entry
 use Rattle.ipam_model.specs.declared.entry.SlotState.TheVariants as state
 use Rattle.ipam_model.specs.declared.request.Request.{Request}
+use Rattle.ipam_feed.specs.declared.route.Route.{Route}
+use Rattle.ipam_feed.specs.declared.change.Change.{Change}
+use Rattle.ipam_feed.specs.declared.fault.SinceFault.{SinceFault}
+use Rattle.ipam_feed.specs.declared.fault.SinceFault.TheVariants as since_fault
+use Rattle.ipam_model.specs.History.{Base}
 use Rattle.ipam_collect.specs.declared.collect.Grace.{Grace}
 use Rattle.ipam_cluster.specs.declared.faults.BeginFault.{BeginFault}
 use Rattle.ipam_cluster.specs.declared.faults.BeginFault.TheVariants as begin_fault
@@ -13,7 +19,8 @@ use Rattle.ipam_cluster.specs.declared.faults.PrepareFault.{PrepareFault}
 use Rattle.ipam_cluster.specs.declared.faults.PrepareFault.TheVariants as prepare_fault
 use Rattle.ipam_cluster.specs.Cluster.{slot_of, state_in, WaitsWith}
 use Rattle.ipam_kept.specs.declared.kept.Kept.{Kept}
-use Rattle.ipam_kept.specs.Kept.{LeavesKeeper}
+use Rattle.ipam_kept.specs.Feed.{AreChanges, AreRoutes, FedFor, IsAhead, IsCompacted}
+use Rattle.ipam_kept.specs.Kept.{LeavesKeeper, Tells}
 use Rattle.ipam_kept.specs.Turning.{IsDone, IsFailed, IsRefused}
 
 -- the entry that an answer tells of, if any
@@ -57,3 +64,16 @@ module _ {D : Type 0} (slot : ℕ) (before : Kept D) where
     pub entry : IfSome answer (λ stopped. stopped ≡ entry.Stopped slot)
     pub idle_after : slot_of after.cluster slot ≡ None
     pub keeper : LeavesKeeper before after
+
+-- the routes were told, or were not
+abbrev pub TellsRoutes : {D E : Type 0} → Tells D → (before : Kept D) → Result (ℕ × Vec Route) E → Type 0
+TellsRoutes tells before answer =
+    IfOk answer (λ told. (base : Base) (history : List Entry) → FedFor tells before base history → AreRoutes base history told.0 told.1.items)
+
+-- what became of the routes since a revision was told, or was not
+pub record TellsChanges {D : Type 0} (tells : Tells D) (before : Kept D) (revision : ℕ) (answer : Result (ℕ × Vec Change) SinceFault) : Type 0 where
+  pub changes : IfOk answer (λ told. (base : Base) (history : List Entry) → FedFor tells before base history → AreChanges base history revision told.0 told.1.items)
+  pub compacted : (base : Base) (history : List Entry) (floor : ℕ) → FedFor tells before base history
+      → ((answer ≡ Err (since_fault.Compacted floor)) ↔ IsCompacted base history revision floor)
+  pub ahead : (base : Base) (history : List Entry) (counter : ℕ) → FedFor tells before base history
+      → ((answer ≡ Err (since_fault.Ahead counter)) ↔ IsAhead base history revision counter)

@@ -7,6 +7,7 @@ use Rattle.ipam_model.specs.Cluster.{Running}
 use Rattle.ipam_model.specs.Consistent.{IsConsistent}
 use Rattle.ipam_model.specs.History.{Base, Lawful, cluster_at, slot_of_entry}
 use Rattle.ipam_kept.specs.declared.kept.Kept.{Kept}
+use Rattle.ipam_kept.specs.Feed.{FedFor}
 use Rattle.ipam_kept.specs.Kept.{KeptFor, Tells}
 use Rattle.ipam_shared.specs.declared.opened.Opened.{Opened}
 use Rattle.ipam_shared.specs.Origins.{base_in}
@@ -74,6 +75,7 @@ pub record KeptPast {D : Type 0} (tells : Tells D) (kept : Kept D) (pass : PassV
 abbrev pub own_base : {D : Type 0} → Kept D → Base
 own_base kept = record { store = kept.cluster.store.store; first = kept.cluster.entries }
 
--- the cluster is kept for the history of its own datastore that has no entry, as where it was opened
+-- the cluster is kept and fed for the history of its own datastore that has no entry, as where it was
+-- opened
 abbrev pub IsNewlyKept : {D : Type 0} → Tells D → Kept D → Type 0
-IsNewlyKept tells kept = (first : ℕ) × KeptFor tells kept (record { store = kept.cluster.store.store; first = first }) []
+IsNewlyKept tells kept = (first : ℕ) × FedFor tells kept (record { store = kept.cluster.store.store; first = first }) []

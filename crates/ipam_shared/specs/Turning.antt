@@ -8,6 +8,7 @@ use Rattle.ipam_model.specs.Cluster.{Running, state_of}
 use Rattle.ipam_model.specs.History.{moment_of, slot_of_entry}
 use Rattle.ipam_running.specs.Running.{grace_of}
 use Rattle.ipam_kept.specs.declared.kept.Kept.{Kept}
+use Rattle.ipam_kept.specs.Feed.{FedFor}
 use Rattle.ipam_kept.specs.Kept.{KeptFor, Tells}
 use Rattle.ipam_shared.specs.declared.faults.SharedFault.{SharedFault}
 use Rattle.ipam_shared.specs.declared.faults.SharedFault.TheVariants.{SpentPass, Inner}
@@ -19,12 +20,12 @@ use Rattle.ipam_shared.specs.Passes.{IsSamePass}
 -- ---- answers
 
 -- a fact where there was no turn, and one where there was
-abbrev pub OnSpent : {E : Type 0} → Result Entry (SharedFault E) → Type 0 → Type 0
+abbrev pub OnSpent : {T E : Type 0} → Result T (SharedFault E) → Type 0 → Type 0
 OnSpent (Ok told) p = ⊤
 OnSpent (Err SpentPass) p = p
 OnSpent (Err (Inner fault)) p = ⊤
 
-abbrev pub UnlessSpent : {E : Type 0} → Result Entry (SharedFault E) → Type 0 → Type 0
+abbrev pub UnlessSpent : {T E : Type 0} → Result T (SharedFault E) → Type 0 → Type 0
 UnlessSpent (Ok told) p = p
 UnlessSpent (Err SpentPass) p = ⊤
 UnlessSpent (Err (Inner fault)) p = p
@@ -35,7 +36,7 @@ told_stopped (Ok told) = told_if told
 told_stopped (Err spent) = told_by (Err spent)
 
 -- what the turn of a pass answers of what its deed did; there is none where there was no turn
-abbrev pub answer_of : {E : Type 0} → Option (Result Entry E) → Result Entry (SharedFault E)
+abbrev pub answer_of : {T E : Type 0} → Option (Result T E) → Result T (SharedFault E)
 answer_of None = Err SpentPass
 answer_of (Some (Ok told)) = Ok told
 answer_of (Some (Err fault)) = Err (Inner fault)
@@ -58,12 +59,13 @@ met told new = drop (length told) new.seen
 abbrev pub moment_met : (told : List Entry) → PassValue → ℕ
 moment_met told new = moment_of new.base (met told new)
 
--- The turn was made on a kept cluster, which was kept for the history that it met, and then for what
--- the pass has seen now; and this was done to it.
+-- The turn was made on a kept cluster, which was kept and fed for the history that it met, and then
+-- for what the pass has seen now; and this was done to it.
 pub record WasDone {D : Type 0} (tells : Tells D) (did : (before after : Kept D) → Type 0) (told : List Entry) (new : PassValue) : Type 0 where
   pub before : Kept D
   pub after : Kept D
   pub stood : KeptFor tells before new.base (met told new)
+  pub fed : FedFor tells before new.base (met told new)
   pub deed : did before after
   pub stands : KeptFor tells after new.base new.seen
 

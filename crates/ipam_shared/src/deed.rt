@@ -4,7 +4,8 @@ ghost use Rattle.ipam_model.specs.declared.entry.Entry.{Entry as OneEntry};
 ghost use Rattle.ipam_model.specs.History.{Base, slot_of_entry};
 ghost use Rattle.ipam_cluster.specs.Cluster.{slot_of};
 ghost use Rattle.ipam_kept.specs.declared.kept.Kept.{Kept as KeptValue};
-ghost use Rattle.ipam_kept.specs.Kept.{IsKept, KeptFor};
+ghost use Rattle.ipam_kept.specs.Kept.{IsKept};
+ghost use Rattle.ipam_kept.specs.Feed.{FedFor};
 ghost use Rattle.turn_lock.specs.Histories.{AtMostOneBy};
 
 use crate::locked::Locked;
@@ -33,7 +34,7 @@ pub(crate) trait Deed<D: Keeper> {
         requires kept { IsKept D.rows kept.old }
         ensures does { does self slot kept.old result kept.new }
         ensures own { AtMostOneBy slot_of_entry slot (told result) }
-        ensures keeps { (base : Base) (history : List OneEntry) → KeptFor D.rows kept.old base history → KeptFor D.rows kept.new base (told result ++ history) };
+        ensures keeps { (base : Base) (history : List OneEntry) → FedFor D.rows kept.old base history → FedFor D.rows kept.new base (told result ++ history) };
 }
 
 /// The deed, in this slot. It also answers whether something runs there behind it.

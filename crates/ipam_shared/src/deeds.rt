@@ -1,11 +1,14 @@
 // What a pass may do in a turn: what the kept cluster does, in the pass's slot.
+ghost use Rattle.std.specs.Prelude.{[]};
 ghost use Rattle.std.specs.List.{All};
 ghost use Rattle.ipam_records.specs.Sound.{IsHandleId};
 ghost use Rattle.ipam_model.specs.SoundRequest.{IsSoundRequest};
-ghost use Rattle.ipam_shared.specs.Deeds.{told_by, told_if, Begins, Feeds, Calls, Stops};
+ghost use Rattle.ipam_shared.specs.Deeds.{told_by, told_if, Begins, Feeds, Calls, Stops, TellsRoutes, TellsChanges};
 
 use crate::deed::Deed;
-use ipam_kept::{BeginFault, FeedFault, Keeper, Kept, PrepareFault};
+use ipam_kept::{
+    BeginFault, Change, FeedFault, Keeper, Kept, Memory, PrepareFault, Route, SinceFault,
+};
 use ipam_model::{Entry, Request};
 use ipam_text::Text;
 use std::alloc::Global;
@@ -88,5 +91,43 @@ impl<D: Keeper> Deed<D> for Stop {
 
     fn run(self, kept: &mut Kept<D>, slot: u8) -> Option<Entry> {
         kept.stop(slot)
+    }
+}
+
+/// The routes are told.
+#[derive(Drop)]
+pub(crate) struct Routes;
+
+impl<D: Keeper> Deed<D> for Routes {
+    type Answer = Result<(u64, Vec<Route>), Memory>;
+
+    ghost can = { λ deed. Unit {0} };
+
+    ghost does = { λ deed slot before answer after. TellsRoutes D.rows before answer };
+
+    ghost told = { λ answer. [] };
+
+    fn run(self, kept: &mut Kept<D>, slot: u8) -> Result<(u64, Vec<Route>), Memory> {
+        kept.routes()
+    }
+}
+
+/// What became of the routes after a revision is told.
+#[derive(Drop)]
+pub(crate) struct RoutesSince {
+    pub(crate) revision: u64,
+}
+
+impl<D: Keeper> Deed<D> for RoutesSince {
+    type Answer = Result<(u64, Vec<Change>), SinceFault>;
+
+    ghost can = { λ deed. Unit {0} };
+
+    ghost does = { λ deed slot before answer after. TellsChanges D.rows before deed.revision answer };
+
+    ghost told = { λ answer. [] };
+
+    fn run(self, kept: &mut Kept<D>, slot: u8) -> Result<(u64, Vec<Change>), SinceFault> {
+        kept.routes_since(self.revision)
     }
 }

@@ -14,6 +14,8 @@ mod pass;
 mod shared;
 
 pub use faults::{SharedFault, SpentPass};
-pub use ipam_kept::{BeginFault, FeedFault, Keeper, Kept, PrepareFault};
+pub use ipam_kept::{
+    BeginFault, Change, FeedFault, Keeper, Kept, Memory, PrepareFault, Route, SinceFault,
+};
 pub use pass::Pass;
 pub use shared::Shared;

@@ -9,6 +9,7 @@ ghost use Rattle.ipam_model.specs.Cluster.{state_of};
 ghost use Rattle.ipam_model.specs.History.{slot_of_entry};
 ghost use Rattle.ipam_model.specs.SoundRequest.{IsSoundRequest};
 ghost use Rattle.ipam_collect.specs.declared.collect.Grace.{Grace};
+ghost use Rattle.ipam_kept.specs.Feed.{AreChanges, AreRoutes, IsAhead, IsCompacted};
 ghost use Rattle.ipam_kept.specs.Kept.{LeavesKeeper};
 ghost use Rattle.ipam_kept.specs.Turning.{IsDone, IsFailed, IsRefused};
 ghost use Rattle.ipam_shared.specs.Deeds.{told_by};
@@ -16,11 +17,13 @@ ghost use Rattle.ipam_shared.specs.Passes.{runs_in, IsLawfulPass, IsNewlyKept, I
 ghost use Rattle.ipam_shared.specs.Turning.{OnSpent, UnlessSpent, told_stopped, answer_of, moment_met, SeesNext, WasDone, HadTurn, WaitsFor};
 
 use crate::deed::{Deed, InSlot};
-use crate::deeds::{Begin, Call, Feed, Stop};
+use crate::deeds::{Begin, Call, Feed, Routes, RoutesSince, Stop};
 use crate::faults::{SharedFault, SpentPass};
 use crate::locked::Locked;
 use crate::pass::Pass;
-use ipam_kept::{BeginFault, FeedFault, Keeper, Kept, PrepareFault};
+use ipam_kept::{
+    BeginFault, Change, FeedFault, Keeper, Kept, Memory, PrepareFault, Route, SinceFault,
+};
 use ipam_model::{Entry, Request};
 use ipam_text::Text;
 use std::alloc::Global;
@@ -45,12 +48,12 @@ impl<D: Keeper> Model for Shared<D> {
 }
 
 // What a turn answers of what its deed did.
-fn answered<E>(answer: Option<Result<Entry, E>>) -> Result<Entry, SharedFault<E>>
+fn answered<T, E>(answer: Option<Result<T, E>>) -> Result<T, SharedFault<E>>
     ensures { result ≡ answer_of answer }
 {
     match answer {
         None => Err(SharedFault::SpentPass),
-        Some(Ok(entry)) => Ok(entry),
+        Some(Ok(told)) => Ok(told),
         Some(Err(fault)) => Err(SharedFault::Inner(fault)),
     }
 }
@@ -248,5 +251,48 @@ impl<D: Keeper> Shared<D> {
         ensures keeper { IfOk result (λ told. WasDone D.rows LeavesKeeper (told_stopped result) pass.new) }
     {
         self.take_turn(rt, pass, Stop).ok_or(SpentPass)
+    }
+
+    /// The datastore's revision, and its routes by node, then by family and base, at the end of what the
+    /// pass has seen with this turn.
+    pub fn routes<R: Wait>(
+        &self,
+        rt: &R,
+        pass: &mut Pass,
+    ) -> Result<(u64, Vec<Route>), SharedFault<Memory>>
+        requires lock { pass.old.lock ≡ self.now }
+        ensures spent { (result ≡ Err SharedFault.SpentPass) ↔ (pass.old.left ≡ 0) }
+        ensures unchanged { OnSpent result (pass.new ≡ pass.old) }
+        ensures left { UnlessSpent result (pass.new.left + 1 ≡ pass.old.left) }
+        ensures same { IsSamePass pass.old pass.new }
+        ensures seen { UnlessSpent result (SeesNext pass.old [] pass.new) }
+        ensures lawful { IsLawfulPass pass.new }
+        ensures routes { IfOk result (λ told. AreRoutes pass.new.base pass.new.seen told.0 told.1.items) }
+    {
+        answered(self.take_turn(rt, pass, Routes))
+    }
+
+    /// The datastore's revision, and what became of the routes after this one, in the order in which it
+    /// came, up to the end of what the pass has seen with this turn.
+    pub fn routes_since<R: Wait>(
+        &self,
+        rt: &R,
+        pass: &mut Pass,
+        revision: u64,
+    ) -> Result<(u64, Vec<Change>), SharedFault<SinceFault>>
+        requires lock { pass.old.lock ≡ self.now }
+        ensures spent { (result ≡ Err SharedFault.SpentPass) ↔ (pass.old.left ≡ 0) }
+        ensures unchanged { OnSpent result (pass.new ≡ pass.old) }
+        ensures left { UnlessSpent result (pass.new.left + 1 ≡ pass.old.left) }
+        ensures same { IsSamePass pass.old pass.new }
+        ensures seen { UnlessSpent result (SeesNext pass.old [] pass.new) }
+        ensures lawful { IsLawfulPass pass.new }
+        ensures changes { IfOk result (λ told. AreChanges pass.new.base pass.new.seen revision told.0 told.1.items) }
+        ensures compacted { (floor : ℕ) → ((result ≡ Err (SharedFault.Inner (SinceFault.Compacted floor)))
+            ↔ (0 < pass.old.left × IsCompacted pass.new.base pass.new.seen revision floor)) }
+        ensures ahead { (counter : ℕ) → ((result ≡ Err (SharedFault.Inner (SinceFault.Ahead counter)))
+            ↔ (0 < pass.old.left × IsAhead pass.new.base pass.new.seen revision counter)) }
+    {
+        answered(self.take_turn(rt, pass, RoutesSince { revision }))
     }
 }

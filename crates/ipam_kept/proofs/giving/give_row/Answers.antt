@@ -1,4 +1,4 @@
-use Rattle.std.proofs.Common.{◌≡◌, OnOk, refl, sym, ap, ◌∙◌, subst}
+use Rattle.std.proofs.Common.{◌≡◌, OnOk, sym, ap, ◌∙◌, subst}
 use Rattle.ipam_records.specs.declared.call.Row.{Row}
 use Rattle.ipam_keeper.specs.Keeping.{IsOldOrNew, OnFailed, known_with}
 use Rattle.ipam_keeper.specs.Rows.{row_with}

@@ -1,6 +1,5 @@
-use Rattle.std.proofs.Common.{◌≡◌, List, Option, Some, Err, refl, ap, ◌∙◌, subst}
-use Rattle.ipam_records.specs.declared.call.Row.{Row}
-use Rattle.ipam_keeper.specs.Keeping.{IsOldOrNew, OnFailed, OnMemory}
+use Rattle.std.proofs.Common.{◌≡◌, Option, Some, Err, ap, ◌∙◌, subst}
+use Rattle.ipam_keeper.specs.Keeping.{IsOldOrNew, OnFailed}
 use Rattle.ipam_kept.specs.declared.write.RowWrite.{RowWrite}
 use Rattle.ipam_kept.specs.Giving.{known_after}
 use Rattle.ipam_kept.specs.Rows.{AreToldKept, key_written, row_back}

@@ -1,0 +1,4 @@
+//! A session over memory that asks for routes.
+#![tactic(auto)]
+
+mod routes;
