@@ -418,7 +418,6 @@ def try_long(program):
     shown("a member 100,000 times", repeated, ["apply"], [4 * MEGABYTE], refused("metadata.name"))
     shown("a member 100,000 times", lambda size: line_of(repeated(size - 32)), ["play"], short, (8, b"line 1: unreadable\n"))
     shown("one byte", one_byte, ["cni"], [MEGABYTE, 16 * MEGABYTE, 64 * MEGABYTE], (1, UNDECODABLE), CALL)
-    shown("one byte", one_byte, ["call", "127.0.0.1:1"], [MEGABYTE + 1, 64 * MEGABYTE], (1, UNDECODABLE), CALL)
     shown("one byte", one_byte, ["apply"], [*whole[:2], 64 * MEGABYTE], refused("not JSON"))
     shown("one byte, and one more", one_byte, ["apply"], [64 * MEGABYTE + 1], refused("long"))
     shown("one byte", one_byte, ["play"], [2 * MEGABYTE, 64 * MEGABYTE], (8, b"line 1: long\n"))

@@ -153,7 +153,7 @@ def changed_reply(draw):
 def client(program, seeming, reply, env, stdin, is_reset=False):
     """What the client answers, and the line that it sent."""
     seeming.answers(reply, is_reset)
-    found = program.run(["call", seeming.address], encoded(stdin), env)
+    found = program.run(["call", seeming.address], stdin, env)
     seeming.served.wait(PATIENCE)
     return found, seeming.line
 
@@ -170,7 +170,7 @@ def try_replies(program, draw, count):
             is_reset = True
             status, told = error("1.1.0" if command in ("GC", "STATUS") else "1.0.0", 111, "link")
             wanted = status, told.encode()
-        found = client(program, seeming, reply, env, stdin, is_reset)
+        found = client(program, seeming, reply, env, encoded(stdin), is_reset)
         program.want("replies", repr(reply), found, (wanted, line_of_call(env, stdin)))
 
 
@@ -264,15 +264,22 @@ LONG_REPLIES = [
 def try_long_replies(compared, program, spent):
     """Long replies to the client; `spent` gives the processor seconds of all programs so far."""
     seeming = Seeming()
-    env, stdin = dict(cni_table.good_env("ADD")), compact(cni_table.good_config("ADD"))
+    env, stdin = dict(cni_table.good_env("ADD")), encoded(compact(cni_table.good_config("ADD")))
 
     def runs(data):
         start = spent()
         found, _ = client(program, seeming, data, env, stdin)
         return found, spent() - start
 
+    def asks(data):
+        start = spent()
+        return client(program, seeming, b"", env, data), spent() - start
+
     def shown(name, make, sizes, wanted):
         compared(program, "call", name, make, sizes, runs, wanted)
+
+    undecodable = (1, error("1.0.0", 6, "")[1].encode())
+    compared(program, "call", "one byte as standard input", one_byte, [MEGABYTE, 64 * MEGABYTE], asks, (undecodable, b""))
 
     for name, make, wanted in LONG_REPLIES:
         shown(name, ended_line(make), SHORT, wanted)
