@@ -41,8 +41,8 @@ def received(connection):
 class Daemon:
     """A daemon over this file, whose sessions come one after the other."""
 
-    def __init__(self, program, database, workers=1, env=None):
-        self.port, self.log, self.sessions = free_port(), Path(f"{database}.log"), 0
+    def __init__(self, program, database, workers=1, env=None, patience=PATIENCE):
+        self.port, self.log, self.sessions, self.patience = free_port(), Path(f"{database}.log"), 0, patience
         whole = {"IPAM_DB": str(database), "RUST_LOG": "info", **(env or {})}
         with open(self.log, "wb") as log:
             words = [program, "serve", f"127.0.0.1:{self.port}", str(workers)]
@@ -63,15 +63,15 @@ class Daemon:
                 time.sleep(0.01)
 
     def end(self):
-        """How the session ended that ends next: the last words of its line of the log."""
-        self.sessions += 1
-        until = time.monotonic() + PATIENCE
+        """How the session ended that ends next: the last words of its line of the log, or none."""
+        until = time.monotonic() + self.patience
         while time.monotonic() < until:
             lines = self.log.read_text().split("\n")[:-1]
-            if len(lines) >= self.sessions:
+            if len(lines) > self.sessions:
+                self.sessions += 1
                 return lines[self.sessions - 1].rpartition("] ")[2]
             time.sleep(0.001)
-        return "no end"
+        return None
 
     def session(self, data):
         """What is replied to these bytes, and how the session ended."""

@@ -191,8 +191,7 @@ def wish(line):
 class Sessions:
     """The sessions over one cluster, one after the other in one slot."""
 
-    def __init__(self, rows, has_routes):
-        counter = max((revision for revision, _ in rows.values()), default=0)
+    def __init__(self, rows, has_routes, counter=0):
         self.cluster, self.slot, self.has_routes = Cluster(Routes(dict(rows), counter)), 0, has_routes
 
     def waiting(self):
