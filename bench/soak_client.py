@@ -22,9 +22,12 @@ PATIENCE = 60
 STOPS = 6
 AGAIN = 11
 
-# how many calls a fresh daemon is given, and how many kibibytes more than it the loaded one may have: what
-# the C library keeps for each of sixteen threads
-FRESH_CALLS, SLACK = 1000, 4096
+# how many calls a fresh daemon is given, and how many kibibytes more than it the loaded one may have
+FRESH_CALLS, SLACK = 1000, 2048
+
+# the C library has one heap for all threads: in heaps of their own, what one thread gives back another does
+# not use, and more and more memory is resident though no more is in use
+ONE_HEAP = {"MALLOC_ARENA_MAX": "1"}
 
 
 def config(network, node, **members):
@@ -310,7 +313,7 @@ class Client(threading.Thread):
 
 class Daemon:
     def __init__(self, program, database, port, log):
-        env = {**os.environ, "IPAM_DB": database}
+        env = {**os.environ, "IPAM_DB": database, **ONE_HEAP}
         with open(log, "wb") as file:
             words = [program, "serve", f"127.0.0.1:{port}", str(CLIENTS)]
             self.process = subprocess.Popen(words, env=env, stdout=subprocess.DEVNULL, stderr=file)
