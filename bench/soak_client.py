@@ -402,7 +402,8 @@ class Load:
         self.daemon = Daemon(program, database, port, database + ".log")
         self.daemon.started()
         names = [f"{networks}{number}" for number in range(CLIENTS)]
-        self.clients = [Client(name, port, self.told, self.runs, self.ends, seed * 1000 + number) for number, name in enumerate(names)]
+        shared = port, self.told, self.runs, self.ends
+        self.clients = [Client(name, *shared, seed * 1000 + number) for number, name in enumerate(names)]
         self.open, self.begin = self.daemon.open(), time.monotonic()
         for client in self.clients:
             client.start()

@@ -324,7 +324,8 @@ def try_lines_of_sessions(program, draw, count):
     try_sessions(program, draw, count, PLACE)
 
 
-READERS = [try_lines, try_requests, try_configurations, try_environments, try_resources, try_records, try_lines_of_sessions, try_replies]
+READERS = [try_lines, try_requests, try_configurations, try_environments, try_resources, try_records]
+READERS += [try_lines_of_sessions, try_replies]
 
 
 # ---- long input

@@ -212,7 +212,8 @@ def ended_line(make):
 
 
 SHORT = [MEGABYTE // 8, MEGABYTE - 1]
-LINE, VERSIONS = {"refused": "line"}, {"status": 0, "stdout": compact({"cniVersion": "1.0.0", "supportedVersions": cni_table.VERSIONS}) + "\n"}
+LINE = {"refused": "line"}
+VERSIONS = {"status": 0, "stdout": compact({"cniVersion": "1.0.0", "supportedVersions": cni_table.VERSIONS}) + "\n"}
 LONG_LINES = [
     ("200 or more [", deep, LINE),
     ("lone surrogates", surrogates, LINE),
@@ -246,10 +247,16 @@ def try_long_lines(compared, program, place):
     shown("one byte, and no line end", one_byte, [MEGABYTE - 1], b"", "session ended early")
     shown("one byte, and no line end", one_byte, [MEGABYTE, 16 * MEGABYTE, 64 * MEGABYTE], b"", "session ended early")
     shown("deep, and no line end", deep, [64 * MEGABYTE], b"", "session ended early")
-    compared(program, "serve", "empty lines", lambda size: b"\n" * size, [MEGABYTE // 64, MEGABYTE // 8], counts, (True, "session closed"))
+    sizes = [MEGABYTE // 64, MEGABYTE // 8]
+    compared(program, "serve", "empty lines", lambda size: b"\n" * size, sizes, counts, (True, "session closed"))
     daemon.stop()
 
 
+def output(size):
+    return b'{"status":0,"stdout":"' + b"x" * (size - 25) + b'"}\n'
+
+
+SHORTEST = b'{"status":0,"stdout":""}\n'
 NO_REPLY = (1, error("1.0.0", 111, "reply")[1].encode())
 LONG_REPLIES = [
     ("200 or more [", deep, NO_REPLY),
@@ -283,8 +290,8 @@ def try_long_replies(compared, program, spent):
 
     for name, make, wanted in LONG_REPLIES:
         shown(name, ended_line(make), SHORT, wanted)
-    shown("an output", lambda size: b'{"status":0,"stdout":"' + b"x" * (size - 26) + b'"}\n', SHORT, lambda f: f[0] == 0 and len(f[1]) >= SHORT[0] - 64)
-    shown("blanks before a reply", lambda size: b" " * size + b'{"status":0,"stdout":""}\n', [MEGABYTE // 8, MEGABYTE - 25], (0, b""))
-    shown("a reply of one byte too many", lambda size: b" " * size + b'{"status":0,"stdout":""}\n', [MEGABYTE - 24], NO_REPLY)
+    shown("an output", output, SHORT, lambda found: found[0] == 0 and set(found[1]) == {ord("x")})
+    shown("blanks before a reply", lambda size: b" " * size + SHORTEST, [MEGABYTE // 8, MEGABYTE - len(SHORTEST)], (0, b""))
+    shown("a reply of one byte too many", lambda size: b" " * size + SHORTEST, [MEGABYTE - len(SHORTEST) + 1], NO_REPLY)
     shown("one byte, and no line end", one_byte, [MEGABYTE, 16 * MEGABYTE, 64 * MEGABYTE], NO_REPLY)
-    shown("one byte behind a reply", lambda size: b'{"status":0,"stdout":""}\n' + one_byte(size), [MEGABYTE, 64 * MEGABYTE], (0, b""))
+    shown("one byte behind a reply", lambda size: SHORTEST + one_byte(size), [MEGABYTE, 64 * MEGABYTE], (0, b""))
