@@ -22,8 +22,9 @@ PATIENCE = 60
 STOPS = 6
 AGAIN = 11
 
-# how many calls a fresh daemon is given, and how many kibibytes more than it the loaded one may have
-FRESH_CALLS, SLACK = 1000, 2048
+# how many calls a fresh daemon is given, and how many kibibytes more than it the loaded one may have: what
+# its heap keeps of the moment at which most of it was in use
+FRESH_CALLS, SLACK = 1000, 4096
 
 # the C library has one heap for all threads: in heaps of their own, what one thread gives back another does
 # not use, and more and more memory is resident though no more is in use
