@@ -3,16 +3,15 @@
 
 For each reader a hundred inputs are made of good ones by changes at random, and given to the program.
 What it has to answer is said by the second readers of this folder and by Python's `json`. The seed is
-fixed, so two runs try the same. Then come inputs that are deep, long or many, of two sizes each, and
-the time of each: what takes much more than the bytes that were added allow is told.
+fixed, so two runs try the same. Lines of a session are sent to the daemon, and the client reads the
+replies of a small one that only seems a daemon. Then come inputs that are deep, long or many, of two
+sizes each, and the time of each: what takes much more than the bytes that were added allow is told.
 
     tools/bad_input.py              by ./ipam, all of it
     tools/bad_input.py PROGRAM [COUNT [SEED]]
 """
 
-import copy
 import json
-import os
 import random
 import re
 import resource
@@ -25,6 +24,8 @@ from pathlib import Path
 import cni_table
 import request_table
 import resource_table
+from bad_links import try_long_lines, try_long_replies, try_replies, try_sessions
+from changes import changed_json, changed_text, changed_value
 from play_table import BASE, COLLECT, HELD, POOLS, add, add_this, begin, delete
 from second_allocator import Refused, Script
 from second_opening import first_fault
@@ -34,68 +35,6 @@ TOP = Path(__file__).resolve().parent.parent
 PLACE = Path(tempfile.mkdtemp(prefix="ipam-bad-"))
 DATABASE = PLACE / "rows.db"
 SEED, COUNT = 24, 100
-
-# texts that readers may stumble over
-ODD = [
-    "null", "-0", "1.0", "1e2", "1e999", "18446744073709551615", "18446744073709551616", "9" * 400, "true", "[]", "{}",
-    '""', '"\\ud800"', '"\\ud800\\udc00"', '"\\u0000"', "\u00e9", "\u2028", "\x7f", "\t", " ", "  ", "/", "..", "0", "00",
-    "::", "10.0.0.1", "10.0.0.0/30", "2001:DB8::/122", "a" * 254, "[" * 130, "{}{}", ",", ":", "\\", '"', "NaN",
-]  # fmt: skip
-VALUES = [None, True, False, 0, 1, -1, 1.5, 64, 2**32, 2**64 - 1, 2**64, "", "a", "a b", "é", "10.0.0.0/30", "10.0.0.1", [], {}, [1], ["a"], {"a": 1}]
-
-
-# ---- changes
-
-
-def changed_text(draw, text):
-    """The text with a part taken away, doubled, moved or put in."""
-    for _ in range(draw.choice([1, 1, 1, 2, 3])):
-        at = draw.randrange(len(text) + 1)
-        end = min(len(text), at + draw.choice([1, 1, 2, 5, 20]))
-        how = draw.random()
-        if how < 0.3:
-            text = text[:at] + text[end:]
-        elif how < 0.4:
-            text = text[:end] + text[at:]
-        elif how < 0.8:
-            text = text[:at] + draw.choice(ODD) + text[at if how < 0.6 else end :]
-        elif text:
-            text = text[:at] + chr(draw.choice([draw.randrange(1, 128), 0xE9, 0x1F600])) + text[at + 1 :]
-    return text
-
-
-def inner_of(value):
-    """All objects and arrays in the value."""
-    if isinstance(value, (dict, list)):
-        yield value
-        for one in value.values() if isinstance(value, dict) else value:
-            yield from inner_of(one)
-
-
-def changed_value(draw, value):
-    """The value with one member changed, taken away or put in."""
-    value = copy.deepcopy(value)
-    inner = draw.choice(list(inner_of(value)) or [{}])
-    places = list(inner) if isinstance(inner, dict) else list(range(len(inner)))
-    how = draw.random()
-    if places and how < 0.25:
-        del inner[draw.choice(places)]
-    elif places and how < 0.8:
-        inner[draw.choice(places)] = draw.choice(VALUES)
-    elif isinstance(inner, dict):
-        inner[draw.choice(["x", "name", "cidr", "", "é"])] = draw.choice(VALUES)
-    else:
-        inner.append(draw.choice(VALUES))
-    return value
-
-
-def changed_json(draw, text):
-    """The JSON text, changed as a value or as a text, and spelled in some way."""
-    if draw.random() < 0.5:
-        return changed_text(draw, text)
-    value = changed_value(draw, json.loads(text))
-    return json.dumps(value, ensure_ascii=draw.random() < 0.5, separators=draw.choice([(",", ":"), (", ", ": ")]))
-
 
 # ---- the program
 
@@ -381,7 +320,12 @@ def try_records(program, draw, count):
         program.want("records", changed, program.run(["get"], b""), (wanted[0], wanted[1].encode()))
 
 
+def try_lines_of_sessions(program, draw, count):
+    try_sessions(program, draw, count, PLACE)
+
+
 READERS = [try_lines, try_requests, try_configurations, try_environments, try_resources, try_records]
+READERS += [try_lines_of_sessions, try_replies]
 
 
 # ---- long input
@@ -423,24 +367,34 @@ def spent():
     return took.ru_utime + took.ru_stime
 
 
-def times(program, words, data, wanted, env=None):
-    """The least of three times of the processor, each with the answer that is wanted."""
-    found = []
-    for _ in range(3):
+def running(program, words, env=None):
+    """What runs these words with input, and gives the answer and its processor seconds."""
+
+    def runs(data):
         without_rows()
         start = spent()
         answer = program.run(words, data, env)
-        found.append(spent() - start)
-        program.want("long " + words[0], data[:40].decode(), answer, wanted)
+        return answer, spent() - start
+
+    return runs
+
+
+def times(program, word, data, runs, wanted):
+    """The least of three times of the processor, each with the answer that is wanted."""
+    found = []
+    for _ in range(3):
+        answer, took = runs(data)
+        found.append(took)
+        program.want("long " + word, data[:40].decode(), answer, wanted)
     return min(found)
 
 
-def compared(program, name, make, words, sizes, wanted, env=None):
+def compared(program, word, name, make, sizes, runs, wanted):
     """Tells the times of inputs of these sizes."""
     data = [make(size) for size in sizes]
-    took = [times(program, words, one, wanted, env) for one in data]
+    took = [times(program, word, one, runs, wanted) for one in data]
     told = ", ".join(f"{len(one) / MEGABYTE:.1f} MiB {1000 * t:.0f} ms" for one, t in zip(data, took))
-    print(f"{words[0]:6} {name:32} {told}")
+    print(f"{word:6} {name:38} {told}", flush=True)
     growth = len(data[-1]) / len(data[0])
     if took[-1] > 0.02 + 2 * growth * took[0]:
         program.wrong += 1
@@ -452,20 +406,23 @@ def refused(text):
 
 
 def try_long(program):
+    def shown(name, make, words, sizes, wanted, env=None):
+        compared(program, words[0], name, make, sizes, running(program, words, env), wanted)
+
     short, whole = [MEGABYTE // 8, MEGABYTE - 16], [4 * MEGABYTE, 16 * MEGABYTE, 64 * MEGABYTE]
     # (a number that no float reaches is no JSON)
     for name, make in [("200 or more [", deep), ("lone surrogates", surrogates), ("a number of a million digits", digits)]:
-        compared(program, name, make, ["cni"], short, (1, UNDECODABLE), CALL)
-        compared(program, name, make, ["apply"], whole, refused("not JSON"))
-        compared(program, name, lambda size: line_of(make(size - 16)), ["play"], short, (8, b"line 1: unreadable\n"))
-    compared(program, "a member 100,000 times", repeated, ["cni"], [MEGABYTE // 8, MEGABYTE - 32], lambda f: code_of(f) == 1, CALL)
-    compared(program, "a member 100,000 times", repeated, ["apply"], [4 * MEGABYTE], refused("metadata.name"))
-    compared(program, "a member 100,000 times", lambda size: line_of(repeated(size - 32)), ["play"], short, (8, b"line 1: unreadable\n"))
-    compared(program, "one byte", one_byte, ["cni"], [MEGABYTE, 16 * MEGABYTE, 64 * MEGABYTE], (1, UNDECODABLE), CALL)
-    compared(program, "one byte", one_byte, ["apply"], [*whole[:2], 64 * MEGABYTE], refused("not JSON"))
-    compared(program, "one byte, and one more", one_byte, ["apply"], [64 * MEGABYTE + 1], refused("long"))
-    compared(program, "one byte", one_byte, ["play"], [2 * MEGABYTE, 64 * MEGABYTE], (8, b"line 1: long\n"))
-    compared(program, "lines that each stop all", lambda size: b"restart\n" * (size // 8), ["play"], whole, (0, b""))
+        shown(name, make, ["cni"], short, (1, UNDECODABLE), CALL)
+        shown(name, make, ["apply"], whole, refused("not JSON"))
+        shown(name, lambda size: line_of(make(size - 16)), ["play"], short, (8, b"line 1: unreadable\n"))
+    shown("a member 100,000 times", repeated, ["cni"], [MEGABYTE // 8, MEGABYTE - 32], lambda f: code_of(f) == 1, CALL)
+    shown("a member 100,000 times", repeated, ["apply"], [4 * MEGABYTE], refused("metadata.name"))
+    shown("a member 100,000 times", lambda size: line_of(repeated(size - 32)), ["play"], short, (8, b"line 1: unreadable\n"))
+    shown("one byte", one_byte, ["cni"], [MEGABYTE, 16 * MEGABYTE, 64 * MEGABYTE], (1, UNDECODABLE), CALL)
+    shown("one byte", one_byte, ["apply"], [*whole[:2], 64 * MEGABYTE], refused("not JSON"))
+    shown("one byte, and one more", one_byte, ["apply"], [64 * MEGABYTE + 1], refused("long"))
+    shown("one byte", one_byte, ["play"], [2 * MEGABYTE, 64 * MEGABYTE], (8, b"line 1: long\n"))
+    shown("lines that each stop all", lambda size: b"restart\n" * (size // 8), ["play"], whole, (0, b""))
 
 
 def main():
@@ -477,6 +434,8 @@ def main():
         reader(program, random.Random(f"{seed} {reader.__name__}"), count)
         print(f"{reader.__name__[4:]}: {program.tried - before[0]} tried, {program.wrong - before[1]} wrong", flush=True)
     try_long(program)
+    try_long_lines(compared, program, PLACE)
+    try_long_replies(compared, program, spent)
     print(f"{program.tried} tried, {program.wrong} wrong")
     return 1 if program.wrong else 0
 

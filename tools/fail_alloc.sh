@@ -1,9 +1,12 @@
 #!/usr/bin/env bash
-# Refuses memory to the program, one allocation at a time: to the first run of `play`, and to a CNI ADD
-# over a database file. Each run has to end as with all its memory, or to tell want of memory; behind the
-# ADD the rows have to be those behind a front part of its writes, as the second allocator has them.
+# Refuses memory to the program, one allocation at a time: to the first run of `play`, to a CNI ADD over a
+# database file, and to a session of the daemon. Each run has to end as with all its memory, or to tell want
+# of memory, which a session does by its end; behind the ADD, and behind the session, the rows have to be those
+# behind a front part of what was asked, as the second allocator has them.
 #
 #   tools/fail_alloc.sh [PROGRAM]     PROGRAM is release/ipam where none is given; it needs cc and python3
+#
+# FAIL_PARTS may name some of play, add and session, which are all tried where it is not set.
 set -eu
 top=$(cd "$(dirname "$(readlink -f "$0")")/.." && pwd)
 program=$(readlink -f "${1:-$top/release/ipam}")
@@ -12,16 +15,31 @@ trap 'rm -rf "$place"' EXIT
 wrong=0
 
 # the allocations of the C library, of which the one of the number FAIL_ALLOC is refused; the file UNREACHED
-# is made where there were fewer
+# is made where there were fewer. Where the file REFUSED is named, the number stands in it, and is counted down
 cat >"$place/refuse.c" <<'C'
 #include <fcntl.h>
 #include <stdlib.h>
+#include <sys/mman.h>
+#include <unistd.h>
 
 extern void *__libc_malloc(size_t);
 extern void *__libc_realloc(void *, size_t);
 static long left = -1;
+static long *shared;
+
+__attribute__((constructor)) static void share(void) {
+    const char *name = getenv("REFUSED");
+    int file = name ? open(name, O_RDWR | O_CLOEXEC) : -1;
+    if (file >= 0) {
+        void *found = mmap(0, sizeof(long), PROT_READ | PROT_WRITE, MAP_SHARED, file, 0);
+        close(file);
+        shared = found == MAP_FAILED ? 0 : found;
+    }
+}
 
 static int is_refused(void) {
+    if (shared)
+        return *shared > 0 && __atomic_sub_fetch(shared, 1, __ATOMIC_SEQ_CST) == 0;
     if (left == -1) {
         const char *text = getenv("FAIL_ALLOC");
         left = text ? atol(text) : 0;
@@ -107,6 +125,11 @@ try_add() {
     echo "ADD: $((number - 1)) allocations: $none tell want of memory, $whole end as with all memory"
 }
 
-try_play
-try_add
+try_session() {
+    python3 "$top/tools/fail_session.py" "$program" "$place/refuse.so" "$place" || wrong=$((wrong + 1))
+}
+
+for part in ${FAIL_PARTS:-play add session}; do
+    "try_$part"
+done
 [ "$wrong" = 0 ]
