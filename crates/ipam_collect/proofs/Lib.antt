@@ -2,3 +2,4 @@ mod SuspectLemmas
 mod FreesLemmas
 mod OwnedLemmas
 mod HeardLemmas
+mod LiveLemmas

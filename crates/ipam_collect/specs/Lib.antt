@@ -1,3 +1,4 @@
+pub mod Live
 pub mod Suspects
 pub mod Tally
 pub mod Frees

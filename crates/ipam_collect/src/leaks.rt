@@ -8,8 +8,8 @@ ghost use Rattle.ipam_records.specs.Datastore.{row_of};
 ghost use Rattle.ipam_records.specs.declared.key.Key.TheVariants as key;
 ghost use Rattle.ipam_collect.specs.Leaks.{AreSoundRows, block_around, owners_found};
 
+use crate::live::Live;
 use crate::suspect::Suspect;
-use crate::suspects::is_live;
 use ipam_addr::{Addr, Cidr, cidr};
 use ipam_block::{Allocation, Block};
 use ipam_records::{Listing, Record};
@@ -29,21 +29,22 @@ pub(crate) fn leaks_of(
     requires { AreSoundRows (rows_of listing.now) }
     ensures { IfOk result (λ found. found ≡ leaks suspects.now live.now (rows_of listing.now)) }
 {
+    let live = Live::of(alloc, live)?;
     let mut found = Seq::new(alloc);
     for suspect in suspects {
-        if is_leak(suspect, live, listing) {
+        if is_leak(suspect, &live, listing) {
             found.push(suspect.clone()?)?;
         }
     }
     Ok(found)
 }
 
-fn is_leak(suspect: &Suspect, live: &[Text], listing: &Listing) -> bool
+fn is_leak(suspect: &Suspect, live: &Live, listing: &Listing) -> bool
     requires { AreSoundRows (rows_of listing.now) }
     ensures { result ≡ (is_owner_in (rows_of listing.now) suspect.now.owner
         && not (is_live live.now suspect.now.owner.handle)) }
 {
-    holds_still(suspect, listing) && !is_live(live, suspect.handle())
+    holds_still(suspect, listing) && !live.has(suspect.handle())
 }
 
 /// Whether the address is recorded in one of the blocks as the suspect has it. Most suspects are

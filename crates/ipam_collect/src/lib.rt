@@ -4,6 +4,7 @@
 mod collect;
 mod frees;
 mod leaks;
+mod live;
 mod suspect;
 mod suspects;
 mod tally;

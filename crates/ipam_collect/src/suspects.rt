@@ -3,8 +3,9 @@ ghost use Rattle.std.specs.List.{list_any};
 ghost use Rattle.ipam_records.specs.Listing.{rows_of};
 ghost use Rattle.ipam_model.specs.Pairs.{has_value};
 ghost use Rattle.ipam_collect.specs.Suspects.{leaks_in_block};
-ghost use Rattle.ipam_model.specs.Remove.{suspects, leaks_in_row, may_leak, is_in_scope, is_live};
+ghost use Rattle.ipam_model.specs.Remove.{suspects, leaks_in_row, may_leak, is_in_scope};
 
+use crate::live::Live;
 use crate::suspect::Suspect;
 use ipam_block::{Allocation, Block};
 use ipam_model::CollectRequest;
@@ -21,9 +22,10 @@ pub(crate) fn suspects_in(
 ) -> Result<Seq<Suspect>, AllocError>
     ensures { IfOk result (λ found. found ≡ suspects request.now (rows_of listing.now)) }
 {
+    let live = Live::of(alloc, request.live.as_slice())?;
     let mut found = Seq::new(alloc);
     for page in listing.pages() {
-        push_page(&mut found, request, page)?;
+        push_page(&mut found, request, &live, page)?;
     }
     Ok(found)
 }
@@ -31,12 +33,14 @@ pub(crate) fn suspects_in(
 fn push_page(
     found: &mut Seq<Suspect>,
     request: &CollectRequest,
+    live: &Live,
     page: &[(u64, Record)],
 ) -> Result<(), AllocError>
+    requires { live.now ≡ request.now.live }
     ensures { OnOk result (found.new ≡ found.old ++ suspects request.now page.now) }
 {
     for row in page {
-        push_row(found, request, &row.1)?;
+        push_row(found, request, live, &row.1)?;
     }
     Ok(())
 }
@@ -44,12 +48,14 @@ fn push_page(
 fn push_row(
     found: &mut Seq<Suspect>,
     request: &CollectRequest,
+    live: &Live,
     row: &Record,
 ) -> Result<(), AllocError>
+    requires { live.now ≡ request.now.live }
     ensures { OnOk result ((revision : ℕ) → found.new ≡ found.old ++ leaks_in_row request.now (revision, row.now)) }
 {
     match row {
-        Record::Block(block) => push_block(found, request, block),
+        Record::Block(block) => push_block(found, request, live, block),
         _ => Ok(()),
     }
 }
@@ -57,35 +63,27 @@ fn push_row(
 fn push_block(
     found: &mut Seq<Suspect>,
     request: &CollectRequest,
+    live: &Live,
     block: &Block,
 ) -> Result<(), AllocError>
+    requires { live.now ≡ request.now.live }
     ensures { OnOk result (found.new ≡ found.old ++ leaks_in_block request.now block.now) }
 {
     // A block whose CIDR is read is known to be sound.
     let _cidr = block.cidr();
     for allocation in block.allocations() {
-        if may_leak(request, allocation) {
+        if may_leak(request, live, allocation) {
             found.push(Suspect::of(block, allocation)?)?;
         }
     }
     Ok(())
 }
 
-fn may_leak(request: &CollectRequest, allocation: &Allocation) -> bool
+fn may_leak(request: &CollectRequest, live: &Live, allocation: &Allocation) -> bool
+    requires { live.now ≡ request.now.live }
     ensures { result ≡ may_leak request.now allocation.now }
 {
-    is_in_scope(&request.scope, allocation)
-        && !is_live(
-            request.live.as_slice(),
-            allocation.attributes.handle.as_str(),
-        )
-}
-
-/// Whether the handle of this id is live.
-pub(crate) fn is_live(live: &[Text], id: &str) -> bool
-    ensures { result ≡ is_live live.now id.now }
-{
-    live.iter().any(|other| id == other.as_str())
+    is_in_scope(&request.scope, allocation) && !live.has(allocation.attributes.handle.as_str())
 }
 
 /// Whether the allocation was made for the network on the node.
