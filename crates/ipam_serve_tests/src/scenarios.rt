@@ -188,7 +188,8 @@ get handle
 = handle/n.c1 4 {"block":{"10.0.0.0/30":1},"handleID":"n.c1"}"#;
 
 /// Lines that ask for routes.
-pub(crate) const ROUTES: &str = r#"What became of the routes is told from where the rows were opened.
+pub(crate) const ROUTES: &str =
+    r#"What became of the routes is told from where the rows were opened.
 > {"routesSince":3}
 < {"changes":[],"revision":3}
 > {"routes":true}
