@@ -1,6 +1,6 @@
 -- What each call of a kept cluster leaves its feed following, and what the feed answers.
 use Rattle.std.proofs.Common.{◌≡◌, ◌↔◌, ℕ, ◌+◌, ◌<◌, inl, List, [], ◌∷◌, Option, Some, None, Result, Ok, Err, refl, sym, ap, ◌∙◌, subst}
-use Rattle.std.specs.Prelude.{IfOk, IfSome, OnErr}
+use Rattle.std.specs.Prelude.{IfOk, IfSome}
 use Rattle.std.specs.Option.{ForSome}
 use Rattle.ipam_records.specs.declared.call.Write.{Write}
 use Rattle.ipam_records.specs.Datastore.{Datastore}
@@ -54,18 +54,6 @@ module _ {D : Type 0} (tells : Tells D) (old new : Kept D) (ring : new.ring ≡ 
 
 pub stays-fed : {D : Type 0} (tells : Tells D) (old new : Kept D) → Stays tells old new → ((base : Datastore) (writes : List Write) → Follows old.ring base writes → Follows new.ring base writes) → StaysFed tells old new
 stays-fed tells old new stay follows base history h = record { kept_for = stay.kept base history h.kept_for; follows = follows base.store (writes_in history) h.follows }
-
-pub same-fed : {D : Type 0} (tells : Tells D) (old new : Kept D) → new.ring ≡ old.ring → Stays tells old new → StaysFed tells old new
-same-fed tells old new ring stay = stays-fed tells old new stay (λ base writes h. subst (λ (r : RingValue). Follows r base writes) (sym ring) h)
-
-module _ {D E : Type 0} (tells : Tells D) (old between new : Kept D) (stay : StaysFed tells old between) where
-  pub fed-over : (result : Result Entry E) → IfOk result (FedWith tells between new) → IfOk result (FedWith tells old new)
-  fed-over (Ok told) feeds = λ base history h. feeds base history (stay base history h)
-  fed-over (Err e) feeds = tt
-
-  pub stays-fed-over : (result : Result Entry E) → OnErr result (StaysFed tells between new) → OnErr result (StaysFed tells old new)
-  stays-fed-over (Ok told) second = tt
-  stays-fed-over (Err e) second = λ base history h. second base history (stay base history h)
 
 -- ---- what comes of a call
 

@@ -1,5 +1,5 @@
 ghost use Rattle.std.specs.Prelude.{◌≡◌, ◌↔◌, ◌<◌, ◌≤◌, ◌+◌, ◌^◌, ◌⊎◌, ℕ, List, [], Some, None, IsSome, IsNone, IfOk, IfErr, IfSome, IfNone, OnErr, Err, option_map};
-ghost use Rattle.std.specs.Option.{option_copied, ForSome};
+ghost use Rattle.std.specs.Option.{option_copied};
 ghost use Rattle.ipam_model.specs.declared.entry.Entry.TheVariants as entry;
 ghost use Rattle.ipam_model.specs.declared.entry.SlotState.TheVariants as state;
 ghost use Rattle.ipam_model.specs.SoundRequest.{IsSoundRequest};
@@ -47,7 +47,6 @@ impl<D: Keeper> Kept<D> {
     ghost use Rattle.ipam_kept.specs.Rows.{key_written};
     ghost use Rattle.ipam_kept.specs.Kept.{IsKept, KeepsWith, LeavesKeeper, Stays};
     ghost use Rattle.ipam_kept.specs.Feed.{FedFor, FedWith, StaysFed, AreRoutes, AreChanges, IsCompacted, IsAhead};
-    ghost use Rattle.ipam_feed.specs.Turned.{IsPreparedFor};
     ghost use Rattle.ipam_model.specs.declared.entry.Entry.{Entry as OneEntry};
     ghost use Rattle.ipam_model.specs.History.{Base};
     ghost use Rattle.ipam_kept.specs.Opening.{IsNotOpened, IsOpened};

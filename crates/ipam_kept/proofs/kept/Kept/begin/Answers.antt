@@ -10,7 +10,6 @@ returns-clause-keeps g c =
 
 pub returns-clause-feeds : goal.returns-clause-feeds
 returns-clause-feeds g c =
-    let new = record { cluster = c.begin.new.self; keeper = c.args.self.now.keeper; doubt = c.args.self.now.doubt; ring = c.args.self.now.ring } in
-    begin-feeds g.D.Keeper.rows c.args.self.now new refl c.begin.result c.args.slot c.args.request.now c.begin.ensures.entry
-    (begin-keeps g.D.Keeper.rows c.args.self.now new (record { keeper = refl; doubt = refl }) refl
+    begin-feeds g.D.Keeper.rows c.args.self.now (record { cluster = c.begin.new.self; keeper = c.args.self.now.keeper; doubt = c.args.self.now.doubt; ring = c.args.self.now.ring }) refl c.begin.result c.args.slot c.args.request.now c.begin.ensures.entry
+    (begin-keeps g.D.Keeper.rows c.args.self.now (record { cluster = c.begin.new.self; keeper = c.args.self.now.keeper; doubt = c.args.self.now.doubt; ring = c.args.self.now.ring }) (record { keeper = refl; doubt = refl }) refl
     c.begin.result c.args.slot c.args.request.now c.begin.ensures.entry c.begin.ensures.adds)

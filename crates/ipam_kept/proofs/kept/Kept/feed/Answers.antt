@@ -10,7 +10,6 @@ returns-clause-keeps g c =
 
 pub returns-clause-feeds : goal.returns-clause-feeds
 returns-clause-feeds g c =
-    let new = record { cluster = c.feed.new.self; keeper = c.args.self.now.keeper; doubt = c.args.self.now.doubt; ring = c.args.self.now.ring } in
-    feed-feeds g.D.Keeper.rows c.args.self.now new refl c.feed.result c.args.slot c.args.at c.args.live.now c.feed.ensures.entry
-    (feed-keeps g.D.Keeper.rows c.args.self.now new (record { keeper = refl; doubt = refl }) refl
+    feed-feeds g.D.Keeper.rows c.args.self.now (record { cluster = c.feed.new.self; keeper = c.args.self.now.keeper; doubt = c.args.self.now.doubt; ring = c.args.self.now.ring }) refl c.feed.result c.args.slot c.args.at c.args.live.now c.feed.ensures.entry
+    (feed-keeps g.D.Keeper.rows c.args.self.now (record { cluster = c.feed.new.self; keeper = c.args.self.now.keeper; doubt = c.args.self.now.doubt; ring = c.args.self.now.ring }) (record { keeper = refl; doubt = refl }) refl
     c.feed.result c.args.slot c.args.at c.args.live.now c.feed.ensures.entry c.feed.ensures.adds)

@@ -1,4 +1,4 @@
-use Rattle.std.proofs.Common.{◌≡◌, inl, inr, List, Option, refl, ap, ◌∙◌, subst}
+use Rattle.std.proofs.Common.{◌≡◌, inl, inr, List, Option, refl, sym, ap, ◌∙◌, subst}
 use Rattle.std.specs.Option.{option_copied, ForSome}
 use Rattle.ipam_records.specs.declared.call.Write.{Write}
 use Rattle.ipam_records.specs.Datastore.{Datastore}
@@ -16,13 +16,27 @@ use Rattle.ipam_kept.proofs.kept.Kept.make.Goals as goal
 pub prepare-requires : goal.prepare-requires
 prepare-requires g c = record { next = ready-next g.D.Keeper.rows c.args.self.now c.args.prepared c.requires.kept c.requires.prepared (option_copied c.write.result) c.write.ensures }
 
+pub returns-in_default-clause-unchanged : goal.returns-in_default-clause-unchanged
+returns-in_default-clause-unchanged g c =
+    let old = c.args.self.now in
+    stays g.D.Keeper.rows old (record { cluster = old.cluster; keeper = old.keeper; doubt = old.doubt; ring = c.prepare.new.ring }) (record { store = refl; entries = refl; slots = λ slot. refl })
+    (λ sound are. are) (inl refl) c.prepare.ensures.counter
+
+pub returns-in_default-clause-still_fed : goal.returns-in_default-clause-still_fed
+returns-in_default-clause-still_fed g c =
+    let old = c.args.self.now in
+    stays-fed g.D.Keeper.rows old (record { cluster = old.cluster; keeper = old.keeper; doubt = old.doubt; ring = c.prepare.new.ring }) (returns-in_default-clause-unchanged g c) c.prepare.ensures.follows
+
+pub push-requires : goal.push-requires
+push-requires g c = λ one is. c.in-Ok.ensures.prepared one (c.write.ensures ∙ (sym c.write-in-Ok-give.ensures ∙ is))
+
 pub returns-in-Ok-give-clause-keeps : goal.returns-in-Ok-give-clause-keeps
 returns-in-Ok-give-clause-keeps g c =
     let old = c.args.self.now in
     let tells = g.D.Keeper.rows in
     let store : c.store.result.now.store ≡ old.cluster.store.store = ap (λ (s : StoreValue). s.store) c.store.ensures in
     let given = subst (λ (s : Datastore). WereGiven c.args.prepared.write s (tells old.keeper) old.doubt (tells c.give.new.keeper)) store
-    (subst (λ (w : Option Write). WereGiven w c.store.result.now.store (tells old.keeper) old.doubt (tells c.give.new.keeper)) c.write-in-Ok.ensures c.in-Ok-give.ensures.given) in
+    (subst (λ (w : Option Write). WereGiven w c.store.result.now.store (tells old.keeper) old.doubt (tells c.give.new.keeper)) c.write-2.ensures c.in-Ok-give.ensures.given) in
     let counter = subst (λ (w : Option Write). c.push.new.ring.counter ≡ counter_with w c.prepare.new.ring.counter) c.write-in-Ok-give.ensures c.push.ensures.counter ∙ ap (counter_with c.args.prepared.write) c.prepare.ensures.counter in
     keeps-done tells old (record { cluster = c.commit.new.self; keeper = c.give.new.keeper; doubt = c.give.new.doubt; ring = c.push.new.ring }) c.args.prepared c.requires.prepared c.commit.result c.commit.ensures.adds
     c.commit.ensures.entry c.commit.ensures.store given c.in-Ok-give.ensures.sure counter
@@ -37,7 +51,7 @@ pub returns-in-Err-Failed-clause-turned : goal.returns-in-Err-Failed-clause-turn
 returns-in-Err-Failed-clause-turned g c =
     let old = c.args.self.now in
     let failed : c.in-Err-Failed.field-0 ≡ Failed = cc (c.in-Err-Failed.field-0-is) in
-    let fails = subst (λ (w : Option Write). FailsWith w old.doubt c.give.new.doubt) c.write-in-Ok.ensures (failed-of c.in-Err-Failed.field-0 failed c.in-Err-Failed.ensures.failed) in
+    let fails = subst (λ (w : Option Write). FailsWith w old.doubt c.give.new.doubt) c.write-2.ensures (failed-of c.in-Err-Failed.field-0 failed c.in-Err-Failed.ensures.failed) in
     inr (record {
       turn = c.commit-in-Err-Failed.ensures.entry;
       fault = failed-of c.in-Err-Failed.field-0 failed c.in-Err-Failed.ensures.fault;
@@ -52,7 +66,7 @@ returns-in-Err-Failed-clause-keeps g c =
     let store : c.store.result.now.store ≡ old.cluster.store.store = ap (λ (s : StoreValue). s.store) c.store.ensures in
     let kept = subst (λ (s : Datastore). StayKept s (tells old.keeper) old.doubt (tells c.give.new.keeper) c.give.new.doubt) store c.in-Err-Failed.ensures.kept in
     let failed : c.in-Err-Failed.field-0 ≡ Failed = cc (c.in-Err-Failed.field-0-is) in
-    let fails = subst (λ (w : Option Write). FailsWith w old.doubt c.give.new.doubt) c.write-in-Ok.ensures (failed-of c.in-Err-Failed.field-0 failed c.in-Err-Failed.ensures.failed) in
+    let fails = subst (λ (w : Option Write). FailsWith w old.doubt c.give.new.doubt) c.write-2.ensures (failed-of c.in-Err-Failed.field-0 failed c.in-Err-Failed.ensures.failed) in
     keeps-failed tells old (record { cluster = c.commit-in-Err-Failed.new.self; keeper = c.give.new.keeper; doubt = c.give.new.doubt; ring = c.prepare.new.ring }) c.args.prepared c.requires.prepared c.commit-in-Err-Failed.result c.commit-in-Err-Failed.ensures.adds
     c.commit-in-Err-Failed.ensures.entry c.commit-in-Err-Failed.ensures.store kept fails c.prepare.ensures.counter
 

@@ -10,7 +10,6 @@ returns-clause-keeps g c =
 
 pub returns-clause-feeds : goal.returns-clause-feeds
 returns-clause-feeds g c =
-    let new = record { cluster = c.stop.new.self; keeper = c.args.self.now.keeper; doubt = c.args.self.now.doubt; ring = c.args.self.now.ring } in
-    stop-feeds g.D.Keeper.rows c.args.self.now new refl c.stop.result c.args.slot c.stop.ensures.entry
-    (stop-keeps g.D.Keeper.rows c.args.self.now new (record { keeper = refl; doubt = refl }) refl
+    stop-feeds g.D.Keeper.rows c.args.self.now (record { cluster = c.stop.new.self; keeper = c.args.self.now.keeper; doubt = c.args.self.now.doubt; ring = c.args.self.now.ring }) refl c.stop.result c.args.slot c.stop.ensures.entry
+    (stop-keeps g.D.Keeper.rows c.args.self.now (record { cluster = c.stop.new.self; keeper = c.args.self.now.keeper; doubt = c.args.self.now.doubt; ring = c.args.self.now.ring }) (record { keeper = refl; doubt = refl }) refl
     c.stop.result c.args.slot c.stop.ensures.entry c.stop.ensures.adds)
