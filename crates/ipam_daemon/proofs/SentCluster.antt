@@ -3,6 +3,10 @@ use denote.RattleType.{RattleType}
 use denote.Param.Send.{IsSend, sendable}
 use denote.Param.SendFields.{declared_send}
 use Rattle.ipam_records.specs.contracts.call.Row as Row
+use Rattle.ipam_feed.specs.contracts.route.Route as Route
+use Rattle.ipam_feed.specs.contracts.change.Change as Change
+use Rattle.ipam_feed.specs.contracts.next.NextChange as NextChange
+use Rattle.ipam_feed.specs.contracts.ring.Ring as Ring
 use Rattle.ipam_cluster.specs.contracts.cluster.Cluster as Cluster
 use Rattle.ipam_kept.specs.contracts.write.RowWrite as RowWrite
 use Rattle.ipam_kept.specs.contracts.kept.Kept as Kept
@@ -20,8 +24,24 @@ row_send = search (parts) depth 20 fits 100000
 write_send : IsSend RowWrite.the_row
 write_send = search (row_send, parts) depth 20 fits 100000
 
+-- ---- the feed of routes
+
+route_send : IsSend Route.the_row
+route_send = search (parts) depth 20 fits 100000
+
+change_send : IsSend Change.the_row
+change_send = search (route_send, parts) depth 20 fits 100000
+
+next_send : IsSend NextChange.the_row
+next_send = search (change_send, route_send, parts) depth 20 fits 100000
+
+ring_send : IsSend Ring.the_row
+ring_send = search (route_send, change_send, next_send, parts) depth 20 fits 100000
+
+-- ---- the whole
+
 kept_send : (D : RattleType) → IsSend D → IsSend (Kept.the_row D)
-kept_send D s = search (cluster_send, s, write_send, parts) depth 20 fits 100000
+kept_send D s = search (cluster_send, s, write_send, ring_send, parts) depth 20 fits 100000
 
 pub locked_send : (D : RattleType) → IsSend D → IsSend (Locked.the_row D)
 locked_send D s = declared_send (Locked.the_type D) (kept_send D s, tt)

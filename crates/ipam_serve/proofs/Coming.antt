@@ -36,20 +36,20 @@ on-err (Err error) p = p
 
 -- ---- a refusal
 
-unless-err : {T E : Type 0} (fault : SharedFault E) (p : Type 0) → (fault ≡ SpentPass → ⊥) → UnlessSpent {T = T} {E = E} (Err fault) p → p
-unless-err SpentPass p not h = absurd (not refl)
-unless-err (Inner fault) p not h = h
+unless-err : {E : Type 0} (T : Type 0) (fault : SharedFault E) (p : Type 0) → (fault ≡ SpentPass → ⊥) → UnlessSpent {T = T} {E = E} (Err fault) p → p
+unless-err T SpentPass p not h = absurd (not refl)
+unless-err T (Inner fault) p not h = h
 
 not-spent : {T E : Type 0} (fault : SharedFault E) (left : ℕ) → ((◌≡◌ {A = Result T (SharedFault E)} (Err fault) (Err SpentPass)) ↔ (left ≡ 0)) → 2 ≤ left → fault ≡ SpentPass → ⊥
 not-spent fault left spent enough e = let none = spent.0 (ap Err e) in absurd (omega arith)
 
 module _ {T E : Type 0} (old new : PassValue) (fault : SharedFault E) (spent : (◌≡◌ {A = Result T (SharedFault E)} (Err fault) (Err SpentPass)) ↔ (old.left ≡ 0)) (enough : 2 ≤ old.left) where
   pub sees-none : UnlessSpent {T = T} {E = E} (Err fault) (SeesNext old [] new) → SeesNext old [] new
-  sees-none sees = unless-err {T = T} fault (SeesNext old [] new) (not-spent {T = T} fault old.left spent enough) sees
+  sees-none sees = unless-err T fault (SeesNext old [] new) (not-spent {T = T} fault old.left spent enough) sees
 
   pub took-err : IsSamePass old new → UnlessSpent {T = T} {E = E} (Err fault) (SeesNext old [] new) → UnlessSpent {T = T} {E = E} (Err fault) (new.left + 1 ≡ old.left) → Took old [] 1 new
   took-err same sees left =
-      took-none old new same (sees-none sees) (unless-err {T = T} fault (new.left + 1 ≡ old.left) (not-spent {T = T} fault old.left spent enough) left) enough
+      took-none old new same (sees-none sees) (unless-err T fault (new.left + 1 ≡ old.left) (not-spent {T = T} fault old.left spent enough) left) enough
 
 -- ---- a call
 

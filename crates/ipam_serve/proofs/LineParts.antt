@@ -57,7 +57,7 @@ rests-none (Some running) b knows e = let yes = knows.1 refl in absurd (cc (yes,
 does-nothing : (taker : Taker) → Does taker Nothing None 1 taker
 does-nothing taker = record { entries = []; did = (refl, refl); took = took-rest taker.pass; passed = passed-nothing taker.turns }
 
-reads-none : (ahead : Option (ℕ → ℕ)) → ahead ≡ prepend_known_readings [] ahead
+pub reads-none : (ahead : Option (ℕ → ℕ)) → ahead ≡ prepend_known_readings [] ahead
 reads-none None = refl
 reads-none (Some ahead) = refl
 

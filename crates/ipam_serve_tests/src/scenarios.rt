@@ -187,6 +187,44 @@ session closed
 get handle
 = handle/n.c1 4 {"block":{"10.0.0.0/30":1},"handleID":"n.c1"}"#;
 
+/// Lines that ask for routes.
+pub(crate) const ROUTES: &str =
+    r#"What became of the routes is told from where the rows were opened.
+> {"routesSince":3}
+< {"changes":[],"revision":3}
+> {"routes":true}
+< {"revision":3,"routes":[{"cidr":"10.0.0.0/30","node":"a"}]}
+> {"request":{"release":{"cidr":"10.0.0.0/30","node":"a"}}}
+< {"answer":"released"}
+> {"routesSince":3}
+< {"changes":[{"cidr":"10.0.0.0/30","node":"a","revision":4,"up":false}],"revision":6}
+> {"routesSince":4}
+< {"changes":[],"revision":6}
+> {"routesSince":6}
+< {"changes":[],"revision":6}
+> {"routesSince":2}
+< {"compacted":3}
+> {"routesSince":7}
+< {"ahead":6}
+> {"routes":true}
+< {"revision":6,"routes":[]}
+session closed
+
+They are told while a collection waits, which goes on as before.
+> {"request":{"collect":{"live":[]}}}
+< {"waiting":true}
+> {"routes":true}
+< {"revision":3,"routes":[{"cidr":"10.0.0.0/30","node":"a"}]}
+> {"routesSince":2}
+< {"compacted":3}
+> {"routesSince":4}
+< {"ahead":3}
+> {"routes":false}
+< {"refused":"line"}
+> {"feed":[]}
+< {"answer":{"collected":{"b1":1,"b2":3,"items":[]}}}
+session closed"#;
+
 /// How sessions end.
 pub(crate) const ENDS: &str = r#"Nothing comes in.
 session closed

@@ -1,5 +1,5 @@
 use crate::play::play;
-use crate::scenarios::{CALLS, COLLECTIONS, ENDS, FREE, HELD, LONG};
+use crate::scenarios::{CALLS, COLLECTIONS, ENDS, FREE, HELD, LONG, ROUTES};
 use std::alloc::{AllocError, Global};
 use std::process::Abort;
 use std::sync::Wait;
@@ -32,6 +32,13 @@ fn calls_and_requests_are_replied(rt: HostRuntime) -> Result<(), Fail> {
 fn collections_wait(rt: HostRuntime) -> Result<(), Fail> {
     let count = played(&rt, rt.alloc(), HELD, COLLECTIONS)?;
     assert_eq!(rt; count, 5);
+    Ok(())
+}
+
+#[test]
+fn routes_are_told(rt: HostRuntime) -> Result<(), Fail> {
+    let count = played(&rt, rt.alloc(), FREE, ROUTES)?;
+    assert_eq!(rt; count, 2);
     Ok(())
 }
 

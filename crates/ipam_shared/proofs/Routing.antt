@@ -1,5 +1,5 @@
 -- What a pass is told of the routes.
-use Rattle.std.proofs.Common.{◌≡◌, ◌↔◌, ℕ, ◌<◌, List, [], Option, Some, None, Result, Ok, Err, IsNone, IfSome, IfOk, sym, subst}
+use Rattle.std.proofs.Common.{◌≡◌, ◌↔◌, ℕ, ◌<◌, [], Option, Some, None, Result, Ok, Err, IsNone, IfSome, IfOk, sym, subst}
 use Rattle.std.specs.Global.{Vec}
 use Rattle.std.proofs.lemmas.Option.{IfSome_then}
 use Rattle.ipam_feed.specs.declared.route.Route.{Route}

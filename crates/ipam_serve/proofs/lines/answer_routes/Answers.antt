@@ -3,7 +3,7 @@ use Rattle.ipam_serve.proofs.lines.answer_routes.Goals as goal
 
 pub returns-in-Ok-clause-replied : goal.returns-in-Ok-clause-replied
 returns-in-Ok-clause-replied g c turns ahead =
-    routes-replies (record { taker = record { pass = c.args.pass.now; turns = turns }; ahead = ahead }) c.routes.new.pass c.in-Ok.ensures.took c.in-Ok.revision c.in-Ok.routes.items c.in-Ok.ensures.told
+    rw c.of.ensures (routes-replies (record { taker = record { pass = c.args.pass.now; turns = turns }; ahead = ahead }) c.routes.new.pass c.in-Ok.ensures.took c.in-Ok.revision c.in-Ok.routes.items c.in-Ok.ensures.told)
 
 pub returns-in-Err-clause-broken : goal.returns-in-Err-clause-broken
 returns-in-Err-clause-broken g c turns ahead =

@@ -19,7 +19,7 @@ returns-in-Ok-clause-runs g c = untold-runs c.args.pass.now c.routes_since.new.p
 pub returns-in-Ok-clause-told : goal.returns-in-Ok-clause-told
 returns-in-Ok-clause-told g c =
     let enough : 2 ≤ c.args.pass.now.left = rw (← c.left.ensures) c.if-left-lt2.false in
-    told-changes c.args.pass.now c.routes_since.new.pass c.args.revision (omega arith) _ c.in-Ok.counter c.in-Ok.changes.items c.in-Ok.ensures.compacted c.in-Ok.ensures.ahead c.in-Ok.ensures.changes
+    rw c.of.ensures (told-changes c.args.pass.now c.routes_since.new.pass c.args.revision (omega arith) _ c.in-Ok.counter c.in-Ok.changes.items c.in-Ok.ensures.compacted c.in-Ok.ensures.ahead c.in-Ok.ensures.changes)
 
 pub returns-in-Err-clause-took : goal.returns-in-Err-clause-took
 returns-in-Err-clause-took g c =

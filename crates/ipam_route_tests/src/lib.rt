@@ -1,4 +1,0 @@
-//! A session over memory that asks for routes.
-#![tactic(auto)]
-
-mod routes;
