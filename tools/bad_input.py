@@ -11,10 +11,12 @@ sizes each, and the time of each: what takes much more than the bytes that were 
     tools/bad_input.py PROGRAM [COUNT [SEED]]
 """
 
+import atexit
 import json
 import random
 import re
 import resource
+import shutil
 import sqlite3
 import subprocess
 import sys
@@ -33,6 +35,7 @@ from second_records import compact
 
 TOP = Path(__file__).resolve().parent.parent
 PLACE = Path(tempfile.mkdtemp(prefix="ipam-bad-"))
+atexit.register(shutil.rmtree, PLACE, ignore_errors=True)
 DATABASE = PLACE / "rows.db"
 SEED, COUNT = 24, 100
 
