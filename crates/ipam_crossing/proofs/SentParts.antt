@@ -22,7 +22,7 @@ use Rattle.ipam_assign.specs.contracts.scanning.Pooled as Pooled
 use Rattle.ipam_assign.specs.contracts.scanning.Reserving as Reserving
 use Rattle.ipam_assign.specs.contracts.scanning.Gathered as Gathered
 use Rattle.ipam_assign.specs.contracts.scanning.Scanning as Scanning
-use Rattle.ipam_daemon.proofs.SentRows.{pools_send, block_send, handle_send, attributes_send, cidr_send, parts}
+use Rattle.ipam_crossing.proofs.SentRows.{pools_send, block_send, handle_send, attributes_send, parts}
 
 reserved_send : IsSend Reserved.the_row
 reserved_send = search (parts) depth 20 fits 100000

@@ -18,7 +18,7 @@ use Rattle.ipam_block.specs.contracts.allocation.Allocation as Allocation
 use Rattle.ipam_block.specs.contracts.block_record.Block as Block
 use Rattle.ipam_affinity.specs.contracts.record.Affinity as Affinity
 use Rattle.ipam_handle.specs.contracts.handles.Handle as Handle
-use Rattle.ipam_daemon.proofs.SentSelectors.{text_send, node_selector_send}
+use Rattle.ipam_crossing.proofs.SentSelectors.{text_send, node_selector_send}
 
 pub addr_send : IsSend Addr.the_row
 addr_send = search (declared_send, variants_send, sendable) depth 20 fits 100000

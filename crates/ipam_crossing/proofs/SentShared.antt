@@ -13,10 +13,9 @@ use Rattle.turn_lock.specs.declared.booked.Booked as booked
 use Rattle.turn_lock.specs.contracts.lock.TurnLock as TurnLock
 use Rattle.turn_lock.specs.contracts.lock.TurnLock.TheInside as lock_inside
 use Rattle.ipam_kept.specs.declared.Keeper.{Ghosts}
-use Rattle.ipam_shared.specs.contracts.locked.Locked as Locked
 use Rattle.ipam_shared.specs.contracts.shared.Shared as Shared
 use Rattle.ipam_shared.specs.contracts.shared.Shared.TheInside as inside
-use Rattle.ipam_daemon.proofs.SentCluster.{locked_send}
+use Rattle.ipam_crossing.proofs.SentCluster.{locked_send}
 
 -- a table whose words and slots stand on the heap
 module _ (S V K P : RattleType) (r : rule.Ghosts P.Denot S.Denot V.Denot K.Denot) where

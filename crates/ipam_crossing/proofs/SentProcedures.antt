@@ -37,9 +37,9 @@ use Rattle.ipam_admin.specs.contracts.admin.Stage as AdminStage
 use Rattle.ipam_admin.specs.contracts.admin.AdminProc as AdminProc
 use Rattle.ipam_running.specs.contracts.absent.AbsentRelease as AbsentRelease
 use Rattle.ipam_running.specs.contracts.running.Running as Running
-use Rattle.ipam_daemon.proofs.SentRows.{pool_send, reservation_send, cidr_send, parts}
-use Rattle.ipam_daemon.proofs.SentStore.{record_send}
-use Rattle.ipam_daemon.proofs.SentParts.{add_request_send, block_cidr_send, found_send, freeing_send, claim_send, place_send, assigning_send, scanning_send}
+use Rattle.ipam_crossing.proofs.SentRows.{pool_send, reservation_send, parts}
+use Rattle.ipam_crossing.proofs.SentStore.{record_send}
+use Rattle.ipam_crossing.proofs.SentParts.{add_request_send, block_cidr_send, found_send, freeing_send, claim_send, place_send, assigning_send, scanning_send}
 
 -- ---- an address is added
 

@@ -13,7 +13,7 @@ use Rattle.ipam_store.specs.contracts.nodes.NodeLists as NodeLists
 use Rattle.ipam_store.specs.contracts.index.BlockIndex as BlockIndex
 use Rattle.ipam_store.specs.contracts.blocks.Blocks as Blocks
 use Rattle.ipam_store.specs.contracts.store.Store as Store
-use Rattle.ipam_daemon.proofs.SentRows.{pools_send, reservation_send, block_send, affinity_send, handle_send, pair_send, parts}
+use Rattle.ipam_crossing.proofs.SentRows.{pools_send, reservation_send, block_send, affinity_send, handle_send, pair_send, parts}
 
 pub record_send : IsSend Record.the_row
 record_send = search (pools_send, reservation_send, block_send, affinity_send, handle_send, parts) depth 20 fits 100000

@@ -1,6 +1,6 @@
 -- What lies under the lock of a shared cluster may cross threads where its keeper may.
 use denote.RattleType.{RattleType}
-use denote.Param.Send.{IsSend, sendable}
+use denote.Param.Send.{IsSend}
 use denote.Param.SendFields.{declared_send}
 use Rattle.ipam_records.specs.contracts.call.Row as Row
 use Rattle.ipam_feed.specs.contracts.route.Route as Route
@@ -11,14 +11,14 @@ use Rattle.ipam_cluster.specs.contracts.cluster.Cluster as Cluster
 use Rattle.ipam_kept.specs.contracts.write.RowWrite as RowWrite
 use Rattle.ipam_kept.specs.contracts.kept.Kept as Kept
 use Rattle.ipam_shared.specs.contracts.locked.Locked as Locked
-use Rattle.ipam_daemon.proofs.SentRows.{parts}
-use Rattle.ipam_daemon.proofs.SentStore.{store_send}
-use Rattle.ipam_daemon.proofs.SentProcedures.{running_send}
+use Rattle.ipam_crossing.proofs.SentRows.{parts}
+use Rattle.ipam_crossing.proofs.SentStore.{store_send}
+use Rattle.ipam_crossing.proofs.SentProcedures.{running_send}
 
 cluster_send : IsSend Cluster.the_row
 cluster_send = search (store_send, running_send, parts) depth 20 fits 100000
 
-row_send : IsSend Row.the_row
+pub row_send : IsSend Row.the_row
 row_send = search (parts) depth 20 fits 100000
 
 write_send : IsSend RowWrite.the_row
