@@ -1,4 +1,4 @@
-use Rattle.std.proofs.Common.{◌≤◌, ◌<◌, arith}
+use Rattle.std.proofs.Common.{◌≤◌, arith}
 use Rattle.ipam_serve.proofs.Coming.{sees-none, took-err}
 use Rattle.ipam_serve.proofs.Routing.{told-changes, told-faults}
 use Rattle.ipam_serve.proofs.Slots.{untold-runs}
