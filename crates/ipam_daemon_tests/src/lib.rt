@@ -2,8 +2,18 @@
 #![tactic(auto)]
 
 #[cfg(test)]
+mod calls;
+#[cfg(test)]
 mod clients;
+#[cfg(test)]
+mod ends;
 #[cfg(test)]
 mod flags;
 #[cfg(test)]
-mod scratch;
+mod loopback;
+#[cfg(test)]
+mod scripts;
+#[cfg(test)]
+mod sessions;
+#[cfg(test)]
+mod turns;
