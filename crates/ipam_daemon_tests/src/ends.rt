@@ -9,7 +9,7 @@ use log::Log;
 use log::sink::Memory;
 use std::alloc::{AllocError, Global};
 use std::net::{Net, TcpListener, TcpStream};
-use std::rt::{Clock, HostRuntime};
+use std::rt::Clock;
 use std::str;
 use std::sync::Wait;
 use std::test::Fail;

@@ -12,7 +12,7 @@ use log::Log;
 use std::alloc::{AllocError, Global};
 use std::net::{Net, TcpListener, TcpStream};
 use std::process::Abort;
-use std::rt::{Clock, HostRuntime};
+use std::rt::Clock;
 use std::sync::{Arc, Wait};
 use std::test::Fail;
 use std::thread;
@@ -23,15 +23,11 @@ const ADDED: &str = "0 {\"cniVersion\":\"1.0.0\",\"ips\":[{\"address\":\"10.0.0.
 
 const DELETED: &str = "0 ";
 
-/// The number that stands behind this word, or 0.
-fn number_behind(text: &str, word: &str) -> u8 {
-    let Some((_, rest)) = text.split_once(word) else {
-        return 0;
-    };
-    let digits = rest
-        .split_once([' ', ':'])
-        .map_or(rest, |(digits, _)| digits);
-    digits.parse().unwrap_or(0)
+/// How many workers and clients the head of a script has.
+fn counts_of(head: &str) -> (u8, u8) {
+    let (workers, rest) = head.split_once(' ').unwrap_or((head, ""));
+    let (clients, _) = rest.split_once(' ').unwrap_or((rest, ""));
+    (workers.parse().unwrap_or(0), clients.parse().unwrap_or(0))
 }
 
 /// Has the script played by its clients against its workers, and compares what is told.
@@ -48,11 +44,10 @@ fn play_one<
         + 'static,
 >(rt: R, alloc: Global, script: &'static str) -> Result<(), Fail> {
     let (head, _) = script.split_once('\n').unwrap_or((script, ""));
-    let clients = number_behind(head, "clients ");
+    let (workers, clients) = counts_of(head);
     let listener = listen(&rt, "127.0.0.1:0").ok_or("no listener")?;
     let connected = connected(&rt, alloc, listener.local_addr()?, clients)?;
     let playing = thread::spawn(&rt, move || play(alloc, connected, script))?;
-    let workers = number_behind(head, "workers ");
     let is_served = serve_all(
         rt,
         alloc,

@@ -1,5 +1,5 @@
 //! Two sessions at one cluster, each by a thread and with a pass of its own.
-ghost use Rattle.std.specs.Prelude.{◌≡◌, ◌×◌, None};
+ghost use Rattle.std.specs.Prelude.{◌≡◌, None};
 ghost use Rattle.ipam_shared.specs.Passes.{IsNewlyKept, runs_in};
 
 use crate::flags::{Flag, WaitingGate};
