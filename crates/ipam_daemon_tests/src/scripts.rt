@@ -60,6 +60,6 @@ b > ,"handle":"net.c1"}}}
 b < {"answer":"checked"}
 b !
 c > {"request":{"del":{"handle":"net.c1"}}}
-c < {"answer":{"deleted":{"k":24}}}
+c < {"answer":{"deleted":{"k":16}}}
 c !
 d !"#;
