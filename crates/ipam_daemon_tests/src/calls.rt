@@ -1,0 +1,75 @@
+//! CNI calls of a container.
+use ipam_call::run_call;
+use ipam_client::call;
+use ipam_io::{MemorySink, MemorySource, TcpLink};
+use ipam_text::Text;
+use std::alloc::{AllocError, Global};
+use std::net::{Net, TcpStream};
+use std::str;
+
+const CONFIGURATION: &str =
+    r#"{"cniVersion":"1.0.0","name":"n","nodename":"a","ipam":{"type":"calico-ipam"}}"#;
+
+/// How many bytes a call may write.
+const ROOM: usize = 4096;
+
+/// The environment of a call for one container.
+fn environment(alloc: Global, command: &str) -> Result<Vec<(Text, Text)>, AllocError> {
+    let pairs = [
+        ("CNI_COMMAND", command),
+        ("CNI_CONTAINERID", "c1"),
+        ("CNI_NETNS", "/x"),
+        ("CNI_IFNAME", "eth0"),
+    ];
+    let mut environment = Vec::new(alloc);
+    for (name, value) in pairs {
+        environment.push((Text::copied(alloc, name)?, Text::copied(alloc, value)?))?;
+    }
+    Ok(environment)
+}
+
+/// The configuration, as standard input.
+fn input(alloc: Global) -> Result<MemorySource, AllocError> {
+    let bytes = Vec::from_slice(alloc, CONFIGURATION.as_bytes())?;
+    Ok(MemorySource::new(bytes, Vec::new(alloc)))
+}
+
+/// The status, and what was written.
+fn told(alloc: Global, status: u8, sink: &MemorySink) -> Result<String, AllocError> {
+    let written = str::from_utf8(sink.written()).unwrap_or("no text");
+    format!(in alloc; "{status} {written}")
+}
+
+/// Makes this call over the link, and tells its status and what it writes.
+pub(crate) fn called_over(
+    alloc: Global,
+    command: &str,
+    link: &mut TcpLink,
+) -> Result<String, AllocError> {
+    let environment = environment(alloc, command)?;
+    let mut source = input(alloc)?;
+    let mut sink = MemorySink::new(alloc, ROOM, Vec::new(alloc))?;
+    let status = run_call(alloc, environment.as_slice(), &mut source, &mut sink, link);
+    told(alloc, status, &sink)
+}
+
+/// Connects to the address and makes this call there, and tells its status and what it writes.
+pub(crate) fn called_at<R: Net<Stream = TcpStream>>(
+    rt: &R,
+    alloc: Global,
+    command: &str,
+    address: &str,
+) -> Result<String, AllocError> {
+    let environment = environment(alloc, command)?;
+    let mut source = input(alloc)?;
+    let mut sink = MemorySink::new(alloc, ROOM, Vec::new(alloc))?;
+    let status = call(
+        rt,
+        alloc,
+        address,
+        environment.as_slice(),
+        &mut source,
+        &mut sink,
+    );
+    told(alloc, status, &sink)
+}

@@ -1,0 +1,65 @@
+//! Scripts of clients, whose lines `clients` explains. Each begins with how many workers there are, how
+//! many clients, and what it shows.
+
+/// Each client is connected before the first line of its script, in the order of the letters. A worker
+/// takes the next of them once its session is at its end.
+pub(crate) const SCRIPTS: &str = r#"1 1 lines are replied to, in their order
+a > {"request":{"add":{"handle":"n.c1","node":"a"}}}
+a < {"answer":{"added":[{"address":"10.0.0.0","b":5,"c":1,"f":4,"p":2,"r":3,"w":8}]}}
+a > {"env":{"CNI_COMMAND":"ADD","CNI_CONTAINERID":"c2","CNI_IFNAME":"eth0","CNI_NETNS":"/x"},"stdin":"{\"cniVersion\":\"1.0.0\",\"name\":\"net\",\"nodename\":\"a\",\"ipam\":{\"type\":\"calico-ipam\"}}"}
+a < {"status":0,"stdout":"{\"cniVersion\":\"1.0.0\",\"ips\":[{\"address\":\"10.0.0.1/32\"}]}\n"}
+a > {"feed":[]}
+a > no request
+a > {"request":{"check":{"addresses":["10.0.0.0"],"handle":"n.c1"}}}
+a < {"refused":"not waiting"}
+a < {"refused":"line"}
+a < {"answer":"checked"}
+a . {"request":{"check":
+a . {"addresses":["10.0.0.1"],
+a > "handle":"net.c2"}}}
+a < {"answer":"checked"}
+a !
+
+1 4 who sends nothing or half a line costs a worker only while it is connected
+a . {"request":{"add":{"handle"
+a !
+b !
+c > {"request":{"add":{"handle":"n.c1","node":"a"}}}
+c . {"request":{"del":{"handle":"n.c1"}}}
+c !
+d > {"request":{"check":{"addresses":["10.0.0.0"],"handle":"n.c1"}}}
+d < {"answer":"checked"}
+d !
+
+0 3 where there is no worker the connections are served one after the other
+a . {"request":{"add":{"handle"
+a !
+b !
+c > {"request":{"add":{"handle":"n.c1","node":"a"}}}
+c < {"answer":{"added":[{"address":"10.0.0.0","b":5,"c":1,"f":4,"p":2,"r":3,"w":8}]}}
+c !
+
+1 2 a collection that waits at the end of its session is stopped
+a > {"request":{"collect":{"live":[]}}}
+a < {"waiting":true}
+a !
+b > {"request":{"collect":{"live":[]}}}
+b < {"waiting":true}
+b > {"stop":true}
+b < {"stopped":true}
+b !
+
+3 4 silent clients keep no other from a worker that is free
+c > {"env":{"CNI_COMMAND":"ADD","CNI_CONTAINERID":"c1","CNI_IFNAME":"eth0","CNI_NETNS":"/x"},"stdin":"{\"cniVersion\":\"1.0.0\",\"name\":\"net\",\"nodename\":\"a\",\"ipam\":{\"type\":\"calico-ipam\"}}"}
+c < {"status":0,"stdout":"{\"cniVersion\":\"1.0.0\",\"ips\":[{\"address\":\"10.0.0.0/32\"}]}\n"}
+b . {"request":{"check":{"addresses":["10.0.0.0"]
+a !
+d > {"request":{"check":{"addresses":["10.0.0.0"],"handle":"net.c1"}}}
+d < {"answer":"checked"}
+b > ,"handle":"net.c1"}}}
+b < {"answer":"checked"}
+b !
+c > {"request":{"del":{"handle":"net.c1"}}}
+c < {"answer":{"deleted":{"k":16}}}
+c !
+d !"#;
