@@ -1,12 +1,13 @@
 //! Threads that ask for addresses.
 ghost use Rattle.std.specs.Prelude.{◌≡◌, ◌+◌, ◌*◌, ◌-◌, IfSome};
+ghost use Rattle.ipam_model.specs.SoundRequest.{IsSoundRequest};
 ghost use Rattle.atomic_table.specs.Seated.{TableId};
 ghost use denote.Param.Send.{IsSync};
 
 use crate::requests::{add, del, given, run};
 use ipam_addr::Addr;
 use ipam_keeper::MemoryKeeper;
-use ipam_model::Answer;
+use ipam_model::{Answer, Request};
 use ipam_shared::{Pass, Shared};
 use std::alloc::{AllocError, Global};
 use std::sync::Wait;
@@ -51,11 +52,26 @@ fn give_back<R: Wait>(
     requires { pass.old.lock ≡ shared.now }
     ensures { pass.new.lock ≡ pass.old.lock }
 {
-    let Some(request) = del(alloc, handle) else {
-        return false;
-    };
+    match del(alloc, handle) {
+        Some(request) => delete(rt, alloc, shared, pass, &request),
+        None => false,
+    }
+}
+
+/// Asks for the deletion until it is answered, and says whether it was.
+fn delete<R: Wait>(
+    rt: &R,
+    alloc: Global,
+    shared: &Shared<MemoryKeeper>,
+    pass: &mut Pass,
+    request: &Request,
+) -> bool
+    requires lock { pass.old.lock ≡ shared.now }
+    requires sound { IsSoundRequest request.now }
+    ensures { pass.new.lock ≡ pass.old.lock }
+{
     for _ in 0..MOST_TRIES {
-        if let Some(Answer::Deleted(_)) = run(rt, alloc, shared, pass, &request) {
+        if let Some(Answer::Deleted(_)) = run(rt, alloc, shared, pass, request) {
             return true;
         }
     }
