@@ -259,6 +259,22 @@ fn fault_name(alloc: Global, key: &str, body: &str) -> &'static str {
     }
 }
 
+/// Makes the change of the line in the body, which is to have the line's fault.
+fn refusal(rt: &impl Abort, alloc: Global, body: &str, line: &str) -> Result<(), AllocError> {
+    let Some((from, rest)) = line.split_once('|') else {
+        return Err(AllocError);
+    };
+    let Some((to, rest)) = rest.split_once('|') else {
+        return Err(AllocError);
+    };
+    let Some((fault, key)) = rest.split_once('|') else {
+        return Err(AllocError);
+    };
+    let other = changed(alloc, body, from, to)?;
+    assert_eq!(rt; fault_name(alloc, key, other.as_str()), fault, "{line}");
+    Ok(())
+}
+
 /// Makes each change of the body, and says how many there are.
 fn refusals(
     rt: &impl Abort,
@@ -268,31 +284,28 @@ fn refusals(
 ) -> Result<usize, AllocError> {
     let mut count = 0usize;
     for line in changes.lines() {
-        let mut parts = line.split('|');
-        if let (Some(from), Some(to), Some(fault), Some(key)) = (
-            parts.next(),
-            parts.next(),
-            parts.next(),
-            parts.next(),
-        ) {
-            let other = changed(alloc, body, from, to)?;
-            let found = fault_name(alloc, key, other.as_str());
-            assert_eq!(rt; found, fault, "{line}");
-            count = count.wrapping_add(1);
-        }
+        refusal(rt, alloc, body, line)?;
+        count = count.wrapping_add(1);
     }
     Ok(count)
+}
+
+/// Reads the key and the body of the line, which is to be printed as it was.
+fn is_printed(rt: &impl Abort, alloc: Global, line: &str) -> Result<(), AllocError> {
+    let Some((key, body)) = line.split_once(' ') else {
+        return Err(AllocError);
+    };
+    let text = printed(alloc, key, body)?;
+    assert_eq!(rt; text.as_str(), body);
+    Ok(())
 }
 
 #[test]
 fn records_are_read_and_printed(rt: HostRuntime) -> Result<(), AllocError> {
     let mut count = 0usize;
     for line in SOUND.lines() {
-        if let Some((key, body)) = line.split_once(' ') {
-            let text = printed(rt.alloc(), key, body)?;
-            assert_eq!(&rt; text.as_str(), body);
-            count = count.wrapping_add(1);
-        }
+        is_printed(&rt, rt.alloc(), line)?;
+        count = count.wrapping_add(1);
     }
     assert_eq!(&rt; count, 18);
     Ok(())

@@ -40,7 +40,22 @@ fn rows_text(alloc: Global, store: &Store) -> Result<String, AllocError> {
     Ok(text)
 }
 
-/// Asks the calls in turn, each of which is to have its answer, and says how many there are.
+/// Asks the call of the line, which is to have its answer.
+fn ask_line(
+    rt: &impl Abort,
+    alloc: Global,
+    store: &mut Store,
+    line: &str,
+) -> Result<(), AllocError> {
+    let Some((call, want)) = line.split_once('|') else {
+        return Err(AllocError);
+    };
+    let answer = ask(store, alloc, call)?;
+    assert_eq!(rt; answer.as_str(), want, "{line}");
+    Ok(())
+}
+
+/// Asks the calls in turn, and says how many there are.
 fn ask_all(
     rt: &impl Abort,
     alloc: Global,
@@ -49,11 +64,8 @@ fn ask_all(
 ) -> Result<usize, AllocError> {
     let mut count = 0usize;
     for line in table.lines() {
-        if let Some((call, want)) = line.split_once('|') {
-            let answer = ask(store, alloc, call)?;
-            assert_eq!(rt; answer.as_str(), want, "{line}");
-            count = count.wrapping_add(1);
-        }
+        ask_line(rt, alloc, store, line)?;
+        count = count.wrapping_add(1);
     }
     Ok(count)
 }
@@ -137,8 +149,9 @@ fn answers_applies_and_lists(rt: HostRuntime) -> Result<(), AllocError> {
     Ok(())
 }
 
-/// With all the rows, and all the blocks, that there may be. The last of the revisions are numbers
-/// from 4,611,686,018,427,387,895 to 4,611,686,018,427,387,904.
+/// With all the rows, and all the blocks, that there may be. The last revisions are the numbers from
+/// 4,611,686,018,427,387,895 to 4,611,686,018,427,387,904. Behind the last there are all the blocks,
+/// and room for one more row.
 const FULL: &str = "\
 create affinity/a/10.0.0.0/30|exists 1
 create block/10.0.0.0/30|exists 1
@@ -167,10 +180,6 @@ create block/10.0.0.0/30|full 0
 delete 4611686018427387901 handle/n.c1|can 4611686018427387902
 create block/10.0.0.4/30|can 4611686018427387903
 delete 1 affinity/a/10.0.0.4/30|can 4611686018427387904
-";
-
-/// Behind that, at the last revision, with all the blocks and room for one more row.
-const SPENT: &str = "\
 get block/10.0.0.8/30|found 1
 create block/10.0.0.8/30|exists 1
 create block/10.0.255.252/30|exists 1
@@ -192,16 +201,11 @@ const MOST: u32 = 262_144;
 
 const MOST_OF_BLOCKS: u32 = 16_384;
 
-fn full_told(rt: &impl Abort, alloc: Global, store: &mut Store) -> Result<usize, AllocError> {
-    let full = ask_all(rt, alloc, store, FULL)?;
-    Ok(full.wrapping_add(ask_all(rt, alloc, store, SPENT)?))
-}
-
 fn full(rt: &impl Abort, alloc: Global) -> Result<usize, AllocError> {
     let mut store = Store::new(alloc, LAST_REVISION - 10);
     fill_affinities(&mut store, alloc, MOST - MOST_OF_BLOCKS)?;
     fill_blocks(&mut store, alloc, MOST_OF_BLOCKS)?;
-    full_told(rt, alloc, &mut store)
+    ask_all(rt, alloc, &mut store, FULL)
 }
 
 #[test]
