@@ -201,11 +201,17 @@ const MOST: u32 = 262_144;
 
 const MOST_OF_BLOCKS: u32 = 16_384;
 
+/// Fills the store, and asks each call.
+fn fill_and_ask(rt: &impl Abort, alloc: Global, store: &mut Store) -> Result<usize, AllocError> {
+    fill_affinities(store, alloc, MOST - MOST_OF_BLOCKS)?;
+    fill_blocks(store, alloc, MOST_OF_BLOCKS)?;
+    ask_all(rt, alloc, store, FULL)
+}
+
+// The store is held apart from each `?`, of which each would drop it.
 fn full(rt: &impl Abort, alloc: Global) -> Result<usize, AllocError> {
     let mut store = Store::new(alloc, LAST_REVISION - 10);
-    fill_affinities(&mut store, alloc, MOST - MOST_OF_BLOCKS)?;
-    fill_blocks(&mut store, alloc, MOST_OF_BLOCKS)?;
-    ask_all(rt, alloc, &mut store, FULL)
+    fill_and_ask(rt, alloc, &mut store)
 }
 
 #[test]
