@@ -1,7 +1,8 @@
+use crate::tables::BLOCK;
 use ipam_addr::{Addr, Cidr, Spared, read_cidr};
 use ipam_block::{Attributes, Block};
 use ipam_text::{Seq, Text};
-use std::alloc::AllocError;
+use std::alloc::{AllocError, Global};
 
 /// A reserved CIDR.
 #[derive(Drop)]
@@ -17,102 +18,89 @@ impl Spared for Reserved {
     }
 }
 
-fn attributes_of(rt: &HostRuntime, handle: &str) -> Result<Attributes, AllocError> {
-    let handle = Text::copied(rt.alloc(), handle)?;
-    Ok(Attributes {
-        handle,
-        secondary: Seq::new(rt.alloc()),
-    })
+fn fresh(alloc: Global, text: &str, node: Option<&str>) -> Result<Block, AllocError> {
+    match read_cidr(text.as_bytes()) {
+        Ok(cidr) if cidr.last().number - cidr.base().number < 4096 => {
+            Block::fresh(alloc, cidr, node)
+        }
+        _ => Err(AllocError),
+    }
 }
 
-/// One change of a block.
-#[derive(Clone, Copy)]
-enum Change<'a> {
-    Assign(u16, &'a str),
-    FreeHandle(&'a str),
-    FreeStamped(u16, &'a str, u64),
+/// Holds the ordinal for a handle, where it is free.
+fn assign(alloc: Global, block: &mut Block, ordinal: u16, handle: &str) -> Result<(), AllocError> {
+    let attributes = Attributes {
+        handle: Text::copied(alloc, handle)?,
+        secondary: Seq::new(alloc),
+    };
+    if ordinal < block.count() && block.sequence() > 0 {
+        let _held = block.assign(ordinal, attributes);
+    }
+    Ok(())
 }
 
-/// The block's next write with the change.
-fn changed(rt: &HostRuntime, block: &Block, change: Change) -> Result<Block, AllocError> {
-    if block.sequence() >= 1 << 62 {
-        return Err(AllocError);
+/// Makes a change: `assign ORDINAL HANDLE`, `free ORDINAL HANDLE STAMP` or `free HANDLE`.
+fn change(alloc: Global, block: &mut Block, text: &str) -> Result<(), AllocError> {
+    let mut words = text.split(' ');
+    let is_assign = words.next() == Some("assign");
+    let first = words.next().unwrap_or("");
+    let Some(handle) = words.next() else {
+        block.free_handle(first);
+        return Ok(());
+    };
+    let ordinal = first.parse::<u16>().unwrap_or(0);
+    if is_assign {
+        return assign(alloc, block, ordinal, handle);
     }
-    let mut next = block.next()?;
-    match change {
-        Change::Assign(ordinal, handle) => {
-            let attributes = attributes_of(rt, handle)?;
-            if ordinal < next.count() {
-                let _ = next.assign(ordinal, attributes);
-            }
-        }
-        Change::FreeHandle(handle) => {
-            next.free_handle(handle);
-        }
-        Change::FreeStamped(ordinal, handle, stamp) => {
-            next.free_stamped(ordinal, handle, stamp);
-        }
-    }
-    Ok(next)
+    let stamp = words.next().unwrap_or("").parse::<u64>().unwrap_or(0);
+    block.free_stamped(ordinal, handle, stamp);
+    Ok(())
 }
 
 /// The queue, and each held ordinal with its stamp.
-fn text_of(rt: &HostRuntime, block: &Block) -> Result<String, AllocError> {
-    let mut text = String::new(rt.alloc());
+fn text_of(alloc: Global, block: &Block) -> Result<String, AllocError> {
+    let mut text = String::new(alloc);
     for ordinal in block.queue() {
-        let number = format!(in rt.alloc(); "{ordinal} ")?;
+        let number = format!(in alloc; "{ordinal} ")?;
         text.push_str(number.as_str())?;
     }
     for held in block.allocations() {
         let (ordinal, stamp) = (held.ordinal, held.stamp);
-        let piece = format!(in rt.alloc(); "{ordinal}@{stamp} ")?;
+        let piece = format!(in alloc; "{ordinal}@{stamp} ")?;
         text.push_str(piece.as_str())?;
     }
     Ok(text)
 }
 
-#[test]
-fn ordinals_go_round(rt: HostRuntime) -> Result<(), AllocError> {
-    let Ok(cidr) = read_cidr(b"10.0.0.4/30") else {
+/// The block's next write with the change.
+fn changed(alloc: Global, block: &Block, text: &str) -> Result<Block, AllocError> {
+    if block.sequence() >= 1 << 62 {
         return Err(AllocError);
-    };
-    assert!(&rt; cidr.last().number - cidr.base().number < 4096);
-    let mut block = Block::fresh(rt.alloc(), cidr, Some("a"))?;
-    let cases = [
-        (Change::Assign(2, "n.c1"), "0 1 3 2@1 "),
-        (Change::Assign(0, "n.c2"), "1 3 0@2 2@1 "),
-        (Change::Assign(0, "n.c3"), "1 3 0@2 2@1 "),
-        (Change::FreeStamped(0, "n.c2", 1), "1 3 0@2 2@1 "),
-        (Change::FreeStamped(0, "n.c1", 2), "1 3 0@2 2@1 "),
-        (Change::FreeStamped(0, "n.c2", 2), "1 3 0 2@1 "),
-        (Change::FreeHandle("n.c2"), "1 3 0 2@1 "),
-        (Change::FreeHandle("n.c1"), "1 3 0 2 "),
-    ];
-    for (change, text) in cases {
-        block = changed(&rt, &block, change)?;
-        assert_eq!(&rt; text_of(&rt, &block)?.as_str(), text);
     }
-    Ok(())
+    let mut next = block.next()?;
+    change(alloc, &mut next, text)?;
+    Ok(next)
 }
 
-#[test]
-fn room_is_the_first_unreserved_ordinal(rt: HostRuntime) -> Result<(), AllocError> {
-    let Ok(cidr) = read_cidr(b"2001:db8::/126") else {
+/// The block after the changes of the table up to and with this one.
+pub(crate) fn block_answer(alloc: Global, last: &str) -> Result<String, AllocError> {
+    let mut block = fresh(alloc, "10.0.0.4/30", Some("a"))?;
+    for line in BLOCK.lines() {
+        if let Some((text, _)) = line.split_once('|') {
+            block = changed(alloc, &block, text)?;
+            if text == last {
+                return text_of(alloc, &block);
+            }
+        }
+    }
+    Err(AllocError)
+}
+
+/// The first ordinal that is free and not reserved.
+pub(crate) fn room_answer(alloc: Global, reserved: &str) -> Result<String, AllocError> {
+    let block = fresh(alloc, "2001:db8::/126", None)?;
+    let Ok(reserved) = read_cidr(reserved.as_bytes()) else {
         return Err(AllocError);
     };
-    assert!(&rt; cidr.last().number - cidr.base().number < 4096);
-    let block = Block::fresh(rt.alloc(), cidr, None)?;
-    let cases = [
-        (&b"2001:db8::4/126"[..], Some(0)),
-        (b"2001:db8::/127", Some(2)),
-        (b"2001:db8::/128", Some(1)),
-        (b"2001:db8::/64", None),
-    ];
-    for (reserved, room) in cases {
-        let Ok(reserved) = read_cidr(reserved) else {
-            return Err(AllocError);
-        };
-        assert_eq!(&rt; block.first_room(&Reserved(reserved)), room);
-    }
-    Ok(())
+    format!(in alloc; "{:?}", block.first_room(&Reserved(reserved)))
 }

@@ -1,85 +1,48 @@
-use ipam_json::{ReadFault, Want, array, canonical_text, object, text, truth, whole};
-use serde_json::{Value, json};
-use std::process::Abort;
-use std::test::Fail;
+use ipam_json::{FieldFault, ReadFault, array, canonical_text, object, text, truth, whole};
+use serde_json::Value;
+use std::alloc::{AllocError, Global};
 
 const NESTED: &str =
     "{\"items\": [{\"spec\": {\"cidr\": \"10.0.0.0/8\", \"open\": true, \"\": 7}}, \
     [], 18446744073709551615], \"twice\": 1, \"one\": 1.0, \"hundred\": 1e2, \"zero\": -0, \
     \"large\": 18446744073709551616, \"nothing\": null, \"0\": {\"1\": false}, \"twice\": 2}";
 
-fn assert_fault(rt: &impl Abort, fault: Option<ReadFault>, path: &str, want: Want) {
+/// What a fault wants, and at which path.
+fn fault_text(alloc: Global, fault: ReadFault) -> Result<String, AllocError> {
     match fault {
-        Some(ReadFault::Field(field)) => {
-            assert!(rt; field.path.as_str() == path, "at {path}");
-            assert!(rt; field.want == want, "at {path}");
-        }
-        _ => assert!(rt; false, "no fault at {path}"),
+        ReadFault::Field(FieldFault { path, want }) => format!(in alloc; "{want:?} at {path}"),
+        ReadFault::Memory => Err(AllocError),
     }
 }
 
-#[test]
-fn each_kind_is_read(rt: HostRuntime) -> Result<(), Fail> {
-    let alloc = rt.alloc();
-    let value = Value::from_str(alloc, NESTED)?;
-    assert!(rt; text(alloc, &value, "items.0.spec.cidr")? == "10.0.0.0/8");
-    assert!(rt; truth(alloc, &value, "items.0.spec.open")?);
-    assert!(rt; !truth(alloc, &value, "0.1")?);
-    assert_eq!(rt; whole(alloc, &value, "items.2")?, u64::MAX);
-    assert_eq!(rt; whole(alloc, &value, "twice")?, 2);
-    assert_eq!(rt; whole(alloc, &value, "items.0.spec.")?, 7);
-    assert_eq!(rt; array(alloc, &value, "items")?.len(), 3);
-    assert_eq!(rt; array(alloc, &value, "items.1")?.len(), 0);
-    assert_eq!(rt; object(alloc, &value, "items.0.spec")?.len(), 3);
-    assert_eq!(rt; object(alloc, &value, "")?.len(), 8);
-    assert_eq!(rt; whole(alloc, &json!(in alloc; 5)?, "")?, 5);
-    Ok(())
+/// What is read of the value at the path, where of an array and of an object the length is told.
+fn read(alloc: Global, value: &Value, kind: &str, path: &str) -> Result<String, AllocError> {
+    let told = match kind {
+        "text" => text(alloc, value, path).map(|it| format!(in alloc; "{it}")),
+        "truth" => truth(alloc, value, path).map(|it| format!(in alloc; "{it}")),
+        "whole" | "five" => whole(alloc, value, path).map(|it| format!(in alloc; "{it}")),
+        "array" => array(alloc, value, path).map(|it| format!(in alloc; "{}", it.len())),
+        _ => object(alloc, value, path).map(|it| format!(in alloc; "{}", it.len())),
+    };
+    match told {
+        Ok(told) => told,
+        Err(fault) => fault_text(alloc, fault),
+    }
 }
 
-#[test]
-fn nothing_else_is_read(rt: HostRuntime) -> Result<(), Fail> {
-    let alloc = rt.alloc();
-    let value = Value::from_str(alloc, NESTED)?;
-    for path in [
-        "one",
-        "hundred",
-        "zero",
-        "large",
-        "nothing",
-        "missing",
-        "items",
-        "items.3",
-        "items.00",
-        "items.02",
-        "items.+2",
-        "items.-1",
-        "items.",
-        "items.2.",
-        ".twice",
-        "twice.0",
-        "",
-        "items.18446744073709551618",
-    ] {
-        let fault = whole(alloc, &value, path).err();
-        assert_fault(&rt, fault, path, Want::Whole);
+/// What is read at the path of `KIND PATH`, where `five` asks for the whole number of the text `5`.
+pub(crate) fn field_answer(alloc: Global, question: &str) -> Result<String, AllocError> {
+    let Some((kind, path)) = question.split_once(' ') else {
+        return Err(AllocError);
+    };
+    let json = if kind == "five" { "5" } else { NESTED };
+    match Value::from_str(alloc, json) {
+        Ok(value) => read(alloc, &value, kind, path),
+        Err(_) => Err(AllocError),
     }
-    for path in ["", "items.0.spec.open", "twice", "items.0"] {
-        assert_fault(&rt, text(alloc, &value, path).err(), path, Want::Text);
-    }
-    for path in ["items.0.spec.cidr", "twice", "nothing", "0"] {
-        assert_fault(&rt, truth(alloc, &value, path).err(), path, Want::Truth);
-        assert_fault(&rt, array(alloc, &value, path).err(), path, Want::Array);
-    }
-    for path in ["items", "twice", "nothing", "items.0.spec.cidr"] {
-        assert_fault(&rt, object(alloc, &value, path).err(), path, Want::Object);
-    }
-    Ok(())
 }
 
-#[test]
-fn a_canonical_value_is_written(rt: HostRuntime) -> Result<(), Fail> {
-    let alloc = rt.alloc();
-    let written = canonical_text(alloc, &Value::try_from_str(alloc, "a\n\"")?)?;
-    assert!(rt; written.as_str() == "\"a\\n\\\"\"");
-    Ok(())
+/// The text as JSON.
+pub(crate) fn written_answer(alloc: Global, text: &str) -> Result<String, AllocError> {
+    canonical_text(alloc, &Value::try_from_str(alloc, text)?)
 }

@@ -1,132 +1,67 @@
-use ipam_addr::{Cidr, read_cidr};
+use ipam_addr::{Cidr, push_cidr, read_cidr};
 use ipam_handle::{Handle, RaiseFault};
 use ipam_text::{Seq, Text};
-use std::alloc::Global;
-use std::test::Fail;
+use std::alloc::{AllocError, Global};
 
-fn cidr(text: &str) -> Result<Cidr, Fail> {
-    Ok(read_cidr(text.as_bytes())?)
+/// The CIDR and the number of `CIDR=NUMBER`.
+fn count_of(text: &str) -> Result<(Cidr, u32), AllocError> {
+    let Some((cidr, count)) = text.split_once('=') else {
+        return Err(AllocError);
+    };
+    match (read_cidr(cidr.as_bytes()), count.parse::<u32>()) {
+        (Ok(cidr), Ok(count)) => Ok((cidr, count)),
+        _ => Err(AllocError),
+    }
 }
 
-fn handle(alloc: Global) -> Result<Handle, Fail> {
-    let id = Text::copied(alloc, "n.c1")?;
-    Ok(Handle::new(alloc, id))
+/// The handle's id, and its blocks with their counts.
+fn described(alloc: Global, handle: &Handle) -> Result<String, AllocError> {
+    let mut out = String::from_str(alloc, handle.id())?;
+    out.push_str(if handle.is_empty() { " empty" } else { "" })?;
+    for (block, count) in handle.blocks() {
+        out.push(' ')?;
+        push_cidr(alloc, &mut out, *block)?;
+        let count = format!(in alloc; "={count}")?;
+        out.push_str(count.as_str())?;
+    }
+    Ok(out)
 }
 
-fn raise_all(handle: &mut Handle, steps: &[(&str, u32)]) -> Result<(), Fail> {
-    for (block, by) in steps {
-        if *by > 0 {
-            handle.raise(cidr(block)?, *by)?;
+/// Raises by `+CIDR=NUMBER`, or lowers by `-CIDR=NUMBER`, and says whether a count was full.
+fn change(handle: &mut Handle, text: &str) -> Result<bool, AllocError> {
+    let (block, by) = count_of(text.get(1..).unwrap_or(""))?;
+    if text.starts_with('+') && by > 0 {
+        return Ok(handle.raise(block, by) == Err(RaiseFault::CountFull));
+    }
+    if by > 0 && by <= handle.count(block) {
+        handle.lower(block, by);
+    }
+    Ok(false)
+}
+
+/// A copy of a new handle after these changes, with `!` for each that was refused.
+pub(crate) fn changed_answer(alloc: Global, text: &str) -> Result<String, AllocError> {
+    let mut handle = Handle::new(alloc, Text::copied(alloc, "n.c1")?);
+    let mut faults = String::new(alloc);
+    for part in text.split(' ') {
+        if change(&mut handle, part)? {
+            faults.push('!')?;
         }
     }
-    Ok(())
+    let copy = described(alloc, &handle.clone()?)?;
+    format!(in alloc; "{copy}{faults}")
 }
 
-fn lower_all(handle: &mut Handle, steps: &[(&str, u32)]) -> Result<(), Fail> {
-    for (block, by) in steps {
-        let block = cidr(block)?;
-        if *by > 0 && *by <= handle.count(block) {
-            handle.lower(block, *by);
+/// A handle that is made of these counts, or none.
+pub(crate) fn counts_answer(alloc: Global, text: &str) -> Result<String, AllocError> {
+    let mut counts = Seq::new(alloc);
+    for part in text.split(' ') {
+        if !part.is_empty() {
+            counts.push(count_of(part)?)?;
         }
     }
-    Ok(())
-}
-
-fn lists(handle: &Handle, want: &[(&str, u32)]) -> Result<bool, Fail> {
-    let blocks = handle.blocks();
-    if blocks.len() != want.len() {
-        return Ok(false);
+    match Handle::of_counts(Text::copied(alloc, "n.c1")?, counts) {
+        Some(handle) => described(alloc, &handle),
+        None => String::from_str(alloc, "none"),
     }
-    for i in 0..want.len() {
-        let (block, count) = want[i];
-        if blocks[i].0 != cidr(block)? || blocks[i].1 != count {
-            return Ok(false);
-        }
-    }
-    Ok(true)
-}
-
-#[test]
-fn lists_blocks_in_order(rt: HostRuntime) -> Result<(), Fail> {
-    let mut handle = handle(rt.alloc())?;
-    let steps = [
-        ("fd00::/122", 1),
-        ("10.0.0.64/26", 2),
-        ("::/122", 3),
-        ("10.0.0.0/26", 4),
-        ("10.0.0.0/25", 5),
-        ("10.0.0.64/26", 6),
-    ];
-    raise_all(&mut handle, steps.as_slice())?;
-    let want = [
-        ("10.0.0.0/25", 5),
-        ("10.0.0.0/26", 4),
-        ("10.0.0.64/26", 8),
-        ("::/122", 3),
-        ("fd00::/122", 1),
-    ];
-    assert!(rt; lists(&handle, want.as_slice())?);
-    Ok(())
-}
-
-#[test]
-fn drops_counts_of_zero(rt: HostRuntime) -> Result<(), Fail> {
-    let mut handle = handle(rt.alloc())?;
-    let steps = [
-        ("10.0.0.0/26", 2),
-        ("10.0.0.64/26", 3),
-        ("10.0.0.128/26", 1),
-    ];
-    raise_all(&mut handle, steps.as_slice())?;
-    let steps = [
-        ("10.0.0.128/26", 1),
-        ("10.0.0.64/26", 1),
-        ("10.0.0.0/26", 2),
-    ];
-    lower_all(&mut handle, steps.as_slice())?;
-    assert!(rt; lists(&handle, [("10.0.0.64/26", 2)].as_slice())?);
-    lower_all(&mut handle, [("10.0.0.64/26", 2)].as_slice())?;
-    assert!(rt; handle.is_empty());
-    assert_eq!(rt; handle.id(), "n.c1");
-    Ok(())
-}
-
-#[test]
-fn tells_a_full_count(rt: HostRuntime) -> Result<(), Fail> {
-    let mut handle = handle(rt.alloc())?;
-    let block = cidr("10.0.0.0/26")?;
-    handle.raise(block, 4_294_967_294)?;
-    assert_eq!(rt; handle.raise(block, 2), Err(RaiseFault::CountFull));
-    assert_eq!(rt; handle.raise(block, 1), Ok(()));
-    assert_eq!(rt; handle.raise(block, 1), Err(RaiseFault::CountFull));
-    assert_eq!(rt; handle.clone()?.count(block), 4_294_967_295);
-    Ok(())
-}
-
-fn takes(alloc: Global, counts: &[(&str, u32)]) -> Result<bool, Fail> {
-    let mut list = Seq::new(alloc);
-    for (block, count) in counts {
-        list.push((cidr(block)?, *count))?;
-    }
-    let id = Text::copied(alloc, "n.c1")?;
-    match Handle::of_counts(id, list) {
-        Some(handle) => lists(&handle, counts),
-        None => Ok(false),
-    }
-}
-
-#[test]
-fn takes_ascending_counts_alone(rt: HostRuntime) -> Result<(), Fail> {
-    let alloc = rt.alloc();
-    assert!(rt; takes(alloc, [].as_slice())?);
-    assert!(rt;
-        takes(
-            alloc,
-            [("10.0.0.0/26", 1), ("::/122", 4_294_967_295)].as_slice()
-        )?
-    );
-    assert!(rt; !takes(alloc, [("::/122", 1), ("10.0.0.0/26", 1)].as_slice())?);
-    assert!(rt; !takes(alloc, [("::/122", 1), ("::/122", 1)].as_slice())?);
-    assert!(rt; !takes(alloc, [("::/122", 0)].as_slice())?);
-    Ok(())
 }

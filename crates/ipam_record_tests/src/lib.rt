@@ -13,3 +13,7 @@ mod keys;
 mod procedures;
 #[cfg(test)]
 mod records;
+#[cfg(test)]
+mod tables;
+#[cfg(test)]
+mod tests;

@@ -1,1 +1,2 @@
--- no lemmas
+-- Lemmas on what the tests ask.
+pub mod SoundWrites

@@ -1,0 +1,2 @@
+-- What the tests ask.
+pub mod RecordCall

@@ -1,229 +1,111 @@
-//! Calls of the least records of keys, and what a store answers to them.
-ghost use Rattle.std.specs.Prelude.{◌≡◌, ℕ, ◌≤◌, ◌<◌, ◌^◌, length, IsTrue, IfOk, Some};
-ghost use Rattle.ipam_records.specs.declared.key.Kind.TheVariants as kind;
-ghost use Rattle.ipam_records.specs.KeyText.{IsKey};
-ghost use Rattle.ipam_records.specs.Sound.{IsBlockCidr, IsName, IsHandleId};
-ghost use Rattle.ipam_records.specs.Said.{said};
+//! Calls by texts, and what a store answers to them.
+ghost use Rattle.std.specs.Prelude.{◌≡◌, ℕ, IsTrue, IfOk, Some};
+ghost use Rattle.ipam_records.specs.Datastore.{reply_of};
 ghost use Rattle.ipam_records.specs.Said as says;
-ghost use Rattle.ipam_records.specs.Datastore.{listed};
-ghost use Rattle.ipam_store.specs.AlwaysSound.{IsAlwaysSound, IsSoundCall};
+ghost use Rattle.ipam_records.specs.Sound.{IsRecord};
+ghost use Rattle.ipam_store_tests.specs.RecordCall.{IsRecordCall, IsCountedWrite};
 
-use ipam_addr::{Addr, Cidr, Family, cidr, read_cidr};
-use ipam_affinity::{Affinity, State};
-use ipam_block::Block;
-use ipam_handle::Handle;
-use ipam_pool::PoolTable;
-use ipam_records::{Call, Config, Key, Kind, MOST_BLOCKS, MOST_ROWS, Record, Reply, key_of_text};
-use ipam_store::{LoadFault, Store};
-use ipam_text::{Seq, Text};
+use crate::records::{is_counted, key_at, record_of};
+use ipam_records::{Call, Record, Reply, Write, from_text};
+use ipam_store::Store;
 use std::alloc::{AllocError, Global};
 
-/// What is asked of a record that has nothing but its key.
-#[derive(Clone, Copy, Debug)]
-pub enum Asked {
-    Get,
-    Create,
-    Update(u64),
-    Delete(u64),
-}
-
-/// A reply, with nothing lent.
-#[derive(Clone, Copy, Debug, PartialEq, Eq)]
-pub enum Answer {
-    Found(u64),
-    Missing,
-    Listed(usize),
-    Can(u64),
-    Exists(u64),
-    Conflict(u64),
-    Full,
-    Spent,
-}
-
-pub fn answer_of(reply: &Reply) -> Answer
-    ensures { (revision : ℕ) → result ≡ Answer.Can revision → said reply.now ≡ says.Can revision }
+/// The record of `KEY BODY`, or the least record of `KEY`.
+fn read_record(alloc: Global, text: &str) -> Result<Record, AllocError>
+    ensures { IfOk result IsRecord }
 {
-    match reply {
-        Reply::Found(revision, _) => Answer::Found(*revision),
-        Reply::Missing => Answer::Missing,
-        Reply::Listed(listing) => Answer::Listed(listing.len()),
-        Reply::Can(revision) => Answer::Can(*revision),
-        Reply::Exists(revision) => Answer::Exists(*revision),
-        Reply::Conflict(revision) => Answer::Conflict(*revision),
-        Reply::Full => Answer::Full,
-        Reply::Spent => Answer::Spent,
-    }
-}
-
-pub fn key_at(alloc: Global, text: &str) -> Result<Key, AllocError>
-    ensures { IfOk result IsKey }
-{
-    match key_of_text(alloc, text.as_bytes())? {
-        Some(key) => Ok(key),
-        None => Err(AllocError),
-    }
-}
-
-/// The least record of the key: no pools, no reservations, a fresh block, a handle with one count.
-pub fn record_of(alloc: Global, key: Key) -> Result<Record, AllocError>
-    requires { IsKey key }
-    ensures { IfOk result IsAlwaysSound }
-{
-    match key {
-        Key::Config => Ok(config_record()),
-        Key::Pools => Ok(Record::Pools(PoolTable::new(alloc))),
-        Key::Reservations => Ok(Record::Reservations(Seq::new(alloc))),
-        Key::Block(cidr) => block_record(alloc, cidr),
-        Key::Affinity(node, cidr) => affinity_record(node, cidr),
-        Key::Handle(id) => handle_record(alloc, id),
-    }
-}
-
-fn config_record() -> Record
-    ensures { IsAlwaysSound result }
-{
-    Record::Config(Config {
-        strict: false,
-        auto: true,
-        max_blocks: 0,
-    })
-}
-
-/// Whether a block may have this CIDR.
-fn is_block(cidr: &Cidr) -> bool
-    ensures { IsTrue result → IsBlockCidr cidr.now }
-{
-    cidr.last().number - cidr.base().number < 4096
-}
-
-fn block_record(alloc: Global, cidr: Cidr) -> Result<Record, AllocError>
-    ensures { IfOk result IsAlwaysSound }
-{
-    if !is_block(&cidr) {
-        return Err(AllocError);
-    }
-    Ok(Record::Block(Block::fresh(alloc, cidr, None)?))
-}
-
-fn affinity_record(node: Text, cidr: Cidr) -> Result<Record, AllocError>
-    requires { IsName node }
-    ensures { IfOk result IsAlwaysSound }
-{
-    if !is_block(&cidr) {
-        return Err(AllocError);
-    }
-    Ok(Record::Affinity(Affinity {
-        node,
-        cidr,
-        state: State::Pending,
-    }))
-}
-
-fn handle_record(alloc: Global, id: Text) -> Result<Record, AllocError>
-    requires { IsHandleId id }
-    ensures { IfOk result IsAlwaysSound }
-{
-    let Ok(cidr) = read_cidr(b"10.0.0.0/26") else {
-        return Err(AllocError);
+    let Some((key, body)) = text.split_once(' ') else {
+        return record_of(alloc, key_at(alloc, text)?);
     };
-    if !is_block(&cidr) {
-        return Err(AllocError);
-    }
-    let mut counts = Seq::new(alloc);
-    counts.push((cidr, 1))?;
-    match Handle::of_counts(id, counts) {
-        Some(handle) => Ok(Record::Handle(handle)),
-        None => Err(AllocError),
-    }
-}
-
-pub fn call_of(alloc: Global, asked: Asked, key: Key) -> Result<Call, AllocError>
-    requires { IsKey key }
-    ensures { IfOk result IsSoundCall }
-{
-    match asked {
-        Asked::Get => Ok(Call::Get(key)),
-        Asked::Create => Ok(Call::Create(record_of(alloc, key)?)),
-        Asked::Update(revision) => Ok(Call::Update(record_of(alloc, key)?, revision)),
-        Asked::Delete(revision) => Ok(Call::Delete(key, revision)),
-    }
-}
-
-/// Asks the store, and applies the write that it grants.
-pub fn ask(store: &mut Store, call: Call) -> Result<Answer, AllocError>
-    requires { IsSoundCall call }
-{
-    store.reserve()?;
-    let answer = answer_of(&store.reply(&call));
-    if let Answer::Can(revision) = answer {
-        if let Some(write) = call.into_write(revision) {
-            store.apply(write);
-        }
-    }
-    Ok(answer)
-}
-
-pub fn ask_of_key(
-    store: &mut Store,
-    alloc: Global,
-    asked: Asked,
-    text: &str,
-) -> Result<Answer, AllocError> {
-    let call = call_of(alloc, asked, key_at(alloc, text)?)?;
-    ask(store, call)
-}
-
-pub fn blocks(store: &Store) -> usize
-    ensures { result ≡ length (listed kind.Block store.now.store) }
-{
-    match store.reply(&Call::List(Kind::Block)) {
-        Reply::Listed(listing) => listing.len(),
-        _ => unreachable!(),
-    }
-}
-
-/// Takes a row of this key, where there is room for it.
-pub fn load(store: &mut Store, alloc: Global, revision: u64, key: Key) -> Result<(), LoadFault>
-    requires { IsKey key }
-{
-    let few = store.rows() < MOST_ROWS && blocks(store) < MOST_BLOCKS;
-    if !few || revision == 0 || revision > store.counter() {
-        return Err(LoadFault::Memory);
-    }
-    store.load(revision, record_of(alloc, key)?)
-}
-
-/// The key of the block number so and so: a /30 of 10.0.0.0/8.
-pub fn block_key(number: u32) -> Result<Key, AllocError>
-    ensures { IfOk result IsKey }
-{
-    let base = Addr {
-        family: Family::V4,
-        number: 0x0a00_0000 + 4 * u128::from(number % 0x10_0000),
-    };
-    match cidr(base, 30) {
-        Ok(cidr) => Ok(Key::Block(cidr)),
+    match from_text(alloc, key, body) {
+        Ok(read) => Ok(read),
         Err(_) => Err(AllocError),
     }
 }
 
-pub fn handle_key(alloc: Global, number: u32) -> Result<Key, AllocError>
-    ensures { IfOk result IsKey }
+/// The call of `get KEY`, `create RECORD`, `update REVISION RECORD` or `delete REVISION KEY`.
+pub fn read_call(alloc: Global, text: &str) -> Result<Call, AllocError>
+    ensures { IfOk result IsRecordCall }
 {
-    let text = format!(in alloc; "handle/{number:06}")?;
-    key_at(alloc, text.as_str())
+    let Some((word, rest)) = text.split_once(' ') else {
+        return Err(AllocError);
+    };
+    match word {
+        "get" => Ok(Call::Get(key_at(alloc, rest)?)),
+        "create" => Ok(Call::Create(read_record(alloc, rest)?)),
+        _ => read_change(alloc, word, rest),
+    }
 }
 
-/// As many handles, and then as many blocks, each at revision 1.
-pub fn filled(alloc: Global, counter: u64, blocks: u32, handles: u32) -> Result<Store, LoadFault>
-    requires { counter ≤ 2 ^ 62 }
+fn read_change(alloc: Global, word: &str, text: &str) -> Result<Call, AllocError>
+    ensures { IfOk result IsRecordCall }
 {
-    let mut store = Store::new(alloc, counter);
-    for number in 0..handles {
-        load(&mut store, alloc, 1, handle_key(alloc, number)?)?;
+    let Some((revision, rest)) = text.split_once(' ') else {
+        return Err(AllocError);
+    };
+    let Ok(revision) = revision.parse::<u64>() else {
+        return Err(AllocError);
+    };
+    match word {
+        "update" => Ok(Call::Update(read_record(alloc, rest)?, revision)),
+        "delete" => Ok(Call::Delete(key_at(alloc, rest)?, revision)),
+        _ => Err(AllocError),
     }
-    for number in 0..blocks {
-        load(&mut store, alloc, 1, block_key(number)?)?;
+}
+
+/// The reply's word, and the number in it.
+fn told(reply: &Reply) -> (&'static str, u64) {
+    match reply {
+        Reply::Found(revision, _) => ("found", *revision),
+        Reply::Missing => ("missing", 0),
+        Reply::Listed(_) => ("listed", 0),
+        Reply::Can(revision) => ("can", *revision),
+        Reply::Exists(revision) => ("exists", *revision),
+        Reply::Conflict(revision) => ("conflict", *revision),
+        Reply::Full => ("full", 0),
+        Reply::Spent => ("spent", 0),
     }
-    Ok(store)
+}
+
+/// The revision of the write that the store grants.
+fn granted(store: &Store, call: &Call) -> Option<u64>
+    ensures { (revision : ℕ) → result ≡ Some revision → reply_of store.now.store call.now ≡ says.Can revision }
+{
+    match store.reply(call) {
+        Reply::Can(revision) => Some(revision),
+        _ => None,
+    }
+}
+
+fn is_counted_write(write: &Write) -> bool
+    ensures { IsTrue result → IsCountedWrite write.now }
+{
+    match write {
+        Write::Put(revision, new) => is_counted(*revision, new),
+        Write::Remove(..) => true,
+    }
+}
+
+/// Applies the write that the store grants, and says its revision.
+pub fn apply(store: &mut Store, call: Call) -> Result<Option<u64>, AllocError>
+    requires { IsRecordCall call }
+{
+    store.reserve()?;
+    if let Some(revision) = granted(store, &call) {
+        if let Some(write) = call.into_write(revision) {
+            if is_counted_write(&write) {
+                store.apply(write);
+                return Ok(Some(revision));
+            }
+        }
+    }
+    Ok(None)
+}
+
+/// Asks the call of the text, and says what is answered.
+pub fn ask(store: &mut Store, alloc: Global, text: &str) -> Result<String, AllocError> {
+    let call = read_call(alloc, text)?;
+    let (word, number) = told(&store.reply(&call));
+    apply(store, call)?;
+    format!(in alloc; "{word} {number}")
 }

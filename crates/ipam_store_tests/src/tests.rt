@@ -1,31 +1,11 @@
-//! What a store answers, lists and refuses, as tables.
-use crate::calls::{Answer, Asked, ask_of_key, filled, key_at, load};
-use ipam_records::{Call, Kind, LAST_REVISION, Listing, Record, Reply, key_text};
+//! What a store answers, lists and refuses, as tables. Each line has a call and its answer: the
+//! word and the number, which is 0 where there is none.
+use crate::calls::ask;
+use crate::records::{fill_affinities, fill_blocks, key_at, load, record_of};
+use ipam_records::{Call, Kind, LAST_REVISION, Record, Reply, key_text};
 use ipam_store::{LoadFault, Store};
 use std::alloc::{AllocError, Global};
 use std::process::Abort;
-use std::test::Fail;
-
-/// A key of each kind, and two of one node.
-const KEYS: [&str; 7] = [
-    "handle/n.c1",
-    "pools",
-    "block/10.0.0.0/26",
-    "config",
-    "affinity/a/10.0.0.0/26",
-    "affinity/a/9.0.0.0/26",
-    "reservations",
-];
-
-/// The texts of the keys of what is listed, each behind its revision.
-fn listed_text(alloc: Global, listing: &Listing) -> Result<String, AllocError> {
-    let mut text = String::new(alloc);
-    for place in 0..listing.len() {
-        let (revision, found) = listing.at(place);
-        push_row(alloc, &mut text, revision, found)?;
-    }
-    Ok(text)
-}
 
 fn push_row(
     alloc: Global,
@@ -38,12 +18,16 @@ fn push_row(
     text.push_str(line.as_str())
 }
 
-/// What a list of the kind lends.
+/// The texts of the keys that a list of the kind lends, each behind its revision.
 fn list_text(alloc: Global, store: &Store, kind: Kind) -> Result<String, AllocError> {
-    match store.reply(&Call::List(kind)) {
-        Reply::Listed(listing) => listed_text(alloc, &listing),
-        _ => Err(AllocError),
+    let mut text = String::new(alloc);
+    if let Reply::Listed(listing) = store.reply(&Call::List(kind)) {
+        for place in 0..listing.len() {
+            let (revision, found) = listing.at(place);
+            push_row(alloc, &mut text, revision, found)?;
+        }
     }
+    Ok(text)
 }
 
 /// All rows, place by place.
@@ -56,144 +40,220 @@ fn rows_text(alloc: Global, store: &Store) -> Result<String, AllocError> {
     Ok(text)
 }
 
-/// Asks the calls in turn, each of which is to have its answer.
+/// Asks the call of the line, which is to have its answer.
+fn ask_line(
+    rt: &impl Abort,
+    alloc: Global,
+    store: &mut Store,
+    line: &str,
+) -> Result<(), AllocError> {
+    let Some((call, want)) = line.split_once('|') else {
+        return Err(AllocError);
+    };
+    let answer = ask(store, alloc, call)?;
+    assert_eq!(rt; answer.as_str(), want, "{line}");
+    Ok(())
+}
+
+/// Asks the calls in turn, and says how many there are.
 fn ask_all(
     rt: &impl Abort,
     alloc: Global,
     store: &mut Store,
-    cases: &[(Asked, &str, Answer)],
-) -> Result<(), AllocError> {
-    for (asked, text, want) in cases {
-        let answer = ask_of_key(store, alloc, *asked, text)?;
-        assert_eq!(rt; answer, *want, "{asked:?} {text}");
+    table: &str,
+) -> Result<usize, AllocError> {
+    let mut count = 0usize;
+    for line in table.lines() {
+        ask_line(rt, alloc, store, line)?;
+        count = count.wrapping_add(1);
     }
-    Ok(())
+    Ok(count)
 }
 
-const WRITES: [(Asked, &str, Answer); 24] = [
-    (Asked::Get, "config", Answer::Missing),
-    (Asked::Update(0), "config", Answer::Missing),
-    (Asked::Delete(0), "config", Answer::Missing),
-    (Asked::Create, "handle/n.c1", Answer::Can(8)),
-    (Asked::Create, "handle/n.c1", Answer::Exists(8)),
-    (Asked::Create, "config", Answer::Can(9)),
-    (Asked::Update(8), "config", Answer::Conflict(9)),
-    (Asked::Update(9), "config", Answer::Can(10)),
-    (Asked::Get, "config", Answer::Found(10)),
-    (Asked::Create, "block/2001:db8::/122", Answer::Can(11)),
-    (Asked::Create, "block/10.0.0.0/26", Answer::Can(12)),
-    (Asked::Create, "block/10.0.0.0/25", Answer::Can(13)),
-    (Asked::Create, "block/9.0.0.0/26", Answer::Can(14)),
-    (Asked::Create, "affinity/b/9.0.0.0/26", Answer::Can(15)),
-    (Asked::Create, "affinity/a/2001:db8::/122", Answer::Can(16)),
-    (Asked::Create, "affinity/a/10.0.0.0/26", Answer::Can(17)),
-    (Asked::Create, "handle/n.c10", Answer::Can(18)),
-    (Asked::Create, "handle/a.z", Answer::Can(19)),
-    (Asked::Create, "reservations", Answer::Can(20)),
-    (Asked::Create, "pools", Answer::Can(21)),
-    (Asked::Delete(12), "block/10.0.0.0/25", Answer::Conflict(13)),
-    (Asked::Delete(13), "block/10.0.0.0/25", Answer::Can(22)),
-    (Asked::Get, "block/10.0.0.0/25", Answer::Missing),
-    (Asked::Update(17), "affinity/a/10.0.0.0/26", Answer::Can(23)),
-];
+const WRITES: &str = "\
+get config|missing 0
+update 0 config|missing 0
+delete 0 config|missing 0
+create handle/n.c1|can 8
+create handle/n.c1|exists 8
+create config|can 9
+update 8 config|conflict 9
+update 9 config|can 10
+get config|found 10
+create block/2001:db8::/122|can 11
+create block/10.0.0.0/26|can 12
+create block/10.0.0.0/25|can 13
+create block/9.0.0.0/26|can 14
+create affinity/b/9.0.0.0/26|can 15
+create affinity/a/2001:db8::/122|can 16
+create affinity/a/10.0.0.0/26|can 17
+create handle/n.c10|can 18
+create handle/a.z|can 19
+create reservations|can 20
+create pools|can 21
+delete 12 block/10.0.0.0/25|conflict 13
+delete 13 block/10.0.0.0/25|can 22
+get block/10.0.0.0/25|missing 0
+update 17 affinity/a/10.0.0.0/26|can 23
+";
 
-const SINGLES_LEFT: &str = "10 config\n21 pools\n20 reservations\n";
+/// The rows that are left, then the lists of blocks, of affinities and of handles.
+const LEFT: &str = "\
+24 calls, 23
+10 config
+21 pools
+20 reservations
+14 block/9.0.0.0/26
+12 block/10.0.0.0/26
+11 block/2001:db8::/122
+23 affinity/a/10.0.0.0/26
+16 affinity/a/2001:db8::/122
+15 affinity/b/9.0.0.0/26
+19 handle/a.z
+8 handle/n.c1
+18 handle/n.c10
+14 block/9.0.0.0/26
+12 block/10.0.0.0/26
+11 block/2001:db8::/122
+23 affinity/a/10.0.0.0/26
+16 affinity/a/2001:db8::/122
+15 affinity/b/9.0.0.0/26
+19 handle/a.z
+8 handle/n.c1
+18 handle/n.c10
+";
 
-const BLOCKS_LEFT: &str = "14 block/9.0.0.0/26\n12 block/10.0.0.0/26\n11 block/2001:db8::/122\n";
+fn lists_text(alloc: Global, store: &Store) -> Result<String, AllocError> {
+    let mut text = list_text(alloc, store, Kind::Block)?;
+    text.push_str(list_text(alloc, store, Kind::Affinity)?.as_str())?;
+    text.push_str(list_text(alloc, store, Kind::Handle)?.as_str())?;
+    Ok(text)
+}
 
-const AFFINITIES_LEFT: &str =
-    "23 affinity/a/10.0.0.0/26\n16 affinity/a/2001:db8::/122\n15 affinity/b/9.0.0.0/26\n";
+fn writes_told(rt: &impl Abort, alloc: Global, store: &mut Store) -> Result<String, AllocError> {
+    let count = ask_all(rt, alloc, store, WRITES)?;
+    let counter = store.counter();
+    let rows = rows_text(alloc, store)?;
+    let lists = lists_text(alloc, store)?;
+    format!(in alloc; "{count} calls, {counter}\n{rows}{lists}")
+}
 
-const HANDLES_LEFT: &str = "19 handle/a.z\n8 handle/n.c1\n18 handle/n.c10\n";
+fn writes(rt: &impl Abort, alloc: Global) -> Result<String, AllocError> {
+    let mut store = Store::new(alloc, 7);
+    writes_told(rt, alloc, &mut store)
+}
 
 #[test]
 fn answers_applies_and_lists(rt: HostRuntime) -> Result<(), AllocError> {
-    let mut store = Store::new(rt.alloc(), 7);
-    ask_all(&rt, rt.alloc(), &mut store, &WRITES)?;
-    assert_eq!(&rt; store.counter(), 23);
-    assert_eq!(&rt; store.rows(), 12);
-    let lists = [
-        (Kind::Block, BLOCKS_LEFT),
-        (Kind::Affinity, AFFINITIES_LEFT),
-        (Kind::Handle, HANDLES_LEFT),
-    ];
-    for (kind, want) in lists {
-        assert_eq!(&rt; list_text(rt.alloc(), &store, kind)?.as_str(), want);
-    }
-    let want = format!(in rt.alloc();
-        "{SINGLES_LEFT}{BLOCKS_LEFT}{AFFINITIES_LEFT}{HANDLES_LEFT}"
-    )?;
-    assert_eq!(&rt; rows_text(rt.alloc(), &store)?.as_str(), want.as_str());
+    assert_eq!(&rt; writes(&rt, rt.alloc())?.as_str(), LEFT);
     Ok(())
 }
 
-/// At the last revision, with all the blocks that there may be.
-const SPENT: [(Asked, &str, Answer); 14] = [
-    (Asked::Get, "block/10.0.0.0/30", Answer::Found(1)),
-    (Asked::Create, "block/10.0.0.0/30", Answer::Exists(1)),
-    (Asked::Create, "block/10.0.255.252/30", Answer::Exists(1)),
-    (Asked::Create, "block/10.1.0.0/30", Answer::Full),
-    (Asked::Create, "block/10.0.0.0/29", Answer::Full),
-    (Asked::Create, "handle/n.c1", Answer::Spent),
-    (Asked::Create, "affinity/a/10.1.0.0/30", Answer::Spent),
-    (Asked::Create, "pools", Answer::Spent),
-    (Asked::Update(1), "block/10.1.0.0/30", Answer::Missing),
-    (Asked::Update(2), "block/10.0.0.0/30", Answer::Conflict(1)),
-    (Asked::Update(1), "block/10.0.0.0/30", Answer::Spent),
-    (Asked::Delete(1), "block/10.1.0.0/30", Answer::Missing),
-    (Asked::Delete(2), "block/10.0.0.0/30", Answer::Conflict(1)),
-    (Asked::Delete(1), "block/10.0.0.0/30", Answer::Spent),
-];
+/// With all the rows, and all the blocks, that there may be. The last revisions are the numbers from
+/// 4,611,686,018,427,387,895 to 4,611,686,018,427,387,904. Behind the last there are all the blocks,
+/// and room for one more row.
+const FULL: &str = "\
+create affinity/a/10.0.0.0/30|exists 1
+create block/10.0.0.0/30|exists 1
+create block/10.0.255.252/30|exists 1
+create affinity/b/10.0.0.0/30|full 0
+create handle/n.c1|full 0
+create block/10.1.0.0/30|full 0
+create block/10.0.0.0/29|full 0
+create config|full 0
+create pools|full 0
+update 1 block/10.1.0.0/30|missing 0
+delete 1 block/10.1.0.0/30|missing 0
+update 2 block/10.0.0.0/30|conflict 1
+delete 2 block/10.0.0.0/30|conflict 1
+update 1 affinity/a/10.0.0.0/30|can 4611686018427387895
+delete 4611686018427387895 affinity/a/10.0.0.0/30|can 4611686018427387896
+create block/10.1.0.0/30|full 0
+create config|can 4611686018427387897
+create affinity/a/10.0.0.0/30|full 0
+delete 1 block/10.0.0.0/30|can 4611686018427387898
+create block/10.1.0.0/30|can 4611686018427387899
+create block/10.0.0.0/30|full 0
+delete 1 block/10.0.0.4/30|can 4611686018427387900
+create handle/n.c1|can 4611686018427387901
+create block/10.0.0.0/30|full 0
+delete 4611686018427387901 handle/n.c1|can 4611686018427387902
+create block/10.0.0.4/30|can 4611686018427387903
+delete 1 affinity/a/10.0.0.4/30|can 4611686018427387904
+get block/10.0.0.8/30|found 1
+create block/10.0.0.8/30|exists 1
+create block/10.0.255.252/30|exists 1
+create block/10.2.0.0/30|full 0
+create block/10.0.0.0/30|full 0
+create block/10.0.0.0/29|full 0
+create handle/n.c1|spent 0
+create affinity/b/10.1.0.0/30|spent 0
+create pools|spent 0
+update 1 block/10.0.0.0/30|missing 0
+update 2 block/10.0.0.8/30|conflict 1
+update 1 block/10.0.0.8/30|spent 0
+delete 1 block/10.0.0.0/30|missing 0
+delete 2 block/10.0.0.8/30|conflict 1
+delete 1 block/10.0.0.8/30|spent 0
+";
 
-/// With all the blocks that there may be, and revisions left.
-const FULL_OF_BLOCKS: [(Asked, &str, Answer); 6] = [
-    (Asked::Create, "block/10.0.0.0/30", Answer::Exists(1)),
-    (Asked::Create, "block/10.1.0.0/30", Answer::Full),
-    (Asked::Create, "handle/n.c1", Answer::Can(10)),
-    (Asked::Delete(1), "block/10.0.0.0/30", Answer::Can(11)),
-    (Asked::Create, "block/10.1.0.0/30", Answer::Can(12)),
-    (Asked::Create, "block/10.0.0.0/30", Answer::Full),
-];
+const MOST: u32 = 262_144;
 
-/// With all the rows that there may be, of which 16,383 are blocks.
-const FULL: [(Asked, &str, Answer); 8] = [
-    (Asked::Create, "handle/000000", Answer::Exists(1)),
-    (Asked::Create, "handle/n.c1", Answer::Full),
-    (Asked::Create, "block/10.1.0.0/30", Answer::Full),
-    (Asked::Create, "config", Answer::Full),
-    (Asked::Update(1), "handle/000000", Answer::Can(10)),
-    (Asked::Delete(10), "handle/000000", Answer::Can(11)),
-    (Asked::Create, "config", Answer::Can(12)),
-    (Asked::Create, "handle/000000", Answer::Full),
-];
+const MOST_OF_BLOCKS: u32 = 16_384;
+
+/// Fills the store, and asks each call.
+fn fill_and_ask(rt: &impl Abort, alloc: Global, store: &mut Store) -> Result<usize, AllocError> {
+    fill_affinities(store, alloc, MOST - MOST_OF_BLOCKS)?;
+    fill_blocks(store, alloc, MOST_OF_BLOCKS)?;
+    ask_all(rt, alloc, store, FULL)
+}
+
+// The store is held apart from each `?`, of which each would drop it.
+fn full(rt: &impl Abort, alloc: Global) -> Result<usize, AllocError> {
+    let mut store = Store::new(alloc, LAST_REVISION - 10);
+    fill_and_ask(rt, alloc, &mut store)
+}
 
 #[test]
-fn refuses_at_the_limits(rt: HostRuntime) -> Result<(), Fail> {
-    let limits = [
-        (LAST_REVISION, 16_384, 0, &SPENT[..]),
-        (9, 16_384, 0, &FULL_OF_BLOCKS[..]),
-        (9, 16_383, 245_761, &FULL[..]),
-    ];
-    for (counter, blocks, handles, cases) in limits {
-        let mut store = filled(rt.alloc(), counter, blocks, handles).map_err(|_| "not loaded")?;
-        ask_all(&rt, rt.alloc(), &mut store, cases)?;
-    }
+fn refuses_at_the_limits(rt: HostRuntime) -> Result<(), AllocError> {
+    assert_eq!(&rt; full(&rt, rt.alloc())?, 42);
     Ok(())
+}
+
+/// A key of each kind, and two of one node.
+const KEYS: &str = "\
+handle/n.c1
+pools
+block/10.0.0.0/26
+config
+affinity/a/10.0.0.0/26
+affinity/a/9.0.0.0/26
+reservations
+";
+
+fn load_key(alloc: Global, store: &mut Store, revision: u64, key: &str) -> Result<(), LoadFault> {
+    load(store, revision, record_of(alloc, key_at(alloc, key)?)?)
+}
+
+/// What comes of each key that is loaded twice.
+fn load_all(alloc: Global, store: &mut Store) -> Result<String, AllocError> {
+    let mut text = String::new(alloc);
+    for key in KEYS.lines() {
+        let first = load_key(alloc, store, 3, key).is_ok();
+        let again = load_key(alloc, store, 4, key) == Err(LoadFault::There);
+        text.push_str(if first && again { "." } else { "!" })?;
+    }
+    text.push_str(ask(store, alloc, "get pools")?.as_str())?;
+    Ok(text)
+}
+
+fn loaded(alloc: Global) -> Result<String, AllocError> {
+    let mut store = Store::new(alloc, 5);
+    load_all(alloc, &mut store)
 }
 
 #[test]
 fn loads_a_key_once(rt: HostRuntime) -> Result<(), AllocError> {
-    let mut store = Store::new(rt.alloc(), 5);
-    for text in KEYS {
-        let first = load(&mut store, rt.alloc(), 3, key_at(rt.alloc(), text)?);
-        assert_eq!(&rt; first, Ok(()), "{text}");
-        let again = load(&mut store, rt.alloc(), 4, key_at(rt.alloc(), text)?);
-        assert_eq!(&rt; again, Err(LoadFault::There), "{text}");
-    }
-    assert_eq!(&rt; store.rows(), KEYS.len());
-    assert_eq!(&rt;
-        ask_of_key(&mut store, rt.alloc(), Asked::Get, "pools")?,
-        Answer::Found(3)
-    );
+    assert_eq!(&rt; loaded(rt.alloc())?.as_str(), ".......found 3");
     Ok(())
 }
