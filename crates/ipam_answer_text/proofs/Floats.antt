@@ -1,8 +1,7 @@
 -- No answer's JSON has a float, so that its compact text is written.
-use Rattle.std.proofs.Common.{◌≡◌, false, List, [], ◌∷◌, map, refl}
-use Rattle.serde_json.specs.Data.{Data}
-use Rattle.serde_json.specs.View.{items_of}
-use Rattle.serde_json.specs.Written.{has_float, items_have_float}
+use Rattle.std.proofs.Common.{◌≡◌, false, refl}
+use Rattle.serde_json.specs.Written.{has_float}
+use Rattle.ipam_json.proofs.Floatless.{items_without}
 use Rattle.ipam_model.specs.declared.answer.Answer.{Answer}
 use Rattle.ipam_model.specs.declared.answer.Answer.TheVariants.{Added, AddedThis, Exhausted, NoPool, NotInPool, Taken, NotAffine, Deleted, Checked, NotRecorded, Released, NoAffinity, Collected, Done, Refused, Again, Full, CountFull, Spent, Fault, Ready}
 use Rattle.ipam_model.specs.declared.answer.Given.{Given}
@@ -10,10 +9,6 @@ use Rattle.ipam_model.specs.declared.answer.GivenThis.{GivenThis}
 use Rattle.ipam_model.specs.declared.answer.Scan.{Scan}
 use Rattle.ipam_model.specs.declared.answer.Item.{Item}
 use Rattle.ipam_answer_text.specs.Answers.{given_data, given_this_data, scan_data, item_data, answer_data}
-
-items_without : {A : Type 0} (f : A → Data) → ((a : A) → has_float (f a) ≡ false) → (all : List A) → items_have_float (items_of (map f all)) ≡ false
-items_without f each [] = refl
-items_without f each (a ∷ rest) = rw (each a) (items_without f each rest)
 
 given_without : (g : Given) → has_float (given_data g) ≡ false
 unfolding given_data

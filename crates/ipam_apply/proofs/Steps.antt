@@ -23,7 +23,8 @@ use Rattle.ipam_commands.specs.declared.status.Status.{Status}
 use Rattle.ipam_commands.specs.declared.status.Status.TheVariants as status
 use Rattle.ipam_commands.specs.Courses.{AreRowsOf}
 use Rattle.ipam_commands.specs.Telling.{Cut, Untold as NoText, Whole, Writes}
-use Rattle.ipam_commands.proofs.CourseRuns.{fault-course, stop-course}
+use Rattle.ipam_solo.proofs.Courses.{fault-course}
+use Rattle.ipam_commands.proofs.CourseRuns.{stop-course}
 use Rattle.ipam_apply.specs.declared.step.Step.{Step}
 use Rattle.ipam_apply.specs.declared.step.Step.TheVariants.{Applied, Ended}
 use Rattle.ipam_apply.specs.Applying.{IsApplied, KeeperFailed, Refused, StepEnds, Stopped, Untold, alone_on, asked}

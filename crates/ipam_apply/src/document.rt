@@ -2,13 +2,13 @@ ghost use Rattle.std.specs.Prelude.{◌≡◌};
 ghost use Rattle.std.specs.Io.KnownBytes.{IsAtEnd};
 ghost use Rattle.ipam_apply.specs.Applied.{ApplyEnds, DocumentEnds};
 
-use crate::input::{InputFault, read_input};
 use crate::resources::apply_resources;
 use crate::telling::tell_document;
 use ipam_commands::{Status, tell};
 use ipam_io::{Sink, Source};
 use ipam_keeper::Keeper;
-use ipam_resources::read_resources;
+use ipam_lines::{InputFault, read_whole};
+use ipam_resources::{DOCUMENT_MAX, read_resources};
 use std::alloc::Global;
 
 /// Applies the resources of the source's document, one after another, each as a request that runs alone
@@ -42,7 +42,7 @@ pub fn apply<S: Source, K: Sink, D: Keeper>(
     ensures read_rest { S.read_rest source.new ≡ S.read_rest source.old }
     ensures write_rest { K.write_rest sink.new ≡ K.write_rest sink.old }
 {
-    match read_input(alloc, source) {
+    match read_whole(alloc, source, DOCUMENT_MAX) {
         Ok(document) => apply_document(alloc, document.as_slice(), sink, keeper),
         Err(InputFault::Read) => tell(sink, "read fault\n", Status::ReadFault),
         Err(InputFault::Memory) => Status::NoMemory,

@@ -2,7 +2,6 @@
 #![tactic(auto)]
 
 mod document;
-mod input;
 mod resources;
 mod step;
 mod telling;

@@ -3,22 +3,10 @@ use Rattle.std.specs.Prelude.{◌≡◌, ℕ, List, codes, Option}
 use Rattle.ipam_records.specs.declared.call.Row.{Row as RowText}
 use Rattle.ipam_records.specs.Datastore.{Datastore}
 use Rattle.ipam_commands.specs.declared.status.Status.{Status}
-use Rattle.ipam_commands.specs.declared.status.Status.TheVariants as status
+use Rattle.ipam_commands.specs.Statuses.{code_of}
 use Rattle.ipam_commands.specs.Telling.{AreOpened}
 use Rattle.ipam_audit.specs.declared.report.Report.{Report}
 use Rattle.ipam_audit.specs.Reported.{report_of}
-
--- the exit status, by how it ended
-abbrev pub code_of : Status → ℕ
-code_of status.Done = 0
-code_of status.Refused = 1
-code_of status.UnknownWords = 2
-code_of status.ReadFault = 3
-code_of status.WriteFault = 4
-code_of status.KeeperFault = 5
-code_of status.NoMemory = 6
-code_of status.BrokenRows = 7
-code_of status.LineRefused = 8
 
 -- the exit status is that of an ending of which this is so
 pub record EndsSo (code : ℕ) (so : Status → Type 0) : Type 0 where

@@ -8,7 +8,8 @@ ghost use Rattle.ipam_opening.specs.Opening.{IsFaultOf};
 ghost use Rattle.ipam_audit.specs.Parts.{IsReportOf};
 ghost use Rattle.ipam_audit.specs.Printed.{report_text};
 ghost use Rattle.ipam_audit.specs.Reported.{report_of};
-ghost use Rattle.ipam_audit.specs.Run.{EndsSo, IsReportTold, code_of, unknown_line};
+ghost use Rattle.ipam_audit.specs.Run.{EndsSo, IsReportTold, unknown_line};
+ghost use Rattle.ipam_commands.specs.Statuses.{code_of};
 ghost use Rattle.ipam_audit.specs.Words.{workers_asked};
 
 use crate::auditing::audit;

@@ -1,22 +1,21 @@
 -- The value of a sound block is canonical, and its parts are read from it.
-use Rattle.std.proofs.Common.{◌≡◌, ◌∙◌, ℕ, suc, ◌^◌, ◌<◌, Bool, true, ◌&&◌, List, [], ◌∷◌, ◌++◌, length, get_or, map, Option, Some, None, Less, Equal, Greater, Ordering, nat_cmp, cond, refl, sym, ap, subst, arith, decimal, append-nil, append_assoc}
+use Rattle.std.proofs.Common.{◌≡◌, ◌∙◌, ℕ, suc, ◌^◌, ◌<◌, Bool, true, ◌&&◌, List, [], ◌∷◌, ◌++◌, length, get_or, map, Option, Some, None, cond, refl, ap, arith, decimal}
 use Rattle.std.specs.Prelude.{option_and_then, All, fold, nat_le, codes, unwrap_or}
 use Rattle.std.specs.List.{list_all, AllByRecursion}
-use Rattle.std.specs.Ordering.{is_lt}
-use Rattle.std.specs.Cmp.Lexicographic.{slice_cmp}
 use Rattle.std.proofs.lemmas.Bool.{and_parts}
 use Rattle.serde_json.specs.Data.{Data, string, object, Members, no_members, put}
-use Rattle.ipam_json.specs.Built.{Field, members_from, member_list, names, IsAscending}
+use Rattle.ipam_json.specs.Built.{member_list}
 use Rattle.ipam_json.specs.Canonical.{IsCanonicalWithin}
-use Rattle.ipam_json.proofs.Constructors.{IsCanonicalWithin-null, IsCanonicalWithin-number, IsCanonicalWithin-string, IsCanonicalWithin-object, IsCanonicalWithin-put, put-members_from, member_list-members_from}
+use Rattle.ipam_json.proofs.Constructors.{IsCanonicalWithin-null, IsCanonicalWithin-number, IsCanonicalWithin-string, IsCanonicalWithin-object, IsCanonicalWithin-put, member_list-members_from}
 use Rattle.ipam_addr.specs.Names.{is_handle_text}
 use Rattle.ipam_block.specs.declared.allocation.Allocation.{Allocation}
 use Rattle.ipam_block.specs.declared.allocation.Attributes.{Attributes}
 use Rattle.ipam_block.specs.declared.limits.TheConstants.{PAIRS_MAX}
 use Rattle.ipam_block_text.specs.Attributes.{Pair}
-use Rattle.ipam_block_text.specs.Limits.{are_pairs, is_small_pair, keys_ascend, ascend_after, are_attributes}
+use Rattle.ipam_block_text.specs.Limits.{are_pairs, is_small_pair, keys_ascend, are_attributes}
 use Rattle.ipam_block_text.specs.Body.{whole_data, affinity_data, place_data, with_pair, secondary_data, attributes_data, stamps_data}
 use Rattle.ipam_block_text.specs.Reading.{each, only_if, pair_in, place_in, attributes_in, handle_in, secondary_in}
+use Rattle.ipam_block_text.proofs.PairKeys.{pair_field, pairs_members}
 
 -- ---- what is written of each item is read of it
 
@@ -33,51 +32,8 @@ each-same f g xs all = each-map f g (λ x. x) xs all ∙ ap Some (map-itself xs)
 
 -- ---- the pairs
 
-pair_field : Pair → Field
-pair_field p = (p.0, string p.1)
-
-less_lt : (o : Ordering) → is_lt o ≡ true → o ≡ Less
-less_lt Less h = refl
-less_lt Equal h = absurd cc
-less_lt Greater h = absurd cc
-
-pair_names : (pairs : List Pair) → names (map pair_field pairs) ≡ map (λ p. p.0) pairs
-unfolding pair_field
-pair_names [] = refl
-pair_names (p ∷ pairs) = ap (λ l. p.0 ∷ l) (pair_names pairs)
-
-after_ascends : (key : List ℕ) (pairs : List Pair) → ascend_after key pairs ≡ true → IsAscending (key ∷ map (λ p. p.0) pairs)
-after_ascends key [] h = tt
-after_ascends key (p ∷ pairs) h =
-    let parts = and_parts (is_lt (slice_cmp nat_cmp key p.0)) (ascend_after p.0 pairs) h in
-    (less_lt _ parts.0, after_ascends p.0 pairs parts.1)
-
-keys_are_ascending : (pairs : List Pair) → keys_ascend pairs ≡ true → IsAscending (names (map pair_field pairs))
-keys_are_ascending [] h = tt
-keys_are_ascending (p ∷ pairs) h = subst IsAscending (sym (pair_names (p ∷ pairs))) (after_ascends p.0 pairs h)
-
-front_ascends : (ks : List (List ℕ)) (more : List (List ℕ)) → IsAscending (ks ++ more) → IsAscending ks
-front_ascends [] more h = tt
-front_ascends (k ∷ []) more h = tt
-front_ascends (k ∷ l ∷ ks) more h = (h.0, front_ascends (l ∷ ks) more h.1)
-
-names-append : (ms ns : List Field) → names (ms ++ ns) ≡ names ms ++ names ns
-names-append [] ns = refl
-names-append (m ∷ ms) ns = ap (λ l. m.0 ∷ l) (names-append ms ns)
-
-pairs_put : (done : List Field) (pairs : List Pair) → IsAscending (names (done ++ map pair_field pairs)) → fold with_pair (members_from done) pairs ≡ members_from (done ++ map pair_field pairs)
-unfolding pair_field
-pairs_put done [] up = ap members_from (sym (append-nil done))
-pairs_put done (p ∷ pairs) up =
-    let rest = map pair_field pairs in
-    let joined = append_assoc done (pair_field p ∷ []) rest in
-    let up_joined = subst (λ l. IsAscending (names l)) (sym joined) up in
-    let up_front = front_ascends (names (done ++ pair_field p ∷ [])) (names rest) (subst IsAscending (names-append (done ++ pair_field p ∷ []) rest) up_joined) in
-    let placed = put-members_from done p.0 (string p.1) up_front in
-    ap (λ ms. fold with_pair ms pairs) placed ∙ pairs_put (done ++ pair_field p ∷ []) pairs up_joined ∙ ap members_from joined
-
 secondary_listed : (pairs : List Pair) → keys_ascend pairs ≡ true → member_list (fold with_pair no_members pairs) ≡ map pair_field pairs
-secondary_listed pairs up = ap member_list (pairs_put [] pairs (keys_are_ascending pairs up)) ∙ member_list-members_from (map pair_field pairs)
+secondary_listed pairs up = ap member_list (pairs_members pairs up) ∙ member_list-members_from (map pair_field pairs)
 
 pairs_read : (pairs : List Pair) → keys_ascend pairs ≡ true → each pair_in (member_list (fold with_pair no_members pairs)) ≡ Some pairs
 unfolding pair_field

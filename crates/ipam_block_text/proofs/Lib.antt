@@ -6,6 +6,7 @@ pub mod Listed
 pub mod Names
 pub mod Options
 pub mod Said
+pub mod PairKeys
 pub mod Limited
 pub mod Sound
 pub mod ReadBack

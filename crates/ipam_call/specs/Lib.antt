@@ -3,5 +3,4 @@ pub mod Requests
 pub mod Replies
 pub mod Versions
 pub mod Ends
-pub mod Inputs
 pub mod Calls

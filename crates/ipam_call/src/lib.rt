@@ -12,7 +12,8 @@ mod version;
 
 pub use asking::exchange;
 pub use end::{CallEnd, CallFault, DaemonReply};
-pub use input::{InputFault, read_input};
+pub use input::read_input;
+pub use ipam_lines::InputFault;
 pub use run::{call_daemon, run_call};
 pub use std::alloc::AllocError as Memory;
 pub use telling::tell_end;

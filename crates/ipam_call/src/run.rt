@@ -8,11 +8,12 @@ ghost use Rattle.ipam_call.specs.Versions.{version_for};
 
 use crate::asking::exchange;
 use crate::end::{CallEnd, CallFault};
-use crate::input::{InputFault, read_input};
+use crate::input::read_input;
 use crate::telling::tell_end;
 use crate::version::version_for;
 use cni_types::Version;
 use ipam_io::{Link, Sink, Source};
+use ipam_lines::InputFault;
 use ipam_text::Text;
 use std::alloc::Global;
 

@@ -26,6 +26,7 @@ use Rattle.ipam_cluster.specs.Cluster.{slot_of, state_in, IsSlot, Runs, StandsFo
 use Rattle.ipam_cluster.specs.Turns.{IsTurn}
 use Rattle.ipam_cluster.proofs.Adding.{none_there, runs_there, due_asked}
 use Rattle.ipam_cluster.proofs.Asking.{running_asks}
+use Rattle.ipam_cluster.proofs.Waiting.{is-waiting}
 
 -- ---- an entry was added
 
@@ -90,11 +91,7 @@ turn_idle cluster base history slot fate h idle =
 
 waiting_word : (code : Option Running) → state_in code ≡ state.Waiting → (running : Running) × (code ≡ Some running) × (waits (running_rest running) ≡ true)
 waiting_word None is = absurd (cc is)
-waiting_word (Some running) is = (running, refl, by (waits (running_rest running)) is)
-  where
-    by : (b : Bool) → (if b then state.Waiting else state.Running) ≡ state.Waiting → b ≡ true
-    by true e = refl
-    by false e = absurd (cc e)
+waiting_word (Some running) is = (running, refl, is-waiting (waits (running_rest running)) is)
 
 no_call : (cluster : model.Cluster) (slot : ℕ) (fate : Fate) (word : Word Answer) → waits word ≡ true
     → one (turn_called cluster (call_entry slot fate cluster.store cluster.entries word)) ≡ Err Waiting
@@ -165,13 +162,9 @@ waits_there (Some running) None grace is with = absurd is
 waits_there (Some running) (Some it) grace is with = record {
   it = it;
   is = refl;
-  waiting = sym (ap waits is.word) ∙ by (waits (running_rest running)) with.0;
+  waiting = sym (ap waits is.word) ∙ is-waiting (waits (running_rest running)) with.0;
   asked_for = sym is.grace ∙ with.1;
 }
-  where
-    by : (b : Bool) → (if b then state.Waiting else state.Running) ≡ state.Waiting → b ≡ true
-    by true e = refl
-    by false e = absurd (cc e)
 
 too_early : (request : Request) (grace : Grace) (at : ℕ) → grace_of request ≡ Some grace → at < grace.at + grace.grace
     → (is_due request at ≡ false) × (too_soon request ≡ TooSoon grace.at grace.grace)

@@ -3,6 +3,7 @@ pub mod SlotLemmas
 pub mod Adding
 pub mod Calling
 pub mod Standing
+pub mod Waiting
 pub mod Asking
 pub mod Opening
 pub mod Events

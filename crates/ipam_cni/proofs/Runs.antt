@@ -1,6 +1,5 @@
 -- How a request by itself ends.
-use Rattle.std.proofs.Common.{◌≡◌, ℕ, ◌⊎◌, inl, inr, List, [], ◌∷◌, Option, None, refl, sym, ap, ◌∙◌, subst}
-use Rattle.std.proofs.lemmas.List.{append-nil}
+use Rattle.std.proofs.Common.{◌≡◌, ℕ, ◌⊎◌, inl, inr, List, [], ◌∷◌, None, refl, sym, ap, ◌∙◌, subst}
 use Rattle.std.specs.Prelude.{IfSome}
 use Rattle.ipam_records.specs.Datastore.{Datastore}
 use Rattle.ipam_model.specs.declared.answer.Answer.{Answer}
@@ -10,53 +9,27 @@ use Rattle.ipam_model.specs.declared.request.Request.{Request}
 use Rattle.ipam_model.specs.Alone.{alone_over}
 use Rattle.ipam_model.specs.History.{Base, store_at}
 use Rattle.ipam_kept.specs.declared.kept.Kept.{Kept}
-use Rattle.ipam_kept.specs.declared.write.RowWrite.{RowWrite}
 use Rattle.ipam_kept.specs.Kept.{KeptFor, Tells}
-use Rattle.ipam_kept.specs.Rows.{AreTextsOf, AreToldKept}
-use Rattle.ipam_solo.specs.Solo.{IsAnswered, IsFaulted, IsStopped, KeepsWithAll, NoMoreDoubt, base_of}
+use Rattle.ipam_kept.specs.Rows.{AreTextsOf}
+use Rattle.ipam_solo.proofs.Courses.{ends-kept, fault-course, no-doubt, sure-rows}
+use Rattle.ipam_solo.specs.Solo.{IsAnswered, IsFaulted, IsStopped, KeepsWithAll, base_of}
 use Rattle.cni_types.specs.declared.version.Version.{Version}
 use Rattle.ipam_cni.specs.declared.end.CniEnd.{CniEnd}
 use Rattle.ipam_cni.specs.declared.end.CniEnd.TheVariants.{Failed}
 use Rattle.ipam_cni.specs.declared.end.CniFault.TheVariants.{Memory}
-use Rattle.ipam_cni.specs.Calls.{AnswerEnds, KeeperFailed, AnswerTold, NoMemory, IsFaultCourse, RunEnds}
+use Rattle.ipam_cni.specs.Calls.{AnswerEnds, KeeperFailed, AnswerTold, NoMemory, RunEnds}
 use Rattle.ipam_cni.specs.Replies.{opened, reply_to}
 
 module _ {D : Type 0} (tells : Tells D) (faults : D → ℕ) (asked : Request) (old new : Kept D)
     (first : old.cluster.entries ≡ 0) (kept : KeptFor tells old (opened old.cluster.store.store) []) where
-  -- what is kept once these entries came
-  ends-kept : (added : List Entry) → KeepsWithAll tells old new added → KeptFor tells new (opened old.cluster.store.store) added
-  ends-kept added keeps =
-      subst (λ (h : List Entry). KeptFor tells new (opened old.cluster.store.store) h) (append-nil added)
-      (keeps (opened old.cluster.store.store) [] kept)
+  now-kept : (added : List Entry) → KeepsWithAll tells old new added → KeptFor tells new (opened old.cluster.store.store) added
+  now-kept added keeps = ends-kept tells old new (opened old.cluster.store.store) kept added keeps
+
+  now-rows : (added : List Entry) → KeepsWithAll tells old new added → new.doubt ≡ None → IfSome (tells new.keeper) (λ rows. AreTextsOf rows (store_at (opened old.cluster.store.store) added))
+  now-rows added keeps sure = sure-rows tells new (opened old.cluster.store.store) added (now-kept added keeps) sure
 
   base-opened : base_of old ≡ opened old.cluster.store.store
   base-opened = ap (λ (n : ℕ). record { store = old.cluster.store.store; first = n }) first
-
-  sure-rows : (added : List Entry) → KeptFor tells new (opened old.cluster.store.store) added → new.doubt ≡ None → IfSome (tells new.keeper) (λ rows. AreTextsOf rows (store_at (opened old.cluster.store.store) added))
-  sure-rows added is sure =
-      let P : Datastore → Type 0 = λ s. IfSome (tells new.keeper) (λ rows. AreTextsOf rows s) in
-      subst P is.cluster.is_cluster.store
-      (subst (λ (d : Option RowWrite). AreToldKept (tells new.keeper) new.cluster.store.store d) sure is.rows)
-
-  fault-course : (told : Answer) → IsFaulted tells faults asked old new told → IsFaultCourse old.cluster.store.store asked (tells new.keeper)
-  fault-course told e =
-      let is = ends-kept (entry.Called e.last ∷ e.earlier) e.keeps in
-      record {
-        last = e.last;
-        earlier = e.earlier;
-        lawful = is.cluster.stands.lawful;
-        alone = e.alone;
-        own = e.own;
-        failed = e.failed;
-        ends = e.ends;
-        doubt = new.doubt;
-        rows = subst (λ (s : Datastore). AreToldKept (tells new.keeper) s new.doubt) is.cluster.is_cluster.store is.rows;
-        is_doubt = is.doubt;
-      }
-
-  no-doubt : NoMoreDoubt old new → old.doubt ≡ None → new.doubt ≡ None
-  no-doubt (inl same) sure = same ∙ sure
-  no-doubt (inr none) sure = none
 
   pub stopped_ends : (version : Version) → old.doubt ≡ None → IsStopped tells faults asked old new → RunEnds old.cluster.store.store asked version (Failed version Memory) (tells new.keeper) (faults old.keeper) (faults new.keeper)
   stopped_ends version sure e = (
@@ -64,9 +37,9 @@ module _ {D : Type 0} (tells : Tells D) (faults : D → ℕ) (asked : Request) (
     e.no_fault,
     record {
       entries = e.entries;
-      lawful = (ends-kept e.entries e.keeps).cluster.stands.lawful;
+      lawful = (now-kept e.entries e.keeps).cluster.stands.lawful;
       alone = inl e.stopped;
-      rows = sure-rows e.entries (ends-kept e.entries e.keeps) (no-doubt e.doubt sure);
+      rows = now-rows e.entries e.keeps (no-doubt old new e.doubt sure);
     },
   )
 
@@ -86,14 +59,14 @@ module _ {D : Type 0} (tells : Tells D) (faults : D → ℕ) (asked : Request) (
     e.no_fault,
     record {
       entries = entry.Called e.last ∷ e.earlier;
-      lawful = (ends-kept (entry.Called e.last ∷ e.earlier) e.keeps).cluster.stands.lawful;
+      lawful = (now-kept (entry.Called e.last ∷ e.earlier) e.keeps).cluster.stands.lawful;
       alone = inr e.alone;
-      rows = sure-rows (entry.Called e.last ∷ e.earlier) (ends-kept (entry.Called e.last ∷ e.earlier) e.keeps) e.sure;
+      rows = now-rows (entry.Called e.last ∷ e.earlier) e.keeps e.sure;
     },
   )
 
   failed-ends : (version : Version) (told : Answer) (end : CniEnd) → IsFaulted tells faults asked old new told → AnswerEnds asked told version end → RunEnds old.cluster.store.store asked version end (tells new.keeper) (faults old.keeper) (faults new.keeper)
-  failed-ends version told end e (KeeperFailed is) = (refl, e.fault, fault-course told e)
+  failed-ends version told end e (KeeperFailed is) = (refl, e.fault, fault-course tells faults asked old new (opened old.cluster.store.store) kept told e)
   failed-ends version told end e (AnswerTold reply not is) = absurd (not e.is_fault)
   failed-ends version told end e (NoMemory not) = absurd (not e.is_fault)
 

@@ -27,9 +27,9 @@ decoded-short command stdin d e = go (is_for_versions command && is_empty stdin)
     go true is e' = empty-short (is_for_versions command) stdin is
     go false is e' = text-short stdin d (input_text stdin) refl e'
 
-look-short : (env : List Pair) (stdin : List ℕ) (look : Look) → look_reading env stdin ≡ Ok look → length stdin ≤ 1048576
+pub look_short : (env : List Pair) (stdin : List ℕ) (look : Look) → look_reading env stdin ≡ Ok look → length stdin ≤ 1048576
 unfolding look_reading
-look-short env stdin look e = go (decoded (command_in env) stdin) refl e
+look_short env stdin look e = go (decoded (command_in env) stdin) refl e
   where
     go : (o : Option Data) → decoded (command_in env) stdin ≡ o → look_from (command_in env) env o ≡ Ok look → length stdin ≤ 1048576
     go (Some d) is e' = decoded-short (command_in env) stdin d is
@@ -37,5 +37,5 @@ look-short env stdin look e = go (decoded (command_in env) stdin) refl e
 
 pub comes_short : (env : List Pair) (stdin : List ℕ) (old new : Option (List RowText)) (reply : Reply) → ComesTo env stdin old new reply → reply.0 ≡ 0 → length stdin ≤ 1048576
 comes_short env stdin old new _ (Refused error is same) none = absurd cc
-comes_short env stdin old new _ (AtOnce look text is begins same) none = look-short env stdin look is
-comes_short env stdin old new _ (Asked look asked version reply is begins comes) none = look-short env stdin look is
+comes_short env stdin old new _ (AtOnce look text is begins same) none = look_short env stdin look is
+comes_short env stdin old new _ (Asked look asked version reply is begins comes) none = look_short env stdin look is

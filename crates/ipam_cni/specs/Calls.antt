@@ -1,5 +1,5 @@
 -- How a call goes: what is read, what becomes of the rows, and which counts of faults rise.
-use Rattle.std.specs.Prelude.{◌≡◌, ◌≢◌, ℕ, ◌≤◌, ◌⊎◌, List, ◌∷◌, length, Option, Some, IfSome, Result, Ok, Err}
+use Rattle.std.specs.Prelude.{◌≡◌, ◌≢◌, ℕ, ◌≤◌, ◌⊎◌, List, length, Option, Some, IfSome, Result, Ok, Err}
 use Rattle.std.specs.Io.KnownBytes.{IsAtEnd, prepend_known}
 use Rattle.ipam_io.specs.Counts.{Rose}
 use Rattle.ipam_keeper.specs.Keeping.{IsTold}
@@ -7,19 +7,15 @@ use Rattle.ipam_records.specs.declared.call.Row.{Row as RowText}
 use Rattle.ipam_records.specs.Datastore.{Datastore}
 use Rattle.ipam_model.specs.declared.answer.Answer.{Answer}
 use Rattle.ipam_model.specs.declared.answer.Answer.TheVariants.{Fault}
-use Rattle.ipam_model.specs.declared.entry.Called.{Called}
 use Rattle.ipam_model.specs.declared.entry.Entry.{Entry}
-use Rattle.ipam_model.specs.declared.entry.Entry.TheVariants as entry
-use Rattle.ipam_model.specs.declared.entry.Fate.TheVariants.{Before}
 use Rattle.ipam_model.specs.declared.request.Request.{Request}
 use Rattle.ipam_model.specs.Alone.{IsAlone, alone_over}
 use Rattle.ipam_model.specs.History.{Lawful, store_at}
 use Rattle.ipam_model.specs.Opened.{OpensAs}
 use Rattle.ipam_kept.specs.declared.kept.KeptFault.{KeptFault}
 use Rattle.ipam_kept.specs.declared.kept.KeptFault.TheVariants as fault
-use Rattle.ipam_kept.specs.declared.write.RowWrite.{RowWrite}
-use Rattle.ipam_kept.specs.Doubt.{IsDoubt}
-use Rattle.ipam_kept.specs.Rows.{AreTextsOf, AreToldKept, texts_loaded}
+use Rattle.ipam_kept.specs.Rows.{AreTextsOf, texts_loaded}
+use Rattle.ipam_solo.specs.Courses.{IsFaultCourse}
 use Rattle.ipam_solo.specs.Solo.{IsStoppedAlone}
 use Rattle.cni_types.specs.declared.calls.Look.{Look}
 use Rattle.cni_types.specs.declared.error.CniError.{CniError}
@@ -62,20 +58,6 @@ pub data AnswerEnds (asked : Request) (found : Answer) (version : Version) : Cni
 
 -- ---- a request over opened rows
 
--- the rows are those of a course of the request that ends in a call at which the keeper failed, but for
--- the row in doubt
-pub record IsFaultCourse (store : Datastore) (asked : Request) (new : Option (List RowText)) : Type 0 where
-  pub last : Called
-  pub earlier : List Entry
-  pub lawful : Lawful (opened store) (entry.Called last ∷ earlier)
-  pub alone : IsAlone asked earlier
-  pub own : last.slot ≡ 0
-  pub failed : last.fate ≡ Before
-  pub ends : last.answer ≡ Some Fault
-  pub doubt : Option RowWrite
-  pub rows : AreToldKept new (store_at (opened store) (entry.Called last ∷ earlier)) doubt
-  pub is_doubt : IsDoubt doubt (opened store) (entry.Called last ∷ earlier)
-
 -- the rows are those of a course of the request that ends in a stop or in its answer
 pub record IsStopCourse (store : Datastore) (asked : Request) (new : Option (List RowText)) : Type 0 where
   pub entries : List Entry
@@ -96,7 +78,7 @@ RunEnds store asked version (Told status text) new faults faults' =
     (faults' ≡ faults) × IsAloneReply store asked version new (status, text)
 RunEnds store asked version (Failed in_version Read) new faults faults' = ⊥
 RunEnds store asked version (Failed in_version Keeper) new faults faults' =
-    (in_version ≡ version) × Rose faults faults' × IsFaultCourse store asked new
+    (in_version ≡ version) × Rose faults faults' × IsFaultCourse (opened store) asked new
 RunEnds store asked version (Failed in_version Memory) new faults faults' =
     (in_version ≡ version) × (faults' ≡ faults) × IsStopCourse store asked new
 
@@ -118,7 +100,7 @@ RequestEnds asked version (Told status text) old new faults faults' =
     (faults' ≡ faults) × RequestComesTo asked version old new (status, text)
 RequestEnds asked version (Failed in_version Read) old new faults faults' = ⊥
 RequestEnds asked version (Failed in_version Keeper) old new faults faults' =
-    (in_version ≡ version) × Rose faults faults' × StayOr old new (λ store. IsFaultCourse store asked new)
+    (in_version ≡ version) × Rose faults faults' × StayOr old new (λ store. IsFaultCourse (opened store) asked new)
 RequestEnds asked version (Failed in_version Memory) old new faults faults' =
     (in_version ≡ version) × (faults' ≡ faults) × StayOr old new (λ store. IsStopCourse store asked new)
 
@@ -153,7 +135,7 @@ CallEnds env stdin (Told status text) old new faults faults' =
 CallEnds env stdin (Failed version Read) old new faults faults' = ⊥
 CallEnds env stdin (Failed version Keeper) old new faults faults' =
     Rose faults faults' × (asked : Request) × Begins env stdin asked version
-    × StayOr old new (λ store. IsFaultCourse store asked new)
+    × StayOr old new (λ store. IsFaultCourse (opened store) asked new)
 CallEnds env stdin (Failed version Memory) old new faults faults' =
     (faults' ≡ faults) × (IsUnbegun env stdin version old new ⊎ IsCutShort env stdin version old new)
 

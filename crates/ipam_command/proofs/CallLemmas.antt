@@ -14,7 +14,7 @@ use Rattle.ipam_cni.specs.Ends as cni_ends
 use Rattle.ipam_cni.specs.Replies.{ComesTo, Reply}
 use Rattle.ipam_cni_laws.proofs.Records.{by_records}
 use Rattle.ipam_cni_laws.proofs.Spared.{gc_leaves, status_adds}
-use Rattle.ipam_command.proofs.ShortCalls.{look_short}
+use Rattle.ipam_cni.proofs.Shortness.{look_short}
 use Rattle.ipam_command.specs.CniCalls.{Finds, GoesWell, IsCallByRecords, IsSaid, LeavesWhatIsSpared, TellsOfAdd}
 use Rattle.ipam_command.specs.Outside.{Outside, sides_of}
 

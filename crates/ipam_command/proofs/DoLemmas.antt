@@ -20,7 +20,8 @@ use Rattle.ipam_commands.specs.declared.status.Status.{Status}
 use Rattle.ipam_commands.specs.Telling.{Tells, Writes}
 use Rattle.ipam_command.specs.Commands.{Does, DoesGen, DoesPlay, DoesTell, IsPlayed, TellsUnknown}
 use Rattle.ipam_command.specs.Outside.{LeavesKeeper, LeavesSource, Outside}
-use Rattle.ipam_command.specs.Statuses.{code_of, code_of_gen, code_of_play}
+use Rattle.ipam_commands.specs.Statuses.{code_of}
+use Rattle.ipam_command.specs.Statuses.{code_of_gen, code_of_play}
 
 -- what is done of what is asked
 pub asked : (env : List Pair) (one other : Option Asked) (old new : Outside) (status : ℕ) → one ≡ other → Does env other old new status → Does env one old new status

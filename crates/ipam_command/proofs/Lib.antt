@@ -1,4 +1,3 @@
 pub mod DoLemmas
 pub mod WordLemmas
-pub mod ShortCalls
 pub mod CallLemmas

@@ -33,7 +33,8 @@ use Rattle.ipam_cni.specs.Calls as cni
 use Rattle.ipam_cni.specs.Ends as cni_ends
 use Rattle.ipam_command.specs.CniCalls.{IsCallByRecords, LeavesWhatIsSpared, TellsOfAdd}
 use Rattle.ipam_command.specs.Outside.{LeavesKeeper, LeavesSource, Outside, sides_of}
-use Rattle.ipam_command.specs.Statuses.{code_of, code_of_gen, code_of_play}
+use Rattle.ipam_commands.specs.Statuses.{code_of}
+use Rattle.ipam_command.specs.Statuses.{code_of_gen, code_of_play}
 
 -- ---- words that name no command
 

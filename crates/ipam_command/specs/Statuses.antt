@@ -1,22 +1,9 @@
--- The statuses that the program ends with.
+-- The statuses that the program ends with where it played or generated.
 use Rattle.std.specs.Prelude.{ℕ}
-use Rattle.ipam_commands.specs.declared.status.Status.{Status}
-use Rattle.ipam_commands.specs.declared.status.Status.TheVariants as status
 use Rattle.ipam_gen.specs.declared.end.GenEnd.{GenEnd}
 use Rattle.ipam_gen.specs.declared.end.GenEnd.TheVariants as gen
 use Rattle.ipam_play_run.specs.declared.end.PlayEnd.{PlayEnd}
 use Rattle.ipam_play_run.specs.declared.end.PlayEnd.TheVariants as play
-
-abbrev pub code_of : Status → ℕ
-code_of status.Done = 0
-code_of status.Refused = 1
-code_of status.UnknownWords = 2
-code_of status.ReadFault = 3
-code_of status.WriteFault = 4
-code_of status.KeeperFault = 5
-code_of status.NoMemory = 6
-code_of status.BrokenRows = 7
-code_of status.LineRefused = 8
 
 abbrev pub code_of_play : PlayEnd → ℕ
 code_of_play play.Done = 0

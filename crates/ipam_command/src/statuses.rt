@@ -1,6 +1,7 @@
 //! The statuses that the program ends with.
 ghost use Rattle.std.specs.Prelude.{◌≡◌};
-ghost use Rattle.ipam_command.specs.Statuses.{code_of, code_of_gen, code_of_play};
+ghost use Rattle.ipam_commands.specs.Statuses.{code_of};
+ghost use Rattle.ipam_command.specs.Statuses.{code_of_gen, code_of_play};
 
 use ipam_commands::Status;
 use ipam_gen::GenEnd;

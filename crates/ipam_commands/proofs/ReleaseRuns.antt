@@ -26,7 +26,8 @@ use Rattle.ipam_commands.specs.declared.outcome.ReleaseOutcome.{ReleaseOutcome}
 use Rattle.ipam_commands.specs.declared.outcome.ReleaseOutcome.TheVariants as outcome
 use Rattle.ipam_commands.specs.Courses.{AreRowsOf, opened}
 use Rattle.ipam_commands.specs.Releasing.{IsRelease, ReleaseEnds, ReleaseRuns, outcome_of}
-use Rattle.ipam_commands.proofs.CourseRuns.{fault-course, stop-course}
+use Rattle.ipam_solo.proofs.Courses.{fault-course}
+use Rattle.ipam_commands.proofs.CourseRuns.{stop-course}
 
 -- ---- what an answer comes to
 

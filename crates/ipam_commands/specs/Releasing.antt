@@ -14,7 +14,8 @@ use Rattle.ipam_commands.specs.declared.outcome.ReleaseOutcome.{ReleaseOutcome}
 use Rattle.ipam_commands.specs.declared.outcome.ReleaseOutcome.TheVariants as outcome
 use Rattle.ipam_commands.specs.declared.status.Status.{Status}
 use Rattle.ipam_commands.specs.declared.status.Status.TheVariants as status
-use Rattle.ipam_commands.specs.Courses.{AreRowsOf, IsFaultCourse, IsStopCourse, opened}
+use Rattle.ipam_solo.specs.Courses.{IsFaultCourse}
+use Rattle.ipam_commands.specs.Courses.{AreRowsOf, IsStopCourse, opened}
 use Rattle.ipam_commands.specs.Telling.{AreBroken, AreOpened, FaultWrites}
 
 -- ---- what a release comes to

@@ -66,7 +66,7 @@ only x y (k, below, is) =
     let first : k ≡ 0 = omega arith in
     sym is ∙ ap (λ n. get_or (x ∷ []) n y) first
 
-consistent : IsConsistent base.store
+pub consistent : IsConsistent base.store
 unfolding base IsStrictlySortedBy
 consistent = record {
   sound = record {

@@ -9,7 +9,7 @@ use Rattle.ipam_laws.proofs.StandsFor.{entries-are}
 use Rattle.ipam_cluster.specs.declared.cluster.Cluster.{Cluster}
 use Rattle.ipam_cluster.specs.Cluster.{StandsFor, Stood}
 use Rattle.ipam_gen.specs.declared.counted.Counted.{Counted}
-use Rattle.ipam_gen.specs.Counted.{Adds, HappensAs, IsCounted, IsSomewhere}
+use Rattle.ipam_gen.specs.Counted.{Adds, CountsOne, HappensAs, IsCounted, IsSomewhere}
 use Rattle.ipam_gen.specs.Requests.{base}
 use Rattle.ipam_gen.specs.Summary.{again_count, answer_told, exhausted_count, is_again, is_exhausted}
 
@@ -30,18 +30,31 @@ entries-length counted history h =
     h.stands.is_cluster.entries ∙ all ∙ zero-add (length history)
 
 -- no more answers than entries
-pub few-again : (counted : Counted) → IsSomewhere counted → counted.again ≤ counted.cluster.entries
+few-again : (counted : Counted) → IsSomewhere counted → counted.again ≤ counted.cluster.entries
 few-again counted (history, h) =
     let all = entries-length counted history h in
     let few = count_by-le-length (λ (new : Entry). is_again (answer_told new)) history in
     let is = h.again in
     omega arith
 
-pub few-exhausted : (counted : Counted) → IsSomewhere counted → counted.exhausted ≤ counted.cluster.entries
+few-exhausted : (counted : Counted) → IsSomewhere counted → counted.exhausted ≤ counted.cluster.entries
 few-exhausted counted (history, h) =
     let all = entries-length counted history h in
     let few = count_by-le-length (λ (new : Entry). is_exhausted (answer_told new)) history in
     let is = h.exhausted in
+    omega arith
+
+-- so there is room for one answer more
+pub room-again : (counted : Counted) (new : Cluster) → IsSomewhere counted → CountsOne counted.cluster new → counted.again < 2 ^ 63
+room-again counted new there one =
+    let few = few-again counted there in
+    let room = one.few in
+    omega arith
+
+pub room-exhausted : (counted : Counted) (new : Cluster) → IsSomewhere counted → CountsOne counted.cluster new → counted.exhausted < 2 ^ 63
+room-exhausted counted new there one =
+    let few = few-exhausted counted there in
+    let room = one.few in
     omega arith
 
 pub happens : (old new : Counted) (mid : Cluster) (event : Event) (made : Entry) → new.cluster ≡ mid → Adds old.cluster mid event made

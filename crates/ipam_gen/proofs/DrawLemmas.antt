@@ -1,6 +1,5 @@
 -- How far the draws have come.
-use Rattle.std.specs.Prelude.{if◌then◌else◌}
-use Rattle.std.proofs.Common.{◌≡◌, Bool, true, false, ℕ, ◌+◌, ◌<◌, ◌≤◌, List, [], ◌∷◌, Option, Some, None, refl, sym, ap, ◌∙◌, subst, arith}
+use Rattle.std.proofs.Common.{◌≡◌, ℕ, ◌+◌, ◌<◌, ◌≤◌, List, [], ◌∷◌, Option, Some, None, refl, sym, ap, ◌∙◌, subst, arith}
 use Rattle.ipam_model.specs.declared.entry.Entry.{Entry}
 use Rattle.ipam_model.specs.declared.entry.Fate.TheVariants.{Well}
 use Rattle.ipam_model.specs.declared.entry.SlotState.TheVariants as state
@@ -12,6 +11,7 @@ use Rattle.ipam_running.specs.declared.running.Running.{Running}
 use Rattle.ipam_cluster.specs.declared.cluster.Cluster.{Cluster}
 use Rattle.ipam_cluster.specs.Cluster.{IsSlot, StandsFor, slot_of, state_in}
 use Rattle.ipam_cluster.proofs.Adding.{none_there}
+use Rattle.ipam_cluster.proofs.Waiting.{not-idle}
 use Rattle.ipam_gen.specs.declared.counted.Counted.{Counted}
 use Rattle.ipam_gen.specs.Counted.{Happens, HappensAs, IsCounted, IsDrawing, IsNoCollection, IsPlain, IsSomewhere}
 use Rattle.ipam_gen.specs.Draws.{next_state}
@@ -25,10 +25,6 @@ use Rattle.ipam_gen.proofs.RunLemmas.{begin-runs, never-waits, none-run, turn-ru
 
 pub idle-there : (counted : Counted) (history : List Entry) (slot : ℕ) → IsCounted counted history → slot_of counted.cluster slot ≡ None → slot_at history slot ≡ None
 idle-there counted history slot h idle = none_there (slot_of counted.cluster slot) (slot_at history slot) (h.stands.is_cluster.slots slot) idle
-
-not-idle : (b : Bool) → (if b then state.Waiting else state.Running) ≡ state.Idle → ⊥
-not-idle true e = cc e
-not-idle false e = cc e
 
 pub idle-state : (held : Option Running) → state_in held ≡ state.Idle → held ≡ None
 idle-state None is = refl

@@ -1,5 +1,5 @@
 -- Which requests run.
-use Rattle.std.proofs.Common.{◌≡◌, ◌<◌, ◌+◌, arith, ℕ, Bool, true, false, List, [], ◌∷◌, Option, Some, None, refl, sym, ap, ◌∙◌, subst}
+use Rattle.std.proofs.Common.{◌≡◌, ℕ, true, false, List, [], ◌∷◌, Option, Some, None, refl, sym, ap, ◌∙◌, subst}
 use Rattle.std.specs.Prelude.{◌==◌, if◌then◌else◌}
 use Rattle.ipam_records.specs.Datastore.{Datastore}
 use Rattle.ipam_records.specs.Word.{waits}
@@ -17,12 +17,12 @@ use Rattle.ipam_model.specs.Course.{Event, Begin, Turn, Feed, Stop, Restart}
 use Rattle.ipam_model.specs.CourseLaw.{event_of}
 use Rattle.ipam_model.specs.History.{cluster_at}
 use Rattle.ipam_model.specs.Requests.{word_of}
-use Rattle.ipam_collect.specs.declared.collect.Grace.{Grace}
 use Rattle.ipam_collect.specs.Collect.{grace_asked}
 use Rattle.ipam_running.specs.declared.running.Running.{Running}
 use Rattle.ipam_running.specs.Running.{running_rest, running_grace, grace_of}
 use Rattle.ipam_running.proofs.StillLemmas.{waits_with}
 use Rattle.ipam_cluster.specs.declared.cluster.Cluster.{Cluster}
+use Rattle.ipam_cluster.proofs.Waiting.{asks-times, is-waiting}
 use Rattle.ipam_cluster.specs.Cluster.{IsSlot, StandsFor, WaitsWith, grace_in, slot_of, state_in}
 use Rattle.ipam_gen.specs.Counted.{AllRun, IfRuns, IsAtOnce, IsNoCollection}
 use Rattle.ipam_gen.specs.Generated.{slot_at}
@@ -98,21 +98,6 @@ all-at-once history all slot = by (slot_at history slot) (all slot)
 
 -- ---- what waits
 
-is-waiting : (b : Bool) → (if b then state.Waiting else state.Running) ≡ state.Waiting → b ≡ true
-is-waiting true e = refl
-is-waiting false e = cc e
-
--- only a collection has times
-asks-times : (request : Request) (grace : Grace) → grace_of request ≡ Some grace → (c : CollectRequest) × (request ≡ Collect c)
-asks-times (Collect c) grace e = (c, refl)
-asks-times (Add add) grace e = absurd (cc e)
-asks-times (AddThis add address) grace e = absurd (cc e)
-asks-times (Del id) grace e = absurd (cc e)
-asks-times (Check id addresses) grace e = absurd (cc e)
-asks-times (Release node cidr) grace e = absurd (cc e)
-asks-times (Admin change) grace e = absurd (cc e)
-asks-times (Probe probe) grace e = absurd (cc e)
-
 -- a collection waits there
 record Waits (held : Option Running) (one : Option model.Running) : Type 0 where
   running : model.Running
@@ -158,18 +143,3 @@ waits-at-once cluster history slot stands all waiting =
   where
     times : (c : CollectRequest) → (c.at ≡ 0) × (c.grace ≡ 0) → Some (grace_asked c) ≡ Some (record { at = 0; grace = 0 })
     times c zero = ap (λ n. Some (record { at = n; grace = c.grace })) zero.0 ∙ ap (λ n. Some (record { at = 0; grace = n })) zero.1
-
-zero-late : (one other : Grace) → one ≡ other → one.at ≡ 0 → one.grace ≡ 0 → 0 < other.at + other.grace → ⊥
-zero-late one other same at grace early =
-    let first : one.at ≡ other.at = ap (λ (g : Grace). g.at) same in
-    let second : one.grace ≡ other.grace = ap (λ (g : Grace). g.grace) same in
-    absurd (omega arith)
-
-injected : (one other : Grace) → Some one ≡ Some other → one ≡ other
-injected one other e = cc e
-
--- so its list is not too early
-pub never-early : (held : Option Running) (since grace : ℕ) → WaitsWith held (record { at = 0; grace = 0 }) → WaitsWith held (record { at = since; grace = grace }) × (0 < since + grace) → ⊥
-never-early held since grace own early =
-    zero-late (record { at = 0; grace = 0 }) (record { at = since; grace = grace })
-    (injected (record { at = 0; grace = 0 }) (record { at = since; grace = grace }) (sym own.1 ∙ early.0.1)) refl refl early.1

@@ -4,3 +4,4 @@ pub mod ReadsBack
 pub mod Constructors
 pub mod Prefixes
 pub mod Utf8Texts
+pub mod Floatless

@@ -119,28 +119,8 @@ writes-key : (own : Call) (said : Said) (done : Write) → write_granted own sai
 writes-key (call.Create new) (Can revision) done e = subst (λ (w : Write). WritesKeyOf (texts_written w) (name_of (call.Create new))) (let same : write.Put revision new ≡ done = cc e in same) (record { key = key_of new; called = refl; own = refl })
 writes-key (call.Update new seen) (Can revision) done e = subst (λ (w : Write). WritesKeyOf (texts_written w) (name_of (call.Update new seen))) (let same : write.Put revision new ≡ done = cc e in same) (record { key = key_of new; called = refl; own = refl })
 writes-key (call.Delete key seen) (Can revision) done e = subst (λ (w : Write). WritesKeyOf (texts_written w) (name_of (call.Delete key seen))) (let same : write.Remove revision key ≡ done = cc e in same) (record { key = key; called = refl; own = refl })
-writes-key (call.Get key) said done e = absurd (reads said e)
-  where
-    reads : (s : Said) → write_granted (call.Get key) s ≡ Some done → ⊥
-    reads (Can revision) e = cc e
-    reads (Found revision found) e = cc e
-    reads Missing e = cc e
-    reads (Listed rows) e = cc e
-    reads (Exists revision) e = cc e
-    reads (Conflict revision) e = cc e
-    reads Full e = cc e
-    reads Spent e = cc e
-writes-key (call.List kind) said done e = absurd (reads said e)
-  where
-    reads : (s : Said) → write_granted (call.List kind) s ≡ Some done → ⊥
-    reads (Can revision) e = cc e
-    reads (Found revision found) e = cc e
-    reads Missing e = cc e
-    reads (Listed rows) e = cc e
-    reads (Exists revision) e = cc e
-    reads (Conflict revision) e = cc e
-    reads Full e = cc e
-    reads Spent e = cc e
+writes-key (call.Get key) (Can revision) done e = absurd (cc e)
+writes-key (call.List kind) (Can revision) done e = absurd (cc e)
 writes-key own (Found revision found) done e = absurd (cc e)
 writes-key own Missing done e = absurd (cc e)
 writes-key own (Listed rows) done e = absurd (cc e)

@@ -10,7 +10,7 @@ use std::alloc::{AllocError, Global};
 use std::marker::Model;
 
 // How many bytes a read asks for.
-const CHUNK: usize = 4096;
+pub(crate) const CHUNK: usize = 4096;
 
 /// What comes next.
 #[derive(Debug, PartialEq, Eq, Drop)]

@@ -13,7 +13,7 @@ use Rattle.ipam_model.specs.declared.entry.Entry.TheVariants as entry
 use Rattle.ipam_model.specs.declared.entry.Told.TheVariants as told
 use Rattle.ipam_model.specs.Course.{Begin}
 use Rattle.ipam_model.specs.History.{Base}
-use Rattle.ipam_model_runs.specs.Setting.{v4, v4_range, slot0, pool_row, pool, base_of, block_of, affinity_of, handle_of, held, queue4, add, add_this, turns, did, did_read, get_handle, created, updated, scan_from, given, goes}
+use Rattle.ipam_model_runs.specs.Setting.{v4, v4_range, slot0, pool_row, pool, base_of, block_of, affinity_of, handle_of, held, queue4, add, add_this, turns, did, did_read, get_handle, created, updated, scan_from, given, goes, three_reads}
 
 -- the first of two blocks is a's and full, the second b's with its first address held
 abbrev pub full : CidrValue
@@ -68,10 +68,7 @@ abbrev pub StrictAddOfOne : Type 0
 StrictAddOfOne = goes (two_blocks true)
     (Begin 0 (add_this (codes "n.c1") (codes "a") (v4 3)) ∷ turns 0 3)
     (entry.Began 0 (add_this (codes "n.c1") (codes "a") (v4 3))
-    ∷ did_read 0 (name.Get key.Config) (told.Found 2)
-    ∷ did_read 0 (name.Get key.Pools) (told.Found 1)
-    ∷ did 0 (name.Get (key.Block with_room)) (told.Found 8) None (Some (answer.NotAffine with_room 3))
-    ∷ [])
+    ∷ three_reads 0 (told.Found 2) with_room (told.Found 8) (Some (answer.NotAffine with_room 3)))
 
 -- an empty block without affinity, where no block may be allocated
 abbrev pub bare_block : Base

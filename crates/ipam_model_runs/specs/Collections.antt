@@ -15,7 +15,7 @@ use Rattle.ipam_model.specs.declared.request.Request.{Request}
 use Rattle.ipam_model.specs.declared.request.Request.TheVariants.{Del, Collect}
 use Rattle.ipam_model.specs.Course.{Event, Begin, Feed, NotWaiting, TooSoon, Waiting}
 use Rattle.ipam_model.specs.History.{Base}
-use Rattle.ipam_model_runs.specs.Setting.{v4, slot0, pool_row, base_of, held_base, block_of, affinity_of, handle_of, held, add_this, turns, did, did_read, get_block, get_handle, created, updated, deleted, given_this, goes, stops}
+use Rattle.ipam_model_runs.specs.Setting.{v4, slot0, pool_row, base_of, held_base, block_of, affinity_of, handle_of, held, add_this, turns, did, get_block, get_handle, created, updated, deleted, given_this, goes, stops, three_reads}
 
 abbrev pub collection : (at grace : ℕ) → (scope : Option (List ℕ × List ℕ)) → Request
 collection at grace scope = Collect (record { live = []; at = at; grace = grace; scope = scope })
@@ -101,10 +101,8 @@ given_again moment =
     ∷ get_handle 1 (codes "n.c1") (told.Found 4)
     ∷ deleted 1 (key.Handle (codes "n.c1")) 4 6 (Some (answer.Deleted (moment + 1)))
     ∷ entry.Began 1 (add_this (codes "n.c1") (codes "a") (v4 0))
-    ∷ did_read 1 (name.Get key.Config) told.Missing
-    ∷ did_read 1 (name.Get key.Pools) (told.Found 1)
-    ∷ get_block 1 slot0 (told.Found 5)
-    ∷ get_handle 1 (codes "n.c1") told.Missing
+    ∷ three_reads 1 told.Missing slot0 (told.Found 5) None
+    ++ get_handle 1 (codes "n.c1") told.Missing
     ∷ created 1 (key.Handle (codes "n.c1")) 7 (handle_of (codes "n.c1") slot0 1) None
     ∷ updated 1 (key.Block slot0) 5 8
     (block_of slot0 (Some (codes "a")) (held 0 (codes "n.c1") 3 ∷ []) (1 ∷ 2 ∷ 3 ∷ []) 3)

@@ -16,7 +16,7 @@ use Rattle.ipam_model.specs.Course.{Event, Begin}
 use Rattle.ipam_model.specs.History.{Base}
 use Rattle.ipam_model.specs.Owners.{owners}
 use Rattle.ipam_model.specs.Reads.{Row}
-use Rattle.ipam_model_runs.specs.Setting.{v4, v4_range, slot0, pool, ready_base, base_of, block_of, affinity_of, handle_of, queue4, held, add_request, add_this, turns, did, did_read, get_block, get_handle, created, updated, deleted, five_reads, scan_from, given, given_this, goes, store_behind}
+use Rattle.ipam_model_runs.specs.Setting.{v4, v4_range, slot0, pool, ready_base, base_of, block_of, affinity_of, handle_of, queue4, held, add_request, add_this, turns, did, get_block, get_handle, created, updated, five_reads, scan_from, given, given_this, goes, store_behind, first_given, first_freed, three_reads}
 
 abbrev pub add_both : Request
 add_both = Add (record (add_request (codes "n.c1") (codes "a")) { ipv6 = true })
@@ -29,16 +29,9 @@ abbrev pub SecondFamilyExhausted : Type 0
 SecondFamilyExhausted = goes ready_base both
     (entry.Began 0 add_both
     ∷ five_reads 0 1 1
-    ++ get_handle 0 (codes "n.c1") told.Missing
-    ∷ created 0 (key.Handle (codes "n.c1")) 4 (handle_of (codes "n.c1") slot0 1) None
-    ∷ updated 0 (key.Block slot0) 3 5
-    (block_of slot0 (Some (codes "a")) (held 0 (codes "n.c1") 1 ∷ []) (1 ∷ 2 ∷ 3 ∷ []) 1) None
-    ∷ five_reads 0 1 1
-    ++ get_block 0 slot0 (told.Found 5)
-    ∷ updated 0 (key.Block slot0) 5 6 (block_of slot0 (Some (codes "a")) [] (1 ∷ 2 ∷ 3 ∷ 0 ∷ []) 2) None
-    ∷ get_handle 0 (codes "n.c1") (told.Found 4)
-    ∷ deleted 0 (key.Handle (codes "n.c1")) 4 7 (Some (answer.Exhausted (scan_from V6 9)))
-    ∷ [])
+    ++ first_given 0 None
+    ++ five_reads 0 1 1
+    ++ first_freed 0 (answer.Exhausted (scan_from V6 9)))
 
 abbrev pub NoOwnerIsLeft : Type 0
 NoOwnerIsLeft = owners (store_behind ready_base both) ≡ []
@@ -53,21 +46,13 @@ GivenAgainBeforeTheSecond = goes ready_base
     ++ turns 0 6)
     (entry.Began 0 add_both
     ∷ five_reads 0 1 1
-    ++ get_handle 0 (codes "n.c1") told.Missing
-    ∷ created 0 (key.Handle (codes "n.c1")) 4 (handle_of (codes "n.c1") slot0 1) None
-    ∷ updated 0 (key.Block slot0) 3 5
-    (block_of slot0 (Some (codes "a")) (held 0 (codes "n.c1") 1 ∷ []) (1 ∷ 2 ∷ 3 ∷ []) 1) None
-    ∷ entry.Began 1 (Del (codes "n.c1"))
+    ++ first_given 0 None
+    ++ entry.Began 1 (Del (codes "n.c1"))
     ∷ get_handle 1 (codes "n.c1") (told.Found 4)
-    ∷ get_block 1 slot0 (told.Found 5)
-    ∷ updated 1 (key.Block slot0) 5 6 (block_of slot0 (Some (codes "a")) [] (1 ∷ 2 ∷ 3 ∷ 0 ∷ []) 2) None
-    ∷ get_handle 1 (codes "n.c1") (told.Found 4)
-    ∷ deleted 1 (key.Handle (codes "n.c1")) 4 7 (Some (answer.Deleted 10))
-    ∷ entry.Began 1 (add_this (codes "n.c1") (codes "a") (v4 0))
-    ∷ did_read 1 (name.Get key.Config) told.Missing
-    ∷ did_read 1 (name.Get key.Pools) (told.Found 1)
-    ∷ get_block 1 slot0 (told.Found 6)
-    ∷ get_handle 1 (codes "n.c1") told.Missing
+    ∷ first_freed 1 (answer.Deleted 10)
+    ++ entry.Began 1 (add_this (codes "n.c1") (codes "a") (v4 0))
+    ∷ three_reads 1 told.Missing slot0 (told.Found 6) None
+    ++ get_handle 1 (codes "n.c1") told.Missing
     ∷ created 1 (key.Handle (codes "n.c1")) 8 (handle_of (codes "n.c1") slot0 1) None
     ∷ updated 1 (key.Block slot0) 6 9
     (block_of slot0 (Some (codes "a")) (held 0 (codes "n.c1") 3 ∷ []) (1 ∷ 2 ∷ 3 ∷ []) 3)
@@ -87,16 +72,9 @@ SecondFamilyUnknown = goes ready_base
     (Begin 0 add_unknown ∷ turns 0 17)
     (entry.Began 0 add_unknown
     ∷ five_reads 0 1 1
-    ++ get_handle 0 (codes "n.c1") told.Missing
-    ∷ created 0 (key.Handle (codes "n.c1")) 4 (handle_of (codes "n.c1") slot0 1) None
-    ∷ updated 0 (key.Block slot0) 3 5
-    (block_of slot0 (Some (codes "a")) (held 0 (codes "n.c1") 1 ∷ []) (1 ∷ 2 ∷ 3 ∷ []) 1) None
-    ∷ five_reads 0 1 1
-    ++ get_block 0 slot0 (told.Found 5)
-    ∷ updated 0 (key.Block slot0) 5 6 (block_of slot0 (Some (codes "a")) [] (1 ∷ 2 ∷ 3 ∷ 0 ∷ []) 2) None
-    ∷ get_handle 0 (codes "n.c1") (told.Found 4)
-    ∷ deleted 0 (key.Handle (codes "n.c1")) 4 7 (Some (answer.NoPool (codes "x") 10))
-    ∷ [])
+    ++ first_given 0 None
+    ++ five_reads 0 1 1
+    ++ first_freed 0 (answer.NoPool (codes "x") 10))
 
 -- ---- IPv6
 

@@ -12,18 +12,13 @@ use Rattle.ipam_model.specs.declared.entry.Entry.TheVariants as entry
 use Rattle.ipam_model.specs.declared.entry.Told.TheVariants as told
 use Rattle.ipam_model.specs.Course.{Event, Begin, Idle}
 use Rattle.ipam_model.specs.History.{Base}
-use Rattle.ipam_model_runs.specs.Setting.{v4, slot0, ready_base, base_of, pool, block_of, affinity_of, handle_of, held, queue4, add, turns, did, get_handle, created, updated, five_reads, scan_from, given, goes, stops, run, excerpt}
+use Rattle.ipam_model_runs.specs.Setting.{v4, slot0, ready_base, base_of, pool, block_of, affinity_of, held, queue4, add, turns, did, updated, five_reads, scan_from, given, goes, stops, run, excerpt, first_given}
 
 abbrev pub first_entries : List Entry
 first_entries =
     entry.Began 0 (add (codes "n.c1") (codes "a"))
     ∷ five_reads 0 1 1
-    ++ get_handle 0 (codes "n.c1") told.Missing
-    ∷ created 0 (key.Handle (codes "n.c1")) 4 (handle_of (codes "n.c1") slot0 1) None
-    ∷ updated 0 (key.Block slot0) 3 5
-    (block_of slot0 (Some (codes "a")) (held 0 (codes "n.c1") 1 ∷ []) (1 ∷ 2 ∷ 3 ∷ []) 1)
-    (Some (given (v4 0) 1 8))
-    ∷ []
+    ++ first_given 0 (Some (given (v4 0) 1 8))
 
 -- The ADD takes the first address of the node's own block.
 abbrev pub FirstRun : Type 0

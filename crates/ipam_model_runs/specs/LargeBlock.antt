@@ -5,13 +5,12 @@ use Rattle.ipam_addr.specs.Shape.{CidrValue}
 use Rattle.ipam_affinity.specs.declared.state.State.TheVariants.{Pending, Confirmed}
 use Rattle.ipam_records.specs.declared.key.Key.TheVariants as key
 use Rattle.ipam_records.specs.declared.record.Record.TheVariants as record_of
-use Rattle.ipam_model.specs.declared.entry.CallName.TheVariants as name
 use Rattle.ipam_model.specs.declared.entry.Entry.TheVariants as entry
 use Rattle.ipam_model.specs.declared.entry.Told.TheVariants as told
 use Rattle.ipam_model.specs.Course.{Event, Begin}
 use Rattle.ipam_model.specs.History.{Base}
 use Rattle.ipam_model.specs.Owners.{owners}
-use Rattle.ipam_model_runs.specs.Setting.{v4, v4_range, pool, base_of, block_of, affinity_of, handle_of, held, add, add_this, turns, did_read, get_block, get_affinity, get_handle, created, updated, five_reads, given, given_this, goes, store_behind}
+use Rattle.ipam_model_runs.specs.Setting.{v4, v4_range, pool, base_of, block_of, affinity_of, handle_of, held, add, add_this, turns, get_affinity, get_handle, created, updated, five_reads, given, given_this, goes, store_behind, three_reads}
 
 abbrev pub large : CidrValue
 large = v4_range 0 20
@@ -41,10 +40,8 @@ FirstAndLast = goes large_base first_and_last
     (block_of large (Some (codes "a")) (held 0 (codes "n.c1") 1 ∷ []) (range_with_len 1 4095) 1)
     (Some (given (v4 0) 10 17))
     ∷ entry.Began 0 (add_this (codes "n.c2") (codes "a") (v4 4095))
-    ∷ did_read 0 (name.Get key.Config) told.Missing
-    ∷ did_read 0 (name.Get key.Pools) (told.Found 1)
-    ∷ get_block 0 large (told.Found 6)
-    ∷ get_handle 0 (codes "n.c2") told.Missing
+    ∷ three_reads 0 told.Missing large (told.Found 6) None
+    ++ get_handle 0 (codes "n.c2") told.Missing
     ∷ created 0 (key.Handle (codes "n.c2")) 7 (handle_of (codes "n.c2") large 1) None
     ∷ updated 0 (key.Block large) 6 8
     (block_of large (Some (codes "a")) (held 0 (codes "n.c1") 1 ∷ held 4095 (codes "n.c2") 2 ∷ [])

@@ -19,8 +19,8 @@ use Rattle.ipam_model.specs.declared.request.Request.{Request}
 use Rattle.ipam_model.specs.declared.request.Request.TheVariants.{Admin}
 use Rattle.ipam_model.specs.Course.{Begin}
 use Rattle.ipam_model.specs.History.{Base}
-use Rattle.ipam_model_runs.specs.Setting.{v4, v4_range, slot0, pool, ready_base, base_of, block_of, affinity_of, handle_of, held, queue4, add, add_this, turns, did, did_read, get_block, get_handle, created, updated, scan_from, given_this, goes}
-use Rattle.ipam_model_runs.specs.Probes.{probe}
+use Rattle.ipam_model_runs.specs.Setting.{v4, v4_range, slot0, pool, ready_base, base_of, block_of, affinity_of, queue4, add, add_this, turns, did, did_read, updated, scan_from, given_this, goes, three_reads, second_given}
+use Rattle.ipam_model_runs.specs.Probes.{ProbedOver}
 
 abbrev pub manual : Pool
 manual = record (pool (codes "p") (v4_range 0 29) 30) { mode = Manual }
@@ -34,15 +34,7 @@ manual_base = base_of
     ∷ []) 3
 
 abbrev pub Probed : (pools : List (List ℕ)) → Answer → Type 0
-Probed pools answer = goes manual_base
-    (Begin 0 (probe (codes "a") pools) ∷ turns 0 5)
-    (entry.Began 0 (probe (codes "a") pools)
-    ∷ did_read 0 (name.Get key.Config) told.Missing
-    ∷ did_read 0 (name.Get key.Pools) (told.Found 1)
-    ∷ did_read 0 (name.Get key.Reservations) told.Missing
-    ∷ did_read 0 (name.List kind.Affinity) (told.Listed 1)
-    ∷ did 0 (name.List kind.Block) (told.Listed 1) None (Some answer)
-    ∷ [])
+Probed pools answer = ProbedOver manual_base (codes "a") pools answer
 
 abbrev pub ProbeOfNone : Type 0
 ProbeOfNone = Probed [] (answer.Exhausted (scan_from V4 1))
@@ -54,15 +46,8 @@ abbrev pub OneAddressGiven : Type 0
 OneAddressGiven = goes manual_base
     (Begin 0 (add_this (codes "n.c1") (codes "a") (v4 1)) ∷ turns 0 6)
     (entry.Began 0 (add_this (codes "n.c1") (codes "a") (v4 1))
-    ∷ did_read 0 (name.Get key.Config) told.Missing
-    ∷ did_read 0 (name.Get key.Pools) (told.Found 1)
-    ∷ get_block 0 slot0 (told.Found 3)
-    ∷ get_handle 0 (codes "n.c1") told.Missing
-    ∷ created 0 (key.Handle (codes "n.c1")) 4 (handle_of (codes "n.c1") slot0 1) None
-    ∷ updated 0 (key.Block slot0) 3 5
-    (block_of slot0 (Some (codes "a")) (held 1 (codes "n.c1") 1 ∷ []) (0 ∷ 2 ∷ 3 ∷ []) 1)
-    (Some (given_this (v4 1) 1 6))
-    ∷ [])
+    ∷ three_reads 0 told.Missing slot0 (told.Found 3) None
+    ++ second_given 0 (codes "n.c1") 4 (given_this (v4 1) 1 6))
 
 abbrev pub making_manual : Request
 making_manual = Admin (change.Pool manual)

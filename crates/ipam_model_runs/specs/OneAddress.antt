@@ -1,5 +1,5 @@
 -- ADDs of one address.
-use Rattle.std.specs.Prelude.{true, false, [], ◌∷◌, Some, None, codes}
+use Rattle.std.specs.Prelude.{true, false, [], ◌∷◌, ◌++◌, Some, None, codes}
 use Rattle.ipam_affinity.specs.declared.state.State.TheVariants.{Pending, Confirmed}
 use Rattle.ipam_records.specs.declared.key.Key.TheVariants as key
 use Rattle.ipam_records.specs.declared.record.Record.TheVariants as record_of
@@ -10,17 +10,14 @@ use Rattle.ipam_model.specs.declared.entry.Told.TheVariants as told
 use Rattle.ipam_model.specs.Course.{Begin}
 use Rattle.ipam_model.specs.History.{Base}
 use Rattle.ipam_model.specs.Reads.{Row}
-use Rattle.ipam_model_runs.specs.Setting.{v4, slot0, slot1, pool_row, held_base, base_of, block_of, affinity_of, handle_of, held, queue4, add_this, turns, did, did_read, get_block, get_affinity, get_handle, created, updated, given_this, goes}
+use Rattle.ipam_model_runs.specs.Setting.{v4, slot0, slot1, pool_row, held_base, base_of, block_of, affinity_of, handle_of, held, queue4, add_this, turns, did, did_read, get_affinity, get_handle, created, updated, given_this, goes, three_reads, second_given}
 
 -- the address is held, and the holder is told
 abbrev pub TakenAddress : Type 0
 TakenAddress = goes held_base
     (Begin 0 (add_this (codes "n.c2") (codes "a") (v4 0)) ∷ turns 0 3)
     (entry.Began 0 (add_this (codes "n.c2") (codes "a") (v4 0))
-    ∷ did_read 0 (name.Get key.Config) told.Missing
-    ∷ did_read 0 (name.Get key.Pools) (told.Found 1)
-    ∷ did 0 (name.Get (key.Block slot0)) (told.Found 3) None (Some (answer.Taken (codes "n.c1") 3))
-    ∷ [])
+    ∷ three_reads 0 told.Missing slot0 (told.Found 3) (Some (answer.Taken (codes "n.c1") 3)))
 
 abbrev pub AddressInNoPool : Type 0
 AddressInNoPool = goes held_base
@@ -44,15 +41,8 @@ abbrev pub ReservedAddress : Type 0
 ReservedAddress = goes reserved_base
     (Begin 0 (add_this (codes "n.c1") (codes "a") (v4 1)) ∷ turns 0 6)
     (entry.Began 0 (add_this (codes "n.c1") (codes "a") (v4 1))
-    ∷ did_read 0 (name.Get key.Config) told.Missing
-    ∷ did_read 0 (name.Get key.Pools) (told.Found 1)
-    ∷ get_block 0 slot0 (told.Found 3)
-    ∷ get_handle 0 (codes "n.c1") told.Missing
-    ∷ created 0 (key.Handle (codes "n.c1")) 5 (handle_of (codes "n.c1") slot0 1) None
-    ∷ updated 0 (key.Block slot0) 3 6
-    (block_of slot0 (Some (codes "a")) (held 1 (codes "n.c1") 1 ∷ []) (0 ∷ 2 ∷ 3 ∷ []) 1)
-    (Some (given_this (v4 1) 1 6))
-    ∷ [])
+    ∷ three_reads 0 told.Missing slot0 (told.Found 3) None
+    ++ second_given 0 (codes "n.c1") 5 (given_this (v4 1) 1 6))
 
 -- the node has its one block, and none may be allocated
 abbrev pub bounded_base : Base
@@ -68,17 +58,13 @@ abbrev pub ClaimedForOneAddress : Type 0
 ClaimedForOneAddress = goes bounded_base
     (Begin 0 (add_this (codes "n.c1") (codes "a") (v4 5)) ∷ turns 0 13)
     (entry.Began 0 (add_this (codes "n.c1") (codes "a") (v4 5))
-    ∷ did_read 0 (name.Get key.Config) (told.Found 4)
-    ∷ did_read 0 (name.Get key.Pools) (told.Found 1)
-    ∷ get_block 0 slot1 told.Missing
-    ∷ get_affinity 0 (codes "a") slot1 told.Missing
+    ∷ three_reads 0 (told.Found 4) slot1 told.Missing None
+    ++ get_affinity 0 (codes "a") slot1 told.Missing
     ∷ created 0 (key.Affinity (codes "a") slot1) 5 (affinity_of (codes "a") slot1 Pending) None
     ∷ created 0 (key.Block slot1) 6 (block_of slot1 (Some (codes "a")) [] queue4 0) None
     ∷ updated 0 (key.Affinity (codes "a") slot1) 5 7 (affinity_of (codes "a") slot1 Confirmed) None
-    ∷ did_read 0 (name.Get key.Config) (told.Found 4)
-    ∷ did_read 0 (name.Get key.Pools) (told.Found 1)
-    ∷ get_block 0 slot1 (told.Found 6)
-    ∷ get_handle 0 (codes "n.c1") told.Missing
+    ∷ three_reads 0 (told.Found 4) slot1 (told.Found 6) None
+    ++ get_handle 0 (codes "n.c1") told.Missing
     ∷ created 0 (key.Handle (codes "n.c1")) 8 (handle_of (codes "n.c1") slot1 1) None
     ∷ updated 0 (key.Block slot1) 6 9
     (block_of slot1 (Some (codes "a")) (held 1 (codes "n.c1") 1 ∷ []) (0 ∷ 2 ∷ 3 ∷ []) 1)
@@ -97,17 +83,13 @@ abbrev pub ClaimedFromNobody : Type 0
 ClaimedFromNobody = goes nobodys_base
     (Begin 0 (add_this (codes "n.c1") (codes "a") (v4 1)) ∷ turns 0 13)
     (entry.Began 0 (add_this (codes "n.c1") (codes "a") (v4 1))
-    ∷ did_read 0 (name.Get key.Config) (told.Found 2)
-    ∷ did_read 0 (name.Get key.Pools) (told.Found 1)
-    ∷ get_block 0 slot0 (told.Found 3)
-    ∷ get_affinity 0 (codes "a") slot0 told.Missing
+    ∷ three_reads 0 (told.Found 2) slot0 (told.Found 3) None
+    ++ get_affinity 0 (codes "a") slot0 told.Missing
     ∷ created 0 (key.Affinity (codes "a") slot0) 4 (affinity_of (codes "a") slot0 Pending) None
     ∷ updated 0 (key.Block slot0) 3 5 (block_of slot0 (Some (codes "a")) [] queue4 2) None
     ∷ updated 0 (key.Affinity (codes "a") slot0) 4 6 (affinity_of (codes "a") slot0 Confirmed) None
-    ∷ did_read 0 (name.Get key.Config) (told.Found 2)
-    ∷ did_read 0 (name.Get key.Pools) (told.Found 1)
-    ∷ get_block 0 slot0 (told.Found 5)
-    ∷ get_handle 0 (codes "n.c1") told.Missing
+    ∷ three_reads 0 (told.Found 2) slot0 (told.Found 5) None
+    ++ get_handle 0 (codes "n.c1") told.Missing
     ∷ created 0 (key.Handle (codes "n.c1")) 7 (handle_of (codes "n.c1") slot0 1) None
     ∷ updated 0 (key.Block slot0) 5 8
     (block_of slot0 (Some (codes "a")) (held 1 (codes "n.c1") 3 ∷ []) (0 ∷ 2 ∷ 3 ∷ []) 3)
@@ -127,7 +109,4 @@ abbrev pub NobodysIsNotAffine : Type 0
 NobodysIsNotAffine = goes nobodys_held_base
     (Begin 0 (add_this (codes "n.c1") (codes "a") (v4 1)) ∷ turns 0 3)
     (entry.Began 0 (add_this (codes "n.c1") (codes "a") (v4 1))
-    ∷ did_read 0 (name.Get key.Config) (told.Found 2)
-    ∷ did_read 0 (name.Get key.Pools) (told.Found 1)
-    ∷ did 0 (name.Get (key.Block slot0)) (told.Found 3) None (Some (answer.NotAffine slot0 3))
-    ∷ [])
+    ∷ three_reads 0 (told.Found 2) slot0 (told.Found 3) (Some (answer.NotAffine slot0 3)))

@@ -1,17 +1,14 @@
 -- Probes where the node a has a ready block.
-use Rattle.std.specs.Prelude.{ℕ, true, false, List, [], ◌∷◌, ◌++◌, Some, None, codes}
+use Rattle.std.specs.Prelude.{ℕ, true, false, List, [], ◌∷◌, ◌++◌, Some, codes}
 use Rattle.ipam_addr.specs.declared.address.Family.TheVariants.{V4, V6}
-use Rattle.ipam_records.specs.declared.key.Key.TheVariants as key
-use Rattle.ipam_records.specs.declared.key.Kind.TheVariants as kind
 use Rattle.ipam_model.specs.declared.answer.Answer.{Answer}
 use Rattle.ipam_model.specs.declared.answer.Answer.TheVariants as answer
-use Rattle.ipam_model.specs.declared.entry.CallName.TheVariants as name
 use Rattle.ipam_model.specs.declared.entry.Entry.TheVariants as entry
-use Rattle.ipam_model.specs.declared.entry.Told.TheVariants as told
 use Rattle.ipam_model.specs.declared.request.Request.{Request}
 use Rattle.ipam_model.specs.declared.request.Request.TheVariants.{Probe}
 use Rattle.ipam_model.specs.Course.{Begin}
-use Rattle.ipam_model_runs.specs.Setting.{ready_base, five_reads, turns, did, did_read, scan_from, goes}
+use Rattle.ipam_model.specs.History.{Base}
+use Rattle.ipam_model_runs.specs.Setting.{ready_base, five_reads, turns, scan_from, goes, round_reads}
 
 abbrev pub probe : (node : List ℕ) (pools : List (List ℕ)) → Request
 probe node pools = Probe (record {
@@ -24,16 +21,13 @@ probe node pools = Probe (record {
 })
 
 -- a probe reads five times, and is answered at the last
-abbrev pub Probed : (node : List ℕ) (pools : List (List ℕ)) → Answer → Type 0
-Probed node pools answer = goes ready_base
+abbrev pub ProbedOver : Base → (node : List ℕ) (pools : List (List ℕ)) → Answer → Type 0
+ProbedOver base node pools answer = goes base
     (Begin 0 (probe node pools) ∷ turns 0 5)
-    (entry.Began 0 (probe node pools)
-    ∷ did_read 0 (name.Get key.Config) told.Missing
-    ∷ did_read 0 (name.Get key.Pools) (told.Found 1)
-    ∷ did_read 0 (name.Get key.Reservations) told.Missing
-    ∷ did_read 0 (name.List kind.Affinity) (told.Listed 1)
-    ∷ did 0 (name.List kind.Block) (told.Listed 1) None (Some answer)
-    ∷ [])
+    (entry.Began 0 (probe node pools) ∷ round_reads 0 1 1 (Some answer))
+
+abbrev pub Probed : (node : List ℕ) (pools : List (List ℕ)) → Answer → Type 0
+Probed = ProbedOver ready_base
 
 abbrev pub ReadyFromAny : Type 0
 ReadyFromAny = Probed (codes "a") [] (answer.Ready (scan_from V4 1 ∷ []))
@@ -64,9 +58,4 @@ ExhaustedInOneFamily = goes ready_base
     (Begin 0 probe_both ∷ turns 0 10)
     (entry.Began 0 probe_both
     ∷ five_reads 0 1 1
-    ++ did_read 0 (name.Get key.Config) told.Missing
-    ∷ did_read 0 (name.Get key.Pools) (told.Found 1)
-    ∷ did_read 0 (name.Get key.Reservations) told.Missing
-    ∷ did_read 0 (name.List kind.Affinity) (told.Listed 1)
-    ∷ did 0 (name.List kind.Block) (told.Listed 1) None (Some (answer.Exhausted (scan_from V6 6)))
-    ∷ [])
+    ++ round_reads 0 1 1 (Some (answer.Exhausted (scan_from V6 6))))

@@ -8,7 +8,7 @@ use Rattle.ipam_model.specs.declared.entry.Entry.TheVariants as entry
 use Rattle.ipam_model.specs.declared.entry.Told.TheVariants as told
 use Rattle.ipam_model.specs.declared.request.Request.TheVariants.{Del}
 use Rattle.ipam_model.specs.Course.{Event, Begin}
-use Rattle.ipam_model_runs.specs.Setting.{v4, slot0, slot1, pool_row, ready_base, bare_base, block_of, affinity_of, handle_of, held_base, held, queue4, add, add_this, turns, did, did_read, get_block, get_affinity, get_handle, created, updated, deleted, five_reads, given, given_this, goes, store_behind}
+use Rattle.ipam_model_runs.specs.Setting.{v4, slot0, slot1, pool_row, ready_base, bare_base, block_of, affinity_of, handle_of, held_base, held, queue4, add, add_this, turns, did_read, get_block, get_affinity, get_handle, created, updated, deleted, five_reads, given, given_this, goes, store_behind, three_reads, second_given, first_given}
 
 -- ---- two ADDs on one node
 
@@ -22,12 +22,8 @@ LostBlockWrite = goes ready_base
     ∷ entry.Began 1 (add (codes "n.c2") (codes "a"))
     ∷ five_reads 0 1 1
     ++ five_reads 1 1 1
-    ++ get_handle 0 (codes "n.c1") told.Missing
-    ∷ created 0 (key.Handle (codes "n.c1")) 4 (handle_of (codes "n.c1") slot0 1) None
-    ∷ updated 0 (key.Block slot0) 3 5
-    (block_of slot0 (Some (codes "a")) (held 0 (codes "n.c1") 1 ∷ []) (1 ∷ 2 ∷ 3 ∷ []) 1)
-    (Some (given (v4 0) 2 14))
-    ∷ get_handle 1 (codes "n.c2") told.Missing
+    ++ first_given 0 (Some (given (v4 0) 2 14))
+    ++ get_handle 1 (codes "n.c2") told.Missing
     ∷ created 1 (key.Handle (codes "n.c2")) 6 (handle_of (codes "n.c2") slot0 1) None
     ∷ did_read 1 (name.Update (key.Block slot0) 3) (told.Conflict 5)
     ∷ get_handle 1 (codes "n.c2") (told.Found 6)
@@ -109,12 +105,8 @@ RaceForOneHandle = goes ready_base
     ∷ five_reads 0 1 1
     ++ get_handle 0 (codes "n.c1") told.Missing
     ∷ five_reads 1 1 1
-    ++ get_handle 1 (codes "n.c1") told.Missing
-    ∷ created 1 (key.Handle (codes "n.c1")) 4 (handle_of (codes "n.c1") slot0 1) None
-    ∷ updated 1 (key.Block slot0) 3 5
-    (block_of slot0 (Some (codes "a")) (held 0 (codes "n.c1") 1 ∷ []) (1 ∷ 2 ∷ 3 ∷ []) 1)
-    (Some (given (v4 0) 8 15))
-    ∷ did_read 0 (name.Create (key.Handle (codes "n.c1"))) (told.Exists 4)
+    ++ first_given 1 (Some (given (v4 0) 8 15))
+    ++ did_read 0 (name.Create (key.Handle (codes "n.c1"))) (told.Exists 4)
     ∷ get_handle 0 (codes "n.c1") (told.Found 4)
     ∷ updated 0 (key.Handle (codes "n.c1")) 4 6 (handle_of (codes "n.c1") slot0 2) None
     ∷ did_read 0 (name.Update (key.Block slot0) 3) (told.Conflict 5)
@@ -136,27 +128,16 @@ RaceForOneAddress = goes ready_base
     (Begin 0 (add_this (codes "n.c1") (codes "a") (v4 1)) ∷ turns 0 5
     ++ Begin 1 (add_this (codes "n.c2") (codes "a") (v4 1)) ∷ turns 1 6 ++ turns 0 6)
     (entry.Began 0 (add_this (codes "n.c1") (codes "a") (v4 1))
-    ∷ did_read 0 (name.Get key.Config) told.Missing
-    ∷ did_read 0 (name.Get key.Pools) (told.Found 1)
-    ∷ get_block 0 slot0 (told.Found 3)
-    ∷ get_handle 0 (codes "n.c1") told.Missing
+    ∷ three_reads 0 told.Missing slot0 (told.Found 3) None
+    ++ get_handle 0 (codes "n.c1") told.Missing
     ∷ created 0 (key.Handle (codes "n.c1")) 4 (handle_of (codes "n.c1") slot0 1) None
     ∷ entry.Began 1 (add_this (codes "n.c2") (codes "a") (v4 1))
-    ∷ did_read 1 (name.Get key.Config) told.Missing
-    ∷ did_read 1 (name.Get key.Pools) (told.Found 1)
-    ∷ get_block 1 slot0 (told.Found 3)
-    ∷ get_handle 1 (codes "n.c2") told.Missing
-    ∷ created 1 (key.Handle (codes "n.c2")) 5 (handle_of (codes "n.c2") slot0 1) None
-    ∷ updated 1 (key.Block slot0) 3 6
-    (block_of slot0 (Some (codes "a")) (held 1 (codes "n.c2") 1 ∷ []) (0 ∷ 2 ∷ 3 ∷ []) 1)
-    (Some (given_this (v4 1) 7 12))
-    ∷ did_read 0 (name.Update (key.Block slot0) 3) (told.Conflict 6)
+    ∷ three_reads 1 told.Missing slot0 (told.Found 3) None
+    ++ second_given 1 (codes "n.c2") 5 (given_this (v4 1) 7 12)
+    ++ did_read 0 (name.Update (key.Block slot0) 3) (told.Conflict 6)
     ∷ get_handle 0 (codes "n.c1") (told.Found 4)
     ∷ deleted 0 (key.Handle (codes "n.c1")) 4 7 None
-    ∷ did_read 0 (name.Get key.Config) told.Missing
-    ∷ did_read 0 (name.Get key.Pools) (told.Found 1)
-    ∷ did 0 (name.Get (key.Block slot0)) (told.Found 6) None (Some (answer.Taken (codes "n.c2") 18))
-    ∷ [])
+    ∷ three_reads 0 told.Missing slot0 (told.Found 6) (Some (answer.Taken (codes "n.c2") 18)))
 
 -- ---- a DEL and an ADD
 

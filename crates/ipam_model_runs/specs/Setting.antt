@@ -184,14 +184,55 @@ updated slot old seen revision written answer =
 abbrev pub deleted : (slot : ℕ) → Key → (seen revision : ℕ) → Option Answer → Entry
 deleted slot old seen revision answer = did slot (name.Delete old seen) (told.Done revision) None answer
 
--- the five reads of a round, where the pools are at revision 1 and nothing else is configured
-abbrev pub five_reads : (slot affinities blocks : ℕ) → List Entry
-five_reads slot affinities blocks =
+-- the reads of a round up to an answer, where the pools are at revision 1 and nothing else is
+-- configured
+abbrev pub round_reads : (slot affinities blocks : ℕ) → Option Answer → List Entry
+round_reads slot affinities blocks answer =
     did_read slot (name.Get key.Config) told.Missing
     ∷ did_read slot (name.Get key.Pools) (told.Found 1)
     ∷ did_read slot (name.Get key.Reservations) told.Missing
     ∷ did_read slot (name.List kind.Affinity) (told.Listed affinities)
-    ∷ did_read slot (name.List kind.Block) (told.Listed blocks)
+    ∷ did slot (name.List kind.Block) (told.Listed blocks) None answer
+    ∷ []
+
+-- the five reads of a round that goes on
+abbrev pub five_reads : (slot affinities blocks : ℕ) → List Entry
+five_reads slot affinities blocks = round_reads slot affinities blocks None
+
+-- the reads of an ADD of one address, where the pools are at revision 1
+abbrev pub three_reads : (slot : ℕ) → (config : Told) → CidrValue → (block : Told) → Option Answer → List Entry
+three_reads slot config cidr block answer =
+    did_read slot (name.Get key.Config) config
+    ∷ did_read slot (name.Get key.Pools) (told.Found 1)
+    ∷ did slot (name.Get (key.Block cidr)) block None answer
+    ∷ []
+
+-- the first address of the ready block is given to n.c1
+abbrev pub first_given : (slot : ℕ) → Option Answer → List Entry
+first_given slot answer =
+    get_handle slot (codes "n.c1") told.Missing
+    ∷ created slot (key.Handle (codes "n.c1")) 4 (handle_of (codes "n.c1") slot0 1) None
+    ∷ updated slot (key.Block slot0) 3 5
+    (block_of slot0 (Some (codes "a")) (held 0 (codes "n.c1") 1 ∷ []) (1 ∷ 2 ∷ 3 ∷ []) 1) answer
+    ∷ []
+
+-- and freed again
+abbrev pub first_freed : (slot : ℕ) → Answer → List Entry
+first_freed slot answer =
+    get_block slot slot0 (told.Found 5)
+    ∷ updated slot (key.Block slot0) 5 6 (block_of slot0 (Some (codes "a")) [] (1 ∷ 2 ∷ 3 ∷ 0 ∷ []) 2) None
+    ∷ get_handle slot (codes "n.c1") (told.Found 4)
+    ∷ deleted slot (key.Handle (codes "n.c1")) 4 7 (Some answer)
+    ∷ []
+
+-- the second address of the block, which is at revision 3, is given to a handle that is created at
+-- this revision
+abbrev pub second_given : (slot : ℕ) → (id : List ℕ) → (revision : ℕ) → Answer → List Entry
+second_given slot id revision answer =
+    get_handle slot id told.Missing
+    ∷ created slot (key.Handle id) revision (handle_of id slot0 1) None
+    ∷ updated slot (key.Block slot0) 3 (revision + 1)
+    (block_of slot0 (Some (codes "a")) (held 1 id 1 ∷ []) (0 ∷ 2 ∷ 3 ∷ []) 1) (Some answer)
     ∷ []
 
 -- ---- answers

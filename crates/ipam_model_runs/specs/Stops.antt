@@ -10,7 +10,7 @@ use Rattle.ipam_model.specs.declared.entry.Fate.TheVariants.{Before, After}
 use Rattle.ipam_model.specs.declared.entry.Told.TheVariants as told
 use Rattle.ipam_model.specs.declared.request.Request.TheVariants.{Del}
 use Rattle.ipam_model.specs.Course.{Event, Begin, Turn, Stop, Restart}
-use Rattle.ipam_model_runs.specs.Setting.{slot0, pool_row, ready_base, block_of, affinity_of, handle_of, held, add, turns, did, get_block, get_handle, created, updated, deleted, five_reads, goes, store_behind}
+use Rattle.ipam_model_runs.specs.Setting.{slot0, pool_row, ready_base, block_of, affinity_of, handle_of, held, add, turns, did, get_handle, created, five_reads, goes, store_behind, first_freed}
 
 -- an ADD up to its write of the block
 abbrev pub before_the_write : List Event
@@ -44,11 +44,7 @@ LostAnswer = goes ready_base lost_answer
     })
     ∷ entry.Began 0 (Del (codes "n.c1"))
     ∷ get_handle 0 (codes "n.c1") (told.Found 4)
-    ∷ get_block 0 slot0 (told.Found 5)
-    ∷ updated 0 (key.Block slot0) 5 6 (block_of slot0 (Some (codes "a")) [] (1 ∷ 2 ∷ 3 ∷ 0 ∷ []) 2) None
-    ∷ get_handle 0 (codes "n.c1") (told.Found 4)
-    ∷ deleted 0 (key.Handle (codes "n.c1")) 4 7 (Some (answer.Deleted 10))
-    ∷ [])
+    ∷ first_freed 0 (answer.Deleted 10))
 
 abbrev pub LostAnswerRows : Type 0
 LostAnswerRows = store_behind ready_base lost_answer ≡ record {

@@ -1,6 +1,8 @@
 -- Events that happen one after another.
 use Rattle.std.proofs.Common.{◌≡◌, ℕ, ◌+◌, ◌-◌, ◌<◌, List, [], ◌∷◌, ◌++◌, None, refl, sym, ap, ◌∙◌, subst, arith, append_assoc, append-nil, inl, inr}
 use Rattle.std.specs.Prelude.{replicate, length, option_map, Ok, Err, Result}
+use Rattle.std.specs.Result.{IsErrAnd}
+use Rattle.std.proofs.lemmas.Result.{err_from_is_err_and}
 use Rattle.std.proofs.lemmas.List.{replicate-append-replicate, replicate_more}
 use Rattle.ipam_model.specs.declared.entry.Entry.{Entry}
 use Rattle.ipam_model.specs.Cluster as model
@@ -11,7 +13,7 @@ use Rattle.ipam_laws.proofs.CourseParts.{course-append, joined, later}
 use Rattle.ipam_cluster.specs.declared.cluster.Cluster.{Cluster}
 use Rattle.ipam_cluster.specs.Cluster.{StandsFor}
 use Rattle.ipam_play.specs.declared.fault.PlayFault.{PlayFault}
-use Rattle.ipam_play.specs.Events.{Happens, IsCause, Keeps, Makes, Plays, Stops, onto}
+use Rattle.ipam_play.specs.Events.{ComesOf, Happens, IsCause, Keeps, Makes, Plays, Stops, onto}
 
 pub onto-append : (first second history : List Entry) → onto (first ++ second) history ≡ onto second (onto first history)
 onto-append [] second history = refl
@@ -95,6 +97,11 @@ one_happens old new before after event made is added = record {
   plays = plays_one old new event made is;
 }
 
+-- the entry is noted behind those for which room was made
+pub one_noted : (old new : Cluster) (before room after : List Entry) (event : Event) (made : Entry) → Makes old new event made → after ≡ room ++ made ∷ [] → room ≡ before → Happens old new before after (event ∷ [])
+one_noted old new before room after event made is added same =
+    one_happens old new before after event made is (added ∙ ap (λ (l : List Entry). l ++ made ∷ []) same)
+
 pub happens_then : (old mid new : Cluster) (before between after : List Entry) (first second : List Event) → Happens old mid before between first → Happens mid new between after second
     → Happens old new before after (first ++ second)
 happens_then old mid new before between after first second h k = record {
@@ -115,6 +122,12 @@ one_stops old new before after event told keeps same cause = record {
   plays = plays_nothing old new keeps;
   cause = cause;
 }
+
+-- the exit of a `?` tells of it
+pub exit_stops : {T : Type 0} (result : Result T PlayFault) (old new : Cluster) (before after : List Entry) (event : Event) (told : PlayFault) → IsErrAnd result (λ fault. fault ≡ told) → Keeps old new → after ≡ before → IsCause old [] event told → ComesOf result old new before after (event ∷ [])
+exit_stops result old new before after event told is keeps same cause =
+    let p = err_from_is_err_and result is in
+    rw (p.1, p.2) (one_stops old new before after event told keeps same cause)
 
 cause-behind : (old mid : Cluster) (made more : List Entry) (event : Event) (told : PlayFault)
     → ((base : Base) (history : List Entry) → StandsFor old base history → StandsFor mid base (onto made history))

@@ -183,11 +183,11 @@ reservations_read body rs e =
 
 -- ---- sound reservations are found in their JSON
 
-cidr_in-cidr_data : (r : CidrValue) → IsCidr r → cidr_in (cidr_data r) ≡ Some r
+pub cidr_in-cidr_data : (r : CidrValue) → IsCidr r → cidr_in (cidr_data r) ≡ Some r
 unfolding cidr_in
 cidr_in-cidr_data r h = cidr_of-text r h
 
-cidrs_back : (there cidrs : List CidrValue) → AllByRecursion IsCidr cidrs → cidrs_after there (items_of (map cidr_data cidrs)) ≡ Some (there ++ cidrs)
+pub cidrs_back : (there cidrs : List CidrValue) → AllByRecursion IsCidr cidrs → cidrs_after there (items_of (map cidr_data cidrs)) ≡ Some (there ++ cidrs)
 cidrs_back there [] h = ap Some (sym (append-nil there))
 cidrs_back there (c ∷ cidrs) h =
     rw (cidr_in-cidr_data c h.0) (cidrs_back (there ++ c ∷ []) cidrs h.1 ∙ ap Some (append_assoc there (c ∷ []) cidrs))

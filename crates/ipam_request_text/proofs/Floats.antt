@@ -1,13 +1,10 @@
 -- No request's JSON has a float, so that its compact text is written.
-use Rattle.std.proofs.Common.{◌≡◌, ℕ, Bool, false, true, ◌||◌, List, [], ◌∷◌, length, map, refl, ap, ◌==◌, codes, Ordering, Less, Equal, Greater, Option, Some, None}
-use Rattle.std.specs.Prelude.{fold}
-use Rattle.std.specs.Ordering.{nat_cmp, match_ordering}
-use Rattle.std.specs.Cmp.Lexicographic.{slice_cmp}
-use Rattle.serde_json.specs.Data.{Data, boolean, string, object, Members, no_members, member, put}
-use Rattle.serde_json.specs.View.{items_of}
-use Rattle.serde_json.specs.Written.{has_float, items_have_float, members_have_float}
+use Rattle.std.proofs.Common.{◌≡◌, ℕ, Bool, false, true, List, length, refl, ap, ◌==◌, codes, Option, Some, None}
+use Rattle.serde_json.specs.Data.{Data, boolean, string, object, Members, no_members, put}
+use Rattle.serde_json.specs.Written.{has_float, members_have_float}
 use Rattle.ipam_addr.specs.Shape.{AddrValue, CidrValue}
 use Rattle.ipam_select.specs.Formula.{Formula}
+use Rattle.ipam_json.proofs.Floatless.{items_without, put_without, fold_without}
 use Rattle.ipam_select.specs.Every.{is_every}
 use Rattle.ipam_pool.specs.declared.pools.Mode.{Mode}
 use Rattle.ipam_pool.specs.declared.pools.Mode.TheVariants.{Automatic, Manual}
@@ -21,27 +18,9 @@ use Rattle.ipam_model.specs.declared.request.CollectRequest.{CollectRequest}
 use Rattle.ipam_model.specs.declared.request.ProbeRequest.{ProbeRequest}
 use Rattle.ipam_model.specs.declared.request.Request.{Request}
 use Rattle.ipam_model.specs.declared.request.Request.TheVariants.{Add, AddThis, Del, Check, Release, Collect, Admin as Change, Probe}
-use Rattle.ipam_request_text.specs.Parts.{whole_data, texts_data, pairs_data, with_pair, address_data, cidr_data, scope_data, selector_data}
+use Rattle.ipam_request_text.specs.Parts.{whole_data, texts_data, pairs_data, address_data, cidr_data, scope_data, selector_data}
 use Rattle.ipam_request_text.specs.Members.{unless, where_true, where_false, where_some_number, where_some_texts, where_some_pairs, where_manual, where_selective, where_scope, wishes}
 use Rattle.ipam_request_text.specs.Requests.{add_members, collect_members, probe_members, pool_members, config_members, change_data, request_data}
-
-items_without : {A : Type 0} (f : A → Data) → ((a : A) → has_float (f a) ≡ false) → (all : List A) → items_have_float (items_of (map f all)) ≡ false
-items_without f each [] = refl
-items_without f each (a ∷ rest) = rw (each a) (items_without f each rest)
-
-put_without : (k : List ℕ) (d : Data) (ms : Members) → has_float d ≡ false → members_have_float ms ≡ false → members_have_float (put k d ms) ≡ false
-put_without k d no_members h g = rw h refl
-put_without k d (member l e ms) h g = at (slice_cmp nat_cmp k l) (has_float e) refl g (put_without k d ms h)
-  where
-    at : (o : Ordering) (b : Bool) → has_float e ≡ b → (b || members_have_float ms) ≡ false → (members_have_float ms ≡ false → members_have_float (put k d ms) ≡ false) → members_have_float (match_ordering o (member k d (member l e ms)) (member l d ms) (member l e (put k d ms))) ≡ false
-    at o true is g later = absurd cc
-    at Less false is g later = rw (h, is) g
-    at Equal false is g later = rw h g
-    at Greater false is g later = rw is (later g)
-
-pairs_fold_without : (ms : Members) (pairs : List Pair) → members_have_float ms ≡ false → members_have_float (fold with_pair ms pairs) ≡ false
-pairs_fold_without ms [] h = h
-pairs_fold_without ms (p ∷ pairs) h = pairs_fold_without (put p.0 (string p.1) ms) pairs (put_without p.0 (string p.1) ms refl h)
 
 pub has_float-texts_data : (texts : List (List ℕ)) → has_float (texts_data texts) ≡ false
 has_float-texts_data texts = items_without string (λ t. refl) texts
@@ -65,7 +44,7 @@ texts_without : (texts : List (List ℕ)) (name : List ℕ) (ms : Members) → m
 texts_without texts name ms g = unless_without (length texts == 0) name (texts_data texts) ms (has_float-texts_data texts) g
 
 pairs_without : (pairs : List Pair) (name : List ℕ) (ms : Members) → members_have_float ms ≡ false → members_have_float (where_some_pairs pairs name ms) ≡ false
-pairs_without pairs name ms g = unless_without (length pairs == 0) name (pairs_data pairs) ms (pairs_fold_without no_members pairs refl) g
+pairs_without pairs name ms g = unless_without (length pairs == 0) name (pairs_data pairs) ms (fold_without {A = Pair} (λ p. p.0) (λ p. string p.1) (λ p. refl) no_members pairs refl) g
 
 mode_without : (mode : Mode) (ms : Members) → members_have_float ms ≡ false → members_have_float (where_manual mode ms) ≡ false
 mode_without Automatic ms g = g

@@ -1,8 +1,8 @@
 -- What is found of a member behind others that were put or left out.
-use Rattle.std.proofs.Common.{◌≡◌, ◌∙◌, ℕ, ◌<◌, ◌==◌, Bool, true, false, ◌&&◌, List, [], ◌∷◌, ◌++◌, codes, length, map, Option, Some, None, Ordering, Less, Equal, Greater, nat_cmp, refl, sym, ap, subst, arith, append_assoc, append-nil}
-use Rattle.std.specs.Prelude.{fold, bytes_eq, if◌then◌else◌}
+use Rattle.std.proofs.Common.{◌≡◌, ◌∙◌, ℕ, ◌<◌, ◌==◌, Bool, true, false, ◌&&◌, List, [], ◌∷◌, ◌++◌, codes, length, map, Option, Some, None, Ordering, Less, Equal, Greater, nat_cmp, refl, sym, ap, arith, append_assoc, append-nil}
+use Rattle.std.specs.Prelude.{bytes_eq, if◌then◌else◌}
 use Rattle.std.specs.List.{AllByRecursion}
-use Rattle.std.specs.Ordering.{is_lt, match_ordering}
+use Rattle.std.specs.Ordering.{match_ordering}
 use Rattle.std.specs.Cmp.Lexicographic.{slice_cmp}
 use Rattle.std.proofs.lemmas.Bool.{and_parts, and_from, eqb-true}
 use Rattle.serde_json.specs.Data.{Data, boolean, string, array, object, Items, no_items, item, Members, no_members, member, put}
@@ -10,25 +10,23 @@ use Rattle.serde_json.specs.Find.{get_member, as_bool}
 use Rattle.serde_json.specs.View.{items_of}
 use Rattle.serde_json.proofs.Views.{get_member-put, get_member-put_other}
 use Rattle.ipam_json.specs.Path.{as_whole}
-use Rattle.ipam_json.specs.Built.{Field, IsAscending, names, members_from}
-use Rattle.ipam_json.proofs.Constructors.{put-members_from}
-use Rattle.ipam_addr.specs.Shape.{AddrValue, CidrValue}
-use Rattle.ipam_addr.specs.Width.{IsAddress, IsCidr}
+use Rattle.ipam_json.specs.Built.{members_from}
+use Rattle.ipam_addr.specs.Shape.{AddrValue}
+use Rattle.ipam_addr.specs.Width.{IsAddress}
 use Rattle.ipam_addr.proofs.PrintLemmas.{address_of-address_text}
-use Rattle.ipam_addr.proofs.CidrTextLemmas.{cidr_reading-cidr_text_of}
-use Rattle.ipam_block_text.specs.Limits.{keys_ascend, ascend_after}
+use Rattle.ipam_block_text.specs.Limits.{keys_ascend}
+use Rattle.ipam_block_text.proofs.PairKeys.{pair_field, pairs_members}
 use Rattle.ipam_select.specs.Formula.{Formula, every}
 use Rattle.ipam_select.specs.Every.{is_every}
 use Rattle.ipam_select.specs.Sound.{is_sound}
 use Rattle.ipam_pool.specs.declared.pools.Mode.{Mode}
 use Rattle.ipam_pool.specs.declared.pools.Mode.TheVariants.{Automatic, Manual}
 use Rattle.ipam_record_text.specs.Reading.{◌>>=◌}
-use Rattle.ipam_record_text.specs.Blocks.{value_of}
 use Rattle.ipam_record_text.proofs.RuleLemmas.{selector_of-printed, every_or}
 use Rattle.ipam_model.specs.Pairs.{Pair}
-use Rattle.ipam_request_text.specs.Parts.{whole_data, texts_data, with_pair, pairs_data, address_data, cidr_data, scope_data, selector_data}
+use Rattle.ipam_request_text.specs.Parts.{whole_data, texts_data, pairs_data, address_data, scope_data, selector_data}
 use Rattle.ipam_request_text.specs.Members.{unless, where_true, where_false, where_some_number, where_some_texts, where_some_pairs, where_manual, where_selective, where_scope}
-use Rattle.ipam_request_text.specs.Fields.{found_or, texts_after, texts_in, pairs_after, pairs_in, address_in, addresses_after, cidr_in, cidrs_after, number_in, mode_in, selector_in, named_scope, scope_in}
+use Rattle.ipam_request_text.specs.Fields.{found_or, texts_after, texts_in, pairs_after, pairs_in, address_in, addresses_after, number_in, mode_in, selector_in, named_scope, scope_in}
 use Rattle.ipam_request_text.specs.declared.shape.Shape.{Shape}
 use Rattle.ipam_request_text.specs.Shapes.{may_have, are_known}
 
@@ -96,49 +94,6 @@ texts_read (t ∷ ts) k ms none = go (length (t ∷ ts) == 0) refl
     go false e =
         ap (found_or [] texts_in) (get_member-put k (texts_data (t ∷ ts)) ms) ∙ texts_in-texts (t ∷ ts)
 
-pair_field : Pair → Field
-pair_field p = (p.0, string p.1)
-
-less_lt : (o : Ordering) → is_lt o ≡ true → o ≡ Less
-less_lt Less h = refl
-less_lt Equal h = absurd cc
-less_lt Greater h = absurd cc
-
-pair_names : (pairs : List Pair) → names (map pair_field pairs) ≡ map (λ p. p.0) pairs
-unfolding pair_field
-pair_names [] = refl
-pair_names (p ∷ pairs) = ap (λ l. p.0 ∷ l) (pair_names pairs)
-
-after_ascends : (key : List ℕ) (pairs : List Pair) → ascend_after key pairs ≡ true → IsAscending (key ∷ map (λ p. p.0) pairs)
-after_ascends key [] h = tt
-after_ascends key (p ∷ pairs) h =
-    let parts = and_parts (is_lt (slice_cmp nat_cmp key p.0)) (ascend_after p.0 pairs) h in
-    (less_lt _ parts.0, after_ascends p.0 pairs parts.1)
-
-keys_are_ascending : (pairs : List Pair) → keys_ascend pairs ≡ true → IsAscending (names (map pair_field pairs))
-keys_are_ascending [] h = tt
-keys_are_ascending (p ∷ pairs) h = subst IsAscending (sym (pair_names (p ∷ pairs))) (after_ascends p.0 pairs h)
-
-front_ascends : (ks : List (List ℕ)) (more : List (List ℕ)) → IsAscending (ks ++ more) → IsAscending ks
-front_ascends [] more h = tt
-front_ascends (k ∷ []) more h = tt
-front_ascends (k ∷ l ∷ ks) more h = (h.0, front_ascends (l ∷ ks) more h.1)
-
-names-append : (ms ns : List Field) → names (ms ++ ns) ≡ names ms ++ names ns
-names-append [] ns = refl
-names-append (m ∷ ms) ns = ap (λ l. m.0 ∷ l) (names-append ms ns)
-
-pairs_put : (done : List Field) (pairs : List Pair) → IsAscending (names (done ++ map pair_field pairs)) → fold with_pair (members_from done) pairs ≡ members_from (done ++ map pair_field pairs)
-unfolding pair_field
-pairs_put done [] up = ap members_from (sym (append-nil done))
-pairs_put done (p ∷ pairs) up =
-    let rest = map pair_field pairs in
-    let joined = append_assoc done (pair_field p ∷ []) rest in
-    let up_joined = subst (λ l. IsAscending (names l)) (sym joined) up in
-    let up_front = front_ascends (names (done ++ pair_field p ∷ [])) (names rest) (subst IsAscending (names-append (done ++ pair_field p ∷ []) rest) up_joined) in
-    let placed = put-members_from done p.0 (string p.1) up_front in
-    ap (λ ms. fold with_pair ms pairs) placed ∙ pairs_put (done ++ pair_field p ∷ []) pairs up_joined ∙ ap members_from joined
-
 pairs_after-fields : (there ps : List Pair) → pairs_after there (members_from (map pair_field ps)) ≡ Some (there ++ ps)
 unfolding pair_field
 pairs_after-fields there [] = rw (append-nil there) refl
@@ -146,7 +101,7 @@ pairs_after-fields there (p ∷ ps) = pairs_after-fields (there ++ p ∷ []) ps 
 
 pairs_in-pairs : (ps : List Pair) → keys_ascend ps ≡ true → pairs_in (pairs_data ps) ≡ Some ps
 pairs_in-pairs ps up =
-    ap (pairs_after []) (pairs_put [] ps (keys_are_ascending ps up)) ∙ pairs_after-fields [] ps
+    ap (pairs_after []) (pairs_members ps up) ∙ pairs_after-fields [] ps
 
 pub pairs_read : (ps : List Pair) (k : List ℕ) (ms : Members) → keys_ascend ps ≡ true → get_member k ms ≡ None → found_or [] pairs_in (get_member k (where_some_pairs ps k ms)) ≡ Some ps
 pairs_read [] k ms up none = ap (found_or [] pairs_in) none
@@ -176,7 +131,7 @@ unfolding named_scope
 scope_read None ms none = ap (found_or None scope_in) none
 scope_read (Some scope) ms none = ap (found_or None scope_in) (get_member-put (codes "scope") (scope_data scope) ms)
 
--- ---- addresses and CIDRs
+-- ---- addresses
 
 pub address_read : (a : AddrValue) → IsAddress a → address_in (address_data a) ≡ Some a
 address_read a h = address_of-address_text a h
@@ -190,19 +145,6 @@ addresses_after-addresses there (a ∷ all) h =
 
 pub addresses_read : (all : List AddrValue) → AllByRecursion IsAddress all → addresses_after [] (items_of (map address_data all)) ≡ Some all
 addresses_read all h = addresses_after-addresses [] all h
-
-pub cidr_read : (r : CidrValue) → IsCidr r → cidr_in (cidr_data r) ≡ Some r
-cidr_read r h = ap value_of (cidr_reading-cidr_text_of r h)
-
-cidrs_after-cidrs : (there all : List CidrValue) → AllByRecursion IsCidr all → cidrs_after there (items_of (map cidr_data all)) ≡ Some (there ++ all)
-cidrs_after-cidrs there [] h = rw (append-nil there) refl
-cidrs_after-cidrs there (r ∷ all) h =
-    ap (λ o. o >>= λ c. cidrs_after (there ++ c ∷ []) (items_of (map cidr_data all))) (cidr_read r h.0)
-    ∙ cidrs_after-cidrs (there ++ r ∷ []) all h.1
-    ∙ ap Some (append_assoc there (r ∷ []) all)
-
-pub cidrs_read : (all : List CidrValue) → AllByRecursion IsCidr all → cidrs_after [] (items_of (map cidr_data all)) ≡ Some all
-cidrs_read all h = cidrs_after-cidrs [] all h
 
 -- ---- known members
 

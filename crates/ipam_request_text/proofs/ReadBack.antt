@@ -21,6 +21,8 @@ use Rattle.ipam_block.specs.Sound.{AreAttributes}
 use Rattle.ipam_record_text.specs.Pools.{IsSoundPool}
 use Rattle.ipam_record_text.specs.declared.config.Config.{Config as Settings}
 use Rattle.ipam_record_text.specs.Reading.{◌>>=◌, only_if, in_32_bits}
+use Rattle.ipam_record_text.specs.Reservations.{cidr_in, named_cidrs}
+use Rattle.ipam_record_text.proofs.ReservationLists.{cidr_in-cidr_data, cidrs_back}
 use Rattle.ipam_reserve.specs.Shape.{ReservationValue}
 use Rattle.ipam_records.specs.Sound.{IsReservation}
 use Rattle.ipam_model.specs.declared.request.AddRequest.{AddRequest}
@@ -39,11 +41,12 @@ use Rattle.ipam_request_text.specs.Shapes.{may_have, are_known, shape_named}
 use Rattle.ipam_request_text.specs.Parts.{whole_data, texts_data, pairs_data, address_data, addresses_data, cidr_data, cidrs_data, scope_data, selector_data, tagged}
 use Rattle.ipam_request_text.specs.Members.{with_text, unless, where_true, where_false, where_some_number, where_some_texts, where_some_pairs, where_manual, where_selective, where_scope, wishes}
 use Rattle.ipam_request_text.specs.Requests.{add_members, collect_members, probe_members, pool_members, config_members, change_data, request_data, request_text}
-use Rattle.ipam_request_text.specs.Fields.{found_or, truth_or, number_in, texts_in, pairs_in, address_in, mode_in, selector_in, scope_in, in_8_bits, cidr_in}
+use Rattle.ipam_request_text.specs.Fields.{found_or, truth_or, number_in, texts_in, pairs_in, address_in, mode_in, selector_in, scope_in, in_8_bits}
 use Rattle.ipam_request_text.specs.Reading.{probe_in, add_of, add_in, asked_in, any_add_in, check_in, release_in, collect_in, pool_in, disable_in, reserve_in, config_in, shaped_in, known_in, named_in, request_in, sound_request_in, request_reading}
 use Rattle.ipam_request_text.specs.Tests.{is_sound_request}
-use Rattle.ipam_request_text.proofs.SoundTests.{sound_there, sound_back, sorted_keys}
-use Rattle.ipam_request_text.proofs.Gets.{Apart, past_put, past_unless, past_true, past_false, past_mode, true_read, false_read, number_read, texts_in-texts, texts_read, pairs_read, mode_read, selector_read, scope_read, address_read, addresses_read, cidr_read, cidrs_read, known_put, known_unless, known_true, known_false, known_mode, known_scope}
+use Rattle.ipam_block_text.proofs.PairKeys.{sorted_keys}
+use Rattle.ipam_request_text.proofs.SoundTests.{sound_there, sound_back}
+use Rattle.ipam_request_text.proofs.Gets.{Apart, past_put, past_unless, past_true, past_false, past_mode, true_read, false_read, number_read, texts_in-texts, texts_read, pairs_read, mode_read, selector_read, scope_read, address_read, addresses_read, known_put, known_unless, known_true, known_false, known_mode, known_scope}
 use Rattle.ipam_request_text.proofs.Canonical.{request_canonical}
 
 -- ---- what is read is sound
@@ -224,7 +227,7 @@ pool_back p h =
     let cidr_at : get_member (codes "cidr") (where_selective p.selector moded) ≡ Some (cidr_data p.cidr) = outside (codes "cidr") (refl, refl) ∙ past_moded (codes "cidr") (refl, refl) ∙ past_disabled (codes "cidr") (refl, refl) in
     let size_at : get_member (codes "size") (where_selective p.selector moded) ≡ Some (whole_data p.size) = outside (codes "size") (refl, refl) ∙ past_moded (codes "size") (refl, refl) ∙ past_disabled (codes "size") (refl, refl) in
     let name_at : get_member (codes "name") (where_selective p.selector moded) ≡ Some (string p.name) = outside (codes "name") (refl, refl) ∙ past_moded (codes "name") (refl, refl) ∙ past_disabled (codes "name") (refl, refl) in
-    bind _ _ _ (ap (option_and_then cidr_in) cidr_at ∙ cidr_read p.cidr h.cidr)
+    bind _ _ _ (ap (option_and_then cidr_in) cidr_at ∙ cidr_in-cidr_data p.cidr h.cidr)
     ∙ bind _ _ _ (ap (λ o. option_and_then in_8_bits (option_and_then as_whole o)) size_at ∙ if_true (nat_lt p.size (2 ^ 8)) p.size (lt-ltb p.size (2 ^ 8) h.size))
     ∙ bind _ _ _ (ap (found_or false as_bool) (outside (codes "disabled") (refl, refl) ∙ past_moded (codes "disabled") (refl, refl)) ∙ true_read p.disabled (codes "disabled") base refl)
     ∙ bind _ _ _ (ap (found_or Automatic mode_in) (outside (codes "mode") (refl, refl)) ∙ mode_read p.mode disabled (past_disabled (codes "mode") (refl, refl)))
@@ -254,9 +257,9 @@ config_known c =
     known_true shape.Config c.strict (codes "strictAffinity") _ refl (known_unless shape.Config (c.max_blocks == 0) (codes "maxBlocksPerHost") _ _ refl (known_false shape.Config c.auto (codes "autoAllocateBlocks") no_members refl refl))
 
 reserve_back : (r : ReservationValue) → IsReservation r → reserve_in (object (member (codes "cidrs") (cidrs_data r.cidrs) (member (codes "name") (string r.name) no_members))) ≡ Some (Change (change.Reserve r))
-unfolding reserve_in
+unfolding reserve_in named_cidrs
 reserve_back r h =
-    bind _ _ _ (cidrs_read r.cidrs (AllByRecursion-All IsCidr r.cidrs h.ranges)) ∙ bind _ _ _ (if_true (nat_le (length r.cidrs) 64) r (le-leb (length r.cidrs) 64 h.few))
+    bind _ _ _ (cidrs_back [] r.cidrs (AllByRecursion-All IsCidr r.cidrs h.ranges)) ∙ bind _ _ _ (if_true (nat_le (length r.cidrs) 64) r (le-leb (length r.cidrs) 64 h.few))
 
 change_back : (r : Admin) → IsSoundChange r → request_in (change_data r) ≡ Some (Change r)
 change_back (change.Pool p) h =
@@ -278,7 +281,7 @@ check_back id addresses h = bind _ _ _ (addresses_read addresses (AllByRecursion
 
 release_back : (node : List ℕ) (cidr : CidrValue) → IsCidr cidr → release_in (object (member (codes "cidr") (cidr_data cidr) (member (codes "node") (string node) no_members))) ≡ Some (Release node cidr)
 unfolding release_in
-release_back node cidr h = bind _ _ _ (cidr_read cidr h)
+release_back node cidr h = bind _ _ _ (cidr_in-cidr_data cidr h)
 
 request_back : (r : Request) → IsSoundRequest r → request_in (request_data r) ≡ Some r
 request_back (Add r) h =

@@ -1,10 +1,7 @@
 -- A request is sound exactly where the tests pass.
-use Rattle.std.proofs.Common.{◌≡◌, ◌∙◌, inl, inr, ℕ, ◌^◌, ◌%◌, ◌<◌, ◌≤◌, ◌==◌, Bool, true, false, ◌&&◌, ◌||◌, IsTrue, ◌↔◌, List, [], ◌∷◌, length, map, Option, Some, None, Ordering, Less, Equal, Greater, nat_cmp, refl, sym, ap, arith}
+use Rattle.std.proofs.Common.{◌≡◌, ◌∙◌, inl, inr, ℕ, ◌^◌, ◌%◌, ◌<◌, ◌≤◌, ◌==◌, Bool, true, false, ◌&&◌, ◌||◌, IsTrue, ◌↔◌, List, length, Option, Some, None, refl, sym, arith}
 use Rattle.std.specs.Prelude.{All, nat_le, nat_lt, is_some, Ok, Err, Result, ◌⊎◌}
-use Rattle.std.specs.List.{AllByRecursion, list_all}
-use Rattle.std.specs.List.Sorted.{IsStrictlySortedBy}
-use Rattle.std.specs.Ordering.{is_lt}
-use Rattle.std.specs.Cmp.Lexicographic.{slice_cmp, nat_list_cmp_total}
+use Rattle.std.specs.List.{list_all}
 use Rattle.std.proofs.lemmas.Bool.{and_parts, and_from, leb-true, le-leb, ltb-true, lt-ltb, eqb-true}
 use Rattle.std.proofs.lemmas.List.Elements.{All-weaker}
 use Rattle.std.proofs.lemmas.List.Sums.{AllPass-from_list_all, list_all-from_AllPass}
@@ -13,12 +10,13 @@ use Rattle.ipam_addr.specs.Shape.{AddrValue, CidrValue}
 use Rattle.ipam_addr.specs.Text.{cidr_reading}
 use Rattle.ipam_addr.specs.Width.{width, address_count, cidr_size, IsAddress, IsCidr}
 use Rattle.ipam_addr.specs.Names.{is_name_text, is_handle_text}
-use Rattle.ipam_block_text.specs.Limits.{keys_ascend, ascend_after, are_attributes}
+use Rattle.ipam_block_text.specs.Limits.{keys_ascend, are_attributes}
 use Rattle.ipam_block_text.proofs.Limited.{attributes_there, attributes_back}
+use Rattle.ipam_block_text.proofs.PairKeys.{keys_sorted, sorted_keys}
 use Rattle.ipam_select.specs.Sound.{is_sound}
 use Rattle.ipam_pool.specs.declared.pools.Pool.{Pool as OnePool}
 use Rattle.ipam_reserve.specs.Shape.{ReservationValue}
-use Rattle.ipam_record_text.specs.Blocks.{value_of}
+use Rattle.ipam_record_text.specs.Blocks.{value_of, cidr_of}
 use Rattle.ipam_record_text.specs.Pools.{IsSoundPool}
 use Rattle.ipam_records.specs.Sound.{IsHandleId, IsReservation}
 use Rattle.ipam_model.specs.declared.request.AddRequest.{AddRequest}
@@ -30,7 +28,6 @@ use Rattle.ipam_model.specs.declared.request.Request.{Request}
 use Rattle.ipam_model.specs.declared.request.Request.TheVariants.{Add, AddThis, Del, Check, Release, Collect, Admin as Change, Probe}
 use Rattle.ipam_model.specs.Pairs.{Pair}
 use Rattle.ipam_model.specs.SoundRequest.{is_label_byte, IsLabel, AreLabels, IsPoolName, ArePoolNames, IsSoundAdd, IsSoundProbe, IsScope, IsSoundCollect, IsSoundChange, IsSoundRequest}
-use Rattle.ipam_request_text.specs.Fields.{cidr_of}
 use Rattle.ipam_request_text.specs.Tests.{is_address, is_cidr, is_label, are_labels, is_pool_name, are_pool_names, is_sound_add, is_sound_probe, is_scope, is_sound_collect, is_sound_pool, is_sound_reservation, is_sound_change, is_sound_request}
 
 -- ---- lists whose elements all pass
@@ -40,44 +37,6 @@ all_there P p there xs h = list_all-from_AllPass p xs (All-weaker P (λ x. p x �
 
 all_back : {A : Type 0} (P : A → Type 0) (p : A → Bool) → ((x : A) → p x ≡ true → P x) → (xs : List A) → list_all p xs ≡ true → All P xs
 all_back P p back xs h = All-weaker (λ x. p x ≡ true) P back xs (AllPass-from_list_all p xs h)
-
--- ---- keys
-
-keys : List Pair → List (List ℕ)
-keys pairs = map (λ pair. pair.0) pairs
-
-less_is : (o : Ordering) → is_lt o ≡ true → o ≡ Less
-less_is Less h = refl
-less_is Equal h = absurd cc
-less_is Greater h = absurd cc
-
-below_all : (key next : List ℕ) (ks : List (List ℕ)) → slice_cmp nat_cmp key next ≡ Less → AllByRecursion (λ k. slice_cmp nat_cmp next k ≡ Less) ks → AllByRecursion (λ k. slice_cmp nat_cmp key k ≡ Less) ks
-below_all key next [] less h = tt
-below_all key next (k ∷ ks) less h = (nat_list_cmp_total.trans key next k less h.0, below_all key next ks less h.1)
-
-after_sorted : (key : List ℕ) (pairs : List Pair) → ascend_after key pairs ≡ true → IsStrictlySortedBy (slice_cmp nat_cmp) (key ∷ keys pairs)
-unfolding IsStrictlySortedBy keys
-after_sorted key [] h = (tt, tt)
-after_sorted key (p ∷ pairs) h =
-    let parts = and_parts (is_lt (slice_cmp nat_cmp key p.0)) (ascend_after p.0 pairs) h in
-    let less = less_is (slice_cmp nat_cmp key p.0) parts.0 in
-    let rest = after_sorted p.0 pairs parts.1 in
-    ((less, below_all key p.0 (keys pairs) less rest.0), rest)
-
-sorted_after : (key : List ℕ) (pairs : List Pair) → IsStrictlySortedBy (slice_cmp nat_cmp) (key ∷ keys pairs) → ascend_after key pairs ≡ true
-unfolding IsStrictlySortedBy keys
-sorted_after key [] h = refl
-sorted_after key (p ∷ pairs) h = and_from _ _ (ap is_lt (h.0).0) (sorted_after p.0 pairs h.1)
-
-keys_sorted : (pairs : List Pair) → keys_ascend pairs ≡ true → IsStrictlySortedBy (slice_cmp nat_cmp) (map (λ pair. pair.0) pairs)
-unfolding IsStrictlySortedBy keys
-keys_sorted [] h = tt
-keys_sorted (p ∷ pairs) h = after_sorted p.0 pairs h
-
-pub sorted_keys : (pairs : List Pair) → IsStrictlySortedBy (slice_cmp nat_cmp) (map (λ pair. pair.0) pairs) → keys_ascend pairs ≡ true
-unfolding keys
-sorted_keys [] h = refl
-sorted_keys (p ∷ pairs) h = sorted_after p.0 pairs h
 
 -- ---- addresses, labels and names of pools
 
@@ -132,6 +91,7 @@ labels_back ls h =
     }
 
 pool_name_there : (text : List ℕ) → IsPoolName text → is_pool_name text ≡ true
+unfolding cidr_of
 pool_name_there text (inl name) = let is : is_name_text text ≡ true = name in rw is refl
 pool_name_there text (inr (cidr, e)) = go (is_name_text text)
   where
@@ -140,6 +100,7 @@ pool_name_there text (inr (cidr, e)) = go (is_name_text text)
     go false = rw e refl
 
 pool_name_back : (text : List ℕ) → is_pool_name text ≡ true → IsPoolName text
+unfolding cidr_of
 pool_name_back text h = go (is_name_text text) (cidr_reading text) refl refl h
   where
     go : (b : Bool) (r : Result CidrValue AddrFault) → is_name_text text ≡ b → cidr_reading text ≡ r → (b || is_some (value_of r)) ≡ true → IsPoolName text

@@ -1,16 +1,15 @@
 -- What the members of a request's objects hold.
-use Rattle.std.specs.Prelude.{ℕ, ◌^◌, List, [], ◌∷◌, ◌++◌, codes, Bool, true, false, bytes_eq, nat_lt, nat_le, length, Option, Some, None, option_and_then, option_map, if◌then◌else◌}
+use Rattle.std.specs.Prelude.{ℕ, ◌^◌, List, [], ◌∷◌, ◌++◌, codes, Bool, true, false, bytes_eq, nat_lt, Option, Some, None, option_and_then, option_map, if◌then◌else◌}
 use Rattle.serde_json.specs.Data.{Data, Items, no_items, item, Members, no_members, member}
 use Rattle.serde_json.specs.Find.{get, as_bool, as_str, as_array, as_object}
 use Rattle.ipam_json.specs.Path.{as_whole}
 use Rattle.ipam_addr.specs.Shape.{AddrValue, CidrValue}
-use Rattle.ipam_addr.specs.Text.{address_of, cidr_reading}
-use Rattle.ipam_reserve.specs.Shape.{ReservationValue}
+use Rattle.ipam_addr.specs.Text.{address_of}
 use Rattle.ipam_select.specs.Formula.{Formula, every}
 use Rattle.ipam_pool.specs.declared.pools.Mode.{Mode}
 use Rattle.ipam_pool.specs.declared.pools.Mode.TheVariants.{Automatic, Manual}
 use Rattle.ipam_record_text.specs.Reading.{◌>>=◌, only_if, text_at, in_32_bits}
-use Rattle.ipam_record_text.specs.Blocks.{value_of}
+use Rattle.ipam_record_text.specs.Reservations.{cidr_in}
 use Rattle.ipam_record_text.specs.Rules.{selector_of}
 use Rattle.ipam_model.specs.Pairs.{Pair}
 use Rattle.ipam_request_text.specs.declared.shape.Shape.TheVariants.{Scope}
@@ -78,29 +77,9 @@ addresses_after addresses (item d ds) = do
   a ← address_in d
   addresses_after (addresses ++ a ∷ []) ds
 
--- the CIDR that the text writes
-abbrev pub cidr_of : List ℕ → Option CidrValue
-cidr_of text = value_of (cidr_reading text)
-
--- the CIDR whose text the JSON is
-abbrev pub cidr_in : Data → Option CidrValue
-cidr_in d = option_and_then cidr_of (as_str d)
-
 -- the CIDR whose text has this name
 abbrev pub cidr_at : List ℕ → Data → Option CidrValue
 cidr_at name d = option_and_then cidr_in (get name d)
-
--- the CIDRs, and behind them those that the items are
-abbrev pub cidrs_after : List CidrValue → Items → Option (List CidrValue)
-cidrs_after cidrs no_items = Some cidrs
-cidrs_after cidrs (item d ds) = do
-  c ← cidr_in d
-  cidrs_after (cidrs ++ c ∷ []) ds
-
--- the reservation of this name and these CIDRs, where they are at most 64
-abbrev pub reservation_of : List ℕ → List CidrValue → Option ReservationValue
-reservation_of name cidrs =
-    only_if (nat_le (length cidrs) 64) (record { name = name; cidrs = cidrs })
 
 abbrev pub mode_named : List ℕ → Option Mode
 mode_named text =

@@ -7,6 +7,7 @@ use Rattle.std.specs.Str.{is_utf8}
 use Rattle.ipam_pool.specs.declared.pools.Pool.{Pool as OnePool}
 use Rattle.ipam_record_text.specs.declared.config.Config.{Config as Settings}
 use Rattle.ipam_record_text.specs.Reading.{◌>>=◌, only_if, truth_at, text_at, items_at}
+use Rattle.ipam_record_text.specs.Reservations.{cidrs_after, named_cidrs}
 use Rattle.ipam_model.specs.declared.request.AddRequest.{AddRequest}
 use Rattle.ipam_model.specs.declared.request.Admin.TheVariants as change
 use Rattle.ipam_model.specs.declared.request.CollectRequest.{CollectRequest}
@@ -15,7 +16,7 @@ use Rattle.ipam_model.specs.declared.request.Request.{Request}
 use Rattle.ipam_model.specs.declared.request.Request.TheVariants as request
 use Rattle.ipam_request_text.specs.declared.shape.Shape.{Shape}
 use Rattle.ipam_request_text.specs.declared.shape.Shape.TheVariants.{Add, Del, Check, Release, Collect, Probe, Pool, Disable, Reserve, Unreserve, Config, Scope}
-use Rattle.ipam_request_text.specs.Fields.{truth_or, whole_or_0, number_or_0, small_at, texts_in, texts_or_none, pairs_or_none, address_in, addresses_after, cidr_at, cidrs_after, reservation_of, mode_or, selector_or, scope_or}
+use Rattle.ipam_request_text.specs.Fields.{truth_or, whole_or_0, number_or_0, small_at, texts_in, texts_or_none, pairs_or_none, address_in, addresses_after, cidr_at, mode_or, selector_or, scope_or}
 use Rattle.ipam_request_text.specs.Shapes.{are_known, shape_named}
 use Rattle.ipam_request_text.specs.Tests.{is_sound_request}
 
@@ -101,7 +102,7 @@ reserve_in d = do
   items ← items_at (codes "cidrs") d
   cidrs ← cidrs_after [] items
   name ← text_at (codes "name") d
-  reservation ← reservation_of name cidrs
+  reservation ← named_cidrs name cidrs
   Some (request.Admin (change.Reserve reservation))
 
 unfoldable pub config_in : Data → Option Settings

@@ -8,6 +8,7 @@ use Rattle.ipam_block_text.specs.Limits.{keys_ascend, are_attributes}
 use Rattle.ipam_select.specs.Sound.{is_sound}
 use Rattle.ipam_pool.specs.declared.pools.Pool.{Pool as OnePool}
 use Rattle.ipam_reserve.specs.Shape.{ReservationValue}
+use Rattle.ipam_record_text.specs.Blocks.{cidr_of}
 use Rattle.ipam_model.specs.declared.request.AddRequest.{AddRequest}
 use Rattle.ipam_model.specs.declared.request.Admin.{Admin}
 use Rattle.ipam_model.specs.declared.request.Admin.TheVariants as change
@@ -16,7 +17,6 @@ use Rattle.ipam_model.specs.declared.request.ProbeRequest.{ProbeRequest}
 use Rattle.ipam_model.specs.declared.request.Request.{Request}
 use Rattle.ipam_model.specs.declared.request.Request.TheVariants.{Add, AddThis, Del, Check, Release, Collect, Admin as Change, Probe}
 use Rattle.ipam_model.specs.Pairs.{Pair}
-use Rattle.ipam_request_text.specs.Fields.{cidr_of}
 use Rattle.ipam_model.specs.SoundRequest.{is_label_byte}
 
 abbrev pub is_address : AddrValue → Bool

@@ -3,7 +3,9 @@ ghost use Rattle.std.specs.Prelude.{◌≡◌, [], ◌∷◌, ◌++◌, IfOk, op
 ghost use Rattle.serde_json.specs.View.{view, items_view, members_view};
 ghost use Rattle.ipam_record_text.specs.Reading.{truth_at, text_at, items_at, in_32_bits};
 ghost use Rattle.ipam_record_text.specs.Rules.{selector_of};
-ghost use Rattle.ipam_request_text.specs.Fields.{truth_or, whole_or_0, number_in, number_or_0, in_8_bits, small_at, texts_after, texts_in, texts_or_none, pairs_after, pairs_in, pairs_or_none, address_in, addresses_after, cidr_of, cidr_in, cidr_at, cidrs_after, mode_named, mode_in, mode_or, selector_in, selector_or, named_scope, scope_in, scope_or};
+ghost use Rattle.ipam_record_text.specs.Blocks.{cidr_of};
+ghost use Rattle.ipam_record_text.specs.Reservations.{cidr_in, cidrs_after};
+ghost use Rattle.ipam_request_text.specs.Fields.{truth_or, whole_or_0, number_in, number_or_0, in_8_bits, small_at, texts_after, texts_in, texts_or_none, pairs_after, pairs_in, pairs_or_none, address_in, addresses_after, cidr_at, mode_named, mode_in, mode_or, selector_in, selector_or, named_scope, scope_in, scope_or};
 
 use crate::shape::{Shape, are_known};
 use ipam_addr::{Addr, Cidr, read_addr, read_cidr};
@@ -201,6 +203,7 @@ pub(crate) fn addresses_of(alloc: Global, items: &[Value]) -> Result<Option<Seq<
     Ok(Some(Seq::of(addresses)))
 }
 
+#[tactic(auto, unfolding(ipam_record_text::specs::Blocks::cidr_of))]
 fn cidr_of(text: &str) -> Option<Cidr>
     ensures { result ≡ cidr_of text.now }
 {
@@ -218,6 +221,7 @@ pub(crate) fn cidr_at(value: &Value, name: &str) -> Option<Cidr>
     cidr_in(found)
 }
 
+#[tactic(auto, unfolding(ipam_record_text::specs::Reservations::cidr_in))]
 fn cidr_in(value: &Value) -> Option<Cidr>
     ensures { result ≡ cidr_in (view value.now) }
 {

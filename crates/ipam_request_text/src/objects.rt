@@ -281,7 +281,7 @@ fn disable_in(alloc: Global, value: &Value) -> Result<Option<Request>, AllocErro
     Ok(Some(Request::Admin(Admin::Disable(name, disabled))))
 }
 
-#[tactic(auto, unfolding(crate::specs::Reading::reserve_in))]
+#[tactic(auto, unfolding(crate::specs::Reading::reserve_in, ipam_record_text::specs::Reservations::named_cidrs))]
 fn reserve_in(alloc: Global, value: &Value) -> Result<Option<Request>, AllocError>
     ensures { IfOk result (λ found. found ≡ reserve_in (view value.now)) }
 {

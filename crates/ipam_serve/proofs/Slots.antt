@@ -1,7 +1,6 @@
 -- What runs in the slot of a pass that took a turn.
-use Rattle.std.proofs.Common.{◌≡◌, ◌≢◌, ◌<◌, ℕ, ◌+◌, arith, Bool, true, false, List, [], ◌∷◌, ◌++◌, Option, Some, None, IsTrue, refl, sym, ap, ◌∙◌, subst}
+use Rattle.std.proofs.Common.{◌≡◌, ◌<◌, ℕ, ◌+◌, arith, Bool, true, false, List, [], ◌∷◌, ◌++◌, Option, Some, None, IsTrue, refl, sym, ap, ◌∙◌, subst}
 use Rattle.std.specs.Prelude.{not, if◌then◌else◌}
-use Rattle.turn_lock.specs.Histories.{NoneBy}
 use Rattle.ipam_records.specs.Datastore.{Datastore}
 use Rattle.ipam_records.specs.Word.{waits}
 use Rattle.ipam_collect.specs.declared.collect.Grace.{Grace}
@@ -14,28 +13,14 @@ use Rattle.ipam_model.specs.declared.request.Request.{Request}
 use Rattle.ipam_model.specs.declared.request.Request.TheVariants.{Add, AddThis, Del, Check, Release, Collect, Admin, Probe}
 use Rattle.ipam_model.specs.Cluster.{Cluster, Running, Slots, after, begun, fed_with, goes_on, state_of, with_slot}
 use Rattle.ipam_model.specs.Course.{is_due}
-use Rattle.ipam_model.specs.History.{Base, Lawful, MayFeed, cluster_at, slot_of_entry}
+use Rattle.ipam_model.specs.History.{Lawful, MayFeed, cluster_at, slot_of_entry}
 use Rattle.ipam_running.specs.Running.{grace_of}
-use Rattle.ipam_laws.proofs.KeptWords.{other-slot, own-slot}
+use Rattle.ipam_laws.proofs.KeptWords.{own-slot}
 use Rattle.ipam_shared.specs.PassValue.{PassValue}
 use Rattle.ipam_shared.specs.Passes.{IsSamePass, runs_at, runs_in}
 use Rattle.ipam_shared.specs.Turning.{SeesNext, WaitsFor}
+use Rattle.ipam_shared.proofs.Slots.{runs-past}
 use Rattle.ipam_serve.specs.Gains.{asked_after, asked_in, is_early, is_waiting, unless_answered}
-
--- ---- entries of other slots
-
-slot-after : (cluster : Cluster) (new : Entry) (slot : ℕ) → slot_of_entry new ≢ slot → (after cluster new).slots slot ≡ cluster.slots slot
-unfolding after
-slot-after cluster (entry.Began other request) slot apart = other-slot other slot (begun request) cluster.slots apart
-slot-after cluster (entry.Fed other at live) slot apart = other-slot other slot (fed_with live (cluster.slots other)) cluster.slots apart
-slot-after cluster (entry.Called c) slot apart = other-slot c.slot slot (goes_on cluster.store cluster.entries c.answer (cluster.slots c.slot)) cluster.slots apart
-slot-after cluster (entry.Stopped other) slot apart = other-slot other slot None cluster.slots apart
-
-pub runs-past : (base : Base) (between seen : List Entry) (slot : ℕ) → NoneBy slot_of_entry slot between → runs_at base (between ++ seen) slot ≡ runs_at base seen slot
-unfolding cluster_at
-runs-past base [] seen slot others = refl
-runs-past base (new ∷ between) seen slot others =
-    slot-after (cluster_at base (between ++ seen)) new slot others.0 ∙ runs-past base between seen slot others.1
 
 -- ---- an entry of the slot
 

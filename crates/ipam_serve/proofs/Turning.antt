@@ -16,7 +16,8 @@ use Rattle.ipam_shared.specs.Passes.{IsSamePass, runs_in}
 use Rattle.ipam_shared.specs.Turning.{SeesNext}
 use Rattle.ipam_serve.specs.Gains.{Gained, Passed, Took, asked_after, asked_in, calls_in, counted, of_slot}
 use Rattle.ipam_serve.proofs.Entries.{asked_after-append, calls_in-append, mapped-add, of_slot-append, of_slot-told}
-use Rattle.ipam_serve.proofs.Slots.{next-asked, runs-past}
+use Rattle.ipam_shared.proofs.Slots.{runs-past}
+use Rattle.ipam_serve.proofs.Slots.{next-asked}
 
 -- ---- one turn
 

@@ -1,8 +1,7 @@
 -- No reply's JSON has a float, so that its compact text is written.
-use Rattle.std.proofs.Common.{◌≡◌, ℕ, false, List, [], ◌∷◌, map, refl}
-use Rattle.serde_json.specs.Data.{Data}
-use Rattle.serde_json.specs.View.{items_of}
-use Rattle.serde_json.specs.Written.{has_float, items_have_float}
+use Rattle.std.proofs.Common.{◌≡◌, ℕ, false, List, refl}
+use Rattle.serde_json.specs.Written.{has_float}
+use Rattle.ipam_json.proofs.Floatless.{items_without}
 use Rattle.ipam_answer_text.proofs.Floats.{has_float-answer_data}
 use Rattle.ipam_feed.specs.declared.route.Route.{Route as OneRoute}
 use Rattle.ipam_feed.specs.declared.change.Change.{Change}
@@ -11,10 +10,6 @@ use Rattle.ipam_session.specs.declared.route.Since.TheVariants.{Changes, Compact
 use Rattle.ipam_session.specs.declared.replies.Reply.{Reply}
 use Rattle.ipam_session.specs.declared.replies.Reply.TheVariants.{Called, Answered, Waiting, Stopped, Refused, Routes, RoutesSince}
 use Rattle.ipam_session.specs.Replies.{call_data, route_data, change_data, routes_data, changes_data, since_data, reply_data}
-
-items_without : {A : Type 0} (f : A → Data) → ((a : A) → has_float (f a) ≡ false) → (all : List A) → items_have_float (items_of (map f all)) ≡ false
-items_without f each [] = refl
-items_without f each (a ∷ rest) = rw (each a) (items_without f each rest)
 
 pub call_without : (status : ℕ) (stdout : List ℕ) → has_float (call_data status stdout) ≡ false
 unfolding call_data

@@ -2,3 +2,4 @@ pub mod Histories
 pub mod Standing
 pub mod Ending
 pub mod Calls
+pub mod Courses

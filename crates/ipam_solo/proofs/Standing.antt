@@ -1,8 +1,7 @@
 -- What runs in slot 0, and how entries count.
-use Rattle.std.proofs.Common.{◌≡◌, ◌≢◌, ◌<◌, ℕ, ◌+◌, arith, Bool, true, false, inl, inr, List, [], ◌∷◌, ◌++◌, Option, Some, None, refl, sym, ap, ◌∙◌, subst}
-use Rattle.std.specs.Prelude.{option_map, if◌then◌else◌}
+use Rattle.std.proofs.Common.{◌≡◌, ◌≢◌, ℕ, ◌+◌, inl, inr, List, [], ◌∷◌, ◌++◌, Option, Some, None, refl, sym, ap, ◌∙◌, subst}
+use Rattle.std.specs.Prelude.{option_map}
 use Rattle.ipam_records.specs.Word.{waits}
-use Rattle.ipam_collect.specs.declared.collect.Grace.{Grace}
 use Rattle.ipam_model.specs.declared.answer.Answer.TheVariants.{Fault}
 use Rattle.ipam_model.specs.declared.entry.Called.{Called}
 use Rattle.ipam_model.specs.declared.entry.Entry.{Entry}
@@ -13,7 +12,7 @@ use Rattle.ipam_model.specs.declared.entry.SlotState.{SlotState}
 use Rattle.ipam_model.specs.declared.entry.SlotState.TheVariants as state
 use Rattle.ipam_model.specs.declared.request.CollectRequest.{CollectRequest}
 use Rattle.ipam_model.specs.declared.request.Request.{Request}
-use Rattle.ipam_model.specs.declared.request.Request.TheVariants.{Add, AddThis, Del, Check, Release, Collect, Admin, Probe}
+use Rattle.ipam_model.specs.declared.request.Request.TheVariants.{Del, Collect}
 use Rattle.ipam_model.specs.Answered.{Answered}
 use Rattle.ipam_model.specs.Cluster as model
 use Rattle.ipam_model.specs.Cluster.{after}
@@ -23,6 +22,7 @@ use Rattle.ipam_running.specs.declared.running.Running.{Running}
 use Rattle.ipam_collect.specs.Collect.{grace_asked}
 use Rattle.ipam_running.specs.Running.{running_rest, running_grace, grace_of}
 use Rattle.ipam_running.proofs.StillLemmas.{waits_with}
+use Rattle.ipam_cluster.proofs.Waiting.{asks-times, is-waiting, not-idle}
 use Rattle.ipam_cluster.specs.Cluster.{IsSlot, StandsFor, grace_in, slot_of, state_in, WaitsWith}
 use Rattle.ipam_kept.specs.declared.kept.Kept.{Kept}
 use Rattle.ipam_kept.specs.Kept.{IsKept, KeepsWith, KeptFor, Tells}
@@ -57,27 +57,8 @@ there tells request kept runs =
 pub runs-kept : {D : Type 0} (tells : Tells D) (request : Request) (kept : Kept D) → Runs tells request kept → IsKept tells kept
 runs-kept tells request kept runs = (runs.base, (runs.history, runs.kept_for))
 
-not-idle : (b : Bool) → (if b then state.Waiting else state.Running) ≢ state.Idle
-not-idle true = λ e. cc e
-not-idle false = λ e. cc e
-
 pub never-idle : {D : Type 0} (request : Request) (kept : Kept D) → There request kept → state_in (slot_of kept.cluster 0) ≢ state.Idle
 never-idle request kept at = λ e. not-idle (waits (running_rest at.running)) (sym (ap state_in at.is) ∙ e)
-
-is-waiting : (b : Bool) → (if b then state.Waiting else state.Running) ≡ state.Waiting → b ≡ true
-is-waiting true e = refl
-is-waiting false e = cc e
-
--- only a collection has times
-asks-times : (request : Request) (grace : Grace) → grace_of request ≡ Some grace → (c : CollectRequest) × (request ≡ Collect c)
-asks-times (Collect c) grace e = (c, refl)
-asks-times (Add add) grace e = absurd (cc e)
-asks-times (AddThis add address) grace e = absurd (cc e)
-asks-times (Del id) grace e = absurd (cc e)
-asks-times (Check id addresses) grace e = absurd (cc e)
-asks-times (Release node cidr) grace e = absurd (cc e)
-asks-times (Admin change) grace e = absurd (cc e)
-asks-times (Probe probe) grace e = absurd (cc e)
 
 -- what waits is a collection
 pub waits-collect : {D : Type 0} (request : Request) (kept : Kept D) → There request kept → state_in (slot_of kept.cluster 0) ≡ state.Waiting → (c : CollectRequest) × (request ≡ Collect c)
@@ -95,19 +76,6 @@ first-waits request kept c at is none waiting =
     let own = subst (λ (r : Request). There r kept) is at in
     let no_grace : c.grace ≡ 0 = subst (λ (r : Request). HasNoGrace r) is none in
     (waiting, times-are c kept own ∙ ap (λ (n : ℕ). Some (record { at = c.at; grace = n })) no_grace)
-
-injected : (one other : Grace) → Some one ≡ Some other → one ≡ other
-injected one other e = cc e
-
--- and its own first list is not too early
-pub never-early : (o : Option Running) (at since grace : ℕ) → WaitsWith o (record { at = at; grace = 0 }) → WaitsWith o (record { at = since; grace = grace }) × (at < since + grace) → ⊥
-never-early o at since grace own early =
-    let same : Some (record { at = at; grace = 0 }) ≡ Some (record { at = since; grace = grace }) = sym own.1 ∙ early.0.1 in
-    let times = injected _ _ same in
-    let first : at ≡ since = ap (λ (g : Grace). g.at) times in
-    let second : 0 ≡ grace = ap (λ (g : Grace). g.grace) times in
-    let less = early.1 in
-    absurd (omega arith)
 
 -- ---- entries count
 

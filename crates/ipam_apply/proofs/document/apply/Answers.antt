@@ -5,12 +5,14 @@ use Rattle.ipam_apply.proofs.document.apply.Goals as goal
 
 pub returns-in-Ok-clause-applied : goal.returns-in-Ok-clause-applied
 returns-in-Ok-clause-applied g c =
-    Read c.in-Ok.document.items c.in-Ok.ensures.input c.in-Ok.ensures.no_fault (rw c.as_slice.ensures.value at c.apply_document.ensures.ended)
+    Read c.in-Ok.document.items (record { bytes = c.in-Ok.ensures.bytes; whole = c.in-Ok.ensures.whole; bound = c.in-Ok.ensures.bound }) c.in-Ok.ensures.no_fault
+    (rw c.as_slice.ensures.value at c.apply_document.ensures.ended)
 
 pub returns-in-Ok-clause-whole : goal.returns-in-Ok-clause-whole
 returns-in-Ok-clause-whole g c =
     λ done. done-whole _ c.in-Ok.document.items _ _ c.apply_document.result _ _
-    (rw c.as_slice.ensures.value at c.apply_document.ensures.ended) c.in-Ok.ensures.input done
+    (rw c.as_slice.ensures.value at c.apply_document.ensures.ended)
+    (record { bytes = c.in-Ok.ensures.bytes; whole = c.in-Ok.ensures.whole; bound = c.in-Ok.ensures.bound }) done
 
 pub returns-in-Err-Read-clause-applied : goal.returns-in-Err-Read-clause-applied
 returns-in-Err-Read-clause-applied g c =

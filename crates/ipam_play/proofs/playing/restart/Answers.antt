@@ -1,14 +1,12 @@
 use Rattle.std.proofs.Common.{◌≡◌, arith, inl, refl}
-use Rattle.std.proofs.lemmas.Result.{err_from_is_err_and}
-use Rattle.ipam_play.proofs.Happenings.{one_stops}
+use Rattle.ipam_play.proofs.Happenings.{exit_stops}
 use Rattle.ipam_play.proofs.Restarts.{busy_cleared, idle_cleared, nothing_cleared, restarted}
 use Rattle.ipam_play.proofs.playing.restart.Goals.{in-Some, in_default}
 use Rattle.ipam_play.proofs.playing.restart.Goals as goal
 
 pub returns-in_err-make_room : goal.returns-in_err-make_room
 returns-in_err-make_room c =
-    let p = err_from_is_err_and c.from_residual.result c.from_residual.ensures.1 in
-    rw (p.1, p.2) (one_stops _ _ _ _ _ c.in_err-make_room.field-0.0 (λ base history h. h) c.make_room.ensures.journal (inl c.in_err-make_room.ensures.fault))
+    exit_stops _ _ _ _ _ _ c.in_err-make_room.field-0.0 c.from_residual.ensures.1 (λ base history h. h) c.make_room.ensures.journal (inl c.in_err-make_room.ensures.fault)
 
 pub loop-slot-init : goal.loop-slot-init
 loop-slot-init c = record { cleared = nothing_cleared _ _; room = omega (arith, c.in_ok-make_room.ensures.room) }

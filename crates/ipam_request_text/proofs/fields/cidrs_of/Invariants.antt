@@ -1,6 +1,6 @@
 use Rattle.std.proofs.Common.{◌≡◌, [], drop}
 use Rattle.serde_json.specs.View.{items_view}
-use Rattle.ipam_request_text.specs.Fields.{cidrs_after}
+use Rattle.ipam_record_text.specs.Reservations.{cidrs_after}
 use Rattle.ipam_request_text.proofs.fields.cidrs_of.Given as goal
 
 -- what was found so far, and what the other items hold

@@ -1,7 +1,7 @@
 use Rattle.std.proofs.Common.{Err, ap, arith, ◌∙◌}
 use Rattle.ipam_model.specs.declared.entry.Entry.TheVariants as entry
 use Rattle.ipam_solo.proofs.Calls.{counts-one, is-fed}
-use Rattle.ipam_solo.proofs.Standing.{never-early}
+use Rattle.ipam_cluster.proofs.Waiting.{never-early}
 use Rattle.ipam_cluster.specs.Cluster.{slot_of}
 use Rattle.ipam_solo.proofs.steps.feed_first.Goals as goal
 

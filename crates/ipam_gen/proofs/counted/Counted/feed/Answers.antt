@@ -1,19 +1,12 @@
-use Rattle.std.proofs.Common.{arith}
 use Rattle.ipam_model.specs.Course.{Feed}
-use Rattle.ipam_gen.proofs.CountLemmas.{few-again, few-exhausted, happens}
+use Rattle.ipam_gen.proofs.CountLemmas.{happens, room-again, room-exhausted}
 use Rattle.ipam_gen.proofs.counted.Counted.feed.Goals as goal
 
 pub note-requires-clause-again : goal.note-requires-clause-again
-note-requires-clause-again c =
-    let few = few-again c.args.self.now c.requires.somewhere in
-    let room = c.in_ok-entry.ensures.counts.few in
-    omega arith
+note-requires-clause-again c = room-again c.args.self.now _ c.requires.somewhere c.in_ok-entry.ensures.counts
 
 pub note-requires-clause-exhausted : goal.note-requires-clause-exhausted
-note-requires-clause-exhausted c =
-    let few = few-exhausted c.args.self.now c.requires.somewhere in
-    let room = c.in_ok-entry.ensures.counts.few in
-    omega arith
+note-requires-clause-exhausted c = room-exhausted c.args.self.now _ c.requires.somewhere c.in_ok-entry.ensures.counts
 
 pub returns-clause-happens : goal.returns-clause-happens
 returns-clause-happens c =

@@ -1,7 +1,7 @@
--- What comes of reading standard input.
+-- What comes of reading a source as a whole.
 use Rattle.std.specs.Prelude.{⊤, Result, Ok, Err}
-use Rattle.ipam_call.specs.declared.input.InputFault.{InputFault}
-use Rattle.ipam_call.specs.declared.input.InputFault.TheVariants.{Read, Memory}
+use Rattle.ipam_lines.specs.declared.input.InputFault.{InputFault}
+use Rattle.ipam_lines.specs.declared.input.InputFault.TheVariants.{Read, Memory}
 
 -- a fact where a read failed
 abbrev pub OnReadFault : {T : Type 0} → Result T InputFault → Type 0 → Type 0

@@ -1,0 +1,28 @@
+-- The rows that a request leaves at whose last call the keeper failed.
+use Rattle.std.specs.Prelude.{◌≡◌, List, ◌∷◌, Option, Some}
+use Rattle.ipam_records.specs.declared.call.Row.{Row as RowText}
+use Rattle.ipam_model.specs.declared.answer.Answer.TheVariants.{Fault}
+use Rattle.ipam_model.specs.declared.entry.Called.{Called}
+use Rattle.ipam_model.specs.declared.entry.Entry.{Entry}
+use Rattle.ipam_model.specs.declared.entry.Entry.TheVariants as entry
+use Rattle.ipam_model.specs.declared.entry.Fate.TheVariants.{Before}
+use Rattle.ipam_model.specs.declared.request.Request.{Request}
+use Rattle.ipam_model.specs.Alone.{IsAlone}
+use Rattle.ipam_model.specs.History.{Base, Lawful, store_at}
+use Rattle.ipam_kept.specs.declared.write.RowWrite.{RowWrite}
+use Rattle.ipam_kept.specs.Doubt.{IsDoubt}
+use Rattle.ipam_kept.specs.Rows.{AreToldKept}
+
+-- The rows are those of a lawful course of the request that ends in a call at which the keeper failed,
+-- but for the row in doubt.
+pub record IsFaultCourse (base : Base) (asked : Request) (new : Option (List RowText)) : Type 0 where
+  pub last : Called
+  pub earlier : List Entry
+  pub lawful : Lawful base (entry.Called last ∷ earlier)
+  pub ends : last.answer ≡ Some Fault
+  pub failed : last.fate ≡ Before
+  pub own : last.slot ≡ 0
+  pub alone : IsAlone asked earlier
+  pub doubt : Option RowWrite
+  pub rows : AreToldKept new (store_at base (entry.Called last ∷ earlier)) doubt
+  pub is_doubt : IsDoubt doubt base (entry.Called last ∷ earlier)
