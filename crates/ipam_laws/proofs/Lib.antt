@@ -12,6 +12,8 @@ pub mod Calls
 pub mod Steps
 pub mod PartSteps
 pub mod WriteSteps
+pub mod ChosenSlots
+pub mod SeenReads
 pub mod WordSteps
 pub mod RequestSteps
 pub mod SlotSteps
