@@ -25,6 +25,7 @@ use Rattle.ipam_model.specs.Consistent.{IsSlotOfSome, pools_in, pools_in_row}
 use Rattle.ipam_model.specs.Opened.{Texts, Breaks, NoText, AnotherKey, NoTable, NoSlot, NoBlock, NoAffinityFor, NoNodeFor, AreByKey, IsBrokenBlock, cidr_of_key, pools_read, read_store, readable, reading_of}
 use Rattle.ipam_model.specs.Reads.{Row}
 use Rattle.ipam_records.proofs.DatastoreLemmas.{row_key-row_of}
+use Rattle.ipam_records.proofs.RowKinds.{each-kind}
 use Rattle.ipam_affinity.specs.declared.record.Affinity.{Affinity}
 use Rattle.ipam_block.specs.Shape as block
 use Rattle.ipam_model.specs.Affinities.{affinity}
@@ -107,16 +108,7 @@ is-broken revision (Err broken) h = ap (λ (t : TextFault). is_fault fault.Unsou
 
 -- the pools that are found are those of the rows
 pools-same : (rows : List Row) → pools_found (found_in key.Pools rows) ≡ pools_in rows
-pools-same rows = by (row_of key.Pools rows)
-  where
-    by : (o : Option Row) → pools_found (option_map (λ (row : Row). row.1) o) ≡ pools_in_row o
-    by None = refl
-    by (Some (revision, record_of.Pools pools)) = refl
-    by (Some (revision, record_of.Config config)) = refl
-    by (Some (revision, record_of.Reservations reservations)) = refl
-    by (Some (revision, record_of.Block b)) = refl
-    by (Some (revision, record_of.Affinity a)) = refl
-    by (Some (revision, record_of.Handle handle)) = refl
+pools-same rows = each-kind (λ o. pools_found (option_map (λ (row : Row). row.1) o) ≡ pools_in_row o) refl (λ r x. refl) (λ r x. refl) (λ r x. refl) (λ r x. refl) (λ r x. refl) (λ r x. refl) (row_of key.Pools rows)
 
 module _ (texts : Texts) where
   outside-is : (cidr : CidrValue) → IsCidr cidr → is_outside (pools_read texts) (Some cidr) ≡ true → ¬ (IsSlotOfSome (pools_read texts) cidr)
