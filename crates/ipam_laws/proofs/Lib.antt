@@ -65,6 +65,7 @@ pub mod OpenedRows
 pub mod OpenedHistory
 pub mod OpensRows
 pub mod FaultLists
+pub mod TextFaults
 pub mod FirstFault
 pub mod AllRead
 pub mod MayHear
