@@ -1,5 +1,7 @@
 -- Lemmas on blocks.
+pub mod Members
 pub mod Ordinals
+pub mod FreeOrdinals
 pub mod Ascending
 pub mod Assigning
 pub mod Freeing

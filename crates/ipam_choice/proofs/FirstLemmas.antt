@@ -36,20 +36,6 @@ first_found-nothing {A} finds (suc many) from none =
     ap (λ (o : Option A). elim o as (λ o. Option (ℕ × A)) [ Some found ↦ Some (from, found) | None ↦ first_found finds many (from + 1) ]) (none from (omega arith) (omega arith))
     ∙ first_found-nothing finds many (from + 1) (λ j up down. none j (omega arith) (omega arith))
 
--- what holds of a number where nothing is found
-pub first_found-none : {A : Type 0} → (finds : ℕ → Option A) (many from : ℕ) → first_found finds many from ≡ None → (k : ℕ) → from ≤ k → k < from + many → finds k ≡ None
-unfolding first_found
-first_found-none finds zero from e k above below = absurd (omega arith)
-first_found-none {A} finds (suc many) from e k above below = by (λ f. first_found-none finds many (from + 1) f k) (finds from) refl e
-  where
-    by : (first_found finds many (from + 1) ≡ None → from + 1 ≤ k → k < from + 1 + many → finds k ≡ None) → (o : Option A) → finds from ≡ o
-        → elim o as (λ o. Option (ℕ × A)) [ Some a ↦ Some (from, a) | None ↦ first_found finds many (from + 1) ] ≡ None → finds k ≡ None
-    by rest (Some a) is f = absurd (cc f)
-    by rest None is f = elim (cases_Bool (k == from)) [
-      | inl same ↦ subst (λ (m : ℕ). finds m ≡ None) (sym (eqb-true k from same)) is
-      | inr other ↦ rest f (grind arith) (omega arith)
-    ]
-
 pub record IsFoundAt {A : Type 0} (finds : ℕ → Option A) (many from : ℕ) (found : ℕ × A) : Type 0 where
   pub above : from ≤ found.0
   pub below : found.0 < from + many

@@ -9,7 +9,8 @@ use Rattle.ipam_reserve.specs.Spans.{ReservedValue, is_reserved_by}
 use Rattle.ipam_reserve.specs.Free.{IsFull, HasRoom}
 use Rattle.ipam_model.specs.Choice.{first_found}
 use Rattle.ipam_choice.specs.Sight.{free_at, has_free}
-use Rattle.ipam_choice.proofs.FirstLemmas.{first_found-nothing, first_found-none}
+use Rattle.ipam_model.proofs.ChoiceLemmas.{first_found-none}
+use Rattle.ipam_choice.proofs.FirstLemmas.{first_found-nothing}
 
 free_at-tested : (reserved : AddrValue → Bool) (cidr : CidrValue) (ordinal : ℕ) (b : Bool) → reserved (address_of cidr ordinal) ≡ b → free_at reserved cidr ordinal ≡ cond b None (Some (address_of cidr ordinal))
 free_at-tested reserved cidr ordinal b is = ap (λ (t : Bool). cond t None (Some (address_of cidr ordinal))) is

@@ -6,7 +6,6 @@ use Rattle.ipam_block.specs.Shape.{BlockValue}
 use Rattle.ipam_records.specs.declared.call.Call.TheVariants.{Get, List as ListAll}
 use Rattle.ipam_records.specs.declared.key.Key.TheVariants as key
 use Rattle.ipam_records.specs.declared.key.Kind.TheVariants as kind
-use Rattle.ipam_records.specs.Datastore.{reply_of}
 use Rattle.ipam_model.specs.declared.answer.Scan.{Scan}
 use Rattle.ipam_model.specs.declared.outcome.AddAnswer.{AddAnswer}
 use Rattle.ipam_model.specs.declared.outcome.Gift.{Gift}
@@ -25,9 +24,9 @@ use Rattle.ipam_model.specs.Add.{add_word, NextRound, Round, add_each, add_stops
 use Rattle.ipam_model.specs.Assigning.{Target, assign, claim_for, target_in}
 use Rattle.ipam_model.specs.Choice.{Foreign, Lacks, Own, Pick, Picks, Rank, Seen, Unclaimed, Unconfirmed, Unknown, block_at, pick_of}
 use Rattle.ipam_model.specs.Counting.{freeing_one}
-use Rattle.ipam_model.specs.Reads.{config_said, pools_said, reservations_said, rows_said}
 use Rattle.ipam_model.specs.Step.{Part, all_left, onward, rounds, stop_answer, stops}
 use Rattle.ipam_model.specs.Usable.{families_if}
+use Rattle.ipam_laws.proofs.SeenReads.{seen_by_stores}
 use Rattle.ipam_laws.proofs.ActWords.{apart-acts, settles, stands-acts}
 use Rattle.ipam_laws.proofs.Acting.{Act, Apart, Assigns, Frees, OfAdd}
 use Rattle.ipam_laws.proofs.ActParts.{Any, AssignDone, DidAssign, MayAssign, MayFree, assign-acts, assigning_call, claim_for-acts, free-acts}
@@ -143,13 +142,7 @@ module _ (request : AddRequest) where
           Apart tt,
           λ b blocks a5.
               let scan : Scan = record { family = family; c = c; p = p; r = r; f = f; b = b } in
-              let seen : Seen = record {
-                config = config_said (reply_of config (Get key.Config));
-                pools = pools_said (reply_of pools (Get key.Pools));
-                reservations = reservations_said (reply_of reservations (Get key.Reservations));
-                affinities = rows_said (reply_of affinities (ListAll kind.Affinity));
-                blocks = rows_said (reply_of blocks (ListAll kind.Block));
-              } in
+              let seen : Seen = seen_by_stores config pools reservations affinities blocks in
               let four : Trail = Did f affinities (ListAll kind.Affinity) ∷ Did r reservations (Get key.Reservations) ∷ Did p pools (Get key.Pools) ∷ Did c config (Get key.Config) ∷ trail in
               let five : Trail = Did b blocks (ListAll kind.Block) ∷ four in (
                 Apart tt,

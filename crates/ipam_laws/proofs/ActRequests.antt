@@ -29,11 +29,12 @@ use Rattle.ipam_model.specs.declared.request.Request.TheVariants.{Add, AddThis, 
 use Rattle.ipam_model.specs.Affinities.{BlockRead}
 use Rattle.ipam_model.specs.Add.{add_word}
 use Rattle.ipam_model.specs.Assigning.{assign, claim_for, target_in}
-use Rattle.ipam_model.specs.Reads.{config_said, pools_said, reservations_said, rows_said}
+use Rattle.ipam_model.specs.Reads.{config_said, pools_said}
 use Rattle.ipam_model.specs.Remove.{del_blocks}
 use Rattle.ipam_model.specs.Requests.{word_of}
 use Rattle.ipam_model.specs.Step.{Part, all_left, goes, onward, rounds, stops}
 use Rattle.ipam_model.specs.Usable.{families_if}
+use Rattle.ipam_laws.proofs.SeenReads.{seen_by_stores}
 use Rattle.ipam_laws.proofs.Acting.{Act, Apart, Assigns}
 use Rattle.ipam_laws.proofs.ActParts.{Any, AssignDone, assign-acts, claim_for-acts}
 use Rattle.ipam_laws.proofs.Acts.{Acts, Acts-bound, since-agrees}
@@ -102,13 +103,7 @@ probe-acts request scans (family ∷ families) trail = λ c config a1. (
           Apart tt,
           by (record { family = family; c = c; p = p; r = r; f = f; b = b })
               (Did b blocks (ListAll kind.Block) ∷ Did f affinities (ListAll kind.Affinity) ∷ Did r reservations (Get key.Reservations) ∷ Did p pools (Get key.Pools) ∷ Did c config (Get key.Config) ∷ trail)
-              (choice_of (asked_of_probe request family) (record {
-                config = config_said (reply_of config (Get key.Config));
-                pools = pools_said (reply_of pools (Get key.Pools));
-                reservations = reservations_said (reply_of reservations (Get key.Reservations));
-                affinities = rows_said (reply_of affinities (ListAll kind.Affinity));
-                blocks = rows_said (reply_of blocks (ListAll kind.Block));
-              }))
+              (choice_of (asked_of_probe request family) (seen_by_stores config pools reservations affinities blocks))
               (λ scan longer. probe-acts request (scans ++ scan ∷ []) families longer),
         ),
       ),

@@ -33,7 +33,7 @@ use Rattle.ipam_model.specs.Assigning.{assign, claim_for, names_for, target_in}
 use Rattle.ipam_model.specs.Affinities.{BlockRead}
 use Rattle.ipam_model.specs.Choice.{IsChoice, Lacks, Own, Unconfirmed, Unclaimed, Foreign, Pick, Picks, Rank, Seen, Unknown, block_at, block_in_found, choice_at, choice_in, is_block_at, pick_of}
 use Rattle.ipam_model.specs.Counting.{freeing_one, most_count}
-use Rattle.ipam_model.specs.Reads.{config_said, handle_said, pools_said, reservations_said, rows_said}
+use Rattle.ipam_model.specs.Reads.{handle_said}
 use Rattle.ipam_model.specs.Requests.{told_as}
 use Rattle.ipam_model.specs.declared.part.Left.{Left}
 use Rattle.ipam_model.specs.declared.part.Outcome.{Outcome}
@@ -44,8 +44,9 @@ use Rattle.ipam_model.specs.Step.{Part, all_left, answer_of, onward, rounds, sto
 use Rattle.ipam_model.specs.Told.{of_add}
 use Rattle.ipam_model.specs.Usable.{families_if}
 use Rattle.ipam_model.proofs.ChoiceLemmas.{choice_is}
+use Rattle.ipam_laws.proofs.SeenReads.{seen_by_stores}
 use Rattle.ipam_laws.proofs.AddParts.{AssignEnds, AssignsLast, GivesLast, GoesQuietly, KnowsRead, NotLimit, StopsOtherwise, assign-comes, claim-for, free-comes}
-use Rattle.ipam_laws.proofs.AddRounds.{AreGivenBy, IsGivenBy, all-given-more, one-given-more, quietly-chosen, Among, FiveRead, IsAimed, IsChosen, IsFor, IsRefusal, ServedEnds, aimed-more, chosen-more, chosen-family, picked-read, HasRead, for-did, get-gives-none, otherwise-served, quietly-for, seen-at}
+use Rattle.ipam_laws.proofs.AddRounds.{AreGivenBy, IsGivenBy, all-given-more, one-given-more, quietly-chosen, Among, FiveRead, IsAimed, IsChosen, IsFor, IsRefusal, ServedEnds, aimed-more, chosen-more, chosen-family, picked-read, HasRead, for-did, get-gives-none, otherwise-served, quietly-for, seen-at, five-read}
 use Rattle.ipam_model.specs.AffinityLaw.{HasAt}
 use Rattle.ipam_laws.proofs.Acts.{Same as Since-same}
 use Rattle.ipam_laws.proofs.AddTrails.{HasGift, Knows, Same}
@@ -224,13 +225,7 @@ listed-known blocks four b slot (Some found) e =
 round-comes : (request : AddRequest) (family : Family) (next : NextRound) → NextServed request family next → NextServed request family (round_of request family next)
 round-comes request family next after left trail is_for = λ c config a1 p pools a2 r reservations a3 f affinities a4 b blocks a5.
     let scan : Scan = record { family = family; c = c; p = p; r = r; f = f; b = b } in
-    let seen : Seen = record {
-      config = config_said (reply_of config (Get key.Config));
-      pools = pools_said (reply_of pools (Get key.Pools));
-      reservations = reservations_said (reply_of reservations (Get key.Reservations));
-      affinities = rows_said (reply_of affinities (ListAll kind.Affinity));
-      blocks = rows_said (reply_of blocks (ListAll kind.Block));
-    } in
+    let seen : Seen = seen_by_stores config pools reservations affinities blocks in
     let one : Trail = Did c config (Get key.Config) ∷ trail in
     let two : Trail = Did p pools (Get key.Pools) ∷ one in
     let three : Trail = Did r reservations (Get key.Reservations) ∷ two in
@@ -243,19 +238,7 @@ round-comes request family next after left trail is_for = λ c config a1 p pools
     let for_five = for-did request family four b blocks (ListAll kind.Block) (get-gives-none blocks (ListAll kind.Block) (inr (inr (inr (inr refl))))) for_four in
     let in_round : InRound request scan seen five = record {
       before = trail;
-      reads = record {
-        config = config;
-        pools = pools;
-        reservations = reservations;
-        affinities = affinities;
-        blocks = blocks;
-        is = refl;
-        saw_config = refl;
-        saw_pools = refl;
-        saw_reservations = refl;
-        saw_affinities = refl;
-        saw_blocks = refl;
-      };
+      reads = five-read scan config pools reservations affinities blocks trail;
       is_for = is_for;
       still_for = for_five;
       knows = λ slot read e. listed-known blocks four b slot read e;

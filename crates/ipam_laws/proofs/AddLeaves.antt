@@ -33,11 +33,11 @@ use Rattle.ipam_model.specs.Affinities.{BlockRead}
 use Rattle.ipam_model.specs.Assigning.{Target, assign, claim_for, target_in}
 use Rattle.ipam_model.specs.Choice.{Foreign, Lacks, Own, Pick, Picks, Rank, Seen, Unclaimed, Unconfirmed, Unknown, block_at, pick_of}
 use Rattle.ipam_model.specs.Counting.{Freeing, freeing_one}
-use Rattle.ipam_model.specs.Reads.{config_said, pools_said, reservations_said, rows_said}
 use Rattle.ipam_model.specs.Requests.{told_as}
 use Rattle.ipam_model.specs.Step.{all_left, answer_of, onward, rounds, stops}
 use Rattle.ipam_model.specs.Told.{of_add}
 use Rattle.ipam_model.specs.Usable.{families_if}
+use Rattle.ipam_laws.proofs.SeenReads.{seen_by_stores}
 use Rattle.ipam_laws.proofs.ActParts.{IsCurrent, assigning_call}
 use Rattle.ipam_laws.proofs.Acts.{Later, Same as Since-same, Since, since-step}
 use Rattle.ipam_laws.proofs.AddFamilies.{KnownAt, listed-known}
@@ -234,13 +234,7 @@ module _ (round : Round) (gifts : List Gift) (after : NextLeaves round.request g
 round-leaves : (request : AddRequest) (family : Family) (gifts : List Gift) (next : NextRound) → NextLeaves request gifts next → NextLeaves request gifts (round_of request family next)
 round-leaves request family gifts next after left trail h = λ c config a1 p pools a2 r reservations a3 f affinities a4 b blocks a5.
     let scan : Scan = record { family = family; c = c; p = p; r = r; f = f; b = b } in
-    let seen : Seen = record {
-      config = config_said (reply_of config (Get key.Config));
-      pools = pools_said (reply_of pools (Get key.Pools));
-      reservations = reservations_said (reply_of reservations (Get key.Reservations));
-      affinities = rows_said (reply_of affinities (ListAll kind.Affinity));
-      blocks = rows_said (reply_of blocks (ListAll kind.Block));
-    } in
+    let seen : Seen = seen_by_stores config pools reservations affinities blocks in
     let four : Trail = Did f affinities (ListAll kind.Affinity) ∷ Did r reservations (Get key.Reservations) ∷ Did p pools (Get key.Pools) ∷ Did c config (Get key.Config) ∷ trail in
     let five : Trail = Did b blocks (ListAll kind.Block) ∷ four in
     let calm : Calmer trail five =

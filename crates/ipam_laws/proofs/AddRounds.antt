@@ -47,6 +47,7 @@ use Rattle.ipam_laws.proofs.Acts.{Later, Since}
 use Rattle.ipam_laws.proofs.AddParts.{AssignsLast, GivesLast, NotLimit}
 use Rattle.ipam_laws.proofs.AddTrails.{HasGift, IsGift, More, Quietly, Same}
 use Rattle.ipam_laws.proofs.Calls.{found-block}
+use Rattle.ipam_laws.proofs.SeenReads.{seen_by_stores}
 use Rattle.ipam_laws.proofs.WordSteps.{listed-block}
 use Rattle.ipam_laws.proofs.Trails.{Did, Step, Trail}
 
@@ -67,6 +68,23 @@ pub record FiveRead (scan : Scan) (seen : Seen) (before five : Trail) : Type 0 w
   pub saw_reservations : seen.reservations ≡ reservations_said (reply_of reservations (Get key.Reservations))
   pub saw_affinities : seen.affinities ≡ rows_said (reply_of affinities (ListAll kind.Affinity))
   pub saw_blocks : seen.blocks ≡ rows_said (reply_of blocks (ListAll kind.Block))
+
+pub five-read : (scan : Scan) (config pools reservations affinities blocks : Datastore) (before : Trail)
+    → FiveRead scan (seen_by_stores config pools reservations affinities blocks) before
+    (Did scan.b blocks (ListAll kind.Block) ∷ Did scan.f affinities (ListAll kind.Affinity) ∷ Did scan.r reservations (Get key.Reservations) ∷ Did scan.p pools (Get key.Pools) ∷ Did scan.c config (Get key.Config) ∷ before)
+five-read scan config pools reservations affinities blocks before = record {
+  config = config;
+  pools = pools;
+  reservations = reservations;
+  affinities = affinities;
+  blocks = blocks;
+  is = refl;
+  saw_config = refl;
+  saw_pools = refl;
+  saw_reservations = refl;
+  saw_affinities = refl;
+  saw_blocks = refl;
+}
 
 -- ---- for which family it is
 

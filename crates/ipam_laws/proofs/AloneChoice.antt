@@ -1,6 +1,6 @@
 -- Behind a claim the choice is not to claim again.
-use Rattle.std.proofs.Common.{◌≡◌, ℕ, zero, suc, ◌+◌, ◌⊎◌, inl, inr, Bool, true, false, cond, List, [], ◌∷◌, Option, Some, None, refl, sym, ap, ◌∙◌, subst, arith}
-use Rattle.std.specs.Prelude.{Contains, MatchOption, slice_get, not, ◌&&◌, ◌||◌, is_some}
+use Rattle.std.proofs.Common.{◌≡◌, ℕ, zero, suc, ◌+◌, ◌⊎◌, inl, inr, Bool, true, false, cond, List, [], ◌∷◌, Option, Some, None, refl, sym, ap, ◌∙◌, subst}
+use Rattle.std.specs.Prelude.{Contains, slice_get, not, ◌&&◌, ◌||◌, is_some}
 use Rattle.std.specs.List.{filter, find, list_any, range_with_len}
 use Rattle.ipam_addr.specs.Shape.{AddrValue, CidrValue}
 use Rattle.ipam_addr.specs.Width.{cidr_size}
@@ -13,13 +13,14 @@ use Rattle.ipam_records.specs.declared.record.Record.TheVariants as record_of
 use Rattle.ipam_records.specs.Datastore.{reply_to_get, row_key, row_of}
 use Rattle.ipam_records.specs.KeyOrder.{is_of_kind, keys_equal}
 use Rattle.ipam_model.specs.declared.choice.Choice.{Choice}
-use Rattle.ipam_model.specs.declared.choice.Choice.TheVariants.{Use, Claim, Borrow, Nothing, NoPool}
+use Rattle.ipam_model.specs.declared.choice.Choice.TheVariants.{Claim}
 use Rattle.ipam_model.specs.Affinities.{BlockRead, affinity}
-use Rattle.ipam_model.specs.Choice.{Candidate, Foreign, IsBest, IsCandidate, IsNotBehind, Lacks, Own, Pick, Picks, Rank, Ranked, Seen, Unclaimed, Unconfirmed, Unknown, block_at, block_in_found, by_number, by_place, by_rank, choice_in, choice_of, chosen, first_found, free_address, has_free_address, is_confirmed_for, is_node, is_reserved, may_claim, pick_of, pick_unless, rank_at, rank_in, rank_number, rank_of, rank_of_block, room_of}
+use Rattle.ipam_model.specs.Choice.{Candidate, Foreign, IsBest, IsCandidate, Lacks, Own, Pick, Picks, Rank, Ranked, Seen, Unclaimed, Unconfirmed, Unknown, block_at, block_in_found, choice_in, choice_of, chosen, first_found, free_address, has_free_address, is_confirmed_for, is_node, is_reserved, may_claim, pick_of, rank_at, rank_in, rank_number, rank_of, rank_of_block, room_of}
 use Rattle.ipam_model.specs.Plain.{seen_in}
 use Rattle.ipam_model.specs.Reads.{Row, pools_said, reservations_said}
 use Rattle.ipam_model.specs.Usable.{Asked, unknown_name}
-use Rattle.ipam_model.proofs.ChoiceLemmas.{choice_is, pick-ranked}
+use Rattle.ipam_model.proofs.ChoiceLemmas.{pick-ranked}
+use Rattle.ipam_laws.proofs.ChosenSlots.{best-choice, chosen-slot, least-rank, none-unknown, slot_in}
 use Rattle.ipam_laws.proofs.CountLemmas.{same_itself, same_text}
 use Rattle.ipam_laws.proofs.Members.{filter-in, in-cons, in-find, in-nothing}
 use Rattle.ipam_laws.proofs.Steps.{taken}
@@ -57,8 +58,8 @@ found-free seen cidr (suc many) from e = by (λ f. found-free seen cidr many (fr
     by rest true f = rest f
     by rest false f = (from, refl)
 
--- a slot that may be claimed has room
-claim-room : (asked : Asked) (seen : Seen) (slot : CidrValue) (read : BlockRead) (rank : Rank) → rank_at asked seen slot read ≡ Some rank → (ordinal : ℕ) × (room_of seen (taken asked.node slot read) ≡ Some ordinal)
+-- a slot that has a rank has room once it is claimed
+pub claim-room : (asked : Asked) (seen : Seen) (slot : CidrValue) (read : BlockRead) (rank : Rank) → rank_at asked seen slot read ≡ Some rank → (ordinal : ℕ) × (room_of seen (taken asked.node slot read) ≡ Some ordinal)
 claim-room asked seen slot None rank e = by (may_claim asked seen) (has_free_address seen slot) refl e
   where
     by : (may free : Bool) → has_free_address seen slot ≡ free → cond (may && free) (Some (Unclaimed None)) None ≡ Some rank → (ordinal : ℕ) × (room_of seen (taken asked.node slot None) ≡ Some ordinal)
@@ -93,31 +94,6 @@ is-confirmed node cidr rows mark e =
 
 -- ---- the candidate
 
--- where a slot is picked, no name is unknown
-none-unknown : (asked : Asked) (seen : Seen) (ranked : Ranked) → pick_of asked seen ≡ Picks ranked → unknown_name asked seen.pools ≡ None
-unfolding pick_of
-none-unknown asked seen ranked e = by (unknown_name asked seen.pools) refl e
-  where
-    by : (o : Option ℕ) → unknown_name asked seen.pools ≡ o → pick_unless asked seen o ≡ Picks ranked → unknown_name asked seen.pools ≡ None
-    by None is f = is
-    by (Some place) is f = absurd (cc f)
-
-best-choice : (asked : Asked) (seen : Seen) → unknown_name asked seen.pools ≡ None → IsBest asked seen (choice_of asked seen)
-best-choice asked seen none = subst (λ (o : Option ℕ). MatchOption o (IsBest asked seen (choice_of asked seen)) (λ place. choice_of asked seen ≡ NoPool place)) none (choice_is asked seen)
-
-abbrev slot_in : Choice → Option CidrValue
-slot_in (Use slot ordinal) = Some slot
-slot_in (Claim slot) = Some slot
-slot_in (Borrow slot ordinal) = Some slot
-slot_in Nothing = None
-slot_in (NoPool place) = None
-
-chosen-slot : (slot : CidrValue) (rank : Rank) → slot_in (chosen (record { slot = slot; rank = rank })) ≡ Some slot
-chosen-slot slot (Own found ordinal) = refl
-chosen-slot slot (Unconfirmed found) = refl
-chosen-slot slot (Unclaimed read) = refl
-chosen-slot slot (Foreign found ordinal) = refl
-
 -- the slot that is picked is a candidate's
 picked-candidate : (asked : Asked) (seen : Seen) (ranked : Ranked) → pick_of asked seen ≡ Picks ranked → (c : Candidate) × IsCandidate asked seen c × (c.ranked.slot ≡ ranked.slot)
 picked-candidate asked seen ranked e = by (best-choice asked seen (none-unknown asked seen ranked e))
@@ -135,11 +111,6 @@ picked-candidate asked seen ranked e = by (best-choice asked seen (none-unknown 
 abbrev IsClaimChoice : Choice → Type 0
 IsClaimChoice (Claim slot) = Unit {0}
 IsClaimChoice _ = ⊥
-
-least-rank : (c other : Candidate) → IsNotBehind c other → rank_in other ≡ 0 → rank_in c ≡ 0
-least-rank c other (by_rank less) zero_is = absurd (omega arith)
-least-rank c other (by_place same less) zero_is = same ∙ zero_is
-least-rank c other (by_number same place least) zero_is = same ∙ zero_is
 
 own-taken : (slot : CidrValue) (rank : Rank) → rank_number rank ≡ 0 → ¬ (IsClaimChoice (chosen (record { slot = slot; rank = rank })))
 own-taken slot (Own found ordinal) e t = t

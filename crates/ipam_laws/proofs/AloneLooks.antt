@@ -23,11 +23,12 @@ use Rattle.ipam_model.specs.AddThis.{slot_holding}
 use Rattle.ipam_model.specs.Choice.{Seen, choice_of}
 use Rattle.ipam_model.specs.Look.{asked_of_probe, check_each, check_held, check_in_pool, check_word, holds_at, probe_choice, probe_each, probe_word}
 use Rattle.ipam_model.specs.Plain.{PlainAnswer, Lacks, holds_in, plain_check, plain_check_next, plain_of, plain_probe, plain_probe_next, seen_in}
-use Rattle.ipam_model.specs.Reads.{block_said, config_said, pools_said, reservations_said, rows_said}
+use Rattle.ipam_model.specs.Reads.{block_said, pools_said}
 use Rattle.ipam_model.specs.Requests.{word_of}
 use Rattle.ipam_model.specs.Told.{of_check, of_probe}
 use Rattle.ipam_model.specs.Usable.{families_if, pool_of}
 use Rattle.ipam_laws.specs.AlonePlain.{CheckAloneLaw, ProbeAloneLaw}
+use Rattle.ipam_laws.proofs.SeenReads.{seen_by_replies}
 use Rattle.ipam_laws.proofs.AloneRuns.{RunsTo, RunsTo-bound, runs-alone, runs-get, runs-list}
 
 -- the store stays, and the answer says this
@@ -82,13 +83,7 @@ module _ {A : Type 0} (family : Family) (follows : Scan → Seen → Word A) whe
   next5 c p r f config pools reservations affinities b blocks =
       follows
       (record { family = family; c = c; p = p; r = r; f = f; b = b })
-      (record {
-        config = config_said config;
-        pools = pools_said pools;
-        reservations = reservations_said reservations;
-        affinities = rows_said affinities;
-        blocks = rows_said blocks;
-      })
+      (seen_by_replies config pools reservations affinities blocks)
 
   abbrev pub next4 : (c p r : ℕ) → (config pools reservations : Said) → ℕ → Said → Word A
   next4 c p r config pools reservations f affinities = Asks idle (ListAll kind.Block) (next5 c p r f config pools reservations affinities)

@@ -100,6 +100,20 @@ AssignEnds left then (Went now (Some done)) = now ≡ left
 AssignEnds left then (Went now None) = ⊥
 AssignEnds left then (Stops now why) = IsWant why
 
+-- a handle whose count covers a credit is there
+pub handle-there : (credit : Credit) (store : Datastore) → 0 < credit.amount → Good (owing credit) store → (revision : ℕ) × (h : HandleValue) × HasAt store (key.Handle credit.handle) revision (record_of.Handle h) × (h.id ≡ credit.handle)
+handle-there credit store some good = by (row_of (key.Handle credit.handle) store.rows) refl
+  where
+    by : (o : Option (ℕ × Record)) → row_of (key.Handle credit.handle) store.rows ≡ o → (revision : ℕ) × (h : HandleValue) × HasAt store (key.Handle credit.handle) revision (record_of.Handle h) × (h.id ≡ credit.handle)
+    by None e =
+        let none : handle_count store credit.handle credit.block ≡ 0 = ap (count_in_row credit.handle credit.block) e in
+        let least = good.covers credit.handle credit.block in
+        let own = owed-own credit in
+        absurd (omega arith)
+    by (Some row) e =
+        let (h, is, same) = found-handle credit.handle row.1 (found-key store (key.Handle credit.handle) row.0 row.1 e) in
+        (row.0, h, e ∙ ap (λ (x : Record). Some (row.0, x)) is, same)
+
 module _ (live : List (List ℕ)) where
   -- ---- raising
 
@@ -148,20 +162,6 @@ module _ (live : List (List ℕ)) where
           (update-unlost then new (record_of.Block target.block) target.revision (k.1 target.block.cidr ∙ there)) (λ r e. k.0) tt tt
 
   -- ---- lowering
-
-  -- a handle whose count covers a credit is there
-  handle-there : (credit : Credit) (store : Datastore) → 0 < credit.amount → Good (owing credit) store → (revision : ℕ) × (h : HandleValue) × HasAt store (key.Handle credit.handle) revision (record_of.Handle h) × (h.id ≡ credit.handle)
-  handle-there credit store some good = by (row_of (key.Handle credit.handle) store.rows) refl
-    where
-      by : (o : Option (ℕ × Record)) → row_of (key.Handle credit.handle) store.rows ≡ o → (revision : ℕ) × (h : HandleValue) × HasAt store (key.Handle credit.handle) revision (record_of.Handle h) × (h.id ≡ credit.handle)
-      by None e =
-          let none : handle_count store credit.handle credit.block ≡ 0 = ap (count_in_row credit.handle credit.block) e in
-          let least = good.covers credit.handle credit.block in
-          let own = owed-own credit in
-          absurd (omega arith)
-      by (Some row) e =
-          let (h, is, same) = found-handle credit.handle row.1 (found-key store (key.Handle credit.handle) row.0 row.1 e) in
-          (row.0, h, e ∙ ap (λ (x : Record). Some (row.0, x)) is, same)
 
   lower-write : (credit : Credit) (again : Part (Unit {0})) (left : Left) (store : Datastore) (moment revision : ℕ) (h : HandleValue) → HasAt store (key.Handle credit.handle) revision (record_of.Handle h) → h.id ≡ credit.handle → (counts : List (CidrValue × ℕ))
       → Runs live (Unlost left) store moment (Asks (owing credit) (written_or_deleted (lowered h credit.block credit.amount) counts revision) (λ at reply. on_write reply left (λ taken. goes left tt) again))

@@ -98,7 +98,8 @@ module _ (request : AddRequest) (family : Family) (one : families_if request.ipv
 
 -- ---- the probe
 
-asked-same : (probe : ProbeRequest) (request : AddRequest) → AsksSame probe request → (family : Family) → asked_of request family ≡ asked_of_probe probe family
+-- the probe asks of a family what the ADD asks
+pub asked-same : (probe : ProbeRequest) (request : AddRequest) → AsksSame probe request → (family : Family) → asked_of request family ≡ asked_of_probe probe family
 asked-same probe request same V4 =
     let nodes = same.node in
     let names = same.pools4 in

@@ -152,3 +152,26 @@ held-filter_le id keeps held =
     let less = tally-filter_le (is_owned id) keeps held in
     subst (λ (n : ℕ). n ≤ count_by (is_owned id) held) (sym (count-tally (is_owned id) (filter keeps held)))
     (subst (λ (n : ℕ). tally (is_owned id) (filter keeps held) ≤ n) (sym (count-tally (is_owned id) held)) less)
+
+tally-kept : (p picks : Allocation → Bool) → ((a : Allocation) → picks a ≡ true → p a ≡ false) → (held : List Allocation) → tally p (filter (λ a. not (picks a)) held) ≡ tally p held
+unfolding tally
+tally-kept p picks none [] = refl
+tally-kept p picks none (a ∷ rest) = from (picks a) refl (tally-kept p picks none rest)
+  where
+    from : (b : Bool) → picks a ≡ b → tally p (filter (λ a. not (picks a)) rest) ≡ tally p rest → tally p (cond (not b) (a ∷ filter (λ a. not (picks a)) rest) (filter (λ a. not (picks a)) rest)) ≡ cond (p a) 1 0 + tally p rest
+    from true picked h = rw (none a picked) (omega arith)
+    from false stays h = omega arith
+
+-- another handle's addresses stay
+pub kept-others : (id other : List ℕ) (picks : Allocation → Bool) → ((a : Allocation) → picks a ≡ true → is_owned id a ≡ true) → id ≢ other → (held : List Allocation) → count_by (is_owned other) (filter (λ a. not (picks a)) held) ≡ count_by (is_owned other) held
+kept-others id other picks own differ held =
+    count-tally (is_owned other) (filter (λ a. not (picks a)) held) ∙ tally-kept (is_owned other) picks not_theirs held ∙ sym (count-tally (is_owned other) held)
+  where
+    not_theirs : (a : Allocation) → picks a ≡ true → is_owned other a ≡ false
+    not_theirs a picked = elim (text_cases a.attributes.handle other) [
+      | inr (f, d) ↦ f
+      | inl (t, same) ↦ elim (text_cases a.attributes.handle id) [
+        | inl (u, mine) ↦ absurd (differ (sym mine ∙ same))
+        | inr (g, d) ↦ let is = own a picked in absurd (cc (is, g))
+      ]
+    ]

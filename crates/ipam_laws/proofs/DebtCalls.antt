@@ -1,8 +1,7 @@
 -- Which calls raise a count by one, which free addresses, and which do neither.
-use Rattle.std.proofs.Common.{◌≡◌, ◌≢◌, ℕ, suc, ◌+◌, ◌-◌, ◌≤◌, inl, inr, Bool, true, false, cond, List, [], ◌∷◌, Some, None, refl, sym, ap, ◌∙◌, subst, arith}
+use Rattle.std.proofs.Common.{◌≡◌, ◌≢◌, ℕ, suc, ◌+◌, ◌-◌, ◌≤◌, inl, inr, Bool, true, List, [], Some, None, refl, sym, ap, ◌∙◌, subst, arith}
 use Rattle.std.specs.Prelude.{not}
 use Rattle.std.specs.List.{count_by, filter}
-use Rattle.std.proofs.lemmas.List.Sums.{sum_by-cons}
 use Rattle.ipam_addr.specs.Shape.{CidrValue}
 use Rattle.ipam_block.specs.declared.allocation.Allocation.{Allocation}
 use Rattle.ipam_block.specs.Operations.{freed, is_owned, next_block}
@@ -31,7 +30,7 @@ use Rattle.ipam_model.specs.Counting.{credit_of}
 use Rattle.ipam_model.specs.Credits.{key_written}
 use Rattle.ipam_model.specs.Named.{name_of}
 use Rattle.ipam_model.specs.Step.{write_back}
-use Rattle.ipam_laws.proofs.CountLemmas.{cidr_cases, count-elsewhere, held-filter, raised-here, text_cases}
+use Rattle.ipam_laws.proofs.CountLemmas.{cidr_cases, count-elsewhere, held-filter, kept-others, raised-here, text_cases}
 use Rattle.ipam_laws.proofs.CountSteps.{IsApart, put-own}
 use Rattle.ipam_laws.proofs.Debts.{Frees, Harmless, Raises, Undone}
 use Rattle.ipam_laws.proofs.Lift.{behind}
@@ -117,38 +116,6 @@ block-harmless store asked b puts holds = record {
 }
 
 -- ---- what is freed
-
-tally : (Allocation → Bool) → List Allocation → ℕ
-tally p [] = 0
-tally p (a ∷ rest) = cond (p a) 1 0 + tally p rest
-
-count-tally : (p : Allocation → Bool) (held : List Allocation) → count_by p held ≡ tally p held
-unfolding tally
-count-tally p [] = refl
-count-tally p (a ∷ rest) = sum_by-cons (λ x. cond (p x) 1 0) a rest ∙ ap (λ n. cond (p a) 1 0 + n) (count-tally p rest)
-
-tally-kept : (p picks : Allocation → Bool) → ((a : Allocation) → picks a ≡ true → p a ≡ false) → (held : List Allocation) → tally p (filter (λ a. not (picks a)) held) ≡ tally p held
-unfolding tally
-tally-kept p picks none [] = refl
-tally-kept p picks none (a ∷ rest) = from (picks a) refl (tally-kept p picks none rest)
-  where
-    from : (b : Bool) → picks a ≡ b → tally p (filter (λ a. not (picks a)) rest) ≡ tally p rest → tally p (cond (not b) (a ∷ filter (λ a. not (picks a)) rest) (filter (λ a. not (picks a)) rest)) ≡ cond (p a) 1 0 + tally p rest
-    from true picked h = rw (none a picked) (omega arith)
-    from false stays h = omega arith
-
--- another handle's addresses stay
-kept-others : (id other : List ℕ) (picks : Allocation → Bool) → ((a : Allocation) → picks a ≡ true → is_owned id a ≡ true) → id ≢ other → (held : List Allocation) → count_by (is_owned other) (filter (λ a. not (picks a)) held) ≡ count_by (is_owned other) held
-kept-others id other picks own differ held =
-    count-tally (is_owned other) (filter (λ a. not (picks a)) held) ∙ tally-kept (is_owned other) picks not_theirs held ∙ sym (count-tally (is_owned other) held)
-  where
-    not_theirs : (a : Allocation) → picks a ≡ true → is_owned other a ≡ false
-    not_theirs a picked = elim (text_cases a.attributes.handle other) [
-      | inr (f, d) ↦ f
-      | inl (t, same) ↦ elim (text_cases a.attributes.handle id) [
-        | inl (u, mine) ↦ absurd (differ (sym mine ∙ same))
-        | inr (g, d) ↦ let is = own a picked in absurd (cc (is, g))
-      ]
-    ]
 
 module _ (store : Datastore) (b : BlockValue) (old : ℕ) (id : List ℕ) (picks : Allocation → Bool) (own : (a : Allocation) → picks a ≡ true → is_owned id a ≡ true) (amount : ℕ) (count : count_by picks b.allocations ≡ suc amount) where
   abbrev freeing : Call

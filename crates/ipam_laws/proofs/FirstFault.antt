@@ -1,8 +1,8 @@
 -- Rows that are to be opened have a first fault, or none.
-use Rattle.std.proofs.Common.{◌≡◌, ◌≢◌, ◌⊎◌, ℕ, zero, suc, ◌<◌, inl, inr, Bool, true, false, cond, List, [], ◌∷◌, ◌++◌, map, Option, Some, None, Result, Ok, Err, refl, sym, ap, ◌∙◌, subst, arith, ltb-true, eqb-true, eq-eqb, bytes_eq}
-use Rattle.std.specs.Prelude.{Contains, ◌&&◌, ◌==◌, not, nat_le, nat_lt, slice_get, codes}
+use Rattle.std.proofs.Common.{◌≡◌, ◌≢◌, ◌⊎◌, ℕ, zero, suc, ◌<◌, inl, inr, Bool, true, false, cond, List, [], ◌∷◌, ◌++◌, map, Option, Some, None, Result, Err, refl, sym, ap, ◌∙◌, subst, arith, ltb-true, eqb-true, eq-eqb, bytes_eq}
+use Rattle.std.specs.Prelude.{Contains, ◌&&◌, ◌==◌, not, nat_lt, slice_get, codes}
 use Rattle.std.specs.List.{AllByRecursion, count_by, filter, list_any}
-use Rattle.std.proofs.lemmas.Bool.{cases_Bool, leb-true, lt-ltb, le-leb}
+use Rattle.std.proofs.lemmas.Bool.{cases_Bool, lt-ltb}
 use Rattle.std.proofs.lemmas.List.Sums.{sum_by-cons}
 use Rattle.std.proofs.lemmas.List.Elements.{Contains-append_left, Contains-append_right}
 use Rattle.std.proofs.lemmas.Slice.Eq.{bytes_eq-Decides}
@@ -32,11 +32,12 @@ use Rattle.ipam_model.specs.AffinityLaw.{HasAffinity, HasNode}
 use Rattle.ipam_model.specs.Choice.{is_node}
 use Rattle.ipam_model.specs.Consistent.{IsSlotOfSome, pools_in_row}
 use Rattle.ipam_model.specs.CountLaw.{handle_count, held_in_row, held_count}
-use Rattle.ipam_model.specs.Opened.{Texts, Breaks, NoText, AnotherKey, NoTable, NoSlot, NoBlock, CountTooLow, NoAffinityFor, NoNodeFor, TooManyRows, TooManyBlocks, NoRevision, AboveCounter, AboveLast, CounterAboveLast, IsBrokenBlock, IsRefusedBy, MayBeOpened, FirstFaultLaw, cidr_of_key, is_block_text, pools_read, read_store, readable, reading_of}
+use Rattle.ipam_model.specs.Opened.{Texts, Breaks, NoText, AnotherKey, NoTable, NoSlot, NoBlock, CountTooLow, NoAffinityFor, NoNodeFor, TooManyRows, TooManyBlocks, NoRevision, AboveCounter, AboveLast, CounterAboveLast, IsRefusedBy, MayBeOpened, FirstFaultLaw, cidr_of_key, is_block_text, pools_read, read_store, readable, reading_of}
 use Rattle.ipam_model.specs.Reads.{Row}
 use Rattle.ipam_laws.proofs.Calls.{found-block, found-key}
 use Rattle.ipam_laws.proofs.Members.{in-here, in-there, in-nothing, in-map, out-map, in-filter, filter-in}
 use Rattle.ipam_laws.proofs.OpenedRows.{out-readable}
+use Rattle.ipam_laws.proofs.TextFaults.{broken-is, fault-told, is-broken, is_broken, is_same_fault, reads_fault, told-fault}
 use Rattle.ipam_laws.proofs.FaultLists.{Fault, first-of, Faulty, by_rows, by_read, rows-faulty, row-among, both-faulty, none-faulty, one-faulty, read-faulty, read-among}
 use Rattle.ipam_laws.proofs.RowOrder.{found-member}
 use Rattle.ipam_laws.proofs.AffinityAt.{node_at, state_at}
@@ -90,78 +91,11 @@ owned-member id (x ∷ xs) h = by (is_owned id x) refl (owned-member id xs)
 
 -- ---- rows that cannot be read
 
-is_fault : TextFault → TextFault → Bool
-is_fault fault.Form fault.Form = true
-is_fault fault.Key fault.Key = true
-is_fault fault.Table fault.Table = true
-is_fault fault.Unsound fault.Unsound = true
-is_fault one other = false
-
-fault-same : (one other : TextFault) → is_fault one other ≡ true → one ≡ other
-unfolding is_fault
-fault-same fault.Form fault.Form e = refl
-fault-same fault.Key fault.Key e = refl
-fault-same fault.Table fault.Table e = refl
-fault-same fault.Unsound fault.Unsound e = refl
-fault-same fault.Form fault.Key e = absurd (cc e)
-fault-same fault.Form fault.Table e = absurd (cc e)
-fault-same fault.Form fault.Unsound e = absurd (cc e)
-fault-same fault.Form fault.Memory e = absurd (cc e)
-fault-same fault.Key fault.Form e = absurd (cc e)
-fault-same fault.Key fault.Table e = absurd (cc e)
-fault-same fault.Key fault.Unsound e = absurd (cc e)
-fault-same fault.Key fault.Memory e = absurd (cc e)
-fault-same fault.Table fault.Form e = absurd (cc e)
-fault-same fault.Table fault.Key e = absurd (cc e)
-fault-same fault.Table fault.Unsound e = absurd (cc e)
-fault-same fault.Table fault.Memory e = absurd (cc e)
-fault-same fault.Unsound fault.Form e = absurd (cc e)
-fault-same fault.Unsound fault.Key e = absurd (cc e)
-fault-same fault.Unsound fault.Table e = absurd (cc e)
-fault-same fault.Unsound fault.Memory e = absurd (cc e)
-fault-same fault.Memory other e = absurd (cc e)
-
-has_fault : TextFault → Result Record TextFault → Bool
-has_fault which (Ok found) = false
-has_fault which (Err broken) = is_fault which broken
-
-fault-told : (which : TextFault) (r : Result Record TextFault) → has_fault which r ≡ true → r ≡ Err which
-unfolding has_fault
-fault-told which (Ok found) e = absurd (cc e)
-fault-told which (Err broken) e = ap Err (sym (fault-same which broken e))
-
-not-fault : (which : TextFault) (r : Result Record TextFault) → r ≢ Err which → has_fault which r ≡ false
-not-fault which r other = elim (cases_Bool (has_fault which r)) [
+not-fault : (which : TextFault) (r : Result Record TextFault) → r ≢ Err which → reads_fault which r ≡ false
+not-fault which r other = elim (cases_Bool (reads_fault which r)) [
   | inl is ↦ absurd (other (fault-told which r is))
   | inr no_fault ↦ no_fault
 ]
-
--- ---- broken blocks
-
-is_broken : ℕ → Result Record TextFault → Bool
-is_broken revision (Ok (record_of.Block b)) = nat_le revision b.sequence
-is_broken revision (Ok found) = false
-is_broken revision (Err broken) = is_fault fault.Unsound broken
-
-broken-is : (revision : ℕ) (r : Result Record TextFault) → is_broken revision r ≡ true → IsBrokenBlock revision r
-unfolding is_broken
-broken-is revision (Ok (record_of.Block b)) e = leb-true revision b.sequence e
-broken-is revision (Ok (record_of.Config config)) e = absurd (cc e)
-broken-is revision (Ok (record_of.Pools pools)) e = absurd (cc e)
-broken-is revision (Ok (record_of.Reservations reservations)) e = absurd (cc e)
-broken-is revision (Ok (record_of.Affinity a)) e = absurd (cc e)
-broken-is revision (Ok (record_of.Handle handle)) e = absurd (cc e)
-broken-is revision (Err broken) e = sym (fault-same fault.Unsound broken e)
-
-is-broken : (revision : ℕ) (r : Result Record TextFault) → IsBrokenBlock revision r → is_broken revision r ≡ true
-unfolding is_broken is_fault
-is-broken revision (Ok (record_of.Block b)) h = le-leb revision b.sequence h
-is-broken revision (Ok (record_of.Config config)) h = absurd h
-is-broken revision (Ok (record_of.Pools pools)) h = absurd h
-is-broken revision (Ok (record_of.Reservations reservations)) h = absurd h
-is-broken revision (Ok (record_of.Affinity a)) h = absurd h
-is-broken revision (Ok (record_of.Handle handle)) h = absurd h
-is-broken revision (Err broken) h = ap (λ (t : TextFault). is_fault fault.Unsound t) h
 
 -- ---- slots
 
@@ -221,26 +155,26 @@ module _ (texts : Texts) where
   is_outside (Some cidr) = not (in_slot cidr)
 
   misplaced : RowText → Bool
-  misplaced row = not (has_fault fault.Form (reading_of row)) && (not (has_fault fault.Key (reading_of row)) && is_outside (cidr_of_key (key_read row.key)))
+  misplaced row = not (reads_fault fault.Form (reading_of row)) && (not (reads_fault fault.Key (reading_of row)) && is_outside (cidr_of_key (key_read row.key)))
 
   misplaced-is : (row : RowText) → Contains texts.rows row → misplaced row ≡ true → Breaks texts 4 row.key
-  unfolding misplaced is_outside has_fault is_fault
-  misplaced-is row among e = by (has_fault fault.Form (reading_of row)) refl (has_fault fault.Key (reading_of row)) refl (cidr_of_key (key_read row.key)) refl e
+  unfolding misplaced is_outside reads_fault is_same_fault
+  misplaced-is row among e = by (reads_fault fault.Form (reading_of row)) refl (reads_fault fault.Key (reading_of row)) refl (cidr_of_key (key_read row.key)) refl e
     where
-      by : (a : Bool) → has_fault fault.Form (reading_of row) ≡ a → (b : Bool) → has_fault fault.Key (reading_of row) ≡ b → (o : Option CidrValue) → cidr_of_key (key_read row.key) ≡ o → not a && (not b && is_outside o) ≡ true → Breaks texts 4 row.key
+      by : (a : Bool) → reads_fault fault.Form (reading_of row) ≡ a → (b : Bool) → reads_fault fault.Key (reading_of row) ≡ b → (o : Option CidrValue) → cidr_of_key (key_read row.key) ≡ o → not a && (not b && is_outside o) ≡ true → Breaks texts 4 row.key
       by true ea b eb o eo f = absurd (cc f)
       by false ea true eb o eo f = absurd (cc f)
       by false ea false eb None eo f = absurd (cc f)
       by false ea false eb (Some cidr) eo f =
           let range = key-range (key_read row.key) row.key cidr refl eo in
           let out : in_slot cidr ≡ false = not-true (in_slot cidr) f in
-          NoSlot row cidr among eo (λ g. let h : has_fault fault.Form (reading_of row) ≡ true = ap (has_fault fault.Form) g in cc (h, ea)) (λ g. let h : has_fault fault.Key (reading_of row) ≡ true = ap (has_fault fault.Key) g in cc (h, eb)) (slot-told cidr range out)
+          NoSlot row cidr among eo (λ g. let h : reads_fault fault.Form (reading_of row) ≡ true = ap (reads_fault fault.Form) g in cc (h, ea)) (λ g. let h : reads_fault fault.Key (reading_of row) ≡ true = ap (reads_fault fault.Key) g in cc (h, eb)) (slot-told cidr range out)
 
   is-misplaced : (row : RowText) (cidr : CidrValue) → cidr_of_key (key_read row.key) ≡ Some cidr → reading_of row ≢ Err fault.Form → reading_of row ≢ Err fault.Key → ¬ (IsSlotOfSome (pools_read texts) cidr) → misplaced row ≡ true
   unfolding misplaced is_outside
   is-misplaced row cidr named form other outside =
-      let a : has_fault fault.Form (reading_of row) ≡ false = not-fault fault.Form (reading_of row) form in
-      let b : has_fault fault.Key (reading_of row) ≡ false = not-fault fault.Key (reading_of row) other in
+      let a : reads_fault fault.Form (reading_of row) ≡ false = not-fault fault.Form (reading_of row) form in
+      let b : reads_fault fault.Key (reading_of row) ≡ false = not-fault fault.Key (reading_of row) other in
       let c = not-in_slot cidr (key-range (key_read row.key) row.key cidr refl named) outside in
       rw (a, b, named, c) refl
 
@@ -384,9 +318,9 @@ module _ (texts : Texts) where
 
   parts : List (List Fault)
   parts =
-      by_rows texts 1 (λ row. has_fault fault.Form (reading_of row))
-      ∷ by_rows texts 2 (λ row. has_fault fault.Key (reading_of row))
-      ∷ by_rows texts 3 (λ row. has_fault fault.Table (reading_of row))
+      by_rows texts 1 (λ row. reads_fault fault.Form (reading_of row))
+      ∷ by_rows texts 2 (λ row. reads_fault fault.Key (reading_of row))
+      ∷ by_rows texts 3 (λ row. reads_fault fault.Table (reading_of row))
       ∷ by_rows texts 4 misplaced
       ∷ by_rows texts 5 spoiled
       ∷ by_read texts low_in
@@ -417,11 +351,11 @@ module _ (texts : Texts) where
   all-faulty : Faulty texts (joined parts)
   unfolding parts spoiled
   all-faulty = joined-faulty parts (
-    rows-faulty texts 1 (λ row. has_fault fault.Form (reading_of row)) (λ row among e. NoText row among (fault-told fault.Form (reading_of row) e)),
+    rows-faulty texts 1 (λ row. reads_fault fault.Form (reading_of row)) (λ row among e. NoText row among (fault-told fault.Form (reading_of row) e)),
     (
-      rows-faulty texts 2 (λ row. has_fault fault.Key (reading_of row)) (λ row among e. AnotherKey row among (fault-told fault.Key (reading_of row) e)),
+      rows-faulty texts 2 (λ row. reads_fault fault.Key (reading_of row)) (λ row among e. AnotherKey row among (fault-told fault.Key (reading_of row) e)),
       (
-        rows-faulty texts 3 (λ row. has_fault fault.Table (reading_of row)) (λ row among e. NoTable row among (fault-told fault.Table (reading_of row) e)),
+        rows-faulty texts 3 (λ row. reads_fault fault.Table (reading_of row)) (λ row among e. NoTable row among (fault-told fault.Table (reading_of row) e)),
         (
           rows-faulty texts 4 misplaced misplaced-is,
           (
@@ -461,22 +395,11 @@ module _ (texts : Texts) where
     ),
   )
 
-  told : (which : TextFault) (row : RowText) → reading_of row ≡ Err which → which ≢ fault.Memory → has_fault which (reading_of row) ≡ true
-  unfolding has_fault is_fault
-  told which row e differs = ap (has_fault which) e ∙ own which differs
-    where
-      own : (t : TextFault) → t ≢ fault.Memory → is_fault t t ≡ true
-      own fault.Form d = refl
-      own fault.Key d = refl
-      own fault.Table d = refl
-      own fault.Unsound d = refl
-      own fault.Memory d = absurd (d refl)
-
   all-among : (number : ℕ) (about : List ℕ) → Breaks texts number about → Contains (joined parts) (number, about)
   unfolding parts spoiled above_last
-  all-among number about (NoText row among e) = in-joined parts 0 _ (1, row.key) refl (row-among texts 1 (λ r. has_fault fault.Form (reading_of r)) row among (told fault.Form row e (λ f. cc f)))
-  all-among number about (AnotherKey row among e) = in-joined parts 1 _ (2, row.key) refl (row-among texts 2 (λ r. has_fault fault.Key (reading_of r)) row among (told fault.Key row e (λ f. cc f)))
-  all-among number about (NoTable row among e) = in-joined parts 2 _ (3, row.key) refl (row-among texts 3 (λ r. has_fault fault.Table (reading_of r)) row among (told fault.Table row e (λ f. cc f)))
+  all-among number about (NoText row among e) = in-joined parts 0 _ (1, row.key) refl (row-among texts 1 (λ r. reads_fault fault.Form (reading_of r)) row among (told-fault fault.Form (reading_of row) e))
+  all-among number about (AnotherKey row among e) = in-joined parts 1 _ (2, row.key) refl (row-among texts 2 (λ r. reads_fault fault.Key (reading_of r)) row among (told-fault fault.Key (reading_of row) e))
+  all-among number about (NoTable row among e) = in-joined parts 2 _ (3, row.key) refl (row-among texts 3 (λ r. reads_fault fault.Table (reading_of r)) row among (told-fault fault.Table (reading_of row) e))
   all-among number about (NoSlot row cidr among named form other outside) = in-joined parts 3 _ (4, row.key) refl (row-among texts 4 misplaced row among (is-misplaced row cidr named form other outside))
   all-among number about (NoBlock row among broken) = in-joined parts 4 _ (5, row.key) refl (row-among texts 5 spoiled row among (is-broken row.revision (reading_of row) broken))
   all-among number about (CountTooLow id cidr less) = in-joined parts 5 _ (6, key_bytes (key.Handle id)) refl (low-among id cidr less)

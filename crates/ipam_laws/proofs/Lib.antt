@@ -12,6 +12,8 @@ pub mod Calls
 pub mod Steps
 pub mod PartSteps
 pub mod WriteSteps
+pub mod ChosenSlots
+pub mod SeenReads
 pub mod WordSteps
 pub mod RequestSteps
 pub mod SlotSteps
@@ -63,6 +65,7 @@ pub mod OpenedRows
 pub mod OpenedHistory
 pub mod OpensRows
 pub mod FaultLists
+pub mod TextFaults
 pub mod FirstFault
 pub mod AllRead
 pub mod MayHear

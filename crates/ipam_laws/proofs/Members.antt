@@ -2,20 +2,8 @@
 use Rattle.std.proofs.Common.{◌≡◌, ℕ, zero, suc, ◌⊎◌, inl, inr, Bool, true, false, cond, List, [], ◌∷◌, map, Some, refl, sym, ap, ◌∙◌, subst, arith}
 use Rattle.std.specs.Prelude.{All, Contains, slice_get}
 use Rattle.std.proofs.lemmas.List.Elements.{All-cons}
-use Rattle.std.specs.List.{filter, find}
-
-pub in-cons : {X : Type 0} → (x y : X) (ys : List X) → Contains (y ∷ ys) x → (y ≡ x) ⊎ Contains ys x
-in-cons x y ys (zero, below, e) = inl e
-in-cons x y ys (suc k, below, e) = inr (k, omega arith, e)
-
-pub in-here : {X : Type 0} → (x : X) (xs : List X) → Contains (x ∷ xs) x
-in-here x xs = (zero, omega arith, refl)
-
-pub in-there : {X : Type 0} → (x y : X) (ys : List X) → Contains ys x → Contains (y ∷ ys) x
-in-there x y ys (k, below, e) = (suc k, omega arith, e)
-
-pub in-nothing : {X : Type 0} → (x : X) → Contains [] x → ⊥
-in-nothing x (k, below, e) = absurd (omega arith)
+use Rattle.std.specs.List.{filter}
+pub use Rattle.ipam_block.proofs.Members.{in-cons, in-find, in-here, in-nothing, in-there}
 
 pub in-map : {X Y : Type 0} → (f : X → Y) (x : X) (xs : List X) → Contains xs x → Contains (map f xs) (f x)
 in-map f x [] h = absurd (in-nothing x h)
@@ -30,15 +18,6 @@ out-map f z (y ∷ ys) h = elim (in-cons z (f y) (map f ys) h) [
   | inl is ↦ (y, in-here y ys, is)
   | inr rest ↦ let (x, there, e) = out-map f z ys rest in (x, in-there x y ys there, e)
 ]
-
--- what is found is a member that passes the test
-pub in-find : {X : Type 0} → (test : X → Bool) (x : X) (xs : List X) → find test xs ≡ Some x → Contains xs x × (test x ≡ true)
-in-find test x [] e = absurd (cc e)
-in-find {X} test x (y ∷ ys) e = by (test y) refl e (in-find test x ys)
-  where
-    by : (b : Bool) → test y ≡ b → cond b (Some y) (find test ys) ≡ Some x → (find test ys ≡ Some x → Contains ys x × (test x ≡ true)) → Contains (y ∷ ys) x × (test x ≡ true)
-    by true is f rest = let same : y ≡ x = cc f in (subst (λ z. Contains (y ∷ ys) z) same (in-here y ys), ap test (sym same) ∙ is)
-    by false is f rest = let (there, passes) = rest f in (in-there x y ys there, passes)
 
 -- what stands at a place is a member
 pub in-place : {X : Type 0} → (xs : List X) (k : ℕ) (x : X) → slice_get xs k ≡ Some x → Contains xs x

@@ -25,7 +25,7 @@ use Rattle.ipam_model.specs.Opened.{Texts, AreByKey, IsBrokenBlock, MayBeOpened,
 use Rattle.ipam_model.specs.Reads.{Row}
 use Rattle.ipam_laws.proofs.Members.{all-of, in-cons, in-here, in-there, in-nothing}
 use Rattle.ipam_laws.proofs.OpenedRows.{in-readable, out-readable}
-use Rattle.ipam_laws.proofs.RowOrder.{sorted-with_row}
+use Rattle.ipam_records.proofs.RowWrites.{sorted-with_row}
 
 -- ---- rows put in one after the other
 

@@ -27,7 +27,8 @@ use Rattle.ipam_laws.proofs.BlockSteps.{IsNoBlock, changed-no-block}
 use Rattle.ipam_laws.proofs.Calls.{found-key}
 use Rattle.ipam_laws.proofs.Lift.{Known}
 use Rattle.ipam_laws.proofs.RequestSteps.{key-changed}
-use Rattle.ipam_laws.proofs.RowOrder.{below-absent, later}
+use Rattle.ipam_records.proofs.RowWrites.{later}
+use Rattle.ipam_laws.proofs.RowOrder.{below-absent}
 use Rattle.ipam_laws.proofs.Steps.{IsAsRead, IsPut, taken, bared, Step, Idles, Owes, Finds, Starts, Takes, Confirms, Marks, Looks, Bares, Deletes, Raises, Lowers, LowersOut, Frees, Assigns, Changes}
 
 -- ---- rows that record the same owners

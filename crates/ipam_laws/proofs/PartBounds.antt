@@ -12,13 +12,14 @@ use Rattle.ipam_addr.specs.declared.address.Family.{Family}
 use Rattle.ipam_model.specs.declared.answer.Scan.{Scan}
 use Rattle.ipam_model.specs.Add.{five_reads}
 use Rattle.ipam_model.specs.Choice.{Seen}
-use Rattle.ipam_model.specs.Reads.{config_said, pools_said, reservations_said, rows_said, handle_said, block_said}
+use Rattle.ipam_model.specs.Reads.{handle_said, block_said}
 use Rattle.ipam_model.specs.declared.part.Left.{Left}
 use Rattle.ipam_model.specs.declared.part.Outcome.{Outcome}
 use Rattle.ipam_model.specs.declared.part.Stop.TheVariants.{OutOfTries, NoRoom, NoRevisions, CountAtLimit}
 use Rattle.ipam_model.specs.declared.part.Outcome.TheVariants.{Went, Stops}
 use Rattle.ipam_model.specs.Step.{left_of, Part, goes, stops, tries}
 use Rattle.ipam_model.specs.Counting.{most_count, raise, raise_once, raise_write, lower, lower_once, Freeing, free, free_once, free_found, free_these, credit_of}
+use Rattle.ipam_laws.proofs.SeenReads.{seen_by_replies}
 use Rattle.ipam_laws.proofs.Within.{Within, Within-followed, Within-after_write}
 
 -- so many calls for each race that may still be lost, and for each claim that may be confirmed
@@ -133,13 +134,7 @@ five_reads-within P family follows count h k = (
           omega arith,
           λ b blocks.
               k (record { family = family; c = c; p = p; r = r; f = f; b = b })
-              (record {
-                config = config_said config;
-                pools = pools_said pools;
-                reservations = reservations_said reservations;
-                affinities = rows_said affinities;
-                blocks = rows_said blocks;
-              }),
+              (seen_by_replies config pools reservations affinities blocks),
         ),
       ),
     ),

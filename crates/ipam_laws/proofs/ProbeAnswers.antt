@@ -8,7 +8,6 @@ use Rattle.ipam_addr.specs.declared.address.Family.{Family}
 use Rattle.ipam_records.specs.declared.call.Call.TheVariants.{Get, List as ListAll}
 use Rattle.ipam_records.specs.declared.key.Key.TheVariants as key
 use Rattle.ipam_records.specs.declared.key.Kind.TheVariants as kind
-use Rattle.ipam_records.specs.Datastore.{reply_of}
 use Rattle.ipam_records.specs.Word.{Ends}
 use Rattle.ipam_model.specs.declared.answer.Answer.{Answer}
 use Rattle.ipam_model.specs.declared.answer.Answer.TheVariants as answer
@@ -27,12 +26,12 @@ use Rattle.ipam_model.specs.History.{begin_moment, now}
 use Rattle.ipam_model.specs.Look.{asked_of_probe, probe_choice, probe_each, probe_word}
 use Rattle.ipam_model.specs.Moments.{IsNext}
 use Rattle.ipam_model.specs.OtherLaws.{AreReady, HasProbed, IsReady, WereReady, last_scan}
-use Rattle.ipam_model.specs.Reads.{config_said, pools_said, reservations_said, rows_said}
 use Rattle.ipam_model.specs.Requests.{told_as}
 use Rattle.ipam_model.specs.Told.{of_probe}
 use Rattle.ipam_model.specs.Usable.{Asked, families_if, is_known, unknown_name}
 use Rattle.ipam_model.proofs.ChoiceLemmas.{choice_is}
-use Rattle.ipam_laws.proofs.AddRounds.{FiveRead}
+use Rattle.ipam_laws.proofs.SeenReads.{seen_by_stores}
+use Rattle.ipam_laws.proofs.AddRounds.{FiveRead, five-read}
 use Rattle.ipam_laws.proofs.FamilyHistory.{reads-before}
 use Rattle.ipam_laws.proofs.Trails.{Comes, Comes-bound, Did, IsTrail, Trail}
 
@@ -68,29 +67,11 @@ each-comes request earlier [] scans trail is done = subst (λ (l : List Family).
     nothing (x ∷ l) = ap (λ (r : List Family). x ∷ r) (nothing l)
 each-comes request earlier (family ∷ later) scans trail is done = λ c config a1 p pools a2 r reservations a3 f affinities a4 b blocks a5.
     let scan : Scan = record { family = family; c = c; p = p; r = r; f = f; b = b } in
-    let seen : Seen = record {
-      config = config_said (reply_of config (Get key.Config));
-      pools = pools_said (reply_of pools (Get key.Pools));
-      reservations = reservations_said (reply_of reservations (Get key.Reservations));
-      affinities = rows_said (reply_of affinities (ListAll kind.Affinity));
-      blocks = rows_said (reply_of blocks (ListAll kind.Block));
-    } in
+    let seen : Seen = seen_by_stores config pools reservations affinities blocks in
     let five : Trail = Did b blocks (ListAll kind.Block) ∷ Did f affinities (ListAll kind.Affinity) ∷ Did r reservations (Get key.Reservations) ∷ Did p pools (Get key.Pools) ∷ Did c config (Get key.Config) ∷ trail in
     let last : (choice : Choice) → IsChoice (asked_of_probe request family) seen choice → ScannedLast request scan choice trail five = λ choice chosen. record {
       seen = seen;
-      reads = record {
-        config = config;
-        pools = pools;
-        reservations = reservations;
-        affinities = affinities;
-        blocks = blocks;
-        is = refl;
-        saw_config = refl;
-        saw_pools = refl;
-        saw_reservations = refl;
-        saw_affinities = refl;
-        saw_blocks = refl;
-      };
+      reads = five-read scan config pools reservations affinities blocks trail;
       is_choice = chosen;
     } in
     by scan refl five (choice_of (asked_of_probe request family) seen) (last (choice_of (asked_of_probe request family) seen) (choice_is (asked_of_probe request family) seen))

@@ -22,7 +22,7 @@ use Rattle.ipam_model.specs.declared.part.Stop.{Stop}
 use Rattle.ipam_model.specs.declared.part.Stop.TheVariants.{OutOfTries, OutOfClaims, NoRoom, CountAtLimit, NoRevisions}
 use Rattle.ipam_model.specs.declared.request.Request.{Request}
 use Rattle.ipam_model.specs.Cluster.{new_record}
-use Rattle.ipam_model.specs.Step.{after_write, write_back}
+use Rattle.ipam_model.specs.Step.{after_write}
 use Rattle.ipam_laws.proofs.Acts.{Same, Since, since-step}
 use Rattle.ipam_laws.proofs.DebtCalls.{get-undone, list-undone, lost-undone}
 use Rattle.ipam_laws.proofs.Debts.{Debt, Harmless, Nothing, Owes, credit_in, owes-none, owes-still}
@@ -157,16 +157,6 @@ handle-plain asked h is = record {
 
 pub delete-plain : (k : Key) (revision : ℕ) → IsPlain (Delete k revision)
 delete-plain k revision = record { reads_none = λ node cidr e. absurd (cc e); writes_none = λ a e. absurd (cc e); puts_none = λ b e. absurd (cc e) }
-
-pub back-new : (said : Said) (new : Record) → new_record (write_back said new) ≡ Some new
-back-new (Found revision found) new = refl
-back-new Missing new = refl
-back-new (Listed rows) new = refl
-back-new (Can revision) new = refl
-back-new (Exists revision) new = refl
-back-new (Conflict revision) new = refl
-back-new Full new = refl
-back-new Spent new = refl
 
 -- ---- what is changed or deleted needs no room
 

@@ -6,7 +6,6 @@ use Rattle.ipam_block.specs.Shape.{BlockValue}
 use Rattle.ipam_records.specs.declared.call.Call.TheVariants.{Get, List as ListAll}
 use Rattle.ipam_records.specs.declared.key.Key.TheVariants as key
 use Rattle.ipam_records.specs.declared.key.Kind.TheVariants as kind
-use Rattle.ipam_records.specs.Datastore.{reply_of}
 use Rattle.ipam_records.specs.Word.{Ends, Word}
 use Rattle.ipam_model.specs.declared.answer.Scan.{Scan}
 use Rattle.ipam_model.specs.declared.outcome.AddAnswer.{AddAnswer}
@@ -27,9 +26,9 @@ use Rattle.ipam_model.specs.Add.{add_word, NextRound, add_each, add_stops, after
 use Rattle.ipam_model.specs.Assigning.{assign, claim_for, target_in}
 use Rattle.ipam_model.specs.Choice.{Foreign, Lacks, Own, Pick, Picks, Rank, Seen, Unclaimed, Unconfirmed, Unknown, block_at, pick_of}
 use Rattle.ipam_model.specs.Counting.{freeing_one}
-use Rattle.ipam_model.specs.Reads.{config_said, pools_said, reservations_said, rows_said}
 use Rattle.ipam_model.specs.Step.{Part, StopAnswers, all_left, answer_of, followed, onward, rounds, settled, stop_answer, stops}
 use Rattle.ipam_model.specs.Usable.{families_if}
+use Rattle.ipam_laws.proofs.SeenReads.{seen_by_stores}
 use Rattle.ipam_laws.proofs.AddRounds.{HasRead, picked-read}
 use Rattle.ipam_laws.proofs.Debts.{Nothing}
 use Rattle.ipam_laws.proofs.LookedBlocks.{KnowsRead, listed-read, looked-read, looked-revision}
@@ -85,13 +84,7 @@ module _ (request : Request) where
                             λ b blocks a5 s5.
                                 let five : Trail = Did b blocks (ListAll kind.Block) ∷ four in
                                 k (record { family = family; c = c; p = p; r = r; f = f; b = b })
-                                (record {
-                                  config = config_said (reply_of config (Get key.Config));
-                                  pools = pools_said (reply_of pools (Get key.Pools));
-                                  reservations = reservations_said (reply_of reservations (Get key.Reservations));
-                                  affinities = rows_said (reply_of affinities (ListAll kind.Affinity));
-                                  blocks = rows_said (reply_of blocks (ListAll kind.Block));
-                                })
+                                (seen_by_stores config pools reservations affinities blocks)
                                 five refl (stays-listed request b blocks four Nothing at4 kind.Block)
                                 (λ slot. record {
                                   knows = subst (λ (o : BlockRead). KnowsRead five slot o) (sym (listed-read blocks slot)) (looked-read b blocks (ListAll kind.Block) four slot);

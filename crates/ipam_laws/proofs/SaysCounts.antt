@@ -30,7 +30,8 @@ use Rattle.ipam_laws.proofs.Calls.{create-can, found-handle, found-key, update-c
 use Rattle.ipam_laws.proofs.DebtCalls.{back-puts, delete-harmless, handle-harmless, lowered-less, lowered-nothing, raise-frees_none, raise-only, raise-raises, update-puts}
 use Rattle.ipam_laws.proofs.Debts.{Debt, Done, Freed, Harmless, Nothing, Owes, Raised, credit_in, owes-paid, owes-raised, owes-used}
 use Rattle.ipam_laws.proofs.PointTrails.{plain-nowhere}
-use Rattle.ipam_laws.proofs.Says.{Clean, Rests, Says, Says-bound, Stays, StopsClean, Tells, back-new, delete-has_room, delete-plain, handle-plain, rests-tells, stays-read, stays-undone, update-has_room, wrote}
+use Rattle.ipam_laws.proofs.Losses.{back-new}
+use Rattle.ipam_laws.proofs.Says.{Clean, Rests, Says, Says-bound, Stays, StopsClean, Tells, delete-has_room, delete-plain, handle-plain, rests-tells, stays-read, stays-undone, update-has_room, wrote}
 use Rattle.ipam_laws.proofs.Trails.{AgreesAll, AgreesWith, Did, Trail}
 
 -- ---- a handle as it was read

@@ -57,7 +57,8 @@ use Rattle.ipam_laws.proofs.Debts.{Nothing, owes-begins, owes-fed}
 use Rattle.ipam_laws.proofs.LookedBlocks.{KnowsRead, looked-read, looked-revision}
 use Rattle.ipam_laws.proofs.PointTrails.{IsPlain, begins-nowhere, fed-nowhere, seen_last}
 use Rattle.ipam_laws.proofs.RequestSteps.{key-changed, one-picks, owned-picks}
-use Rattle.ipam_laws.proofs.Says.{Any, Clean, Rests, Says, Says-bound, back-new, rests-plain, rests-tells, stays-listed, stays-read, stays-undone, wrote}
+use Rattle.ipam_laws.proofs.Losses.{back-new}
+use Rattle.ipam_laws.proofs.Says.{Any, Clean, Rests, Says, Says-bound, rests-plain, rests-tells, stays-listed, stays-read, stays-undone, wrote}
 use Rattle.ipam_laws.proofs.SaysAdds.{add-says, five-says, settles, then-says}
 use Rattle.ipam_laws.proofs.SaysBlocks.{assign-says, free-says}
 use Rattle.ipam_laws.proofs.SaysClaims.{claim_for-says}

@@ -21,6 +21,7 @@ use Rattle.ipam_records.specs.Datastore.{Datastore, reply_to_get, row_of, writte
 use Rattle.ipam_records.specs.Key.{key_of}
 use Rattle.ipam_records.specs.Label.{Label}
 use Rattle.ipam_records.specs.Sound.{IsDatastore}
+use Rattle.ipam_records.proofs.RowKinds.{each-kind}
 use Rattle.ipam_model.specs.declared.entry.Entry.{Entry}
 use Rattle.ipam_model.specs.declared.request.Admin.{Admin}
 use Rattle.ipam_model.specs.declared.request.Admin.TheVariants as change_of
@@ -103,13 +104,7 @@ changed-covers (change_of.Config config) o new k e revision = absurd (cc (k, key
 
 -- what a request reads of the pools is what there is
 said-in : (o : Option Row) → pools_said (reply_to_get o) ≡ pools_in_row o
-said-in None = refl
-said-in (Some (revision, record_of.Pools pools)) = refl
-said-in (Some (revision, record_of.Config config)) = refl
-said-in (Some (revision, record_of.Reservations reservations)) = refl
-said-in (Some (revision, record_of.Block b)) = refl
-said-in (Some (revision, record_of.Affinity a)) = refl
-said-in (Some (revision, record_of.Handle handle)) = refl
+said-in = each-kind (λ o. pools_said (reply_to_get o) ≡ pools_in_row o) refl (λ r x. refl) (λ r x. refl) (λ r x. refl) (λ r x. refl) (λ r x. refl) (λ r x. refl)
 
 -- the slots of a store are slots of the next
 SlotsGrow : (store next : Datastore) → Type 0

@@ -1,12 +1,11 @@
 -- Which blocks that are written are sound.
-use Rattle.std.proofs.Common.{◌≡◌, ℕ, zero, suc, ◌+◌, ◌-◌, ◌/◌, ◌^◌, ◌<◌, ◌≤◌, inl, inr, Bool, true, false, cond, List, [], ◌∷◌, ◌++◌, Option, Some, None, refl, sym, ap, ◌∙◌, subst, arith, eqb-true}
-use Rattle.std.specs.Prelude.{Contains, not, ◌==◌, nat_lt}
-use Rattle.std.specs.List.{find, list_any, sum_by, range_with_len, count_by}
+use Rattle.std.proofs.Common.{◌≡◌, ℕ, ◌+◌, ◌-◌, ◌/◌, ◌^◌, ◌<◌, ◌≤◌, inl, inr, Bool, true, false, cond, List, [], ◌∷◌, Option, Some, None, refl, sym, ◌∙◌, subst, arith}
+use Rattle.std.specs.Prelude.{not, ◌==◌, nat_lt}
+use Rattle.std.specs.List.{find, list_any, count_by}
 use Rattle.std.proofs.Math.Pow.{pow_mono}
-use Rattle.std.proofs.lemmas.Bool.{cases_Bool, eqb-false}
+use Rattle.std.proofs.lemmas.Bool.{cases_Bool}
 use Rattle.std.proofs.lemmas.List.Elements.{All-contains, All-cons, All-filter}
-use Rattle.std.proofs.lemmas.List.Sorted.{IsPermutation-refl, IsPermutation-insert, All-permutation, sum_by-IsPermutation}
-use Rattle.std.proofs.lemmas.List.Sums.{sum_by-append, sum_by-cons}
+use Rattle.std.proofs.lemmas.List.Sorted.{IsPermutation-refl, IsPermutation-insert, All-permutation}
 use Rattle.ipam_addr.specs.Shape.{AddrValue, CidrValue}
 use Rattle.ipam_addr.specs.Width.{IsCidr, cidr_size, size_of}
 use Rattle.ipam_addr.specs.Holding.{Holds, holds_address}
@@ -19,9 +18,10 @@ use Rattle.ipam_block.specs.declared.allocation.Allocation.{Allocation}
 use Rattle.ipam_block.specs.declared.allocation.Attributes.{Attributes}
 use Rattle.ipam_block.specs.Shape.{BlockValue}
 use Rattle.ipam_block.specs.Operations.{fresh_block, next_block, affine_to, assigned, freed, holder, is_held}
-use Rattle.ipam_block.specs.Sound.{IsBlock, IsBlockCidr, AreAttributes, IsNode, IsBlockRecord, held_ordinals, ordinals_below}
+use Rattle.ipam_block.specs.Sound.{IsBlock, IsBlockCidr, AreAttributes, IsNode, IsBlockRecord, ordinals_below}
 use Rattle.ipam_block.proofs.Assigning.{IsBlock-assigned}
 use Rattle.ipam_block.proofs.Freeing.{IsBlock-freed}
+use Rattle.ipam_block.proofs.FreeOrdinals.{queued-free}
 use Rattle.ipam_block.proofs.Ordinals.{queued-below}
 use Rattle.ipam_records.specs.declared.key.Key.{Key}
 use Rattle.ipam_records.specs.declared.key.Key.TheVariants as key
@@ -32,7 +32,6 @@ use Rattle.ipam_model.specs.AddThis.{slot_holding}
 use Rattle.ipam_model.specs.Affinities.{BlockRead, other_node}
 use Rattle.ipam_model.specs.Assigning.{Target}
 use Rattle.ipam_model.specs.Choice.{is_node}
-use Rattle.ipam_laws.proofs.Members.{in-cons, in-nothing}
 use Rattle.ipam_laws.proofs.Lift.{Known}
 use Rattle.ipam_laws.proofs.Steps.{IsKnownPool, IsSlotIn, IsKnownSlot, IsFree, taken, bared}
 
@@ -77,79 +76,6 @@ known-slot-sound known cidr sound (pool, was, at) =
     slot-block-cidr pool cidr range has (slot-of-pool pool cidr has at)
 
 -- ---- ordinals that are free
-
-mark : ℕ → ℕ → ℕ
-mark o x = cond (x == o) 1 0
-
-mark-above : (o a n : ℕ) → o < a → sum_by (mark o) (range_with_len a n) ≡ 0
-unfolding mark
-mark-above o a zero below = refl
-mark-above o a (suc n) below = elim (cases_Bool (a == o)) [
-  | inl same ↦ let e = eqb-true a o same in absurd (omega arith)
-  | inr differ ↦
-      let rest = mark-above o (a + 1) n (omega arith) in
-      let both = sum_by-cons (mark o) a (range_with_len (a + 1) n) in
-      let here : mark o a ≡ 0 = rw differ refl in
-      omega arith
-]
-
--- an ordinal stands once at most among the first numbers
-mark-range : (o a n : ℕ) → sum_by (mark o) (range_with_len a n) ≤ 1
-unfolding mark
-mark-range o a zero = omega arith
-mark-range o a (suc n) = elim (cases_Bool (a == o)) [
-  | inl same ↦
-      let e = eqb-true a o same in
-      let rest = mark-above o (a + 1) n (omega arith) in
-      let both = sum_by-cons (mark o) a (range_with_len (a + 1) n) in
-      let here : mark o a ≡ 1 = rw same refl in
-      omega arith
-  | inr differ ↦
-      let rest = mark-range o (a + 1) n in
-      let both = sum_by-cons (mark o) a (range_with_len (a + 1) n) in
-      let here : mark o a ≡ 0 = rw differ refl in
-      omega arith
-]
-
-mark-member : (o : ℕ) (xs : List ℕ) → Contains xs o → 1 ≤ sum_by (mark o) xs
-unfolding mark
-mark-member o [] h = absurd (in-nothing o h)
-mark-member o (x ∷ xs) h =
-    let both = sum_by-cons (mark o) x xs in
-    elim (in-cons o x xs h) [
-      | inl is ↦ let here : mark o x ≡ 1 = ap (mark o) is ∙ mark-itself o in omega arith
-      | inr there ↦ let rest = mark-member o xs there in omega arith
-    ]
-  where
-    from : (o : ℕ) (b : Bool) → (o == o) ≡ b → cond {A = ℕ} b 1 0 ≡ 1
-    from o true e = refl
-    from o false e = absurd (eqb-false o o e refl)
-
-    mark-itself : (o : ℕ) → mark o o ≡ 1
-    mark-itself o = from o (o == o) refl
-
-mark-held : (o : ℕ) (xs : List Allocation) → list_any (λ a. a.ordinal == o) xs ≡ true → 1 ≤ sum_by (mark o) (held_ordinals xs)
-unfolding mark
-mark-held o [] e = absurd (cc e)
-mark-held o (x ∷ xs) e =
-    let both = sum_by-cons (mark o) x.ordinal (held_ordinals xs) in
-    elim (cases_Bool (x.ordinal == o)) [
-      | inl same ↦ let here : mark o x.ordinal ≡ 1 = rw same refl in omega arith
-      | inr differ ↦ let f = rw differ at e in let rest = mark-held o xs f in omega arith
-    ]
-
--- a queued ordinal is not held
-queued-free : (b : BlockValue) (o : ℕ) → IsBlock b → Contains b.queue o → is_held b o ≡ false
-queued-free b o h queued = elim (cases_Bool (is_held b o)) [
-  | inl held ↦
-      let one = mark-held o b.allocations held in
-      let two = mark-member o b.queue queued in
-      let all = sum_by-append (mark o) (held_ordinals b.allocations) b.queue in
-      let same = sum_by-IsPermutation (mark o) (ordinals_below (cidr_size b.cidr)) (held_ordinals b.allocations ++ b.queue) h.each_once in
-      let most = mark-range o 0 (cidr_size b.cidr) in
-      absurd (omega arith)
-  | inr free ↦ free
-]
 
 -- an ordinal that nobody holds
 holder-free : (b : BlockValue) (o : ℕ) → holder b o ≡ None → is_held b o ≡ false

@@ -13,7 +13,8 @@ use Rattle.ipam_model.specs.declared.entry.Entry.{Entry}
 use Rattle.ipam_model.specs.Consistent.{IsWithinLimits, SoundLaw, LimitsLaw}
 use Rattle.ipam_model.specs.History.{Base, Lawful, cluster_at, store_at, slot_of_entry}
 use Rattle.ipam_model.specs.Reads.{Row}
-use Rattle.ipam_laws.proofs.RowOrder.{All-with_row, All-without_row, sorted-with_row, sorted-without_row, length-row_count, filter-row_count, row_count, count-new, count-there, count-without}
+use Rattle.ipam_records.proofs.RowWrites.{All-with_row, All-without_row, sorted-with_row, sorted-without_row}
+use Rattle.ipam_laws.proofs.RowOrder.{length-row_count, filter-row_count, row_count, count-new, count-there, count-without}
 use Rattle.ipam_laws.proofs.StoreSteps.{StoreStep, Stays, Puts, Removes, store-step}
 use Rattle.ipam_laws.proofs.SlotSteps.{known_at, label_at, turn-of}
 use Rattle.ipam_laws.proofs.SoundBlocks.{IsSoundKnown}

@@ -45,13 +45,14 @@ use Rattle.ipam_model.specs.Affinities.{BlockRead}
 use Rattle.ipam_model.specs.Assigning.{assign, claim_for, target_in}
 use Rattle.ipam_model.specs.Choice.{Foreign, Lacks, Own, Pick, Picks, Rank, Seen, Share, Takes, Claims, Leaves, Unclaimed, Unconfirmed, Unknown, by_share, pick_of, share_of}
 use Rattle.ipam_model.specs.Counting.{free, freeing_all, freeing_one}
-use Rattle.ipam_model.specs.Reads.{block_said, config_said, handle_said, pools_said, reservations_said, rows_said}
+use Rattle.ipam_model.specs.Reads.{block_said, config_said, handle_said, pools_said, rows_said}
 use Rattle.ipam_model.specs.Remove.{Leak, collect_stops, collect_word, del_blocks, del_stops, del_word, free_leaks, freeing_owner, item_of, leaks, suspects, with_item}
 use Rattle.ipam_model.specs.Requests.{told_as}
 use Rattle.ipam_model.specs.Step.{Part, StopAnswers, all_left, answer_of, confirmed_so_far, goes, lost_so_far, most_claims, most_lost, onward, rounds, settled, stop_answer, stops, without_count, write_back}
 use Rattle.ipam_model.specs.Told.{of_add, of_add_this, of_admin, of_collect, of_del}
 use Rattle.ipam_model.specs.Tries.{confirmed_claims, is_add, is_release, lost_races}
 use Rattle.ipam_model.specs.Usable.{families_if, usable_pool_of}
+use Rattle.ipam_laws.proofs.SeenReads.{seen_by_stores}
 use Rattle.ipam_laws.proofs.AddFamilies.{comes-lasting}
 use Rattle.ipam_laws.proofs.Losses.{HasFull, IsLeft, LastConfirmed, LastLost, LastSpent, Stopped, back-writes, claims_in, full-more, lost_in, read-left, told_calls, wrote}
 use Rattle.ipam_laws.proofs.StopParts.{Again, AssignEnds, ClaimedEnds, FreeEnds, IsEnding, assign-comes, claim-for, free-comes, frees-follow, tries-come}
@@ -366,13 +367,7 @@ module _ (request : AddRequest) where
   round-comes : (family : Family) (bound : ℕ) → bound ≤ 126 → (next : NextRound) → NextComes all_of (ServedEnds 126) bound next → (trail : Trail) (left : Left) → IsLeft all_of bound trail left → Comes (ServedEnds 126) trail (round_of request family next left)
   round-comes family bound below next after trail left h = λ c config a1 p pools a2 r reservations a3 f affinities a4 b blocks a5.
       let scan : Scan = record { family = family; c = c; p = p; r = r; f = f; b = b } in
-      let seen : Seen = record {
-        config = config_said (reply_of config (Get key.Config));
-        pools = pools_said (reply_of pools (Get key.Pools));
-        reservations = reservations_said (reply_of reservations (Get key.Reservations));
-        affinities = rows_said (reply_of affinities (ListAll kind.Affinity));
-        blocks = rows_said (reply_of blocks (ListAll kind.Block));
-      } in
+      let seen : Seen = seen_by_stores config pools reservations affinities blocks in
       let one : Trail = Did c config (Get key.Config) ∷ trail in
       let two : Trail = Did p pools (Get key.Pools) ∷ one in
       let three : Trail = Did r reservations (Get key.Reservations) ∷ two in

@@ -24,8 +24,7 @@ use Rattle.ipam_records.proofs.DatastoreLemmas.{row_key-row_of}
 use Rattle.ipam_records.specs.Sound.{IsName, AreAttributes}
 use Rattle.ipam_model.specs.SoundRequest.{IsSoundAdd}
 use Rattle.ipam_model.specs.declared.answer.Scan.{Scan}
-use Rattle.ipam_model.specs.declared.choice.Choice.{Choice}
-use Rattle.ipam_model.specs.declared.choice.Choice.TheVariants.{Use, Claim, Borrow, Nothing, NoPool}
+use Rattle.ipam_model.specs.declared.choice.Choice.TheVariants.{NoPool}
 use Rattle.ipam_model.specs.declared.outcome.ClaimAnswer.{ClaimAnswer}
 use Rattle.ipam_model.specs.declared.outcome.ClaimAnswer.TheVariants as claimed
 use Rattle.ipam_model.specs.declared.request.AddRequest.{AddRequest}
@@ -34,16 +33,18 @@ use Rattle.ipam_model.specs.Add.{five_reads, Round}
 use Rattle.ipam_model.specs.Affinities.{BlockRead, claim}
 use Rattle.ipam_model.specs.AffinityLaw.{HasAt}
 use Rattle.ipam_model.specs.Assigning.{Target, target_in, assign, assign_block, after_claim, claim_for}
-use Rattle.ipam_model.specs.Choice.{Ranked, IsBest, chosen, choice_in, choice_of, is_reserved, Seen, is_block_at, block_in_found, block_at, is_node, is_unowned_and_empty, is_confirmed_for, may_claim, room_of, has_free_address, Rank, Own, Unconfirmed, Unclaimed, Foreign, rank_of_block, rank_at, Pick, Unknown, Lacks, Picks, pick_of}
+use Rattle.ipam_model.specs.Choice.{Ranked, IsBest, choice_in, choice_of, is_reserved, Seen, is_block_at, block_in_found, block_at, is_node, is_unowned_and_empty, is_confirmed_for, may_claim, room_of, has_free_address, Rank, Own, Unconfirmed, Unclaimed, Foreign, rank_of_block, rank_at, Pick, Unknown, Lacks, Picks, pick_of}
 use Rattle.ipam_model.proofs.ChoiceLemmas.{choice_is, pick-ranked}
 use Rattle.ipam_model.specs.Counting.{raise}
-use Rattle.ipam_model.specs.Reads.{Row, config_said, pools_said, reservations_said, rows_said}
+use Rattle.ipam_model.specs.Reads.{Row, pools_said, rows_said}
 use Rattle.ipam_model.specs.declared.part.Left.{Left}
 use Rattle.ipam_model.specs.declared.part.Outcome.{Outcome}
 use Rattle.ipam_model.specs.declared.part.Stop.TheVariants.{OutOfTries}
 use Rattle.ipam_model.specs.declared.part.Outcome.TheVariants.{Went, Stops}
 use Rattle.ipam_model.specs.Step.{left_of, Part, StopAnswers, answer_of, settled, stops, onward, followed, rounds}
 use Rattle.ipam_model.specs.Usable.{Asked, unknown_name, is_same_cidr}
+use Rattle.ipam_laws.proofs.SeenReads.{seen_by_replies}
+use Rattle.ipam_laws.proofs.ChosenSlots.{chosen-slot, slot_in}
 use Rattle.ipam_laws.proofs.Lift.{Known, more, Grows, label_to, Meets-bound, label_to-bound}
 use Rattle.ipam_laws.proofs.Calls.{found-block, get-meets, list-meets}
 use Rattle.ipam_laws.proofs.Members.{in-find, in-nothing, in-place}
@@ -162,13 +163,7 @@ abbrev behind_4 : {A : Type 0} → Family → (Scan → Seen → Word A) → (c 
 behind_4 family follows c p r f config pools reservations affinities =
     Asks idle (call.List kind.Block) (λ b blocks. follows
     (record { family = family; c = c; p = p; r = r; f = f; b = b })
-    (record {
-      config = config_said config;
-      pools = pools_said pools;
-      reservations = reservations_said reservations;
-      affinities = rows_said affinities;
-      blocks = rows_said blocks;
-    }))
+    (seen_by_replies config pools reservations affinities blocks))
 
 abbrev behind_3 : {A : Type 0} → Family → (Scan → Seen → Word A) → (c p r : ℕ) → (config pools reservations : Said) → Word A
 behind_3 family follows c p r config pools reservations = Asks idle (call.List kind.Affinity) (λ f affinities. behind_4 family follows c p r f config pools reservations affinities)
@@ -188,35 +183,17 @@ steps_4 family follows k c p r f config pools reservations affinities known h =
     list-meets Step still Any known idle kind.Block
     (λ b blocks. follows
     (record { family = family; c = c; p = p; r = r; f = f; b = b })
-    (record {
-      config = config_said config;
-      pools = pools_said pools;
-      reservations = reservations_said reservations;
-      affinities = rows_said affinities;
-      blocks = rows_said blocks;
-    }))
+    (seen_by_replies config pools reservations affinities blocks))
     (λ b store agrees. turn b store (k (more known store store)
     (record { family = family; c = c; p = p; r = r; f = f; b = b })
-    (record {
-      config = config_said config;
-      pools = pools_said pools;
-      reservations = reservations_said reservations;
-      affinities = rows_said affinities;
-      blocks = listed kind.Block store;
-    })
+    (seen_there store)
     (record {
       blocks = λ cidr. listed-known known store cidr;
       pools = pools-known-grow known (more known store store) pools (λ k r f there. inl there) h;
     })))
   where
     seen_there : Datastore → Seen
-    seen_there store = record {
-      config = config_said config;
-      pools = pools_said pools;
-      reservations = reservations_said reservations;
-      affinities = rows_said affinities;
-      blocks = listed kind.Block store;
-    }
+    seen_there store = seen_by_replies config pools reservations affinities (Listed (listed kind.Block store))
 
     turn : (b : ℕ) (store : Datastore) → Keeps (more known store store) (follows (record { family = family; c = c; p = p; r = r; f = f; b = b }) (seen_there store)) → Step known store store idle (label_to still (follows (record { family = family; c = c; p = p; r = r; f = f; b = b }) (seen_there store))) × Steps still (more known store store) (follows (record { family = family; c = c; p = p; r = r; f = f; b = b }) (seen_there store))
     turn b store h = (Idles refl h.0, h.1)
@@ -342,20 +319,6 @@ rank_at-known known asked seen slot None rank name at h e = by (may_claim asked 
     by false f = absurd (cc f)
 
 -- ---- the slot that is picked
-
--- the slot of a choice
-abbrev slot_in : Choice → Option CidrValue
-slot_in (Use slot ordinal) = Some slot
-slot_in (Claim slot) = Some slot
-slot_in (Borrow slot ordinal) = Some slot
-slot_in Nothing = None
-slot_in (NoPool place) = None
-
-chosen-slot : (slot : CidrValue) (rank : Rank) → slot_in (chosen (record { slot = slot; rank = rank })) ≡ Some slot
-chosen-slot slot (Own found ordinal) = refl
-chosen-slot slot (Unconfirmed found) = refl
-chosen-slot slot (Unclaimed read) = refl
-chosen-slot slot (Foreign found ordinal) = refl
 
 -- it is a slot of a pool that was seen
 picked-slot : (asked : Asked) (seen : Seen) (found : Ranked) → pick_of asked seen ≡ Picks found → (pool : Pool) × Contains seen.pools pool × IsSlotOf pool found.slot

@@ -41,7 +41,8 @@ first_found-some {A} finds (suc many) from found e = by (λ f. first_found-some 
         let more = rest f in
         record { above = omega (arith, more.above); below = omega (arith, more.below); there = more.there; least = later is more }
 
-first_found-none : {A : Type 0} → (finds : ℕ → Option A) (many from : ℕ) → first_found finds many from ≡ None → (k : ℕ) → from ≤ k → k < from + many → finds k ≡ None
+-- what holds of a number where nothing is found
+pub first_found-none : {A : Type 0} → (finds : ℕ → Option A) (many from : ℕ) → first_found finds many from ≡ None → (k : ℕ) → from ≤ k → k < from + many → finds k ≡ None
 unfolding first_found
 first_found-none finds zero from e k above below = absurd (omega arith)
 first_found-none {A} finds (suc many) from e k above below = by (λ f. first_found-none finds many (from + 1) f k) (finds from) refl e

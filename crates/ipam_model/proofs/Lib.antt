@@ -1,2 +1,3 @@
 -- Lemmas on the definitions.
 pub mod ChoiceLemmas
+pub mod RowsByKey

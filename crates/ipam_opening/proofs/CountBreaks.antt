@@ -18,6 +18,7 @@ use Rattle.ipam_records.specs.declared.record.Record.TheVariants as record_of
 use Rattle.ipam_records.specs.Datastore.{row_of}
 use Rattle.ipam_records.specs.KeyText.{key_bytes}
 use Rattle.ipam_records.proofs.DatastoreLemmas.{row_key-row_of}
+use Rattle.ipam_records.proofs.RowKinds.{each-kind}
 use Rattle.ipam_model.specs.CountLaw.{count_in_row, handle_count, held_count, held_in_row}
 use Rattle.ipam_model.specs.Opened.{Texts, AreByKey, Breaks, CountTooLow, read_store, readable, reading_of}
 use Rattle.ipam_model.specs.Reads.{Row}
@@ -127,16 +128,7 @@ module _ (rows : List Row) where
 -- ---- what breaks the rule
 
 count-same : (rows : List Row) (id : List ℕ) (cidr : CidrValue) → count_found cidr (found_in (key.Handle id) rows) ≡ count_in_row id cidr (row_of (key.Handle id) rows)
-count-same rows id cidr = by (row_of (key.Handle id) rows)
-  where
-    by : (o : Option Row) → count_found cidr (option_map (λ (row : Row). row.1) o) ≡ count_in_row id cidr o
-    by None = refl
-    by (Some (revision, record_of.Handle h)) = refl
-    by (Some (revision, record_of.Config config)) = refl
-    by (Some (revision, record_of.Pools pools)) = refl
-    by (Some (revision, record_of.Reservations reservations)) = refl
-    by (Some (revision, record_of.Block b)) = refl
-    by (Some (revision, record_of.Affinity a)) = refl
+count-same rows id cidr = each-kind (λ o. count_found cidr (option_map (λ (row : Row). row.1) o) ≡ count_in_row id cidr o) refl (λ r x. refl) (λ r x. refl) (λ r x. refl) (λ r x. refl) (λ r x. refl) (λ r x. refl) (row_of (key.Handle id) rows)
 
 module _ (texts : Texts) (by_key : AreByKey texts.rows) where
   forth : (about : List ℕ) → IsShortIn (readable texts.rows) (map reading_of texts.rows) about → Breaks texts 6 about

@@ -2,7 +2,7 @@
 use Rattle.std.proofs.Common.{◌≡◌, ℕ, inl, inr, Bool, true, false, List, Option, Some, None, Result, Ok, Err, refl, sym, ap, ◌∙◌, subst, arith, option_map}
 use Rattle.std.specs.Prelude.{Contains, ◌&&◌, not, is_none}
 use Rattle.std.specs.List.{find, list_any}
-use Rattle.std.proofs.lemmas.Bool.{cases_Bool, leb-true, le-leb}
+use Rattle.std.proofs.lemmas.Bool.{cases_Bool}
 use Rattle.std.proofs.lemmas.Slice.Eq.{bytes_eq-Decides}
 use Rattle.ipam_addr.specs.Shape.{CidrValue}
 use Rattle.ipam_addr.specs.Width.{IsCidr}
@@ -25,15 +25,17 @@ use Rattle.ipam_model.specs.Consistent.{IsSlotOfSome, pools_in, pools_in_row}
 use Rattle.ipam_model.specs.Opened.{Texts, Breaks, NoText, AnotherKey, NoTable, NoSlot, NoBlock, NoAffinityFor, NoNodeFor, AreByKey, IsBrokenBlock, cidr_of_key, pools_read, read_store, readable, reading_of}
 use Rattle.ipam_model.specs.Reads.{Row}
 use Rattle.ipam_records.proofs.DatastoreLemmas.{row_key-row_of}
+use Rattle.ipam_records.proofs.RowKinds.{each-kind}
 use Rattle.ipam_affinity.specs.declared.record.Affinity.{Affinity}
 use Rattle.ipam_block.specs.Shape as block
 use Rattle.ipam_model.specs.Affinities.{affinity}
 use Rattle.ipam_model.specs.AffinityLaw.{HasAffinity, HasNode}
 use Rattle.ipam_model.specs.Choice.{is_node}
 use Rattle.ipam_laws.proofs.FirstFault.{key-range, read-table}
+use Rattle.ipam_laws.proofs.TextFaults.{broken-is as broken_block, fault-told as reads-told, is-broken as block_broken, is_broken, is_same_fault, reads_fault, told-fault as told-reads}
 use Rattle.ipam_laws.proofs.OpenedRows.{out-readable}
 use Rattle.ipam_laws.proofs.RowOrder.{found-member}
-use Rattle.ipam_opening.specs.Rules.{breaks, has_fault, is_fault, is_broken_block, is_outside, pools_found, found_in, is_block_alone, is_affinity_alone, lacks_affinity, is_confirmed, is_block_with}
+use Rattle.ipam_opening.specs.Rules.{breaks, has_fault, is_broken_block, is_outside, pools_found, found_in, is_block_alone, is_affinity_alone, lacks_affinity, is_confirmed, is_block_with}
 use Rattle.ipam_opening.specs.Told.{IsClearBelow, IsFirstOf}
 use Rattle.ipam_opening.specs.declared.rule.Rule.{Rule}
 use Rattle.ipam_opening.specs.declared.rule.Rule.TheVariants as rule
@@ -42,81 +44,29 @@ use Rattle.ipam_opening.proofs.Found.{found-own, own-text}
 
 -- ---- faults of texts
 
-fault-itself : (t : TextFault) → is_fault t t ≡ true
-fault-itself fault.Form = refl
-fault-itself fault.Key = refl
-fault-itself fault.Table = refl
-fault-itself fault.Unsound = refl
-fault-itself fault.Memory = refl
-
-fault-same : (one other : TextFault) → is_fault one other ≡ true → one ≡ other
-fault-same fault.Form fault.Form e = refl
-fault-same fault.Key fault.Key e = refl
-fault-same fault.Table fault.Table e = refl
-fault-same fault.Unsound fault.Unsound e = refl
-fault-same fault.Memory fault.Memory e = refl
-fault-same fault.Form fault.Key e = absurd (cc e)
-fault-same fault.Form fault.Table e = absurd (cc e)
-fault-same fault.Form fault.Unsound e = absurd (cc e)
-fault-same fault.Form fault.Memory e = absurd (cc e)
-fault-same fault.Key fault.Form e = absurd (cc e)
-fault-same fault.Key fault.Table e = absurd (cc e)
-fault-same fault.Key fault.Unsound e = absurd (cc e)
-fault-same fault.Key fault.Memory e = absurd (cc e)
-fault-same fault.Table fault.Form e = absurd (cc e)
-fault-same fault.Table fault.Key e = absurd (cc e)
-fault-same fault.Table fault.Unsound e = absurd (cc e)
-fault-same fault.Table fault.Memory e = absurd (cc e)
-fault-same fault.Unsound fault.Form e = absurd (cc e)
-fault-same fault.Unsound fault.Key e = absurd (cc e)
-fault-same fault.Unsound fault.Table e = absurd (cc e)
-fault-same fault.Unsound fault.Memory e = absurd (cc e)
-fault-same fault.Memory fault.Form e = absurd (cc e)
-fault-same fault.Memory fault.Key e = absurd (cc e)
-fault-same fault.Memory fault.Table e = absurd (cc e)
-fault-same fault.Memory fault.Unsound e = absurd (cc e)
-
 fault-told : (which : TextFault) (r : Result Record TextFault) → has_fault which r ≡ true → r ≡ Err which
-fault-told which (Ok found) e = absurd (cc e)
-fault-told which (Err broken) e = ap Err (sym (fault-same which broken e))
+unfolding reads_fault is_same_fault
+fault-told which r e = reads-told which r e
 
 told-fault : (which : TextFault) (r : Result Record TextFault) → r ≡ Err which → has_fault which r ≡ true
-told-fault which r e = ap (has_fault which) e ∙ fault-itself which
+unfolding reads_fault is_same_fault
+told-fault which r e = told-reads which r e
 
 -- ---- broken blocks
 
 broken-is : (revision : ℕ) (r : Result Record TextFault) → is_broken_block revision r ≡ true → IsBrokenBlock revision r
-broken-is revision (Ok (record_of.Block b)) e = leb-true revision b.sequence e
-broken-is revision (Ok (record_of.Config config)) e = absurd (cc e)
-broken-is revision (Ok (record_of.Pools pools)) e = absurd (cc e)
-broken-is revision (Ok (record_of.Reservations reservations)) e = absurd (cc e)
-broken-is revision (Ok (record_of.Affinity a)) e = absurd (cc e)
-broken-is revision (Ok (record_of.Handle handle)) e = absurd (cc e)
-broken-is revision (Err broken) e = sym (fault-same fault.Unsound broken e)
+unfolding is_broken is_same_fault
+broken-is revision r e = broken_block revision r e
 
 is-broken : (revision : ℕ) (r : Result Record TextFault) → IsBrokenBlock revision r → is_broken_block revision r ≡ true
-is-broken revision (Ok (record_of.Block b)) h = le-leb revision b.sequence h
-is-broken revision (Ok (record_of.Config config)) h = absurd h
-is-broken revision (Ok (record_of.Pools pools)) h = absurd h
-is-broken revision (Ok (record_of.Reservations reservations)) h = absurd h
-is-broken revision (Ok (record_of.Affinity a)) h = absurd h
-is-broken revision (Ok (record_of.Handle handle)) h = absurd h
-is-broken revision (Err broken) h = ap (λ (t : TextFault). is_fault fault.Unsound t) h
+unfolding is_broken is_same_fault
+is-broken revision r h = block_broken revision r h
 
 -- ---- slots
 
 -- the pools that are found are those of the rows
 pools-same : (rows : List Row) → pools_found (found_in key.Pools rows) ≡ pools_in rows
-pools-same rows = by (row_of key.Pools rows)
-  where
-    by : (o : Option Row) → pools_found (option_map (λ (row : Row). row.1) o) ≡ pools_in_row o
-    by None = refl
-    by (Some (revision, record_of.Pools pools)) = refl
-    by (Some (revision, record_of.Config config)) = refl
-    by (Some (revision, record_of.Reservations reservations)) = refl
-    by (Some (revision, record_of.Block b)) = refl
-    by (Some (revision, record_of.Affinity a)) = refl
-    by (Some (revision, record_of.Handle handle)) = refl
+pools-same rows = each-kind (λ o. pools_found (option_map (λ (row : Row). row.1) o) ≡ pools_in_row o) refl (λ r x. refl) (λ r x. refl) (λ r x. refl) (λ r x. refl) (λ r x. refl) (λ r x. refl) (row_of key.Pools rows)
 
 module _ (texts : Texts) where
   outside-is : (cidr : CidrValue) → IsCidr cidr → is_outside (pools_read texts) (Some cidr) ≡ true → ¬ (IsSlotOfSome (pools_read texts) cidr)

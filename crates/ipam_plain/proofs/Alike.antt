@@ -22,7 +22,9 @@ use Rattle.ipam_records.proofs.DatastoreLemmas.{row_of-with_row, row_of-with_row
 use Rattle.ipam_model.specs.Plain.{Rows, block_of, found_in, handle_of, records}
 use Rattle.ipam_model.specs.Reads.{Row, block_said, handle_said, pools_said}
 use Rattle.ipam_laws.proofs.OneRecord.{key_cases}
-use Rattle.ipam_laws.proofs.RowOrder.{below-absent, later}
+use Rattle.ipam_records.proofs.RowWrites.{later}
+use Rattle.ipam_records.proofs.RowKinds.{each-kind}
+use Rattle.ipam_laws.proofs.RowOrder.{below-absent}
 
 -- ---- the record of a key
 
@@ -113,16 +115,7 @@ handle_from id (Some (record_of.Handle h)) = h
 handle_from id _ = content id []
 
 pub handle_of-record : (id : List ℕ) (rows : Rows) → handle_of id rows ≡ handle_from id (record_at (key.Handle id) rows)
-handle_of-record id rows = by (row_of (key.Handle id) rows)
-  where
-    by : (o : Option Row) → handle_said id (reply_to_get o) ≡ handle_from id (record_in o)
-    by None = refl
-    by (Some (revision, record_of.Config config)) = refl
-    by (Some (revision, record_of.Pools pools)) = refl
-    by (Some (revision, record_of.Reservations reservations)) = refl
-    by (Some (revision, record_of.Block b)) = refl
-    by (Some (revision, record_of.Affinity a)) = refl
-    by (Some (revision, record_of.Handle h)) = refl
+handle_of-record id rows = each-kind (λ o. handle_said id (reply_to_get o) ≡ handle_from id (record_in o)) refl (λ r x. refl) (λ r x. refl) (λ r x. refl) (λ r x. refl) (λ r x. refl) (λ r x. refl) (row_of (key.Handle id) rows)
 
 pub alike-handle : (id : List ℕ) (one other : Rows) → Alike one other → handle_of id one ≡ handle_of id other
 alike-handle id one other h = handle_of-record id one ∙ (ap (handle_from id) (h (key.Handle id)) ∙ sym (handle_of-record id other))
@@ -135,16 +128,7 @@ abbrev pub value_in : Option (ℕ × BlockValue) → Option BlockValue
 value_in o = option_map (λ (found : ℕ × BlockValue). found.1) o
 
 pub block_of-record : (cidr : CidrValue) (rows : Rows) → value_in (block_of cidr rows) ≡ block_from (record_at (key.Block cidr) rows)
-block_of-record cidr rows = by (row_of (key.Block cidr) rows)
-  where
-    by : (o : Option Row) → value_in (block_said (reply_to_get o)) ≡ block_from (record_in o)
-    by None = refl
-    by (Some (revision, record_of.Config config)) = refl
-    by (Some (revision, record_of.Pools pools)) = refl
-    by (Some (revision, record_of.Reservations reservations)) = refl
-    by (Some (revision, record_of.Block b)) = refl
-    by (Some (revision, record_of.Affinity a)) = refl
-    by (Some (revision, record_of.Handle h)) = refl
+block_of-record cidr rows = each-kind (λ o. value_in (block_said (reply_to_get o)) ≡ block_from (record_in o)) refl (λ r x. refl) (λ r x. refl) (λ r x. refl) (λ r x. refl) (λ r x. refl) (λ r x. refl) (row_of (key.Block cidr) rows)
 
 pub alike-block : (cidr : CidrValue) (one other : Rows) → Alike one other → value_in (block_of cidr one) ≡ value_in (block_of cidr other)
 alike-block cidr one other h = block_of-record cidr one ∙ (ap block_from (h (key.Block cidr)) ∙ sym (block_of-record cidr other))
@@ -157,16 +141,7 @@ pools_from (Some (record_of.Pools pools)) = pools
 pools_from _ = []
 
 pub pools-record : (rows : Rows) → pools_said (found_in key.Pools rows) ≡ pools_from (record_at key.Pools rows)
-pools-record rows = by (row_of key.Pools rows)
-  where
-    by : (o : Option Row) → pools_said (reply_to_get o) ≡ pools_from (record_in o)
-    by None = refl
-    by (Some (revision, record_of.Config config)) = refl
-    by (Some (revision, record_of.Pools pools)) = refl
-    by (Some (revision, record_of.Reservations reservations)) = refl
-    by (Some (revision, record_of.Block b)) = refl
-    by (Some (revision, record_of.Affinity a)) = refl
-    by (Some (revision, record_of.Handle h)) = refl
+pools-record rows = each-kind (λ o. pools_said (reply_to_get o) ≡ pools_from (record_in o)) refl (λ r x. refl) (λ r x. refl) (λ r x. refl) (λ r x. refl) (λ r x. refl) (λ r x. refl) (row_of key.Pools rows)
 
 pub same-pools : (one other : Rows) → record_at key.Pools one ≡ record_at key.Pools other → pools_said (found_in key.Pools one) ≡ pools_said (found_in key.Pools other)
 same-pools one other e = pools-record one ∙ (ap pools_from e ∙ sym (pools-record other))

@@ -1,54 +1,24 @@
 -- Behind a claim the choice is the block that was claimed.
-use Rattle.std.proofs.Common.{◌≡◌, ◌≢◌, ℕ, zero, suc, ◌+◌, inl, inr, Bool, true, false, cond, Option, Some, None, refl, sym, ap, ◌∙◌, subst, arith}
-use Rattle.std.specs.Prelude.{MatchOption, slice_get, not, ◌&&◌, is_some}
-use Rattle.std.specs.List.{find, list_any, range_with_len}
-use Rattle.ipam_addr.specs.Shape.{AddrValue, CidrValue}
-use Rattle.ipam_addr.specs.Width.{cidr_size}
-use Rattle.ipam_block.specs.Operations.{address_of}
+use Rattle.std.proofs.Common.{◌≡◌, ◌≢◌, ℕ, inl, inr, Bool, true, false, cond, Option, Some, None, refl, sym, ap, ◌∙◌, subst}
+use Rattle.std.specs.Prelude.{slice_get, ◌&&◌}
+use Rattle.std.specs.List.{list_any}
+use Rattle.ipam_addr.specs.Shape.{CidrValue}
 use Rattle.ipam_block.specs.Shape.{BlockValue}
 use Rattle.ipam_records.specs.declared.key.Key.TheVariants as key
 use Rattle.ipam_records.specs.declared.record.Record.TheVariants as record_of
-use Rattle.ipam_model.specs.declared.choice.Choice.{Choice}
-use Rattle.ipam_model.specs.declared.choice.Choice.TheVariants.{Use, Claim, Borrow, Nothing, NoPool}
 use Rattle.ipam_model.specs.Affinities.{BlockRead}
-use Rattle.ipam_model.specs.Choice.{Candidate, FirstCandidate, Foreign, IsBest, IsCandidate, IsNotBehind, Lacks, Own, Pick, Picks, Rank, Ranked, Seen, Unclaimed, Unconfirmed, Unknown, block_at, by_number, by_place, by_rank, choice_in, choice_of, chosen, first_found, free_address, has_free_address, is_confirmed_for, is_node, is_reserved, is_unowned_and_empty, may_claim, pick_of, pick_unless, rank_at, rank_in, rank_number, rank_of, rank_of_block, room_of}
+use Rattle.ipam_model.specs.Choice.{Candidate, FirstCandidate, Foreign, IsBest, IsCandidate, Lacks, Own, Pick, Picks, Rank, Ranked, Seen, Unclaimed, Unconfirmed, Unknown, block_at, choice_in, choice_of, has_free_address, is_confirmed_for, is_node, is_unowned_and_empty, may_claim, pick_of, rank_at, rank_in, rank_number, rank_of, rank_of_block, room_of}
 use Rattle.ipam_model.specs.Plain.{Rows, seen_in}
 use Rattle.ipam_model.specs.Usable.{Asked, unknown_name}
-use Rattle.ipam_model.proofs.ChoiceLemmas.{choice_is, pick-ranked}
+use Rattle.ipam_model.proofs.ChoiceLemmas.{pick-ranked}
+use Rattle.ipam_laws.proofs.AloneChoice.{claim-room}
+use Rattle.ipam_laws.proofs.ChosenSlots.{best-choice, chosen-slot, least-rank, none-unknown, slot_in}
 use Rattle.ipam_laws.proofs.CountLemmas.{cidr_cases, same_text}
 use Rattle.ipam_laws.proofs.Steps.{taken}
 use Rattle.ipam_plain.proofs.Alike.{IsSorted, record-row, same-pools, value_in}
 use Rattle.ipam_plain.proofs.Claiming.{IsClaimedIn}
 use Rattle.ipam_plain.proofs.Ranks.{same-room, usable-family}
 use Rattle.ipam_plain.proofs.Seeing.{block-listed, block-named, confirmed-record, confirmed_from, same-block, same-confirmed, same-reservations}
-
--- ---- room
-
--- an address that is not reserved is found among the ordinals
-found-free : (seen : Seen) (cidr : CidrValue) (many from : ℕ) → is_some (first_found (free_address seen cidr) many from) ≡ true → (ordinal : ℕ) × (find (λ o. not (is_reserved seen (address_of cidr o))) (range_with_len from many) ≡ Some ordinal)
-unfolding first_found
-found-free seen cidr zero from e = absurd (cc e)
-found-free seen cidr (suc many) from e = by (λ f. found-free seen cidr many (from + 1) f) (is_reserved seen (address_of cidr from)) e
-  where
-    by : (is_some (first_found (free_address seen cidr) many (from + 1)) ≡ true → (ordinal : ℕ) × (find (λ o. not (is_reserved seen (address_of cidr o))) (range_with_len (from + 1) many) ≡ Some ordinal))
-        → (b : Bool) → is_some (elim (cond b None (Some (address_of cidr from))) as (λ o. Option (ℕ × AddrValue)) [ Some found ↦ Some (from, found) | None ↦ first_found (free_address seen cidr) many (from + 1) ]) ≡ true
-        → (ordinal : ℕ) × (cond (not b) (Some from) (find (λ o. not (is_reserved seen (address_of cidr o))) (range_with_len (from + 1) many)) ≡ Some ordinal)
-    by rest true f = rest f
-    by rest false f = (from, refl)
-
--- a slot that has a rank has room once it is claimed
-pub claim-room : (asked : Asked) (seen : Seen) (slot : CidrValue) (read : BlockRead) (rank : Rank) → rank_at asked seen slot read ≡ Some rank → (ordinal : ℕ) × (room_of seen (taken asked.node slot read) ≡ Some ordinal)
-claim-room asked seen slot None rank e = by (may_claim asked seen) (has_free_address seen slot) refl e
-  where
-    by : (may free : Bool) → has_free_address seen slot ≡ free → cond (may && free) (Some (Unclaimed None)) None ≡ Some rank → (ordinal : ℕ) × (room_of seen (taken asked.node slot None) ≡ Some ordinal)
-    by true true is f = found-free seen slot (cidr_size slot) 0 is
-    by true false is f = absurd (cc f)
-    by false free is f = absurd (cc f)
-claim-room asked seen slot (Some found) rank e = by (room_of seen found.1) refl e
-  where
-    by : (o : Option ℕ) → room_of seen found.1 ≡ o → rank_of_block asked seen found o ≡ Some rank → (ordinal : ℕ) × (room_of seen (taken asked.node slot (Some found)) ≡ Some ordinal)
-    by None is f = absurd (cc f)
-    by (Some ordinal) is f = (ordinal, is)
 
 -- ---- the node's own confirmed block
 
@@ -96,30 +66,6 @@ rank-own asked seen slot rank e zero_is = by (block_at seen slot) refl e
 
 -- ---- the first candidate
 
-none-unknown : (asked : Asked) (seen : Seen) (ranked : Ranked) → pick_of asked seen ≡ Picks ranked → unknown_name asked seen.pools ≡ None
-unfolding pick_of
-none-unknown asked seen ranked e = by (unknown_name asked seen.pools) refl e
-  where
-    by : (o : Option ℕ) → unknown_name asked seen.pools ≡ o → pick_unless asked seen o ≡ Picks ranked → unknown_name asked seen.pools ≡ None
-    by None is f = is
-    by (Some place) is f = absurd (cc f)
-
-best-choice : (asked : Asked) (seen : Seen) → unknown_name asked seen.pools ≡ None → IsBest asked seen (choice_of asked seen)
-best-choice asked seen none = subst (λ (o : Option ℕ). MatchOption o (IsBest asked seen (choice_of asked seen)) (λ place. choice_of asked seen ≡ NoPool place)) none (choice_is asked seen)
-
-abbrev slot_in : Choice → Option CidrValue
-slot_in (Use slot ordinal) = Some slot
-slot_in (Claim slot) = Some slot
-slot_in (Borrow slot ordinal) = Some slot
-slot_in Nothing = None
-slot_in (NoPool place) = None
-
-chosen-slot : (slot : CidrValue) (rank : Rank) → slot_in (chosen (record { slot = slot; rank = rank })) ≡ Some slot
-chosen-slot slot (Own found ordinal) = refl
-chosen-slot slot (Unconfirmed found) = refl
-chosen-slot slot (Unclaimed read) = refl
-chosen-slot slot (Foreign found ordinal) = refl
-
 -- what is picked is the first candidate
 record IsFirst (asked : Asked) (seen : Seen) (ranked : Ranked) : Type 0 where
   best : FirstCandidate asked seen
@@ -142,11 +88,6 @@ picked-first asked seen ranked e = by (best-choice asked seen (none-unknown aske
     by (inr (first, same)) =
         let slots : Some first.best.ranked.slot ≡ Some ranked.slot = sym (chosen-slot first.best.ranked.slot first.best.ranked.rank) ∙ (sym (ap slot_in same) ∙ is) in
         first-best asked seen ranked first (cc slots) (pick-ranked asked seen ranked e)
-
-least-rank : (c other : Candidate) → IsNotBehind c other → rank_in other ≡ 0 → rank_in c ≡ 0
-least-rank c other (by_rank less) zero_is = absurd (omega arith)
-least-rank c other (by_place same less) zero_is = same ∙ zero_is
-least-rank c other (by_number same place least) zero_is = same ∙ zero_is
 
 -- what is picked is of the family
 pub picked-family : (asked : Asked) (seen : Seen) (ranked : Ranked) → pick_of asked seen ≡ Picks ranked → ranked.slot.family ≡ asked.family

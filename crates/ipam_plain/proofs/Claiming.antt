@@ -24,7 +24,7 @@ use Rattle.ipam_laws.proofs.AloneCalls.{Runs, Runs-bound, runs-get}
 use Rattle.ipam_laws.proofs.Calls.{found-key}
 use Rattle.ipam_laws.proofs.CountSteps.{put-other, put-own}
 use Rattle.ipam_laws.proofs.OneRecord.{key_cases}
-use Rattle.ipam_laws.proofs.RowOrder.{sorted-with_row}
+use Rattle.ipam_records.proofs.RowWrites.{sorted-with_row}
 use Rattle.ipam_laws.proofs.Steps.{IsAsRead, taken}
 use Rattle.ipam_laws.proofs.WriteSteps.{found-affinity}
 use Rattle.ipam_plain.proofs.Alike.{Alike, IsSorted, record_at, record_at-other, record_at-put, value_in}

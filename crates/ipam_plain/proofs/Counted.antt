@@ -6,7 +6,6 @@ use Rattle.std.specs.List.{count_by, filter}
 use Rattle.std.specs.List.Sorted.{IsStrictlySortedBy}
 use Rattle.std.specs.Map.{keys_of, lookup}
 use Rattle.std.specs.Ordering.{eq_by_cmp, is_eq}
-use Rattle.std.proofs.lemmas.List.Sums.{sum_by-cons}
 use Rattle.std.proofs.lemmas.Map.{lookup-remove_entry}
 use Rattle.std.proofs.lemmas.Map.Keys.{IsDistinct-from_sorted}
 use Rattle.ipam_addr.specs.Shape.{CidrValue}
@@ -25,14 +24,14 @@ use Rattle.ipam_records.specs.declared.record.Record.{Record}
 use Rattle.ipam_records.specs.declared.record.Record.TheVariants as record_of
 use Rattle.ipam_records.specs.Datastore.{Datastore, row_of}
 use Rattle.ipam_records.proofs.DatastoreLemmas.{row_key-row_of}
+use Rattle.ipam_records.proofs.RowKinds.{each-kind}
 use Rattle.ipam_model.specs.Affinities.{BlockRead}
 use Rattle.ipam_model.specs.CountLaw.{count_in_row, handle_count, held_count, held_in_row}
 use Rattle.ipam_model.specs.Counting.{Freeing}
 use Rattle.ipam_model.specs.Plain.{Rows, block_of, claimed_block, handle_of, kept_or_gone, put, with_assigned, with_freed, with_freed_found, with_these_freed}
-use Rattle.ipam_model.specs.Reads.{Row}
 use Rattle.ipam_laws.proofs.Calls.{found-handle}
 use Rattle.ipam_model.specs.Usable.{is_same_cidr}
-use Rattle.ipam_laws.proofs.CountLemmas.{cidr_cases, count-elsewhere, count-here, held-assigned, held-filter, raised-here, same_text, text_cases}
+use Rattle.ipam_laws.proofs.CountLemmas.{cidr_cases, count-elsewhere, count-here, held-assigned, held-filter, kept-others, raised-here, same_text, text_cases}
 use Rattle.ipam_plain.proofs.Alike.{block_from, block_of-record, handle_from, handle_of-record, record-row, record_at, record_at-cut, record_at-kept, record_at-other, record_at-put, record_in, same-handle, value_in}
 use Rattle.ipam_plain.proofs.Claiming.{IsClaimedIn}
 use Rattle.ipam_plain.proofs.Held.{found-record, named}
@@ -51,28 +50,10 @@ held_at rows id cidr = held_from id (record_at (key.Block cidr) rows)
 
 -- they are those of a store
 pub counted-store : (store : Datastore) (id : List ℕ) (cidr : CidrValue) → handle_count store id cidr ≡ counted_at store.rows id cidr
-counted-store store id cidr = by (row_of (key.Handle id) store.rows) ∙ ap (λ (h : HandleValue). count_of h cidr) (sym (handle_of-record id store.rows))
-  where
-    by : (o : Option Row) → count_in_row id cidr o ≡ count_of (handle_from id (record_in o)) cidr
-    by None = refl
-    by (Some (revision, record_of.Handle h)) = refl
-    by (Some (revision, record_of.Block b)) = refl
-    by (Some (revision, record_of.Affinity a)) = refl
-    by (Some (revision, record_of.Config config)) = refl
-    by (Some (revision, record_of.Pools pools)) = refl
-    by (Some (revision, record_of.Reservations reservations)) = refl
+counted-store store id cidr = each-kind (λ o. count_in_row id cidr o ≡ count_of (handle_from id (record_in o)) cidr) refl (λ r x. refl) (λ r x. refl) (λ r x. refl) (λ r x. refl) (λ r x. refl) (λ r x. refl) (row_of (key.Handle id) store.rows) ∙ ap (λ (h : HandleValue). count_of h cidr) (sym (handle_of-record id store.rows))
 
 pub held-store : (store : Datastore) (id : List ℕ) (cidr : CidrValue) → held_count store id cidr ≡ held_at store.rows id cidr
-held-store store id cidr = by (row_of (key.Block cidr) store.rows)
-  where
-    by : (o : Option Row) → held_in_row id o ≡ held_from id (record_in o)
-    by None = refl
-    by (Some (revision, record_of.Block b)) = refl
-    by (Some (revision, record_of.Handle h)) = refl
-    by (Some (revision, record_of.Affinity a)) = refl
-    by (Some (revision, record_of.Config config)) = refl
-    by (Some (revision, record_of.Pools pools)) = refl
-    by (Some (revision, record_of.Reservations reservations)) = refl
+held-store store id cidr = each-kind (λ o. held_in_row id o ≡ held_from id (record_in o)) refl (λ r x. refl) (λ r x. refl) (λ r x. refl) (λ r x. refl) (λ r x. refl) (λ r x. refl) (row_of (key.Block cidr) store.rows)
 
 -- the blocks of each handle ascend, and counts cover what is held
 pub record AreSoundCounts (rows : Rows) : Type 0 where
@@ -263,38 +244,6 @@ module _ (node : List ℕ) (slot : CidrValue) (rows then : Rows) (h : IsClaimedI
       (λ id. subst (λ (g : HandleValue). IsStrictlySortedBy cidr_cmp (keys_of g.counts)) (sym (claimed-handle id)) (sound.ascending id))
 
 -- ---- freeing
-
-tally : (Allocation → Bool) → List Allocation → ℕ
-tally p [] = 0
-tally p (a ∷ rest) = cond (p a) 1 0 + tally p rest
-
-count-tally : (p : Allocation → Bool) (held : List Allocation) → count_by p held ≡ tally p held
-unfolding tally
-count-tally p [] = refl
-count-tally p (a ∷ rest) = sum_by-cons (λ x. cond (p x) 1 0) a rest ∙ ap (λ n. cond (p a) 1 0 + n) (count-tally p rest)
-
-tally-kept : (p picks : Allocation → Bool) → ((a : Allocation) → picks a ≡ true → p a ≡ false) → (held : List Allocation) → tally p (filter (λ a. not (picks a)) held) ≡ tally p held
-unfolding tally
-tally-kept p picks none [] = refl
-tally-kept p picks none (a ∷ rest) = from (picks a) refl (tally-kept p picks none rest)
-  where
-    from : (b : Bool) → picks a ≡ b → tally p (filter (λ a. not (picks a)) rest) ≡ tally p rest → tally p (cond (not b) (a ∷ filter (λ a. not (picks a)) rest) (filter (λ a. not (picks a)) rest)) ≡ cond (p a) 1 0 + tally p rest
-    from true picked h = rw (none a picked) (omega arith)
-    from false stays h = omega arith
-
--- another handle's addresses stay
-kept-others : (id other : List ℕ) (picks : Allocation → Bool) → ((a : Allocation) → picks a ≡ true → is_owned id a ≡ true) → id ≢ other → (held : List Allocation) → count_by (is_owned other) (filter (λ a. not (picks a)) held) ≡ count_by (is_owned other) held
-kept-others id other picks own differ held =
-    count-tally (is_owned other) (filter (λ a. not (picks a)) held) ∙ tally-kept (is_owned other) picks not_theirs held ∙ sym (count-tally (is_owned other) held)
-  where
-    not_theirs : (a : Allocation) → picks a ≡ true → is_owned other a ≡ false
-    not_theirs a picked = elim (text_cases a.attributes.handle other) [
-      | inr (f, d) ↦ f
-      | inl (t, same) ↦ elim (text_cases a.attributes.handle id) [
-        | inl (u, mine) ↦ absurd (differ (sym mine ∙ same))
-        | inr (g, d) ↦ let is = own a picked in absurd (cc (is, g))
-      ]
-    ]
 
 module _ (what : Freeing) (own : (a : Allocation) → what.picks a ≡ true → is_owned what.handle a ≡ true) (rows : Rows) (sound : AreSoundCounts rows) where
   -- so many of a block

@@ -17,14 +17,13 @@ use Rattle.ipam_records.specs.Word.{Asks}
 use Rattle.ipam_model.specs.declared.part.Left.{Left}
 use Rattle.ipam_model.specs.declared.part.Stop.TheVariants.{OutOfTries, NoRoom, NoRevisions}
 use Rattle.ipam_model.specs.AffinityLaw.{HasAt}
-use Rattle.ipam_model.specs.CountLaw.{count_in_row, handle_count}
 use Rattle.ipam_model.specs.Counting.{Freeing, credit_of, free, free_found, free_once, free_these, lower, lower_once, lower_write, written_or_deleted}
 use Rattle.ipam_model.specs.Plain.{Rows, block_of, handle_of, kept_or_gone, put, with_freed, with_freed_found, with_lowered, with_these_freed}
 use Rattle.ipam_model.specs.Reads.{block_said, handle_said}
 use Rattle.ipam_model.specs.Step.{Part, followed, goes, left_of, on_write, stops, tries}
-use Rattle.ipam_laws.proofs.AloneCalls.{Good, Runs, runs-get}
-use Rattle.ipam_laws.proofs.Calls.{found-block, found-handle, found-key}
-use Rattle.ipam_laws.proofs.CountSteps.{owed-own}
+use Rattle.ipam_laws.proofs.AloneCalls.{Runs, runs-get}
+use Rattle.ipam_laws.proofs.AloneParts.{handle-there}
+use Rattle.ipam_laws.proofs.Calls.{found-block, found-key}
 use Rattle.ipam_plain.proofs.Alike.{alike-block, alike-handle, value_in}
 use Rattle.ipam_plain.proofs.Writes.{Comes, IsAs, as-cut, as-put, comes-followed, delete-runs, put_in, update-runs}
 
@@ -37,20 +36,6 @@ freed-same what (Some found) None rows e = absurd (cc e)
 freed-same what (Some found) (Some there) rows e =
     let same : found.1 ≡ there.1 = cc e in
     ap (λ (b : BlockValue). with_these_freed what (count_by what.picks b.allocations) b rows) same
-
--- a handle whose count covers a credit is there
-handle-there : (credit : Credit) (store : Datastore) → 0 < credit.amount → Good (owing credit) store → (revision : ℕ) × (h : HandleValue) × HasAt store (key.Handle credit.handle) revision (record_of.Handle h) × (h.id ≡ credit.handle)
-handle-there credit store some good = by (row_of (key.Handle credit.handle) store.rows) refl
-  where
-    by : (o : Option (ℕ × Record)) → row_of (key.Handle credit.handle) store.rows ≡ o → (revision : ℕ) × (h : HandleValue) × HasAt store (key.Handle credit.handle) revision (record_of.Handle h) × (h.id ≡ credit.handle)
-    by None e =
-        let none : handle_count store credit.handle credit.block ≡ 0 = ap (count_in_row credit.handle credit.block) e in
-        let least = good.covers credit.handle credit.block in
-        let own = owed-own credit in
-        absurd (omega arith)
-    by (Some row) e =
-        let (h, is, same) = found-handle credit.handle row.1 (found-key store (key.Handle credit.handle) row.0 row.1 e) in
-        (row.0, h, e ∙ ap (λ (x : Record). Some (row.0, x)) is, same)
 
 -- the store stands for the rows, with this many revisions taken at most
 pub record Became (rows : Rows) (counter : ℕ) (then : Datastore) : Type 0 where

@@ -39,7 +39,7 @@ use Rattle.ipam_laws.proofs.AloneCalls.{Runs-bound, runs-alone}
 use Rattle.ipam_laws.proofs.AloneThis.{NotAgainThis, this-runs}
 use Rattle.ipam_laws.proofs.Members.{in-find}
 use Rattle.ipam_laws.proofs.RequestSteps.{word-lawful}
-use Rattle.ipam_laws.proofs.RowOrder.{sorted-with_row}
+use Rattle.ipam_records.proofs.RowWrites.{sorted-with_row}
 use Rattle.ipam_laws.proofs.SoundBlocks.{holding-number}
 use Rattle.ipam_plain.specs.Gains.{AddThisOwnersLaw, GainsThese}
 use Rattle.ipam_plain.proofs.Alike.{IsSorted, block_from, block_of-record, record_at, value_in}

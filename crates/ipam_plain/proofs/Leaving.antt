@@ -34,7 +34,8 @@ use Rattle.ipam_laws.proofs.CountLemmas.{same_text, text_cases}
 use Rattle.ipam_laws.proofs.LeaksAll.{own-owner}
 use Rattle.ipam_laws.proofs.Members.{filter-in, in-cons, in-filter, in-here, in-map, in-nothing, in-there, out-map}
 use Rattle.ipam_laws.proofs.OwnersOrder.{pairs-of}
-use Rattle.ipam_laws.proofs.RowOrder.{found-member, member-found, sorted-with_row, sorted-without_row}
+use Rattle.ipam_records.proofs.RowWrites.{sorted-with_row, sorted-without_row}
+use Rattle.ipam_laws.proofs.RowOrder.{found-member, member-found}
 use Rattle.ipam_laws.proofs.SoundSteps.{row-there}
 use Rattle.ipam_plain.specs.Leaves.{CollectLeavesLaw, DelLeavesLaw, IsKept}
 use Rattle.ipam_plain.proofs.Alike.{IsSorted, record-row, record_at, record_in}

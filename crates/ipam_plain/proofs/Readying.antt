@@ -31,7 +31,6 @@ use Rattle.ipam_model.specs.Alone.{alone_over}
 use Rattle.ipam_model.specs.Choice.{Foreign, Lacks as NoneLeft, Own, Pick, Picks, Rank, Ranked, Unclaimed, Unconfirmed, Unknown, block_at, choice_in, choice_of, chosen, is_block_of, is_node, pick_of, rank_at, room_of}
 use Rattle.ipam_model.specs.Consistent.{IsConsistent}
 use Rattle.ipam_model.specs.History.{Base}
-use Rattle.ipam_model.specs.Look.{asked_of_probe}
 use Rattle.ipam_model.specs.Plain.{CanGive, Gives, PlainAnswer, PlainGift, PlainServed, Rows, Served, block_of, claimed_block, handle_of, plain_add, plain_after, plain_claim, plain_each, plain_family, plain_gift, plain_of, plain_pick, plain_probe, plain_probe_next, put, seen_in, with_assigned, with_claimed}
 use Rattle.ipam_model.specs.Reads.{Row}
 use Rattle.ipam_model.specs.Requests.{word_of}
@@ -43,13 +42,15 @@ use Rattle.ipam_laws.specs.AlonePlain.{AsksSame, IsReady}
 use Rattle.ipam_laws.proofs.AddRounds.{HasRead, picked-read}
 use Rattle.ipam_laws.proofs.AloneAdds.{NotAgain, add-runs}
 use Rattle.ipam_laws.proofs.AloneCalls.{Runs-bound, runs-alone}
+use Rattle.ipam_laws.proofs.AloneChoice.{claim-room}
 use Rattle.ipam_laws.proofs.AloneLooks.{probe_alone}
+use Rattle.ipam_laws.proofs.AloneProbe.{asked-same}
 use Rattle.ipam_laws.proofs.RequestSteps.{word-lawful}
-use Rattle.ipam_laws.proofs.RowOrder.{sorted-with_row}
+use Rattle.ipam_records.proofs.RowWrites.{sorted-with_row}
 use Rattle.ipam_laws.proofs.Steps.{taken}
 use Rattle.ipam_plain.specs.Ready.{ReadyAddsLaw}
 use Rattle.ipam_plain.proofs.Alike.{IsSorted, block_from, block_of-record, record_at, record_at-other, same-pools, value_in}
-use Rattle.ipam_plain.proofs.Behind.{claim-room, picked-family}
+use Rattle.ipam_plain.proofs.Behind.{picked-family}
 use Rattle.ipam_plain.proofs.Claiming.{claimed-taken, plain-claimed, taken-same}
 use Rattle.ipam_plain.proofs.Counted.{AreSoundCounts, Follows, assigned-follows, claimed-follows, follows-trans}
 use Rattle.ipam_plain.proofs.Given.{GivesOne, assigned-gives, claimed-gives}
@@ -234,18 +235,6 @@ module _ (request : AddRequest) (family : Family) where
       by (Unclaimed was) is read = claimed-plain rows ranked.slot ranked.rank (ap (λ (p : Pick). plain_pick request family p rows) is) ranks own sorted
 
 -- ---- what the probe says
-
-asked-same : (probe : ProbeRequest) (request : AddRequest) → AsksSame probe request → (family : Family) → asked_of request family ≡ asked_of_probe probe family
-asked-same probe request same V4 =
-    let nodes = same.node in
-    let names = same.pools4 in
-    let labels = same.labels in
-    λ i. record { node = nodes i; family = V4; names = names i; labels = labels i; one_address = false }
-asked-same probe request same V6 =
-    let nodes = same.node in
-    let names = same.pools6 in
-    let labels = same.labels in
-    λ i. record { node = nodes i; family = V6; names = names i; labels = labels i; one_address = false }
 
 -- the answer gives addresses
 abbrev GivesSome : PlainAnswer → Type 0

@@ -25,6 +25,7 @@ use Rattle.ipam_model.specs.Plain.{Rows, found_in, records, seen_in}
 use Rattle.ipam_model.specs.Reads.{Row, config_said, default_config, reservations_said}
 use Rattle.ipam_model.specs.Usable.{Asked, is_same_cidr}
 use Rattle.ipam_records.proofs.DatastoreLemmas.{row_key-row_of}
+use Rattle.ipam_records.proofs.RowKinds.{each-kind}
 use Rattle.ipam_laws.proofs.Calls.{found-block}
 use Rattle.ipam_laws.proofs.CountLemmas.{cidr_cases, same_itself, same_text, text_cases}
 use Rattle.ipam_laws.proofs.RowOrder.{below-absent}
@@ -38,16 +39,7 @@ config_from (Some (record_of.Config config)) = config
 config_from _ = default_config
 
 config-record : (rows : Rows) → config_said (found_in key.Config rows) ≡ config_from (record_at key.Config rows)
-config-record rows = by (row_of key.Config rows)
-  where
-    by : (o : Option Row) → config_said (reply_to_get o) ≡ config_from (record_in o)
-    by None = refl
-    by (Some (revision, record_of.Config config)) = refl
-    by (Some (revision, record_of.Pools pools)) = refl
-    by (Some (revision, record_of.Reservations reservations)) = refl
-    by (Some (revision, record_of.Block b)) = refl
-    by (Some (revision, record_of.Affinity a)) = refl
-    by (Some (revision, record_of.Handle h)) = refl
+config-record rows = each-kind (λ o. config_said (reply_to_get o) ≡ config_from (record_in o)) refl (λ r x. refl) (λ r x. refl) (λ r x. refl) (λ r x. refl) (λ r x. refl) (λ r x. refl) (row_of key.Config rows)
 
 pub same-config : (one other : Rows) → record_at key.Config one ≡ record_at key.Config other → (seen_in one).config ≡ (seen_in other).config
 same-config one other e = config-record one ∙ (ap config_from e ∙ sym (config-record other))
@@ -57,16 +49,7 @@ reservations_from (Some (record_of.Reservations reservations)) = reservations
 reservations_from _ = []
 
 reservations-record : (rows : Rows) → reservations_said (found_in key.Reservations rows) ≡ reservations_from (record_at key.Reservations rows)
-reservations-record rows = by (row_of key.Reservations rows)
-  where
-    by : (o : Option Row) → reservations_said (reply_to_get o) ≡ reservations_from (record_in o)
-    by None = refl
-    by (Some (revision, record_of.Config config)) = refl
-    by (Some (revision, record_of.Pools pools)) = refl
-    by (Some (revision, record_of.Reservations reservations)) = refl
-    by (Some (revision, record_of.Block b)) = refl
-    by (Some (revision, record_of.Affinity a)) = refl
-    by (Some (revision, record_of.Handle h)) = refl
+reservations-record rows = each-kind (λ o. reservations_said (reply_to_get o) ≡ reservations_from (record_in o)) refl (λ r x. refl) (λ r x. refl) (λ r x. refl) (λ r x. refl) (λ r x. refl) (λ r x. refl) (row_of key.Reservations rows)
 
 pub same-reservations : (one other : Rows) → record_at key.Reservations one ≡ record_at key.Reservations other → (seen_in one).reservations ≡ (seen_in other).reservations
 same-reservations one other e = reservations-record one ∙ (ap reservations_from e ∙ sym (reservations-record other))
@@ -75,16 +58,7 @@ same-reservations one other e = reservations-record one ∙ (ap reservations_fro
 
 -- the block that is listed at a slot
 pub block_at-record : (rows : Rows) (cidr : CidrValue) → value_in (block_at (seen_in rows) cidr) ≡ block_from (record_at (key.Block cidr) rows)
-block_at-record rows cidr = ap (λ (o : Option Row). value_in (block_in_found o)) (listed-block rows cidr) ∙ by (row_of (key.Block cidr) rows)
-  where
-    by : (o : Option Row) → value_in (block_in_found o) ≡ block_from (record_in o)
-    by None = refl
-    by (Some (revision, record_of.Config config)) = refl
-    by (Some (revision, record_of.Pools pools)) = refl
-    by (Some (revision, record_of.Reservations reservations)) = refl
-    by (Some (revision, record_of.Block b)) = refl
-    by (Some (revision, record_of.Affinity a)) = refl
-    by (Some (revision, record_of.Handle h)) = refl
+block_at-record rows cidr = ap (λ (o : Option Row). value_in (block_in_found o)) (listed-block rows cidr) ∙ each-kind (λ o. value_in (block_in_found o) ≡ block_from (record_in o)) refl (λ r x. refl) (λ r x. refl) (λ r x. refl) (λ r x. refl) (λ r x. refl) (λ r x. refl) (row_of (key.Block cidr) rows)
 
 pub same-block : (one other : Rows) (cidr : CidrValue) → record_at (key.Block cidr) one ≡ record_at (key.Block cidr) other → value_in (block_at (seen_in one) cidr) ≡ value_in (block_at (seen_in other) cidr)
 same-block one other cidr e = block_at-record one cidr ∙ (ap block_from e ∙ sym (block_at-record other cidr))

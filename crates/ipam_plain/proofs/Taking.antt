@@ -31,7 +31,7 @@ use Rattle.ipam_laws.proofs.AloneCalls.{Runs, runs-get}
 use Rattle.ipam_laws.proofs.Calls.{found-handle, found-key}
 use Rattle.ipam_laws.proofs.CountSteps.{put-other}
 use Rattle.ipam_laws.proofs.Lift.{behind}
-use Rattle.ipam_laws.proofs.RowOrder.{sorted-with_row}
+use Rattle.ipam_records.proofs.RowWrites.{sorted-with_row}
 use Rattle.ipam_plain.proofs.Alike.{IsSorted, alike-handle, record-row, record_at, record_at-other, record_at-put, record_in}
 use Rattle.ipam_plain.proofs.Budget.{Enough, enough-other, enough-there, room-other}
 use Rattle.ipam_plain.proofs.Writes.{Comes, IsAs, as-put, comes-followed, create-runs, put_in, update-runs}

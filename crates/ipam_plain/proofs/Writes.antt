@@ -20,7 +20,7 @@ use Rattle.ipam_model.specs.Step.{Part, StopAnswers, after_write, answer_of, fol
 use Rattle.ipam_laws.proofs.AloneCalls.{Runs, Runs-bound}
 use Rattle.ipam_laws.proofs.DebtCalls.{create-puts, update-puts}
 use Rattle.ipam_laws.proofs.Lift.{behind}
-use Rattle.ipam_laws.proofs.RowOrder.{sorted-with_row, sorted-without_row}
+use Rattle.ipam_records.proofs.RowWrites.{sorted-with_row, sorted-without_row}
 use Rattle.ipam_plain.proofs.Alike.{Alike, IsSorted, alike-cut, alike-put}
 
 -- ---- the store stands for the rows

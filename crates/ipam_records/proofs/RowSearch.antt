@@ -36,7 +36,7 @@ row_of-absent rows key i gap = find_none (λ row. keys_equal (row_key row) key) 
     ]
 
 -- ---- rows in two parts
-key_between : (P : Key → Type 0) (xs : List (ℕ × Record)) (r : ℕ × Record) (ys : List (ℕ × Record)) → AllByRecursion P (map row_key (xs ++ r ∷ ys)) → P (row_key r)
+pub key_between : (P : Key → Type 0) (xs : List (ℕ × Record)) (r : ℕ × Record) (ys : List (ℕ × Record)) → AllByRecursion P (map row_key (xs ++ r ∷ ys)) → P (row_key r)
 key_between P [] r ys all = all.0
 key_between P (x ∷ xs) r ys all = key_between P xs r ys all.1
 
@@ -54,17 +54,17 @@ unfolding IsStrictlySortedBy
 sorted-right [] ys s = s
 sorted-right (x ∷ xs) ys s = sorted-right xs ys s.1
 
-before_key : (x r key : Key) → key_cmp x r ≡ Less → (o : Ordering) → key_cmp r key ≡ o → is_le o ≡ true → key_cmp x key ≡ Less
+pub before_key : (x r key : Key) → key_cmp x r ≡ Less → (o : Ordering) → key_cmp r key ≡ o → is_le o ≡ true → key_cmp x key ≡ Less
 before_key x r key less Less h t = key_cmp_total.trans x r key less h
 before_key x r key less Equal h t = sym (alike_right key_cmp_total r key x h) ∙ less
 before_key x r key less Greater h t = cc
 
-greater : (o : Ordering) → is_le o ≡ false → o ≡ Greater
+pub greater : (o : Ordering) → is_le o ≡ false → o ≡ Greater
 greater Less h = cc
 greater Equal h = cc
 greater Greater h = refl
 
-behind_key : (r y key : Key) → key_cmp r key ≡ Greater → key_cmp r y ≡ Less → key_cmp y key ≡ Greater
+pub behind_key : (r y key : Key) → key_cmp r key ≡ Greater → key_cmp r y ≡ Less → key_cmp y key ≡ Greater
 behind_key r y key h less =
     let first : key_cmp key r ≡ Less = key_cmp_total.antisymm key r ∙ ap ordering_reverse h in
     key_cmp_total.antisymm y key ∙ ap ordering_reverse (key_cmp_total.trans key r y first less)

@@ -8,7 +8,8 @@ use Rattle.ipam_records.specs.Sound.{IsDatastore, IsRow}
 use Rattle.ipam_records.specs.Datastore.{Datastore, reply_of, write_of, write_granted, written, last_revision}
 use Rattle.ipam_store.specs.Granted.{IsGranted, IsSoundWrite}
 use Rattle.ipam_store.specs.Places.{Ascend}
-use Rattle.ipam_store.proofs.Keeping.{All-with_row, All-without_row, Ascend-with_row, Ascend-without_row}
+use Rattle.ipam_records.proofs.RowWrites.{All-with_row, All-without_row}
+use Rattle.ipam_store.proofs.Keeping.{Ascend-with_row, Ascend-without_row}
 use Rattle.ipam_store.proofs.Granting.{facts-from_granted}
 use Rattle.ipam_store.proofs.Kept.{later_rows}
 

@@ -17,7 +17,8 @@ use Rattle.ipam_records.specs.Sound.{IsRow}
 use Rattle.ipam_store.specs.Shelf.{shelf_of}
 use Rattle.ipam_store.specs.Granted.{IsGranted, IsSoundWrite, HasRoomFor}
 use Rattle.ipam_store.specs.Places.{Ascend}
-use Rattle.ipam_store.proofs.Keeping.{All-with_row, All-without_row, Ascend-with_row, Ascend-without_row}
+use Rattle.ipam_records.proofs.RowWrites.{All-with_row, All-without_row}
+use Rattle.ipam_store.proofs.Keeping.{Ascend-with_row, Ascend-without_row}
 use Rattle.ipam_store.proofs.Granting.{facts-from_granted}
 use Rattle.ipam_store.proofs.Paging.{by_cases}
 use Rattle.ipam_store.proofs.Shelves.{row_of-shelved, with_row-shelved, without_row-shelved, listed-shelved}

@@ -1,10 +1,10 @@
 -- The lists of blocks where a row is put in or taken out.
 use Rattle.std.proofs.Common.{◌≡◌, ℕ, List, [], ◌∷◌, map, Bool, true, false, cond, not, Some, None, is_none, IsTrue, ap, sym, ◌∙◌, subst, refl}
-use Rattle.std.proofs.lemmas.List.Elements.{All-nil, All-head, All-tail}
+use Rattle.std.proofs.lemmas.List.Elements.{All-nil}
 use Rattle.std.specs.declared.cmp.Ordering.{Ordering}
 use Rattle.std.specs.declared.cmp.Ordering.TheVariants.{Less, Equal, Greater}
 use Rattle.std.specs.Ordering.{is_eq, ordering_reverse, match_ordering}
-use Rattle.std.specs.List.{All, AllByRecursion, cons_option}
+use Rattle.std.specs.List.{AllByRecursion, cons_option}
 use Rattle.std.specs.List.Sorted.{IsStrictlySortedBy}
 use Rattle.ipam_addr.specs.Shape.{CidrValue}
 use Rattle.ipam_block.specs.Shape.{BlockValue}
@@ -21,7 +21,7 @@ use Rattle.ipam_records.proofs.BlockMembers.{row_from, rows_from, IsBlockRow, bl
 use Rattle.ipam_store.specs.CidrLists.{with_cidr, without_cidr}
 use Rattle.ipam_store.specs.Indexed.{Indexed, IsIndexOf}
 use Rattle.ipam_store.proofs.Searching.{without_step}
-use Rattle.ipam_store.proofs.Keeping.{later}
+use Rattle.ipam_records.proofs.RowWrites.{later}
 
 cond_same : {X : Type 0} (b : Bool) (x : X) → cond b x x ≡ x
 cond_same true x = refl

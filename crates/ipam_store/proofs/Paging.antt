@@ -3,30 +3,23 @@ use Rattle.std.proofs.Common.{◌≡◌, ℕ, zero, suc, ◌+◌, ◌-◌, ◌<�
 use Rattle.std.proofs.lemmas.Bool.{cases_lt, cases_eq}
 use Rattle.std.proofs.lemmas.List.{get_or-take, length-take-le, drop_all, get_or-set_same, get_or-set_other, length-set}
 use Rattle.std.proofs.lemmas.List.Elements.{All-nil, All-cons, All-head, All-tail}
-use Rattle.std.specs.declared.cmp.Ordering.{Ordering}
-use Rattle.std.specs.declared.cmp.Ordering.TheVariants.{Less, Equal, Greater}
-use Rattle.std.specs.Ordering.{is_le, ordering_reverse}
-use Rattle.std.specs.Cmp.{alike_right}
+use Rattle.std.specs.declared.cmp.Ordering.TheVariants.{Less, Greater}
+use Rattle.std.specs.Ordering.{is_le}
 use Rattle.std.specs.Global.{Vec}
 use Rattle.std.specs.List.{All, AllByRecursion, insert, remove}
 use Rattle.std.specs.List.Sorted.{IsStrictlySortedBy, IsPartitionedBy, IsPartitionPoint}
 use Rattle.ipam_records.specs.declared.key.Key.{Key}
 use Rattle.ipam_records.specs.declared.record.Record.{Record}
 use Rattle.ipam_records.specs.KeyOrder.{key_cmp}
-use Rattle.ipam_records.specs.KeyOrderLaws.{key_cmp_total}
 use Rattle.ipam_records.specs.Datastore.{row_key, row_of, with_row, without_row}
 use Rattle.ipam_records.specs.Pages.{rows_of_pages}
 use Rattle.ipam_store.specs.Places.{Ascend, IsBefore, IsBehind, AllBefore, AllBehind, begins_by}
 use Rattle.ipam_store.specs.declared.pages.TheConstants.{PAGE_ROWS}
 use Rattle.ipam_store.specs.Page.{IsPage, IsPageFor, AreFilledBut}
-use Rattle.ipam_store.proofs.Keeping.{sorted-left, sorted-right}
+use Rattle.ipam_records.proofs.RowSearch.{key_between, before_key, greater, behind_key, sorted-left, sorted-right}
 use Rattle.ipam_store.proofs.Parts.{row_of-right, row_of-left, with_row-right, with_row-left, without-right, without-left}
 
 -- ---- the order of rows in parts
-key_between : (P : Key → Type 0) (xs : List (ℕ × Record)) (r : ℕ × Record) (ys : List (ℕ × Record)) → AllByRecursion P (map row_key (xs ++ r ∷ ys)) → P (row_key r)
-key_between P [] r ys all = all.0
-key_between P (x ∷ xs) r ys all = key_between P xs r ys all.1
-
 all_rows_by_key : (P : Key → Type 0) (xs : List (ℕ × Record)) → AllByRecursion P (map row_key xs) → All (λ r. P (row_key r)) xs
 all_rows_by_key P [] all = All-nil (λ (r : ℕ × Record). P (row_key r))
 all_rows_by_key P (x ∷ xs) all = All-cons (λ (r : ℕ × Record). P (row_key r)) x xs all.0 (all_rows_by_key P xs all.1)
@@ -42,21 +35,6 @@ below (x ∷ xs) r ys s =
 above : (r : ℕ × Record) (ys : List (ℕ × Record)) → IsStrictlySortedBy key_cmp (map row_key (r ∷ ys)) → All (λ y. key_cmp (row_key r) (row_key y) ≡ Less) ys
 unfolding IsStrictlySortedBy
 above r ys s = all_rows_by_key (λ y. key_cmp (row_key r) y ≡ Less) ys s.0
-
-before_key : (x r key : Key) → key_cmp x r ≡ Less → (o : Ordering) → key_cmp r key ≡ o → is_le o ≡ true → key_cmp x key ≡ Less
-before_key x r key less Less h t = key_cmp_total.trans x r key less h
-before_key x r key less Equal h t = sym (alike_right key_cmp_total r key x h) ∙ less
-before_key x r key less Greater h t = cc
-
-greater : (o : Ordering) → is_le o ≡ false → o ≡ Greater
-greater Less h = cc
-greater Equal h = cc
-greater Greater h = refl
-
-behind_key : (r y key : Key) → key_cmp r key ≡ Greater → key_cmp r y ≡ Less → key_cmp y key ≡ Greater
-behind_key r y key h less =
-    let first : key_cmp key r ≡ Less = key_cmp_total.antisymm key r ∙ ap ordering_reverse h in
-    key_cmp_total.antisymm y key ∙ ap ordering_reverse (key_cmp_total.trans key r y first less)
 
 front_before : (key : Key) (front page rest : List (ℕ × Record)) → 1 ≤ length page → IsStrictlySortedBy key_cmp (map row_key (front ++ (page ++ rest))) → begins_by key page ≡ true → AllBefore key front
 front_before key front [] rest some s t = absurd (omega arith)
@@ -88,13 +66,6 @@ rows-drop : (ps : List (Vec (ℕ × Record))) (i : ℕ) (d : Vec (ℕ × Record)
 rows-drop [] i d h = absurd (omega arith)
 rows-drop (p ∷ ps) zero d h = refl
 rows-drop (p ∷ ps) (suc i) d h = rows-drop ps i d (omega arith)
-
-rows-take-drop : (ps : List (Vec (ℕ × Record))) (i : ℕ) → rows_of_pages ps ≡ rows_of_pages (take i ps) ++ rows_of_pages (drop i ps)
-rows-take-drop ps zero = refl
-rows-take-drop [] (suc i) = refl
-rows-take-drop (p ∷ ps) (suc i) =
-    ap (λ x. p.items ++ x) (rows-take-drop ps i)
-    ∙ sym (append_assoc p.items (rows_of_pages (take i ps)) _)
 
 -- a page without rows can go
 pub rows-remove : (ps : List (Vec (ℕ × Record))) (i : ℕ) (d : Vec (ℕ × Record)) → i < length ps → (get_or ps i d).items ≡ [] → rows_of_pages (remove ps i) ≡ rows_of_pages ps

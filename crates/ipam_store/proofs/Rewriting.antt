@@ -19,7 +19,8 @@ use Rattle.ipam_store.specs.Indexed.{Indexed, IsIndexOf}
 use Rattle.ipam_store.specs.BlockShelf.{AreIndexed}
 use Rattle.ipam_store.proofs.Searching.{with_step, without_step}
 use Rattle.ipam_store.proofs.Parts.{with_row-front, without-behind}
-use Rattle.ipam_store.proofs.Keeping.{All-with_row, All-without_row, Ascend-with_row, Ascend-without_row}
+use Rattle.ipam_records.proofs.RowWrites.{All-with_row, All-without_row}
+use Rattle.ipam_store.proofs.Keeping.{Ascend-with_row, Ascend-without_row}
 
 -- what is below all rows, and is no lower than the key, has all of them behind the key
 behind_key : (k key r : Key) (o : Ordering) → key_cmp k key ≡ o → (o ≡ Less → ⊥) → key_cmp k r ≡ Less → key_cmp r key ≡ Greater
