@@ -9,6 +9,7 @@ use Rattle.ipam_addr.specs.Text.{cidr_reading}
 use Rattle.ipam_words.specs.declared.command.Command.{Command}
 use Rattle.ipam_words.specs.declared.command.Command.TheVariants as command
 use Rattle.ipam_words.specs.declared.kind.RowKind.{RowKind}
+use Rattle.ipam_words.specs.declared.reading.TheConstants.{MOST_GENERATED}
 use Rattle.ipam_words.specs.Kinds.{kind_named}
 
 -- what is asked, as `Command` has it, with the name itself in place of a loan
@@ -61,7 +62,7 @@ number_of word = if is_index word then number_in (digits_value 10 word) else Non
 
 -- as many requests as may be generated
 abbrev pub count_in : ℕ → Option ℕ
-count_in n = if nat_le n 65536 then Some n else None
+count_in n = if nat_le n MOST_GENERATED then Some n else None
 
 abbrev pub count_of : List ℕ → Option ℕ
 count_of word = option_and_then count_in (number_of word)

@@ -7,4 +7,4 @@ mod reading;
 
 pub use command::Command;
 pub use kind::RowKind;
-pub use reading::read_words;
+pub use reading::{MOST_GENERATED, read_words};

@@ -9,7 +9,7 @@ use crate::kind::RowKind;
 use ipam_addr::{is_name, read_cidr};
 
 /// The most requests that are generated.
-const MOST_GENERATED: u32 = 65_536;
+pub const MOST_GENERATED: u32 = 65_536;
 
 /// The command that the words name. None where they have no command's form. Takes no memory.
 pub fn read_words(words: &[String]) -> Option<Command<'_>>
