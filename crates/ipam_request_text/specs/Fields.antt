@@ -5,6 +5,7 @@ use Rattle.serde_json.specs.Find.{get, as_bool, as_str, as_array, as_object}
 use Rattle.ipam_json.specs.Path.{as_whole}
 use Rattle.ipam_addr.specs.Shape.{AddrValue, CidrValue}
 use Rattle.ipam_addr.specs.Text.{address_of, cidr_reading}
+use Rattle.ipam_reserve.specs.declared.reservations.TheConstants.{MOST_CIDRS}
 use Rattle.ipam_reserve.specs.Shape.{ReservationValue}
 use Rattle.ipam_select.specs.Formula.{Formula, every}
 use Rattle.ipam_pool.specs.declared.pools.Mode.{Mode}
@@ -100,7 +101,7 @@ cidrs_after cidrs (item d ds) = do
 -- the reservation of this name and these CIDRs, where they are at most 64
 abbrev pub reservation_of : List ℕ → List CidrValue → Option ReservationValue
 reservation_of name cidrs =
-    only_if (nat_le (length cidrs) 64) (record { name = name; cidrs = cidrs })
+    only_if (nat_le (length cidrs) MOST_CIDRS) (record { name = name; cidrs = cidrs })
 
 abbrev pub mode_named : List ℕ → Option Mode
 mode_named text =
