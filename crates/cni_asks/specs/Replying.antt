@@ -7,6 +7,7 @@ use Rattle.ipam_addr.specs.Text.{address_text, cidr_text_of}
 use Rattle.ipam_model.specs.declared.answer.Answer.{Answer}
 use Rattle.ipam_model.specs.declared.answer.Answer.TheVariants as answer
 use Rattle.ipam_model.specs.declared.answer.Given.{Given}
+use Rattle.ipam_model.specs.declared.limits.TheConstants.{LOST_RACES_MAX}
 use Rattle.ipam_model.specs.declared.request.Request.{Request}
 use Rattle.ipam_model.specs.declared.request.Request.TheVariants.{Add, AddThis, Del, Check, Release, Collect, Admin, Probe}
 use Rattle.cni_types.specs.declared.code.Code.TheVariants.{TryAgain, NoAddress, NotRecorded, DatastoreFull, HandleCountFull, RevisionsSpent, NoSuchPool, NotUsable, AddressTaken, NotAffine, InputOutput}
@@ -23,7 +24,7 @@ family_name V6 = codes "IPv6"
 
 -- which of the two limits was reached
 abbrev pub limit_text : (lost : ℕ) → List ℕ
-limit_text lost = if lost == 64 then codes "64 lost races" else codes "64 claims"
+limit_text lost = if lost == LOST_RACES_MAX then codes "64 lost races" else codes "64 claims"
 
 -- ---- answers
 

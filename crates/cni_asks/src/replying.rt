@@ -9,7 +9,7 @@ ghost use Rattle.cni_asks.specs.Replying.{family_name, limit_text, failure_of, a
 use crate::replies::CniReply;
 use cni_types::{CniError, Code, Version, push_error, push_result};
 use ipam_addr::{Addr, Cidr, Family, push_addr, push_cidr};
-use ipam_model::{Answer, Given, Request};
+use ipam_model::{Answer, Given, LOST_RACES_MAX, Request};
 use ipam_text::{Seq, Text};
 use std::alloc::{AllocError, Global};
 
@@ -201,7 +201,7 @@ pub fn family_name(family: Family) -> &'static str
 fn limit_text(lost: u32) -> &'static str
     ensures { result.now ≡ limit_text lost }
 {
-    if lost == 64 {
+    if lost == LOST_RACES_MAX {
         "64 lost races"
     } else {
         "64 claims"

@@ -12,6 +12,8 @@ use Rattle.ipam_json.specs.Built.{item_list, member_list}
 use Rattle.ipam_addr.specs.Names.{is_name_byte, is_name_within, is_name_text, is_handle_text}
 use Rattle.ipam_addr.specs.Shape.{AddrValue}
 use Rattle.cni_types.specs.declared.refusal.Member.TheVariants.{Attachment, AttachmentContainer}
+use Rattle.ipam_pool.specs.declared.table.TheConstants.{MOST_POOLS}
+use Rattle.cni_types.specs.declared.limits.TheConstants.{RESULT_ADDRESSES_MAX}
 use Rattle.cni_types.specs.Reading.{Pair, ◌>>◌, demand, text_of, text_at, is_object, is_name_at, are_few, are_few_members}
 use Rattle.cni_types.specs.Configuration.{is_label_byte, is_label_key, is_label_text, is_label_value, are_all_labels, are_label_members, are_labels, is_pool_text, are_all_pools, are_pool_items, are_pools, address_in, are_all_addresses, are_address_items, are_addresses, attachment_tested, attachments_tested_from, attachment_items_tested, attachments_tested}
 use Rattle.cni_types.specs.Asked.{handle_of, items_found, texts_after, labels_after, labels_found, with_address, addresses_after, live_after}
@@ -131,7 +133,7 @@ length-texts_after texts (item d ds) =
 pool_items-sound : (o : Option Items) → are_pool_items o ≡ true → ArePoolNames (texts_after [] (unwrap_or o no_items))
 pool_items-sound None h = absurd cc
 pool_items-sound (Some ds) h =
-    let (few, each) = and_parts (are_few ds) (are_all_pools ds) h in
+    let (few, each) = and_parts (are_few MOST_POOLS ds) (are_all_pools ds) h in
     let short : length (item_list ds) ≤ 64 = leb-true _ _ few in
     let len = length-texts_after [] ds in
     record { few = omega (arith, len, short); each = texts_after-sound [] ds (All-nil IsPoolName) each }
@@ -156,7 +158,7 @@ length-addresses_after addresses (item d ds) =
 address_items-few : (o : Option Items) → are_address_items o ≡ true → length (addresses_after [] (unwrap_or o no_items)) ≤ 64
 address_items-few None h = absurd cc
 address_items-few (Some ds) h =
-    let short : length (item_list ds) ≤ 64 = leb-true _ _ (and_parts (are_few ds) (are_all_addresses ds) h).0 in
+    let short : length (item_list ds) ≤ 64 = leb-true _ _ (and_parts (are_few RESULT_ADDRESSES_MAX ds) (are_all_addresses ds) h).0 in
     let len = length-addresses_after [] ds in
     omega (arith, len, short)
 

@@ -9,8 +9,11 @@ use Rattle.ipam_addr.specs.declared.cidrs.AddrFault.TheVariants.{Text, Prefix, H
 use Rattle.ipam_addr.specs.Shape.{AddrValue, CidrValue}
 use Rattle.ipam_addr.specs.Names.{is_name_text}
 use Rattle.ipam_addr.specs.Text.{is_slash, address_of, cidr_reading}
+use Rattle.ipam_select.specs.declared.limits.TheConstants.{LABEL_KEY_BYTES_MAX, LABEL_VALUE_BYTES_MAX}
+use Rattle.ipam_pool.specs.declared.table.TheConstants.{MOST_POOLS}
 use Rattle.cni_types.specs.declared.command.Command.{Command}
 use Rattle.cni_types.specs.declared.command.Command.TheVariants.{Add, Del, Check, Version, Gc, Status}
+use Rattle.cni_types.specs.declared.limits.TheConstants.{RESULT_ADDRESSES_MAX}
 use Rattle.cni_types.specs.declared.refusal.Member.{Member}
 use Rattle.cni_types.specs.declared.refusal.Member.TheVariants.{Name, NodeName, NodeLabels, Ipam, IpamType, AssignIpv4, AssignIpv6, Ipv4Pools, Ipv6Pools, PrevResult, PrevResultIps, Attachments, Attachment, AttachmentContainer, AttachmentInterface}
 use Rattle.cni_types.specs.Reading.{◌>>◌, demand, text_of, text_at, text_found, inside, is_object, is_object_at, is_text_at, is_name_at, are_few, are_few_members}
@@ -23,11 +26,11 @@ is_label_byte c = is_ascii_alphanumeric c || c == 95 || c == 46 || c == 45 || c 
 
 -- 1 to 317 of these bytes
 abbrev pub is_label_key : List ℕ → Bool
-is_label_key key = nat_lt 0 (length key) && nat_le (length key) 317 && list_all is_label_byte key
+is_label_key key = nat_lt 0 (length key) && nat_le (length key) LABEL_KEY_BYTES_MAX && list_all is_label_byte key
 
 abbrev pub is_label_text : Option (List ℕ) → Bool
 is_label_text None = false
-is_label_text (Some text) = nat_le (length text) 253
+is_label_text (Some text) = nat_le (length text) LABEL_VALUE_BYTES_MAX
 
 -- a text of at most 253 bytes
 abbrev pub is_label_value : Data → Bool
@@ -89,7 +92,7 @@ are_all_pools (item d ds) = is_pool_text (text_of d) && are_all_pools ds
 -- at most 64 pools
 abbrev pub are_pool_items : Option Items → Bool
 are_pool_items None = false
-are_pool_items (Some ds) = are_few ds && are_all_pools ds
+are_pool_items (Some ds) = are_few MOST_POOLS ds && are_all_pools ds
 
 abbrev pub are_pools : Option Data → Bool
 are_pools None = true
@@ -120,7 +123,7 @@ are_all_addresses (item d ds) = is_some (address_in d) && are_all_addresses ds
 -- at most 64 addresses
 abbrev pub are_address_items : Option Items → Bool
 are_address_items None = false
-are_address_items (Some ds) = are_few ds && are_all_addresses ds
+are_address_items (Some ds) = are_few RESULT_ADDRESSES_MAX ds && are_all_addresses ds
 
 abbrev pub are_addresses : Option Data → Bool
 are_addresses None = true

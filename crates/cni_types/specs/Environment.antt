@@ -4,8 +4,10 @@ use Rattle.std.specs.Char.{is_ascii_whitespace}
 use Rattle.std.specs.List.{list_all, slice_split, position_or_len, before_first, after_first}
 use Rattle.ipam_addr.specs.Names.{is_name_text}
 use Rattle.ipam_addr.specs.Text.{address_of}
+use Rattle.ipam_block.specs.declared.limits.TheConstants.{VALUE_BYTES_MAX}
 use Rattle.cni_types.specs.declared.command.Command.{Command}
 use Rattle.cni_types.specs.declared.command.Command.TheVariants.{Add, Del, Check, Version, Gc, Status}
+use Rattle.cni_types.specs.declared.limits.TheConstants.{INTERFACE_BYTES_MAX}
 use Rattle.cni_types.specs.declared.refusal.Variable.{Variable}
 use Rattle.cni_types.specs.declared.refusal.Variable.TheVariants.{ContainerId, Netns, Ifname, Args}
 use Rattle.cni_types.specs.Reading.{Pair, ◌>>◌, demand}
@@ -33,7 +35,7 @@ is_interface_byte c = not (c == 47 || c == 58 || is_ascii_whitespace c)
 -- 1 to 15 bytes, and neither `.` nor `..`
 abbrev pub is_interface : List ℕ → Bool
 is_interface text =
-    not (is_empty text) && nat_le (length text) 15 && list_all is_interface_byte text
+    not (is_empty text) && nat_le (length text) INTERFACE_BYTES_MAX && list_all is_interface_byte text
     && not (bytes_eq text (codes ".")) && not (bytes_eq text (codes ".."))
 
 -- ---- the arguments: items with `;` between them, each a key, `=` and a value
@@ -73,7 +75,7 @@ abbrev pub is_address_asked : List ℕ → Bool
 is_address_asked text = is_empty text || is_some (address_of text)
 
 abbrev pub is_short : List ℕ → Bool
-is_short text = nat_le (length text) 253
+is_short text = nat_le (length text) VALUE_BYTES_MAX
 
 unfoldable pub are_arguments : List ℕ → Bool
 are_arguments text =

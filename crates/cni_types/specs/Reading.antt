@@ -4,6 +4,7 @@ use Rattle.serde_json.specs.Data.{Data, Items, Members}
 use Rattle.serde_json.specs.Find.{get, as_str, as_object}
 use Rattle.ipam_json.specs.Built.{item_list, member_list}
 use Rattle.ipam_addr.specs.Names.{is_name_text}
+use Rattle.ipam_select.specs.declared.limits.TheConstants.{LABELS_MAX}
 
 -- a key and its value
 abbrev pub Pair : Type 0
@@ -57,10 +58,10 @@ is_text_at name d = is_some (option_and_then as_str (get name d))
 abbrev pub is_name_at : List ℕ → Data → Bool
 is_name_at name d = is_name_text (text_at name d)
 
--- at most 64 items
-abbrev pub are_few : Items → Bool
-are_few ds = nat_le (length (item_list ds)) 64
+-- at most this many items
+abbrev pub are_few : ℕ → Items → Bool
+are_few most ds = nat_le (length (item_list ds)) most
 
--- at most 64 members
+-- at most as many members as a node has labels
 abbrev pub are_few_members : Members → Bool
-are_few_members ms = nat_le (length (member_list ms)) 64
+are_few_members ms = nat_le (length (member_list ms)) LABELS_MAX

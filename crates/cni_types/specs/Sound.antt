@@ -5,6 +5,10 @@ use Rattle.std.specs.Ordering.{nat_cmp}
 use Rattle.std.specs.Cmp.Lexicographic.{slice_cmp}
 use Rattle.std.specs.List.Sorted.{IsStrictlySortedBy}
 use Rattle.ipam_addr.specs.Names.{is_name_text, is_handle_text}
+use Rattle.ipam_select.specs.declared.limits.TheConstants.{LABELS_MAX, LABEL_KEY_BYTES_MAX, LABEL_VALUE_BYTES_MAX}
+use Rattle.ipam_pool.specs.declared.table.TheConstants.{MOST_POOLS}
+use Rattle.ipam_block.specs.declared.limits.TheConstants.{PAIRS_MAX, KEY_BYTES_MAX, VALUE_BYTES_MAX}
+use Rattle.cni_types.specs.declared.limits.TheConstants.{RESULT_ADDRESSES_MAX}
 use Rattle.cni_types.specs.declared.calls.CniAdd.{CniAdd}
 use Rattle.cni_types.specs.declared.calls.CniCheck.{CniCheck}
 use Rattle.cni_types.specs.declared.calls.CniGc.{CniGc}
@@ -26,12 +30,12 @@ KeysAscend pairs = IsStrictlySortedBy (slice_cmp nat_cmp) (map (λ pair. pair.0)
 
 pub record IsLabel (label : Pair) : Type 0 where
   pub key_some : 0 < length label.0
-  pub key_small : length label.0 ≤ 317
+  pub key_small : length label.0 ≤ LABEL_KEY_BYTES_MAX
   pub key_bytes : IsTrue (list_all is_label_byte label.0)
-  pub value_small : length label.1 ≤ 253
+  pub value_small : length label.1 ≤ LABEL_VALUE_BYTES_MAX
 
 pub record AreLabels (labels : List Pair) : Type 0 where
-  pub few : length labels ≤ 64
+  pub few : length labels ≤ LABELS_MAX
   pub each : All IsLabel labels
   pub ascending : KeysAscend labels
 
@@ -39,17 +43,17 @@ abbrev pub IsPoolName : List ℕ → Type 0
 IsPoolName text = IsTrue (is_pool_text text)
 
 pub record ArePoolNames (names : List (List ℕ)) : Type 0 where
-  pub few : length names ≤ 64
+  pub few : length names ≤ MOST_POOLS
   pub each : All IsPoolName names
 
 -- what an address is recorded with
 pub record IsPair (pair : Pair) : Type 0 where
   pub key_some : 0 < length pair.0
-  pub key_small : length pair.0 ≤ 63
-  pub value_small : length pair.1 ≤ 253
+  pub key_small : length pair.0 ≤ KEY_BYTES_MAX
+  pub value_small : length pair.1 ≤ VALUE_BYTES_MAX
 
 pub record ArePairs (pairs : List Pair) : Type 0 where
-  pub few : length pairs ≤ 8
+  pub few : length pairs ≤ PAIRS_MAX
   pub each : All IsPair pairs
   pub ascending : KeysAscend pairs
 
@@ -64,7 +68,7 @@ pub record IsSoundAdd (add : CniAdd) : Type 0 where
 
 pub record IsSoundCheck (check : CniCheck) : Type 0 where
   pub handle : IsHandleId check.handle
-  pub few : length check.addresses ≤ 64
+  pub few : length check.addresses ≤ RESULT_ADDRESSES_MAX
 
 pub record IsSoundGc (gc : CniGc) : Type 0 where
   pub network : IsName gc.network

@@ -7,11 +7,13 @@ ghost use Rattle.cni_types.specs.Configuration.{truth_of_text, truth_of, choice,
 
 use crate::command::Command;
 use crate::labels::are_labels;
+use crate::limits::RESULT_ADDRESSES_MAX;
 use crate::members::{
     are_few, demand, inside, is_name_at, is_object, is_object_at, is_text_at, text_at, text_of,
 };
 use crate::refusal::Member;
 use ipam_addr::{Addr, AddrFault, is_name, read_addr, read_cidr};
+use ipam_pool::MOST_POOLS;
 use serde_json::Value;
 
 /// The first member that is bad, in the order in which they are tested.
@@ -150,7 +152,7 @@ fn are_pool_items(pools: &Value) -> bool
     ensures { result ≡ are_pools (Some (view pools.now)) }
 {
     match pools.as_array() {
-        Some(items) => are_few(items.as_slice()) && are_all_pools(items.as_slice()),
+        Some(items) => are_few(items.as_slice(), MOST_POOLS) && are_all_pools(items.as_slice()),
         None => false,
     }
 }
@@ -196,7 +198,9 @@ fn are_address_items(list: &Value) -> bool
     ensures { result ≡ are_addresses (Some (view list.now)) }
 {
     match list.as_array() {
-        Some(items) => are_few(items.as_slice()) && are_all_addresses(items.as_slice()),
+        Some(items) => {
+            are_few(items.as_slice(), RESULT_ADDRESSES_MAX) && are_all_addresses(items.as_slice())
+        }
         None => false,
     }
 }

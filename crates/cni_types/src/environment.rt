@@ -5,14 +5,12 @@ ghost use Rattle.cni_types.specs.Environment.{variable as value_of_variable, is_
 
 use crate::arguments::{are_items, argument};
 use crate::command::Command;
+use crate::limits::INTERFACE_BYTES_MAX;
 use crate::members::demand_variable as demand;
 use crate::refusal::Variable;
 use ipam_addr::{is_name, read_addr};
+use ipam_block::VALUE_BYTES_MAX;
 use ipam_text::Text;
-
-const MOST_INTERFACE_BYTES: usize = 15;
-
-const MOST_ARGUMENT_BYTES: usize = 253;
 
 /// The value of a variable: of its last pair, and empty where it has none.
 pub(crate) fn value_of<'a>(env: &'a [(Text, Text)], variable: Variable) -> &'a str
@@ -59,7 +57,7 @@ fn is_interface(name: &str) -> bool
     ensures { result ≡ is_interface name.now }
 {
     !name.is_empty()
-        && name.len() <= MOST_INTERFACE_BYTES
+        && name.len() <= INTERFACE_BYTES_MAX
         && are_interface_bytes(name.as_bytes())
         && name != "."
         && name != ".."
@@ -97,5 +95,5 @@ fn is_address_asked(text: &str) -> bool
 fn is_short(text: &str) -> bool
     ensures { result ≡ is_short text.now }
 {
-    text.len() <= MOST_ARGUMENT_BYTES
+    text.len() <= VALUE_BYTES_MAX
 }

@@ -6,13 +6,8 @@ ghost use Rattle.serde_json.specs.View.{view, members_view};
 ghost use Rattle.cni_types.specs.Configuration.{is_label_byte, is_label_key, is_label_value, are_all_labels, are_labels};
 ghost use Rattle.cni_types.specs.Reading.{are_few_members};
 
+use ipam_select::{LABEL_KEY_BYTES_MAX, LABEL_VALUE_BYTES_MAX, LABELS_MAX};
 use serde_json::{Map, Value};
-
-const MOST_LABELS: usize = 64;
-
-const MOST_KEY_BYTES: usize = 317;
-
-const MOST_VALUE_BYTES: usize = 253;
 
 /// Whether the labels are missing or good.
 pub(crate) fn are_labels(json: &Value) -> bool
@@ -37,7 +32,7 @@ fn are_label_members(labels: &Value) -> bool
 fn are_few_members(members: &Map<String, Value>) -> bool
     ensures { result ≡ are_few_members (members_view members.now.entries) }
 {
-    members.len() <= MOST_LABELS
+    members.len() <= LABELS_MAX
 }
 
 fn are_all_labels(members: &Map<String, Value>) -> bool
@@ -60,7 +55,7 @@ fn is_label(key: &str, value: &Value) -> bool
 fn is_label_key(key: &[u8]) -> bool
     ensures { result ≡ is_label_key key.now }
 {
-    !key.is_empty() && key.len() <= MOST_KEY_BYTES && are_label_bytes(key)
+    !key.is_empty() && key.len() <= LABEL_KEY_BYTES_MAX && are_label_bytes(key)
 }
 
 fn are_label_bytes(bytes: &[u8]) -> bool
@@ -80,7 +75,7 @@ fn is_label_value(value: &Value) -> bool
     ensures { result ≡ is_label_value (view value.now) }
 {
     match value.as_str() {
-        Some(text) => text.len() <= MOST_VALUE_BYTES,
+        Some(text) => text.len() <= LABEL_VALUE_BYTES_MAX,
         None => false,
     }
 }

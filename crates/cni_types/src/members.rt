@@ -1,13 +1,11 @@
 //! What the members of a JSON object hold. None of this takes memory.
 ghost use Rattle.std.specs.Prelude.{◌≡◌, option_map};
 ghost use Rattle.serde_json.specs.View.{view, items_view};
-ghost use Rattle.cni_types.specs.Reading.{demand as demanded, text_of as text_in, text_at as text_of_name, inside as found_inside, is_object as is_an_object, is_object_at as has_object, is_text_at as has_text, is_name_at as has_name, are_few as are_at_most_64};
+ghost use Rattle.cni_types.specs.Reading.{demand as demanded, text_of as text_in, text_at as text_of_name, inside as found_inside, is_object as is_an_object, is_object_at as has_object, is_text_at as has_text, is_name_at as has_name, are_few as are_at_most};
 
 use crate::refusal::{Member, Variable};
 use ipam_addr::is_name;
 use serde_json::Value;
-
-const MOST_ITEMS: usize = 64;
 
 /// The fault, unless it passes.
 pub(crate) fn demand(passes: bool, member: Member) -> Result<(), Member>
@@ -77,8 +75,8 @@ pub(crate) fn is_name_at(value: &Value, name: &str) -> bool
 }
 
 #[tactic(auto, using(crate::proofs::Counts::items_counted))]
-pub(crate) fn are_few(items: &[Value]) -> bool
-    ensures { result ≡ are_at_most_64 (items_view items.now) }
+pub(crate) fn are_few(items: &[Value], most: usize) -> bool
+    ensures { result ≡ are_at_most most (items_view items.now) }
 {
-    items.len() <= MOST_ITEMS
+    items.len() <= most
 }

@@ -9,7 +9,7 @@ ghost use Rattle.ipam_admin.specs.Admin.{again, written_at, admin_at, admin_rest
 ghost use Rattle.ipam_admin.specs.declared.admin.Stage.TheVariants.{Reads};
 
 use crate::change::{Change, copied};
-use ipam_model::{Admin, AdminAnswer, Left};
+use ipam_model::{Admin, AdminAnswer, LOST_RACES_MAX, Left};
 use ipam_parts::{WriteEnd, after_lost, all_left, revision_in};
 use ipam_records::{Call, Heard, Key, Procedure, Record};
 use std::alloc::{AllocError, Global};
@@ -103,7 +103,7 @@ impl AdminProc {
     {
         match after_lost(self.left) {
             Ok(left) => Goes::Again(left),
-            Err(_) => Goes::Answers(AdminAnswer::Again(64)),
+            Err(_) => Goes::Answers(AdminAnswer::Again(LOST_RACES_MAX)),
         }
     }
 }

@@ -17,7 +17,7 @@ ghost use Rattle.ipam_claim.specs.Release.{tie_of, again, stage_at_mark, release
 use ipam_addr::Cidr;
 use ipam_affinity::{Affinity, State};
 use ipam_block::Block;
-use ipam_model::{Left, ReleaseAnswer};
+use ipam_model::{LOST_RACES_MAX, Left, ReleaseAnswer};
 use ipam_parts::{BlockCidr, FoundBlock, WriteEnd, after_lost, all_left, found_block};
 use ipam_records::{Call, Heard, Key, Procedure, Record, Reply};
 use ipam_text::Text;
@@ -185,7 +185,7 @@ impl ReleaseAffinityProc {
     {
         match after_lost(self.left) {
             Ok(left) => Goes::Again(left),
-            Err(_) => Goes::Answers(ReleaseAnswer::Again(64)),
+            Err(_) => Goes::Answers(ReleaseAnswer::Again(LOST_RACES_MAX)),
         }
     }
 

@@ -8,6 +8,7 @@ use Rattle.ipam_records.specs.declared.record.Record.{Record}
 use Rattle.ipam_records.specs.Datastore.{Datastore, reply_of, write_granted}
 use Rattle.ipam_records.specs.Said.{Said}
 use Rattle.ipam_records.specs.Word.{asked, heard}
+use Rattle.ipam_model.specs.declared.limits.TheConstants.{SLOTS}
 use Rattle.ipam_model.specs.Cluster.{record_written}
 use Rattle.ipam_model.specs.Named.{name_of, told_of}
 use Rattle.ipam_store.specs.Granted.{IsSoundWrite}
@@ -47,7 +48,7 @@ pub record Leads (running : Running) (turned : RunningTurned) (moment : ℕ) (sa
 -- It is its slot's next call, with what the datastore answers and where that leads; and the datastore
 -- can take its write without more memory.
 pub record IsPrepared (cluster : Cluster) (prepared : Prepared) : Type 0 where
-  pub small : prepared.slot < 64
+  pub small : prepared.slot < SLOTS
   pub write : prepared.write ≡ write_next (slot_of cluster prepared.slot) cluster.store.store
   pub few : cluster.entries < 2 ^ 62
   pub running : Running

@@ -1,6 +1,7 @@
 ghost use Rattle.std.specs.Prelude.{◌≡◌, ◌↔◌, ◌<◌, ◌≤◌, ◌+◌, ◌^◌, ℕ, Some, None, [], length, slice_set, IsSome, IsNone, IfOk, IfErr, IfSome, IfNone, OnErr, Err};
 ghost use Rattle.std.specs.Option.{ForSome};
 ghost use Rattle.ipam_model.specs.declared.entry.Entry.TheVariants as entry;
+ghost use Rattle.ipam_model.specs.declared.limits.TheConstants.{SLOTS};
 ghost use Rattle.ipam_model.specs.Cluster.{store_with};
 ghost use Rattle.ipam_model.specs.Requests.{word_of};
 ghost use Rattle.ipam_model.specs.SoundRequest.{IsSoundRequest};
@@ -16,16 +17,13 @@ use crate::copies::{live_copied, request_copied};
 use crate::faults::{BeginFault, FeedFault};
 use crate::rows::rows_by_key;
 use crate::slots::{feed, go, idle_slots, put};
-use ipam_model::{Answer, Entry, Request, SlotState};
+use ipam_model::{Answer, Entry, Request, SLOTS, SlotState};
 use ipam_opening::{OpenFault, open};
 use ipam_records::Write;
 use ipam_running::{Grace, Running, RunningTurned};
 use ipam_store::Store;
 use ipam_text::Text;
 use std::alloc::{AllocError, Global};
-
-/// How many slots there are.
-pub const SLOTS: usize = 64;
 
 /// With so many entries nothing more is begun, fed or called.
 pub const MOST_ENTRIES: u64 = 0x4000_0000_0000_0000;
@@ -36,8 +34,8 @@ pub struct Cluster {
     pub(crate) store: Store,
     pub(crate) entries: u64,
     pub(crate) slots: Vec<Option<Running>>,
-    ghost all_slots: { length slots.items ≡ 64 },
-    ghost room: { entries + busy_count slots.items ≤ 2 ^ 62 + 64 },
+    ghost all_slots: { length slots.items ≡ SLOTS },
+    ghost room: { entries + busy_count slots.items ≤ 2 ^ 62 + SLOTS },
 }
 
 impl Cluster {
@@ -55,7 +53,7 @@ impl Cluster {
     #[tactic(auto, using(crate::proofs::Opening::opens))]
     pub fn open(alloc: Global, base: &Base) -> Result<Cluster, OpenFault>
         requires by_key { AreByKey base.now.rows.items }
-        requires first { base.now.first ≤ 2 ^ 62 + 64 }
+        requires first { base.now.first ≤ 2 ^ 62 + SLOTS }
         ensures opened { IfOk result (λ cluster. OpensAs (texts_in base.now) cluster.store.store) }
         ensures entries { IfOk result (λ cluster. cluster.entries ≡ base.now.first) }
         ensures idle { IfOk result (λ cluster. (slot : ℕ) → slot_of cluster slot ≡ None) }
@@ -71,7 +69,7 @@ impl Cluster {
 
     /// A cluster in which nothing runs, over this datastore and behind so many entries.
     fn of(alloc: Global, store: Store, first: u64) -> Result<Cluster, AllocError>
-        requires { first ≤ 2 ^ 62 + 64 }
+        requires { first ≤ 2 ^ 62 + SLOTS }
         ensures store { IfOk result (λ cluster. cluster.store ≡ store) }
         ensures entries { IfOk result (λ cluster. cluster.entries ≡ first) }
         ensures idle { IfOk result (λ cluster. (slot : ℕ) → slot_of cluster slot ≡ None) }
@@ -252,7 +250,7 @@ impl Cluster {
     /// One entry more, behind which this runs in the slot.
     pub(crate) fn put(&mut self, slot: u8, running: Option<Running>)
         requires slot { slot < SLOTS }
-        requires room { self.old.entries + 1 + busy_count (slice_set self.old.slots.items slot running) ≤ 2 ^ 62 + 64 }
+        requires room { self.old.entries + 1 + busy_count (slice_set self.old.slots.items slot running) ≤ 2 ^ 62 + SLOTS }
         ensures store { self.new.store ≡ self.old.store }
         ensures entries { self.new.entries ≡ self.old.entries + 1 }
         ensures slots { self.new.slots.items ≡ slice_set self.old.slots.items slot running }

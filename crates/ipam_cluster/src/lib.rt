@@ -10,7 +10,7 @@ mod slots;
 mod turns;
 
 pub use base::Base;
-pub use cluster::{Cluster, MOST_ENTRIES, SLOTS};
+pub use cluster::{Cluster, MOST_ENTRIES};
 pub use faults::{BeginFault, FeedFault, PrepareFault};
 pub use ipam_opening::OpenFault;
 pub use std::alloc::AllocError as Memory;

@@ -6,8 +6,7 @@ ghost use Rattle.ipam_running.specs.Running.{running_rest, running_leaves};
 ghost use Rattle.ipam_cluster.specs.Busy.{busy_count};
 ghost use Rattle.ipam_cluster.specs.Slots.{slot_in, IsDue, MayGo, RunsOn};
 
-use crate::cluster::SLOTS;
-use ipam_model::Answer;
+use ipam_model::{Answer, SLOTS};
 use ipam_records::Procedure;
 use ipam_running::{Running, RunningTurned};
 use ipam_text::Text;
@@ -17,7 +16,7 @@ use std::mem;
 /// Slots in which nothing runs.
 #[tactic(auto, using(crate::proofs::Opening::idle_push, crate::proofs::Opening::busy_push))]
 pub(crate) fn idle_slots(alloc: Global) -> Result<Vec<Option<Running>>, AllocError>
-    ensures many { IfOk result (λ slots. length slots.items ≡ 64) }
+    ensures many { IfOk result (λ slots. length slots.items ≡ SLOTS) }
     ensures idle { IfOk result (λ slots. (slot : ℕ) → slot_in slots.items slot ≡ None) }
     ensures free { IfOk result (λ slots. busy_count slots.items ≡ 0) }
 {

@@ -11,10 +11,10 @@ ghost use Rattle.ipam_cluster.specs.Cluster.{slot_of, state_in, AddsTo, IsUnchan
 ghost use Rattle.ipam_cluster.specs.Preparing.{IsPrepared, TellsOf, record_put};
 ghost use Rattle.ipam_cluster.specs.Turns.{IsTurn, write_by};
 
-use crate::cluster::{Cluster, MOST_ENTRIES, SLOTS};
+use crate::cluster::{Cluster, MOST_ENTRIES};
 use crate::faults::PrepareFault;
 use crate::slots::{go, put};
-use ipam_model::{Answer, CallName, Called, Entry, Fate, SlotState, Told};
+use ipam_model::{Answer, CallName, Called, Entry, Fate, SLOTS, SlotState, Told};
 use ipam_records::{Call, Heard, Procedure, Record, Reply, Write};
 use ipam_running::RunningTurned;
 use std::alloc::{AllocError, Global};

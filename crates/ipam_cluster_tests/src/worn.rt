@@ -4,8 +4,8 @@ ghost use Rattle.std.specs.Bool.{OnTrue};
 ghost use Rattle.ipam_model.specs.SoundRequest.{IsSoundRequest};
 ghost use Rattle.ipam_cluster.specs.Cluster.{Stood};
 
-use ipam_cluster::{Base, BeginFault, Cluster, FeedFault, MOST_ENTRIES, PrepareFault, SLOTS};
-use ipam_model::Request;
+use ipam_cluster::{Base, BeginFault, Cluster, FeedFault, MOST_ENTRIES, PrepareFault};
+use ipam_model::{Request, SLOTS};
 use ipam_request_text::read_request;
 use std::alloc::{AllocError, Global};
 use std::test::Fail;

@@ -8,7 +8,7 @@ ghost use Rattle.ipam_collect.specs.Frees.{done_of, leaks_left, frees_at, frees_
 ghost use Rattle.ipam_collect.specs.Tally.{finished, id_in};
 
 use crate::tally::Tally;
-use ipam_model::{CollectAnswer, Collected, Left, Outcome, Stop};
+use ipam_model::{CollectAnswer, Collected, LOST_RACES_MAX, Left, Outcome, Stop};
 use ipam_parts::{Freeing, FreeingTurned, lost_so_far};
 use ipam_records::{Call, Heard};
 use std::alloc::{AllocError, Global};
@@ -111,7 +111,7 @@ fn stopped(left: Left, why: Stop) -> CollectAnswer
     ensures { result ≡ stop_answer collect_stops left why }
 {
     match why {
-        Stop::OutOfTries => CollectAnswer::Again(64),
+        Stop::OutOfTries => CollectAnswer::Again(LOST_RACES_MAX),
         Stop::OutOfClaims => CollectAnswer::Again(lost_so_far(left)),
         Stop::NoRoom | Stop::CountAtLimit(_) | Stop::NoRevisions => CollectAnswer::Spent,
     }

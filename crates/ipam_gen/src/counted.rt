@@ -13,8 +13,8 @@ ghost use Rattle.ipam_gen.specs.Summary.{answer_told, is_again, is_exhausted};
 use crate::base::open;
 use crate::events;
 use crate::telling::{is_again, is_exhausted};
-use ipam_cluster::{Cluster, SLOTS};
-use ipam_model::{Entry, Request, SlotState};
+use ipam_cluster::Cluster;
+use ipam_model::{Entry, Request, SLOTS, SlotState};
 use ipam_text::Text;
 use std::alloc::{AllocError, Global};
 

@@ -10,8 +10,7 @@ ghost use Rattle.ipam_gen.specs.Requests.{request_of};
 use crate::counted::Counted;
 use crate::draws::Draws;
 use crate::requests::request_of;
-use ipam_cluster::SLOTS;
-use ipam_model::SlotState;
+use ipam_model::{SLOTS, SlotState};
 use std::alloc::{AllocError, Global};
 
 /// Draws until so many requests have begun.

@@ -9,8 +9,8 @@ ghost use Rattle.ipam_model.specs.declared.entry.SlotState.TheVariants as state;
 ghost use Rattle.ipam_cluster.specs.Cluster.{Stood, WaitsWith, slot_of, state_in};
 ghost use Rattle.ipam_gen.specs.Counted.{Adds, CountsOne};
 
-use ipam_cluster::{BeginFault, Cluster, FeedFault, PrepareFault, SLOTS};
-use ipam_model::{Entry, Fate, Request};
+use ipam_cluster::{BeginFault, Cluster, FeedFault, PrepareFault};
+use ipam_model::{Entry, Fate, Request, SLOTS};
 use ipam_text::Text;
 use std::alloc::{AllocError, Global};
 

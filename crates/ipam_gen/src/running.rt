@@ -5,8 +5,7 @@ ghost use Rattle.ipam_gen.specs.Counted.{IsPlain, Leads};
 ghost use Rattle.ipam_gen.specs.Generated.{AreRunOut, RunsOut};
 
 use crate::counted::Counted;
-use ipam_cluster::SLOTS;
-use ipam_model::SlotState;
+use ipam_model::{SLOTS, SlotState};
 use std::alloc::{AllocError, Global};
 
 /// How many slots are drawn from.

@@ -12,10 +12,10 @@ use crate::feed::{prepare, push};
 use crate::giving::give;
 use crate::loaded::open_fed;
 use crate::write::RowWrite;
-use ipam_cluster::{BeginFault, Cluster, FeedFault, OpenFault, PrepareFault, Prepared, SLOTS};
+use ipam_cluster::{BeginFault, Cluster, FeedFault, OpenFault, PrepareFault, Prepared};
 use ipam_feed::{Change, Ring, Route, SinceFault};
 use ipam_keeper::{KeepFault, Keeper};
-use ipam_model::{Entry, Fate, Request};
+use ipam_model::{Entry, Fate, Request, SLOTS};
 use ipam_text::Text;
 use std::alloc::{AllocError, Global};
 
@@ -56,7 +56,7 @@ impl<D: Keeper> Kept<D> {
     /// Opens the rows of the keeper, with their greatest revision as the counter, in a cluster in which
     /// nothing runs. On `Err` the keeper comes back.
     pub fn open(alloc: Global, keeper: D, first: u64) -> Result<Kept<D>, (D, KeptFault)>
-        requires { first ≤ 2 ^ 62 + 64 }
+        requires { first ≤ 2 ^ 62 + SLOTS }
         ensures opened { IfOk result (IsOpened D.rows D.faults D.name keeper first) }
         ensures fed { IfOk result (λ kept. FedFor D.rows kept (record { store = kept.cluster.store.store; first = first }) []) }
         ensures refused { IfErr result (IsNotOpened D.rows D.faults D.name keeper) }

@@ -3,6 +3,7 @@ ghost use Rattle.std.specs.Prelude.{◌≡◌, ◌≤◌, ◌+◌, ◌^◌, ℕ,
 ghost use Rattle.ipam_cluster.specs.Cluster.{StandsFor, slot_of};
 ghost use Rattle.ipam_feed.specs.Follows.{Follows};
 ghost use Rattle.ipam_keeper.specs.Rows.{Ascend};
+ghost use Rattle.ipam_model.specs.declared.limits.TheConstants.{SLOTS};
 ghost use Rattle.ipam_model.specs.Opened.{OpensAs};
 ghost use Rattle.ipam_opening.specs.Opening.{IsFaultOf};
 ghost use Rattle.ipam_kept.specs.Rows.{greatest, texts_loaded};
@@ -21,7 +22,7 @@ pub(crate) fn open_fed(
     first: u64,
 ) -> Result<(Cluster, Ring), OpenFault>
     requires ascend { Ascend rows.items }
-    requires first { first ≤ 2 ^ 62 + 64 }
+    requires first { first ≤ 2 ^ 62 + SLOTS }
     ensures opens { IfOk result (λ both. OpensAs (texts_loaded rows.items) both.0.store.store) }
     ensures entries { IfOk result (λ both. both.0.entries ≡ first) }
     ensures idle { IfOk result (λ both. (slot : ℕ) → slot_of both.0 slot ≡ None) }
@@ -39,7 +40,7 @@ pub(crate) fn open_fed(
 /// Opens the rows in a cluster in which nothing runs.
 fn open_cluster(alloc: Global, rows: Vec<Row>, first: u64) -> Result<Cluster, OpenFault>
     requires ascend { Ascend rows.items }
-    requires first { first ≤ 2 ^ 62 + 64 }
+    requires first { first ≤ 2 ^ 62 + SLOTS }
     ensures opens { IfOk result (λ cluster. OpensAs (texts_loaded rows.items) cluster.store.store) }
     ensures entries { IfOk result (λ cluster. cluster.entries ≡ first) }
     ensures idle { IfOk result (λ cluster. (slot : ℕ) → slot_of cluster slot ≡ None) }

@@ -5,6 +5,7 @@ use Rattle.ipam_pool.specs.declared.pools.Pool.{Pool}
 use Rattle.ipam_pool.specs.declared.pools.PoolRefusal.{PoolRefusal}
 use Rattle.ipam_pool.specs.declared.pools.PoolRefusal.TheVariants.{NameTaken, Overlap, Size, Prefix}
 use Rattle.ipam_pool.specs.Changes.{has_name, refusal_of, with_disabled, with_rules}
+use Rattle.ipam_reserve.specs.declared.reservations.TheConstants.{MOST_RESERVATIONS}
 use Rattle.ipam_reserve.specs.Shape.{ReservationValue}
 use Rattle.ipam_records.specs.declared.key.Key.{Key}
 use Rattle.ipam_records.specs.declared.key.Key.TheVariants as key
@@ -65,7 +66,7 @@ disable_changed pools name disabled =
 -- ---- the reservations
 
 abbrev pub most_reservations : ℕ
-most_reservations = 256
+most_reservations = MOST_RESERVATIONS
 
 abbrev pub is_named : List ℕ → ReservationValue → Bool
 is_named name r = bytes_eq r.name name

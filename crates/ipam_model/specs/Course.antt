@@ -6,6 +6,7 @@ use Rattle.ipam_model.specs.declared.entry.Called.{Called}
 use Rattle.ipam_model.specs.declared.entry.Entry.{Entry}
 use Rattle.ipam_model.specs.declared.entry.Entry.TheVariants as entry
 use Rattle.ipam_model.specs.declared.entry.Fate.{Fate}
+use Rattle.ipam_model.specs.declared.limits.TheConstants.{SLOTS}
 use Rattle.ipam_model.specs.declared.request.CollectRequest.{CollectRequest}
 use Rattle.ipam_model.specs.declared.request.Request.{Request}
 use Rattle.ipam_model.specs.declared.request.Request.TheVariants.{Collect}
@@ -14,7 +15,7 @@ use Rattle.ipam_model.specs.Cluster.{Cluster, Running, Slots, call_entry, after}
 -- how many slots there are, and how many entries a cluster may have for one more to be begun, fed
 -- or called
 abbrev pub slot_count : ℕ
-slot_count = 64
+slot_count = SLOTS
 
 abbrev pub most_entries : ℕ
 most_entries = 2 ^ 62

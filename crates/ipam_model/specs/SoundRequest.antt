@@ -8,8 +8,11 @@ use Rattle.std.specs.List.Sorted.{IsStrictlySortedBy}
 use Rattle.ipam_addr.specs.Shape.{CidrValue}
 use Rattle.ipam_addr.specs.Text.{cidr_reading}
 use Rattle.ipam_addr.specs.Width.{IsAddress, IsCidr}
+use Rattle.ipam_select.specs.declared.limits.TheConstants.{LABELS_MAX, LABEL_KEY_BYTES_MAX, LABEL_VALUE_BYTES_MAX}
+use Rattle.ipam_pool.specs.declared.table.TheConstants.{MOST_POOLS}
 use Rattle.ipam_record_text.specs.Pools.{IsSoundPool}
 use Rattle.ipam_records.specs.Sound.{IsName, IsHandleId, AreAttributes, IsReservation}
+use Rattle.ipam_model.specs.declared.limits.TheConstants.{CHECKED_MAX}
 use Rattle.ipam_model.specs.declared.request.AddRequest.{AddRequest}
 use Rattle.ipam_model.specs.declared.request.Admin.{Admin}
 use Rattle.ipam_model.specs.declared.request.Admin.TheVariants as change
@@ -25,13 +28,13 @@ is_label_byte c = is_ascii_alphanumeric c || c == 95 || c == 46 || c == 45 || c 
 
 pub record IsLabel (label : Pair) : Type 0 where
   pub key_some : 0 < length label.0
-  pub key_small : length label.0 ≤ 317
+  pub key_small : length label.0 ≤ LABEL_KEY_BYTES_MAX
   pub key_bytes : IsTrue (list_all is_label_byte label.0)
-  pub value_small : length label.1 ≤ 253
+  pub value_small : length label.1 ≤ LABEL_VALUE_BYTES_MAX
 
 -- at most 64 labels whose keys ascend by their bytes
 pub record AreLabels (labels : List Pair) : Type 0 where
-  pub few : length labels ≤ 64
+  pub few : length labels ≤ LABELS_MAX
   pub each : All IsLabel labels
   pub ascending : IsStrictlySortedBy (slice_cmp nat_cmp) (map (λ label. label.0) labels)
 
@@ -40,7 +43,7 @@ abbrev pub IsPoolName : List ℕ → Type 0
 IsPoolName text = IsName text ⊎ ((cidr : CidrValue) × (cidr_reading text ≡ Ok cidr))
 
 pub record ArePoolNames (names : List (List ℕ)) : Type 0 where
-  pub few : length names ≤ 64
+  pub few : length names ≤ MOST_POOLS
   pub each : All IsPoolName names
 
 pub record IsSoundAdd (request : AddRequest) : Type 0 where
@@ -79,7 +82,7 @@ abbrev pub IsSoundRequest : Request → Type 0
 IsSoundRequest (Add request) = IsSoundAdd request × IsTrue (request.ipv4 || request.ipv6)
 IsSoundRequest (AddThis request address) = IsSoundAdd request × IsAddress address
 IsSoundRequest (Del id) = IsHandleId id
-IsSoundRequest (Check id addresses) = IsHandleId id × (length addresses ≤ 64) × All IsAddress addresses
+IsSoundRequest (Check id addresses) = IsHandleId id × (length addresses ≤ CHECKED_MAX) × All IsAddress addresses
 IsSoundRequest (Release node cidr) = IsName node × IsCidr cidr
 IsSoundRequest (Collect request) = IsSoundCollect request
 IsSoundRequest (Change request) = IsSoundChange request

@@ -6,6 +6,7 @@ use Rattle.ipam_records.specs.declared.call.Call.TheVariants.{Create, Update}
 use Rattle.ipam_records.specs.declared.record.Record.{Record}
 use Rattle.ipam_records.specs.Said.{Said, Found, Missing, Listed, Can, Exists, Conflict, Full, Spent}
 use Rattle.ipam_records.specs.Word.{Word, Ends, bound}
+use Rattle.ipam_model.specs.declared.limits.TheConstants.{LOST_RACES_MAX, CLAIMS_MAX}
 use Rattle.ipam_model.specs.declared.part.Left.{Left}
 use Rattle.ipam_model.specs.declared.part.Stop.{Stop}
 use Rattle.ipam_model.specs.declared.part.Stop.TheVariants.{OutOfTries, OutOfClaims, NoRoom, CountAtLimit, NoRevisions}
@@ -16,16 +17,16 @@ use Rattle.ipam_model.specs.declared.part.Outcome.TheVariants.{Went, Stops}
 
 -- the lost race and the confirmed claim that end a request
 abbrev pub most_lost : ℕ
-most_lost = 64
+most_lost = LOST_RACES_MAX
 
 abbrev pub most_claims : ℕ
-most_claims = 64
+most_claims = CLAIMS_MAX
 
 abbrev pub left_of : (races claims : ℕ) → Left
 left_of races claims = record { races = races; claims = claims }
 
 abbrev pub all_left : Left
-all_left = left_of 63 63
+all_left = left_of (most_lost - 1) (most_claims - 1)
 
 -- how many races were lost, and how many claims confirmed
 abbrev pub lost_so_far : Left → ℕ

@@ -2,15 +2,15 @@ ghost use Rattle.std.specs.Prelude.{◌≡◌};
 ghost use Rattle.ipam_model.specs.Step.{all_left as every_try, lost_so_far};
 ghost use Rattle.ipam_parts.specs.Tries.{less_a_race, less_a_claim};
 
-use ipam_model::{Left, Stop};
+use ipam_model::{CLAIMS_MAX, LOST_RACES_MAX, Left, Stop};
 
 /// What a request begins with.
 pub fn all_left() -> Left
     ensures { result ≡ every_try }
 {
     Left {
-        races: 63,
-        claims: 63,
+        races: LOST_RACES_MAX - 1,
+        claims: CLAIMS_MAX - 1,
     }
 }
 
@@ -38,5 +38,5 @@ pub fn after_claim(left: Left) -> Result<Left, Stop>
 pub fn lost_so_far(left: Left) -> u32
     ensures { result ≡ lost_so_far left }
 {
-    63u32.saturating_sub(left.races)
+    all_left().races.saturating_sub(left.races)
 }

@@ -14,8 +14,8 @@ ghost use Rattle.ipam_play.specs.Played.{base_of};
 ghost use Rattle.ipam_play.specs.Events.{Makes, IsCause, IsToldBy, Keeps};
 
 use crate::fault::PlayFault;
-use ipam_cluster::{Base, BeginFault, Cluster, FeedFault, OpenFault, PrepareFault, SLOTS};
-use ipam_model::{Entry, Fate, Request};
+use ipam_cluster::{Base, BeginFault, Cluster, FeedFault, OpenFault, PrepareFault};
+use ipam_model::{Entry, Fate, Request, SLOTS};
 use ipam_text::Text;
 use std::alloc::Global;
 

@@ -13,8 +13,7 @@ ghost use Rattle.ipam_play.specs.Events.{ComesOf, Keeps};
 
 use crate::cluster::OpenCluster;
 use crate::fault::PlayFault;
-use ipam_cluster::SLOTS;
-use ipam_model::{Entry, Fate, Request};
+use ipam_model::{Entry, Fate, Request, SLOTS};
 use ipam_script::Line;
 use ipam_text::Text;
 use std::alloc::Global;

@@ -3,6 +3,7 @@ ghost use Rattle.std.specs.Prelude.{◌≡◌, ◌++◌, ℕ, List, [], ◌∷�
 ghost use Rattle.ipam_records.specs.Datastore.{Datastore};
 ghost use Rattle.ipam_io.specs.Streams.{AppendsPrefix};
 ghost use Rattle.ipam_model.specs.Course.{Event, Turn};
+ghost use Rattle.ipam_model.specs.declared.limits.TheConstants.{SLOTS};
 ghost use Rattle.ipam_model.specs.declared.entry.Entry.{Entry};
 ghost use Rattle.ipam_model.specs.declared.entry.Fate.TheVariants.{Well};
 ghost use Rattle.ipam_play.specs.Player.{IsGathering, IsPlaying, IsStanding, journal_of};
@@ -73,7 +74,7 @@ impl Game {
         slot: u8,
         count: u32,
     ) -> Result<(), Halt>
-        requires slot { slot < 64 }
+        requires slot { slot < SLOTS }
         requires some { 1 ≤ count }
         requires standing { IsStanding self.old.player }
         ensures standing { IsStanding self.new.player }
@@ -91,7 +92,7 @@ impl Game {
 
     /// Plays one turn.
     fn turn<K: Sink>(&mut self, alloc: Global, sink: &mut K, slot: u8) -> Result<(), Halt>
-        requires slot { slot < 64 }
+        requires slot { slot < SLOTS }
         requires standing { IsStanding self.old.player }
         ensures standing { IsStanding self.new.player }
         ensures turn { (script : Script) (first : Option (List ℕ)) (number : ℕ) (events : List Event) (rest : Script)

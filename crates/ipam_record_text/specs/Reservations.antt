@@ -9,6 +9,7 @@ use Rattle.ipam_addr.specs.Text.{cidr_text_of}
 use Rattle.ipam_addr.specs.Width.{IsCidr}
 use Rattle.ipam_addr.specs.Names.{is_name_text}
 use Rattle.ipam_json.specs.Built.{object_of, array_of}
+use Rattle.ipam_reserve.specs.declared.reservations.TheConstants.{MOST_CIDRS, MOST_RESERVATIONS}
 use Rattle.ipam_reserve.specs.Shape.{ReservationValue}
 use Rattle.ipam_record_text.specs.declared.fault.BodyFault.{BodyFault}
 use Rattle.ipam_record_text.specs.Reading.{◌>>=◌, only_if, items_at, reading}
@@ -34,12 +35,12 @@ reservations_body rs = compact_text (reservations_data rs)
 -- the reservation has a name and at most 64 CIDRs
 pub record IsReservation (r : ReservationValue) : Type 0 where
   pub name : IsTrue (is_name_text r.name)
-  pub few : length r.cidrs ≤ 64
+  pub few : length r.cidrs ≤ MOST_CIDRS
   pub ranges : All IsCidr r.cidrs
 
 -- at most 256 reservations with names of their own
 pub record IsReservationsRecord (list : List ReservationValue) : Type 0 where
-  pub few : length list ≤ 256
+  pub few : length list ≤ MOST_RESERVATIONS
   pub each : All IsReservation list
   pub names : AllPairs (λ r s. r.name ≢ s.name) list
 
@@ -56,7 +57,7 @@ cidrs_after cidrs (item d ds) = do
 
 -- the reservation of this name and these CIDRs, where they are at most 64
 unfoldable pub named_cidrs : List ℕ → List CidrValue → Option ReservationValue
-named_cidrs name cidrs = only_if (nat_le (length cidrs) 64) (record { name = name; cidrs = cidrs })
+named_cidrs name cidrs = only_if (nat_le (length cidrs) MOST_CIDRS) (record { name = name; cidrs = cidrs })
 
 -- the reservation that the JSON holds
 unfoldable pub reservation_in : Data → Option ReservationValue
@@ -69,7 +70,7 @@ reservation_in d = do
 -- the reservations are fewer than 256, and none has this one's name
 unfoldable pub may_follow : List ReservationValue → ReservationValue → Bool
 may_follow rs r =
-    nat_lt (length rs) 256 && not (list_any (λ other. bytes_eq r.name other.name) rs)
+    nat_lt (length rs) MOST_RESERVATIONS && not (list_any (λ other. bytes_eq r.name other.name) rs)
 
 -- the reservations, and behind them those that the items hold
 abbrev pub reservations_after : List ReservationValue → Items → Option (List ReservationValue)

@@ -9,13 +9,10 @@ use crate::blocks::{cidr_of, cidr_text, name_at};
 use crate::fault::BodyFault;
 use crate::members::{items_at, json_of};
 use ipam_addr::Cidr;
-use ipam_reserve::Reservation;
+use ipam_reserve::{MOST_RESERVATIONS, Reservation};
 use ipam_text::{Seq, Text};
 use serde_json::{Value, json};
 use std::alloc::{AllocError, Global};
-
-/// The most reservations of a record.
-const RESERVATIONS_MAX: usize = 256;
 
 /// The body of the reservations.
 pub fn reservations_text(alloc: Global, list: &[Reservation]) -> Result<String, AllocError>
@@ -136,7 +133,7 @@ fn reservations_of_items(
 fn may_follow(list: &[Reservation], reservation: &Reservation) -> bool
     ensures { result ≡ may_follow list.now reservation.now }
 {
-    list.len() < RESERVATIONS_MAX && !has_name(list, reservation.name())
+    list.len() < MOST_RESERVATIONS && !has_name(list, reservation.name())
 }
 
 fn has_name(list: &[Reservation], name: &str) -> bool

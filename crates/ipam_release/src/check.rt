@@ -11,7 +11,7 @@ ghost use Rattle.ipam_model.specs.Reads.{pools_said, block_said};
 ghost use Rattle.ipam_release.specs.Check.{visit_of, visit_one, visit_each, looks_at, look_heard, check_at, next_at, check_rest, check_goes, check_leaves};
 
 use ipam_addr::{Addr, Cidr, slot, slot_number};
-use ipam_block::Block;
+use ipam_block::{ADDRESSES_MAX, Block};
 use ipam_model::CheckAnswer;
 use ipam_parts::first_of;
 use ipam_pool::Pool;
@@ -296,7 +296,7 @@ fn is_recorded_in(id: &str, address: Addr, block: &Block) -> bool
     ensures { result ≡ is_recorded_to id.now (holder block.now (address.number - block.now.cidr.base)) }
 {
     let offset = address.number.saturating_sub(block.cidr().base().number);
-    if offset >= 4096 {
+    if offset >= u128::from(ADDRESSES_MAX) {
         return false;
     }
     match block.holder(offset as u16) {

@@ -8,7 +8,7 @@ ghost use Rattle.ipam_model.specs.Step.{all_left as every_try, settled, stop_ans
 ghost use Rattle.ipam_release.specs.Del.{blocks_left, del_rest, del_leaves, del_goes, frees_at, frees_leaves, parts_at, parts_leaves};
 
 use ipam_addr::Cidr;
-use ipam_model::{DelAnswer, Left, Outcome, Stop};
+use ipam_model::{DelAnswer, LOST_RACES_MAX, Left, Outcome, Stop};
 use ipam_parts::{Freeing, FreeingTurned, Picks, all_left, first_of, lost_so_far};
 use ipam_records::{Call, Heard, Key, Procedure, Record, Reply};
 use ipam_text::Text;
@@ -212,7 +212,7 @@ fn stopped(left: Left, why: Stop) -> DelAnswer
     ensures { result ≡ stop_answer del_stops left why }
 {
     match why {
-        Stop::OutOfTries => DelAnswer::Again(64),
+        Stop::OutOfTries => DelAnswer::Again(LOST_RACES_MAX),
         Stop::OutOfClaims => DelAnswer::Again(lost_so_far(left)),
         Stop::NoRoom | Stop::CountAtLimit(_) | Stop::NoRevisions => DelAnswer::Spent,
     }

@@ -10,7 +10,7 @@ ghost use Rattle.ipam_model.specs.Step.{stop_answer};
 ghost use Rattle.ipam_release.specs.Free.{free_rest, free_leaves, free_answer_of};
 
 use ipam_addr::{Addr, Cidr};
-use ipam_model::{FreeAnswer, Left, Outcome, Stop};
+use ipam_model::{FreeAnswer, LOST_RACES_MAX, Left, Outcome, Stop};
 use ipam_parts::{Freeing, FreeingTurned, Picks, all_left, lost_so_far};
 use ipam_records::{Call, Heard, Procedure};
 use ipam_text::Text;
@@ -116,7 +116,7 @@ fn stopped(left: Left, why: Stop) -> FreeAnswer
     ensures { result ≡ stop_answer free_stops left why }
 {
     match why {
-        Stop::OutOfTries => FreeAnswer::Again(64),
+        Stop::OutOfTries => FreeAnswer::Again(LOST_RACES_MAX),
         Stop::OutOfClaims => FreeAnswer::Again(lost_so_far(left)),
         Stop::NoRoom | Stop::CountAtLimit(_) | Stop::NoRevisions => FreeAnswer::Spent,
     }

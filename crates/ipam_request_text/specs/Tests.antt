@@ -5,10 +5,14 @@ use Rattle.ipam_addr.specs.Shape.{AddrValue, CidrValue}
 use Rattle.ipam_addr.specs.Width.{width, address_count, cidr_size}
 use Rattle.ipam_addr.specs.Names.{is_name_text, is_handle_text}
 use Rattle.ipam_block_text.specs.Limits.{keys_ascend, are_attributes}
+use Rattle.ipam_select.specs.declared.limits.TheConstants.{LABELS_MAX, LABEL_KEY_BYTES_MAX, LABEL_VALUE_BYTES_MAX}
 use Rattle.ipam_select.specs.Sound.{is_sound}
 use Rattle.ipam_pool.specs.declared.pools.Pool.{Pool as OnePool}
+use Rattle.ipam_pool.specs.declared.table.TheConstants.{MOST_POOLS}
+use Rattle.ipam_reserve.specs.declared.reservations.TheConstants.{MOST_CIDRS}
 use Rattle.ipam_reserve.specs.Shape.{ReservationValue}
 use Rattle.ipam_record_text.specs.Blocks.{cidr_of}
+use Rattle.ipam_model.specs.declared.limits.TheConstants.{CHECKED_MAX}
 use Rattle.ipam_model.specs.declared.request.AddRequest.{AddRequest}
 use Rattle.ipam_model.specs.declared.request.Admin.{Admin}
 use Rattle.ipam_model.specs.declared.request.Admin.TheVariants as change
@@ -29,17 +33,17 @@ is_cidr r =
 
 abbrev pub is_label : Pair → Bool
 is_label label =
-    nat_lt 0 (length label.0) && nat_le (length label.0) 317 && list_all is_label_byte label.0
-    && nat_le (length label.1) 253
+    nat_lt 0 (length label.0) && nat_le (length label.0) LABEL_KEY_BYTES_MAX && list_all is_label_byte label.0
+    && nat_le (length label.1) LABEL_VALUE_BYTES_MAX
 
 abbrev pub are_labels : List Pair → Bool
-are_labels labels = nat_le (length labels) 64 && list_all is_label labels && keys_ascend labels
+are_labels labels = nat_le (length labels) LABELS_MAX && list_all is_label labels && keys_ascend labels
 
 abbrev pub is_pool_name : List ℕ → Bool
 is_pool_name text = is_name_text text || is_some (cidr_of text)
 
 abbrev pub are_pool_names : List (List ℕ) → Bool
-are_pool_names names = nat_le (length names) 64 && list_all is_pool_name names
+are_pool_names names = nat_le (length names) MOST_POOLS && list_all is_pool_name names
 
 abbrev pub is_sound_add : AddRequest → Bool
 is_sound_add r =
@@ -65,7 +69,7 @@ is_sound_pool p = is_name_text p.name && is_cidr p.cidr && nat_lt p.size (2 ^ 8)
 
 abbrev pub is_sound_reservation : ReservationValue → Bool
 is_sound_reservation r =
-    is_name_text r.name && nat_le (length r.cidrs) 64 && list_all is_cidr r.cidrs
+    is_name_text r.name && nat_le (length r.cidrs) MOST_CIDRS && list_all is_cidr r.cidrs
 
 abbrev pub is_sound_change : Admin → Bool
 is_sound_change (change.Pool pool) = is_sound_pool pool
@@ -79,7 +83,7 @@ is_sound_request (Add request) = is_sound_add request && (request.ipv4 || reques
 is_sound_request (AddThis request address) = is_sound_add request && is_address address
 is_sound_request (Del id) = is_handle_text id
 is_sound_request (Check id addresses) =
-    is_handle_text id && nat_le (length addresses) 64 && list_all is_address addresses
+    is_handle_text id && nat_le (length addresses) CHECKED_MAX && list_all is_address addresses
 is_sound_request (Release node cidr) = is_name_text node && is_cidr cidr
 is_sound_request (Collect request) = is_sound_collect request
 is_sound_request (Change request) = is_sound_change request

@@ -13,20 +13,11 @@ ghost use Rattle.ipam_model.specs.SoundRequest.{is_label_byte, IsLabel, AreLabel
 
 use ipam_addr::{Addr, Cidr, is_handle_id, is_name, read_cidr};
 use ipam_block::{Attributes, KEY_BYTES_MAX, PAIRS_MAX, VALUE_BYTES_MAX};
-use ipam_model::{AddRequest, Admin, CollectRequest, ProbeRequest, Request};
-use ipam_pool::Pool;
+use ipam_model::{AddRequest, Admin, CHECKED_MAX, CollectRequest, ProbeRequest, Request};
+use ipam_pool::{MOST_POOLS, Pool};
 use ipam_reserve::Reservation;
+use ipam_select::{LABEL_KEY_BYTES_MAX, LABEL_VALUE_BYTES_MAX, LABELS_MAX};
 use ipam_text::Text;
-
-const MOST_LABELS: usize = 64;
-
-const MOST_POOL_NAMES: usize = 64;
-
-const MOST_ADDRESSES: usize = 64;
-
-const MOST_LABEL_KEY_BYTES: usize = 317;
-
-const MOST_LABEL_VALUE_BYTES: usize = 253;
 
 /// Whether the request can be read of some text. Takes no memory.
 pub fn is_sound(request: &Request) -> bool
@@ -158,9 +149,9 @@ fn is_cidr(cidr: &Cidr) -> bool
 }
 
 fn are_addresses(addresses: &[Addr]) -> bool
-    ensures { IsTrue result ↔ (length addresses.now ≤ 64) × All IsAddress addresses.now }
+    ensures { IsTrue result ↔ (length addresses.now ≤ CHECKED_MAX) × All IsAddress addresses.now }
 {
-    addresses.len() <= MOST_ADDRESSES && addresses.iter().all(is_address)
+    addresses.len() <= CHECKED_MAX && addresses.iter().all(is_address)
 }
 
 fn are_attributes(attributes: &Attributes) -> bool
@@ -183,7 +174,7 @@ fn is_pair(pair: &(Text, Text)) -> bool
 fn are_labels(labels: &[(Text, Text)]) -> bool
     ensures { IsTrue result ↔ AreLabels labels.now }
 {
-    labels.len() <= MOST_LABELS && labels.iter().all(is_label) && ascend(labels)
+    labels.len() <= LABELS_MAX && labels.iter().all(is_label) && ascend(labels)
 }
 
 fn is_label(label: &(Text, Text)) -> bool
@@ -191,9 +182,9 @@ fn is_label(label: &(Text, Text)) -> bool
 {
     let key = label.0.as_bytes();
     !key.is_empty()
-        && key.len() <= MOST_LABEL_KEY_BYTES
+        && key.len() <= LABEL_KEY_BYTES_MAX
         && are_label_bytes(key)
-        && label.1.as_bytes().len() <= MOST_LABEL_VALUE_BYTES
+        && label.1.as_bytes().len() <= LABEL_VALUE_BYTES_MAX
 }
 
 fn are_label_bytes(bytes: &[u8]) -> bool
@@ -212,7 +203,7 @@ fn is_label_byte(byte: &u8) -> bool
 fn are_pool_names(names: &[Text]) -> bool
     ensures { IsTrue result ↔ ArePoolNames names.now }
 {
-    names.len() <= MOST_POOL_NAMES && names.iter().all(is_pool_name)
+    names.len() <= MOST_POOLS && names.iter().all(is_pool_name)
 }
 
 fn is_pool_name(name: &Text) -> bool

@@ -4,6 +4,7 @@ use Rattle.std.specs.List.{before_first, after_first, position_or_len}
 use Rattle.std.specs.Str.Parse.{digits_value}
 use Rattle.ipam_json.specs.Path.{is_index}
 use Rattle.ipam_record_text.specs.Reading.{only_if}
+use Rattle.ipam_model.specs.declared.limits.TheConstants.{SLOTS}
 
 abbrev pub is_space : ℕ → Bool
 is_space c = c == 32
@@ -25,7 +26,7 @@ number_of word = if is_index word then in_64_bits (digits_value 10 word) else No
 
 -- slots are counted from 0 to 63
 abbrev pub slot_in : ℕ → Option ℕ
-slot_in n = only_if (nat_lt n 64) n
+slot_in n = only_if (nat_lt n SLOTS) n
 
 abbrev pub slot_of : List ℕ → Option ℕ
 slot_of word = option_and_then slot_in (number_of word)

@@ -5,6 +5,8 @@ ghost use Rattle.std.specs.List.{list_all};
 ghost use Rattle.ipam_json.specs.Path.{is_index, has_leading_zero};
 ghost use Rattle.ipam_script.specs.Words.{split_word, number_of, slot_in, slot_of, turns_in, turns_of};
 
+use ipam_model::SLOTS;
+
 /// The first word, and what stands behind the space that ends it.
 pub(crate) fn split_word(text: &str) -> Option<(&str, &str)>
     ensures { option_map (λ parts. (parts.0.now, parts.1.now)) result ≡ split_word text.now }
@@ -52,7 +54,7 @@ pub(crate) fn slot_of(word: &str) -> Option<u8>
 fn slot_in(number: u64) -> Option<u8>
     ensures { result ≡ slot_in number }
 {
-    if number < 64 {
+    if number < SLOTS as u64 {
         Some(number as u8)
     } else {
         None

@@ -1,6 +1,7 @@
 -- How a text is cut into tokens: one after another, each as long as it can be.
 use Rattle.std.specs.Prelude.{ℕ, zero, suc, ◌+◌, Bool, false, not, ◌&&◌, ◌||◌, List, [], ◌∷◌, length, take, drop, ◌==◌, nat_le, nat_lt, if◌then◌else◌, Option, Some, None, option_map, option_and_then}
 use Rattle.ipam_select.specs.Words.{is_blank, is_key_byte, is_value}
+use Rattle.ipam_select.specs.declared.limits.TheConstants.{LABEL_KEY_BYTES_MAX}
 use Rattle.ipam_select.specs.declared.token.Token.{Token}
 use Rattle.ipam_select.specs.declared.token.Token.TheVariants.{Word, Quoted, Mark}
 use Rattle.ipam_select.specs.declared.token.Mark as mark
@@ -31,7 +32,7 @@ is_quote b = b == 39 || b == 34
 
 -- the word of so many bytes
 abbrev pub word : ℕ → List ℕ → Option (Token × List ℕ)
-word n text = if nat_le n 317 then Some (Word (take n text), drop n text) else None
+word n text = if nat_le n LABEL_KEY_BYTES_MAX then Some (Word (take n text), drop n text) else None
 
 -- a value of so many bytes and the quote after it
 abbrev pub quoted : ℕ → List ℕ → Option (Token × List ℕ)

@@ -3,6 +3,7 @@ use Rattle.std.specs.Prelude.{ℕ, Bool, false, not, ◌&&◌, ◌||◌, List, [
 use Rattle.std.specs.List.{list_all}
 use Rattle.std.specs.Char.{is_ascii_alphanumeric}
 use Rattle.std.specs.Str.{is_utf8}
+use Rattle.ipam_select.specs.declared.limits.TheConstants.{LABEL_KEY_BYTES_MAX, LABEL_VALUE_BYTES_MAX}
 
 -- a space or a tab
 abbrev pub is_blank : ℕ → Bool
@@ -14,11 +15,11 @@ is_key_byte b = is_ascii_alphanumeric b || b == 95 || b == 46 || b == 45 || b ==
 
 -- a key of a label: 1 to 317 of these bytes
 abbrev pub is_key : List ℕ → Bool
-is_key key = nat_lt 0 (length key) && nat_le (length key) 317 && list_all is_key_byte key
+is_key key = nat_lt 0 (length key) && nat_le (length key) LABEL_KEY_BYTES_MAX && list_all is_key_byte key
 
 -- a value: at most 253 bytes of UTF-8
 abbrev pub is_value : List ℕ → Bool
-is_value value = nat_le (length value) 253 && is_utf8 value
+is_value value = nat_le (length value) LABEL_VALUE_BYTES_MAX && is_utf8 value
 
 -- the byte isn't in the text
 abbrev pub lacks : ℕ → List ℕ → Bool

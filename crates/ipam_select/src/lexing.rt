@@ -3,16 +3,11 @@ ghost use Rattle.std.specs.Str.{is_utf8};
 ghost use Rattle.ipam_select.specs.Words.{is_key_byte, is_blank, is_value};
 ghost use Rattle.ipam_select.specs.Lexing.{in_class, run_len, after_blanks, is_at, is_quote, word, quoted, bang, single, double, marked, first_token, tokens};
 
+use crate::limits::{LABEL_KEY_BYTES_MAX, LABEL_VALUE_BYTES_MAX};
 use crate::token::{Mark, Token};
 use ipam_text::Text;
 use std::alloc::{AllocError, Global};
 use std::collections::VecDeque;
-
-/// The most bytes of a key.
-pub(crate) const KEY_MAX: usize = 317;
-
-/// The most bytes of a value.
-pub(crate) const VALUE_MAX: usize = 253;
 
 #[derive(Clone, Copy)]
 pub(crate) enum Class {
@@ -110,7 +105,7 @@ fn word(alloc: Global, text: &[u8]) -> Result<Option<(Token, &[u8])>, AllocError
         ≡ word (run_len is_key_byte text.now) text.now) }
 {
     let count = run_len(text, Class::Key);
-    if count > KEY_MAX {
+    if count > LABEL_KEY_BYTES_MAX {
         return Ok(None);
     }
     let Some(text_of) = copied(alloc, &text[..count])? else {
@@ -125,7 +120,7 @@ fn quoted(alloc: Global, text: &[u8], quote: u8) -> Result<Option<(Token, &[u8])
         ≡ quoted (run_len (in_class (Class.Before quote)) text.now) text.now) }
 {
     let count = run_len(text, Class::Before(quote));
-    if count >= text.len() || count > VALUE_MAX {
+    if count >= text.len() || count > LABEL_VALUE_BYTES_MAX {
         return Ok(None);
     }
     let Some(value) = copied(alloc, &text[..count])? else {

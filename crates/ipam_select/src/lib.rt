@@ -9,6 +9,7 @@ mod front;
 mod labels;
 mod laws;
 mod lexing;
+mod limits;
 mod node_selector;
 mod printing;
 mod read;
@@ -19,6 +20,7 @@ mod token;
 mod values;
 
 pub use laws::readings;
+pub use limits::{LABEL_KEY_BYTES_MAX, LABEL_VALUE_BYTES_MAX, LABELS_MAX};
 pub use node_selector::NodeSelector;
 pub use printing::push_selector;
 pub use read::SelectFault;

@@ -5,7 +5,8 @@ ghost use Rattle.ipam_select.specs.Words.{is_key, is_key_byte};
 ghost use Rattle.ipam_select.specs.Printing.{printed, needs_parentheses};
 ghost use Rattle.ipam_select.specs.Sound.{is_quotable, fits_quotes, ascends, are_several, is_formed, is_member_formed, are_formed, is_sound};
 
-use crate::lexing::{KEY_MAX, VALUE_MAX, is_key_byte};
+use crate::lexing::is_key_byte;
+use crate::limits::{LABEL_KEY_BYTES_MAX, LABEL_VALUE_BYTES_MAX};
 use crate::printing::lacks;
 use crate::reading::DEPTH_MAX;
 use crate::selector::Selector;
@@ -61,7 +62,7 @@ fn is_key(key: &Text) -> bool
     ensures { result ≡ is_key key.now }
 {
     let bytes = key.as_bytes();
-    !bytes.is_empty() && bytes.len() <= KEY_MAX && are_key_bytes(bytes)
+    !bytes.is_empty() && bytes.len() <= LABEL_KEY_BYTES_MAX && are_key_bytes(bytes)
 }
 
 fn are_key_bytes(bytes: &[u8]) -> bool
@@ -75,7 +76,7 @@ fn is_quotable(value: &Text) -> bool
 {
     let text = value.as_str();
     let bytes = text.as_bytes();
-    bytes.len() <= VALUE_MAX && fits_quotes(bytes)
+    bytes.len() <= LABEL_VALUE_BYTES_MAX && fits_quotes(bytes)
 }
 
 /// One kind of quote isn't in the value.

@@ -1,8 +1,10 @@
 -- What a pass knows of the history and of its slot, and how passes are made of one and of two.
 use Rattle.std.specs.Prelude.{◌≡◌, ◌≢◌, ◌↔◌, ℕ, ◌+◌, ◌<◌, ◌≤◌, Bool, List, [], ◌++◌, Option, IsTrue, IsSome}
 use Rattle.turn_lock.specs.Passes.{Pass as Turns}
+use Rattle.turn_lock.specs.declared.limits.TheConstants.{SPLIT_TURNS}
 use Rattle.turn_lock.specs.Histories.{NoneBy}
 use Rattle.ipam_model.specs.declared.entry.Entry.{Entry}
+use Rattle.ipam_model.specs.declared.limits.TheConstants.{SLOTS}
 use Rattle.ipam_model.specs.Cluster.{Running}
 use Rattle.ipam_model.specs.Consistent.{IsConsistent}
 use Rattle.ipam_model.specs.History.{Base, Lawful, cluster_at, slot_of_entry}
@@ -55,10 +57,10 @@ IsSamePass old new = new ≡ record old { left = new.left; seen = new.seen }
 
 -- the pass p was split, which left p', into it and the pass q, which has a slot of its own
 pub record IsSplit (p p' q : PassValue) : Type 0 where
-  pub enough : 1125899906842624 < p.left
-  pub left : p'.left + 1125899906842624 ≡ p.left
-  pub share : q.left ≡ 1125899906842624
-  pub slot : (p.made ≤ q.slot) × (q.slot < 64) × (q.slot ≢ p.slot)
+  pub enough : SPLIT_TURNS < p.left
+  pub left : p'.left + SPLIT_TURNS ≡ p.left
+  pub share : q.left ≡ SPLIT_TURNS
+  pub slot : (p.made ≤ q.slot) × (q.slot < SLOTS) × (q.slot ≢ p.slot)
   pub made : (q.made ≡ q.slot + 1) × (p'.made ≡ q.slot + 1)
   pub alone : q.joined ≡ 0
   pub lock : q.lock ≡ p.lock

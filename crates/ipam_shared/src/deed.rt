@@ -1,6 +1,7 @@
 // What is done in a slot of the kept cluster in one turn.
 ghost use Rattle.std.specs.Prelude.{◌≡◌, ◌↔◌, ◌<◌, ◌++◌, ℕ, List, IsTrue, IsSome};
 ghost use Rattle.ipam_model.specs.declared.entry.Entry.{Entry as OneEntry};
+ghost use Rattle.ipam_model.specs.declared.limits.TheConstants.{SLOTS};
 ghost use Rattle.ipam_model.specs.History.{Base, slot_of_entry};
 ghost use Rattle.ipam_cluster.specs.Cluster.{slot_of};
 ghost use Rattle.ipam_kept.specs.declared.kept.Kept.{Kept as KeptValue};
@@ -29,7 +30,7 @@ pub(crate) trait Deed<D: Keeper> {
 
     /// Does it.
     fn run(self, kept: &mut Kept<D>, slot: u8) -> Self::Answer
-        requires slot { slot < 64 }
+        requires slot { slot < SLOTS }
         requires can { can self }
         requires kept { IsKept D.rows kept.old }
         ensures does { does self slot kept.old result kept.new }
@@ -49,7 +50,7 @@ impl<D: Keeper, W: Deed<D>> Step<Locked<D>> for InSlot<W> {
 
     ghost by = { λ step. step.slot };
 
-    ghost can = { λ step locked. (step.slot < 64) × W.can step.deed × IsKept D.rows locked.kept };
+    ghost can = { λ step locked. (step.slot < SLOTS) × W.can step.deed × IsKept D.rows locked.kept };
 
     ghost does = { λ step before out after. W.does step.deed step.slot before.kept out.0 after.kept × (IsTrue out.1 ↔ IsSome (slot_of after.kept.cluster step.slot)) };
 

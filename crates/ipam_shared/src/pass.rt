@@ -1,5 +1,6 @@
 // A pass.
 ghost use Rattle.std.specs.Prelude.{◌≡◌, ◌+◌, ◌<◌, ◌≤◌, ◌↔◌, IsTrue, IsSome};
+ghost use Rattle.ipam_model.specs.declared.limits.TheConstants.{SLOTS};
 
 use crate::opened::Opened;
 use ipam_laws::whole::every_lawful_history_is_right;
@@ -41,7 +42,7 @@ impl Pass {
     /// Its slot, from 0 to 63. No two passes of a lock have one slot.
     pub fn slot(&self) -> u8
         ensures is { result ≡ self.now.slot }
-        ensures low { (result < self.now.made) × (self.now.made ≤ 64) }
+        ensures low { (result < self.now.made) × (self.now.made ≤ SLOTS) }
     {
         self.turns.number()
     }

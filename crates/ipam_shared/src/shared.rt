@@ -1,10 +1,12 @@
 // The shared cluster.
 ghost use Rattle.std.specs.Prelude.{◌≡◌, ◌↔◌, ◌⊎◌, ◌+◌, ◌^◌, ◌<◌, ◌≤◌, ℕ, max, [], Some, None, Ok, Err, IsNone, IsErr, IsSome, IfOk, IfErr, IfSome, IfNone};
 ghost use Rattle.std.specs.List.{All};
+ghost use Rattle.turn_lock.specs.declared.limits.TheConstants.{FIRST_TURNS, SPLIT_TURNS};
 ghost use Rattle.turn_lock.specs.Histories.{NoneBy, Grew, GrewPast};
 ghost use Rattle.ipam_records.specs.Sound.{IsHandleId};
 ghost use Rattle.ipam_model.specs.declared.entry.Entry.TheVariants as entry;
 ghost use Rattle.ipam_model.specs.declared.entry.SlotState.TheVariants as state;
+ghost use Rattle.ipam_model.specs.declared.limits.TheConstants.{SLOTS};
 ghost use Rattle.ipam_model.specs.Cluster.{state_of};
 ghost use Rattle.ipam_model.specs.History.{slot_of_entry};
 ghost use Rattle.ipam_model.specs.SoundRequest.{IsSoundRequest};
@@ -63,7 +65,7 @@ impl<D: Keeper> Shared<D> {
     /// entry was made since it was opened. It comes back where there is no memory.
     pub fn new(alloc: Global, kept: Kept<D>) -> Result<(Shared<D>, Pass), Kept<D>>
         requires { IsNewlyKept D.rows kept }
-        ensures pass { IfOk result (λ r. (r.1.lock ≡ r.0) × (r.1.left ≡ 2 ^ 62) × (r.1.slot ≡ 0) × (r.1.made ≡ 1) × (r.1.joined ≡ 0)) }
+        ensures pass { IfOk result (λ r. (r.1.lock ≡ r.0) × (r.1.left ≡ FIRST_TURNS) × (r.1.slot ≡ 0) × (r.1.made ≡ 1) × (r.1.joined ≡ 0)) }
         ensures base { IfOk result (λ r. r.1.base ≡ own_base kept) }
         ensures seen { IfOk result (λ r. r.1.seen ≡ []) }
         ensures idle { IfOk result (λ r. runs_in r.1 ≡ None) }
@@ -86,8 +88,8 @@ impl<D: Keeper> Shared<D> {
     pub fn split(&self, pass: &mut Pass) -> Option<Pass>
         requires { pass.old.lock ≡ self.now }
         ensures same { pass.new ≡ record pass.old { left = pass.new.left; made = pass.new.made } }
-        ensures at_once { (pass.old.left ≤ 2 ^ 50) ⊎ (pass.old.made ≡ 64) → (result ≡ None) × (pass.new ≡ pass.old) }
-        ensures none { IfNone result ((pass.new.left ≡ pass.old.left) × ((pass.old.left ≤ 2 ^ 50) ⊎ (pass.new.made ≡ 64))) }
+        ensures at_once { (pass.old.left ≤ SPLIT_TURNS) ⊎ (pass.old.made ≡ SLOTS) → (result ≡ None) × (pass.new ≡ pass.old) }
+        ensures none { IfNone result ((pass.new.left ≡ pass.old.left) × ((pass.old.left ≤ SPLIT_TURNS) ⊎ (pass.new.made ≡ SLOTS))) }
         ensures some { IfSome result (λ other. IsSplit pass.old pass.new other) }
         ensures unused { IfSome result (λ other. NoneBy slot_of_entry other.slot other.seen) }
         ensures idle { IfSome result (λ other. runs_in other ≡ None) }

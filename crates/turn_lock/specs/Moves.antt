@@ -1,6 +1,7 @@
 -- What each step on the table makes of the view of the pass that takes it, and what it tells.
 use Rattle.std.specs.Prelude.{◌≡◌, ◌≢◌, ℕ, ◌+◌, ◌-◌, ◌<◌, ◌≤◌, max, List, [], ◌∷◌, ◌++◌, length}
 use Rattle.atomic_table.specs.Table.{Me, Step, rest}
+use Rattle.turn_lock.specs.declared.limits.TheConstants.{FIRST_TURNS, MOST_PASSES, SPLIT_TURNS}
 use Rattle.turn_lock.specs.declared.view.View.{View}
 use Rattle.turn_lock.specs.Histories.{NoneBy, Grew, GrewPast}
 
@@ -19,7 +20,7 @@ module _ {O E : Type 0} where
     live = 1;
     holds = 0;
     waits = [];
-    left = 4611686018427387904;
+    left = FIRST_TURNS;
     number = 0;
     spare = 0;
     tries = 1;
@@ -67,15 +68,15 @@ module _ {O E : Type 0} where
 
   -- it knows that each number is taken
   abbrev pub worn : View O E → View O E
-  worn v = record v { made = 64; tries = v.tries - 1 }
+  worn v = record v { made = MOST_PASSES; tries = v.tries - 1 }
 
   -- what a split leaves
   abbrev pub kept_part : View O E → View O E
-  kept_part v = record v { spare = 0; tries = v.tries - 1; left = v.left - 1125899906842624; owns = tail v.owns }
+  kept_part v = record v { spare = 0; tries = v.tries - 1; left = v.left - SPLIT_TURNS; owns = tail v.owns }
 
   -- the new pass of a split
   abbrev pub new_part : View O E → View O E
-  new_part v = record v { holds = 0; waits = []; left = 1125899906842624; number = v.spare; spare = 0; tries = 1; owns = v.spare ∷ []; other = [] }
+  new_part v = record v { holds = 0; waits = []; left = SPLIT_TURNS; number = v.spare; spare = 0; tries = 1; owns = v.spare ∷ []; other = [] }
 
   -- a pass that another was joined into
   abbrev pub both : View O E → View O E → View O E
@@ -121,8 +122,8 @@ module _ {O E : Type 0} where
       -- a number was drawn
       abbrev pub numbered : Step T → Seated T O E → ℕ → Seated T O E → Type 0
       numbered st m r n =
-          (r < 64 → (n ≡ (sparing r m.0, m.1)) × (0 < r) × (m.0.made ≤ r) × NoneBy by r m.0.seen)
-          × (64 ≤ r → n ≡ (worn m.0, m.1))
+          (r < MOST_PASSES → (n ≡ (sparing r m.0, m.1)) × (0 < r) × (m.0.made ≤ r) × NoneBy by r m.0.seen)
+          × (MOST_PASSES ≤ r → n ≡ (worn m.0, m.1))
 
       -- the whole history was seen
       pub record Learned (m n : Seated T O E) : Type 0 where
@@ -130,7 +131,7 @@ module _ {O E : Type 0} where
         pub now : n ≡ (knowing log m.0, m.1)
         pub mine : GrewPast by m.0.number m.0.seen log
         pub theirs : Grew m.0.other log
-        pub few : length m.0.owns ≤ 64
+        pub few : length m.0.owns ≤ MOST_PASSES
         pub stood : (o : O) → m.0.origin ≡ o ∷ [] → (value : T) × stands value o log
 
       abbrev pub learned : Step T → Seated T O E → ℕ → Seated T O E → Type 0

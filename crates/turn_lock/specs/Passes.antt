@@ -3,6 +3,7 @@ use Rattle.std.specs.Prelude.{◌≡◌, ◌≢◌, ℕ, ◌+◌, ◌<◌, ◌�
 use base.Stored.{Coded, coded×, coded_ℕ, coded_list, coded_via}
 use Rattle.atomic_table.specs.Seated.{TableId, table_id_coded}
 use Rattle.atomic_table.specs.declared.shared.Seat.{Seat}
+use Rattle.turn_lock.specs.declared.limits.TheConstants.{MOST_PASSES, SPLIT_TURNS}
 use Rattle.turn_lock.specs.declared.view.View.{View}
 use Rattle.turn_lock.specs.Histories.{NoneBy, AtMostOneBy}
 use Rattle.turn_lock.specs.Moves.{spent, IsIdle}
@@ -31,7 +32,7 @@ pub record IsPass {O E : Type 0} (views : List (View O E)) (left number made joi
   pub one : views ≡ view_of views ∷ []
   pub idle : IsIdle (view_of views)
   pub low : number < made
-  pub few : made ≤ 64
+  pub few : made ≤ MOST_PASSES
   pub left_is : (view_of views).left ≡ left
   pub number_is : (view_of views).number ≡ number
   pub made_is : (view_of views).made ≡ made
@@ -83,10 +84,10 @@ IsSameSeat a b = (b.table_id ≡ a.table_id) × (b.id ≡ a.id)
 
 -- the pass p was split, which left p', into it and the new pass q
 pub record IsSplit {O E : Type 0} (p p' q : Pass O E) : Type 0 where
-  pub enough : 1125899906842624 < p.left
-  pub left : p'.left + 1125899906842624 ≡ p.left
-  pub share : q.left ≡ 1125899906842624
-  pub number : (p.made ≤ q.number) × (q.number < 64) × (q.number ≢ p.number)
+  pub enough : SPLIT_TURNS < p.left
+  pub left : p'.left + SPLIT_TURNS ≡ p.left
+  pub share : q.left ≡ SPLIT_TURNS
+  pub number : (p.made ≤ q.number) × (q.number < MOST_PASSES) × (q.number ≢ p.number)
   pub made : (q.made ≡ q.number + 1) × (p'.made ≡ q.number + 1)
   pub alone : q.joined ≡ 0
   pub lock : q.lock ≡ p.lock

@@ -4,6 +4,7 @@ use Rattle.std.specs.Prelude.{◌≡◌, ◌≢◌, ◌⊎◌, ℕ, ◌+◌, ◌
 use mathlib.Core.Option.{none, some}
 use lib.ListN.{get_elem?}
 use Rattle.atomic_table.specs.Table.{State}
+use Rattle.turn_lock.specs.declared.limits.TheConstants.{MOST_PASSES, FIRST_TURNS}
 use Rattle.turn_lock.specs.declared.view.View.{View}
 use Rattle.turn_lock.specs.Histories.{NoneBy, Grew}
 
@@ -20,9 +21,9 @@ total f (v ∷ vs) = f v + total f vs
 -- what holds of one view's numbers
 pub record Numbers (next : ℕ) (live number spare tries made : ℕ) (owns : List ℕ) : Type 0 where
   pub low : made ≤ next
-  pub few : made ≤ 64
+  pub few : made ≤ MOST_PASSES
   pub known : (k : ℕ) → made ≤ k → times k owns ≡ 0
-  pub able : live ≡ 1 → made < 64 → 0 < tries
+  pub able : live ≡ 1 → made < MOST_PASSES → 0 < tries
   pub own : live ≡ 1 → 0 < times number owns
   pub spared : 0 < spare → (spare + 1 ≡ made) × (0 < times spare owns) × (spare ≢ number) × (1 < tries)
 
@@ -48,9 +49,9 @@ module _ {O E : Type 0} where
 
   -- each number that was drawn has one owner, and whoever drew it knows so
   pub record Numbered (next : ℕ) (views : List (View O E)) : Type 0 where
-    pub one : (k : ℕ) → k < min next 64 → total (owning k) views ≡ 1
-    pub none_yet : (k : ℕ) → min next 64 ≤ k → total (owning k) views ≡ 0
-    pub drawn : (k : ℕ) → 0 < k → k < min next 64 → Drawn views k
+    pub one : (k : ℕ) → k < min next MOST_PASSES → total (owning k) views ≡ 1
+    pub none_yet : (k : ℕ) → min next MOST_PASSES ≤ k → total (owning k) views ≡ 0
+    pub drawn : (k : ℕ) → 0 < k → k < min next MOST_PASSES → Drawn views k
     pub credit : total draws views ≤ next
     pub bound : next + total draws views ≤ 128
     pub each : (j : ℕ) (v : View O E) → get_elem? views j ≡ some v → Numbers next v.live v.number v.spare v.tries v.made v.owns
@@ -78,7 +79,7 @@ module _ {O E : Type 0} where
       pub log : List E
       pub words : s.words ≡ ticket ∷ serving ∷ length log % 18446744073709551616 ∷ next ∷ []
       pub served : serving ≤ ticket
-      pub fits : ticket + total turns s.views ≤ 4611686018427387904
+      pub fits : ticket + total turns s.views ≤ FIRST_TURNS
       pub apart : (t : ℕ) → total (waiting t) s.views ≤ 1
       pub to_come : (t : ℕ) → ticket ≤ t → total (waiting t) s.views ≡ 0
       pub queue : (j : ℕ) (v : View O E) → get_elem? s.views j ≡ some v → v.holds ≤ times serving v.waits

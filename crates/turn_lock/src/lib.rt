@@ -7,6 +7,7 @@
 
 mod booked;
 mod desk;
+mod limits;
 mod lock;
 mod numbers;
 mod plays;
@@ -14,6 +15,7 @@ mod turns;
 mod view;
 
 pub use booked::{Booked, Step};
+pub use limits::{FIRST_TURNS, MOST_PASSES, SPLIT_TURNS};
 pub use lock::TurnLock;
 pub use turns::Turns;
 pub use view::View;

@@ -1,10 +1,11 @@
 // The lock.
-ghost use Rattle.std.specs.Prelude.{◌≡◌, ◌≢◌, ◌⊎◌, ◌+◌, ◌-◌, ◌^◌, ◌<◌, ◌≤◌, max, None, [], ◌∷◌, ◌++◌, IfOk, IfErr, IfSome, IfNone};
+ghost use Rattle.std.specs.Prelude.{◌≡◌, ◌≢◌, ◌⊎◌, ◌+◌, ◌-◌, ◌<◌, ◌≤◌, max, None, [], ◌∷◌, ◌++◌, IfOk, IfErr, IfSome, IfNone};
 ghost use Rattle.turn_lock.specs.Histories.{NoneBy, Grew, GrewPast};
 ghost use Rattle.turn_lock.specs.Passes.{MayRun, Stood, Turned, StandsPast, IsSplit};
 
 use crate::booked::{Booked, Step};
 use crate::desk::{Seat, take_turn};
+use crate::limits::{FIRST_TURNS, MOST_PASSES, SPLIT_TURNS};
 use crate::numbers::{absorb, split_off};
 use crate::plays::InTurn;
 use crate::turns::Turns;
@@ -15,13 +16,6 @@ use std::marker::Model;
 use std::mem;
 use std::snapshot::Snapshot;
 use std::sync::Wait;
-
-// The turns of a lock's first pass, and of each pass that is split off.
-const ALL_TURNS: u64 = 1 << 62;
-
-const SHARE: u64 = 1 << 50;
-
-const MOST_PASSES: u8 = 64;
 
 /// A value under a lock. Contracts see which lock it is.
 /// Where the value is `Drop`, so is the lock; else it has to be closed.
@@ -65,7 +59,7 @@ impl<T: Booked> TurnLock<T> {
     /// The value comes back where there is no memory.
     pub fn new(alloc: Global, value: T) -> Result<(TurnLock<T>, Turns<T::Origin, T::Entry>), T>
         requires { T.stands value (T.start value) [] }
-        ensures pass { IfOk result (λ r. (r.1.lock ≡ r.0) × (r.1.left ≡ 2 ^ 62) × (r.1.number ≡ 0) × (r.1.made ≡ 1) × (r.1.joined ≡ 0)) }
+        ensures pass { IfOk result (λ r. (r.1.lock ≡ r.0) × (r.1.left ≡ FIRST_TURNS) × (r.1.number ≡ 0) × (r.1.made ≡ 1) × (r.1.joined ≡ 0)) }
         ensures seen { IfOk result (λ r. (r.1.origin ≡ T.start value ∷ []) × (r.1.seen ≡ [])) }
         ensures refused { IfErr result (λ v. v ≡ value) }
     {
@@ -76,7 +70,7 @@ impl<T: Booked> TurnLock<T> {
                 TurnLock { table },
                 Turns {
                     badge: seat.into_badge(),
-                    left: ALL_TURNS,
+                    left: FIRST_TURNS,
                     number: 0,
                     made: 1,
                     joined: 0,
@@ -119,12 +113,12 @@ impl<T: Booked> TurnLock<T> {
     pub fn split(&self, pass: &mut Turns<T::Origin, T::Entry>) -> Option<Turns<T::Origin, T::Entry>>
         requires { pass.old.lock ≡ self.now }
         ensures same { pass.new ≡ record pass.old { left = pass.new.left; made = pass.new.made } }
-        ensures at_once { (pass.old.left ≤ 2 ^ 50) ⊎ (pass.old.made ≡ 64) → (result ≡ None) × (pass.new ≡ pass.old) }
-        ensures none { IfNone result ((pass.new.left ≡ pass.old.left) × ((pass.old.left ≤ 2 ^ 50) ⊎ (pass.new.made ≡ 64))) }
+        ensures at_once { (pass.old.left ≤ SPLIT_TURNS) ⊎ (pass.old.made ≡ MOST_PASSES) → (result ≡ None) × (pass.new ≡ pass.old) }
+        ensures none { IfNone result ((pass.new.left ≡ pass.old.left) × ((pass.old.left ≤ SPLIT_TURNS) ⊎ (pass.new.made ≡ MOST_PASSES))) }
         ensures some { IfSome result (λ other. IsSplit pass.old pass.new other) }
         ensures unused { IfSome result (λ other. NoneBy T.by other.number other.seen) }
     {
-        if pass.left <= SHARE || pass.made == MOST_PASSES {
+        if pass.left <= SPLIT_TURNS || pass.made == MOST_PASSES {
             return None;
         }
         let mut seat: Seat<T> = mem::replace(&mut pass.badge, Badge::blank()).into_seat();
@@ -132,11 +126,11 @@ impl<T: Booked> TurnLock<T> {
         pass.badge = seat.into_badge();
         match split {
             Some((number, other)) => {
-                pass.left -= SHARE;
+                pass.left -= SPLIT_TURNS;
                 pass.made = number + 1;
                 Some(Turns {
                     badge: other.into_badge(),
-                    left: SHARE,
+                    left: SPLIT_TURNS,
                     number,
                     made: number + 1,
                     joined: 0,

@@ -1,5 +1,6 @@
 // A pass of a lock.
 ghost use Rattle.std.specs.Prelude.{◌≡◌, ◌+◌, ◌<◌, ◌≤◌, ◌↔◌, IsTrue};
+ghost use Rattle.turn_lock.specs.declared.limits.TheConstants.{MOST_PASSES};
 
 use crate::view::View;
 use atomic_table::Badge;
@@ -39,7 +40,7 @@ impl<O, E> Turns<O, E> {
     /// Its number, from 0 to 63. No two passes of a lock have one number.
     pub fn number(&self) -> u8
         ensures is { result ≡ self.now.number }
-        ensures low { (result < self.now.made) × (self.now.made ≤ 64) }
+        ensures low { (result < self.now.made) × (self.now.made ≤ MOST_PASSES) }
     {
         self.number
     }

@@ -5,8 +5,8 @@ use Rattle.ipam_select.specs.Sound.{fits_quotes}
 use Rattle.ipam_select.proofs.Several.{quotable-by}
 use Rattle.ipam_select.proofs.sound.is_quotable.Goals as goal
 
-pub returns-then-bytes-le-VALUE_MAX : goal.returns-then-bytes-le-VALUE_MAX
-returns-then-bytes-le-VALUE_MAX c =
+pub returns-then-bytes-le-LABEL_VALUE_BYTES_MAX : goal.returns-then-bytes-le-LABEL_VALUE_BYTES_MAX
+returns-then-bytes-le-LABEL_VALUE_BYTES_MAX c =
     let v = c.args.value.now in
     let text : c.as_str-text.result.now ≡ v = c.as_str-text.ensures in
     let same : c.as_bytes-bytes.result.now ≡ v = c.as_bytes-bytes.ensures.value ∙ text in
