@@ -4,7 +4,7 @@ use Rattle.std.specs.Prelude.{◌≡◌, ◌≢◌, ◌⊎◌, ℕ, ◌+◌, ◌
 use mathlib.Core.Option.{none, some}
 use lib.ListN.{get_elem?}
 use Rattle.atomic_table.specs.Table.{State}
-use Rattle.turn_lock.specs.declared.limits.TheConstants.{MOST_PASSES, FIRST_TURNS}
+use Rattle.turn_lock.specs.declared.limits.TheConstants.{FIRST_TURNS, MOST_PASSES}
 use Rattle.turn_lock.specs.declared.view.View.{View}
 use Rattle.turn_lock.specs.Histories.{NoneBy, Grew}
 
