@@ -14,8 +14,8 @@ place=$(mktemp -d)
 trap 'rm -rf "$place"' EXIT
 wrong=0
 
-# the allocations of the C library, of which the one of the number FAIL_ALLOC is refused; the file UNREACHED
-# is made where there were fewer. Where the file REFUSED is named, the number stands in it, and is counted down
+# the allocations of the C library, of which the one of the number FAIL_ALLOC is refused; the file REACHED is
+# made as that happens. Where the file REFUSED is named, the number stands in it, and is counted down
 cat >"$place/refuse.c" <<'C'
 #include <fcntl.h>
 #include <stdlib.h>
@@ -44,29 +44,26 @@ static int is_refused(void) {
         const char *text = getenv("FAIL_ALLOC");
         left = text ? atol(text) : 0;
     }
-    return left > 0 && --left == 0;
+    if (left <= 0 || --left)
+        return 0;
+    const char *reached = getenv("REACHED");
+    if (reached)
+        close(creat(reached, 0600));
+    return 1;
 }
 
 void *malloc(size_t size) { return is_refused() ? 0 : __libc_malloc(size); }
 void *realloc(void *old, size_t size) { return is_refused() ? 0 : __libc_realloc(old, size); }
-
-__attribute__((destructor)) static void tell(void) {
-    const char *unreached = getenv("UNREACHED");
-    if (left > 0 && unreached)
-        creat(unreached, 0600);
-}
 C
 cc -O1 -shared -fPIC -o "$place/refuse.so" "$place/refuse.c"
 
 # runs the program with these words, of which this allocation is refused; whether it was reached
 refuse() {
     status=0
-    LD_PRELOAD=$place/refuse.so FAIL_ALLOC=$1 UNREACHED=$place/unreached \
+    rm -f "$place/reached"
+    LD_PRELOAD=$place/refuse.so FAIL_ALLOC=$1 REACHED=$place/reached \
         "$program" "${@:2}" >"$place/found" 2>"$place/errors" || status=$?
-    if [ -f "$place/unreached" ]; then
-        rm "$place/unreached"
-        return 1
-    fi
+    [ -f "$place/reached" ]
 }
 
 tell_wrong() {

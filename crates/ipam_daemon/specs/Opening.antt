@@ -1,9 +1,10 @@
 -- How the daemon ends where the keeper's rows are not opened.
 use Rattle.std.specs.Prelude.{◌≡◌, ◌⊎◌, ℕ, Option, List}
+use Rattle.ipam_kept.specs.declared.kept.Kept.{Kept}
 use Rattle.ipam_kept.specs.declared.kept.KeptFault.{KeptFault}
 use Rattle.ipam_kept.specs.declared.kept.KeptFault.TheVariants.{Keeper, Refused, Memory}
 use Rattle.ipam_kept.specs.Kept.{Tells}
-use Rattle.ipam_kept.specs.Opening.{IsNotOpened}
+use Rattle.ipam_kept.specs.Opening.{IsNotOpened, IsOpened}
 use Rattle.ipam_daemon.specs.declared.served.Served.{Served}
 use Rattle.ipam_daemon.specs.declared.served.Served.TheVariants.{KeeperFault, NoMemory, BrokenRows, ListenFault}
 
@@ -19,7 +20,13 @@ pub record IsUnopened {D : Type 0} (tells : Tells D) (faults name : D → ℕ) (
   pub not_opened : IsNotOpened tells faults name keeper (after, fault)
   pub told : served ≡ end_of fault
 
--- the rows were not opened, or there was no memory, or listening failed
+-- the rows were opened, and serving them ended: there was no memory, or listening failed
+pub record IsServedOut {D : Type 0} (tells : Tells D) (faults name : D → ℕ) (keeper : D) (served : Served) : Type 0 where
+  pub kept : Kept D
+  pub opened : IsOpened tells faults name keeper 0 kept
+  pub told : (served ≡ NoMemory) ⊎ (served ≡ ListenFault)
+
+-- how the daemon ends: its rows were not opened, or they were and it serves no more
 abbrev pub IsEnd : {D : Type 0} → Tells D → (faults name : D → ℕ) → D → Served → Type 0
 IsEnd tells faults name keeper served =
-    IsUnopened tells faults name keeper served ⊎ (served ≡ NoMemory) ⊎ (served ≡ ListenFault)
+    IsUnopened tells faults name keeper served ⊎ IsServedOut tells faults name keeper served
