@@ -1,7 +1,10 @@
 //! What workers serve over.
-ghost use Rattle.std.specs.Prelude.{◌≡◌, None, IfSome};
+ghost use Rattle.std.specs.Prelude.{◌≡◌, ℕ, List, None, IfSome};
+ghost use Rattle.std.specs.Io.KnownBytes.{prepend_known};
 ghost use Rattle.atomic_table.specs.Seated.{TableId};
-ghost use Rattle.ipam_shared.specs.Passes.{runs_in};
+ghost use Rattle.ipam_shared.specs.Passes.{IsSamePass, runs_in};
+ghost use Rattle.ipam_serve.specs.Lines.{server_at};
+ghost use Rattle.ipam_serve.specs.Sessions.{RoseIf, Session, is_halted, is_read_fault, is_write_fault, talk_at};
 
 use ipam_io::{Clock, Gate, Link};
 use ipam_serve::{SessionEnd, serve_session};
@@ -23,7 +26,7 @@ pub trait Serves {
         ensures other { IfSome result (λ other. other.lock ≡ id self.now) }
         ensures idle { IfSome result (λ other. runs_in other ≡ None) };
 
-    /// Serves a session over the link to its end.
+    /// Serves a session over the link to its end, as `serve_session` does.
     fn session<R: Wait, L: Link, G: Gate, C: Clock>(
         &self,
         rt: &R,
@@ -35,8 +38,14 @@ pub trait Serves {
     ) -> SessionEnd
         requires own { pass.old.lock ≡ id self.now }
         requires idle { runs_in pass.old ≡ None }
-        ensures own { pass.new.lock ≡ pass.old.lock }
-        ensures idle { runs_in pass.new ≡ None };
+        ensures served { (held : List ℕ) × Session result
+            (talk_at (server_at pass.old (G.turns gate.old) (C.ahead clock.old)) (L.left link.old) (L.written link.old))
+            (talk_at (server_at pass.new (G.turns gate.new) (C.ahead clock.new)) (prepend_known held (L.left link.new)) (L.written link.new)) }
+        ensures idle { runs_in pass.new ≡ None }
+        ensures same { IsSamePass pass.old pass.new }
+        ensures reads { RoseIf (is_read_fault result) (L.read_faults link.old) (L.read_faults link.new) }
+        ensures writes { RoseIf (is_write_fault result) (L.write_faults link.old) (L.write_faults link.new) }
+        ensures stops { RoseIf (is_halted result) (G.stops gate.old) (G.stops gate.new) };
 }
 
 impl<D: Keeper> Serves for Shared<D> {

@@ -31,7 +31,7 @@ use Rattle.ipam_serve.specs.declared.ran.Ran.{Ran}
 use Rattle.ipam_serve.specs.declared.ran.Ran.TheVariants.{Answered, Waits}
 use Rattle.ipam_serve.specs.Faults.{IfAnswered, OnWaits, answer_ran, spared_by}
 use Rattle.ipam_serve.specs.Gains.{Took, asked_after, calls_in, is_early, is_waiting}
-use Rattle.ipam_serve.specs.Lines.{Breaks, Replies, Server, TellsRun, deed_of, is_collect, reading, reads_clock, reply_fed, reply_ran, standing, timed}
+use Rattle.ipam_serve.specs.Lines.{Breaks, Replies, Server, TellsRun, deed_of, is_collect, reading, reads_clock, reply_fed, reply_ran, server_at, standing, timed}
 use Rattle.ipam_serve.specs.Runs.{Does, DoesPart, FeedsList, IsAtRest, Taker}
 use Rattle.ipam_serve.specs.Spans.{Begins, Calls, Deed, Feeds, IsTimeless, Nothing, list_deed}
 use Rattle.ipam_serve.proofs.Going.{does-spared}
@@ -168,7 +168,7 @@ ran-rests o Waits none waits = inr waits
 -- ---- a stop
 
 pub stop-replies : (server : Server) (new : PassValue) → is_waiting (runs_in server.taker.pass) ≡ true → Took server.taker.pass (entry.Stopped server.taker.pass.slot ∷ []) 0 new
-    → Replies (Some wish.Stop) reply.Stopped server (record { taker = record { pass = new; turns = server.taker.turns }; ahead = server.ahead })
+    → Replies (Some wish.Stop) reply.Stopped server (server_at new server.taker.turns server.ahead)
 unfolding calls_in
 stop-replies server new waits took = record {
   at = 0;
@@ -183,9 +183,9 @@ stop-replies server new waits took = record {
   replied = rw waits refl;
 }
 
-pub stop-breaks : (server : Server) (new : PassValue) → new ≡ server.taker.pass → Breaks (Some wish.Stop) server (record { taker = record { pass = new; turns = server.taker.turns }; ahead = server.ahead })
+pub stop-breaks : (server : Server) (new : PassValue) → new ≡ server.taker.pass → Breaks (Some wish.Stop) server (server_at new server.taker.turns server.ahead)
 stop-breaks server new same =
-    subst (λ (p : PassValue). Breaks (Some wish.Stop) server (record { taker = record { pass = p; turns = server.taker.turns }; ahead = server.ahead })) (sym same)
+    subst (λ (p : PassValue). Breaks (Some wish.Stop) server (server_at p server.taker.turns server.ahead)) (sym same)
     (breaks-at-once server (Some wish.Stop))
 
 -- ---- a CNI call

@@ -18,7 +18,7 @@ use Rattle.ipam_shared.specs.PassValue.{PassValue}
 use Rattle.ipam_shared.specs.Passes.{runs_in}
 use Rattle.ipam_serve.specs.declared.ran.Broken.{Broken}
 use Rattle.ipam_serve.specs.Gains.{Took}
-use Rattle.ipam_serve.specs.Lines.{Breaks, Replies, Server, since_in}
+use Rattle.ipam_serve.specs.Lines.{Breaks, Replies, Server, server_at, since_in}
 use Rattle.ipam_serve.specs.Runs.{IsAtRest}
 use Rattle.ipam_serve.specs.Turns.{IsToldOf}
 use Rattle.ipam_serve.proofs.LineParts.{reads-none}
@@ -80,7 +80,7 @@ told-faults old new revision some_left fault (Err broken) compacted ahead h = tt
 
 module _ (server : Server) (new : PassValue) (took : Took server.taker.pass [] 1 new) where
   pub routes-replies : (counter : ℕ) (routes : List Route) → AreRoutes new.base new.seen counter routes
-      → Replies (Some wish.Routes) (reply.Routes counter routes) server (record { taker = record { pass = new; turns = server.taker.turns }; ahead = server.ahead })
+      → Replies (Some wish.Routes) (reply.Routes counter routes) server (server_at new server.taker.turns server.ahead)
   routes-replies counter routes are = record {
     at = 0;
     answer = None;
@@ -90,7 +90,7 @@ module _ (server : Server) (new : PassValue) (took : Took server.taker.pass [] 1
   }
 
   pub since-replies : (revision : ℕ) (since : Since) → since ≡ since_in new revision
-      → Replies (Some (wish.RoutesSince revision)) (reply.RoutesSince since) server (record { taker = record { pass = new; turns = server.taker.turns }; ahead = server.ahead })
+      → Replies (Some (wish.RoutesSince revision)) (reply.RoutesSince since) server (server_at new server.taker.turns server.ahead)
   since-replies revision since is = record {
     at = 0;
     answer = None;
@@ -102,10 +102,10 @@ module _ (server : Server) (new : PassValue) (took : Took server.taker.pass [] 1
   took-two : Took server.taker.pass [] 2 new
   took-two = took-spared server.taker.pass new [] 1 2 (omega arith) took
 
-  pub routes-breaks : Breaks (Some wish.Routes) server (record { taker = record { pass = new; turns = server.taker.turns }; ahead = server.ahead })
+  pub routes-breaks : Breaks (Some wish.Routes) server (server_at new server.taker.turns server.ahead)
   routes-breaks = record { at = 0; does = record { entries = []; did = inl refl; took = took-two; passed = passed-nothing server.taker.turns }; reads = inl refl }
 
-  pub since-breaks : (revision : ℕ) → Breaks (Some (wish.RoutesSince revision)) server (record { taker = record { pass = new; turns = server.taker.turns }; ahead = server.ahead })
+  pub since-breaks : (revision : ℕ) → Breaks (Some (wish.RoutesSince revision)) server (server_at new server.taker.turns server.ahead)
   since-breaks revision = record { at = 0; does = record { entries = []; did = inl refl; took = took-two; passed = passed-nothing server.taker.turns }; reads = inl refl }
 
 -- what was at rest still is

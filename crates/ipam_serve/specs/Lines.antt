@@ -105,6 +105,10 @@ pub record Server : Type 0 where
   pub taker : Taker
   pub ahead : Option (ℕ → ℕ)
 
+-- a server with this pass, so many turns passed by its gate, and these readings ahead of its clock
+abbrev pub server_at : PassValue → (turns : Option ℕ) → (ahead : Option (ℕ → ℕ)) → Server
+server_at pass turns ahead = record { taker = record { pass = pass; turns = turns }; ahead = ahead }
+
 -- a wish was done, and this is its reply
 pub record Replies (asked : Option Wish) (reply : Reply) (old new : Server) : Type 0 where
   pub at : ℕ

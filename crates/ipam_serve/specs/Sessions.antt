@@ -32,6 +32,10 @@ pub record Talk : Type 0 where
   pub coming : Option (List ℕ)
   pub written : Option (List ℕ)
 
+-- a session with this server, and these bytes of its link
+abbrev pub talk_at : Server → (coming written : Option (List ℕ)) → Talk
+talk_at server coming written = record { server = server; coming = coming; written = written }
+
 -- a line, without its line feed, and its reply
 pub record Exchange : Type 0 where
   pub line : List ℕ

@@ -13,7 +13,7 @@ ghost use Rattle.ipam_session.specs.declared.wish.Wish.TheVariants as wish;
 ghost use Rattle.ipam_shared.specs.Passes.{runs_in};
 ghost use Rattle.ipam_serve.specs.Faults.{Halts, IsWorn, OnHalted, OnWorn};
 ghost use Rattle.ipam_serve.specs.Gains.{is_waiting};
-ghost use Rattle.ipam_serve.specs.Lines.{Breaks, Replies, TellsRun, asked_by, is_collect, reading, reply_fed, reply_ran, timed};
+ghost use Rattle.ipam_serve.specs.Lines.{Breaks, Replies, TellsRun, asked_by, is_collect, reading, reply_fed, reply_ran, server_at, timed};
 ghost use Rattle.ipam_serve.specs.Runs.{DoesPart, IsAtRest};
 
 use crate::ran::{Broken, Ran};
@@ -42,11 +42,11 @@ pub fn answer_line<R: Wait, D: Keeper, G: Gate, C: Clock>(
     requires lock { pass.old.lock ≡ shared.now }
     requires rests { IsAtRest (runs_in pass.old) }
     ensures replied { IfOk result (λ reply. Replies (asked_by line.now) reply
-        (record { taker = record { pass = pass.old; turns = G.turns gate.old }; ahead = C.ahead clock.old })
-        (record { taker = record { pass = pass.new; turns = G.turns gate.new }; ahead = C.ahead clock.new })) }
+        (server_at pass.old (G.turns gate.old) (C.ahead clock.old))
+        (server_at pass.new (G.turns gate.new) (C.ahead clock.new))) }
     ensures broken { OnErr result (Breaks (asked_by line.now)
-        (record { taker = record { pass = pass.old; turns = G.turns gate.old }; ahead = C.ahead clock.old })
-        (record { taker = record { pass = pass.new; turns = G.turns gate.new }; ahead = C.ahead clock.new })) }
+        (server_at pass.old (G.turns gate.old) (C.ahead clock.old))
+        (server_at pass.new (G.turns gate.new) (C.ahead clock.new))) }
     ensures rests { OnOk result (IsAtRest (runs_in pass.new)) }
     ensures worn { OnWorn result (IsWorn pass.new) }
     ensures stops { Halts result (G.stops gate.old) (G.stops gate.new) }
@@ -71,11 +71,11 @@ fn answer_wish<R: Wait, D: Keeper, G: Gate, C: Clock>(
     requires rests { IsAtRest (runs_in pass.old) }
     requires sound { IsSoundWish wish }
     ensures replied { IfOk result (λ reply. Replies (Some wish) reply
-        (record { taker = record { pass = pass.old; turns = G.turns gate.old }; ahead = C.ahead clock.old })
-        (record { taker = record { pass = pass.new; turns = G.turns gate.new }; ahead = C.ahead clock.new })) }
+        (server_at pass.old (G.turns gate.old) (C.ahead clock.old))
+        (server_at pass.new (G.turns gate.new) (C.ahead clock.new))) }
     ensures broken { OnErr result (Breaks (Some wish)
-        (record { taker = record { pass = pass.old; turns = G.turns gate.old }; ahead = C.ahead clock.old })
-        (record { taker = record { pass = pass.new; turns = G.turns gate.new }; ahead = C.ahead clock.new })) }
+        (server_at pass.old (G.turns gate.old) (C.ahead clock.old))
+        (server_at pass.new (G.turns gate.new) (C.ahead clock.new))) }
     ensures rests { OnOk result (IsAtRest (runs_in pass.new)) }
     ensures worn { OnWorn result (IsWorn pass.new) }
     ensures stops { Halts result (G.stops gate.old) (G.stops gate.new) }
@@ -117,11 +117,11 @@ fn answer_call<R: Wait, D: Keeper, G: Gate, C: Clock>(
     requires lock { pass.old.lock ≡ shared.now }
     requires rests { IsAtRest (runs_in pass.old) }
     ensures replied { IfOk result (λ reply. Replies (Some (wish.Cni env.now stdin.now)) reply
-        (record { taker = record { pass = pass.old; turns = G.turns gate.old }; ahead = C.ahead clock.old })
-        (record { taker = record { pass = pass.new; turns = G.turns gate.new }; ahead = C.ahead clock.new })) }
+        (server_at pass.old (G.turns gate.old) (C.ahead clock.old))
+        (server_at pass.new (G.turns gate.new) (C.ahead clock.new))) }
     ensures broken { OnErr result (Breaks (Some (wish.Cni env.now stdin.now))
-        (record { taker = record { pass = pass.old; turns = G.turns gate.old }; ahead = C.ahead clock.old })
-        (record { taker = record { pass = pass.new; turns = G.turns gate.new }; ahead = C.ahead clock.new })) }
+        (server_at pass.old (G.turns gate.old) (C.ahead clock.old))
+        (server_at pass.new (G.turns gate.new) (C.ahead clock.new))) }
     ensures rests { OnOk result (IsAtRest (runs_in pass.new)) }
     ensures worn { OnWorn result (IsWorn pass.new) }
     ensures stops { Halts result (G.stops gate.old) (G.stops gate.new) }
@@ -152,11 +152,11 @@ fn answer_request<R: Wait, D: Keeper, G: Gate, C: Clock>(
     requires rests { IsAtRest (runs_in pass.old) }
     requires sound { IsSoundRequest request.old }
     ensures replied { IfOk result (λ reply. Replies (Some (wish.Request request.old)) reply
-        (record { taker = record { pass = pass.old; turns = G.turns gate.old }; ahead = C.ahead clock.old })
-        (record { taker = record { pass = pass.new; turns = G.turns gate.new }; ahead = C.ahead clock.new })) }
+        (server_at pass.old (G.turns gate.old) (C.ahead clock.old))
+        (server_at pass.new (G.turns gate.new) (C.ahead clock.new))) }
     ensures broken { OnErr result (Breaks (Some (wish.Request request.old))
-        (record { taker = record { pass = pass.old; turns = G.turns gate.old }; ahead = C.ahead clock.old })
-        (record { taker = record { pass = pass.new; turns = G.turns gate.new }; ahead = C.ahead clock.new })) }
+        (server_at pass.old (G.turns gate.old) (C.ahead clock.old))
+        (server_at pass.new (G.turns gate.new) (C.ahead clock.new))) }
     ensures rests { OnOk result (IsAtRest (runs_in pass.new)) }
     ensures worn { OnWorn result (IsWorn pass.new) }
     ensures stops { Halts result (G.stops gate.old) (G.stops gate.new) }
@@ -185,11 +185,11 @@ fn answer_feed<R: Wait, D: Keeper, G: Gate, C: Clock>(
     requires rests { IsAtRest (runs_in pass.old) }
     requires sound { All IsHandleId live.now }
     ensures replied { IfOk result (λ reply. Replies (Some (wish.Feed live.now)) reply
-        (record { taker = record { pass = pass.old; turns = G.turns gate.old }; ahead = C.ahead clock.old })
-        (record { taker = record { pass = pass.new; turns = G.turns gate.new }; ahead = C.ahead clock.new })) }
+        (server_at pass.old (G.turns gate.old) (C.ahead clock.old))
+        (server_at pass.new (G.turns gate.new) (C.ahead clock.new))) }
     ensures broken { OnErr result (Breaks (Some (wish.Feed live.now))
-        (record { taker = record { pass = pass.old; turns = G.turns gate.old }; ahead = C.ahead clock.old })
-        (record { taker = record { pass = pass.new; turns = G.turns gate.new }; ahead = C.ahead clock.new })) }
+        (server_at pass.old (G.turns gate.old) (C.ahead clock.old))
+        (server_at pass.new (G.turns gate.new) (C.ahead clock.new))) }
     ensures rests { OnOk result (IsAtRest (runs_in pass.new)) }
     ensures worn { OnWorn result (IsWorn pass.new) }
     ensures stops { Halts result (G.stops gate.old) (G.stops gate.new) }
@@ -214,11 +214,11 @@ fn feed_waiting<R: Wait, D: Keeper, G: Gate, C: Clock>(
     requires waits { is_waiting (runs_in pass.old) ≡ true }
     requires sound { All IsHandleId live.now }
     ensures replied { IfOk result (λ reply. Replies (Some (wish.Feed live.now)) reply
-        (record { taker = record { pass = pass.old; turns = G.turns gate.old }; ahead = C.ahead clock.old })
-        (record { taker = record { pass = pass.new; turns = G.turns gate.new }; ahead = C.ahead clock.new })) }
+        (server_at pass.old (G.turns gate.old) (C.ahead clock.old))
+        (server_at pass.new (G.turns gate.new) (C.ahead clock.new))) }
     ensures broken { OnErr result (Breaks (Some (wish.Feed live.now))
-        (record { taker = record { pass = pass.old; turns = G.turns gate.old }; ahead = C.ahead clock.old })
-        (record { taker = record { pass = pass.new; turns = G.turns gate.new }; ahead = C.ahead clock.new })) }
+        (server_at pass.old (G.turns gate.old) (C.ahead clock.old))
+        (server_at pass.new (G.turns gate.new) (C.ahead clock.new))) }
     ensures rests { OnOk result (IsAtRest (runs_in pass.new)) }
     ensures worn { OnWorn result (IsWorn pass.new) }
     ensures stops { Halts result (G.stops gate.old) (G.stops gate.new) }
@@ -239,11 +239,11 @@ fn answer_stop<R: Wait, D: Keeper>(
     requires lock { pass.old.lock ≡ shared.now }
     requires rests { IsAtRest (runs_in pass.old) }
     ensures replied { (turns : Option ℕ) (ahead : Option (ℕ → ℕ)) → IfOk result (λ reply. Replies (Some wish.Stop) reply
-        (record { taker = record { pass = pass.old; turns = turns }; ahead = ahead })
-        (record { taker = record { pass = pass.new; turns = turns }; ahead = ahead })) }
+        (server_at pass.old turns ahead)
+        (server_at pass.new turns ahead)) }
     ensures broken { (turns : Option ℕ) (ahead : Option (ℕ → ℕ)) → OnErr result (Breaks (Some wish.Stop)
-        (record { taker = record { pass = pass.old; turns = turns }; ahead = ahead })
-        (record { taker = record { pass = pass.new; turns = turns }; ahead = ahead })) }
+        (server_at pass.old turns ahead)
+        (server_at pass.new turns ahead)) }
     ensures rests { OnOk result (IsAtRest (runs_in pass.new)) }
     ensures worn { OnWorn result (IsWorn pass.new) }
     ensures not_halted { OnHalted result ⊥ }
@@ -263,11 +263,11 @@ fn stop_waiting<R: Wait, D: Keeper>(
     requires lock { pass.old.lock ≡ shared.now }
     requires waits { is_waiting (runs_in pass.old) ≡ true }
     ensures replied { (turns : Option ℕ) (ahead : Option (ℕ → ℕ)) → IfOk result (λ reply. Replies (Some wish.Stop) reply
-        (record { taker = record { pass = pass.old; turns = turns }; ahead = ahead })
-        (record { taker = record { pass = pass.new; turns = turns }; ahead = ahead })) }
+        (server_at pass.old turns ahead)
+        (server_at pass.new turns ahead)) }
     ensures broken { (turns : Option ℕ) (ahead : Option (ℕ → ℕ)) → OnErr result (Breaks (Some wish.Stop)
-        (record { taker = record { pass = pass.old; turns = turns }; ahead = ahead })
-        (record { taker = record { pass = pass.new; turns = turns }; ahead = ahead })) }
+        (server_at pass.old turns ahead)
+        (server_at pass.new turns ahead)) }
     ensures rests { OnOk result (IsAtRest (runs_in pass.new)) }
     ensures worn { OnWorn result (IsWorn pass.new) }
     ensures not_halted { OnHalted result ⊥ }
@@ -287,11 +287,11 @@ fn answer_routes<R: Wait, D: Keeper>(
     requires lock { pass.old.lock ≡ shared.now }
     requires rests { IsAtRest (runs_in pass.old) }
     ensures replied { (turns : Option ℕ) (ahead : Option (ℕ → ℕ)) → IfOk result (λ reply. Replies (Some wish.Routes) reply
-        (record { taker = record { pass = pass.old; turns = turns }; ahead = ahead })
-        (record { taker = record { pass = pass.new; turns = turns }; ahead = ahead })) }
+        (server_at pass.old turns ahead)
+        (server_at pass.new turns ahead)) }
     ensures broken { (turns : Option ℕ) (ahead : Option (ℕ → ℕ)) → OnErr result (Breaks (Some wish.Routes)
-        (record { taker = record { pass = pass.old; turns = turns }; ahead = ahead })
-        (record { taker = record { pass = pass.new; turns = turns }; ahead = ahead })) }
+        (server_at pass.old turns ahead)
+        (server_at pass.new turns ahead)) }
     ensures rests { IsAtRest (runs_in pass.new) }
     ensures worn { OnWorn result (IsWorn pass.new) }
     ensures not_halted { OnHalted result ⊥ }
@@ -312,11 +312,11 @@ fn answer_since<R: Wait, D: Keeper>(
     requires lock { pass.old.lock ≡ shared.now }
     requires rests { IsAtRest (runs_in pass.old) }
     ensures replied { (turns : Option ℕ) (ahead : Option (ℕ → ℕ)) → IfOk result (λ reply. Replies (Some (wish.RoutesSince revision)) reply
-        (record { taker = record { pass = pass.old; turns = turns }; ahead = ahead })
-        (record { taker = record { pass = pass.new; turns = turns }; ahead = ahead })) }
+        (server_at pass.old turns ahead)
+        (server_at pass.new turns ahead)) }
     ensures broken { (turns : Option ℕ) (ahead : Option (ℕ → ℕ)) → OnErr result (Breaks (Some (wish.RoutesSince revision))
-        (record { taker = record { pass = pass.old; turns = turns }; ahead = ahead })
-        (record { taker = record { pass = pass.new; turns = turns }; ahead = ahead })) }
+        (server_at pass.old turns ahead)
+        (server_at pass.new turns ahead)) }
     ensures rests { IsAtRest (runs_in pass.new) }
     ensures worn { OnWorn result (IsWorn pass.new) }
     ensures not_halted { OnHalted result ⊥ }

@@ -2,11 +2,12 @@
 ghost use Rattle.std.specs.Prelude.{◌≡◌, ◌⊎◌, ◌<◌, ℕ, List, Option, None, IsSome, IfOk, IfErr, OnOk, OnErr, false};
 ghost use Rattle.std.specs.Io.KnownBytes.{append_known, prepend_known};
 ghost use Rattle.ipam_io.specs.Streams.{AppendsPrefix};
+ghost use Rattle.ipam_serve.specs.Lines.{server_at};
 ghost use Rattle.ipam_session.specs.Replies.{reply_line};
 ghost use Rattle.ipam_shared.specs.PassValue.{PassValue};
 ghost use Rattle.ipam_shared.specs.Passes.{IsSamePass, runs_in};
 ghost use Rattle.ipam_serve.specs.Runs.{IsAtRest};
-ghost use Rattle.ipam_serve.specs.Sessions.{Ends, Exchange, Exchanges, IsCause, IsStopped, Nothing, ReadsLine, RoseAt, RoseIf, Serves, Session, StopsLast, end_of, is_halted, is_read_fault, is_write_fault};
+ghost use Rattle.ipam_serve.specs.Sessions.{Ends, Exchange, Exchanges, IsCause, IsStopped, Nothing, ReadsLine, RoseAt, RoseIf, Serves, Session, StopsLast, end_of, is_halted, is_read_fault, is_write_fault, talk_at};
 
 use crate::ends::SessionEnd;
 use crate::lines::answer_line;
@@ -36,16 +37,8 @@ pub fn serve_session<R: Wait, L: Link, D: Keeper, G: Gate, C: Clock>(
     requires lock { pass.old.lock ≡ shared.now }
     requires idle { runs_in pass.old ≡ None }
     ensures served { (held : List ℕ) × Session result
-        (record {
-          server = record { taker = record { pass = pass.old; turns = G.turns gate.old }; ahead = C.ahead clock.old };
-          coming = L.left link.old;
-          written = L.written link.old;
-        })
-        (record {
-          server = record { taker = record { pass = pass.new; turns = G.turns gate.new }; ahead = C.ahead clock.new };
-          coming = prepend_known held (L.left link.new);
-          written = L.written link.new;
-        }) }
+        (talk_at (server_at pass.old (G.turns gate.old) (C.ahead clock.old)) (L.left link.old) (L.written link.old))
+        (talk_at (server_at pass.new (G.turns gate.new) (C.ahead clock.new)) (prepend_known held (L.left link.new)) (L.written link.new)) }
     ensures idle { runs_in pass.new ≡ None }
     ensures same { IsSamePass pass.old pass.new }
     ensures reads { RoseIf (is_read_fault result) (L.read_faults link.old) (L.read_faults link.new) }
@@ -70,16 +63,8 @@ fn serve_lines<R: Wait, D: Keeper, G: Gate, C: Clock, L: Link>(
     requires lock { pass.old.lock ≡ shared.now }
     requires rests { IsAtRest (runs_in pass.old) }
     ensures served { (held : List ℕ) × Serves result
-        (record {
-          server = record { taker = record { pass = pass.old; turns = G.turns gate.old }; ahead = C.ahead clock.old };
-          coming = L.left link.old;
-          written = L.written link.old;
-        })
-        (record {
-          server = record { taker = record { pass = pass.new; turns = G.turns gate.new }; ahead = C.ahead clock.new };
-          coming = prepend_known held (L.left link.new);
-          written = L.written link.new;
-        }) }
+        (talk_at (server_at pass.old (G.turns gate.old) (C.ahead clock.old)) (L.left link.old) (L.written link.old))
+        (talk_at (server_at pass.new (G.turns gate.new) (C.ahead clock.new)) (prepend_known held (L.left link.new)) (L.written link.new)) }
     ensures lock { pass.new.lock ≡ pass.old.lock }
     ensures reads { RoseIf (is_read_fault result) (L.read_faults link.old) (L.read_faults link.new) }
     ensures writes { RoseIf (is_write_fault result) (L.write_faults link.old) (L.write_faults link.new) }
@@ -109,27 +94,11 @@ fn exchange<R: Wait, D: Keeper, G: Gate, C: Clock, L: Link>(
     requires lock { pass.old.lock ≡ shared.now }
     requires rests { IsAtRest (runs_in pass.old) }
     ensures exchanged { OnOk result ((x : Exchange) × Exchanges x
-        (record {
-          server = record { taker = record { pass = pass.old; turns = G.turns gate.old }; ahead = C.ahead clock.old };
-          coming = prepend_known lines.old (L.left link.old);
-          written = L.written link.old;
-        })
-        (record {
-          server = record { taker = record { pass = pass.new; turns = G.turns gate.new }; ahead = C.ahead clock.new };
-          coming = prepend_known lines.new (L.left link.new);
-          written = L.written link.new;
-        })) }
+        (talk_at (server_at pass.old (G.turns gate.old) (C.ahead clock.old)) (prepend_known lines.old (L.left link.old)) (L.written link.old))
+        (talk_at (server_at pass.new (G.turns gate.new) (C.ahead clock.new)) (prepend_known lines.new (L.left link.new)) (L.written link.new))) }
     ensures ended { IfErr result (λ how. Ends how
-        (record {
-          server = record { taker = record { pass = pass.old; turns = G.turns gate.old }; ahead = C.ahead clock.old };
-          coming = prepend_known lines.old (L.left link.old);
-          written = L.written link.old;
-        })
-        (record {
-          server = record { taker = record { pass = pass.new; turns = G.turns gate.new }; ahead = C.ahead clock.new };
-          coming = prepend_known lines.new (L.left link.new);
-          written = L.written link.new;
-        })) }
+        (talk_at (server_at pass.old (G.turns gate.old) (C.ahead clock.old)) (prepend_known lines.old (L.left link.old)) (L.written link.old))
+        (talk_at (server_at pass.new (G.turns gate.new) (C.ahead clock.new)) (prepend_known lines.new (L.left link.new)) (L.written link.new))) }
     ensures rests { OnOk result (IsAtRest (runs_in pass.new)) }
     ensures lock { pass.new.lock ≡ pass.old.lock }
     ensures reads { RoseAt is_read_fault result (L.read_faults link.old) (L.read_faults link.new) }

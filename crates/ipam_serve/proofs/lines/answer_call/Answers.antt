@@ -1,15 +1,16 @@
 use Rattle.ipam_shared.specs.Passes.{runs_in}
 use Rattle.ipam_serve.proofs.LineParts.{breaks-at-once, call-some-broken, call-some-replies, call-timeless, call-told, call-waiting, none-waits, rests-none, rests-waits}
 use Rattle.ipam_serve.proofs.lines.answer_call.Goals as goal
+use Rattle.ipam_serve.specs.Lines.{server_at}
 
 pub returns-then-running-clause-replied : goal.returns-then-running-clause-replied
 returns-then-running-clause-replied g c =
-    call-waiting (record { taker = record { pass = c.args.pass.now; turns = g.G.Gate.turns c.args.gate.now }; ahead = g.C.Clock.ahead c.args.clock.now }) c.args.env.now c.args.stdin.now
+    call-waiting (server_at c.args.pass.now (g.G.Gate.turns c.args.gate.now) (g.C.Clock.ahead c.args.clock.now)) c.args.env.now c.args.stdin.now
     (rests-waits (runs_in c.args.pass.now) c.running.result c.requires.rests c.running.ensures c.if-running.true)
 
 pub returns-in-Ok-Told-clause-replied : goal.returns-in-Ok-Told-clause-replied
 returns-in-Ok-Told-clause-replied g c =
-    call-told (record { taker = record { pass = c.args.pass.now; turns = g.G.Gate.turns c.args.gate.now }; ahead = g.C.Clock.ahead c.args.clock.now }) c.args.env.now c.args.stdin.now
+    call-told (server_at c.args.pass.now (g.G.Gate.turns c.args.gate.now) (g.C.Clock.ahead c.args.clock.now)) c.args.env.now c.args.stdin.now
     (none-waits _ (rests-none (runs_in c.args.pass.now) c.running.result c.running.ensures c.if-running.false))
     c.in-Ok-Told.status c.in-Ok-Told.text (rw c.in-Ok-Told.field-0-is at c.in-Ok-Told.ensures.begun)
 
@@ -28,17 +29,17 @@ tell_run-requires-clause-timeless g c =
 
 pub returns-in-Ok-Runs-clause-replied : goal.returns-in-Ok-Runs-clause-replied
 returns-in-Ok-Runs-clause-replied g c =
-    call-some-replies (record { taker = record { pass = c.args.pass.now; turns = g.G.Gate.turns c.args.gate.now }; ahead = g.C.Clock.ahead c.args.clock.now }) c.args.env.now c.args.stdin.now
+    call-some-replies (server_at c.args.pass.now (g.G.Gate.turns c.args.gate.now) (g.C.Clock.ahead c.args.clock.now)) c.args.env.now c.args.stdin.now
     (none-waits _ (rests-none (runs_in c.args.pass.now) c.running.result c.running.ensures c.if-running.false))
     (record { pass = c.tell_run.new.pass; turns = g.G.Gate.turns c.tell_run.new.gate })
     c.in-Ok-Runs.request c.in-Ok-Runs.version c.tell_run.result (rw c.in-Ok-Runs.field-0-is at c.in-Ok-Runs.ensures.begun) c.tell_run.ensures.told
 
 pub returns-in-Ok-Runs-clause-broken : goal.returns-in-Ok-Runs-clause-broken
 returns-in-Ok-Runs-clause-broken g c =
-    call-some-broken (record { taker = record { pass = c.args.pass.now; turns = g.G.Gate.turns c.args.gate.now }; ahead = g.C.Clock.ahead c.args.clock.now }) c.args.env.now c.args.stdin.now
+    call-some-broken (server_at c.args.pass.now (g.G.Gate.turns c.args.gate.now) (g.C.Clock.ahead c.args.clock.now)) c.args.env.now c.args.stdin.now
     (none-waits _ (rests-none (runs_in c.args.pass.now) c.running.result c.running.ensures c.if-running.false))
     (record { pass = c.tell_run.new.pass; turns = g.G.Gate.turns c.tell_run.new.gate })
     c.in-Ok-Runs.request c.in-Ok-Runs.version c.tell_run.result (rw c.in-Ok-Runs.field-0-is at c.in-Ok-Runs.ensures.begun) c.tell_run.ensures.broken
 
 pub returns-in-Err-clause-broken : goal.returns-in-Err-clause-broken
-returns-in-Err-clause-broken g c = breaks-at-once (record { taker = record { pass = c.args.pass.now; turns = g.G.Gate.turns c.args.gate.now }; ahead = g.C.Clock.ahead c.args.clock.now }) _
+returns-in-Err-clause-broken g c = breaks-at-once (server_at c.args.pass.now (g.G.Gate.turns c.args.gate.now) (g.C.Clock.ahead c.args.clock.now)) _

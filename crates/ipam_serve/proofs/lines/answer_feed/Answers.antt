@@ -1,11 +1,12 @@
 use Rattle.ipam_shared.specs.Passes.{runs_in}
 use Rattle.ipam_serve.proofs.LineParts.{feed-idle, none-waits, rests-none, rests-waits}
 use Rattle.ipam_serve.proofs.lines.answer_feed.Goals as goal
+use Rattle.ipam_serve.specs.Lines.{server_at}
 
 pub feed_waiting-requires-clause-waits : goal.feed_waiting-requires-clause-waits
 feed_waiting-requires-clause-waits g c = rests-waits (runs_in c.args.pass.now) c.running.result c.requires.rests c.running.ensures c.if-running.true
 
 pub returns-clause-replied : goal.returns-clause-replied
 returns-clause-replied g c =
-    feed-idle (record { taker = record { pass = c.args.pass.now; turns = g.G.Gate.turns c.args.gate.now }; ahead = g.C.Clock.ahead c.args.clock.now }) c.args.live.now
+    feed-idle (server_at c.args.pass.now (g.G.Gate.turns c.args.gate.now) (g.C.Clock.ahead c.args.clock.now)) c.args.live.now
     (none-waits _ (rests-none (runs_in c.args.pass.now) c.running.result c.running.ensures c.if-running.false))

@@ -1,13 +1,14 @@
 use Rattle.ipam_serve.proofs.Routing.{routes-breaks, routes-replies, same-rests}
 use Rattle.ipam_serve.proofs.lines.answer_routes.Goals as goal
+use Rattle.ipam_serve.specs.Lines.{server_at}
 
 pub returns-in-Ok-clause-replied : goal.returns-in-Ok-clause-replied
 returns-in-Ok-clause-replied g c turns ahead =
-    rw c.of.ensures (routes-replies (record { taker = record { pass = c.args.pass.now; turns = turns }; ahead = ahead }) c.routes.new.pass c.in-Ok.ensures.took c.in-Ok.revision c.in-Ok.routes.items c.in-Ok.ensures.told)
+    rw c.of.ensures (routes-replies (server_at c.args.pass.now turns ahead) c.routes.new.pass c.in-Ok.ensures.took c.in-Ok.revision c.in-Ok.routes.items c.in-Ok.ensures.told)
 
 pub returns-in-Err-clause-broken : goal.returns-in-Err-clause-broken
 returns-in-Err-clause-broken g c turns ahead =
-    routes-breaks (record { taker = record { pass = c.args.pass.now; turns = turns }; ahead = ahead }) c.routes.new.pass c.in-Err.ensures.took
+    routes-breaks (server_at c.args.pass.now turns ahead) c.routes.new.pass c.in-Err.ensures.took
 
 pub returns-in-Ok-clause-rests : goal.returns-in-Ok-clause-rests
 returns-in-Ok-clause-rests g c = same-rests c.args.pass.now c.routes.new.pass c.in-Ok.ensures.runs c.requires.rests

@@ -1,11 +1,12 @@
 use Rattle.ipam_serve.proofs.LineParts.{feed-breaks, feed-replies, feed-rests}
 use Rattle.ipam_serve.proofs.lines.feed_waiting.Goals as goal
+use Rattle.ipam_serve.specs.Lines.{server_at}
 
 pub returns-in-Ok-clause-replied : goal.returns-in-Ok-clause-replied
 returns-in-Ok-clause-replied g c =
     rw c.reply_fed.ensures
-    (feed-replies (record { taker = record { pass = c.args.pass.now; turns = g.G.Gate.turns c.args.gate.now }; ahead = g.C.Clock.ahead c.args.clock.now })
-    (record { taker = record { pass = c.run_feed.new.pass; turns = g.G.Gate.turns c.run_feed.new.gate }; ahead = g.C.Clock.ahead c.now-at.new.self })
+    (feed-replies (server_at c.args.pass.now (g.G.Gate.turns c.args.gate.now) (g.C.Clock.ahead c.args.clock.now))
+    (server_at c.run_feed.new.pass (g.G.Gate.turns c.run_feed.new.gate) (g.C.Clock.ahead c.now-at.new.self))
     c.args.live.now c.now-at.result c.requires.waits c.now-at.ensures c.in-Ok.told c.in-Ok.ensures.fed)
 
 pub returns-in-Ok-clause-rests : goal.returns-in-Ok-clause-rests
@@ -15,6 +16,6 @@ returns-in-Ok-clause-rests g c =
 
 pub returns-in-Err-clause-broken : goal.returns-in-Err-clause-broken
 returns-in-Err-clause-broken g c =
-    feed-breaks (record { taker = record { pass = c.args.pass.now; turns = g.G.Gate.turns c.args.gate.now }; ahead = g.C.Clock.ahead c.args.clock.now })
-    (record { taker = record { pass = c.run_feed.new.pass; turns = g.G.Gate.turns c.run_feed.new.gate }; ahead = g.C.Clock.ahead c.now-at.new.self })
+    feed-breaks (server_at c.args.pass.now (g.G.Gate.turns c.args.gate.now) (g.C.Clock.ahead c.args.clock.now))
+    (server_at c.run_feed.new.pass (g.G.Gate.turns c.run_feed.new.gate) (g.C.Clock.ahead c.now-at.new.self))
     c.args.live.now c.now-at.result c.requires.waits c.now-at.ensures c.in-Err.ensures.broken

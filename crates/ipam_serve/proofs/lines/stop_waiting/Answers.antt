@@ -3,15 +3,16 @@ use Rattle.ipam_shared.specs.Passes.{runs_in}
 use Rattle.ipam_serve.proofs.LineParts.{stop-breaks, stop-replies, stopped-idle}
 use Rattle.ipam_serve.proofs.Running.{waiting-some}
 use Rattle.ipam_serve.proofs.lines.stop_waiting.Goals as goal
+use Rattle.ipam_serve.specs.Lines.{server_at}
 
 pub stop-requires-clause-runs : goal.stop-requires-clause-runs
 stop-requires-clause-runs g c = waiting-some (runs_in c.args.pass.now) c.requires.waits
 
 pub returns-in-Ok-clause-replied : goal.returns-in-Ok-clause-replied
-returns-in-Ok-clause-replied g c turns ahead = stop-replies (record { taker = record { pass = c.args.pass.now; turns = turns }; ahead = ahead }) c.stop.new.pass c.requires.waits c.in-Ok.ensures.stopped
+returns-in-Ok-clause-replied g c turns ahead = stop-replies (server_at c.args.pass.now turns ahead) c.stop.new.pass c.requires.waits c.in-Ok.ensures.stopped
 
 pub returns-in-Ok-clause-rests : goal.returns-in-Ok-clause-rests
 returns-in-Ok-clause-rests g c = inl (stopped-idle c.args.pass.now c.stop.new.pass c.in-Ok.ensures.stopped)
 
 pub returns-in-Err-clause-broken : goal.returns-in-Err-clause-broken
-returns-in-Err-clause-broken g c turns ahead = stop-breaks (record { taker = record { pass = c.args.pass.now; turns = turns }; ahead = ahead }) c.stop.new.pass c.in-Err.ensures.not_stopped
+returns-in-Err-clause-broken g c turns ahead = stop-breaks (server_at c.args.pass.now turns ahead) c.stop.new.pass c.in-Err.ensures.not_stopped

@@ -1,7 +1,8 @@
 use Rattle.std.proofs.Common.{◌∷◌, ◌∙◌}
 use Rattle.std.specs.Io.KnownBytes.{prepend_known}
-use Rattle.ipam_serve.specs.Sessions.{Talk}
+use Rattle.ipam_serve.specs.Sessions.{Talk, talk_at}
 use Rattle.ipam_serve.proofs.session.serve_lines.Goals as goal
+use Rattle.ipam_serve.specs.Lines.{server_at}
 
 pub exchange-requires-clause-lock : goal.exchange-requires-clause-lock
 exchange-requires-clause-lock g c = c.loop.invariant.lock ∙ c.requires.lock
@@ -11,7 +12,7 @@ exchange-requires-clause-rests g c = c.loop.invariant.rests
 
 pub loop-preserved : goal.loop-preserved
 loop-preserved g c =
-    let between : Talk = record { server = record { taker = record { pass = c.loop.pass; turns = g.G.Gate.turns c.loop.gate }; ahead = g.C.Clock.ahead c.loop.clock }; coming = prepend_known c.loop.lines (g.L.Source.left c.loop.link); written = g.L.Sink.written c.loop.link } in
+    let between : Talk = talk_at (server_at c.loop.pass (g.G.Gate.turns c.loop.gate) (g.C.Clock.ahead c.loop.clock)) (prepend_known c.loop.lines (g.L.Source.left c.loop.link)) (g.L.Sink.written c.loop.link) in
     let made = c.loop.invariant.talks in
     let next = c.in-Ok.ensures.exchanged in
     record {

@@ -3,8 +3,9 @@ use Rattle.std.proofs.Common.{◌≡◌, List}
 use Rattle.std.specs.Io.KnownBytes.{prepend_known}
 use Rattle.ipam_shared.specs.Passes.{runs_in}
 use Rattle.ipam_serve.specs.Runs.{IsAtRest}
-use Rattle.ipam_serve.specs.Sessions.{Exchange, Talks}
+use Rattle.ipam_serve.specs.Sessions.{Exchange, Talks, talk_at}
 use Rattle.ipam_serve.proofs.session.serve_lines.Given as goal
+use Rattle.ipam_serve.specs.Lines.{server_at}
 
 abbrev pub invariant-loop : goal.invariant-loop
 invariant-loop g l = record {
@@ -13,16 +14,8 @@ invariant-loop g l = record {
   lock : l.pass.lock ≡ l.fn.pass.lock;
   rests : IsAtRest (runs_in l.pass);
   talks : (exchanges : List Exchange) × Talks exchanges
-      (record {
-        server = record { taker = record { pass = l.fn.pass; turns = g.G.Gate.turns l.fn.gate }; ahead = g.C.Clock.ahead l.fn.clock };
-        coming = g.L.Source.left l.fn.link;
-        written = g.L.Sink.written l.fn.link;
-      })
-      (record {
-        server = record { taker = record { pass = l.pass; turns = g.G.Gate.turns l.gate }; ahead = g.C.Clock.ahead l.clock };
-        coming = prepend_known l.lines (g.L.Source.left l.link);
-        written = g.L.Sink.written l.link;
-      });
+      (talk_at (server_at l.fn.pass (g.G.Gate.turns l.fn.gate) (g.C.Clock.ahead l.fn.clock)) (g.L.Source.left l.fn.link) (g.L.Sink.written l.fn.link))
+      (talk_at (server_at l.pass (g.G.Gate.turns l.gate) (g.C.Clock.ahead l.clock)) (prepend_known l.lines (g.L.Source.left l.link)) (g.L.Sink.written l.link));
   reads : g.L.Source.read_faults l.link ≡ g.L.Source.read_faults l.fn.link;
   writes : g.L.Sink.write_faults l.link ≡ g.L.Sink.write_faults l.fn.link;
   stops : g.G.Gate.stops l.gate ≡ g.G.Gate.stops l.fn.gate;
