@@ -1,7 +1,6 @@
-mod Slots
+pub mod Slots
 mod Passing
 mod Answering
 mod Turning
 mod Calling
 mod Routing
-pub mod Slots
