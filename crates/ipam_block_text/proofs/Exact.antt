@@ -1,5 +1,5 @@
 -- Each sound block is read from its text.
-use Rattle.std.proofs.Common.{◌≡◌, ◌≢◌, ◌∙◌, ℕ, suc, ◌+◌, ◌^◌, ◌<◌, ◌≤◌, Bool, true, false, ◌&&◌, List, [], ◌∷◌, ◌++◌, length, get_or, map, Option, Some, None, option_map, Result, Ok, Err, Ordering, Less, Equal, Greater, nat_cmp, cond, refl, sym, ap, subst, arith, decimal, eq-eqb, length-append}
+use Rattle.std.proofs.Common.{◌≡◌, ◌≢◌, ◌∙◌, ℕ, suc, ◌+◌, ◌^◌, ◌<◌, ◌≤◌, Bool, true, false, ◌&&◌, List, [], ◌∷◌, ◌++◌, length, get_or, map, Option, Some, None, option_map, Result, Ok, Err, IfOk, Ordering, Less, Equal, Greater, nat_cmp, cond, refl, sym, ap, subst, arith, decimal, eq-eqb, length-append}
 use Rattle.std.specs.Prelude.{option_and_then, unwrap_or, All, fold, position, nat_lt, codes, is_some, bytes_eq}
 use Rattle.std.specs.List.{list_all, list_any, position_or_len}
 use Rattle.std.specs.Ordering.{match_ordering}
@@ -38,7 +38,7 @@ use Rattle.ipam_block.proofs.Tested.{true-is_block}
 use Rattle.ipam_block.specs.declared.limits.TheConstants.{ADDRESSES_MAX}
 use Rattle.ipam_block_text.specs.declared.parts.Parts.{Parts}
 use Rattle.ipam_block_text.specs.declared.fault.BodyFault.{BodyFault}
-use Rattle.ipam_block_text.specs.declared.fault.BodyFault.TheVariants.{Form, Unsound}
+use Rattle.ipam_block_text.specs.declared.fault.BodyFault.TheVariants.{Form, Unsound, Memory}
 use Rattle.ipam_block_text.specs.Attributes.{are_same, with_those_of, distinct_attributes}
 use Rattle.ipam_block_text.specs.Limits.{is_node, are_attributes}
 use Rattle.ipam_block_text.specs.Form.{AreParts, AreStamps}
@@ -48,7 +48,7 @@ use Rattle.ipam_block_text.specs.Reading.{each, only_if, after_host, affinity_in
 use Rattle.ipam_block_text.proofs.Limited.{IsLimited, limited, node_there, node_back, attributes_there, attributes_back}
 use Rattle.ipam_block_text.proofs.Options.{and_then_some}
 use Rattle.ipam_block_text.proofs.Said.{parts_said}
-use Rattle.ipam_block_text.proofs.Sound.{block_sound}
+use Rattle.ipam_block_text.proofs.Sound.{block_sound, block_reading-ok}
 use Rattle.ipam_block_text.proofs.Canonical.{each-same, attributes_read, place_read, stamps_canonical, attributes_canonical, map_canonical, affinity_canonical, place_canonical}
 use Rattle.ipam_block_text.proofs.ReadBack.{all_known, few_in_use, held_back}
 
@@ -405,13 +405,56 @@ unfolding block_reading
 form_found body d p stamps says other =
     ap (reading_from body) (is_form body d p stamps says ∙ ap (λ b. cond b (Some (p, stamps)) None) other)
 
--- what a text that is refused for its form is not
-pub formless_fault : (body : List ℕ) → block_reading body ≡ Err Form → (p : Parts) (stamps : Data) → AreParts p → AreStamps stamps → body ≢ compact_text (parts_data p stamps)
+-- ---- what the faults mean
+
+-- a text that is refused for its form says no CIDR
+pub formless_said : (body : List ℕ) → block_reading body ≡ Err Form → cidr_said body ≡ None
 unfolding block_reading
-formless_fault body e p stamps parts named same =
-    let form = ap block_form same ∙ form_back p stamps parts named in
-    let unsound = checked_form body p.cidr (block_in p stamps) (sym (ap (reading_from body) form) ∙ e) in
-    unsound
+formless_said body e = go (block_form body) e
   where
-    checked_form : (body : List ℕ) (cidr : CidrValue) (o : Option BlockValue) → checked body cidr o ≡ Err Form → ⊥
-    checked_form body cidr o k = let is = checked_fault body cidr o Form k in absurd cc
+    go : (o : Option (Parts × Data)) → reading_from body o ≡ Err Form → option_map (λ f. f.0.cidr) o ≡ None
+    go None k = refl
+    go (Some f) k = let is = checked_fault body f.0.cidr (block_in f.0 f.1) Form k in absurd cc
+
+-- parts and stamps within the limits say the CIDR
+pub parts_say : (p : Parts) (stamps : Data) → AreParts p → AreStamps stamps → cidr_said (compact_text (parts_data p stamps)) ≡ Some p.cidr
+parts_say p stamps parts named = ap (option_map (λ (f : Parts × Data). f.0.cidr)) (form_back p stamps parts named)
+
+-- what is refused is no sound block's text
+pub unread_text : (body : List ℕ) (e : BodyFault) → block_reading body ≡ Err e → (b : BlockValue) → IsBlockRecord b → body ≢ block_body b
+unread_text body e refused b sound same =
+    let k : ◌≡◌ {A = Result BlockValue BodyFault} (Err e) (Ok b) = sym refused ∙ ap block_reading same ∙ sound_block_read b sound in
+    cc
+
+no_memory_read : (body : List ℕ) → block_reading body ≢ Err Memory
+unfolding block_reading
+no_memory_read body e = go (block_form body) e
+  where
+    go : (o : Option (Parts × Data)) → reading_from body o ≢ Err Memory
+    go None k = absurd cc
+    go (Some f) k = let is = checked_fault body f.0.cidr (block_in f.0 f.1) Memory k in absurd cc
+
+formless_read : (body : List ℕ) → cidr_said body ≡ None → block_reading body ≡ Err Form
+unfolding block_reading
+formless_read body e = go (block_form body) e
+  where
+    go : (o : Option (Parts × Data)) → option_map (λ f. f.0.cidr) o ≡ None → reading_from body o ≡ Err Form
+    go None k = refl
+    go (Some f) k = absurd cc
+
+unsound_read : (body : List ℕ) (cidr : CidrValue) → cidr_said body ≡ Some cidr → ((b : BlockValue) → IsBlockRecord b → body ≢ block_body b) → (r : Result BlockValue BodyFault) → block_reading body ≡ r → r ≡ Err (Unsound cidr)
+unsound_read body cidr said none (Ok b) e = let found = block_reading-ok body b e in absurd (none b found.1 found.0)
+unsound_read body cidr said none (Err Form) e = let unsaid = formless_said body e in absurd cc
+unsound_read body cidr said none (Err (Unsound other)) e =
+    let so = unsound_said body other e in
+    let same : other ≡ cidr = cc in
+    ap (λ c. Err (Unsound c)) same
+unsound_read body cidr said none (Err Memory) e = absurd (no_memory_read body e)
+
+-- what `block_of` tells of a text is what is read of it
+pub block_reading-told : (body : List ℕ) (r : Result BlockValue BodyFault) → IfOk r (λ b. IsBlockRecord b × (body ≡ block_body b)) → (r ≡ Err Form → cidr_said body ≡ None) → ((cidr : CidrValue) → r ≡ Err (Unsound cidr) → (cidr_said body ≡ Some cidr) × ((b : BlockValue) → IsBlockRecord b → body ≢ block_body b)) → r ≢ Err Memory → block_reading body ≡ r
+block_reading-told body (Ok b) told form unsound no_memory = ap block_reading told.1 ∙ sound_block_read b told.0
+block_reading-told body (Err Form) told form unsound no_memory = formless_read body (form refl)
+block_reading-told body (Err (Unsound cidr)) told form unsound no_memory =
+    let is = unsound cidr refl in unsound_read body cidr is.0 is.1 (block_reading body) refl
+block_reading-told body (Err Memory) told form unsound no_memory = absurd (no_memory refl)

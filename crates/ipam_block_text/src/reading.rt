@@ -1,13 +1,12 @@
-ghost use Rattle.std.specs.Prelude.{◌≡◌, ◌≢◌, ◌≤◌, Ok, Err, Some, IfOk, IfErr, option_map, option_and_then, bytes_eq, false};
-ghost use Rattle.serde_json.specs.Data.{Data};
+ghost use Rattle.std.specs.Prelude.{◌≡◌, ◌≢◌, ◌≤◌, Err, Some, None, IfOk, option_map, option_and_then, bytes_eq, false};
 ghost use Rattle.ipam_addr.specs.Shape.{CidrValue};
 ghost use Rattle.serde_json.specs.Read.{read};
 ghost use Rattle.serde_json.specs.View.{view};
 ghost use Rattle.serde_json.specs.Written.{compact_text, has_float};
 ghost use Rattle.ipam_addr.specs.Width.{cidr_size};
 ghost use Rattle.ipam_block_text.specs.Body.{parts_data, block_body};
+ghost use Rattle.ipam_block.specs.Shape.{BlockValue};
 ghost use Rattle.ipam_block.specs.Sound.{IsBlockRecord};
-ghost use Rattle.ipam_block_text.specs.Form.{AreParts, AreStamps};
 ghost use Rattle.ipam_block_text.specs.Reading.{block_in, has_text, block_reading, cidr_said};
 
 use crate::fault::BodyFault;
@@ -24,16 +23,11 @@ use std::alloc::{AllocError, Global};
 /// Fails with `Form` where it is not canonical JSON with the members of a block and within their
 /// limits, and else with `Unsound` and the CIDR that it says where it is not the text of a block.
 pub fn block_of(alloc: Global, body: &str) -> Result<Block, BodyFault>
-    ensures text { IfOk result (λ b. body.now ≡ block_body b) }
-    ensures sound { IfOk result IsBlockRecord }
-
-    // Which fault comes.
-    ensures read { IfOk result (λ b. block_reading body.now ≡ Ok b) }
-    ensures refused { IfErr result (λ e. e ≢ BodyFault.Memory → block_reading body.now ≡ Err e) }
-    ensures form { result ≡ Err BodyFault.Form → (p : Parts) (stamps : Data) → AreParts p
-        → AreStamps stamps → body.now ≢ compact_text (parts_data p stamps) }
+    ensures read { IfOk result (λ b. IsBlockRecord b × (body.now ≡ block_body b)) }
+    ensures form { result ≡ Err BodyFault.Form → cidr_said body.now ≡ None }
     ensures unsound { (cidr : CidrValue) → result ≡ Err (BodyFault.Unsound cidr)
-        → cidr_said body.now ≡ Some cidr }
+        → (cidr_said body.now ≡ Some cidr)
+        × ((b : BlockValue) → IsBlockRecord b → body.now ≢ block_body b) }
 {
     match outcome(alloc, body) {
         Ok(outcome) => outcome,

@@ -1,15 +1,16 @@
 -- A configuration's body is read back.
-use Rattle.std.proofs.Common.{◌≡◌, ℕ, List, codes, Bool, Option, Some, None, option_map, Ok, refl, sym, ap, arith, lt-ltb}
+use Rattle.std.proofs.Common.{◌≡◌, ℕ, List, codes, Bool, Option, Some, None, option_map, Ok, Result, Err, IfOk, ◌≢◌, refl, sym, ap, arith, lt-ltb}
 use Rattle.std.specs.Option.{ok_or}
 use Rattle.serde_json.specs.Data.{Data}
 use Rattle.serde_json.specs.Read.{read}
 use Rattle.ipam_json.specs.Canonical.{IsCanonical}
 use Rattle.ipam_json.proofs.ReadsBack.{read-compact_text}
 use Rattle.ipam_record_text.specs.declared.config.Config.{Config}
-use Rattle.ipam_record_text.specs.declared.fault.BodyFault.TheVariants.{Form}
-use Rattle.ipam_record_text.specs.Reading.{◌>>=◌, truth_at, number_at}
+use Rattle.ipam_record_text.specs.declared.fault.BodyFault.{BodyFault}
+use Rattle.ipam_record_text.specs.declared.fault.BodyFault.TheVariants.{Form, Table, Memory}
+use Rattle.ipam_record_text.specs.Reading.{◌>>=◌, truth_at, number_at, held}
 use Rattle.ipam_record_text.specs.Config.{config_data, config_body, config_in, config_reading, IsConfigRecord}
-use Rattle.ipam_record_text.proofs.Held.{held-was, held-text, reading-held}
+use Rattle.ipam_record_text.proofs.Held.{held-was, held-text, reading-held, unheld-text, reading-told}
 use Rattle.ipam_record_text.proofs.Parts.{number_at-is}
 
 -- the bound of a configuration that was found
@@ -25,11 +26,14 @@ config_in-sound d c e =
     let most = bound (truth_at (codes "autoAllocateBlocks") d) (number_at (codes "maxBlocksPerHost") d) (truth_at (codes "strictAffinity") d) c e in
     number_at-is (codes "maxBlocksPerHost") d c.max_blocks most
 
+pub config_held : (body : List ℕ) (c : Config) → held config_in config_body body ≡ Some c → IsConfigRecord c × (body ≡ config_body c)
+config_held body c e =
+    let was = held-was config_in config_body body c e in
+    (config_in-sound was.json c was.was_found, sym was.is_text)
+
 pub config_read : (body : List ℕ) (c : Config) → config_reading body ≡ Ok c → (body ≡ config_body c) × IsConfigRecord c
 unfolding config_reading
-config_read body c e =
-    let was = held-was config_in config_body body c (reading-held _ c e) in
-    (sym was.is_text, config_in-sound was.json c was.was_found)
+config_read body c e = let is = config_held body c (reading-held _ c e) in (is.1, is.0)
 
 config_data-IsCanonical : (c : Config) → IsConfigRecord c → IsCanonical (config_data c)
 unfolding config_data
@@ -46,7 +50,19 @@ read-config_body : (c : Config) → IsConfigRecord c → read (config_body c) �
 unfolding config_body
 read-config_body c h = read-compact_text (config_data c) (config_data-IsCanonical c h)
 
+config_body_held : (c : Config) → IsConfigRecord c → held config_in config_body (config_body c) ≡ Some c
+config_body_held c h =
+    held-text config_in config_body c (config_data c) (read-config_body c h) (config_in-config_data c h)
+
 pub config_reads_back : (c : Config) → IsConfigRecord c → config_reading (config_body c) ≡ Ok c
 unfolding config_reading
-config_reads_back c h =
-    ap (λ o. ok_or o Form) (held-text config_in config_body c (config_data c) (read-config_body c h) (config_in-config_data c h))
+config_reads_back c h = ap (λ o. ok_or o Form) (config_body_held c h)
+
+-- a body in which none is held is no sound one's
+pub config_unheld : (body : List ℕ) → held config_in config_body body ≡ None → (c : Config) → IsConfigRecord c → body ≢ config_body c
+config_unheld body none c sound = unheld-text config_in config_body body none c (config_body_held c sound)
+
+-- what `config_of` tells of a body is what is read of it
+pub config_reading-told : (body : List ℕ) (r : Result Config BodyFault) → IfOk r (λ c. IsConfigRecord c × (body ≡ config_body c)) → (r ≡ Err Form → (c : Config) → IsConfigRecord c → body ≢ config_body c) → r ≢ Err Table → r ≢ Err Memory → config_reading body ≡ r
+unfolding config_reading
+config_reading-told body r = reading-told config_in config_body IsConfigRecord config_held config_body_held body r

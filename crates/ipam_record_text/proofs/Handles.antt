@@ -1,5 +1,5 @@
 -- A handle's body is read back.
-use Rattle.std.proofs.Common.{◌≡◌, ◌≢◌, ℕ, ◌^◌, ◌<◌, List, [], ◌∷◌, ◌++◌, codes, length, Bool, true, false, cond, Option, Some, None, unwrap_or, Ok, nat_cmp, refl, sym, subst, ap, ◌∙◌, arith, ne_eqb, append-nil, lt-ltb, ltb-true, eqb-true, eq-eqb, append_assoc, nat_lt}
+use Rattle.std.proofs.Common.{◌≡◌, ◌≢◌, ℕ, ◌^◌, ◌<◌, List, [], ◌∷◌, ◌++◌, codes, length, Bool, true, false, cond, Option, Some, None, unwrap_or, Ok, Result, Err, IfOk, nat_cmp, refl, sym, subst, ap, ◌∙◌, arith, ne_eqb, append-nil, lt-ltb, ltb-true, eqb-true, eq-eqb, append_assoc, nat_lt}
 use Rattle.std.proofs.lemmas.Bool.{or_parts}
 use Rattle.std.proofs.lemmas.Option.{cond_some}
 use Rattle.std.proofs.lemmas.Map.Lookups.{exact_bytes}
@@ -34,11 +34,12 @@ use Rattle.ipam_handle.proofs.Order.{derived-is, cidr_cmp_total, cidr_cmp_exact}
 use Rattle.ipam_json.specs.Canonical.{IsCanonical, IsCanonicalWithin}
 use Rattle.ipam_json.proofs.Constructors.{IsCanonicalWithin-put, IsCanonicalWithin-number}
 use Rattle.ipam_json.proofs.ReadsBack.{read-compact_text}
-use Rattle.ipam_record_text.specs.declared.fault.BodyFault.TheVariants.{Form}
-use Rattle.ipam_record_text.specs.Reading.{◌>>=◌, only_if, in_32_bits, members_at}
+use Rattle.ipam_record_text.specs.declared.fault.BodyFault.{BodyFault}
+use Rattle.ipam_record_text.specs.declared.fault.BodyFault.TheVariants.{Form, Table, Memory}
+use Rattle.ipam_record_text.specs.Reading.{◌>>=◌, only_if, in_32_bits, members_at, held}
 use Rattle.ipam_record_text.specs.Blocks.{block_of, id_at}
 use Rattle.ipam_record_text.specs.Handle.{with_counts, handle_data, handle_body, count_of_json, counted, with_new, AddsCount, counts_after, handle_of_counts, handle_in, handle_reading}
-use Rattle.ipam_record_text.proofs.Held.{held-was, held-text, reading-held}
+use Rattle.ipam_record_text.proofs.Held.{held-was, held-text, reading-held, unheld-text, reading-told}
 use Rattle.ipam_record_text.proofs.Insertions.{insert_entry-either, below_entry, insert_entry-last, lookup-last}
 use Rattle.ipam_record_text.proofs.Parts.{in_32_bits-is, block_of-is, block_of-text, id_at-is, id_of-id}
 
@@ -247,11 +248,14 @@ handle_in-sound d h e = go (members_at (codes "block") d) (id_at (codes "handleI
     go (Some ms) None is e' = cc
     go None id is e' = cc
 
+pub handle_held : (body : List ℕ) (h : HandleValue) → held handle_in handle_body body ≡ Some h → IsHandleRecord h × (body ≡ handle_body h)
+handle_held body h e =
+    let was = held-was handle_in handle_body body h e in
+    (handle_in-sound was.json h was.was_found, sym was.is_text)
+
 pub handle_read : (body : List ℕ) (h : HandleValue) → handle_reading body ≡ Ok h → (body ≡ handle_body h) × IsHandleRecord h
 unfolding handle_reading
-handle_read body h e =
-    let was = held-was handle_in handle_body body h (reading-held _ h e) in
-    (sym was.is_text, handle_in-sound was.json h was.was_found)
+handle_read body h e = let is = handle_held body h (reading-held _ h e) in (is.1, is.0)
 
 -- ---- a sound handle is found in its JSON
 
@@ -296,10 +300,22 @@ read-handle_body : (h : HandleValue) → All IsCount h.counts → read (handle_b
 unfolding handle_body
 read-handle_body h each = read-compact_text (handle_data h) (handle_data-IsCanonical h each)
 
+handle_body_held : (h : HandleValue) → IsHandleRecord h → held handle_in handle_body (handle_body h) ≡ Some h
+handle_body_held h sound =
+    held-text handle_in handle_body h (handle_data h) (read-handle_body h sound.counts.each) (handle_in-handle_data h sound)
+
 pub handle_reads_back : (h : HandleValue) → IsHandleRecord h → handle_reading (handle_body h) ≡ Ok h
 unfolding handle_reading
-handle_reads_back h sound =
-    ap (λ o. ok_or o Form) (held-text handle_in handle_body h (handle_data h) (read-handle_body h sound.counts.each) (handle_in-handle_data h sound))
+handle_reads_back h sound = ap (λ o. ok_or o Form) (handle_body_held h sound)
+
+-- a body in which none is held is no sound one's
+pub handle_unheld : (body : List ℕ) → held handle_in handle_body body ≡ None → (h : HandleValue) → IsHandleRecord h → body ≢ handle_body h
+handle_unheld body none h sound = unheld-text handle_in handle_body body none h (handle_body_held h sound)
+
+-- what `handle_of` tells of a body is what is read of it
+pub handle_reading-told : (body : List ℕ) (r : Result HandleValue BodyFault) → IfOk r (λ h. IsHandleRecord h × (body ≡ handle_body h)) → (r ≡ Err Form → (h : HandleValue) → IsHandleRecord h → body ≢ handle_body h) → r ≢ Err Table → r ≢ Err Memory → handle_reading body ≡ r
+unfolding handle_reading
+handle_reading-told body r = reading-told handle_in handle_body IsHandleRecord handle_held handle_body_held body r
 
 -- ---- the loops
 

@@ -1,5 +1,5 @@
 -- A pool table's body is read back.
-use Rattle.std.proofs.Common.{◌≡◌, ℕ, ◌^◌, ◌<◌, List, [], ◌∷◌, ◌++◌, codes, map, Bool, true, false, Option, Some, None, option_map, Result, Ok, Err, inl, inr, nat_lt, refl, sym, ap, ◌∙◌, arith, lt-ltb, ltb-true, append_assoc, append-nil}
+use Rattle.std.proofs.Common.{◌≡◌, ℕ, ◌^◌, ◌<◌, List, [], ◌∷◌, ◌++◌, codes, map, Bool, true, false, Option, Some, None, option_map, Result, Ok, Err, IfOk, IfErr, inl, inr, nat_lt, refl, sym, ap, ◌∙◌, arith, lt-ltb, ltb-true, append_assoc, append-nil}
 use Rattle.std.specs.Prelude.{is_none, IsNone, IsOkUnless, ◌≢◌}
 use Rattle.std.specs.List.{AllByRecursion}
 use Rattle.std.proofs.lemmas.Bool.{cases_Bool}
@@ -226,6 +226,17 @@ read_of-pools_body : (body : List ℕ) (pools : List Pool) → AllByRecursion Is
 unfolding pools_reading
 read_of-pools_body body pools h same = ap (λ b. table_of (held pools_in pools_body b)) same ∙ ap table_of (held-pools_body pools h)
 
+-- a body in which none are held is out of form
+pub unheld_form : (body : List ℕ) → held pools_in pools_body body ≡ None → pools_reading body ≡ Err Form
+unfolding pools_reading table_of
+unheld_form body none = ap table_of none
+
+-- where pools are held, what is refused of their table is refused of the body
+pub held_refused : (body : List ℕ) (pools : List Pool) (r : Result (List Pool) BodyFault) → held pools_in pools_body body ≡ Some pools → IfErr r (λ e. e ≢ NoMemory → table_of (Some pools) ≡ Err e) → IfErr r (λ e. e ≢ NoMemory → pools_reading body ≡ Err e)
+unfolding pools_reading
+held_refused body pools (Ok t) found told = tt
+held_refused body pools (Err e) found told = λ other. ap table_of found ∙ told other
+
 -- a body of the wrong form is that of no sound pools
 pub form_unread : (body : List ℕ) → pools_reading body ≡ Err Form → (pools : List Pool) → AllByRecursion IsSoundPool pools → body ≢ pools_body pools
 unfolding table_of
@@ -257,6 +268,26 @@ table_unread body e =
       is_body = sym was.is_text;
       refused = refused;
     }
+
+refused_table : (pools : List Pool) → are_added [] pools ≡ false → table_of (Some pools) ≡ Err Table
+unfolding table_of
+refused_table pools refused = rw refused refl
+
+-- what `pools_of` tells of a body is what is read of it
+pub pools_reading-told : (body : List ℕ) (r : Result (List Pool) BodyFault) → IfOk r (λ t. IsPoolsRecord t × (body ≡ pools_body t)) → (r ≡ Err Form → (pools : List Pool) → AllByRecursion IsSoundPool pools → body ≢ pools_body pools) → (r ≡ Err Table → HasRefusedPool body) → r ≢ Err NoMemory → pools_reading body ≡ r
+unfolding pools_reading table_of
+pools_reading-told body (Ok t) told form table no_memory = ap pools_reading told.1 ∙ pools_reads_back t told.0
+pools_reading-told body (Err Form) told form table no_memory = go (held pools_in pools_body body) refl
+  where
+    go : (o : Option (List Pool)) → held pools_in pools_body body ≡ o → table_of o ≡ Err Form
+    go None is = refl
+    go (Some pools) is =
+        let was = held-was pools_in pools_body body pools is in
+        absurd (form refl pools (pools_in-sound was.json pools was.was_found) (sym was.is_text))
+pools_reading-told body (Err Table) told form table no_memory =
+    let has = table refl in
+    read_of-pools_body body has.pools has.each has.is_body ∙ refused_table has.pools has.refused
+pools_reading-told body (Err NoMemory) told form table no_memory = absurd (no_memory refl)
 
 -- ---- adding the pools
 

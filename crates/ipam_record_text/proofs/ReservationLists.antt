@@ -1,5 +1,5 @@
 -- The body of reservations is read back.
-use Rattle.std.proofs.Common.{◌≡◌, ℕ, ◌<◌, ◌≤◌, List, [], ◌∷◌, ◌++◌, codes, map, length, length-append, Bool, true, false, not, ◌||◌, Option, Some, None, Ok, nat_lt, nat_le, bytes_eq, refl, sym, subst, ap, ◌∙◌, arith, lt-ltb, ltb-true, le-leb, append_assoc, append-nil}
+use Rattle.std.proofs.Common.{◌≡◌, ℕ, ◌<◌, ◌≤◌, List, [], ◌∷◌, ◌++◌, codes, map, length, length-append, Bool, true, false, not, ◌||◌, Option, Some, None, Ok, Result, Err, IfOk, nat_lt, nat_le, bytes_eq, refl, sym, subst, ap, ◌∙◌, arith, lt-ltb, ltb-true, le-leb, append_assoc, append-nil}
 use Rattle.std.specs.List.{AllByRecursion, IsDistinct, list_any}
 use Rattle.std.specs.Option.{ok_or}
 use Rattle.std.proofs.lemmas.Bool.{and_parts, not-true, leb-true}
@@ -24,11 +24,12 @@ use Rattle.ipam_json.specs.Canonical.{IsCanonical, IsCanonicalWithin}
 use Rattle.ipam_json.proofs.ReadsBack.{read-compact_text}
 use Rattle.ipam_json.proofs.Constructors.{IsCanonicalWithin-array, IsCanonicalWithin-string}
 use Rattle.ipam_reserve.specs.Shape.{ReservationValue}
-use Rattle.ipam_record_text.specs.declared.fault.BodyFault.TheVariants.{Form}
-use Rattle.ipam_record_text.specs.Reading.{◌>>=◌, only_if, items_at}
+use Rattle.ipam_record_text.specs.declared.fault.BodyFault.{BodyFault}
+use Rattle.ipam_record_text.specs.declared.fault.BodyFault.TheVariants.{Form, Table, Memory}
+use Rattle.ipam_record_text.specs.Reading.{◌>>=◌, only_if, items_at, held}
 use Rattle.ipam_record_text.specs.Blocks.{cidr_of, name_at}
 use Rattle.ipam_record_text.specs.Reservations.{cidr_data, reservation_data, reservations_data, reservations_body, IsReservation, IsReservationsRecord, cidr_in, cidrs_after, named_cidrs, reservation_in, may_follow, reservations_after, reservations_in, reservations_reading}
-use Rattle.ipam_record_text.proofs.Held.{held-was, held-text, reading-held}
+use Rattle.ipam_record_text.proofs.Held.{held-was, held-text, reading-held, unheld-text, reading-told}
 use Rattle.ipam_record_text.proofs.Parts.{then-is, cidr_of-is, cidr_of-text, name_at-is, name_of-name}
 
 -- a reservation as it is read, item by item
@@ -175,11 +176,14 @@ reservations_in-sound : (d : Data) (rs : List ReservationValue) → reservations
 unfolding reservations_in
 reservations_in-sound d rs e = then-is (reservations_after []) AreSoundReservations (λ ds found e'. reservations_after-sound [] ds found e' none_sound) (items_at (codes "reservations") d) rs e
 
+pub reservations_held : (body : List ℕ) (rs : List ReservationValue) → held reservations_in reservations_body body ≡ Some rs → IsReservationsRecord rs × (body ≡ reservations_body rs)
+reservations_held body rs e =
+    let was = held-was reservations_in reservations_body body rs e in
+    (read_reservations rs (reservations_in-sound was.json rs was.was_found), sym was.is_text)
+
 pub reservations_read : (body : List ℕ) (rs : List ReservationValue) → reservations_reading body ≡ Ok rs → (body ≡ reservations_body rs) × IsReservationsRecord rs
 unfolding reservations_reading
-reservations_read body rs e =
-    let was = held-was reservations_in reservations_body body rs (reading-held _ rs e) in
-    (sym was.is_text, read_reservations rs (reservations_in-sound was.json rs was.was_found))
+reservations_read body rs e = let is = reservations_held body rs (reading-held _ rs e) in (is.1, is.0)
 
 -- ---- sound reservations are found in their JSON
 
@@ -249,7 +253,19 @@ read-reservations_body : (rs : List ReservationValue) → read (reservations_bod
 unfolding reservations_body
 read-reservations_body rs = read-compact_text (reservations_data rs) (reservations_data-IsCanonical rs)
 
+reservations_body_held : (rs : List ReservationValue) → IsReservationsRecord rs → held reservations_in reservations_body (reservations_body rs) ≡ Some rs
+reservations_body_held rs h =
+    held-text reservations_in reservations_body rs (reservations_data rs) (read-reservations_body rs) (reservations_in-reservations_data rs (kept_reservations rs h))
+
 pub reservations_reads_back : (rs : List ReservationValue) → IsReservationsRecord rs → reservations_reading (reservations_body rs) ≡ Ok rs
 unfolding reservations_reading
-reservations_reads_back rs h =
-    ap (λ o. ok_or o Form) (held-text reservations_in reservations_body rs (reservations_data rs) (read-reservations_body rs) (reservations_in-reservations_data rs (kept_reservations rs h)))
+reservations_reads_back rs h = ap (λ o. ok_or o Form) (reservations_body_held rs h)
+
+-- a body in which none is held is no sound one's
+pub reservations_unheld : (body : List ℕ) → held reservations_in reservations_body body ≡ None → (rs : List ReservationValue) → IsReservationsRecord rs → body ≢ reservations_body rs
+reservations_unheld body none rs sound = unheld-text reservations_in reservations_body body none rs (reservations_body_held rs sound)
+
+-- what `reservations_of` tells of a body is what is read of it
+pub reservations_reading-told : (body : List ℕ) (r : Result (List ReservationValue) BodyFault) → IfOk r (λ rs. IsReservationsRecord rs × (body ≡ reservations_body rs)) → (r ≡ Err Form → (rs : List ReservationValue) → IsReservationsRecord rs → body ≢ reservations_body rs) → r ≢ Err Table → r ≢ Err Memory → reservations_reading body ≡ r
+unfolding reservations_reading
+reservations_reading-told body r = reading-told reservations_in reservations_body IsReservationsRecord reservations_held reservations_body_held body r

@@ -1,7 +1,7 @@
-ghost use Rattle.std.specs.Prelude.{◌≡◌, ◌≢◌, Ok, Err, Some, IfOk, IfErr, option_map, string_bytes};
+ghost use Rattle.std.specs.Prelude.{◌≡◌, ◌≢◌, Err, Some, IfOk, option_map, string_bytes};
 ghost use Rattle.serde_json.specs.View.{view};
 ghost use Rattle.ipam_record_text.specs.Reading.{held};
-ghost use Rattle.ipam_record_text.specs.Affinity.{affinity_data, affinity_body, affinity_in, affinity_reading, state_at, IsAffinityRecord};
+ghost use Rattle.ipam_record_text.specs.Affinity.{affinity_data, affinity_body, affinity_in, state_at, IsAffinityRecord};
 
 use crate::blocks::{block_at, cidr_text, name_at};
 use crate::fault::BodyFault;
@@ -33,12 +33,10 @@ fn affinity_json(alloc: Global, affinity: &Affinity) -> Result<Value, AllocError
 
 /// The affinity whose body this is.
 pub fn affinity_of(alloc: Global, body: &str) -> Result<Affinity, BodyFault>
-    ensures read { IfOk result (λ a. affinity_reading body.now ≡ Ok a) }
-    ensures refused { IfErr result (λ e. e ≢ BodyFault.Memory → affinity_reading body.now ≡ Err e) }
-    ensures body { IfOk result (λ a. body.now ≡ affinity_body a) }
-    ensures sound { IfOk result (λ a. IsAffinityRecord a) }
+    ensures read { IfOk result (λ a. IsAffinityRecord a × (body.now ≡ affinity_body a)) }
     ensures form { result ≡ Err BodyFault.Form
         → (a : Affinity) → IsAffinityRecord a → body.now ≢ affinity_body a }
+    ensures no_table { result ≢ Err BodyFault.Table }
 {
     match held_affinity(alloc, body) {
         Ok(Some(affinity)) => Ok(affinity),

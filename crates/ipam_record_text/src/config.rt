@@ -1,7 +1,7 @@
-ghost use Rattle.std.specs.Prelude.{◌≡◌, ◌≢◌, Ok, Err, IfOk, IfErr, string_bytes};
+ghost use Rattle.std.specs.Prelude.{◌≡◌, ◌≢◌, Err, IfOk, string_bytes};
 ghost use Rattle.serde_json.specs.View.{view};
 ghost use Rattle.ipam_record_text.specs.Reading.{held};
-ghost use Rattle.ipam_record_text.specs.Config.{config_data, config_body, config_in, config_reading, IsConfigRecord};
+ghost use Rattle.ipam_record_text.specs.Config.{config_data, config_body, config_in, IsConfigRecord};
 
 use crate::fault::BodyFault;
 use crate::members::{json_of, number_at, truth_at};
@@ -41,12 +41,10 @@ fn config_json(alloc: Global, config: &Config) -> Result<Value, AllocError>
 
 /// The configuration whose body this is.
 pub fn config_of(alloc: Global, body: &str) -> Result<Config, BodyFault>
-    ensures read { IfOk result (λ c. config_reading body.now ≡ Ok c) }
-    ensures refused { IfErr result (λ e. e ≢ BodyFault.Memory → config_reading body.now ≡ Err e) }
-    ensures body { IfOk result (λ c. body.now ≡ config_body c) }
-    ensures sound { IfOk result (λ c. IsConfigRecord c) }
+    ensures read { IfOk result (λ c. IsConfigRecord c × (body.now ≡ config_body c)) }
     ensures form { result ≡ Err BodyFault.Form
         → (c : Config) → IsConfigRecord c → body.now ≢ config_body c }
+    ensures no_table { result ≢ Err BodyFault.Table }
 {
     match held_config(alloc, body) {
         Ok(Some(config)) => Ok(config),

@@ -1,4 +1,4 @@
-ghost use Rattle.std.specs.Prelude.{◌≡◌, ◌≢◌, [], Ok, Err, Some, IfOk, IfErr, IfSome, ◌<◌, option_map, option_and_then, string_bytes};
+ghost use Rattle.std.specs.Prelude.{◌≡◌, ◌≢◌, [], Err, Some, IfOk, IfSome, ◌<◌, option_map, option_and_then, string_bytes};
 ghost use Rattle.std.specs.Bool.{OnTrue, OnFalse};
 ghost use Rattle.serde_json.specs.Data.{no_members};
 ghost use Rattle.serde_json.specs.View.{view, members_view};
@@ -6,7 +6,7 @@ ghost use Rattle.ipam_handle.specs.Shape.{HandleValue};
 ghost use Rattle.ipam_handle.specs.Operations.{content, count_in};
 ghost use Rattle.ipam_handle.specs.Sound.{AreCounts, IsHandleRecord};
 ghost use Rattle.ipam_record_text.specs.Reading.{held};
-ghost use Rattle.ipam_record_text.specs.Handle.{handle_data, handle_body, with_counts, count_of_json, counted, AddsCount, counts_after, handle_of_counts, handle_in, handle_reading};
+ghost use Rattle.ipam_record_text.specs.Handle.{handle_data, handle_body, with_counts, count_of_json, counted, AddsCount, counts_after, handle_of_counts, handle_in};
 
 use crate::blocks::{block_of, cidr_text, id_at};
 use crate::fault::BodyFault;
@@ -50,12 +50,10 @@ fn counts_json(alloc: Global, counts: &[(Cidr, u32)]) -> Result<Map<String, Valu
 
 /// The handle whose body this is.
 pub fn handle_of(alloc: Global, body: &str) -> Result<Handle, BodyFault>
-    ensures read { IfOk result (λ h. handle_reading body.now ≡ Ok h) }
-    ensures refused { IfErr result (λ e. e ≢ BodyFault.Memory → handle_reading body.now ≡ Err e) }
-    ensures body { IfOk result (λ h. body.now ≡ handle_body h) }
-    ensures sound { IfOk result (λ h. IsHandleRecord h) }
+    ensures read { IfOk result (λ h. IsHandleRecord h × (body.now ≡ handle_body h)) }
     ensures form { result ≡ Err BodyFault.Form
         → (h : HandleValue) → IsHandleRecord h → body.now ≢ handle_body h }
+    ensures no_table { result ≢ Err BodyFault.Table }
 {
     match held_handle(alloc, body) {
         Ok(Some(handle)) => Ok(handle),

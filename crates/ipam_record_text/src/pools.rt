@@ -4,7 +4,7 @@ ghost use Rattle.ipam_json.specs.Built.{members_from};
 ghost use Rattle.ipam_select.specs.Formula.{every};
 ghost use Rattle.ipam_record_text.specs.Rules.{mode_in};
 ghost use Rattle.ipam_record_text.specs.Reading.{held};
-ghost use Rattle.ipam_record_text.specs.Pools.{plain_fields, pool_data, pools_data, pools_body, plain_in, pool_in, pools_in, pools_after, size_at, table_of, refusal_fault, pools_reading, IsSoundPool, IsPoolsRecord, HasRefusedPool};
+ghost use Rattle.ipam_record_text.specs.Pools.{plain_fields, pool_data, pools_data, pools_body, plain_in, pool_in, pools_in, pools_after, size_at, table_of, refusal_fault, IsSoundPool, IsPoolsRecord, HasRefusedPool};
 ghost use Rattle.ipam_pool.specs.declared.pools.Pool.{Pool as OnePool};
 ghost use Rattle.std.specs.List.{AllByRecursion};
 
@@ -79,10 +79,7 @@ fn plain_members(alloc: Global, pool: &Pool) -> Result<Map<String, Value>, Alloc
 
 /// The table whose body this is.
 pub fn pools_of(alloc: Global, body: &str) -> Result<PoolTable, BodyFault>
-    ensures read { IfOk result (λ t. pools_reading body.now ≡ Ok t) }
-    ensures refused { IfErr result (λ e. e ≢ BodyFault.Memory → pools_reading body.now ≡ Err e) }
-    ensures body { IfOk result (λ t. body.now ≡ pools_body t) }
-    ensures sound { IfOk result (λ t. IsPoolsRecord t) }
+    ensures read { IfOk result (λ t. IsPoolsRecord t × (body.now ≡ pools_body t)) }
     ensures form { result ≡ Err BodyFault.Form
         → (pools : List OnePool) → AllByRecursion IsSoundPool pools → body.now ≢ pools_body pools }
     ensures table { result ≡ Err BodyFault.Table → HasRefusedPool body.now }

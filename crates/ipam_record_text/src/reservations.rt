@@ -1,9 +1,9 @@
-ghost use Rattle.std.specs.Prelude.{◌≡◌, ◌≢◌, ◌≤◌, [], ◌∷◌, ◌++◌, length, Ok, Err, Some, IfOk, IfErr, List, map, option_map, option_and_then, bytes_eq, string_bytes, vec_len};
+ghost use Rattle.std.specs.Prelude.{◌≡◌, ◌≢◌, ◌≤◌, [], ◌∷◌, ◌++◌, length, Err, Some, IfOk, List, map, option_map, option_and_then, bytes_eq, string_bytes, vec_len};
 ghost use Rattle.std.specs.List.{list_any};
 ghost use Rattle.serde_json.specs.View.{view, items_view};
 ghost use Rattle.ipam_reserve.specs.Shape.{ReservationValue};
 ghost use Rattle.ipam_record_text.specs.Reading.{held};
-ghost use Rattle.ipam_record_text.specs.Reservations.{cidr_data, reservation_data, reservations_data, reservations_body, cidr_in, cidrs_after, named_cidrs, reservation_in, may_follow, reservations_after, reservations_in, reservations_reading, IsReservationsRecord};
+ghost use Rattle.ipam_record_text.specs.Reservations.{cidr_data, reservation_data, reservations_data, reservations_body, cidr_in, cidrs_after, named_cidrs, reservation_in, may_follow, reservations_after, reservations_in, IsReservationsRecord};
 
 use crate::blocks::{cidr_of, cidr_text, name_at};
 use crate::fault::BodyFault;
@@ -63,13 +63,10 @@ fn cidrs_list(alloc: Global, cidrs: &[Cidr]) -> Result<Vec<Value>, AllocError>
 
 /// The reservations whose body this is.
 pub fn reservations_of(alloc: Global, body: &str) -> Result<Seq<Reservation>, BodyFault>
-    ensures read { IfOk result (λ rs. reservations_reading body.now ≡ Ok rs) }
-    ensures refused { IfErr result
-        (λ e. e ≢ BodyFault.Memory → reservations_reading body.now ≡ Err e) }
-    ensures body { IfOk result (λ rs. body.now ≡ reservations_body rs) }
-    ensures sound { IfOk result (λ rs. IsReservationsRecord rs) }
+    ensures read { IfOk result (λ rs. IsReservationsRecord rs × (body.now ≡ reservations_body rs)) }
     ensures form { result ≡ Err BodyFault.Form
         → (rs : List ReservationValue) → IsReservationsRecord rs → body.now ≢ reservations_body rs }
+    ensures no_table { result ≢ Err BodyFault.Table }
 {
     match held_reservations(alloc, body) {
         Ok(Some(reservations)) => Ok(Seq::of(reservations)),

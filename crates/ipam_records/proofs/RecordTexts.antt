@@ -1,5 +1,5 @@
 -- Records and their texts.
-use Rattle.std.proofs.Common.{◌≡◌, ◌≢◌, ℕ, Bool, true, false, List, Option, Some, None, Result, Ok, Err, bytes_eq, cond, inl, inr, refl, sym, ap, ◌∙◌, subst, arith}
+use Rattle.std.proofs.Common.{◌≡◌, ◌≢◌, ℕ, Bool, true, false, List, Option, Some, None, Result, Ok, Err, IfOk, IfErr, bytes_eq, cond, inl, inr, refl, sym, ap, ◌∙◌, subst, arith}
 use Rattle.std.specs.Option.{ok_or}
 use Rattle.std.proofs.lemmas.Slice.Eq.{bytes_eq-Decides}
 use Rattle.ipam_addr.specs.Shape.{CidrValue}
@@ -31,7 +31,7 @@ use Rattle.ipam_records.specs.Key.{key_of}
 use Rattle.ipam_records.specs.KeyOrder.{key_rank}
 use Rattle.ipam_records.specs.KeyText.{key_bytes, key_read, IsKey}
 use Rattle.ipam_records.specs.Body.{body_of}
-use Rattle.ipam_records.specs.RecordReading.{unsound_fault, if_key, keyed, keyed_block, reading_of_kind, reading_at, record_reading, SaysAnotherKey, SaysBlock}
+use Rattle.ipam_records.specs.RecordReading.{fault_of_body, unsound_fault, fault_of_block, if_key, keyed, keyed_block, reading_of_kind, reading_at, record_reading, SaysAnotherKey, SaysBlock}
 use Rattle.ipam_records.specs.Sound.{IsRecord}
 use Rattle.ipam_records.proofs.KeyTextLemmas.{key_read-key_bytes}
 
@@ -251,3 +251,37 @@ fault_told key body e refused = go (key_read key) refused
     go : (o : Option Key) → reading_at o key body ≡ Err e → Told key body e
     go None k = subst (Told key body) (fault_same fault.Form e k) tt
     go (Some named) k = kind_told named key body e k
+
+-- ---- what the readers of bodies tell
+
+module _ {A : Type 0} (make : A → Record) (key : List ℕ) (read told : Result A BodyFault) (same : told ≢ Err in_body.Memory → read ≡ told) where
+  pub keyed-read : (v : A) (r : Result Record TextFault) → told ≡ Ok v → IfOk r (λ kept. if_key key (make v) ≡ Ok kept) → IfOk r (λ kept. keyed make key read ≡ Ok kept)
+  keyed-read v (Ok kept) is found = ap (keyed make key) (same (λ k. cc) ∙ is) ∙ found
+  keyed-read v (Err e) is found = tt
+
+  pub keyed-refused : (v : A) (r : Result Record TextFault) → told ≡ Ok v → IfErr r (λ e. e ≢ fault.Memory → if_key key (make v) ≡ Err e) → IfErr r (λ e. e ≢ fault.Memory → keyed make key read ≡ Err e)
+  keyed-refused v (Ok kept) is refused = tt
+  keyed-refused v (Err e) is refused = λ other. ap (keyed make key) (same (λ k. cc) ∙ is) ∙ refused other
+
+  pub keyed-fault : (f : BodyFault) (e : TextFault) → told ≡ Err f → e ≡ fault_of_body f → e ≢ fault.Memory → keyed make key read ≡ Err e
+  keyed-fault f e is names other =
+      let some : told ≢ Err in_body.Memory = λ k.
+      let memory : f ≡ in_body.Memory = cc in
+      other (names ∙ ap fault_of_body memory) in
+      ap (keyed make key) (same some ∙ is) ∙ ap Err (sym names)
+
+module _ (key : List ℕ) (read told : Result block.BlockValue block_fault.BodyFault) (same : told ≢ Err in_block.Memory → read ≡ told) where
+  pub block-read : (b : block.BlockValue) (r : Result Record TextFault) → told ≡ Ok b → IfOk r (λ kept. if_key key (Block b) ≡ Ok kept) → IfOk r (λ kept. keyed_block key read ≡ Ok kept)
+  block-read b (Ok kept) is found = ap (keyed_block key) (same (λ k. cc) ∙ is) ∙ found
+  block-read b (Err e) is found = tt
+
+  pub block-refused : (b : block.BlockValue) (r : Result Record TextFault) → told ≡ Ok b → IfErr r (λ e. e ≢ fault.Memory → if_key key (Block b) ≡ Err e) → IfErr r (λ e. e ≢ fault.Memory → keyed_block key read ≡ Err e)
+  block-refused b (Ok kept) is refused = tt
+  block-refused b (Err e) is refused = λ other. ap (keyed_block key) (same (λ k. cc) ∙ is) ∙ refused other
+
+  pub block-fault : (f : block_fault.BodyFault) (e : TextFault) → told ≡ Err f → (e ≢ fault.Memory → e ≡ fault_of_block key f) → e ≢ fault.Memory → keyed_block key read ≡ Err e
+  block-fault f e is names other =
+      let some : told ≢ Err in_block.Memory = λ k.
+      let memory : f ≡ in_block.Memory = cc in
+      other (names other ∙ ap (fault_of_block key) memory) in
+      ap (keyed_block key) (same some ∙ is) ∙ ap Err (sym (names other))

@@ -1,19 +1,16 @@
-ghost use Rattle.std.specs.Prelude.{◌≡◌, ◌≢◌, Ok, Err, Some, IfOk, IfErr, bytes_eq, string_bytes};
+ghost use Rattle.std.specs.Prelude.{◌≡◌, ◌≢◌, Ok, Err, IfOk, IfErr, bytes_eq, string_bytes};
 ghost use Rattle.ipam_addr.specs.Shape.{CidrValue};
 ghost use Rattle.ipam_block_text.specs.Reading.{block_reading};
 ghost use Rattle.ipam_record_text.specs.Config.{config_reading};
-ghost use Rattle.ipam_record_text.specs.Pools.{pools_reading, HasRefusedPool};
+ghost use Rattle.ipam_record_text.specs.Pools.{pools_reading};
 ghost use Rattle.ipam_record_text.specs.Reservations.{reservations_reading};
 ghost use Rattle.ipam_record_text.specs.Affinity.{affinity_reading};
 ghost use Rattle.ipam_record_text.specs.Handle.{handle_reading};
-ghost use Rattle.ipam_records.specs.declared.key.Key.{Key as AnyKey};
-ghost use Rattle.ipam_records.specs.declared.record.Record.{Record as AnyRecord};
 ghost use Rattle.ipam_records.specs.declared.record.Record.TheVariants as record_of;
 ghost use Rattle.ipam_records.specs.Body.{body_of};
 ghost use Rattle.ipam_records.specs.Key.{key_of};
-ghost use Rattle.ipam_records.specs.KeyOrder.{key_rank};
-ghost use Rattle.ipam_records.specs.KeyText.{key_bytes, key_read};
-ghost use Rattle.ipam_records.specs.RecordReading.{fault_of_body, unsound_fault, fault_of_block, if_key, keyed, keyed_block, reading_of_kind, record_reading, SaysAnotherKey, SaysBlock};
+ghost use Rattle.ipam_records.specs.KeyText.{key_bytes};
+ghost use Rattle.ipam_records.specs.RecordReading.{fault_of_body, unsound_fault, fault_of_block, if_key, keyed, keyed_block, reading_of_kind, record_reading};
 ghost use Rattle.ipam_records.specs.Sound.{IsRecord};
 
 use crate::fault::TextFault;
@@ -50,22 +47,10 @@ pub fn to_text(alloc: Global, value: &Record) -> Result<String, AllocError>
 /// a table, and with `Unsound` where the block is not sound.
 pub fn from_text(alloc: Global, key: &str, body: &str) -> Result<Record, TextFault>
     ensures sound { IfOk result IsRecord }
-    ensures key { IfOk result (λ found. key_bytes (key_of found) ≡ key.now) }
-    ensures body { IfOk result (λ found. body.now ≡ body_of found) }
+    ensures texts { IfOk result
+        (λ found. (key_bytes (key_of found) ≡ key.now) × (body.now ≡ body_of found)) }
 
-    // No sound record with these texts is refused.
-    ensures exact { IfErr result (λ e. e ≢ TextFault.Memory → (other : AnyRecord) → IsRecord other
-        → key_bytes (key_of other) ≡ key.now → body.now ≢ body_of other) }
-
-    // What each fault means.
-    ensures form { result ≡ Err TextFault.Form → (named : AnyKey) → key_read key.now ≡ Some named
-        → (other : AnyRecord) → IsRecord other → key_rank (key_of other) ≡ key_rank named
-        → body.now ≢ body_of other }
-    ensures another_key { result ≡ Err TextFault.Key → SaysAnotherKey key.now body.now }
-    ensures table { result ≡ Err TextFault.Table → HasRefusedPool body.now }
-    ensures unsound { result ≡ Err TextFault.Unsound → SaysBlock key.now body.now }
-
-    // Which of them comes.
+    // Which fault comes. What each means, and that each sound record is read, stands in `laws`.
     ensures read { IfOk result (λ found. record_reading key.now body.now ≡ Ok found) }
     ensures refused { IfErr result
         (λ e. e ≢ TextFault.Memory → record_reading key.now body.now ≡ Err e) }

@@ -1,25 +1,15 @@
-use Rattle.std.proofs.Common.{rules}
-use Rattle.ipam_record_text.specs.Handle.{handle_reading, handle_body}
-use Rattle.ipam_record_text.proofs.Held.{unread-text}
-use Rattle.ipam_record_text.proofs.Handles.{handle_read, handle_reads_back}
+use Rattle.std.proofs.Common.{◌≡◌, Some, None, rules}
+use Rattle.ipam_record_text.specs.Reading.{held}
+use Rattle.ipam_record_text.specs.Handle.{handle_in, handle_body}
+use Rattle.ipam_record_text.proofs.Handles.{handle_held, handle_unheld}
 use Rattle.ipam_record_text.proofs.handle.handle_of.Goals as goal
 
 pub returns-in-Ok-Some-clause-read : goal.returns-in-Ok-Some-clause-read
-unfolding handle_reading
-returns-in-Ok-Some-clause-read c = search rules
-
-pub returns-in-Ok-Some-clause-body : goal.returns-in-Ok-Some-clause-body
-returns-in-Ok-Some-clause-body c = (handle_read _ _ (returns-in-Ok-Some-clause-read c)).0
-
-pub returns-in-Ok-Some-clause-sound : goal.returns-in-Ok-Some-clause-sound
-returns-in-Ok-Some-clause-sound c = (handle_read _ _ (returns-in-Ok-Some-clause-read c)).1
-
-unread : goal.returns-in-Ok-None-clause-refused
-unfolding handle_reading
-unread c = search rules
-
-pub returns-in-Ok-None-clause-refused : goal.returns-in-Ok-None-clause-refused
-returns-in-Ok-None-clause-refused c = unread c
+returns-in-Ok-Some-clause-read c =
+    let found : held handle_in handle_body c.args.body.now ≡ Some c.in-Ok-Some.handle = search rules in
+    handle_held _ _ found
 
 pub returns-in-Ok-None-clause-form : goal.returns-in-Ok-None-clause-form
-returns-in-Ok-None-clause-form c = λ e v sound. unread-text handle_reading handle_body _ (unread c (λ k. cc)) v (handle_reads_back v sound)
+returns-in-Ok-None-clause-form c =
+    let none : held handle_in handle_body c.args.body.now ≡ None = search rules in
+    λ e. handle_unheld _ none
