@@ -12,9 +12,10 @@ use Rattle.ipam_json.specs.Canonical.{IsCanonical}
 use Rattle.ipam_json.proofs.ReadsBack.{read-compact_text}
 use Rattle.ipam_record_text.specs.declared.fault.BodyFault.TheVariants.{Form}
 use Rattle.ipam_record_text.specs.Blocks.{block_at, name_at}
-use Rattle.ipam_record_text.specs.Reading.{◌>>=◌}
+use Rattle.ipam_json.specs.Members.{◌>>=◌}
 use Rattle.ipam_record_text.specs.Affinity.{affinity_data, affinity_body, affinity_in, affinity_reading, state_at, IsAffinityRecord}
-use Rattle.ipam_record_text.proofs.Held.{held-was, held-text, reading-held}
+use Rattle.ipam_json.proofs.Held.{held-was, held-text}
+use Rattle.ipam_record_text.proofs.Held.{reading-held}
 use Rattle.ipam_record_text.proofs.Parts.{block_at-is, block_of-text, name_at-is, name_of-name}
 
 -- the parts of an affinity that was found
