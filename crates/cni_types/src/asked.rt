@@ -14,6 +14,7 @@ use crate::members::{inside, text_at, text_of};
 use crate::refusal::Variable;
 use crate::version::Version;
 use ipam_addr::{Addr, read_addr};
+use ipam_json::members_at;
 use ipam_text::{Seq, Text};
 use serde_json::{Map, Value};
 use std::alloc::{AllocError, Global};
@@ -153,8 +154,8 @@ fn handle_asked(alloc: Global, env: &[(Text, Text)], json: &Value) -> Result<Tex
 fn items_at<'a>(json: &'a Value, name: &str) -> &'a [Value]
     ensures { items_view result.now ≡ items_found (get name.now (view json.now)) }
 {
-    match json.get(name).and_then(Value::as_array) {
-        Some(list) => list.as_slice(),
+    match ipam_json::items_at(json, name) {
+        Some(items) => items,
         None => &[],
     }
 }
@@ -214,7 +215,7 @@ fn live_of(alloc: Global, network: &str, items: &[Value]) -> Result<Seq<Text>, A
 fn labels_asked(alloc: Global, json: &Value) -> Result<Seq<(Text, Text)>, AllocError>
     ensures { IfOk result (λ labels. labels ≡ labels_asked (view json.now)) }
 {
-    match json.get("nodeLabels").and_then(Value::as_object) {
+    match members_at(json, "nodeLabels") {
         Some(members) => labels_of(alloc, members),
         None => Ok(Seq::new(alloc)),
     }

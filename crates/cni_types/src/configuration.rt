@@ -13,6 +13,7 @@ use crate::members::{
 };
 use crate::refusal::Member;
 use ipam_addr::{Addr, AddrFault, is_name, read_addr, read_cidr};
+use ipam_json::items_at;
 use ipam_pool::MOST_POOLS;
 use serde_json::Value;
 
@@ -249,11 +250,8 @@ fn has_prefix(text: &str) -> bool
 fn test_attachments(json: &Value) -> Result<(), Member>
     ensures { result ≡ attachments_tested (view json.now) }
 {
-    match json
-        .get("cni.dev/valid-attachments")
-        .and_then(Value::as_array)
-    {
-        Some(items) => test_each_attachment(items.as_slice()),
+    match items_at(json, "cni.dev/valid-attachments") {
+        Some(items) => test_each_attachment(items),
         None => Err(Member::Attachments),
     }
 }

@@ -18,6 +18,7 @@ use crate::error::{CniError, LookFault};
 use crate::members::{is_object, text_at};
 use crate::refusal::{Refusal, Variable, member_string};
 use crate::version::Version;
+use ipam_json::json_of;
 use ipam_text::Text;
 use serde_json::{Map, Value};
 use std::alloc::{AllocError, Global};
@@ -109,10 +110,9 @@ fn is_for_versions(command: Option<Command>) -> bool
 fn object_in(alloc: Global, text: &str) -> Result<Option<Value>, AllocError>
     ensures { IfOk result (λ found. option_map view found ≡ object_in text.now) }
 {
-    match Value::from_str(alloc, text) {
-        Ok(value) => Ok(only_object(value)),
-        Err(error) if error.is_memory() => Err(AllocError),
-        Err(_) => Ok(None),
+    match json_of(alloc, text)? {
+        Some(value) => Ok(only_object(value)),
+        None => Ok(None),
     }
 }
 

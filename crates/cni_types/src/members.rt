@@ -5,6 +5,7 @@ ghost use Rattle.cni_types.specs.Reading.{demand as demanded, text_of as text_in
 
 use crate::refusal::{Member, Variable};
 use ipam_addr::is_name;
+use ipam_json::members_at;
 use serde_json::Value;
 
 /// The fault, unless it passes.
@@ -35,7 +36,7 @@ pub(crate) fn text_of(value: &Value) -> &str
 pub(crate) fn text_at<'a>(value: &'a Value, name: &str) -> &'a str
     ensures { result.now ≡ text_of_name name.now (view value.now) }
 {
-    match value.get(name).and_then(Value::as_str) {
+    match ipam_json::text_at(value, name) {
         Some(text) => text,
         None => "",
     }
@@ -59,13 +60,13 @@ pub(crate) fn is_object(value: &Value) -> bool
 pub(crate) fn is_object_at(value: &Value, name: &str) -> bool
     ensures { result ≡ has_object name.now (view value.now) }
 {
-    value.get(name).and_then(Value::as_object).is_some()
+    members_at(value, name).is_some()
 }
 
 pub(crate) fn is_text_at(value: &Value, name: &str) -> bool
     ensures { result ≡ has_text name.now (view value.now) }
 {
-    value.get(name).and_then(Value::as_str).is_some()
+    ipam_json::text_at(value, name).is_some()
 }
 
 pub(crate) fn is_name_at(value: &Value, name: &str) -> bool

@@ -18,6 +18,8 @@ use Rattle.serde_json.specs.Written.{compact_text}
 use Rattle.serde_json.specs.View.{items_of}
 use Rattle.ipam_json.specs.Built.{Field, member_list, item_list, array_of}
 use Rattle.ipam_json.specs.Canonical.{IsCanonicalWithin, IsCanonical}
+use Rattle.ipam_json.specs.Held.{held}
+use Rattle.ipam_json.proofs.Held.{held-text}
 use Rattle.ipam_json.specs.Path.{as_whole, is_index}
 use Rattle.ipam_json.proofs.Constructors.{IsCanonicalWithin-more, IsCanonicalWithin-number, IsCanonicalWithin-string, IsCanonicalWithin-array, IsCanonicalWithin-object, item_list-items_of}
 use Rattle.ipam_json.proofs.PathLaws.{index_of-decimal}
@@ -44,7 +46,7 @@ use Rattle.ipam_block_text.specs.Limits.{is_node, are_attributes}
 use Rattle.ipam_block_text.specs.Form.{AreParts, AreStamps}
 use Rattle.ipam_block_text.specs.Parts.{place_of, block_parts}
 use Rattle.ipam_block_text.specs.Body.{whole_data, affinity_data, place_data, attributes_data, cidr_data, with_stamp, stamps_data, parts_data, block_body}
-use Rattle.ipam_block_text.specs.Reading.{each, only_if, after_host, affinity_in, node_in, places_in, place_in, all_attributes_in, attributes_in, cidr_in, small_cidr, sequence_in, queue_in, parts_in, is_number_name, is_stamp, are_stamps, stamps_in, block_form, cidr_said, held_from, are_ordinals, block_in, has_text, checked, reading_from, block_reading}
+use Rattle.ipam_block_text.specs.Reading.{each, only_if, after_host, affinity_in, node_in, places_in, place_in, all_attributes_in, attributes_in, cidr_in, small_cidr, sequence_in, queue_in, parts_in, is_number_name, is_stamp, are_stamps, stamps_in, form_in, form_text, block_form, cidr_said, held_from, are_ordinals, block_in, has_text, checked, reading_from, block_reading}
 use Rattle.ipam_block_text.proofs.Limited.{IsLimited, limited, node_there, node_back, attributes_there, attributes_back}
 use Rattle.ipam_block_text.proofs.Options.{and_then_some}
 use Rattle.ipam_block_text.proofs.Said.{parts_said}
@@ -228,15 +230,12 @@ in_use_sound found (x ∷ xs) h all = in_use_sound (with_those_of found x) xs (o
 pub form_back : (p : Parts) (stamps : Data) → AreParts p → AreStamps stamps → block_form (compact_text (parts_data p stamps)) ≡ Some (p, stamps)
 unfolding block_form
 form_back p stamps h named =
-    let body = compact_text (parts_data p stamps) in
-    let is_text : Parts × Data → Bool = λ f. bytes_eq (compact_text (parts_data f.0 f.1)) body in
     let read_back = read-compact_text (parts_data p stamps) (parts_canonical p stamps h named) in
     let attributes : All (λ a. are_attributes a ≡ true) p.attributes = λ i d within. attributes_there (get_or p.attributes i d) (h.attributes i d within) in
     let parts = parts_read p stamps (node_there p.node h.node) attributes h.range.range h.range.small h.sequence in
-    ap (option_and_then (λ d. option_and_then (λ q. option_and_then (λ s. only_if is_text (q, s)) (stamps_in d)) (parts_in d))) read_back
-    ∙ ap (option_and_then (λ q. option_and_then (λ s. only_if is_text (q, s)) (stamps_in (parts_data p stamps)))) parts
-    ∙ ap (option_and_then (λ s. only_if is_text (p, s))) (stamps_read p stamps named.names)
-    ∙ passes is_text (p, stamps) ((bytes_eq-Decides body body).1 refl)
+    held-text form_in form_text (p, stamps) (parts_data p stamps) read_back
+    (ap (option_and_then (λ q. option_map (λ s. (q, s)) (stamps_in (parts_data p stamps)))) parts
+    ∙ ap (option_map (λ s. (p, s))) (stamps_read p stamps named.names))
 
 small_index : (o : Option ℕ) → ((i : ℕ) → o ≡ Some i → i < 2 ^ 64) → unwrap_or o 0 < 2 ^ 64
 small_index None h = omega arith
@@ -359,19 +358,19 @@ pub record SaysForm (body : List ℕ) (d : Data) (p : Parts) (stamps : Data) : T
   pub stamps_said : stamps_in d ≡ Some stamps
 
 is_form : (body : List ℕ) (d : Data) (p : Parts) (stamps : Data) → SaysForm body d p stamps → block_form body ≡ only_if (λ f. bytes_eq (compact_text (parts_data f.0 f.1)) body) (p, stamps)
-unfolding block_form
+unfolding block_form held
 is_form body d p stamps says = rw (says.value, says.parts, says.stamps_said) refl
 
 pub no_value : (body : List ℕ) → read body ≡ None → block_reading body ≡ Err Form
-unfolding block_reading block_form
+unfolding block_reading block_form held
 no_value body none = rw none refl
 
 pub no_parts : (body : List ℕ) (d : Data) → read body ≡ Some d → parts_in d ≡ None → block_reading body ≡ Err Form
-unfolding block_reading block_form
+unfolding block_reading block_form held
 no_parts body d value none = rw (value, none) refl
 
 pub no_stamps : (body : List ℕ) (d : Data) (p : Parts) → read body ≡ Some d → parts_in d ≡ Some p → stamps_in d ≡ None → block_reading body ≡ Err Form
-unfolding block_reading block_form
+unfolding block_reading block_form held
 no_stamps body d p value parts none = rw (value, parts, none) refl
 
 texted : (body : List ℕ) (o : Option BlockValue) (b : BlockValue) → option_and_then (has_text body) o ≡ Some b → (o ≡ Some b) × (block_body b ≡ body)

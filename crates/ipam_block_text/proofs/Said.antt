@@ -15,7 +15,8 @@ use Rattle.ipam_json.specs.Path.{as_whole}
 use Rattle.ipam_json.specs.Built.{member_list}
 use Rattle.ipam_block.specs.declared.limits.TheConstants.{ADDRESSES_MAX}
 use Rattle.ipam_block_text.specs.declared.parts.Parts.{Parts}
-use Rattle.ipam_block_text.specs.Reading.{node_in, places_in, all_attributes_in, cidr_in, small_cidr, sequence_in, queue_in, parts_in, is_stamp, are_stamps, stamps_in, text_at}
+use Rattle.ipam_block_text.specs.Reading.{node_in, places_in, all_attributes_in, cidr_in, small_cidr, sequence_in, queue_in, parts_in, is_stamp, are_stamps, stamps_in}
+use Rattle.ipam_json.specs.Members.{text_at}
 use Rattle.ipam_block_text.proofs.Options.{and_then_some, map_some, passed_some}
 
 -- ---- the parts

@@ -6,10 +6,9 @@ use Rattle.std.proofs.lemmas.List.Elements.{All-cons}
 use Rattle.std.proofs.lemmas.Slice.Eq.{bytes_eq-Decides}
 use Rattle.serde_json.specs.Data.{Data, null, boolean, number, string, array, object}
 use Rattle.serde_json.specs.Find.{get}
-use Rattle.serde_json.specs.Read.{read}
-use Rattle.serde_json.specs.Written.{compact_text}
 use Rattle.ipam_addr.specs.Shape.{CidrValue}
 use Rattle.ipam_addr.specs.Names.{is_name_text, is_handle_text}
+use Rattle.ipam_json.proofs.Held.{held-was}
 use Rattle.ipam_json.specs.Path.{as_whole}
 use Rattle.ipam_block.specs.declared.allocation.Allocation.{Allocation}
 use Rattle.ipam_block.specs.declared.allocation.Attributes.{Attributes}
@@ -21,10 +20,11 @@ use Rattle.ipam_block_text.specs.declared.fault.BodyFault.{BodyFault}
 use Rattle.ipam_block_text.specs.declared.fault.BodyFault.TheVariants.{Unsound}
 use Rattle.ipam_block_text.specs.declared.parts.Parts.{Parts}
 use Rattle.ipam_block_text.specs.Limits.{is_node, are_pairs, are_attributes}
-use Rattle.ipam_block_text.specs.Body.{parts_data, block_body}
-use Rattle.ipam_block_text.specs.Reading.{each, only_if, pair_in, text_at, members_at, node_in, affinity_in, node_named, after_host, all_attributes_in, attributes_in, handle_in, secondary_in, items_at, sequence_in, stamp_of, allocation_at, held_from, block_in, checked, reading_from, block_form, block_reading, parts_in, stamps_in}
+use Rattle.ipam_block_text.specs.Body.{block_body}
+use Rattle.ipam_block_text.specs.Reading.{each, only_if, pair_in, node_in, affinity_in, node_named, after_host, all_attributes_in, attributes_in, handle_in, secondary_in, sequence_in, stamp_of, allocation_at, held_from, block_in, checked, reading_from, form_in, form_text, block_form, block_reading, parts_in, stamps_in}
+use Rattle.ipam_json.specs.Members.{text_at, list_at, fields_at}
 use Rattle.ipam_block_text.proofs.Limited.{IsLimited, kept}
-use Rattle.ipam_block_text.proofs.Options.{some_same, and_then_some, map_some, passed_some, only_if_some}
+use Rattle.ipam_block_text.proofs.Options.{some_same, and_then_some, map_some, passed_some}
 use Rattle.ipam_block_text.proofs.Said.{Says, parts_said, cidr_said}
 
 -- ---- the texts
@@ -58,7 +58,7 @@ handle_sound d handle e = (passed_some is_handle_text (text_at (codes "handle_id
 
 secondary_sound : (d : Data) (pairs : List (List ℕ × List ℕ)) → secondary_in d ≡ Some pairs → are_pairs pairs ≡ true
 unfolding secondary_in
-secondary_sound d pairs e = (passed_some are_pairs (option_and_then (each pair_in) (members_at (codes "secondary") d)) pairs e).1
+secondary_sound d pairs e = (passed_some are_pairs (option_and_then (each pair_in) (fields_at (codes "secondary") d)) pairs e).1
 
 both : (a b : Bool) → a ≡ true → b ≡ true → (a && b) ≡ true
 both a b e f = rw (e, f) refl
@@ -88,7 +88,7 @@ each_all f P h (x ∷ xs) ys e =
 all_sound : (d : Data) (all : List Attributes) → all_attributes_in d ≡ Some all → All (λ a. are_attributes a ≡ true) all
 unfolding all_attributes_in
 all_sound d all e =
-    let found = and_then_some (each attributes_in) (items_at (codes "attributes") d) all e in
+    let found = and_then_some (each attributes_in) (list_at (codes "attributes") d) all e in
     each_all attributes_in (λ a. are_attributes a ≡ true) attributes_sound found.0 all found.2
 
 sequence_sound : (d : Data) (n : ℕ) → sequence_in d ≡ Some n → n < 2 ^ 64
@@ -151,12 +151,10 @@ block_sound d p stamps b says e =
 form_said : (body : List ℕ) (f : Parts × Data) → block_form body ≡ Some f → (d : Data) × Says d f.0
 unfolding block_form
 form_said body f e =
-    let is_text : Parts × Data → Bool = λ x. bytes_eq (compact_text (parts_data x.0 x.1)) body in
-    let a = and_then_some (λ d. option_and_then (λ parts. option_and_then (λ stamps. only_if is_text (parts, stamps)) (stamps_in d)) (parts_in d)) (read body) f e in
-    let b = and_then_some (λ parts. option_and_then (λ stamps. only_if is_text (parts, stamps)) (stamps_in a.0)) (parts_in a.0) f a.2 in
-    let g = and_then_some (λ stamps. only_if is_text (b.0, stamps)) (stamps_in a.0) f b.2 in
-    let h = only_if_some is_text (b.0, g.0) f g.2 in
-    (a.0, subst (λ (x : Parts × Data). Says a.0 x.0) h.0 (parts_said a.0 b.0 b.1))
+    let was = held-was form_in form_text body f e in
+    let parts = and_then_some (λ parts. option_map (λ stamps. (parts, stamps)) (stamps_in was.json)) (parts_in was.json) f was.was_found in
+    let stamps = map_some (λ stamps. (parts.0, stamps)) (stamps_in was.json) f parts.2 in
+    (was.json, subst (λ (x : Parts × Data). Says was.json x.0) stamps.2 (parts_said was.json parts.0 parts.1))
 
 ok_same : (x y : BlockValue) → ◌≡◌ {A = Result BlockValue BodyFault} (Ok x) (Ok y) → x ≡ y
 ok_same x y e = cc

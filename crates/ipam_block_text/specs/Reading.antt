@@ -4,7 +4,6 @@ use Rattle.std.specs.List.{list_all, starts_with}
 use Rattle.std.specs.Str.Parse.{digits_value}
 use Rattle.serde_json.specs.Data.{Data, null, boolean, number, string, array, object}
 use Rattle.serde_json.specs.Find.{get, as_str, as_u64}
-use Rattle.serde_json.specs.Read.{read}
 use Rattle.serde_json.specs.Written.{compact_text}
 use Rattle.ipam_addr.specs.Shape.{CidrValue}
 use Rattle.ipam_addr.specs.Text.{cidr_reading}
@@ -17,7 +16,9 @@ use Rattle.ipam_block.specs.Test.{is_block, content_of}
 use Rattle.ipam_block.specs.declared.allocation.Allocation.{Allocation}
 use Rattle.ipam_block.specs.declared.allocation.Attributes.{Attributes}
 use Rattle.ipam_json.specs.Path.{as_whole, is_index}
-use Rattle.ipam_json.specs.Built.{Field, items_in, members_in}
+use Rattle.ipam_json.specs.Built.{Field, members_in}
+use Rattle.ipam_json.specs.Members.{text_at, list_at, fields_at}
+use Rattle.ipam_json.specs.Held.{held}
 use Rattle.ipam_block_text.specs.declared.parts.Parts.{Parts}
 use Rattle.ipam_block_text.specs.declared.fault.BodyFault.{BodyFault}
 use Rattle.ipam_block_text.specs.declared.fault.BodyFault.TheVariants.{Form, Unsound}
@@ -32,15 +33,6 @@ each f (x ∷ xs) = option_and_then (λ y. option_map (λ ys. y ∷ ys) (each f 
 
 abbrev pub only_if : {A : Type 0} → (A → Bool) → A → Option A
 only_if test x = if test x then Some x else None
-
-abbrev pub text_at : List ℕ → Data → Option (List ℕ)
-text_at name d = option_and_then as_str (get name d)
-
-abbrev pub items_at : List ℕ → Data → Option (List Data)
-items_at name d = option_and_then items_in (get name d)
-
-abbrev pub members_at : List ℕ → Data → Option (List Field)
-members_at name d = option_and_then members_in (get name d)
 
 -- ---- the members
 
@@ -73,7 +65,7 @@ pair_in m = option_map (λ value. (m.0, value)) (as_str m.1)
 unfoldable pub secondary_in : Data → Option (List Pair)
 secondary_in d =
     option_and_then (only_if are_pairs)
-    (option_and_then (each pair_in) (members_at (codes "secondary") d))
+    (option_and_then (each pair_in) (fields_at (codes "secondary") d))
 
 unfoldable pub handle_in : Data → Option (List ℕ)
 handle_in d = option_and_then (only_if is_handle_text) (text_at (codes "handle_id") d)
@@ -95,10 +87,10 @@ unfoldable pub node_in : Data → Option (Option (List ℕ))
 node_in d = option_and_then affinity_in (get (codes "affinity") d)
 
 unfoldable pub places_in : Data → Option (List (Option ℕ))
-places_in d = option_and_then (each place_in) (items_at (codes "allocations") d)
+places_in d = option_and_then (each place_in) (list_at (codes "allocations") d)
 
 unfoldable pub all_attributes_in : Data → Option (List Attributes)
-all_attributes_in d = option_and_then (each attributes_in) (items_at (codes "attributes") d)
+all_attributes_in d = option_and_then (each attributes_in) (list_at (codes "attributes") d)
 
 unfoldable pub sequence_in : Data → Option ℕ
 sequence_in d =
@@ -106,7 +98,7 @@ sequence_in d =
     (option_and_then as_whole (get (codes "sequenceNumber") d))
 
 unfoldable pub queue_in : Data → Option (List ℕ)
-queue_in d = option_and_then (each as_whole) (items_at (codes "unallocated") d)
+queue_in d = option_and_then (each as_whole) (list_at (codes "unallocated") d)
 
 -- the parts that the value says
 unfoldable pub parts_in : Data → Option Parts
@@ -143,13 +135,18 @@ stamps_in d =
 
 -- ---- the form
 
+-- the parts and the stamps that the value says
+abbrev pub form_in : Data → Option (Parts × Data)
+form_in d =
+    option_and_then (λ parts. option_map (λ stamps. (parts, stamps)) (stamps_in d)) (parts_in d)
+
+-- the text with these parts and stamps
+abbrev pub form_text : Parts × Data → List ℕ
+form_text f = compact_text (parts_data f.0 f.1)
+
 -- the parts and the stamps that the text says, where it is the text of some
 unfoldable pub block_form : List ℕ → Option (Parts × Data)
-block_form body =
-    option_and_then (λ d.
-    option_and_then (λ parts.
-    option_and_then (λ stamps. only_if (λ f. bytes_eq (compact_text (parts_data f.0 f.1)) body) (parts, stamps))
-    (stamps_in d)) (parts_in d)) (read body)
+block_form body = held form_in form_text body
 
 -- the CIDR of the block that the text says, sound or not
 abbrev pub cidr_said : List ℕ → Option CidrValue

@@ -2,17 +2,17 @@ ghost use Rattle.std.specs.Prelude.{◌≡◌, ◌≤◌, IfOk, IfSome, map, opt
 ghost use Rattle.serde_json.specs.Find.{get};
 ghost use Rattle.serde_json.specs.View.{view};
 ghost use Rattle.std.specs.List.{list_all};
-ghost use Rattle.ipam_json.specs.Built.{fields_of, items_in, members_in};
-ghost use Rattle.ipam_json.specs.Path.{as_whole, is_index, has_leading_zero};
-ghost use Rattle.std.specs.Char.{is_ascii_digit};
+ghost use Rattle.ipam_json.specs.Built.{fields_of};
+ghost use Rattle.ipam_json.specs.Path.{as_whole};
 ghost use Rattle.ipam_addr.specs.Text.{cidr_reading};
 ghost use Rattle.ipam_addr.specs.Width.{cidr_size};
 ghost use Rattle.ipam_block_text.specs.Limits.{are_pairs, is_small_pair, keys_ascend, ascend_after};
-ghost use Rattle.ipam_block_text.specs.Reading.{each, only_if, text_at, items_at, members_at, after_host, node_named, affinity_in, place_in, pair_in, secondary_in, handle_in, attributes_in, cidr_in, small_cidr, node_in, places_in, all_attributes_in, sequence_in, queue_in, parts_in, is_number_name, is_stamp, are_stamps, stamps_in};
+ghost use Rattle.ipam_block_text.specs.Reading.{each, only_if, after_host, node_named, affinity_in, place_in, pair_in, secondary_in, handle_in, attributes_in, cidr_in, small_cidr, node_in, places_in, all_attributes_in, sequence_in, queue_in, parts_in, is_number_name, is_stamp, are_stamps, stamps_in};
 
 use crate::parts::Parts;
 use ipam_addr::{Cidr, is_handle_id, is_name, read_cidr};
 use ipam_block::{ADDRESSES_MAX, Attributes, KEY_BYTES_MAX, PAIRS_MAX, VALUE_BYTES_MAX};
+use ipam_json::{is_index, items_at, members_at, members_in, text_at, whole_at};
 use ipam_text::{Seq, Text};
 use serde_json::{Map, Value};
 use std::alloc::{AllocError, Global};
@@ -95,64 +95,6 @@ fn is_number_name(name: &str) -> bool
         return false;
     }
     name.parse::<u64>().is_ok()
-}
-
-fn is_index(name: &[u8]) -> bool
-    ensures { result ≡ is_index name.now }
-{
-    !name.is_empty() && !has_leading_zero(name) && are_digits(name)
-}
-
-fn are_digits(name: &[u8]) -> bool
-    ensures { result ≡ list_all is_ascii_digit name.now }
-{
-    name.iter().all(u8::is_ascii_digit)
-}
-
-fn has_leading_zero(digits: &[u8]) -> bool
-    ensures { result ≡ has_leading_zero digits.now }
-{
-    digits.len() > 1 && digits[0] == b'0'
-}
-
-fn text_at<'a>(value: &'a Value, name: &str) -> Option<&'a str>
-    ensures { option_map (λ t. t.now) result ≡ text_at name.now (view value.now) }
-{
-    value.get(name).and_then(Value::as_str)
-}
-
-fn items_at<'a>(value: &'a Value, name: &str) -> Option<&'a [Value]>
-    ensures { option_map (λ s. map view s.now) result ≡ items_at name.now (view value.now) }
-{
-    match value.get(name) {
-        Some(list) => items_in(list),
-        None => None,
-    }
-}
-
-#[tactic(auto, using(crate::proofs::Listed::items_listed, crate::proofs::Listed::no_items_listed))]
-fn items_in(value: &Value) -> Option<&[Value]>
-    ensures { option_map (λ s. map view s.now) result ≡ items_in (view value.now) }
-{
-    match value.as_array() {
-        Some(list) => Some(list.as_slice()),
-        None => None,
-    }
-}
-
-fn members_at<'a>(value: &'a Value, name: &str) -> Option<&'a Map<String, Value>>
-    ensures { option_map (λ m. fields_of m.now.entries) result ≡ members_at name.now (view value.now) }
-{
-    match value.get(name) {
-        Some(object) => members_in(object),
-        None => None,
-    }
-}
-
-fn members_in(value: &Value) -> Option<&Map<String, Value>>
-    ensures { option_map (λ m. fields_of m.now.entries) result ≡ members_in (view value.now) }
-{
-    value.as_object()
 }
 
 #[tactic(auto, unfolding(crate::specs::Reading::node_in))]
@@ -396,7 +338,7 @@ fn small_cidr(text: &str) -> Option<Cidr>
 fn sequence_in(value: &Value) -> Option<u64>
     ensures { result ≡ sequence_in (view value.now) }
 {
-    value.get("sequenceNumber").and_then(Value::as_u64)
+    whole_at(value, "sequenceNumber")
 }
 
 #[tactic(auto, unfolding(crate::specs::Reading::queue_in))]

@@ -1,6 +1,5 @@
-ghost use Rattle.std.specs.Prelude.{◌≡◌, ◌≢◌, ◌≤◌, Err, Some, None, IfOk, option_map, option_and_then, bytes_eq, false};
+ghost use Rattle.std.specs.Prelude.{◌≡◌, ◌≢◌, ◌≤◌, Err, Some, None, IfOk, option_and_then, bytes_eq, false};
 ghost use Rattle.ipam_addr.specs.Shape.{CidrValue};
-ghost use Rattle.serde_json.specs.Read.{read};
 ghost use Rattle.serde_json.specs.View.{view};
 ghost use Rattle.serde_json.specs.Written.{compact_text, has_float};
 ghost use Rattle.ipam_addr.specs.Width.{cidr_size};
@@ -15,6 +14,7 @@ use crate::held::block_in;
 use crate::parts::Parts;
 use crate::print::{block_text, parts_value};
 use ipam_block::{ADDRESSES_MAX, Block};
+use ipam_json::json_of;
 use serde_json::Value;
 use std::alloc::{AllocError, Global};
 
@@ -39,7 +39,7 @@ pub fn block_of(alloc: Global, body: &str) -> Result<Block, BodyFault>
 fn outcome(alloc: Global, body: &str) -> Result<Result<Block, BodyFault>, AllocError>
     ensures { IfOk result (λ r. r ≡ block_reading body.now) }
 {
-    let Some(value) = value_of(alloc, body)? else {
+    let Some(value) = json_of(alloc, body)? else {
         return Ok(Err(BodyFault::Form));
     };
     let Some(parts) = parts_in(alloc, &value)? else {
@@ -94,14 +94,4 @@ fn is_text_with(
     let value = parts_value(alloc, parts, stamps)?;
     let text = value.to_string(alloc)?;
     Ok(text.as_str() == body)
-}
-
-fn value_of(alloc: Global, body: &str) -> Result<Option<Value>, AllocError>
-    ensures { IfOk result (λ o. option_map view o ≡ read body.now) }
-{
-    match Value::from_str(alloc, body) {
-        Ok(value) => Ok(Some(value)),
-        Err(fault) if fault.is_memory() => Err(AllocError),
-        Err(_) => Ok(None),
-    }
 }

@@ -7,7 +7,7 @@ use Rattle.std.proofs.lemmas.Option.{option_and_then_some, cond_some}
 use Rattle.serde_json.specs.Data.{Data}
 use Rattle.serde_json.specs.Find.{as_object}
 use Rattle.serde_json.specs.Read.{read}
-use Rattle.ipam_record_text.specs.Reading.{only_if, whole_at, text_at}
+use Rattle.ipam_json.specs.Members.{only_if, whole_at, text_at}
 use Rattle.ipam_io.specs.Counts.{Rose}
 use Rattle.ipam_lines.specs.Feeds.{IsLine, IsTooLong, HasNoFeed}
 use Rattle.ipam_lines.specs.Lines.{IsAnswerTo, OnReadFault, OnNoReadFault}

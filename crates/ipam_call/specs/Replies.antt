@@ -5,7 +5,7 @@ use Rattle.serde_json.specs.Data.{Data, Members, no_members, member}
 use Rattle.serde_json.specs.Find.{as_object}
 use Rattle.serde_json.specs.Read.{read}
 use Rattle.ipam_lines.specs.Feeds.{IsLine, IsTooLong}
-use Rattle.ipam_record_text.specs.Reading.{◌>>=◌, only_if, whole_at, text_at}
+use Rattle.ipam_json.specs.Members.{◌>>=◌, only_if, whole_at, text_at}
 use Rattle.ipam_call.specs.declared.end.DaemonReply.{DaemonReply}
 
 abbrev pub in_reply : List ℕ → Bool

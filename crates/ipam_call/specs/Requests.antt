@@ -3,7 +3,7 @@ use Rattle.std.specs.Prelude.{ℕ, List, [], ◌∷◌, ◌++◌, length, nat_lt
 use Rattle.serde_json.specs.Data.{Data, object, string, Members, no_members, put}
 use Rattle.serde_json.specs.Written.{compact_text}
 use Rattle.ipam_json.specs.Built.{object_of}
-use Rattle.ipam_record_text.specs.Reading.{◌>>=◌, only_if}
+use Rattle.ipam_json.specs.Members.{◌>>=◌, only_if}
 use Rattle.cni_types.specs.Looking.{input_text}
 use Rattle.cni_types.specs.Reading.{Pair}
 

@@ -1,12 +1,12 @@
 //! The daemon's reply is read.
 ghost use Rattle.std.specs.Prelude.{◌≡◌, IfOk, option_map};
 ghost use Rattle.std.specs.Str.{is_utf8};
-ghost use Rattle.serde_json.specs.Read.{read};
 ghost use Rattle.serde_json.specs.View.{view, members_view};
-ghost use Rattle.ipam_record_text.specs.Reading.{only_if};
+ghost use Rattle.ipam_json.specs.Members.{only_if};
 ghost use Rattle.ipam_call.specs.Replies.{in_reply, are_of_reply, reply_in, reply_of_line};
 
 use crate::end::DaemonReply;
+use ipam_json::{json_of, text_at, whole_at};
 use ipam_text::Text;
 use serde_json::{Map, Value};
 use std::alloc::{AllocError, Global};
@@ -33,17 +33,6 @@ fn text_of(line: &[u8]) -> Option<&str>
     str::from_utf8(line).ok()
 }
 
-/// The JSON of a text, where it is some.
-pub(crate) fn json_of(alloc: Global, text: &str) -> Result<Option<Value>, AllocError>
-    ensures { IfOk result (λ o. option_map view o ≡ read text.now) }
-{
-    match Value::from_str(alloc, text) {
-        Ok(value) => Ok(Some(value)),
-        Err(error) if error.is_memory() => Err(AllocError),
-        Err(_) => Ok(None),
-    }
-}
-
 #[tactic(auto, unfolding(crate::specs::Replies::reply_in))]
 fn reply_in(alloc: Global, json: &Value) -> Result<Option<DaemonReply>, AllocError>
     ensures { IfOk result (λ found. found ≡ reply_in (view json.now)) }
@@ -54,13 +43,13 @@ fn reply_in(alloc: Global, json: &Value) -> Result<Option<DaemonReply>, AllocErr
     if !are_of_reply(members) {
         return Ok(None);
     }
-    let Some(status) = json.get("status").and_then(Value::as_u64) else {
+    let Some(status) = whole_at(json, "status") else {
         return Ok(None);
     };
     if status > 1 {
         return Ok(None);
     }
-    let Some(stdout) = json.get("stdout").and_then(Value::as_str) else {
+    let Some(stdout) = text_at(json, "stdout") else {
         return Ok(None);
     };
     let stdout = Text::copied(alloc, stdout)?;

@@ -4,9 +4,9 @@ ghost use Rattle.serde_json.specs.View.{view};
 ghost use Rattle.cni_types.specs.Looking.{told_version};
 ghost use Rattle.ipam_call.specs.Versions.{version_for};
 
-use crate::reply::json_of;
 use crate::request::input_text;
 use cni_types::Version;
+use ipam_json::{json_of, text_at};
 use serde_json::Value;
 use std::alloc::{AllocError, Global};
 
@@ -27,6 +27,6 @@ pub(crate) fn version_for(alloc: Global, input: &[u8]) -> Result<Version, AllocE
 fn told_version(json: &Value) -> Version
     ensures { result ≡ told_version (view json.now) }
 {
-    let text = json.get("cniVersion").and_then(Value::as_str).unwrap_or("");
+    let text = text_at(json, "cniVersion").unwrap_or("");
     Version::of(text).unwrap_or(Version::V1_0_0)
 }

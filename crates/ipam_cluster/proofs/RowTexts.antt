@@ -21,7 +21,7 @@ use Rattle.std.proofs.lemmas.List.Sorted.{All-permutation, IsPermutation-map, ra
 use Rattle.std.proofs.lemmas.Map.Keys.{IsDistinct-cons, IsDistinct-IsPermutation, apart_from_distinct, sorted_from_all_adjacent, sorted_head, sorted_tail}
 use Rattle.std.proofs.lemmas.Map.Text.{is_eq-slice_cmp}
 use Rattle.ipam_laws.proofs.Openings.{never-less}
-use Rattle.ipam_record_text.proofs.Held.{bytes_eq-is, bytes_eq-itself}
+use Rattle.ipam_json.proofs.Held.{bytes_eq-is, bytes_eq-itself}
 use Rattle.ipam_records.specs.declared.call.Row.{Row as RowText}
 use Rattle.ipam_records.specs.declared.key.Key.{Key}
 use Rattle.ipam_records.specs.Datastore.{Datastore, last_revision, row_key}

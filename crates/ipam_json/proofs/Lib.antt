@@ -5,3 +5,6 @@ pub mod Constructors
 pub mod Prefixes
 pub mod Utf8Texts
 pub mod Floatless
+pub mod Listed
+pub mod Held
+pub mod MemberLemmas

@@ -48,24 +48,24 @@ fn index_of(name: &str) -> Option<usize>
     ensures index { IfSome result (λ i. index_from name.now ≡ Some i) }
     ensures too_large { IfNone result ((i : ℕ) → index_from name.now ≡ Some i → 2 ^ 64 ≤ i) }
 {
-    if is_index(name) {
+    if is_index(name.as_bytes()) {
         name.parse().ok()
     } else {
         None
     }
 }
 
-fn is_index(name: &str) -> bool
+/// Whether the bytes are decimal digits, with no `0` before another.
+pub fn is_index(name: &[u8]) -> bool
     ensures { result ≡ has_index_form name.now }
 {
-    let bytes = name.as_bytes();
-    !bytes.is_empty() && !has_leading_zero(bytes) && are_digits(bytes)
+    !name.is_empty() && !has_leading_zero(name) && are_digits(name)
 }
 
-fn are_digits(bytes: &[u8]) -> bool
-    ensures { result ≡ list_all is_ascii_digit bytes.now }
+fn are_digits(name: &[u8]) -> bool
+    ensures { result ≡ list_all is_ascii_digit name.now }
 {
-    bytes.iter().all(u8::is_ascii_digit)
+    name.iter().all(u8::is_ascii_digit)
 }
 
 fn has_leading_zero(digits: &[u8]) -> bool

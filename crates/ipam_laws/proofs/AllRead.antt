@@ -10,7 +10,7 @@ use Rattle.ipam_block_text.specs.Reading.{block_form, block_in, block_reading, c
 use Rattle.ipam_pool.specs.declared.pools.Pool.{Pool}
 use Rattle.ipam_record_text.specs.declared.fault.BodyFault.{BodyFault}
 use Rattle.ipam_record_text.specs.declared.fault.BodyFault.TheVariants as in_body
-use Rattle.ipam_record_text.specs.Reading.{held}
+use Rattle.ipam_json.specs.Held.{held}
 use Rattle.ipam_record_text.specs.Config.{config_in, config_body, config_reading}
 use Rattle.ipam_record_text.specs.Pools.{are_added, pools_in, pools_body, pools_reading, table_of}
 use Rattle.ipam_record_text.specs.Reservations.{reservations_in, reservations_body, reservations_reading}

@@ -9,7 +9,7 @@ use Rattle.ipam_lines.specs.Feeds.{HasNoFeed, IsTooLong}
 use Rattle.ipam_lines.proofs.AnswerLemmas.{stays_too_long}
 use Rattle.ipam_script.specs.Lines.{is_line_end, told, placed, without_empty_end}
 use Rattle.std.specs.Str.{is_utf8}
-use Rattle.ipam_record_text.specs.Reading.{only_if}
+use Rattle.ipam_json.specs.Members.{only_if}
 use Rattle.ipam_script.specs.Reading.{line_reading, text_reading}
 use Rattle.ipam_script.proofs.Cuts.{cut, uncut, split_some, behind}
 use Rattle.ipam_play.specs.declared.refusal.LineRefusal.TheVariants.{Long, Unreadable}

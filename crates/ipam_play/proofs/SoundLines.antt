@@ -7,7 +7,7 @@ use Rattle.std.proofs.lemmas.List.Elements.{All-from_recursion}
 use Rattle.std.proofs.lemmas.Option.{option_and_then_some, cond_some}
 use Rattle.ipam_select.proofs.Choices.{and_true}
 use Rattle.ipam_records.specs.Sound.{IsHandleId}
-use Rattle.ipam_record_text.specs.Reading.{only_if}
+use Rattle.ipam_json.specs.Members.{only_if}
 use Rattle.ipam_request_text.specs.Live.{live_reading}
 use Rattle.ipam_request_text.specs.Reading.{request_reading}
 use Rattle.ipam_request_text.proofs.Lives.{live_reading-is}

@@ -13,9 +13,11 @@ use Rattle.ipam_json.proofs.ReadsBack.{read-compact_text}
 use Rattle.ipam_record_text.specs.declared.fault.BodyFault.{BodyFault}
 use Rattle.ipam_record_text.specs.declared.fault.BodyFault.TheVariants.{Form, Table, Memory}
 use Rattle.ipam_record_text.specs.Blocks.{block_at, name_at}
-use Rattle.ipam_record_text.specs.Reading.{◌>>=◌, held}
+use Rattle.ipam_json.specs.Held.{held}
+use Rattle.ipam_json.specs.Members.{◌>>=◌}
 use Rattle.ipam_record_text.specs.Affinity.{affinity_data, affinity_body, affinity_in, affinity_reading, state_at, IsAffinityRecord}
-use Rattle.ipam_record_text.proofs.Held.{held-was, held-text, reading-held, unheld-text, reading-told}
+use Rattle.ipam_record_text.proofs.Held.{reading-held, unheld-text, reading-told}
+use Rattle.ipam_json.proofs.Held.{held-was, held-text}
 use Rattle.ipam_record_text.proofs.Parts.{block_at-is, block_of-text, name_at-is, name_of-name}
 
 -- the parts of an affinity that was found

@@ -8,10 +8,12 @@ use Rattle.ipam_json.proofs.ReadsBack.{read-compact_text}
 use Rattle.ipam_record_text.specs.declared.config.Config.{Config}
 use Rattle.ipam_record_text.specs.declared.fault.BodyFault.{BodyFault}
 use Rattle.ipam_record_text.specs.declared.fault.BodyFault.TheVariants.{Form, Table, Memory}
-use Rattle.ipam_record_text.specs.Reading.{◌>>=◌, truth_at, number_at, held}
+use Rattle.ipam_json.specs.Held.{held}
+use Rattle.ipam_json.specs.Members.{◌>>=◌, truth_at, number_at}
 use Rattle.ipam_record_text.specs.Config.{config_data, config_body, config_in, config_reading, IsConfigRecord}
-use Rattle.ipam_record_text.proofs.Held.{held-was, held-text, reading-held, unheld-text, reading-told}
-use Rattle.ipam_record_text.proofs.Parts.{number_at-is}
+use Rattle.ipam_record_text.proofs.Held.{reading-held, unheld-text, reading-told}
+use Rattle.ipam_json.proofs.Held.{held-was, held-text}
+use Rattle.ipam_json.proofs.MemberLemmas.{number_at-is}
 
 -- the bound of a configuration that was found
 bound : (auto : Option Bool) (most : Option ℕ) (strict : Option Bool) (c : Config) → (auto >>= λ a. most >>= λ m. strict >>= λ s. Some (record { strict = s; auto = a; max_blocks = m })) ≡ Some c → most ≡ Some c.max_blocks

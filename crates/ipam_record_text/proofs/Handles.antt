@@ -36,12 +36,15 @@ use Rattle.ipam_json.proofs.Constructors.{IsCanonicalWithin-put, IsCanonicalWith
 use Rattle.ipam_json.proofs.ReadsBack.{read-compact_text}
 use Rattle.ipam_record_text.specs.declared.fault.BodyFault.{BodyFault}
 use Rattle.ipam_record_text.specs.declared.fault.BodyFault.TheVariants.{Form, Table, Memory}
-use Rattle.ipam_record_text.specs.Reading.{◌>>=◌, only_if, in_32_bits, members_at, held}
+use Rattle.ipam_json.specs.Held.{held}
+use Rattle.ipam_json.specs.Members.{◌>>=◌, only_if, in_32_bits, members_at}
 use Rattle.ipam_record_text.specs.Blocks.{block_of, id_at}
 use Rattle.ipam_record_text.specs.Handle.{with_counts, handle_data, handle_body, count_of_json, counted, with_new, AddsCount, counts_after, handle_of_counts, handle_in, handle_reading}
-use Rattle.ipam_record_text.proofs.Held.{held-was, held-text, reading-held, unheld-text, reading-told}
+use Rattle.ipam_record_text.proofs.Held.{reading-held, unheld-text, reading-told}
+use Rattle.ipam_json.proofs.Held.{held-was, held-text}
 use Rattle.ipam_record_text.proofs.Insertions.{insert_entry-either, below_entry, insert_entry-last, lookup-last}
-use Rattle.ipam_record_text.proofs.Parts.{in_32_bits-is, block_of-is, block_of-text, id_at-is, id_of-id}
+use Rattle.ipam_json.proofs.MemberLemmas.{in_32_bits-is}
+use Rattle.ipam_record_text.proofs.Parts.{block_of-is, block_of-text, id_at-is, id_of-id}
 
 abbrev Counts : Type 0
 Counts = List (CidrValue × ℕ)

@@ -1,5 +1,5 @@
 -- Names and CIDRs that are read of a text are sound, and are read of their own texts.
-use Rattle.std.proofs.Common.{◌≡◌, ℕ, ◌^◌, ◌<◌, true, ltb-true, List, Option, Some, None, Result, Ok, Err, refl, ap, ◌∙◌, le-leb, option_and_then}
+use Rattle.std.proofs.Common.{◌≡◌, ℕ, true, List, Some, Result, Ok, Err, refl, ap, ◌∙◌, le-leb}
 use Rattle.std.proofs.lemmas.Bool.{leb-true}
 use Rattle.std.proofs.lemmas.Option.{option_and_then_some, cond_some}
 use Rattle.serde_json.specs.Data.{Data}
@@ -11,7 +11,8 @@ use Rattle.ipam_addr.specs.Names.{is_name_text, is_handle_text}
 use Rattle.ipam_addr.proofs.CidrTextLemmas.{cidr_reading-cidr_text_of, spelled-cidr_reading}
 use Rattle.ipam_block.specs.Sound.{IsBlockCidr}
 use Rattle.ipam_record_text.specs.Blocks.{value_of, cidr_of, block_of, name_of, id_of, cidr_at, block_at, name_at, id_at}
-use Rattle.ipam_record_text.specs.Reading.{text_at, whole_at, in_32_bits, number_at}
+use Rattle.ipam_json.specs.Members.{text_at}
+use Rattle.ipam_json.proofs.MemberLemmas.{then-is}
 
 value_of-some : (r : Result CidrValue AddrFault) (c : CidrValue) → value_of r ≡ Some c → r ≡ Ok c
 value_of-some (Ok r) c e = cc
@@ -57,10 +58,6 @@ id_of-id id h = rw h refl
 
 -- ---- by name
 
-pub then-is : {A B : Type 0} (f : A → Option B) (P : B → Type 0) → ((x : A) (y : B) → f x ≡ Some y → P y) → (o : Option A) (y : B) → option_and_then f o ≡ Some y → P y
-then-is f P h (Some x) y e = h x y e
-then-is f P h None y e = cc
-
 pub cidr_at-is : (name : List ℕ) (d : Data) (r : CidrValue) → cidr_at name d ≡ Some r → IsCidr r
 cidr_at-is name d r e = then-is cidr_of IsCidr cidr_of-is (text_at name d) r e
 
@@ -72,9 +69,3 @@ name_at-is name d found e = then-is name_of (λ t. is_name_text t ≡ true) name
 
 pub id_at-is : (name : List ℕ) (d : Data) (found : List ℕ) → id_at name d ≡ Some found → is_handle_text found ≡ true
 id_at-is name d found e = then-is id_of (λ t. is_handle_text t ≡ true) id_of-is (text_at name d) found e
-
-pub in_32_bits-is : (n m : ℕ) → in_32_bits n ≡ Some m → m < 2 ^ 32
-in_32_bits-is n m e = let (small, same) = cond_some _ n m e in rw (← same) (ltb-true _ _ small)
-
-pub number_at-is : (name : List ℕ) (d : Data) (n : ℕ) → number_at name d ≡ Some n → n < 2 ^ 32
-number_at-is name d n e = then-is in_32_bits (λ k. k < 2 ^ 32) in_32_bits-is (whole_at name d) n e

@@ -10,17 +10,17 @@ use Rattle.serde_json.specs.Read.{read}
 use Rattle.serde_json.specs.View.{items_of}
 use Rattle.serde_json.specs.Written.{has_float, items_have_float}
 use Rattle.ipam_addr.specs.Shape.{CidrValue}
-use Rattle.ipam_json.specs.Canonical.{IsCanonical}
+use Rattle.ipam_json.specs.Canonical.{IsCanonical, IsCanonicalWithin}
 use Rattle.ipam_json.proofs.ReadsBack.{read-compact_text}
 use Rattle.ipam_json.proofs.Constructors.{IsCanonicalWithin-array}
-use Rattle.ipam_json.specs.Canonical.{IsCanonicalWithin}
 use Rattle.ipam_pool.specs.Changes.{refusal_of}
 use Rattle.ipam_pool.specs.declared.pools.Pool.{Pool}
 use Rattle.ipam_pool.specs.declared.pools.PoolRefusal.{PoolRefusal}
 use Rattle.ipam_pool.specs.declared.pools.PoolRefusal.TheVariants.{NameTaken, Overlap, Size, Prefix, TooMany, Memory as OutOfMemory}
 use Rattle.ipam_record_text.specs.declared.fault.BodyFault.{BodyFault}
 use Rattle.ipam_record_text.specs.declared.fault.BodyFault.TheVariants.{Form, Table, Memory as NoMemory}
-use Rattle.ipam_record_text.specs.Reading.{◌>>=◌, only_if, truth_at, number_at, items_at, held}
+use Rattle.ipam_json.specs.Members.{◌>>=◌, only_if, truth_at, number_at, items_at}
+use Rattle.ipam_json.specs.Held.{held}
 use Rattle.ipam_record_text.specs.Blocks.{cidr_at, name_at}
 use Rattle.ipam_json.specs.Built.{Field, members_from, object_of}
 use Rattle.ipam_pool.specs.declared.pools.Mode.{Mode}
@@ -32,8 +32,9 @@ use Rattle.ipam_record_text.specs.Rules.{mode_fields, selector_fields_unless, se
 use Rattle.ipam_record_text.proofs.RuleLemmas.{selector_of-is, selector_of-printed, every_or}
 use Rattle.ipam_record_text.specs.Pools.{plain_fields, pool_data, pools_data, pools_body, plain_in, pool_in, pools_in, pools_after, size_at, are_added, table_of, refusal_fault, pools_reading, IsSoundPool, IsPoolsRecord, HasRefusedPool}
 use Rattle.ipam_record_text.proofs.Standing.{standing_table, added_stands}
-use Rattle.ipam_record_text.proofs.Held.{held-was, held-text}
-use Rattle.ipam_record_text.proofs.Parts.{then-is, cidr_at-is, cidr_of-text, name_at-is, name_of-name}
+use Rattle.ipam_json.proofs.Held.{held-was, held-text}
+use Rattle.ipam_json.proofs.MemberLemmas.{then-is}
+use Rattle.ipam_record_text.proofs.Parts.{cidr_at-is, cidr_of-text, name_at-is, name_of-name}
 
 -- the fields of a pool, by its mode and whether it is for all nodes
 abbrev fields_by : Mode → Bool → Pool → List Field

@@ -26,11 +26,14 @@ use Rattle.ipam_json.proofs.Constructors.{IsCanonicalWithin-array, IsCanonicalWi
 use Rattle.ipam_reserve.specs.Shape.{ReservationValue}
 use Rattle.ipam_record_text.specs.declared.fault.BodyFault.{BodyFault}
 use Rattle.ipam_record_text.specs.declared.fault.BodyFault.TheVariants.{Form, Table, Memory}
-use Rattle.ipam_record_text.specs.Reading.{◌>>=◌, only_if, items_at, held}
+use Rattle.ipam_json.specs.Held.{held}
+use Rattle.ipam_json.specs.Members.{◌>>=◌, only_if, items_at}
 use Rattle.ipam_record_text.specs.Blocks.{cidr_of, name_at}
 use Rattle.ipam_record_text.specs.Reservations.{cidr_data, reservation_data, reservations_data, reservations_body, IsReservation, IsReservationsRecord, cidr_in, cidrs_after, named_cidrs, reservation_in, may_follow, reservations_after, reservations_in, reservations_reading}
-use Rattle.ipam_record_text.proofs.Held.{held-was, held-text, reading-held, unheld-text, reading-told}
-use Rattle.ipam_record_text.proofs.Parts.{then-is, cidr_of-is, cidr_of-text, name_at-is, name_of-name}
+use Rattle.ipam_record_text.proofs.Held.{reading-held, unheld-text, reading-told}
+use Rattle.ipam_record_text.proofs.Parts.{cidr_of-is, cidr_of-text, name_at-is, name_of-name}
+use Rattle.ipam_json.proofs.Held.{held-was, held-text}
+use Rattle.ipam_json.proofs.MemberLemmas.{then-is}
 
 -- a reservation as it is read, item by item
 pub record IsSoundReservation (r : ReservationValue) : Type 0 where

@@ -21,7 +21,7 @@ use Rattle.ipam_pool.specs.Changes.{refusal_of, has_name, is_size_allowed}
 use Rattle.ipam_pool.specs.Sound.{IsPoolTable}
 use Rattle.ipam_pool.specs.declared.pools.Pool.{Pool}
 use Rattle.ipam_record_text.specs.Pools.{are_added, IsSoundPool, IsPoolsRecord}
-use Rattle.ipam_record_text.proofs.Held.{bytes_eq-is}
+use Rattle.ipam_json.proofs.Held.{bytes_eq-is}
 
 -- a size that the family allows passes the test
 allowed_test : (f : Family) (size : ℕ) → AllowsSize f size → is_size_allowed f size ≡ true

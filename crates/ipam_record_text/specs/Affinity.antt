@@ -9,7 +9,8 @@ use Rattle.ipam_affinity.specs.declared.state.State.{State}
 use Rattle.ipam_affinity.specs.declared.record.Affinity.{Affinity}
 use Rattle.ipam_json.specs.Built.{object_of}
 use Rattle.ipam_record_text.specs.declared.fault.BodyFault.{BodyFault}
-use Rattle.ipam_record_text.specs.Reading.{◌>>=◌, text_at, reading}
+use Rattle.ipam_json.specs.Members.{◌>>=◌, text_at}
+use Rattle.ipam_record_text.specs.Reading.{reading}
 use Rattle.ipam_block.specs.Sound.{IsBlockCidr}
 use Rattle.ipam_record_text.specs.Blocks.{block_at, name_at}
 

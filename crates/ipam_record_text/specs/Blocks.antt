@@ -7,7 +7,7 @@ use Rattle.ipam_addr.specs.Text.{cidr_reading}
 use Rattle.ipam_addr.specs.Width.{cidr_size}
 use Rattle.ipam_addr.specs.Names.{is_name_text, is_handle_text}
 use Rattle.ipam_block.specs.declared.limits.TheConstants.{ADDRESSES_MAX}
-use Rattle.ipam_record_text.specs.Reading.{◌>>=◌, only_if, text_at}
+use Rattle.ipam_json.specs.Members.{◌>>=◌, only_if, text_at}
 
 abbrev pub value_of : Result CidrValue AddrFault → Option CidrValue
 value_of (Ok r) = Some r

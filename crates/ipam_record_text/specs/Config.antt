@@ -5,7 +5,8 @@ use Rattle.serde_json.specs.Written.{compact_text}
 use Rattle.ipam_json.specs.Built.{object_of}
 use Rattle.ipam_record_text.specs.declared.config.Config.{Config}
 use Rattle.ipam_record_text.specs.declared.fault.BodyFault.{BodyFault}
-use Rattle.ipam_record_text.specs.Reading.{◌>>=◌, truth_at, number_at, reading}
+use Rattle.ipam_json.specs.Members.{◌>>=◌, truth_at, number_at}
+use Rattle.ipam_record_text.specs.Reading.{reading}
 
 -- the JSON of a configuration
 unfoldable pub config_data : Config → Data

@@ -11,7 +11,8 @@ use Rattle.ipam_handle.specs.Order.{cidr_cmp}
 use Rattle.ipam_json.specs.Built.{object_of}
 use Rattle.ipam_json.specs.Path.{as_whole}
 use Rattle.ipam_record_text.specs.declared.fault.BodyFault.{BodyFault}
-use Rattle.ipam_record_text.specs.Reading.{◌>>=◌, only_if, in_32_bits, members_at, reading}
+use Rattle.ipam_json.specs.Members.{◌>>=◌, only_if, in_32_bits, members_at}
+use Rattle.ipam_record_text.specs.Reading.{reading}
 use Rattle.ipam_record_text.specs.Blocks.{block_of, id_at}
 
 -- the members, and each block's text with its count at its place among them

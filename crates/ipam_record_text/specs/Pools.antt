@@ -16,7 +16,8 @@ use Rattle.ipam_pool.specs.declared.pools.PoolRefusal.{PoolRefusal}
 use Rattle.ipam_pool.specs.declared.pools.PoolRefusal.TheVariants.{Memory as OutOfMemory}
 use Rattle.ipam_record_text.specs.declared.fault.BodyFault.{BodyFault}
 use Rattle.ipam_record_text.specs.declared.fault.BodyFault.TheVariants.{Form, Table, Memory as NoMemory}
-use Rattle.ipam_record_text.specs.Reading.{◌>>=◌, only_if, truth_at, number_at, items_at, held}
+use Rattle.ipam_json.specs.Members.{◌>>=◌, only_if, truth_at, number_at, items_at}
+use Rattle.ipam_json.specs.Held.{held}
 use Rattle.ipam_record_text.specs.Blocks.{cidr_at, name_at}
 use Rattle.ipam_record_text.specs.Rules.{mode_fields, selector_fields, mode_in, selector_in}
 

@@ -12,7 +12,8 @@ use Rattle.ipam_json.specs.Built.{object_of, array_of}
 use Rattle.ipam_reserve.specs.declared.reservations.TheConstants.{MOST_CIDRS, MOST_RESERVATIONS}
 use Rattle.ipam_reserve.specs.Shape.{ReservationValue}
 use Rattle.ipam_record_text.specs.declared.fault.BodyFault.{BodyFault}
-use Rattle.ipam_record_text.specs.Reading.{◌>>=◌, only_if, items_at, reading}
+use Rattle.ipam_json.specs.Members.{◌>>=◌, only_if, items_at}
+use Rattle.ipam_record_text.specs.Reading.{reading}
 use Rattle.ipam_record_text.specs.Blocks.{cidr_of, name_at}
 
 abbrev pub cidr_data : CidrValue → Data

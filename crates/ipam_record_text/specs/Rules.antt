@@ -9,7 +9,7 @@ use Rattle.ipam_select.specs.Reading.{reading}
 use Rattle.ipam_select.specs.Sound.{is_short}
 use Rattle.ipam_pool.specs.declared.pools.Mode.{Mode}
 use Rattle.ipam_pool.specs.declared.pools.Mode.TheVariants.{Automatic, Manual}
-use Rattle.ipam_record_text.specs.Reading.{◌>>=◌, only_if, text_at}
+use Rattle.ipam_json.specs.Members.{◌>>=◌, only_if, text_at}
 
 -- the mode, where it is manual
 abbrev pub mode_fields : Mode → List Field

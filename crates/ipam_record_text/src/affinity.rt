@@ -1,13 +1,13 @@
 ghost use Rattle.std.specs.Prelude.{◌≡◌, ◌≢◌, Err, Some, IfOk, option_map, string_bytes};
 ghost use Rattle.serde_json.specs.View.{view};
-ghost use Rattle.ipam_record_text.specs.Reading.{held};
 ghost use Rattle.ipam_record_text.specs.Affinity.{affinity_data, affinity_body, affinity_in, state_at, IsAffinityRecord};
+ghost use Rattle.ipam_json.specs.Held.{held};
 
 use crate::blocks::{block_at, cidr_text, name_at};
 use crate::fault::BodyFault;
-use crate::members::{json_of, text_at};
 use ipam_addr::Cidr;
 use ipam_affinity::{Affinity, State};
+use ipam_json::{json_of, text_at};
 use ipam_text::Text;
 use serde_json::{Value, json};
 use std::alloc::{AllocError, Global};
@@ -45,7 +45,7 @@ pub fn affinity_of(alloc: Global, body: &str) -> Result<Affinity, BodyFault>
     }
 }
 
-#[tactic(auto, unfolding(crate::specs::Reading::held))]
+#[tactic(auto, unfolding(ipam_json::specs::Held::held))]
 fn held_affinity(alloc: Global, body: &str) -> Result<Option<Affinity>, AllocError>
     ensures { IfOk result (λ held_value. held_value ≡ held affinity_in affinity_body body.now) }
 {

@@ -5,9 +5,9 @@ ghost use Rattle.ipam_addr.specs.Text.{cidr_text_of};
 ghost use Rattle.ipam_addr.specs.Width.{cidr_size};
 ghost use Rattle.ipam_record_text.specs.Blocks.{cidr_of, block_of, name_of, id_of, cidr_at, block_at, name_at, id_at};
 
-use crate::members::text_at;
 use ipam_addr::{Cidr, is_handle_id, is_name, push_cidr, read_cidr};
 use ipam_block::ADDRESSES_MAX;
+use ipam_json::text_at;
 use serde_json::Value;
 use std::alloc::{AllocError, Global};
 

@@ -1,10 +1,10 @@
 ghost use Rattle.std.specs.Prelude.{◌≡◌, ◌≢◌, Err, IfOk, string_bytes};
 ghost use Rattle.serde_json.specs.View.{view};
-ghost use Rattle.ipam_record_text.specs.Reading.{held};
 ghost use Rattle.ipam_record_text.specs.Config.{config_data, config_body, config_in, IsConfigRecord};
+ghost use Rattle.ipam_json.specs.Held.{held};
 
 use crate::fault::BodyFault;
-use crate::members::{json_of, number_at, truth_at};
+use ipam_json::{json_of, number_at, truth_at};
 use serde_json::{Value, json};
 use std::alloc::{AllocError, Global};
 
@@ -53,7 +53,7 @@ pub fn config_of(alloc: Global, body: &str) -> Result<Config, BodyFault>
     }
 }
 
-#[tactic(auto, unfolding(crate::specs::Reading::held))]
+#[tactic(auto, unfolding(ipam_json::specs::Held::held))]
 fn held_config(alloc: Global, body: &str) -> Result<Option<Config>, AllocError>
     ensures { IfOk result (λ held_value. held_value ≡ held config_in config_body body.now) }
 {

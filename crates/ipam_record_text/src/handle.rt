@@ -5,14 +5,14 @@ ghost use Rattle.serde_json.specs.View.{view, members_view};
 ghost use Rattle.ipam_handle.specs.Shape.{HandleValue};
 ghost use Rattle.ipam_handle.specs.Operations.{content, count_in};
 ghost use Rattle.ipam_handle.specs.Sound.{AreCounts, IsHandleRecord};
-ghost use Rattle.ipam_record_text.specs.Reading.{held};
 ghost use Rattle.ipam_record_text.specs.Handle.{handle_data, handle_body, with_counts, count_of_json, counted, AddsCount, counts_after, handle_of_counts, handle_in};
+ghost use Rattle.ipam_json.specs.Held.{held};
 
 use crate::blocks::{block_of, cidr_text, id_at};
 use crate::fault::BodyFault;
-use crate::members::{in_32_bits, json_of, members_at};
 use ipam_addr::Cidr;
 use ipam_handle::Handle;
+use ipam_json::{in_32_bits, json_of, members_at};
 use ipam_text::{Seq, Text};
 use serde_json::{Map, Value, json, put};
 use std::alloc::{AllocError, Global};
@@ -62,7 +62,7 @@ pub fn handle_of(alloc: Global, body: &str) -> Result<Handle, BodyFault>
     }
 }
 
-#[tactic(auto, unfolding(crate::specs::Reading::held))]
+#[tactic(auto, unfolding(ipam_json::specs::Held::held))]
 fn held_handle(alloc: Global, body: &str) -> Result<Option<Handle>, AllocError>
     ensures { IfOk result (λ held_value. held_value ≡ held handle_in handle_body body.now) }
 {

@@ -8,7 +8,6 @@ mod config;
 mod fault;
 mod handle;
 pub mod laws;
-mod members;
 mod pools;
 mod reservations;
 mod rules;

@@ -3,16 +3,16 @@ ghost use Rattle.serde_json.specs.View.{view, items_view, members_view};
 ghost use Rattle.ipam_json.specs.Built.{members_from};
 ghost use Rattle.ipam_select.specs.Formula.{every};
 ghost use Rattle.ipam_record_text.specs.Rules.{mode_in};
-ghost use Rattle.ipam_record_text.specs.Reading.{held};
 ghost use Rattle.ipam_record_text.specs.Pools.{plain_fields, pool_data, pools_data, pools_body, plain_in, pool_in, pools_in, pools_after, size_at, table_of, refusal_fault, IsSoundPool, IsPoolsRecord, HasRefusedPool};
+ghost use Rattle.ipam_json.specs.Held.{held};
 ghost use Rattle.ipam_pool.specs.declared.pools.Pool.{Pool as OnePool};
 ghost use Rattle.std.specs.List.{AllByRecursion};
 
 use crate::blocks::{cidr_at, cidr_text, name_at};
 use crate::fault::BodyFault;
-use crate::members::{items_at, json_of, number_at, truth_at};
 use crate::rules::{mode_in, put_mode, put_selector, selector_in};
 use ipam_addr::Cidr;
+use ipam_json::{items_at, json_of, number_at, truth_at};
 use ipam_pool::{Pool, PoolRefusal, PoolTable};
 use ipam_text::Text;
 use serde_json::{Map, Value, json, put};
@@ -116,7 +116,7 @@ fn refusal_fault(refusal: PoolRefusal) -> BodyFault
     }
 }
 
-#[tactic(auto, unfolding(crate::specs::Reading::held))]
+#[tactic(auto, unfolding(ipam_json::specs::Held::held))]
 fn held_pools(alloc: Global, body: &str) -> Result<Option<Vec<Pool>>, AllocError>
     ensures { IfOk result
         (λ found. option_map (λ v. v.items) found ≡ held pools_in pools_body body.now) }

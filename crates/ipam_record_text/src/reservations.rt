@@ -2,13 +2,13 @@ ghost use Rattle.std.specs.Prelude.{◌≡◌, ◌≢◌, ◌≤◌, [], ◌∷�
 ghost use Rattle.std.specs.List.{list_any};
 ghost use Rattle.serde_json.specs.View.{view, items_view};
 ghost use Rattle.ipam_reserve.specs.Shape.{ReservationValue};
-ghost use Rattle.ipam_record_text.specs.Reading.{held};
 ghost use Rattle.ipam_record_text.specs.Reservations.{cidr_data, reservation_data, reservations_data, reservations_body, cidr_in, cidrs_after, named_cidrs, reservation_in, may_follow, reservations_after, reservations_in, IsReservationsRecord};
+ghost use Rattle.ipam_json.specs.Held.{held};
 
 use crate::blocks::{cidr_of, cidr_text, name_at};
 use crate::fault::BodyFault;
-use crate::members::{items_at, json_of};
 use ipam_addr::Cidr;
+use ipam_json::{items_at, json_of};
 use ipam_reserve::{MOST_RESERVATIONS, Reservation};
 use ipam_text::{Seq, Text};
 use serde_json::{Value, json};
@@ -75,7 +75,7 @@ pub fn reservations_of(alloc: Global, body: &str) -> Result<Seq<Reservation>, Bo
     }
 }
 
-#[tactic(auto, unfolding(crate::specs::Reading::held))]
+#[tactic(auto, unfolding(ipam_json::specs::Held::held))]
 fn held_reservations(alloc: Global, body: &str) -> Result<Option<Vec<Reservation>>, AllocError>
     ensures { IfOk result (λ found. option_map (λ v. v.items) found
         ≡ held reservations_in reservations_body body.now) }

@@ -6,7 +6,7 @@ ghost use Rattle.serde_json.specs.View.{view, members_view};
 ghost use Rattle.ipam_select.specs.Printing.{printed};
 ghost use Rattle.ipam_record_text.specs.Rules.{mode_fields, selector_fields, with_fields, mode_of, mode_in, selector_of, selector_in};
 
-use crate::members::text_at;
+use ipam_json::text_at;
 use ipam_pool::Mode;
 use ipam_select::{NodeSelector, SelectFault, Selector, push_selector};
 use serde_json::{Map, Value, put};

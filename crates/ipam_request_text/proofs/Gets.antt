@@ -21,7 +21,7 @@ use Rattle.ipam_select.specs.Every.{is_every}
 use Rattle.ipam_select.specs.Sound.{is_sound}
 use Rattle.ipam_pool.specs.declared.pools.Mode.{Mode}
 use Rattle.ipam_pool.specs.declared.pools.Mode.TheVariants.{Automatic, Manual}
-use Rattle.ipam_record_text.specs.Reading.{◌>>=◌}
+use Rattle.ipam_json.specs.Members.{◌>>=◌}
 use Rattle.ipam_record_text.proofs.RuleLemmas.{selector_of-printed, every_or}
 use Rattle.ipam_model.specs.Pairs.{Pair}
 use Rattle.ipam_request_text.specs.Parts.{whole_data, texts_data, pairs_data, address_data, scope_data, selector_data}

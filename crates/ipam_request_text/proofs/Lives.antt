@@ -10,7 +10,7 @@ use Rattle.ipam_addr.specs.Names.{is_handle_text}
 use Rattle.ipam_json.specs.Canonical.{IsCanonical, IsCanonicalWithin}
 use Rattle.ipam_json.proofs.ReadsBack.{read-compact_text}
 use Rattle.ipam_json.proofs.Constructors.{IsCanonicalWithin-array, IsCanonicalWithin-string}
-use Rattle.ipam_record_text.specs.Reading.{◌>>=◌, only_if}
+use Rattle.ipam_json.specs.Members.{◌>>=◌, only_if}
 use Rattle.ipam_records.specs.Sound.{IsHandleId}
 use Rattle.ipam_request_text.specs.Parts.{texts_data}
 use Rattle.ipam_request_text.specs.Requests.{live_text}

@@ -1,5 +1,5 @@
 -- What the members of a request's objects hold.
-use Rattle.std.specs.Prelude.{ℕ, ◌^◌, List, [], ◌∷◌, ◌++◌, codes, Bool, true, false, bytes_eq, nat_lt, Option, Some, None, option_and_then, option_map, if◌then◌else◌}
+use Rattle.std.specs.Prelude.{ℕ, List, [], ◌∷◌, ◌++◌, codes, Bool, true, false, bytes_eq, Option, Some, None, option_and_then, option_map, if◌then◌else◌}
 use Rattle.serde_json.specs.Data.{Data, Items, no_items, item, Members, no_members, member}
 use Rattle.serde_json.specs.Find.{get, as_bool, as_str, as_array, as_object}
 use Rattle.ipam_json.specs.Path.{as_whole}
@@ -8,7 +8,7 @@ use Rattle.ipam_addr.specs.Text.{address_of}
 use Rattle.ipam_select.specs.Formula.{Formula, every}
 use Rattle.ipam_pool.specs.declared.pools.Mode.{Mode}
 use Rattle.ipam_pool.specs.declared.pools.Mode.TheVariants.{Automatic, Manual}
-use Rattle.ipam_record_text.specs.Reading.{◌>>=◌, only_if, text_at, in_32_bits}
+use Rattle.ipam_json.specs.Members.{◌>>=◌, only_if, text_at, in_8_bits, in_32_bits}
 use Rattle.ipam_record_text.specs.Reservations.{cidr_in}
 use Rattle.ipam_record_text.specs.Rules.{selector_of}
 use Rattle.ipam_model.specs.Pairs.{Pair}
@@ -32,9 +32,6 @@ number_in d = option_and_then in_32_bits (as_whole d)
 
 abbrev pub number_or_0 : List ℕ → Data → Option ℕ
 number_or_0 name d = found_or 0 number_in (get name d)
-
-abbrev pub in_8_bits : ℕ → Option ℕ
-in_8_bits n = only_if (nat_lt n (2 ^ 8)) n
 
 -- the whole number of this name, where 8 bits hold it
 abbrev pub small_at : List ℕ → Data → Option ℕ

@@ -4,7 +4,7 @@ use Rattle.serde_json.specs.Data.{Data, Items, no_items, item}
 use Rattle.serde_json.specs.Find.{as_str, as_array}
 use Rattle.serde_json.specs.Read.{read}
 use Rattle.ipam_addr.specs.Names.{is_handle_text}
-use Rattle.ipam_record_text.specs.Reading.{◌>>=◌, only_if}
+use Rattle.ipam_json.specs.Members.{◌>>=◌, only_if}
 
 -- the text, where it is the id of a handle
 unfoldable pub id_of : List ℕ → Option (List ℕ)

@@ -1,12 +1,12 @@
 -- What a text is read as, where it is that of a request.
 use Rattle.std.specs.Prelude.{ℕ, List, [], codes, true, false, Option, Some, None, option_map, option_and_then}
-use Rattle.serde_json.specs.Data.{Data, Members, no_members, member}
+use Rattle.serde_json.specs.Data.{Data}
 use Rattle.serde_json.specs.Find.{get, as_object}
 use Rattle.serde_json.specs.Read.{read}
 use Rattle.std.specs.Str.{is_utf8}
 use Rattle.ipam_pool.specs.declared.pools.Pool.{Pool as OnePool}
 use Rattle.ipam_record_text.specs.declared.config.Config.{Config as Settings}
-use Rattle.ipam_record_text.specs.Reading.{◌>>=◌, only_if, truth_at, text_at, items_at}
+use Rattle.ipam_json.specs.Members.{◌>>=◌, only_if, truth_at, text_at, items_at}
 use Rattle.ipam_record_text.specs.Reservations.{cidrs_after, named_cidrs}
 use Rattle.ipam_model.specs.declared.request.AddRequest.{AddRequest}
 use Rattle.ipam_model.specs.declared.request.Admin.TheVariants as change
@@ -126,12 +126,6 @@ shaped_in Reserve d = reserve_in d
 shaped_in Unreserve d = option_map (λ name. request.Admin (change.Unreserve name)) (text_at (codes "name") d)
 shaped_in Config d = option_map (λ settings. request.Admin (change.Config settings)) (config_in d)
 shaped_in Scope d = None
-
--- the name and the value of the one member
-abbrev pub only_member : Members → Option (List ℕ × Data)
-only_member no_members = None
-only_member (member name d no_members) = Some (name, d)
-only_member (member name d (member other e ms)) = None
 
 -- the same of an object whose members are all known
 unfoldable pub known_in : Shape → Data → Option Request

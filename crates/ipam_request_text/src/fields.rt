@@ -1,43 +1,19 @@
 //! What the members of a request's objects hold.
 ghost use Rattle.std.specs.Prelude.{◌≡◌, [], ◌∷◌, ◌++◌, IfOk, option_map};
 ghost use Rattle.serde_json.specs.View.{view, items_view, members_view};
-ghost use Rattle.ipam_record_text.specs.Reading.{truth_at, text_at, items_at, in_32_bits};
 ghost use Rattle.ipam_record_text.specs.Rules.{selector_of};
 ghost use Rattle.ipam_record_text.specs.Blocks.{cidr_of};
 ghost use Rattle.ipam_record_text.specs.Reservations.{cidr_in, cidrs_after};
-ghost use Rattle.ipam_request_text.specs.Fields.{truth_or, whole_or_0, number_in, number_or_0, in_8_bits, small_at, texts_after, texts_in, texts_or_none, pairs_after, pairs_in, pairs_or_none, address_in, addresses_after, cidr_at, mode_named, mode_in, mode_or, selector_in, selector_or, named_scope, scope_in, scope_or};
+ghost use Rattle.ipam_request_text.specs.Fields.{truth_or, whole_or_0, number_in, number_or_0, small_at, texts_after, texts_in, texts_or_none, pairs_after, pairs_in, pairs_or_none, address_in, addresses_after, cidr_at, mode_named, mode_in, mode_or, selector_in, selector_or, named_scope, scope_in, scope_or};
 
 use crate::shape::{Shape, are_known};
 use ipam_addr::{Addr, Cidr, read_addr, read_cidr};
+use ipam_json::{in_8_bits, in_32_bits, text_at, whole_at};
 use ipam_pool::Mode;
 use ipam_select::{NodeSelector, SelectFault, Selector};
 use ipam_text::{Seq, Text};
 use serde_json::{Map, Value};
 use std::alloc::{AllocError, Global};
-
-/// The `true` or `false` of this name.
-pub(crate) fn truth_at(value: &Value, name: &str) -> Option<bool>
-    ensures { result ≡ truth_at name.now (view value.now) }
-{
-    value.get(name).and_then(Value::as_bool)
-}
-
-/// The text of this name.
-pub(crate) fn text_at<'a>(value: &'a Value, name: &str) -> Option<&'a str>
-    ensures { option_map (λ t. t.now) result ≡ text_at name.now (view value.now) }
-{
-    value.get(name).and_then(Value::as_str)
-}
-
-/// The items of the array of this name.
-pub(crate) fn items_at<'a>(value: &'a Value, name: &str) -> Option<&'a [Value]>
-    ensures { option_map (λ l. items_view l.now) result ≡ items_at name.now (view value.now) }
-{
-    match value.get(name).and_then(Value::as_array) {
-        Some(list) => Some(list.as_slice()),
-        None => None,
-    }
-}
 
 /// The `true` or `false` of this name, or what a request has without it.
 pub(crate) fn truth_or(value: &Value, name: &str, missing: bool) -> Option<bool>
@@ -75,23 +51,11 @@ fn number_in(value: &Value) -> Option<u32>
     in_32_bits(value.as_u64()?)
 }
 
-fn in_32_bits(number: u64) -> Option<u32>
-    ensures { result ≡ in_32_bits number }
-{
-    u32::try_from(number).ok()
-}
-
 /// The whole number of this name, where 8 bits hold it.
 pub(crate) fn small_at(value: &Value, name: &str) -> Option<u8>
     ensures { result ≡ small_at name.now (view value.now) }
 {
-    in_8_bits(value.get(name).and_then(Value::as_u64)?)
-}
-
-fn in_8_bits(number: u64) -> Option<u8>
-    ensures { result ≡ in_8_bits number }
-{
-    u8::try_from(number).ok()
+    in_8_bits(whole_at(value, name)?)
 }
 
 /// The texts of the array.

@@ -1,13 +1,13 @@
 //! Lists of live handles are read.
 ghost use Rattle.std.specs.Prelude.{◌≡◌, [], Err, Some, None, IfOk, IfSome, option_map};
 ghost use Rattle.std.specs.List.{AllByRecursion};
-ghost use Rattle.serde_json.specs.Read.{read};
 ghost use Rattle.serde_json.specs.View.{view, items_view};
 ghost use Rattle.ipam_records.specs.Sound.{IsHandleId};
 ghost use Rattle.ipam_request_text.specs.Live.{live_reading, live_in, ids_after, id_in, id_of};
 
 use crate::fault::AskFault;
 use ipam_addr::is_handle_id;
+use ipam_json::json_of;
 use ipam_text::{Seq, Text};
 use serde_json::Value;
 use std::alloc::{AllocError, Global};
@@ -32,17 +32,6 @@ fn live_found(alloc: Global, text: &str) -> Result<Option<Seq<Text>>, AllocError
         return Ok(None);
     };
     live_in_json(alloc, &json)
-}
-
-/// The JSON of a text, where it is some.
-pub(crate) fn json_of(alloc: Global, text: &str) -> Result<Option<Value>, AllocError>
-    ensures { IfOk result (λ o. option_map view o ≡ read text.now) }
-{
-    match Value::from_str(alloc, text) {
-        Ok(value) => Ok(Some(value)),
-        Err(error) if error.is_memory() => Err(AllocError),
-        Err(_) => Ok(None),
-    }
 }
 
 /// The handles that this JSON lists. The list of a text is that of its JSON.

@@ -5,12 +5,12 @@ ghost use Rattle.serde_json.specs.View.{view};
 ghost use Rattle.ipam_request_text.specs.Reading.{probe_in, add_of, add_in, asked_in, any_add_in, check_in, release_in, collect_in, pool_in, disable_in, reserve_in, config_in, shaped_in};
 
 use crate::fields::{
-    address_in, addresses_of, cidr_at, cidrs_of, items_at, mode_or, number_or_0, pairs_or_none,
-    scope_or, selector_or, small_at, text_at, texts_in, texts_or_none, truth_at, truth_or,
-    whole_or_0,
+    address_in, addresses_of, cidr_at, cidrs_of, mode_or, number_or_0, pairs_or_none, scope_or,
+    selector_or, small_at, texts_in, texts_or_none, truth_or, whole_or_0,
 };
 use crate::shape::Shape;
 use ipam_block::Attributes;
+use ipam_json::{items_at, text_at, truth_at};
 use ipam_model::{AddRequest, Admin, CollectRequest, ProbeRequest, Request};
 use ipam_pool::Pool;
 use ipam_records::Config;

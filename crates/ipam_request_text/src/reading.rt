@@ -1,16 +1,16 @@
 //! Requests are read.
-ghost use Rattle.std.specs.Prelude.{◌≡◌, [], Err, Some, None, IfOk, IfSome, option_map};
-ghost use Rattle.serde_json.specs.View.{view, members_view};
+ghost use Rattle.std.specs.Prelude.{◌≡◌, [], Err, Some, None, IfOk, IfSome};
+ghost use Rattle.serde_json.specs.View.{view};
 ghost use Rattle.ipam_model.specs.SoundRequest.{IsSoundRequest};
-ghost use Rattle.ipam_request_text.specs.Reading.{only_member, known_in, named_in, request_in, sound_request_in, request_reading, request_of_bytes};
+ghost use Rattle.ipam_request_text.specs.Reading.{known_in, named_in, request_in, sound_request_in, request_reading, request_of_bytes};
 
 use crate::fault::AskFault;
-use crate::live::json_of;
 use crate::objects::shaped_in;
 use crate::shape::{Shape, are_known, shape_named};
 use crate::sound::is_sound;
+use ipam_json::{json_of, only_member};
 use ipam_model::Request;
-use serde_json::{Map, Value};
+use serde_json::Value;
 use std::alloc::{AllocError, Global};
 
 /// The request whose text this is, in any spelling of its JSON. Members that a request does not
@@ -82,19 +82,6 @@ fn request_in(alloc: Global, json: &Value) -> Result<Option<Request>, AllocError
         return Ok(None);
     };
     named_in(alloc, name, value)
-}
-
-/// The name and the value of the one member.
-fn only_member(members: &Map<String, Value>) -> Option<(&str, &Value)>
-    ensures { option_map (λ only. (only.0.now, view only.1.now)) result
-        ≡ only_member (members_view members.now.entries) }
-{
-    let mut entries = members.iter();
-    let (name, value) = entries.next()?;
-    if entries.next().is_some() {
-        return None;
-    }
-    Some((name.as_str(), value))
 }
 
 #[tactic(auto, unfolding(crate::specs::Reading::named_in))]

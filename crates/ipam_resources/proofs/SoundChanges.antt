@@ -20,7 +20,7 @@ use Rattle.ipam_reserve.specs.Shape.{ReservationValue}
 use Rattle.ipam_record_text.specs.declared.config.Config.{Config as Settings}
 use Rattle.ipam_record_text.specs.Pools.{IsSoundPool}
 use Rattle.ipam_record_text.specs.Reservations.{IsReservation, named_cidrs}
-use Rattle.ipam_record_text.proofs.Parts.{then-is}
+use Rattle.ipam_json.proofs.MemberLemmas.{then-is}
 use Rattle.ipam_model.specs.SoundRequest.{IsSoundChange}
 use Rattle.ipam_resources.specs.declared.fault.DocumentFault.TheVariants as fault
 use Rattle.ipam_resources.specs.declared.fault.TheConstants.{DOCUMENT_MAX}

@@ -25,10 +25,11 @@ use Rattle.ipam_addr.proofs.SpelledLemmas.{IsAddress-spelled}
 use Rattle.ipam_addr.proofs.TextLemmas.{spelled-address_of}
 use Rattle.ipam_select.specs.Formula.{Formula}
 use Rattle.ipam_select.specs.Sound.{is_sound}
-use Rattle.ipam_record_text.specs.Reading.{◌>>=◌, in_32_bits}
+use Rattle.ipam_json.specs.Members.{◌>>=◌, in_32_bits}
 use Rattle.ipam_record_text.specs.Blocks.{cidr_of, name_of}
 use Rattle.ipam_record_text.specs.Rules.{selector_of}
-use Rattle.ipam_record_text.proofs.Parts.{then-is, cidr_of-is, name_of-is, in_32_bits-is}
+use Rattle.ipam_json.proofs.MemberLemmas.{then-is, in_32_bits-is}
+use Rattle.ipam_record_text.proofs.Parts.{cidr_of-is, name_of-is}
 use Rattle.ipam_record_text.proofs.RuleLemmas.{selector_of-is}
 use Rattle.ipam_resources.specs.Documents.{json_of}
 use Rattle.ipam_resources.specs.Values.{name_in, cidr_in, size_in, bound_in, selector_in, is_empty, cidr_of_address, range_of, range_in, ranges_after, ranges_in}

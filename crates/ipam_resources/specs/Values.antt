@@ -13,7 +13,7 @@ use Rattle.ipam_addr.specs.Width.{width}
 use Rattle.ipam_select.specs.Formula.{Formula}
 use Rattle.ipam_pool.specs.declared.pools.Mode.{Mode}
 use Rattle.ipam_pool.specs.declared.pools.Mode.TheVariants.{Automatic, Manual}
-use Rattle.ipam_record_text.specs.Reading.{◌>>=◌, only_if, in_32_bits}
+use Rattle.ipam_json.specs.Members.{◌>>=◌, only_if, in_32_bits}
 use Rattle.ipam_record_text.specs.Blocks.{cidr_of, name_of}
 use Rattle.ipam_record_text.specs.Rules.{selector_of}
 

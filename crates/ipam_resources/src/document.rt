@@ -1,6 +1,5 @@
 ghost use Rattle.std.specs.Result.{result_map_both};
 ghost use Rattle.std.specs.Prelude.{◌≡◌, ◌≢◌, Ok, Err, IfOk, IfErr, All, Some, option_and_then, option_map};
-ghost use Rattle.serde_json.specs.Read.{read};
 ghost use Rattle.serde_json.specs.Find.{as_array};
 ghost use Rattle.serde_json.specs.View.{view};
 ghost use Rattle.ipam_model.specs.SoundRequest.{IsSoundChange};
@@ -59,17 +58,7 @@ fn json_of(alloc: Global, document: &[u8]) -> Result<Option<Value>, AllocError>
     ensures { IfOk result (λ o. option_map view o ≡ json_of document.now) }
 {
     match str::from_utf8(document) {
-        Ok(text) => json_in(alloc, text),
-        Err(_) => Ok(None),
-    }
-}
-
-fn json_in(alloc: Global, text: &str) -> Result<Option<Value>, AllocError>
-    ensures { IfOk result (λ o. option_map view o ≡ read text.now) }
-{
-    match Value::from_str(alloc, text) {
-        Ok(value) => Ok(Some(value)),
-        Err(error) if error.is_memory() => Err(AllocError),
+        Ok(text) => ipam_json::json_of(alloc, text),
         Err(_) => Ok(None),
     }
 }

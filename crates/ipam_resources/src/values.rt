@@ -7,6 +7,7 @@ ghost use Rattle.ipam_record_text.specs.Rules.{selector_of};
 ghost use Rattle.ipam_resources.specs.Values.{name_in, cidr_in, size_in, bound_in, selector_in, mode_of, mode_in, is_text, lists_text, is_empty, are_uses, uses_in};
 
 use ipam_addr::{Cidr, is_name, read_cidr};
+use ipam_json::{in_8_bits, in_32_bits};
 use ipam_pool::Mode;
 use ipam_select::{NodeSelector, SelectFault, Selector};
 use serde_json::Value;
@@ -58,8 +59,7 @@ pub(crate) fn cidr_of(text: &str) -> Option<Cidr>
 pub(crate) fn size_in(json: &Value) -> Option<u8>
     ensures { result ≡ size_in (view json.now) }
 {
-    let number = json.as_u64()?;
-    u8::try_from(number).ok()
+    in_8_bits(json.as_u64()?)
 }
 
 /// The whole number from 0 to 2^32 - 1 that the JSON is.
@@ -67,8 +67,7 @@ pub(crate) fn size_in(json: &Value) -> Option<u8>
 pub(crate) fn bound_in(json: &Value) -> Option<u32>
     ensures { result ≡ bound_in (view json.now) }
 {
-    let number = json.as_u64()?;
-    u32::try_from(number).ok()
+    in_32_bits(json.as_u64()?)
 }
 
 /// The selector whose text the JSON is.

@@ -2,7 +2,7 @@
 use Rattle.std.specs.Prelude.{ℕ, List, codes, length, nat_lt, bytes_eq, Option, Some, None, option_map, option_and_then, if◌then◌else◌}
 use Rattle.std.specs.Str.{is_utf8}
 use Rattle.ipam_records.specs.declared.call.Row.{Row as TextRow}
-use Rattle.ipam_record_text.specs.Reading.{◌>>=◌, only_if}
+use Rattle.ipam_json.specs.Members.{◌>>=◌, only_if}
 use Rattle.ipam_request_text.specs.Live.{live_reading}
 use Rattle.ipam_request_text.specs.Reading.{request_reading}
 use Rattle.ipam_script.specs.declared.line.Line.{Line}

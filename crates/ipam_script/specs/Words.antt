@@ -3,7 +3,7 @@ use Rattle.std.specs.Prelude.{ℕ, ◌^◌, ◌==◌, ◌&&◌, List, length, Bo
 use Rattle.std.specs.List.{before_first, after_first, position_or_len}
 use Rattle.std.specs.Str.Parse.{digits_value}
 use Rattle.ipam_json.specs.Path.{is_index}
-use Rattle.ipam_record_text.specs.Reading.{only_if}
+use Rattle.ipam_json.specs.Members.{only_if}
 use Rattle.ipam_model.specs.declared.limits.TheConstants.{SLOTS}
 
 abbrev pub is_space : ℕ → Bool

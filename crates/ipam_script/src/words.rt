@@ -1,10 +1,8 @@
 //! The words and numbers of a line.
 ghost use Rattle.std.specs.Prelude.{◌≡◌, option_map};
-ghost use Rattle.std.specs.Char.{is_ascii_digit};
-ghost use Rattle.std.specs.List.{list_all};
-ghost use Rattle.ipam_json.specs.Path.{is_index, has_leading_zero};
 ghost use Rattle.ipam_script.specs.Words.{split_word, number_of, slot_in, slot_of, turns_in, turns_of};
 
+use ipam_json::is_index;
 use ipam_model::SLOTS;
 
 /// The first word, and what stands behind the space that ends it.
@@ -18,29 +16,10 @@ pub(crate) fn split_word(text: &str) -> Option<(&str, &str)>
 pub(crate) fn number_of(word: &str) -> Option<u64>
     ensures { result ≡ number_of word.now }
 {
-    if !is_decimal(word.as_bytes()) {
+    if !is_index(word.as_bytes()) {
         return None;
     }
     word.parse::<u64>().ok()
-}
-
-/// Decimal digits, with no `0` before another.
-fn is_decimal(word: &[u8]) -> bool
-    ensures { result ≡ is_index word.now }
-{
-    !word.is_empty() && !has_leading_zero(word) && are_digits(word)
-}
-
-fn are_digits(word: &[u8]) -> bool
-    ensures { result ≡ list_all is_ascii_digit word.now }
-{
-    word.iter().all(u8::is_ascii_digit)
-}
-
-fn has_leading_zero(digits: &[u8]) -> bool
-    ensures { result ≡ has_leading_zero digits.now }
-{
-    digits.len() > 1 && digits[0] == b'0'
 }
 
 /// The slot that the word names.

@@ -1,6 +1,6 @@
 -- For which causes lines are refused.
 use Rattle.std.proofs.Common.{◌≡◌, ℕ, List, Bool, true, false, Option, Some, None, IsTrue, ◌↔◌, ◌⊎◌, inl, inr, refl, option_map, if◌then◌else◌}
-use Rattle.ipam_record_text.specs.Reading.{◌>>=◌}
+use Rattle.ipam_json.specs.Members.{◌>>=◌}
 use Rattle.ipam_model.specs.declared.answer.Answer.{Answer}
 use Rattle.ipam_session.specs.declared.call.CallBegun.{CallBegun}
 use Rattle.ipam_session.specs.declared.call.CallBegun.TheVariants.{Told, Runs}

@@ -1,6 +1,6 @@
 -- Each line has a reply once its request is answered.
 use Rattle.std.proofs.Common.{◌≡◌, ℕ, List, Bool, true, false, Option, Some, None, IsSome, IsTrue, Result, Ok, Err, refl, ap, option_map, if◌then◌else◌}
-use Rattle.ipam_record_text.specs.Reading.{◌>>=◌}
+use Rattle.ipam_json.specs.Members.{◌>>=◌}
 use Rattle.ipam_model.specs.CanAnswer.{CanAnswer}
 use Rattle.ipam_model.specs.declared.answer.Answer.{Answer}
 use Rattle.ipam_model.specs.declared.request.Request.{Request}

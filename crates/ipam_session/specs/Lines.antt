@@ -1,6 +1,6 @@
 -- Which reply a line of a session has.
 use Rattle.std.specs.Prelude.{◌≡◌, ℕ, ⊤, List, Bool, true, false, Option, Some, None, option_map, if◌then◌else◌}
-use Rattle.ipam_record_text.specs.Reading.{◌>>=◌}
+use Rattle.ipam_json.specs.Members.{◌>>=◌}
 use Rattle.ipam_model.specs.declared.answer.Answer.{Answer}
 use Rattle.ipam_model.specs.declared.request.Request.{Request}
 use Rattle.ipam_model.specs.CanAnswer.{CanAnswer}

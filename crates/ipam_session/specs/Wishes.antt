@@ -6,12 +6,12 @@ use Rattle.serde_json.specs.Data.{Data, Members, no_members, member}
 use Rattle.serde_json.specs.Find.{get, as_bool, as_object}
 use Rattle.serde_json.specs.Read.{read}
 use Rattle.ipam_json.specs.Path.{as_whole}
-use Rattle.ipam_record_text.specs.Reading.{◌>>=◌, only_if, text_at}
+use Rattle.ipam_json.specs.Members.{◌>>=◌, only_if, text_at, only_member}
 use Rattle.ipam_records.specs.Sound.{IsHandleId}
 use Rattle.ipam_model.specs.SoundRequest.{IsSoundRequest}
 use Rattle.ipam_request_text.specs.Fields.{pairs_in}
 use Rattle.ipam_request_text.specs.Live.{live_in}
-use Rattle.ipam_request_text.specs.Reading.{only_member, sound_request_in}
+use Rattle.ipam_request_text.specs.Reading.{sound_request_in}
 use Rattle.ipam_session.specs.declared.wish.Wish.{Wish}
 use Rattle.ipam_session.specs.declared.wish.Wish.TheVariants as wish
 

@@ -1,14 +1,13 @@
 //! Lines are read.
 ghost use Rattle.std.specs.Prelude.{◌≡◌, Err, Some, None, IfOk, IfSome, option_map};
 ghost use Rattle.std.specs.Str.{is_utf8};
-ghost use Rattle.serde_json.specs.Read.{read};
 ghost use Rattle.serde_json.specs.View.{view, members_view};
-ghost use Rattle.ipam_record_text.specs.Reading.{only_if};
+ghost use Rattle.ipam_json.specs.Members.{only_if};
 ghost use Rattle.ipam_request_text.specs.Live.{live_in};
-ghost use Rattle.ipam_request_text.specs.Reading.{only_member};
 ghost use Rattle.ipam_session.specs.Wishes.{says_time, request_wish, is_true, short_wish, named_wish, in_call, are_of_call, call_wish, wish_of_members, wish_in, wish_of_line, IsSoundWish};
 
 use crate::wish::Wish;
+use ipam_json::{json_of, only_member, text_at};
 use ipam_request_text::{AskFault, live_in_json, pairs_in, request_in_json};
 use ipam_text::Text;
 use serde_json::{Map, Value};
@@ -52,17 +51,6 @@ fn text_of(line: &[u8]) -> Option<&str>
     str::from_utf8(line).ok()
 }
 
-/// The JSON of a text, where it is some.
-fn json_of(alloc: Global, text: &str) -> Result<Option<Value>, AllocError>
-    ensures { IfOk result (λ o. option_map view o ≡ read text.now) }
-{
-    match Value::from_str(alloc, text) {
-        Ok(value) => Ok(Some(value)),
-        Err(error) if error.is_memory() => Err(AllocError),
-        Err(_) => Ok(None),
-    }
-}
-
 #[tactic(auto, unfolding(crate::specs::Wishes::wish_in))]
 fn wish_in(alloc: Global, json: &Value) -> Result<Option<Wish>, AllocError>
     ensures read { IfOk result (λ found. found ≡ wish_in (view json.now)) }
@@ -75,19 +63,6 @@ fn wish_in(alloc: Global, json: &Value) -> Result<Option<Wish>, AllocError>
         Some((name, value)) => named_wish(alloc, name, value),
         None => call_wish(alloc, json),
     }
-}
-
-/// The name and the value of the one member.
-fn only_member(members: &Map<String, Value>) -> Option<(&str, &Value)>
-    ensures { option_map (λ only. (only.0.now, view only.1.now)) result
-        ≡ only_member (members_view members.now.entries) }
-{
-    let mut entries = members.iter();
-    let (name, value) = entries.next()?;
-    if entries.next().is_some() {
-        return None;
-    }
-    Some((name.as_str(), value))
 }
 
 /// What the one member asks.
@@ -176,7 +151,7 @@ fn call_wish(alloc: Global, json: &Value) -> Result<Option<Wish>, AllocError>
     if !are_of_call(members) {
         return Ok(None);
     }
-    let Some(stdin) = json.get("stdin").and_then(Value::as_str) else {
+    let Some(stdin) = text_at(json, "stdin") else {
         return Ok(None);
     };
     let Some(found) = json.get("env") else {

@@ -12,7 +12,7 @@ use Rattle.ipam_json.proofs.Constructors.{IsCanonicalWithin-object, IsCanonicalW
 use Rattle.ipam_json.proofs.ReadsBack.{read-compact_text}
 use Rattle.ipam_json.proofs.Utf8Texts.{IsUtf8-compact_text}
 use Rattle.json.proofs.Printed.Utf8.{IsUtf8-are_ascii}
-use Rattle.ipam_record_text.specs.Reading.{◌>>=◌, only_if}
+use Rattle.ipam_json.specs.Members.{◌>>=◌, only_if}
 use Rattle.cni_types.specs.Reading.{Pair}
 use Rattle.ipam_request_text.specs.Fields.{pairs_in}
 use Rattle.ipam_call.specs.Requests.{last_of, with_value, env_members, call_data, call_text}

@@ -1,12 +1,10 @@
 ghost use Rattle.std.specs.Prelude.{◌≡◌, option_map, map, string_bytes};
-ghost use Rattle.std.specs.Char.{is_ascii_digit};
-ghost use Rattle.std.specs.List.{list_all};
-ghost use Rattle.ipam_json.specs.Path.{has_leading_zero, is_index};
 ghost use Rattle.ipam_words.specs.Words.{asked_by, command_named, count_named, count_of, first_named, get_named, number_of, release_named, routes_named, second_named, word_named};
 
 use crate::command::Command;
 use crate::kind::RowKind;
 use ipam_addr::{is_name, read_cidr};
+use ipam_json::is_index;
 
 /// The most requests that are generated.
 pub const MOST_GENERATED: u32 = 65_536;
@@ -118,27 +116,8 @@ fn count_of(word: &str) -> Option<u32>
 fn number_of(word: &str) -> Option<u32>
     ensures { result ≡ number_of word.now }
 {
-    if !is_decimal(word.as_bytes()) {
+    if !is_index(word.as_bytes()) {
         return None;
     }
     word.parse::<u32>().ok()
-}
-
-/// Decimal digits, with no `0` before another.
-fn is_decimal(word: &[u8]) -> bool
-    ensures { result ≡ is_index word.now }
-{
-    !word.is_empty() && !has_leading_zero(word) && are_digits(word)
-}
-
-fn are_digits(word: &[u8]) -> bool
-    ensures { result ≡ list_all is_ascii_digit word.now }
-{
-    word.iter().all(u8::is_ascii_digit)
-}
-
-fn has_leading_zero(digits: &[u8]) -> bool
-    ensures { result ≡ has_leading_zero digits.now }
-{
-    digits.len() > 1 && digits[0] == b'0'
 }

@@ -6,7 +6,8 @@ use Rattle.serde_json.specs.Read.{read}
 use Rattle.serde_json.specs.Written.{compact_text}
 use Rattle.ipam_json.specs.Built.{object_of, array_of}
 use Rattle.ipam_json.proofs.ReadsBack.{read-compact_text}
-use Rattle.ipam_record_text.specs.Reading.{held, if_printed, ◌>>=◌}
+use Rattle.ipam_json.specs.Held.{held, if_printed}
+use Rattle.ipam_json.specs.Members.{◌>>=◌}
 use Rattle.ipam_record_text.specs.Blocks.{cidr_of, name_of}
 use Rattle.ipam_record_text.specs.Pools.{pools_reading, pools_in, pools_body, pools_data, pool_data, pool_in, plain_in, size_at, table_of}
 use Rattle.ipam_model_runs.specs.ManualPools.{saying_automatic}

@@ -1,5 +1,5 @@
 use Rattle.std.proofs.Common.{◌≡◌, Some, None, rules}
-use Rattle.ipam_record_text.specs.Reading.{held}
+use Rattle.ipam_json.specs.Held.{held}
 use Rattle.ipam_record_text.specs.Affinity.{affinity_in, affinity_body}
 use Rattle.ipam_record_text.proofs.Affinities.{affinity_held, affinity_unheld}
 use Rattle.ipam_record_text.proofs.affinity.affinity_of.Goals as goal

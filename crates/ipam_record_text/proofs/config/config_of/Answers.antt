@@ -1,5 +1,5 @@
 use Rattle.std.proofs.Common.{◌≡◌, Some, None, rules}
-use Rattle.ipam_record_text.specs.Reading.{held}
+use Rattle.ipam_json.specs.Held.{held}
 use Rattle.ipam_record_text.specs.Config.{config_in, config_body}
 use Rattle.ipam_record_text.proofs.Configs.{config_held, config_unheld}
 use Rattle.ipam_record_text.proofs.config.config_of.Goals as goal

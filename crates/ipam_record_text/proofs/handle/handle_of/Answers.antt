@@ -1,5 +1,5 @@
 use Rattle.std.proofs.Common.{◌≡◌, Some, None, rules}
-use Rattle.ipam_record_text.specs.Reading.{held}
+use Rattle.ipam_json.specs.Held.{held}
 use Rattle.ipam_record_text.specs.Handle.{handle_in, handle_body}
 use Rattle.ipam_record_text.proofs.Handles.{handle_held, handle_unheld}
 use Rattle.ipam_record_text.proofs.handle.handle_of.Goals as goal

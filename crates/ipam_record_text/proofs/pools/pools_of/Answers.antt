@@ -1,6 +1,6 @@
 use Rattle.std.proofs.Common.{◌≡◌, Some, None, rules, ◌∙◌, ap}
 use Rattle.std.proofs.lemmas.Result.{IfOk-weaker, IfErr-at_err}
-use Rattle.ipam_record_text.specs.Reading.{held}
+use Rattle.ipam_json.specs.Held.{held}
 use Rattle.ipam_record_text.specs.Pools.{pools_reading, pools_body, pools_in, table_of}
 use Rattle.ipam_record_text.proofs.PoolTables.{pools_read, unheld_form, held_refused, form_unread, table_unread}
 use Rattle.ipam_record_text.proofs.pools.pools_of.Goals as goal

@@ -1,5 +1,5 @@
 use Rattle.std.proofs.Common.{◌≡◌, Some, None, rules}
-use Rattle.ipam_record_text.specs.Reading.{held}
+use Rattle.ipam_json.specs.Held.{held}
 use Rattle.ipam_record_text.specs.Reservations.{reservations_in, reservations_body}
 use Rattle.ipam_record_text.proofs.ReservationLists.{reservations_held, reservations_unheld}
 use Rattle.ipam_record_text.proofs.reservations.reservations_of.Goals as goal
