@@ -3,7 +3,7 @@ ghost use Rattle.std.specs.Prelude.{◌≡◌, ◌≤◌, ◌<◌, None, IsSome,
 ghost use Rattle.ipam_commands.specs.Telling.{IsNotLoaded, Tells, Writes};
 ghost use Rattle.ipam_commands.specs.declared.status.Status.TheVariants.{UnknownWords};
 ghost use Rattle.ipam_keeper.specs.Rows.{Ascend};
-ghost use Rattle.ipam_kept.specs.Rows.{greatest, texts_loaded};
+ghost use Rattle.ipam_kept.specs.Rows.{texts_loaded};
 ghost use Rattle.ipam_opening.specs.Opening.{IsFaultOf};
 ghost use Rattle.ipam_audit.specs.Parts.{IsReportOf};
 ghost use Rattle.ipam_audit.specs.Printed.{report_text};
@@ -20,7 +20,7 @@ use ipam_cluster::Base;
 use ipam_commands::{Status, tell, tell_fault, tell_made};
 use ipam_io::Sink;
 use ipam_keeper::{KeepFault, Keeper};
-use ipam_kept::KeptFault;
+use ipam_kept::{KeptFault, greatest_revision};
 use ipam_opening::OpenFault;
 use ipam_records::Row;
 use std::alloc::Global;
@@ -121,24 +121,13 @@ fn audit_loaded<R: Threads + Sync>(
     ensures report { IfOk result (IsReportOf (texts_loaded rows.items)) }
     ensures refused { IfErr result (IsFaultOf (texts_loaded rows.items)) }
 {
-    let counter = greatest(&rows);
+    let counter = greatest_revision(&rows);
     let base = Base {
         rows,
         counter,
         first: 0,
     };
     audit(rt, alloc, &base, workers)
-}
-
-/// The greatest revision of the rows, or 0.
-fn greatest(rows: &[Row]) -> u64
-    ensures { result ≡ greatest rows.now }
-{
-    let mut most = 0;
-    for row in rows {
-        most = most.max(row.revision);
-    }
-    most
 }
 
 /// The exit status of what ended so.

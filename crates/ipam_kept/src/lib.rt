@@ -14,5 +14,6 @@ pub use ipam_feed::{Change, Route, SinceFault};
 pub use ipam_keeper::Keeper;
 pub use kept::{Kept, KeptFault};
 pub use laws::what_is_kept_may_be_opened;
+pub use loaded::greatest_revision;
 pub use std::alloc::AllocError as Memory;
 pub use write::RowWrite;
