@@ -9,7 +9,6 @@ ghost use Rattle.ipam_audit.specs.Parts.{IsReportOf};
 ghost use Rattle.ipam_audit.specs.Printed.{report_text};
 ghost use Rattle.ipam_audit.specs.Reported.{report_of};
 ghost use Rattle.ipam_audit.specs.Run.{EndsSo, IsReportTold, unknown_line};
-ghost use Rattle.ipam_commands.specs.Statuses.{code_of};
 ghost use Rattle.ipam_audit.specs.Words.{workers_asked};
 
 use crate::auditing::audit;
@@ -50,8 +49,8 @@ pub fn run_audit<R: Threads + Sync, K: Sink, D: Keeper>(
     ensures rest { K.write_rest sink.new ≡ K.write_rest sink.old }
 {
     match workers_asked(words) {
-        Some(workers) => code_of(tell_audit(rt, alloc, workers, sink, keeper)),
-        None => code_of(tell(sink, "unknown words\n", Status::UnknownWords)),
+        Some(workers) => tell_audit(rt, alloc, workers, sink, keeper).code(),
+        None => tell(sink, "unknown words\n", Status::UnknownWords).code(),
     }
 }
 
@@ -128,21 +127,4 @@ fn audit_loaded<R: Threads + Sync>(
         first: 0,
     };
     audit(rt, alloc, &base, workers)
-}
-
-/// The exit status of what ended so.
-fn code_of(status: Status) -> u8
-    ensures { result ≡ code_of status }
-{
-    match status {
-        Status::Done => 0,
-        Status::Refused => 1,
-        Status::UnknownWords => 2,
-        Status::ReadFault => 3,
-        Status::WriteFault => 4,
-        Status::KeeperFault => 5,
-        Status::NoMemory => 6,
-        Status::BrokenRows => 7,
-        Status::LineRefused => 8,
-    }
 }
