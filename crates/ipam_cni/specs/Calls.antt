@@ -12,6 +12,7 @@ use Rattle.ipam_model.specs.declared.request.Request.{Request}
 use Rattle.ipam_model.specs.Alone.{IsAlone, alone_over}
 use Rattle.ipam_model.specs.History.{Lawful, store_at}
 use Rattle.ipam_model.specs.Opened.{OpensAs}
+use Rattle.ipam_kept.specs.Kept.{opened}
 use Rattle.ipam_kept.specs.declared.kept.KeptFault.{KeptFault}
 use Rattle.ipam_kept.specs.declared.kept.KeptFault.TheVariants as fault
 use Rattle.ipam_kept.specs.Rows.{AreTextsOf, texts_loaded}
@@ -30,7 +31,7 @@ use Rattle.cni_asks.specs.Replying.{reply_status, reply_text, told}
 use Rattle.ipam_cni.specs.declared.end.CniEnd.{CniEnd}
 use Rattle.ipam_cni.specs.declared.end.CniEnd.TheVariants.{Told, Failed}
 use Rattle.ipam_cni.specs.declared.end.CniFault.TheVariants.{Read, Keeper, Memory}
-use Rattle.ipam_cni.specs.Replies.{ComesTo, RequestComesTo, bad_rows, begun_by, opened, reply_to, version_of}
+use Rattle.ipam_cni.specs.Replies.{ComesTo, RequestComesTo, bad_rows, begun_by, reply_to, version_of}
 
 -- ---- an end by itself
 
