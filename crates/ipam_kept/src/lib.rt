@@ -2,6 +2,7 @@
 //! of the routes is told.
 #![tactic(auto)]
 
+mod broken;
 mod feed;
 mod giving;
 mod kept;
@@ -9,6 +10,7 @@ mod laws;
 mod loaded;
 mod write;
 
+pub use broken::broken_line;
 pub use ipam_cluster::{BeginFault, Cluster, FeedFault, PrepareFault};
 pub use ipam_feed::{Change, Route, SinceFault};
 pub use ipam_keeper::Keeper;
