@@ -2,9 +2,9 @@
 ghost use Rattle.std.specs.Prelude.{◌≡◌, [], ◌∷◌, map, IfOk, string_bytes};
 ghost use Rattle.serde_json.specs.Data.{string};
 ghost use Rattle.serde_json.specs.View.{view};
-ghost use Rattle.ipam_json.specs.Built.{object_of, array_of};
+ghost use Rattle.ipam_json.specs.Built.{object_of, array_of, tagged};
 ghost use Rattle.ipam_addr.specs.Text.{address_text, cidr_text_of};
-ghost use Rattle.ipam_answer_text.specs.Answers.{tagged, scan_data, given_data, given_this_data, item_data, family_number};
+ghost use Rattle.ipam_answer_text.specs.Answers.{scan_data, given_data, given_this_data, item_data, family_number};
 
 use ipam_addr::{Addr, Cidr, Family, push_addr, push_cidr};
 use ipam_model::{Given, GivenThis, Item, Scan};

@@ -1,7 +1,7 @@
 ghost use Rattle.std.specs.Prelude.{◌≡◌, ◌++◌, [], ◌∷◌, codes, IfOk, OnOk, OnErr, string_bytes};
 ghost use Rattle.serde_json.specs.Data.{object};
 ghost use Rattle.serde_json.specs.View.{view, members_view};
-ghost use Rattle.ipam_request_text.specs.Parts.{tagged};
+ghost use Rattle.ipam_json.specs.Built.{tagged};
 ghost use Rattle.ipam_request_text.specs.Members.{with_text, wishes};
 ghost use Rattle.ipam_request_text.specs.Requests.{add_members, add_data, add_this_data, del_data, check_data, release_data, collect_data, probe_data, pool_data, disable_data, reserve_data, unreserve_data, config_data, change_data, request_data, request_text, live_text};
 

@@ -1,9 +1,8 @@
 //! Replies are written.
 ghost use Rattle.std.specs.Prelude.{◌≡◌, ◌++◌, [], ◌∷◌, map, codes, IfOk, OnOk, OnErr, string_bytes};
 ghost use Rattle.serde_json.specs.View.{view};
-ghost use Rattle.ipam_json.specs.Built.{object_of, array_of};
+ghost use Rattle.ipam_json.specs.Built.{object_of, array_of, tagged};
 ghost use Rattle.ipam_addr.specs.Text.{cidr_text_of};
-ghost use Rattle.ipam_answer_text.specs.Answers.{tagged};
 ghost use Rattle.ipam_session.specs.Replies.{call_data, call_text, route_data, change_data, routes_data, changes_data, since_data, reply_data, reply_line};
 
 use crate::refusal::Refusal;
