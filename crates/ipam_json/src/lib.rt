@@ -9,4 +9,4 @@ mod written;
 
 pub use fault::{FieldFault, ReadFault, Want};
 pub use read::{array, object, text, truth, whole};
-pub use written::canonical_text;
+pub use written::{canonical_text, tagged};
