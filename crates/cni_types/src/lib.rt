@@ -23,7 +23,7 @@ pub use calls::{CniAdd, CniCheck, CniDel, CniGc, CniStatus, Look};
 pub use code::Code;
 pub use command::Command;
 pub use error::{CniError, LookFault};
-pub use limits::{INTERFACE_BYTES_MAX, RESULT_ADDRESSES_MAX};
+pub use limits::INTERFACE_BYTES_MAX;
 pub use looking::look;
 pub use std::alloc::AllocError as Memory;
 pub use texts::{push_error, push_result, push_versions};
