@@ -47,7 +47,7 @@ pub fn pools_in(alloc: Global, reply: &Reply) -> Result<PoolTable, AllocError>
     ensures { IfOk result (λ pools. pools ≡ pools_said (said reply.now)) }
 {
     match reply {
-        Reply::Found(_, Record::Pools(pools)) => pools.copy(),
+        Reply::Found(_, Record::Pools(pools)) => pools.clone(),
         _ => Ok(PoolTable::new(alloc)),
     }
 }
