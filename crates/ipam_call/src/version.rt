@@ -5,8 +5,7 @@ ghost use Rattle.cni_types.specs.Looking.{told_version};
 ghost use Rattle.ipam_call.specs.Versions.{version_for};
 
 use crate::reply::json_of;
-use crate::request::input_text;
-use cni_types::Version;
+use cni_types::{Version, input_text};
 use serde_json::Value;
 use std::alloc::{AllocError, Global};
 
