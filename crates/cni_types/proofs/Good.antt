@@ -13,11 +13,11 @@ use Rattle.ipam_addr.specs.Names.{is_name_byte, is_name_within, is_name_text, is
 use Rattle.ipam_addr.specs.Shape.{AddrValue}
 use Rattle.cni_types.specs.declared.refusal.Member.TheVariants.{Attachment, AttachmentContainer}
 use Rattle.ipam_pool.specs.declared.table.TheConstants.{MOST_POOLS}
-use Rattle.cni_types.specs.declared.limits.TheConstants.{RESULT_ADDRESSES_MAX}
 use Rattle.cni_types.specs.Reading.{Pair, ◌>>◌, demand, text_of, text_at, is_object, is_name_at, are_few, are_few_members}
 use Rattle.cni_types.specs.Configuration.{is_label_byte, is_label_key, is_label_text, is_label_value, are_all_labels, are_label_members, are_labels, is_pool_text, are_all_pools, are_pool_items, are_pools, address_in, are_all_addresses, are_address_items, are_addresses, attachment_tested, attachments_tested_from, attachment_items_tested, attachments_tested}
 use Rattle.cni_types.specs.Asked.{handle_of, items_found, texts_after, labels_after, labels_found, with_address, addresses_after, live_after}
 use Rattle.cni_types.specs.Sound.{IsHandleId, IsLabel, IsPoolName, ArePoolNames}
+use Rattle.ipam_block.specs.declared.limits.TheConstants.{CHECKED_MAX}
 
 -- ---- tests one after the other
 
@@ -158,7 +158,7 @@ length-addresses_after addresses (item d ds) =
 address_items-few : (o : Option Items) → are_address_items o ≡ true → length (addresses_after [] (unwrap_or o no_items)) ≤ 64
 address_items-few None h = absurd cc
 address_items-few (Some ds) h =
-    let short : length (item_list ds) ≤ 64 = leb-true _ _ (and_parts (are_few RESULT_ADDRESSES_MAX ds) (are_all_addresses ds) h).0 in
+    let short : length (item_list ds) ≤ 64 = leb-true _ _ (and_parts (are_few CHECKED_MAX ds) (are_all_addresses ds) h).0 in
     let len = length-addresses_after [] ds in
     omega (arith, len, short)
 

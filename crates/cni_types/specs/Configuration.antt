@@ -13,10 +13,10 @@ use Rattle.ipam_select.specs.declared.limits.TheConstants.{LABEL_KEY_BYTES_MAX, 
 use Rattle.ipam_pool.specs.declared.table.TheConstants.{MOST_POOLS}
 use Rattle.cni_types.specs.declared.command.Command.{Command}
 use Rattle.cni_types.specs.declared.command.Command.TheVariants.{Add, Del, Check, Version, Gc, Status}
-use Rattle.cni_types.specs.declared.limits.TheConstants.{RESULT_ADDRESSES_MAX}
 use Rattle.cni_types.specs.declared.refusal.Member.{Member}
 use Rattle.cni_types.specs.declared.refusal.Member.TheVariants.{Name, NodeName, NodeLabels, Ipam, IpamType, AssignIpv4, AssignIpv6, Ipv4Pools, Ipv6Pools, PrevResult, PrevResultIps, Attachments, Attachment, AttachmentContainer, AttachmentInterface}
 use Rattle.cni_types.specs.Reading.{◌>>◌, demand, text_of, text_at, text_found, inside, is_object, is_object_at, is_text_at, is_name_at, are_few, are_few_members}
+use Rattle.ipam_block.specs.declared.limits.TheConstants.{CHECKED_MAX}
 
 -- ---- the labels of the node
 
@@ -123,7 +123,7 @@ are_all_addresses (item d ds) = is_some (address_in d) && are_all_addresses ds
 -- at most 64 addresses
 abbrev pub are_address_items : Option Items → Bool
 are_address_items None = false
-are_address_items (Some ds) = are_few RESULT_ADDRESSES_MAX ds && are_all_addresses ds
+are_address_items (Some ds) = are_few CHECKED_MAX ds && are_all_addresses ds
 
 abbrev pub are_addresses : Option Data → Bool
 are_addresses None = true

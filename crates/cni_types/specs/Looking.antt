@@ -10,6 +10,7 @@ use Rattle.cni_types.specs.declared.code.Code.TheVariants.{IncompatibleVersion, 
 use Rattle.cni_types.specs.declared.command.Command.{Command}
 use Rattle.cni_types.specs.declared.command.Command.TheVariants.{Add, Del, Check, Version, Gc, Status}
 use Rattle.cni_types.specs.declared.error.CniError.{CniError}
+use Rattle.cni_types.specs.declared.limits.TheConstants.{MOST_INPUT_BYTES}
 use Rattle.cni_types.specs.declared.refusal.Member.{Member}
 use Rattle.cni_types.specs.declared.refusal.Refusal.{Refusal}
 use Rattle.cni_types.specs.declared.refusal.Refusal.TheVariants as refusal
@@ -41,7 +42,7 @@ is_for_versions (Some Status) = false
 
 -- the text of standard input, where it is at most 1,048,576 bytes of UTF-8
 abbrev pub input_text : List ℕ → Option (List ℕ)
-input_text stdin = if nat_le (length stdin) 1048576 && is_utf8 stdin then Some stdin else None
+input_text stdin = if nat_le (length stdin) MOST_INPUT_BYTES && is_utf8 stdin then Some stdin else None
 
 abbrev pub object_in : List ℕ → Option Data
 object_in text = option_and_then only_object (read text)

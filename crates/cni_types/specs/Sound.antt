@@ -7,8 +7,7 @@ use Rattle.std.specs.List.Sorted.{IsStrictlySortedBy}
 use Rattle.ipam_addr.specs.Names.{is_name_text, is_handle_text}
 use Rattle.ipam_select.specs.declared.limits.TheConstants.{LABELS_MAX, LABEL_KEY_BYTES_MAX, LABEL_VALUE_BYTES_MAX}
 use Rattle.ipam_pool.specs.declared.table.TheConstants.{MOST_POOLS}
-use Rattle.ipam_block.specs.declared.limits.TheConstants.{PAIRS_MAX, KEY_BYTES_MAX, VALUE_BYTES_MAX}
-use Rattle.cni_types.specs.declared.limits.TheConstants.{RESULT_ADDRESSES_MAX}
+use Rattle.ipam_block.specs.declared.limits.TheConstants.{PAIRS_MAX, KEY_BYTES_MAX, VALUE_BYTES_MAX, CHECKED_MAX}
 use Rattle.cni_types.specs.declared.calls.CniAdd.{CniAdd}
 use Rattle.cni_types.specs.declared.calls.CniCheck.{CniCheck}
 use Rattle.cni_types.specs.declared.calls.CniGc.{CniGc}
@@ -68,7 +67,7 @@ pub record IsSoundAdd (add : CniAdd) : Type 0 where
 
 pub record IsSoundCheck (check : CniCheck) : Type 0 where
   pub handle : IsHandleId check.handle
-  pub few : length check.addresses ≤ RESULT_ADDRESSES_MAX
+  pub few : length check.addresses ≤ CHECKED_MAX
 
 pub record IsSoundGc (gc : CniGc) : Type 0 where
   pub network : IsName gc.network

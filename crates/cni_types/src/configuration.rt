@@ -7,13 +7,13 @@ ghost use Rattle.cni_types.specs.Configuration.{truth_of_text, truth_of, choice,
 
 use crate::command::Command;
 use crate::labels::are_labels;
-use crate::limits::RESULT_ADDRESSES_MAX;
 use crate::members::{
     are_few, demand, inside, is_name_at, is_object, is_object_at, is_text_at, text_at, text_of,
 };
 use crate::refusal::Member;
 use ipam_addr::{Addr, AddrFault, is_name, read_addr, read_cidr};
 use ipam_json::items_at;
+use ipam_block::CHECKED_MAX;
 use ipam_pool::MOST_POOLS;
 use serde_json::Value;
 
@@ -200,7 +200,7 @@ fn are_address_items(list: &Value) -> bool
 {
     match list.as_array() {
         Some(items) => {
-            are_few(items.as_slice(), RESULT_ADDRESSES_MAX) && are_all_addresses(items.as_slice())
+            are_few(items.as_slice(), CHECKED_MAX) && are_all_addresses(items.as_slice())
         }
         None => false,
     }

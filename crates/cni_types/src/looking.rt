@@ -15,6 +15,7 @@ use crate::command::Command;
 use crate::configuration::test_configuration;
 use crate::environment::{test_environment, value_of};
 use crate::error::{CniError, LookFault};
+use crate::limits::MOST_INPUT_BYTES;
 use crate::members::{is_object, text_at};
 use crate::refusal::{Refusal, Variable, member_string};
 use crate::version::Version;
@@ -22,8 +23,6 @@ use ipam_json::json_of;
 use ipam_text::Text;
 use serde_json::{Map, Value};
 use std::alloc::{AllocError, Global};
-
-const MOST_INPUT_BYTES: usize = 1_048_576;
 
 /// What a call asks, of its environment and its standard input. Of several pairs of one name in
 /// the environment the last counts.
@@ -86,7 +85,7 @@ fn decoded(
 }
 
 /// The text of standard input, where it is not too long and UTF-8.
-fn input_text(stdin: &[u8]) -> Option<&str>
+pub fn input_text(stdin: &[u8]) -> Option<&str>
     ensures { option_map (λ t. t.now) result ≡ input_text stdin.now }
 {
     if stdin.len() > MOST_INPUT_BYTES {

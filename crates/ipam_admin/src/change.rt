@@ -1,15 +1,13 @@
 ghost use Rattle.std.specs.Prelude.{◌≡◌, IfOk};
 ghost use Rattle.ipam_records.specs.Said.{said};
 ghost use Rattle.ipam_model.specs.Admin.{changed};
-ghost use Rattle.ipam_model.specs.Reads.{pools_said, reservations_said};
 ghost use Rattle.ipam_admin.specs.Change.{changed_to};
 
 use crate::pools::{disable, put_pool};
 use crate::reservations::{reserve, unreserve};
 use ipam_model::Admin;
-use ipam_pool::PoolTable;
+use ipam_parts::{pools_in, reservations_in};
 use ipam_records::{Record, Reply};
-use ipam_reserve::Reservation;
 use ipam_text::Text;
 use std::alloc::{AllocError, Global};
 
@@ -33,26 +31,6 @@ impl Change {
             Admin::Unreserve(name) => unreserve(alloc, reservations_in(reply), name),
             Admin::Config(config) => Ok(Change::Becomes(Record::Config(*config))),
         }
-    }
-}
-
-/// A copy of the pools that were found.
-fn pools_in(alloc: Global, reply: &Reply) -> Result<PoolTable, AllocError>
-    ensures { IfOk result (λ table. table ≡ pools_said (said reply.now)) }
-{
-    match reply {
-        Reply::Found(_, Record::Pools(table)) => table.copy(),
-        _ => Ok(PoolTable::new(alloc)),
-    }
-}
-
-/// The reservations that were found.
-fn reservations_in<'a>(reply: &Reply<'a>) -> &'a [Reservation]
-    ensures { result.now ≡ reservations_said (said reply.now) }
-{
-    match *reply {
-        Reply::Found(_, Record::Reservations(list)) => list.as_slice(),
-        _ => &[],
     }
 }
 

@@ -1,12 +1,12 @@
 -- The JSON of each answer. The members of an object stand by the bytes of their names.
 use Rattle.std.specs.Prelude.{ℕ, List, [], ◌∷◌, codes, map}
-use Rattle.serde_json.specs.Data.{Data, boolean, number, unsigned, string}
+use Rattle.serde_json.specs.Data.{Data, boolean, string}
 use Rattle.serde_json.specs.Written.{compact_text}
-use Rattle.ipam_json.specs.Built.{object_of, array_of}
+use Rattle.ipam_json.specs.Built.{object_of, array_of, tagged, whole_data}
 use Rattle.ipam_addr.specs.declared.address.Family.{Family}
 use Rattle.ipam_addr.specs.declared.address.Family.TheVariants.{V4, V6}
 use Rattle.ipam_addr.specs.Shape.{AddrValue, CidrValue}
-use Rattle.ipam_addr.specs.Text.{address_text, cidr_text_of}
+use Rattle.ipam_addr.specs.Text.{cidr_text_of}
 use Rattle.ipam_model.specs.declared.answer.Given.{Given}
 use Rattle.ipam_model.specs.declared.answer.GivenThis.{GivenThis}
 use Rattle.ipam_model.specs.declared.answer.Scan.{Scan}
@@ -14,16 +14,7 @@ use Rattle.ipam_model.specs.declared.answer.Item.{Item}
 use Rattle.ipam_model.specs.declared.answer.Collected.{Collected as Collection}
 use Rattle.ipam_model.specs.declared.answer.Answer.{Answer}
 use Rattle.ipam_model.specs.declared.answer.Answer.TheVariants.{Added, AddedThis, Exhausted, NoPool, NotInPool, Taken, NotAffine, Deleted, Checked, NotRecorded, Released, NoAffinity, Collected, Done, Refused, Again, Full, CountFull, Spent, Fault, Ready}
-
-abbrev pub whole_data : ℕ → Data
-whole_data n = number (unsigned n)
-
-abbrev pub address_data : AddrValue → Data
-address_data a = string (address_text a)
-
--- the object with this one member
-abbrev pub tagged : List ℕ → Data → Data
-tagged name d = object_of ((name, d) ∷ [])
+use Rattle.ipam_request_text.specs.Parts.{address_data}
 
 abbrev pub family_number : Family → ℕ
 family_number V4 = 4

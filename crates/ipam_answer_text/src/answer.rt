@@ -1,12 +1,13 @@
 ghost use Rattle.std.specs.Prelude.{◌≡◌, ◌++◌, [], ◌∷◌, codes, IfOk, OnOk, OnErr, string_bytes};
 ghost use Rattle.serde_json.specs.View.{view};
-ghost use Rattle.ipam_answer_text.specs.Answers.{tagged, moment_data, answer_data, answer_text, collected_data, no_pool_data, taken_data, not_affine_data, not_recorded_data, refused_data, again_data};
+ghost use Rattle.ipam_answer_text.specs.Answers.{moment_data, answer_data, answer_text, collected_data, no_pool_data, taken_data, not_affine_data, not_recorded_data, refused_data, again_data};
 
 use crate::parts::{
     address_string, cidr_string, given_this_value, givens_value, items_value, scan_value,
-    scans_value, tagged,
+    scans_value,
 };
 use ipam_addr::{Addr, Cidr};
+use ipam_json::tagged;
 use ipam_model::{Answer, Collected};
 use ipam_text::Text;
 use serde_json::{Value, json};

@@ -7,3 +7,4 @@ mod parts;
 
 pub use answer::{answer_value, push_answer};
 pub use entry::push_entry;
+pub use parts::cidr_string;

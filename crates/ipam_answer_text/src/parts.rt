@@ -4,21 +4,12 @@ ghost use Rattle.serde_json.specs.Data.{string};
 ghost use Rattle.serde_json.specs.View.{view};
 ghost use Rattle.ipam_json.specs.Built.{object_of, array_of};
 ghost use Rattle.ipam_addr.specs.Text.{address_text, cidr_text_of};
-ghost use Rattle.ipam_answer_text.specs.Answers.{tagged, scan_data, given_data, given_this_data, item_data, family_number};
+ghost use Rattle.ipam_answer_text.specs.Answers.{scan_data, given_data, given_this_data, item_data, family_number};
 
 use ipam_addr::{Addr, Cidr, Family, push_addr, push_cidr};
 use ipam_model::{Given, GivenThis, Item, Scan};
-use serde_json::{Map, Value, json, put};
+use serde_json::{Value, json};
 use std::alloc::{AllocError, Global};
-
-/// The object with this one member.
-pub(crate) fn tagged(alloc: Global, name: &str, value: Value) -> Result<Value, AllocError>
-    ensures { IfOk result (λ v. view v ≡ tagged name.now (view value)) }
-{
-    let mut members = Map::new(alloc);
-    put(&mut members, alloc, name, value)?;
-    Ok(Value::Object(members))
-}
 
 pub(crate) fn address_string(alloc: Global, address: Addr) -> Result<String, AllocError>
     ensures { IfOk result (λ s. string_bytes s ≡ address_text address) }
@@ -28,7 +19,8 @@ pub(crate) fn address_string(alloc: Global, address: Addr) -> Result<String, All
     Ok(text)
 }
 
-pub(crate) fn cidr_string(alloc: Global, cidr: Cidr) -> Result<String, AllocError>
+/// The text of the CIDR.
+pub fn cidr_string(alloc: Global, cidr: Cidr) -> Result<String, AllocError>
     ensures { IfOk result (λ s. string_bytes s ≡ cidr_text_of cidr) }
 {
     let mut text = String::new(alloc);

@@ -17,7 +17,7 @@ pub use assigning::{Assigning, AssigningTurned};
 pub use claiming::claimed;
 pub use place::Place;
 pub use probe::{ProbeProc, ProbeTurned};
-pub use reading::{config_in, listing_in, pools_in, reservations_in};
+pub use reading::config_in;
 pub use rounds::Rounds;
 pub use scanning::{Learned, Scanned, Scanning};
 pub use std::alloc::AllocError as Memory;

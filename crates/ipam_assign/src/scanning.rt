@@ -11,9 +11,10 @@ ghost use Rattle.ipam_assign.specs.declared.scanning.Pooled.{Pooled as ThePooled
 ghost use Rattle.ipam_assign.specs.declared.scanning.Reserving.{Reserving as TheReserving};
 ghost use Rattle.ipam_assign.specs.declared.scanning.Stage.TheVariants.{ReadsConfig, ReadsPools, ReadsReservations, ListsAffinities, ListsBlocks};
 
-use crate::reading::{config_in, listing_in, pools_in, reservations_in};
+use crate::reading::config_in;
 use ipam_choice::{Confirmed, Known, Picked, Wanted, pick_known};
 use ipam_model::Scan;
+use ipam_parts::{listing_in, pools_in, reservations_in};
 use ipam_pool::PoolTable;
 use ipam_records::{Call, Config, Heard, Key, Kind};
 use ipam_reserve::Reserved;

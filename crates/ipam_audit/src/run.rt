@@ -3,13 +3,12 @@ ghost use Rattle.std.specs.Prelude.{◌≡◌, ◌≤◌, ◌<◌, None, IsSome,
 ghost use Rattle.ipam_commands.specs.Telling.{IsNotLoaded, Tells, Writes};
 ghost use Rattle.ipam_commands.specs.declared.status.Status.TheVariants.{UnknownWords};
 ghost use Rattle.ipam_keeper.specs.Rows.{Ascend};
-ghost use Rattle.ipam_kept.specs.Rows.{greatest, texts_loaded};
+ghost use Rattle.ipam_kept.specs.Rows.{texts_loaded};
 ghost use Rattle.ipam_opening.specs.Opening.{IsFaultOf};
 ghost use Rattle.ipam_audit.specs.Parts.{IsReportOf};
 ghost use Rattle.ipam_audit.specs.Printed.{report_text};
 ghost use Rattle.ipam_audit.specs.Reported.{report_of};
 ghost use Rattle.ipam_audit.specs.Run.{EndsSo, IsReportTold, unknown_line};
-ghost use Rattle.ipam_commands.specs.Statuses.{code_of};
 ghost use Rattle.ipam_audit.specs.Words.{workers_asked};
 
 use crate::auditing::audit;
@@ -20,7 +19,7 @@ use ipam_cluster::Base;
 use ipam_commands::{Status, tell, tell_fault, tell_made};
 use ipam_io::Sink;
 use ipam_keeper::{KeepFault, Keeper};
-use ipam_kept::KeptFault;
+use ipam_kept::{KeptFault, greatest_revision};
 use ipam_opening::OpenFault;
 use ipam_records::Row;
 use std::alloc::Global;
@@ -50,8 +49,8 @@ pub fn run_audit<R: Threads + Sync, K: Sink, D: Keeper>(
     ensures rest { K.write_rest sink.new ≡ K.write_rest sink.old }
 {
     match workers_asked(words) {
-        Some(workers) => code_of(tell_audit(rt, alloc, workers, sink, keeper)),
-        None => code_of(tell(sink, "unknown words\n", Status::UnknownWords)),
+        Some(workers) => tell_audit(rt, alloc, workers, sink, keeper).code(),
+        None => tell(sink, "unknown words\n", Status::UnknownWords).code(),
     }
 }
 
@@ -121,39 +120,11 @@ fn audit_loaded<R: Threads + Sync>(
     ensures report { IfOk result (IsReportOf (texts_loaded rows.items)) }
     ensures refused { IfErr result (IsFaultOf (texts_loaded rows.items)) }
 {
-    let counter = greatest(&rows);
+    let counter = greatest_revision(&rows);
     let base = Base {
         rows,
         counter,
         first: 0,
     };
     audit(rt, alloc, &base, workers)
-}
-
-/// The greatest revision of the rows, or 0.
-fn greatest(rows: &[Row]) -> u64
-    ensures { result ≡ greatest rows.now }
-{
-    let mut most = 0;
-    for row in rows {
-        most = most.max(row.revision);
-    }
-    most
-}
-
-/// The exit status of what ended so.
-fn code_of(status: Status) -> u8
-    ensures { result ≡ code_of status }
-{
-    match status {
-        Status::Done => 0,
-        Status::Refused => 1,
-        Status::UnknownWords => 2,
-        Status::ReadFault => 3,
-        Status::WriteFault => 4,
-        Status::KeeperFault => 5,
-        Status::NoMemory => 6,
-        Status::BrokenRows => 7,
-        Status::LineRefused => 8,
-    }
 }

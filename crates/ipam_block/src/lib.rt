@@ -11,4 +11,4 @@ mod sound;
 
 pub use allocation::{Allocation, Attributes, Held, PartsFault};
 pub use block_record::{Block, Which};
-pub use limits::{ADDRESSES_MAX, KEY_BYTES_MAX, PAIRS_MAX, VALUE_BYTES_MAX};
+pub use limits::{ADDRESSES_MAX, CHECKED_MAX, KEY_BYTES_MAX, PAIRS_MAX, VALUE_BYTES_MAX};

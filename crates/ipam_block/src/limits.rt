@@ -9,3 +9,6 @@ pub const KEY_BYTES_MAX: usize = 63;
 
 /// The most bytes of a pair's value.
 pub const VALUE_BYTES_MAX: usize = 253;
+
+/// The most addresses that one CHECK names, which stand in an earlier result.
+pub const CHECKED_MAX: usize = 64;

@@ -4,7 +4,7 @@ use Rattle.std.specs.Prelude.{option_and_then, All, fold, nat_le, codes, unwrap_
 use Rattle.std.specs.List.{list_all, AllByRecursion}
 use Rattle.std.proofs.lemmas.Bool.{and_parts}
 use Rattle.serde_json.specs.Data.{Data, string, object, Members, no_members, put}
-use Rattle.ipam_json.specs.Built.{member_list}
+use Rattle.ipam_json.specs.Built.{member_list, whole_data}
 use Rattle.ipam_json.specs.Canonical.{IsCanonicalWithin}
 use Rattle.ipam_json.proofs.Constructors.{IsCanonicalWithin-null, IsCanonicalWithin-number, IsCanonicalWithin-string, IsCanonicalWithin-object, IsCanonicalWithin-put, member_list-members_from}
 use Rattle.ipam_addr.specs.Names.{is_handle_text}
@@ -13,7 +13,7 @@ use Rattle.ipam_block.specs.declared.allocation.Attributes.{Attributes}
 use Rattle.ipam_block.specs.declared.limits.TheConstants.{PAIRS_MAX}
 use Rattle.ipam_block_text.specs.Attributes.{Pair}
 use Rattle.ipam_block_text.specs.Limits.{are_pairs, is_small_pair, keys_ascend, are_attributes}
-use Rattle.ipam_block_text.specs.Body.{whole_data, affinity_data, place_data, with_pair, secondary_data, attributes_data, stamps_data}
+use Rattle.ipam_block_text.specs.Body.{affinity_data, place_data, with_pair, secondary_data, attributes_data, stamps_data}
 use Rattle.ipam_block_text.specs.Reading.{each, only_if, pair_in, place_in, attributes_in, handle_in, secondary_in}
 use Rattle.ipam_block_text.proofs.PairKeys.{pair_field, pairs_members}
 

@@ -16,7 +16,7 @@ use Rattle.serde_json.specs.Data.{Data, Members, no_members, member, put}
 use Rattle.serde_json.specs.Read.{read}
 use Rattle.serde_json.specs.Written.{compact_text}
 use Rattle.serde_json.specs.View.{items_of}
-use Rattle.ipam_json.specs.Built.{Field, member_list, item_list, array_of}
+use Rattle.ipam_json.specs.Built.{Field, member_list, item_list, array_of, whole_data}
 use Rattle.ipam_json.specs.Canonical.{IsCanonicalWithin, IsCanonical}
 use Rattle.ipam_json.specs.Held.{held}
 use Rattle.ipam_json.proofs.Held.{held-text}
@@ -45,7 +45,7 @@ use Rattle.ipam_block_text.specs.Attributes.{are_same, with_those_of, distinct_a
 use Rattle.ipam_block_text.specs.Limits.{is_node, are_attributes}
 use Rattle.ipam_block_text.specs.Form.{AreParts, AreStamps}
 use Rattle.ipam_block_text.specs.Parts.{place_of, block_parts}
-use Rattle.ipam_block_text.specs.Body.{whole_data, affinity_data, place_data, attributes_data, cidr_data, with_stamp, stamps_data, parts_data, block_body}
+use Rattle.ipam_block_text.specs.Body.{affinity_data, place_data, attributes_data, cidr_data, with_stamp, stamps_data, parts_data, block_body}
 use Rattle.ipam_block_text.specs.Reading.{each, only_if, after_host, affinity_in, node_in, places_in, place_in, all_attributes_in, attributes_in, cidr_in, small_cidr, sequence_in, queue_in, parts_in, is_number_name, is_stamp, are_stamps, stamps_in, form_in, form_text, block_form, cidr_said, held_from, are_ordinals, block_in, has_text, checked, reading_from, block_reading}
 use Rattle.ipam_block_text.proofs.Limited.{IsLimited, limited, node_there, node_back, attributes_there, attributes_back}
 use Rattle.ipam_block_text.proofs.Options.{and_then_some}

@@ -9,7 +9,8 @@ use Rattle.ipam_block.specs.declared.allocation.Allocation.{Allocation}
 use Rattle.ipam_block.specs.declared.allocation.Attributes.{Attributes}
 use Rattle.ipam_block_text.specs.declared.parts.Parts.{Parts}
 use Rattle.ipam_block_text.specs.Attributes.{Pair}
-use Rattle.ipam_block_text.specs.Body.{affinity_data, place_data, attributes_data, secondary_data, stamps_data, whole_data, parts_data}
+use Rattle.ipam_json.specs.Built.{whole_data}
+use Rattle.ipam_block_text.specs.Body.{affinity_data, place_data, attributes_data, secondary_data, stamps_data, parts_data}
 
 place_without : (p : Option ℕ) → has_float (place_data p) ≡ false
 place_without None = refl

@@ -19,7 +19,8 @@ use Rattle.ipam_block.specs.Operations.{holder}
 use Rattle.ipam_block.specs.Test.{ascends_from}
 use Rattle.ipam_block_text.specs.Attributes.{Pair, is_same_pair, are_same, with_those_of, distinct_attributes}
 use Rattle.ipam_block_text.specs.Parts.{place_of}
-use Rattle.ipam_block_text.specs.Body.{whole_data, with_stamp, stamps_data}
+use Rattle.ipam_json.specs.Built.{whole_data}
+use Rattle.ipam_block_text.specs.Body.{with_stamp, stamps_data}
 use Rattle.ipam_block_text.specs.Reading.{stamp_of, allocation_at, held_from}
 
 -- ---- the attributes in use

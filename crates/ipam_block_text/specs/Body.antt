@@ -1,19 +1,16 @@
 -- The JSON value of a block, and its text.
 use Rattle.std.specs.Prelude.{ℕ, List, [], ◌∷◌, ◌++◌, Option, Some, None, codes, decimal, map, fold}
-use Rattle.serde_json.specs.Data.{Data, null, number, unsigned, string, object, Members, no_members, put}
+use Rattle.serde_json.specs.Data.{Data, null, string, object, Members, no_members, put}
 use Rattle.serde_json.specs.Written.{compact_text}
 use Rattle.ipam_addr.specs.Shape.{CidrValue}
 use Rattle.ipam_addr.specs.Text.{cidr_text_of}
 use Rattle.ipam_block.specs.declared.allocation.Allocation.{Allocation}
 use Rattle.ipam_block.specs.declared.allocation.Attributes.{Attributes}
 use Rattle.ipam_block.specs.Shape.{BlockValue}
-use Rattle.ipam_json.specs.Built.{object_of, array_of}
+use Rattle.ipam_json.specs.Built.{object_of, array_of, whole_data}
 use Rattle.ipam_block_text.specs.declared.parts.Parts.{Parts}
 use Rattle.ipam_block_text.specs.Attributes.{Pair}
 use Rattle.ipam_block_text.specs.Parts.{block_parts}
-
-abbrev pub whole_data : ℕ → Data
-whole_data n = number (unsigned n)
 
 -- the node that the block is affine to
 abbrev pub affinity_data : Option (List ℕ) → Data

@@ -2,8 +2,8 @@
 use Rattle.std.specs.Prelude.{ℕ, List, ◌++◌, Option, codes, decimal, map}
 use Rattle.serde_json.specs.Written.{compact_text}
 use Rattle.ipam_block.specs.declared.allocation.Attributes.{Attributes}
-use Rattle.ipam_json.specs.Built.{array_of}
-use Rattle.ipam_block_text.specs.Body.{affinity_data, place_data, attributes_data, whole_data}
+use Rattle.ipam_json.specs.Built.{array_of, whole_data}
+use Rattle.ipam_block_text.specs.Body.{affinity_data, place_data, attributes_data}
 
 -- the node and who holds what
 abbrev pub holders_text : Option (List ℕ) → List (Option ℕ) → List Attributes → List ℕ

@@ -2,7 +2,8 @@ ghost use Rattle.std.specs.Prelude.{◌≡◌, IfOk, OnOk, OnErr, string_bytes, 
 ghost use Rattle.serde_json.specs.Data.{Data, array};
 ghost use Rattle.serde_json.specs.View.{view, items_of};
 ghost use Rattle.serde_json.specs.Written.{compact_text};
-ghost use Rattle.ipam_block_text.specs.Body.{block_body, parts_data, stamps_data, affinity_data, place_data, attributes_data, secondary_data, cidr_data, whole_data};
+ghost use Rattle.ipam_json.specs.Built.{whole_data};
+ghost use Rattle.ipam_block_text.specs.Body.{block_body, parts_data, stamps_data, affinity_data, place_data, attributes_data, secondary_data, cidr_data};
 
 use crate::parts::{Parts, queue_of, uses_of};
 use crate::writing::{push_cidr_member, push_holders, push_rest};

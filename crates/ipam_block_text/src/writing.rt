@@ -8,7 +8,8 @@ ghost use Rattle.serde_json.specs.Written.{compact_text, comma_if};
 ghost use Rattle.ipam_block.specs.Operations.{node_bytes};
 ghost use Rattle.ipam_block_text.specs.Numbering.{borrowed};
 ghost use Rattle.ipam_block_text.specs.Pieces.{holders_text, rest_text};
-ghost use Rattle.ipam_block_text.specs.Body.{affinity_data, place_data, attributes_data, secondary_data, cidr_data, whole_data};
+ghost use Rattle.ipam_json.specs.Built.{whole_data};
+ghost use Rattle.ipam_block_text.specs.Body.{affinity_data, place_data, attributes_data, secondary_data, cidr_data};
 
 use crate::parts::Uses;
 use crate::print::secondary_value;

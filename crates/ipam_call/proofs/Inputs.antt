@@ -1,7 +1,7 @@
 -- What is taken as the text of standard input and of a line.
 use Rattle.std.proofs.Common.{◌≡◌, ℕ, ◌≤◌, ◌<◌, ◌&&◌, nat_le, List, [], ◌++◌, length, Bool, true, false, Option, Some, None, refl, sym, ap, ◌∙◌, if◌then◌else◌, IsUtf8, arith, append-nil, length-append}
 use Rattle.std.specs.Str.{is_utf8}
-use Rattle.std.proofs.lemmas.Bool.{le-leb, leb-true, leb-false, lt-leb}
+use Rattle.std.proofs.lemmas.Bool.{leb-true, leb-false, lt-leb}
 use Rattle.std.proofs.lemmas.Str.{IsUtf8-from_is_utf8, is_utf8-from_IsUtf8}
 use Rattle.cni_types.specs.Looking.{input_text}
 use Rattle.ipam_json.specs.Members.{only_if}
@@ -23,26 +23,9 @@ no_text_told line h = rw (not_utf8 line h) refl
 
 -- ---- standard input
 
-both : (b u : Bool) (text : List ℕ) → b ≡ true → u ≡ true → (if b && u then Some text else None) ≡ Some text
-both true true text e f = refl
-both true false text e f = absurd cc
-both false u text e f = absurd cc
-
 first_not : (b u : Bool) (text : List ℕ) → b ≡ false → (if b && u then Some text else None) ≡ None
 first_not true u text e = absurd cc
 first_not false u text e = refl
-
-second_not : (b u : Bool) (text : List ℕ) → u ≡ false → (if b && u then Some text else None) ≡ None
-second_not true true text e = absurd cc
-second_not true false text e = refl
-second_not false u text e = refl
-
-pub input_text_utf8 : (input : List ℕ) → length input ≤ 1048576 → IsUtf8 input → input_text input ≡ Some input
-input_text_utf8 input short h =
-    both (nat_le (length input) 1048576) (is_utf8 input) input (le-leb _ _ short) (is_utf8-from_IsUtf8 input h)
-
-pub input_text_other : (input : List ℕ) → (IsUtf8 input → ⊥) → input_text input ≡ None
-input_text_other input h = second_not (nat_le (length input) 1048576) (is_utf8 input) input (not_utf8 input h)
 
 -- what is read of more than standard input may have is as good as all of it
 pub input_text_whole : (input rest : List ℕ) → (length input ≤ 1048576 → rest ≡ []) → input_text (input ++ rest) ≡ input_text input

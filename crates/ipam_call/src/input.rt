@@ -4,7 +4,7 @@ ghost use Rattle.std.specs.Io.KnownBytes.{prepend_known, IsAtEnd};
 ghost use Rattle.ipam_io.specs.Counts.{Rose};
 ghost use Rattle.ipam_lines.specs.Inputs.{OnReadFault, OnNoReadFault};
 
-use crate::request::MOST_INPUT_BYTES;
+use cni_types::MOST_INPUT_BYTES;
 use ipam_io::Source;
 use ipam_lines::{InputFault, read_whole};
 use std::alloc::Global;

@@ -1,15 +1,12 @@
 //! The line that is sent.
 ghost use Rattle.std.specs.Prelude.{◌≡◌, IfOk, OnOk, string_bytes, option_map};
 ghost use Rattle.serde_json.specs.View.{view, members_view};
-ghost use Rattle.cni_types.specs.Looking.{input_text};
 ghost use Rattle.ipam_call.specs.Requests.{last_of, with_last, env_members, call_data, call_text, sendable, line_for};
 
+use cni_types::input_text;
 use ipam_text::Text;
 use serde_json::{Map, Value, json, put};
 use std::alloc::{AllocError, Global};
-
-/// How many bytes standard input may have.
-pub(crate) const MOST_INPUT_BYTES: usize = 1_048_576;
 
 /// How many bytes a line may have, its line feed among them.
 pub(crate) const MOST_LINE_BYTES: usize = 1_048_576;
@@ -29,17 +26,6 @@ pub(crate) fn line_for(
         Some(text) => line_of(alloc, env, text),
         None => Ok(None),
     }
-}
-
-/// The text of standard input, where it is not too long and UTF-8.
-#[tactic(auto, using(crate::proofs::Inputs::input_text_utf8, crate::proofs::Inputs::input_text_other))]
-pub(crate) fn input_text(input: &[u8]) -> Option<&str>
-    ensures { option_map (λ t. t.now) result ≡ input_text input.now }
-{
-    if input.len() > MOST_INPUT_BYTES {
-        return None;
-    }
-    str::from_utf8(input).ok()
 }
 
 fn line_of(alloc: Global, env: &[(Text, Text)], input: &str) -> Result<Option<String>, AllocError>

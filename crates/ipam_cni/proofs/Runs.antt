@@ -9,7 +9,7 @@ use Rattle.ipam_model.specs.declared.request.Request.{Request}
 use Rattle.ipam_model.specs.Alone.{alone_over}
 use Rattle.ipam_model.specs.History.{Base, store_at}
 use Rattle.ipam_kept.specs.declared.kept.Kept.{Kept}
-use Rattle.ipam_kept.specs.Kept.{KeptFor, Tells}
+use Rattle.ipam_kept.specs.Kept.{KeptFor, Tells, opened}
 use Rattle.ipam_kept.specs.Rows.{AreTextsOf}
 use Rattle.ipam_solo.proofs.Courses.{ends-kept, fault-course, no-doubt, sure-rows}
 use Rattle.ipam_solo.specs.Solo.{IsAnswered, IsFaulted, IsStopped, KeepsWithAll, base_of}
@@ -18,7 +18,7 @@ use Rattle.ipam_cni.specs.declared.end.CniEnd.{CniEnd}
 use Rattle.ipam_cni.specs.declared.end.CniEnd.TheVariants.{Failed}
 use Rattle.ipam_cni.specs.declared.end.CniFault.TheVariants.{Memory}
 use Rattle.ipam_cni.specs.Calls.{AnswerEnds, KeeperFailed, AnswerTold, NoMemory, RunEnds}
-use Rattle.ipam_cni.specs.Replies.{opened, reply_to}
+use Rattle.ipam_cni.specs.Replies.{reply_to}
 
 module _ {D : Type 0} (tells : Tells D) (faults : D → ℕ) (asked : Request) (old new : Kept D)
     (first : old.cluster.entries ≡ 0) (kept : KeptFor tells old (opened old.cluster.store.store) []) where

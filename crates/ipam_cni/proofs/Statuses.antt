@@ -11,7 +11,8 @@ use Rattle.ipam_model.specs.declared.request.Request.{Request}
 use Rattle.ipam_cni.specs.declared.end.CniEnd.{CniEnd}
 use Rattle.ipam_cni.specs.declared.end.CniEnd.TheVariants.{Told, Failed}
 use Rattle.ipam_cni.specs.Calls.{Sides, Went}
-use Rattle.ipam_cni.specs.Ends.{IsStatus, Tells}
+use Rattle.ipam_call.specs.Ends.{IsStatus}
+use Rattle.ipam_cni.specs.Ends.{Tells}
 use Rattle.ipam_cni.specs.Replies.{Answered, Asked, AtOnce, BadRows, ComesTo, Refused, Reply, RequestComesTo}
 use Rattle.ipam_cni.proofs.Shortness.{comes_short}
 

@@ -1,5 +1,5 @@
 -- How a call goes: what is read, what becomes of the rows, and which counts of faults rise.
-use Rattle.std.specs.Prelude.{◌≡◌, ◌≢◌, ℕ, ◌≤◌, ◌⊎◌, List, length, Option, Some, IfSome, Result, Ok, Err}
+use Rattle.std.specs.Prelude.{◌≡◌, ◌≢◌, ℕ, ◌+◌, ◌≤◌, ◌⊎◌, List, length, Option, Some, IfSome, Result, Ok, Err}
 use Rattle.std.specs.Io.KnownBytes.{IsAtEnd, prepend_known}
 use Rattle.ipam_io.specs.Counts.{Rose}
 use Rattle.ipam_keeper.specs.Keeping.{IsTold}
@@ -12,6 +12,7 @@ use Rattle.ipam_model.specs.declared.request.Request.{Request}
 use Rattle.ipam_model.specs.Alone.{IsAlone, alone_over}
 use Rattle.ipam_model.specs.History.{Lawful, store_at}
 use Rattle.ipam_model.specs.Opened.{OpensAs}
+use Rattle.ipam_kept.specs.Kept.{opened}
 use Rattle.ipam_kept.specs.declared.kept.KeptFault.{KeptFault}
 use Rattle.ipam_kept.specs.declared.kept.KeptFault.TheVariants as fault
 use Rattle.ipam_kept.specs.Rows.{AreTextsOf, texts_loaded}
@@ -24,13 +25,14 @@ use Rattle.cni_types.specs.declared.version.Version.TheVariants.{V1_0_0}
 use Rattle.cni_types.specs.Looking.{look_reading}
 use Rattle.cni_types.specs.Reading.{Pair}
 use Rattle.cni_types.specs.Texts.{error_text}
+use Rattle.cni_types.specs.declared.limits.TheConstants.{MOST_INPUT_BYTES}
 use Rattle.cni_asks.specs.declared.asks.Ask.TheVariants.{Begin}
 use Rattle.cni_asks.specs.declared.replies.CniReply.{CniReply}
 use Rattle.cni_asks.specs.Replying.{reply_status, reply_text, told}
 use Rattle.ipam_cni.specs.declared.end.CniEnd.{CniEnd}
 use Rattle.ipam_cni.specs.declared.end.CniEnd.TheVariants.{Told, Failed}
 use Rattle.ipam_cni.specs.declared.end.CniFault.TheVariants.{Read, Keeper, Memory}
-use Rattle.ipam_cni.specs.Replies.{ComesTo, RequestComesTo, bad_rows, begun_by, opened, reply_to, version_of}
+use Rattle.ipam_cni.specs.Replies.{ComesTo, RequestComesTo, bad_rows, begun_by, reply_to, version_of}
 
 -- ---- an end by itself
 
@@ -152,8 +154,8 @@ pub record Sides : Type 0 where
 -- these bytes were read: all that was left, or one more than standard input may have
 pub record IsInput (stdin : List ℕ) (old new : Option (List ℕ)) : Type 0 where
   pub bytes : old ≡ prepend_known stdin new
-  pub bound : length stdin ≤ 1048577
-  pub whole : length stdin ≤ 1048576 → IsAtEnd new
+  pub bound : length stdin ≤ MOST_INPUT_BYTES + 1
+  pub whole : length stdin ≤ MOST_INPUT_BYTES → IsAtEnd new
 
 -- a read of the source failed
 pub record IsReadFault (version : Version) (old new : Sides) : Type 0 where

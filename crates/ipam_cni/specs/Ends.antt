@@ -1,5 +1,5 @@
 -- How calls end, and what they write.
-use Rattle.std.specs.Prelude.{◌≡◌, ℕ, ◌≤◌, ◌⊎◌, List, [], codes, Option}
+use Rattle.std.specs.Prelude.{◌≡◌, ℕ, ◌⊎◌, List, [], codes, Option}
 use Rattle.std.specs.Io.KnownBytes.{append_known}
 use Rattle.ipam_io.specs.Counts.{Rose}
 use Rattle.ipam_io.specs.Streams.{AppendsPrefix}
@@ -52,7 +52,3 @@ Tells (Told own text) old new faults faults' status = WritesWith own text old ne
 Tells (Failed version fault) old new faults faults' status =
     WritesWith 1 (error_text (fault_error version fault)) old new faults faults' status
     ⊎ (IsUnwritten old new faults faults' × (status ≡ 6))
-
--- the statuses of a call: 0 or 1 of a text, 4 of a sink that failed, 6 of no memory for an error
-abbrev pub IsStatus : ℕ → Type 0
-IsStatus status = (status ≤ 1) ⊎ (status ≡ 4) ⊎ (status ≡ 6)

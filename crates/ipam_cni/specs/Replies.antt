@@ -7,8 +7,8 @@ use Rattle.ipam_model.specs.declared.answer.Answer.{Answer}
 use Rattle.ipam_model.specs.declared.request.Request.{Request}
 use Rattle.ipam_model.specs.declared.request.Request.TheVariants as request
 use Rattle.ipam_model.specs.Alone.{alone_over}
-use Rattle.ipam_model.specs.History.{Base}
 use Rattle.ipam_model.specs.Opened.{IsRefusedBy, OpensAs}
+use Rattle.ipam_kept.specs.Kept.{opened}
 use Rattle.ipam_kept.specs.Rows.{AreTextsOf, texts_loaded}
 use Rattle.cni_types.specs.declared.calls.Look.{Look}
 use Rattle.cni_types.specs.declared.calls.Look.TheVariants.{Version, Add, Del, Check, Gc, Status}
@@ -75,10 +75,6 @@ abbrev pub Reply : Type 0
 Reply = ℕ × List ℕ
 
 -- ---- what it comes to
-
--- the rows are opened so, before any entry
-abbrev pub opened : Datastore → Base
-opened store = record { store = store; first = 0 }
 
 -- What a request is replied, and what becomes of the rows that a keeper tells: rows that break a rule
 -- stay, and over others the request runs alone.

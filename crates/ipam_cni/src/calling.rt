@@ -2,11 +2,11 @@
 ghost use Rattle.std.specs.Prelude.{◌≡◌, IfOk, None, []};
 ghost use Rattle.ipam_model.specs.CanAnswer.{CanAnswer};
 ghost use Rattle.ipam_model.specs.SoundRequest.{IsSoundRequest};
-ghost use Rattle.ipam_kept.specs.Kept.{KeptFor};
+ghost use Rattle.ipam_kept.specs.Kept.{KeptFor, opened};
 ghost use Rattle.ipam_solo.specs.Solo.{HasNoGrace, NothingRuns};
 ghost use Rattle.cni_types.specs.Texts.{error_text};
 ghost use Rattle.ipam_cni.specs.Calls.{AnswerEnds, CallEnds, RequestEnds, RunEnds, Went, IsNotOpenedEnd, TellsError, end_of};
-ghost use Rattle.ipam_cni.specs.Replies.{IsOfCall, bad_details, bad_rows, opened};
+ghost use Rattle.ipam_cni.specs.Replies.{IsOfCall, bad_details, bad_rows};
 
 use crate::asking::{begun_by, reply_to, version_of};
 use crate::end::{CniEnd, CniFault};

@@ -3,7 +3,8 @@ ghost use Rattle.std.specs.Prelude.{◌≡◌};
 ghost use Rattle.std.specs.Io.KnownBytes.{IsAtEnd};
 ghost use Rattle.ipam_cni.specs.declared.end.CniEnd.{CniEnd as End};
 ghost use Rattle.ipam_cni.specs.Calls.{Went};
-ghost use Rattle.ipam_cni.specs.Ends.{IsStatus, Tells};
+ghost use Rattle.ipam_call.specs.Ends.{IsStatus};
+ghost use Rattle.ipam_cni.specs.Ends.{Tells};
 
 use crate::calling::make_call;
 use crate::telling::tell_end;

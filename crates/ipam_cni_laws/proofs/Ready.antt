@@ -7,10 +7,10 @@ use Rattle.ipam_model.specs.Alone.{alone_over}
 use Rattle.ipam_model.specs.Plain.{CanGive, plain_of}
 use Rattle.ipam_laws.proofs.AloneProbe.{probe_tells}
 use Rattle.ipam_laws.proofs.OpenedHistory.{opened_law}
+use Rattle.ipam_kept.specs.Kept.{opened}
 use Rattle.cni_asks.specs.declared.replies.CniReply.TheVariants.{Success}
 use Rattle.cni_gc.specs.Begun.{probe_of}
 use Rattle.cni_gc.specs.Replies.{status_reply_of}
-use Rattle.ipam_cni.specs.Replies.{opened}
 use Rattle.ipam_cni_laws.specs.Alone.{StatusLaw}
 
 pub ready-plain : (found : Answer) → status_reply_of found ≡ Some Success → plain_of found ≡ Some CanGive

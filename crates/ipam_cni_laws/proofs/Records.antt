@@ -11,8 +11,8 @@ use Rattle.ipam_laws.proofs.AloneLooks.{check_alone}
 use Rattle.ipam_laws.proofs.OpenedHistory.{opened_law}
 use Rattle.ipam_plain.specs.AloneLaws.{ComesToPlain}
 use Rattle.ipam_plain.proofs.Whole.{all_alone}
+use Rattle.ipam_kept.specs.Kept.{opened}
 use Rattle.ipam_kept.specs.Rows.{texts_loaded}
-use Rattle.ipam_cni.specs.Replies.{opened}
 use Rattle.ipam_cni_laws.specs.ByRecords.{ByRecordsLaw}
 use Rattle.ipam_cni_laws.proofs.SoundRequests.{IsSoundOrCheck, asked_sound}
 use Rattle.ipam_cni_laws.proofs.Spared.{replied}

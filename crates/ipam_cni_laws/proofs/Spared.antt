@@ -19,6 +19,7 @@ use Rattle.ipam_laws.proofs.Openings.{opens_as_one}
 use Rattle.ipam_plain.proofs.Leaving.{collect_leaves}
 use Rattle.ipam_plain.proofs.Readying.{ready_adds}
 use Rattle.ipam_plain.proofs.Whole.{collect_alone}
+use Rattle.ipam_kept.specs.Kept.{opened}
 use Rattle.ipam_kept.specs.Rows.{AreTextsOf, texts_loaded}
 use Rattle.cni_types.specs.declared.calls.CniGc.{CniGc}
 use Rattle.cni_types.specs.declared.calls.Look.{Look}
@@ -34,7 +35,7 @@ use Rattle.cni_asks.specs.declared.replies.CniReply.TheVariants.{Addresses, Succ
 use Rattle.cni_asks.specs.Replying.{reply_status, told}
 use Rattle.cni_gc.specs.Begun.{collect_of, probe_of}
 use Rattle.cni_gc.specs.Replies.{gc_reply_of, status_reply_of}
-use Rattle.ipam_cni.specs.Replies.{Answered, Asked, AtOnce, BadRows, ComesTo, Refused, Reply, RequestComesTo, begun_by, opened, reply_to}
+use Rattle.ipam_cni.specs.Replies.{Answered, Asked, AtOnce, BadRows, ComesTo, Refused, Reply, RequestComesTo, begun_by, reply_to}
 use Rattle.ipam_cni_laws.specs.Spare.{GcLeavesLaw, StatusAddsLaw}
 use Rattle.ipam_cni_laws.proofs.Ready.{plain-ready, ready-plain}
 

@@ -7,10 +7,11 @@ use Rattle.ipam_model.specs.declared.request.Request.TheVariants.{Add, AddThis, 
 use Rattle.ipam_model.specs.Alone.{alone_over}
 use Rattle.ipam_laws.proofs.AloneAgain.{alone_again}
 use Rattle.ipam_laws.proofs.OpenedHistory.{opened_law}
+use Rattle.ipam_kept.specs.Kept.{opened}
 use Rattle.ipam_addr.specs.Shape.{AddrValue}
 use Rattle.cni_asks.specs.Replying.{failure_of, reply_to_add, reply_to_this, reply_to_del, reply_to_check}
 use Rattle.cni_gc.specs.Replies.{gc_reply_of, status_reply_of}
-use Rattle.ipam_cni.specs.Replies.{opened, reply_to}
+use Rattle.ipam_cni.specs.Replies.{reply_to}
 use Rattle.ipam_cni_laws.specs.Alone.{NoTryAgainLaw, SaysTryAgain}
 
 abbrev IsAgain : Answer → Type 0

@@ -12,12 +12,13 @@ use Rattle.ipam_model.specs.Opened.{OpensAs, Texts}
 use Rattle.ipam_model.specs.SoundRequest.{IsSoundRequest}
 use Rattle.ipam_model.specs.Usable.{families_if}
 use Rattle.ipam_laws.specs.AlonePlain.{AsksSame, IsGivenOrWants}
+use Rattle.ipam_kept.specs.Kept.{opened}
 use Rattle.cni_types.specs.declared.calls.CniStatus.{CniStatus}
 use Rattle.cni_types.specs.declared.code.Code.TheVariants.{TryAgain}
 use Rattle.cni_asks.specs.declared.replies.CniReply.{CniReply}
 use Rattle.cni_asks.specs.declared.replies.CniReply.TheVariants.{Success, Failure}
 use Rattle.cni_gc.specs.Begun.{probe_of}
-use Rattle.ipam_cni.specs.Replies.{opened, reply_to}
+use Rattle.ipam_cni.specs.Replies.{reply_to}
 
 -- what a request is told that runs by itself
 abbrev pub reply_alone : Datastore → Request → Option CniReply

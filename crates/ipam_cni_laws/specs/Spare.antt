@@ -15,6 +15,7 @@ use Rattle.ipam_model.specs.Plain.{HasSpare, HasSpareFor}
 use Rattle.ipam_model.specs.Remove.{is_in_scope, is_live}
 use Rattle.ipam_model.specs.SoundRequest.{IsSoundRequest}
 use Rattle.ipam_laws.specs.AlonePlain.{AsksSame}
+use Rattle.ipam_kept.specs.Kept.{opened}
 use Rattle.ipam_kept.specs.Rows.{AreTextsOf, texts_loaded}
 use Rattle.cni_types.specs.declared.calls.CniGc.{CniGc}
 use Rattle.cni_types.specs.declared.calls.CniStatus.{CniStatus}
@@ -22,7 +23,7 @@ use Rattle.cni_types.specs.declared.calls.Look.TheVariants.{Gc, Status}
 use Rattle.cni_types.specs.Looking.{look_reading}
 use Rattle.cni_types.specs.Reading.{Pair}
 use Rattle.cni_gc.specs.Begun.{collect_of, probe_of}
-use Rattle.ipam_cni.specs.Replies.{ComesTo, Reply, opened}
+use Rattle.ipam_cni.specs.Replies.{ComesTo, Reply}
 
 -- ---- GC
 

@@ -1,9 +1,7 @@
 ghost use Rattle.std.specs.Prelude.{◌≡◌, ◌+◌, ◌≤◌, [], nat_le, true, IfOk, IfNone, OnOk, OnErr};
 ghost use Rattle.ipam_records.specs.Hearing.{MayHear};
 ghost use Rattle.ipam_records.specs.Listing.{rows_of};
-ghost use Rattle.ipam_records.specs.Said.{said};
 ghost use Rattle.ipam_records.specs.Word.{asked, heard, ended, waits, fed};
-ghost use Rattle.ipam_model.specs.Reads.{rows_said};
 ghost use Rattle.ipam_model.specs.Remove.{collect_word, suspects, leaks};
 ghost use Rattle.ipam_model.specs.Step.{all_left as every_try};
 ghost use Rattle.ipam_collect.specs.Collect.{due_from, grace_in, grace_asked, collect_at, collect_rest, collect_goes, collect_leaves, stage_leaves, stage_fed};
@@ -16,8 +14,8 @@ use crate::suspect::Suspect;
 use crate::suspects::suspects_in;
 use crate::tally::Tally;
 use ipam_model::{CollectAnswer, CollectRequest, Collected};
-use ipam_parts::{FreeingTurned, all_left};
-use ipam_records::{Call, Heard, Kind, Listing, Procedure, Reply};
+use ipam_parts::{FreeingTurned, all_left, listing_in};
+use ipam_records::{Call, Heard, Kind, Listing, Procedure};
 use ipam_text::{Seq, Text};
 use std::alloc::{AllocError, Global};
 use std::mem;
@@ -267,16 +265,6 @@ fn freed(
     match stage {
         Stage::Frees(frees) => frees.go(turned),
         Stage::Lists | Stage::Waits(_) | Stage::ListsAgain(_) => None,
-    }
-}
-
-/// The rows that were listed.
-fn listing_in<'a>(reply: &Reply<'a>) -> Listing<'a>
-    ensures { rows_of result ≡ rows_said (said reply.now) }
-{
-    match *reply {
-        Reply::Listed(listing) => listing,
-        _ => Listing::over(&[]),
     }
 }
 

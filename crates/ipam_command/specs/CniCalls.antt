@@ -14,6 +14,7 @@ use Rattle.ipam_model.specs.Opened.{OpensAs}
 use Rattle.ipam_model.specs.Plain.{HasSpare, HasSpareFor, Result, plain}
 use Rattle.ipam_model.specs.SoundRequest.{IsSoundRequest}
 use Rattle.ipam_laws.specs.AlonePlain.{AsksSame}
+use Rattle.ipam_kept.specs.Kept.{opened}
 use Rattle.ipam_kept.specs.Rows.{texts_loaded}
 use Rattle.cni_types.specs.declared.calls.CniGc.{CniGc}
 use Rattle.cni_types.specs.declared.calls.CniStatus.{CniStatus}
@@ -27,7 +28,7 @@ use Rattle.cni_gc.specs.Begun.{collect_of, probe_of}
 use Rattle.ipam_cni.specs.declared.end.CniEnd.{CniEnd}
 use Rattle.ipam_cni.specs.declared.end.CniEnd.TheVariants.{Failed}
 use Rattle.ipam_cni.specs.declared.end.CniFault.TheVariants.{Memory}
-use Rattle.ipam_cni.specs.Replies.{Reply, begun_by, opened}
+use Rattle.ipam_cni.specs.Replies.{Reply, begun_by}
 use Rattle.ipam_cni_laws.specs.ByRecords.{IsByRecords}
 use Rattle.ipam_cni_laws.specs.Spare.{LeavesSpared}
 use Rattle.ipam_command.specs.Outside.{Outside}

@@ -30,6 +30,7 @@ use Rattle.ipam_apply.specs.Outside as apply_outside
 use Rattle.ipam_commands.specs.declared.status.Status.TheVariants as status_of
 use Rattle.ipam_cni.specs.declared.end.CniEnd.{CniEnd}
 use Rattle.ipam_cni.specs.Calls as cni
+use Rattle.ipam_call.specs.Ends.{IsStatus}
 use Rattle.ipam_cni.specs.Ends as cni_ends
 use Rattle.ipam_command.specs.CniCalls.{IsCallByRecords, LeavesWhatIsSpared, TellsOfAdd}
 use Rattle.ipam_command.specs.Outside.{LeavesKeeper, LeavesSource, Outside, sides_of}
@@ -137,7 +138,7 @@ pub record DoesCni (env : List Pair) (old new : Outside) (status : ℕ) : Type 0
   pub gc : LeavesWhatIsSpared env ending old new status
   pub status_of_add : TellsOfAdd env ending old new status
   pub at_end : status ≡ 0 → IsAtEnd new.left
-  pub is_status : cni_ends.IsStatus status
+  pub is_status : IsStatus status
 
 -- ---- all
 

@@ -3,7 +3,7 @@ ghost use Rattle.std.specs.Prelude.{◌≡◌, Some, map, string_bytes};
 ghost use Rattle.ipam_words.specs.Words.{asked_by, command_named};
 ghost use Rattle.ipam_command.specs.Commands.{Does, IsSound, TellsUnknown};
 
-use crate::statuses::{UNKNOWN_WORDS, WRITE_FAULT, code_of, code_of_gen, code_of_play};
+use crate::statuses::{UNKNOWN_WORDS, WRITE_FAULT, code_of_gen, code_of_play};
 use ipam_apply::apply;
 use ipam_cni::cni;
 use ipam_commands::{get, release, routes};
@@ -86,11 +86,11 @@ fn run<S: Source, K: Sink, D: Keeper>(
     match command {
         Command::Play => code_of_play(play(alloc, source, sink)),
         Command::Gen(count) => code_of_gen(generate(alloc, count, sink)),
-        Command::Get(kind) => code_of(get(alloc, sink, keeper, kind)),
-        Command::Routes(node) => code_of(routes(alloc, sink, keeper, node)),
-        Command::Release(node, block) => code_of(release(alloc, sink, keeper, node, block)),
+        Command::Get(kind) => get(alloc, sink, keeper, kind).code(),
+        Command::Routes(node) => routes(alloc, sink, keeper, node).code(),
+        Command::Release(node, block) => release(alloc, sink, keeper, node, block).code(),
         Command::Cni => cni(alloc, env, source, sink, keeper),
-        Command::Apply => code_of(apply(alloc, source, sink, keeper)),
+        Command::Apply => apply(alloc, source, sink, keeper).code(),
     }
 }
 

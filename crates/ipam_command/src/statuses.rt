@@ -1,47 +1,24 @@
 //! The statuses that the program ends with.
 ghost use Rattle.std.specs.Prelude.{◌≡◌};
-ghost use Rattle.ipam_commands.specs.Statuses.{code_of};
 ghost use Rattle.ipam_command.specs.Statuses.{code_of_gen, code_of_play};
 
-use ipam_commands::Status;
 use ipam_gen::GenEnd;
 use ipam_play_run::PlayEnd;
 
 /// All was done, and the source was read to its end where the command reads it.
 pub const DONE: u8 = 0;
-/// What was asked was refused.
-pub const REFUSED: u8 = 1;
 /// The words name no command.
 pub const UNKNOWN_WORDS: u8 = 2;
 /// The source failed.
 pub const READ_FAULT: u8 = 3;
 /// The sink failed.
 pub const WRITE_FAULT: u8 = 4;
-/// The keeper failed.
-pub const KEEPER_FAULT: u8 = 5;
 /// There was no memory.
 pub const NO_MEMORY: u8 = 6;
 /// The rows break a rule for rows that are opened.
 pub const BROKEN_ROWS: u8 = 7;
 /// A line of the script is refused.
 pub const LINE_REFUSED: u8 = 8;
-
-/// The status of an operator's command that ended so.
-pub(crate) fn code_of(status: Status) -> u8
-    ensures { result ≡ code_of status }
-{
-    match status {
-        Status::Done => DONE,
-        Status::Refused => REFUSED,
-        Status::UnknownWords => UNKNOWN_WORDS,
-        Status::ReadFault => READ_FAULT,
-        Status::WriteFault => WRITE_FAULT,
-        Status::KeeperFault => KEEPER_FAULT,
-        Status::NoMemory => NO_MEMORY,
-        Status::BrokenRows => BROKEN_ROWS,
-        Status::LineRefused => LINE_REFUSED,
-    }
-}
 
 /// The status of a script that was played to this end.
 pub(crate) fn code_of_play(end: PlayEnd) -> u8

@@ -19,12 +19,12 @@ use Rattle.ipam_laws.proofs.AloneAgain.{alone_again}
 use Rattle.ipam_kept.specs.declared.kept.Kept.{Kept}
 use Rattle.ipam_kept.specs.declared.kept.KeptFault.{KeptFault}
 use Rattle.ipam_kept.specs.declared.kept.KeptFault.TheVariants as fault
-use Rattle.ipam_kept.specs.Kept.{KeptFor, Tells}
+use Rattle.ipam_kept.specs.Kept.{KeptFor, Tells, opened}
 use Rattle.ipam_kept.specs.Opening.{IsFaultOf, IsOpened}
 use Rattle.ipam_solo.specs.Solo.{IsAnswered, IsFaulted, IsStopped, base_of}
 use Rattle.ipam_commands.specs.declared.outcome.ReleaseOutcome.{ReleaseOutcome}
 use Rattle.ipam_commands.specs.declared.outcome.ReleaseOutcome.TheVariants as outcome
-use Rattle.ipam_commands.specs.Courses.{AreRowsOf, opened}
+use Rattle.ipam_commands.specs.Courses.{AreRowsOf}
 use Rattle.ipam_commands.specs.Releasing.{IsRelease, ReleaseEnds, ReleaseRuns, outcome_of}
 use Rattle.ipam_solo.proofs.Courses.{fault-course}
 use Rattle.ipam_commands.proofs.CourseRuns.{stop-course}

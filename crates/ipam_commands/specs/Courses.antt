@@ -8,10 +8,6 @@ use Rattle.ipam_model.specs.History.{Base, Lawful, store_at}
 use Rattle.ipam_kept.specs.Rows.{AreTextsOf}
 use Rattle.ipam_solo.specs.Solo.{IsStoppedAlone}
 
--- a cluster that is opened with the datastore
-abbrev pub opened : Datastore → Base
-opened store = record { store = store; first = 0 }
-
 -- the rows are the datastore's, where they are told
 abbrev pub AreRowsOf : Option (List RowText) → Datastore → Type 0
 AreRowsOf told store = IfSome told (λ rows. AreTextsOf rows store)

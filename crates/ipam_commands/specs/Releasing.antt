@@ -8,6 +8,7 @@ use Rattle.ipam_model.specs.declared.answer.Answer.TheVariants as answer
 use Rattle.ipam_model.specs.declared.request.Request.{Request}
 use Rattle.ipam_model.specs.declared.request.Request.TheVariants as request
 use Rattle.ipam_model.specs.Alone.{alone_over}
+use Rattle.ipam_kept.specs.Kept.{opened}
 use Rattle.ipam_kept.specs.declared.kept.KeptFault.{KeptFault}
 use Rattle.ipam_kept.specs.declared.kept.KeptFault.TheVariants as fault
 use Rattle.ipam_commands.specs.declared.outcome.ReleaseOutcome.{ReleaseOutcome}
@@ -15,7 +16,7 @@ use Rattle.ipam_commands.specs.declared.outcome.ReleaseOutcome.TheVariants as ou
 use Rattle.ipam_commands.specs.declared.status.Status.{Status}
 use Rattle.ipam_commands.specs.declared.status.Status.TheVariants as status
 use Rattle.ipam_solo.specs.Courses.{IsFaultCourse}
-use Rattle.ipam_commands.specs.Courses.{AreRowsOf, IsStopCourse, opened}
+use Rattle.ipam_commands.specs.Courses.{AreRowsOf, IsStopCourse}
 use Rattle.ipam_commands.specs.Telling.{AreBroken, AreOpened, FaultWrites}
 
 -- ---- what a release comes to

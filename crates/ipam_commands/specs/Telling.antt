@@ -1,5 +1,5 @@
 -- How a command that only reads the rows ends, and what it writes.
-use Rattle.std.specs.Prelude.{◌≡◌, ℕ, List, [], ◌++◌, codes, decimal, Option}
+use Rattle.std.specs.Prelude.{◌≡◌, ℕ, List, [], codes, Option}
 use Rattle.std.specs.Io.KnownBytes.{append_known}
 use Rattle.ipam_io.specs.Counts.{Rose}
 use Rattle.ipam_io.specs.Streams.{AppendsPrefix}
@@ -9,16 +9,13 @@ use Rattle.ipam_records.specs.Datastore.{Datastore}
 use Rattle.ipam_model.specs.Opened.{IsRefusedBy, OpensAs}
 use Rattle.ipam_kept.specs.declared.kept.KeptFault.{KeptFault}
 use Rattle.ipam_kept.specs.declared.kept.KeptFault.TheVariants.{Keeper, Refused, Memory}
+use Rattle.ipam_kept.specs.Broken.{broken_line}
 use Rattle.ipam_kept.specs.Rows.{texts_loaded}
 use Rattle.ipam_commands.specs.declared.status.Status.{Status}
 use Rattle.ipam_commands.specs.declared.status.Status.TheVariants as status
 
 abbrev pub keeper_line : List ℕ
 keeper_line = codes "keeper fault\n"
-
--- the line for rows that break this rule, with the key that it is told of
-unfoldable pub broken_line : (number : ℕ) (about : List ℕ) → List ℕ
-broken_line number about = codes "datastore OR" ++ (decimal number ++ (codes " " ++ (about ++ codes "\n")))
 
 -- ---- what is written
 

@@ -1,13 +1,13 @@
 //! The rows of a keeper, opened.
 ghost use Rattle.std.specs.Prelude.{◌≡◌, IfOk, IfErr, OnOk};
 ghost use Rattle.ipam_keeper.specs.Rows.{Ascend};
-ghost use Rattle.ipam_kept.specs.Rows.{greatest, texts_loaded};
+ghost use Rattle.ipam_kept.specs.Rows.{texts_loaded};
 ghost use Rattle.ipam_model.specs.Opened.{OpensAs};
 ghost use Rattle.ipam_opening.specs.Opening.{IsFaultOf};
 ghost use Rattle.ipam_commands.specs.Telling.{AreOpened, IsNotLoaded};
 
 use ipam_keeper::{KeepFault, Keeper};
-use ipam_kept::KeptFault;
+use ipam_kept::{KeptFault, greatest_revision};
 use ipam_opening::{OpenFault, open};
 use ipam_records::Row;
 use ipam_store::Store;
@@ -46,16 +46,5 @@ fn open_loaded(alloc: Global, rows: &[Row]) -> Result<Store, OpenFault>
     ensures opened { IfOk result (λ store. OpensAs (texts_loaded rows.now) store.store) }
     ensures refused { IfErr result (IsFaultOf (texts_loaded rows.now)) }
 {
-    open(alloc, rows, greatest(rows))
-}
-
-/// The greatest revision of the rows, or 0.
-fn greatest(rows: &[Row]) -> u64
-    ensures { result ≡ greatest rows.now }
-{
-    let mut most = 0;
-    for row in rows {
-        most = most.max(row.revision);
-    }
-    most
+    open(alloc, rows, greatest_revision(rows))
 }

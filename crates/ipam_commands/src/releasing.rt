@@ -4,10 +4,9 @@ ghost use Rattle.ipam_records.specs.Sound.{IsName};
 ghost use Rattle.ipam_model.specs.declared.request.Request.TheVariants.{Release};
 ghost use Rattle.ipam_model.specs.SoundRequest.{IsSoundRequest};
 ghost use Rattle.ipam_kept.specs.declared.kept.KeptFault.{KeptFault as Fault};
-ghost use Rattle.ipam_kept.specs.Kept.{KeptFor};
+ghost use Rattle.ipam_kept.specs.Kept.{KeptFor, opened};
 ghost use Rattle.ipam_solo.specs.Solo.{HasNoGrace, NothingRuns};
 ghost use Rattle.ipam_commands.specs.declared.outcome.ReleaseOutcome.{ReleaseOutcome as Outcome};
-ghost use Rattle.ipam_commands.specs.Courses.{opened};
 ghost use Rattle.ipam_commands.specs.Releasing.{IsRelease, ReleaseEnds, ReleaseRuns, ReleaseWrites, outcome_of};
 ghost use Rattle.ipam_commands.specs.Telling.{Writes};
 

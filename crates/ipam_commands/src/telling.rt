@@ -1,10 +1,10 @@
 //! What a command has to say, and how it ends.
 ghost use Rattle.std.specs.Prelude.{◌≡◌, ℕ, List, IfOk, string_bytes};
-ghost use Rattle.ipam_commands.specs.Telling.{FaultWrites, IsMade, IsSaid, Writes, broken_line};
+ghost use Rattle.ipam_commands.specs.Telling.{FaultWrites, IsMade, IsSaid, Writes};
 
 use crate::status::Status;
 use ipam_io::Sink;
-use ipam_kept::KeptFault;
+use ipam_kept::{KeptFault, broken_line};
 use std::alloc::{AllocError, Global};
 
 /// Ends with this text and its status.
@@ -49,12 +49,4 @@ pub fn tell_fault<K: Sink>(alloc: Global, sink: &mut K, fault: KeptFault) -> Sta
         }
         KeptFault::Memory => Status::NoMemory,
     }
-}
-
-/// The line for rows that break this rule.
-#[tactic(auto, unfolding(crate::specs::Telling::broken_line))]
-fn broken_line(alloc: Global, number: u8, about: &str) -> Result<String, AllocError>
-    ensures { IfOk result (λ line. string_bytes line ≡ broken_line number about.now) }
-{
-    format!(in alloc; "datastore OR{number} {about}\n")
 }

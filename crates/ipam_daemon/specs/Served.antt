@@ -1,14 +1,11 @@
 -- How serving ends, and what is written of it.
-use Rattle.std.specs.Prelude.{◌≡◌, ℕ, List, [], ◌++◌, codes, decimal, Option}
+use Rattle.std.specs.Prelude.{◌≡◌, ℕ, List, [], codes, Option}
 use Rattle.std.specs.Io.KnownBytes.{append_known}
 use Rattle.ipam_io.specs.Counts.{Rose}
 use Rattle.ipam_io.specs.Streams.{AppendsPrefix}
+use Rattle.ipam_kept.specs.Broken.{broken_line}
 use Rattle.ipam_daemon.specs.declared.served.Served.{Served}
 use Rattle.ipam_daemon.specs.declared.served.Served.TheVariants.{KeeperFault, NoMemory, BrokenRows, ListenFault}
-
--- the line for rows that break this rule, with the key that it is told of
-unfoldable pub broken_line : (number : ℕ) (about : List ℕ) → List ℕ
-broken_line number about = codes "datastore OR" ++ (decimal number ++ (codes " " ++ (about ++ codes "\n")))
 
 abbrev pub served_line : Served → List ℕ
 served_line KeeperFault = codes "keeper fault\n"

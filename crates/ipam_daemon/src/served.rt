@@ -1,8 +1,9 @@
 //! How serving ends.
 ghost use Rattle.std.specs.Prelude.{◌≡◌, ℕ, List, IfOk, string_bytes};
-ghost use Rattle.ipam_daemon.specs.Served.{Tells, Writes, broken_line};
+ghost use Rattle.ipam_daemon.specs.Served.{Tells, Writes};
 
 use ipam_io::Sink;
+use ipam_kept::broken_line;
 use ipam_text::Text;
 use std::alloc::{AllocError, Global};
 
@@ -72,12 +73,4 @@ fn tell_made<K: Sink>(sink: &mut K, line: Result<String, AllocError>, own: u8) -
         Ok(made) => tell(sink, made.as_str(), own),
         Err(AllocError) => NO_MEMORY,
     }
-}
-
-/// The line for rows that break this rule.
-#[tactic(auto, unfolding(crate::specs::Served::broken_line))]
-fn broken_line(alloc: Global, number: u8, about: &str) -> Result<String, AllocError>
-    ensures { IfOk result (λ line. string_bytes line ≡ broken_line number about.now) }
-{
-    format!(in alloc; "datastore OR{number} {about}\n")
 }

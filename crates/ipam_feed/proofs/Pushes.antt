@@ -10,6 +10,7 @@ use Rattle.ipam_records.specs.declared.call.Write.{Write}
 use Rattle.ipam_records.specs.Datastore.{Datastore, row_key, listed}
 use Rattle.ipam_records.specs.KeyOrder.{key_cmp, is_of_kind}
 use Rattle.ipam_records.specs.Sound.{IsDatastore}
+use Rattle.ipam_records.proofs.RowWrites.{sorted-filter}
 use Rattle.ipam_feed.specs.declared.route.Route.{Route}
 use Rattle.ipam_feed.specs.declared.change.Change.{Change}
 use Rattle.ipam_feed.specs.Route.{routes_of}
@@ -19,7 +20,7 @@ use Rattle.ipam_feed.specs.Turned.{change_of, turned, turned_by, IsPreparedFor}
 use Rattle.ipam_feed.specs.Follows.{Follows}
 use Rattle.ipam_feed.specs.Keeping.{AreKept}
 use Rattle.ipam_feed.proofs.Rows.{routes-listed}
-use Rattle.ipam_feed.proofs.Writes.{ascend-filter, counter-written}
+use Rattle.ipam_feed.proofs.Writes.{counter-written}
 use Rattle.ipam_feed.proofs.Histories.{changes-step, next_change, next_change_is, in_order, kept_since}
 
 -- ---- one more change is kept, and the oldest of too many goes
@@ -54,7 +55,7 @@ floor_step n counter (Some c) changes = last_or n counter changes
 -- ---- the ring follows
 -- the affinities of a datastore stand in order
 pub listed-ascend : (base : Datastore) → IsDatastore base → IsStrictlySortedBy key_cmp (map row_key (listed kind.Affinity base))
-listed-ascend base sound = ascend-filter (λ row. is_of_kind kind.Affinity (row_key row)) base.rows sound.ascending
+listed-ascend base sound = sorted-filter (λ row. is_of_kind kind.Affinity (row_key row)) base.rows sound.ascending
 
 pub Follows-opened : (ring : RingValue) (base : Datastore) (rows : List (ℕ × Record)) → IsDatastore base → rows ≡ listed kind.Affinity base → ring.routes ≡ routes_of rows → ring.changes ≡ [] → ring.floor ≡ base.counter → ring.counter ≡ base.counter → Follows ring base []
 Follows-opened ring base rows sound is routes changes floor counter = record {

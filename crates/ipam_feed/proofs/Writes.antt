@@ -1,27 +1,21 @@
 -- The routes of a datastore after a write.
-use Rattle.std.proofs.Common.{◌≡◌, ℕ, Bool, true, false, not, cond, Option, Some, None, List, [], ◌∷◌, map, sym, ap, ◌∙◌, refl, subst}
-use Rattle.std.specs.declared.cmp.Ordering.{Ordering}
-use Rattle.std.specs.declared.cmp.Ordering.TheVariants.{Less, Equal, Greater}
-use Rattle.std.specs.Ordering.{ordering_reverse}
+use Rattle.std.proofs.Common.{◌≡◌, ℕ, Bool, true, false, not, cond, Option, Some, None, List, map, sym, ap, ◌∙◌, refl, subst}
 use Rattle.std.specs.Option.{option_to_list}
-use Rattle.std.specs.List.{AllByRecursion, filter}
 use Rattle.std.specs.List.Sorted.{IsStrictlySortedBy}
-use Rattle.ipam_records.specs.declared.key.Key.{Key}
 use Rattle.ipam_records.specs.declared.key.Key.TheVariants as key
 use Rattle.ipam_records.specs.declared.record.Record.{Record}
 use Rattle.ipam_records.specs.declared.record.Record.TheVariants as record_of
 use Rattle.ipam_records.specs.declared.call.Write.{Write}
 use Rattle.ipam_records.specs.declared.call.Write.TheVariants.{Put, Remove}
-use Rattle.ipam_records.specs.KeyOrder.{key_cmp, keys_equal}
-use Rattle.ipam_records.specs.KeyOrderLaws.{key_cmp_total}
-use Rattle.ipam_records.specs.Datastore.{Datastore, row_key, row_at, with_row, written}
+use Rattle.ipam_records.specs.KeyOrder.{key_cmp}
+use Rattle.ipam_records.specs.Datastore.{Datastore, row_key, written}
+use Rattle.ipam_records.proofs.RowWrites.{sorted-with_row, sorted-without_row}
 use Rattle.ipam_feed.specs.declared.route.Route.{Route}
 use Rattle.ipam_feed.specs.declared.change.Change.{Change}
 use Rattle.ipam_feed.specs.Route.{is_confirmed, routes_in, route_cmp, has_route}
 use Rattle.ipam_feed.specs.Change.{differences, Leads}
 use Rattle.ipam_feed.specs.Feed.{write_revision}
 use Rattle.ipam_feed.specs.Turned.{change_meant, if_change, change_of, turned, turned_by}
-use Rattle.ipam_feed.proofs.Sorted.{later}
 use Rattle.ipam_feed.proofs.Routes.{with-here, with-new, without-here, without-absent}
 use Rattle.ipam_feed.proofs.Differences.{differences-up, differences-down, differences-none}
 use Rattle.ipam_feed.proofs.Rows.{routes-with_row, routes-with_other, routes-without_row, routes-without_other, some_same}
@@ -30,53 +24,9 @@ use Rattle.ipam_feed.proofs.Rows.{routes-with_row, routes-with_other, routes-wit
 abbrev pub Ascend : List (ℕ × Record) → Type 0
 Ascend rows = IsStrictlySortedBy key_cmp (map row_key rows)
 
-keys-row_at : (P : Key → Type 0) (o : Ordering) (new r : ℕ × Record) (rs further : List (ℕ × Record)) → P (row_key new) → AllByRecursion P (map row_key (r ∷ rs)) → AllByRecursion P (map row_key further) → AllByRecursion P (map row_key (row_at o new r rs further))
-keys-row_at P Less new r rs further p all more = (p, all)
-keys-row_at P Equal new r rs further p all more = (p, all.1)
-keys-row_at P Greater new r rs further p all more = (all.0, more)
-
-keys-with_row : (P : Key → Type 0) (new : ℕ × Record) (rows : List (ℕ × Record)) → P (row_key new) → AllByRecursion P (map row_key rows) → AllByRecursion P (map row_key (with_row new rows))
-keys-with_row P new [] p all = (p, tt)
-keys-with_row P new (r ∷ rs) p all =
-    keys-row_at P (key_cmp (row_key new) (row_key r)) new r rs (with_row new rs) p all (keys-with_row P new rs p all.1)
-
-same_order : (x y : Key) → key_cmp x y ≡ Equal → (rows : List (ℕ × Record)) → AllByRecursion (λ z. key_cmp y z ≡ Less) (map row_key rows) → AllByRecursion (λ z. key_cmp x z ≡ Less) (map row_key rows)
-same_order x y h [] all = tt
-same_order x y h (r ∷ rs) all = (key_cmp_total.congr x y (row_key r) h ∙ all.0, same_order x y h rs all.1)
-
-ascend-row_at : (o : Ordering) (new r : ℕ × Record) (rs : List (ℕ × Record)) → key_cmp (row_key new) (row_key r) ≡ o → Ascend (r ∷ rs) → Ascend (with_row new rs) → Ascend (row_at o new r rs (with_row new rs))
-unfolding IsStrictlySortedBy
-ascend-row_at Less new r rs h s rest = ((h, later key_cmp key_cmp_total (row_key new) (row_key r) h (map row_key rs) s.0), s)
-ascend-row_at Equal new r rs h s rest = (same_order (row_key new) (row_key r) h rs s.0, s.1)
-ascend-row_at Greater new r rs h s rest =
-    let below : key_cmp (row_key r) (row_key new) ≡ Less = key_cmp_total.antisymm (row_key r) (row_key new) ∙ ap ordering_reverse h in
-    (keys-with_row (λ y. key_cmp (row_key r) y ≡ Less) new rs below s.0, rest)
-
-ascend-with_row : (new : ℕ × Record) (rows : List (ℕ × Record)) → Ascend rows → Ascend (with_row new rows)
-unfolding IsStrictlySortedBy
-ascend-with_row new [] s = (tt, tt)
-ascend-with_row new (r ∷ rs) s = ascend-row_at (key_cmp (row_key new) (row_key r)) new r rs refl s (ascend-with_row new rs s.1)
-
-keys-filter : (P : Key → Type 0) (passes : ℕ × Record → Bool) (rows : List (ℕ × Record)) → AllByRecursion P (map row_key rows) → AllByRecursion P (map row_key (filter passes rows))
-keys-filter P passes [] all = all
-keys-filter P passes (r ∷ rs) all =
-    elim (passes r) as (λ b. AllByRecursion P (map row_key (cond b (r ∷ filter passes rs) (filter passes rs)))) [
-      | true ↦ (all.0, keys-filter P passes rs all.1)
-      | false ↦ keys-filter P passes rs all.1
-    ]
-
-pub ascend-filter : (passes : ℕ × Record → Bool) (rows : List (ℕ × Record)) → Ascend rows → Ascend (filter passes rows)
-unfolding IsStrictlySortedBy
-ascend-filter passes [] s = s
-ascend-filter passes (r ∷ rs) s =
-    elim (passes r) as (λ b. Ascend (cond b (r ∷ filter passes rs) (filter passes rs))) [
-      | true ↦ (keys-filter (λ y. key_cmp (row_key r) y ≡ Less) passes rs s.0, ascend-filter passes rs s.1)
-      | false ↦ ascend-filter passes rs s.1
-    ]
-
 pub ascend-written : (store : Datastore) (write : Write) → Ascend store.rows → Ascend (written store write).rows
-ascend-written store (Put revision new) s = ascend-with_row (revision, new) store.rows s
-ascend-written store (Remove revision k) s = ascend-filter (λ row. not (keys_equal (row_key row) k)) store.rows s
+ascend-written store (Put revision new) s = sorted-with_row (revision, new) store.rows s
+ascend-written store (Remove revision k) s = sorted-without_row k store.rows s
 
 pub counter-written : (store : Datastore) (write : Write) → (written store write).counter ≡ write_revision write
 counter-written store (Put revision new) = refl

@@ -26,6 +26,13 @@ members_from (m ∷ ms) = member m.0 m.1 (members_from ms)
 abbrev pub object_of : List Field → Data
 object_of ms = object (members_from ms)
 
+-- the object with this one member
+abbrev pub tagged : List ℕ → Data → Data
+tagged name d = object_of ((name, d) ∷ [])
+
+abbrev pub whole_data : ℕ → Data
+whole_data n = number (unsigned n)
+
 abbrev pub item_list : Items → List Data
 item_list no_items = []
 item_list (item d ds) = d ∷ item_list ds

@@ -2,9 +2,10 @@ ghost use Rattle.std.specs.Prelude.{◌≡◌, Some, IfOk, string_bytes};
 ghost use Rattle.serde_json.specs.Read.{read};
 ghost use Rattle.serde_json.specs.View.{view};
 ghost use Rattle.serde_json.specs.Written.{compact_text};
+ghost use Rattle.ipam_json.specs.Built.{tagged};
 ghost use Rattle.ipam_json.specs.Canonical.{IsCanonical};
 
-use serde_json::Value;
+use serde_json::{Map, Value, put};
 use std::alloc::{AllocError, Global};
 
 /// The text of a canonical value, with no space.
@@ -14,4 +15,13 @@ pub fn canonical_text(alloc: Global, value: &Value) -> Result<String, AllocError
     ensures reads_back { IfOk result (λ s. read (string_bytes s) ≡ Some (view value.now)) }
 {
     value.to_string(alloc)
+}
+
+/// The object with this one member.
+pub fn tagged(alloc: Global, name: &str, value: Value) -> Result<Value, AllocError>
+    ensures { IfOk result (λ v. view v ≡ tagged name.now (view value)) }
+{
+    let mut members = Map::new(alloc);
+    put(&mut members, alloc, name, value)?;
+    Ok(Value::Object(members))
 }

@@ -17,6 +17,7 @@ use Rattle.ipam_records.specs.declared.call.Row.{Row}
 use Rattle.ipam_keeper.specs.Rows.{Ascend, row_key, row_of, text_cmp, texts_equal}
 use Rattle.ipam_keeper.proofs.Searching.{text_total}
 use Rattle.ipam_laws.proofs.Members.{all-of, in-cons, in-find, in-here, in-nothing, in-there}
+use Rattle.ipam_laws.proofs.OpenedRows.{split-at}
 use Rattle.ipam_model.specs.Opened.{AreByKey}
 
 -- ---- the two ways to say that keys ascend
@@ -86,13 +87,6 @@ rows-differ (row ∷ rows) s =
     (all-of (λ (other : Row). row ≢ other) rows (λ other there same.
     never-less row.key (ap (λ (r : Row). text_cmp row.key r.key) same ∙ less-than row.key rows other s.0 there)))
     (rows-differ rows s.1)
-
-split-at : {X : Type 0} → (x : X) (xs : List X) → Contains xs x → (front back : List X) × (xs ≡ front ++ x ∷ back)
-split-at x [] h = absurd (in-nothing x h)
-split-at x (y ∷ ys) h = elim (in-cons x y ys h) [
-  | inl is ↦ ([], ys, ap (λ z. z ∷ ys) is)
-  | inr there ↦ let (front, back, e) = split-at x ys there in (y ∷ front, back, ap (λ l. y ∷ l) e)
-]
 
 -- what differs from a first one, and what stands behind it
 first-differs : {X : Type 0} → (x : X) (xs : List X) → AllPairs (λ x y. x ≢ y) (x ∷ xs) → (y : X) → Contains xs y → x ≢ y

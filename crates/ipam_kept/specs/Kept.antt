@@ -1,12 +1,17 @@
 -- For which history a kept cluster stands.
 use Rattle.std.specs.Prelude.{◌≡◌, List, ◌∷◌, Option}
 use Rattle.ipam_records.specs.declared.call.Row.{Row as RowText}
+use Rattle.ipam_records.specs.Datastore.{Datastore}
 use Rattle.ipam_model.specs.declared.entry.Entry.{Entry}
 use Rattle.ipam_model.specs.History.{Base}
 use Rattle.ipam_cluster.specs.Cluster.{IsUnchanged, StandsFor}
 use Rattle.ipam_kept.specs.declared.kept.Kept.{Kept}
 use Rattle.ipam_kept.specs.Doubt.{IsDoubt}
 use Rattle.ipam_kept.specs.Rows.{AreToldKept}
+
+-- where a cluster begins that is opened with the datastore, before any entry
+abbrev pub opened : Datastore → Base
+opened store = record { store = store; first = 0 }
 
 -- the rows that a keeper tells
 abbrev pub Tells : Type 0 → Type 0

@@ -1,5 +1,6 @@
 -- What a kept cluster keeps, and what its calls do.
 pub mod Rows
+pub mod Broken
 pub mod Doubt
 pub mod Faults
 pub mod Giving

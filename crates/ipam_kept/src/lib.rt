@@ -2,6 +2,7 @@
 //! of the routes is told.
 #![tactic(auto)]
 
+mod broken;
 mod feed;
 mod giving;
 mod kept;
@@ -9,10 +10,12 @@ mod laws;
 mod loaded;
 mod write;
 
+pub use broken::broken_line;
 pub use ipam_cluster::{BeginFault, Cluster, FeedFault, PrepareFault};
 pub use ipam_feed::{Change, Route, SinceFault};
 pub use ipam_keeper::Keeper;
 pub use kept::{Kept, KeptFault};
 pub use laws::what_is_kept_may_be_opened;
+pub use loaded::greatest_revision;
 pub use std::alloc::AllocError as Memory;
 pub use write::RowWrite;

@@ -47,7 +47,7 @@ fn open_cluster(alloc: Global, rows: Vec<Row>, first: u64) -> Result<Cluster, Op
     ensures stands { IfOk result (λ cluster. StandsFor cluster (record { store = cluster.store.store; first = first }) []) }
     ensures refused { IfErr result (IsFaultOf (texts_loaded rows.items)) }
 {
-    let counter = greatest(&rows);
+    let counter = greatest_revision(&rows);
     let base = Base {
         rows,
         counter,
@@ -57,7 +57,7 @@ fn open_cluster(alloc: Global, rows: Vec<Row>, first: u64) -> Result<Cluster, Op
 }
 
 /// The greatest revision of the rows, or 0.
-fn greatest(rows: &[Row]) -> u64
+pub fn greatest_revision(rows: &[Row]) -> u64
     ensures { result ≡ greatest rows.now }
 {
     let mut most = 0;

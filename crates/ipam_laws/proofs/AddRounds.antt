@@ -295,7 +295,7 @@ and-right : (a b : Bool) → IsTrue (a && b) → IsTrue b
 and-right true b h = h
 and-right false b h = absurd (cc h)
 
-family-same : (one other : Family) → IsTrue (is_same_family one other) → one ≡ other
+pub family-same : (one other : Family) → IsTrue (is_same_family one other) → one ≡ other
 family-same V4 V4 h = refl
 family-same V4 V6 h = absurd (cc h)
 family-same V6 V4 h = absurd (cc h)
@@ -315,7 +315,7 @@ at-slot slot (Unclaimed read) cidr ordinal (inr e) = absurd (cc e)
 at-slot slot (Foreign found o) cidr ordinal (inl e) = absurd (cc e)
 at-slot slot (Foreign found o) cidr ordinal (inr e) = cc e
 
-usable-family : (asked : Asked) (pool : Pool) → IsTrue (is_usable asked pool) → asked.family ≡ pool.cidr.family
+pub usable-family : (asked : Asked) (pool : Pool) → IsTrue (is_usable asked pool) → asked.family ≡ pool.cidr.family
 usable-family asked pool h =
     family-same asked.family pool.cidr.family
     (and-right (not pool.disabled) (is_same_family asked.family pool.cidr.family)

@@ -28,7 +28,7 @@ use Rattle.ipam_laws.proofs.OwnersOrder.{pairs-head, pairs-tail}
 
 -- ---- tests that hold
 
-any-from : {X : Type 0} → (test : X → Bool) (list : List X) (x : X) → Contains list x → test x ≡ true → list_any test list ≡ true
+pub any-from : {X : Type 0} → (test : X → Bool) (list : List X) (x : X) → Contains list x → test x ≡ true → list_any test list ≡ true
 any-from test [] x among is = absurd (in-nothing x among)
 any-from test (y ∷ list) x among is = elim (cases_Bool (test y)) [
   | inl here ↦ rw here refl
@@ -38,10 +38,10 @@ any-from test (y ∷ list) x among is = elim (cases_Bool (test y)) [
   ]
 ]
 
-both-true : {one two : Bool} → one ≡ true → two ≡ true → (one && two) ≡ true
+pub both-true : {one two : Bool} → one ≡ true → two ≡ true → (one && two) ≡ true
 both-true {one} {two} e f = λ i. e i && f i
 
-own-number : (n : ℕ) → (n == n) ≡ true
+pub own-number : (n : ℕ) → (n == n) ≡ true
 own-number n = elim (cases_Bool (n == n)) [ inl is ↦ is | inr not_it ↦ absurd (eqb-false n n not_it refl) ]
 
 own-family : (family : Family) → is_same_family family family ≡ true

@@ -122,7 +122,7 @@ read-found texts store h sorted k =
 -- ---- how many there are
 
 -- a list round one of its members
-split-at : {X : Type 0} → (x : X) (xs : List X) → Contains xs x → (front back : List X) × (xs ≡ front ++ x ∷ back)
+pub split-at : {X : Type 0} → (x : X) (xs : List X) → Contains xs x → (front back : List X) × (xs ≡ front ++ x ∷ back)
 split-at x [] h = absurd (in-nothing x h)
 split-at x (y ∷ ys) h = elim (in-cons x y ys h) [
   | inl is ↦ ([], ys, ap (λ z. z ∷ ys) is)

@@ -157,7 +157,7 @@ in-inserted xs zero x = in-here x xs
 in-inserted [] (suc place) x = in-here x []
 in-inserted (y ∷ ys) (suc place) x = in-there x y (insert ys place x) (in-inserted ys place x)
 
-in-still : {X : Type 0} → (xs : List X) (place : ℕ) (x z : X) → Contains xs z → Contains (insert xs place x) z
+pub in-still : {X : Type 0} → (xs : List X) (place : ℕ) (x z : X) → Contains xs z → Contains (insert xs place x) z
 in-still xs zero x z h = in-there z x xs h
 in-still [] (suc place) x z h = absurd (in-nothing z h)
 in-still (y ∷ ys) (suc place) x z h = elim (in-cons z y ys h) [

@@ -107,7 +107,7 @@ pub(crate) fn set_text(alloc: Global, name: &str) -> Result<String, AllocError> 
     if let Err(fault) = table.set(name, true, Mode::Manual, western) {
         return format!(in alloc; "{fault:?}");
     }
-    let copy = table.copy()?;
+    let copy = table.clone()?;
     if table
         .set(name, false, Mode::Automatic, NodeSelector::all(alloc))
         .is_err()

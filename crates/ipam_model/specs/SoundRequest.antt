@@ -12,7 +12,7 @@ use Rattle.ipam_select.specs.declared.limits.TheConstants.{LABELS_MAX, LABEL_KEY
 use Rattle.ipam_pool.specs.declared.table.TheConstants.{MOST_POOLS}
 use Rattle.ipam_record_text.specs.Pools.{IsSoundPool}
 use Rattle.ipam_records.specs.Sound.{IsName, IsHandleId, AreAttributes, IsReservation}
-use Rattle.ipam_model.specs.declared.limits.TheConstants.{CHECKED_MAX}
+use Rattle.ipam_block.specs.declared.limits.TheConstants.{CHECKED_MAX}
 use Rattle.ipam_model.specs.declared.request.AddRequest.{AddRequest}
 use Rattle.ipam_model.specs.declared.request.Admin.{Admin}
 use Rattle.ipam_model.specs.declared.request.Admin.TheVariants as change

@@ -15,7 +15,7 @@ mod request;
 pub use answer::{Answer, Collected, Given, GivenThis, Item, Scan};
 pub use choice::Choice;
 pub use entry::{CallName, Called, Entry, Fate, SlotState, Told};
-pub use limits::{CHECKED_MAX, CLAIMS_MAX, LOST_RACES_MAX, SLOTS};
+pub use limits::{CLAIMS_MAX, LOST_RACES_MAX, SLOTS};
 pub use outcome::{
     AddAnswer, AddThisAnswer, AdminAnswer, CheckAnswer, ClaimAnswer, CollectAnswer, DelAnswer,
     FreeAnswer, Gift, ProbeAnswer, ReleaseAnswer, Served,

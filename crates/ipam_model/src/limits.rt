@@ -4,8 +4,5 @@ pub const LOST_RACES_MAX: u32 = 64;
 /// The confirmed claim that ends a request.
 pub const CLAIMS_MAX: u32 = 64;
 
-/// The most addresses that one CHECK names.
-pub const CHECKED_MAX: usize = 64;
-
 /// How many slots a cluster has.
 pub const SLOTS: usize = 64;

@@ -19,6 +19,6 @@ pub use left::{after_claim, after_lost, all_left, lost_so_far};
 pub use lowering::{Lowering, LoweringTurned};
 pub use queue::first_of;
 pub use raising::{Raising, RaisingTurned};
-pub use reading::{block_in, handle_in, revision_in};
+pub use reading::{block_in, handle_in, listing_in, pools_in, reservations_in, revision_in};
 pub use std::alloc::AllocError as Memory;
 pub use write_end::WriteEnd;

@@ -17,7 +17,8 @@ use Rattle.ipam_laws.proofs.CountLemmas.{cidr_cases, same_text}
 use Rattle.ipam_laws.proofs.Steps.{taken}
 use Rattle.ipam_plain.proofs.Alike.{IsSorted, record-row, same-pools, value_in}
 use Rattle.ipam_plain.proofs.Claiming.{IsClaimedIn}
-use Rattle.ipam_plain.proofs.Ranks.{same-room, usable-family}
+use Rattle.ipam_laws.proofs.AddRounds.{usable-family}
+use Rattle.ipam_plain.proofs.Ranks.{same-room}
 use Rattle.ipam_plain.proofs.Seeing.{block-listed, block-named, confirmed-record, confirmed_from, same-block, same-confirmed, same-reservations}
 
 -- ---- the node's own confirmed block

@@ -1,6 +1,6 @@
 -- What an assignment makes of what the blocks hold.
-use Rattle.std.proofs.Common.{◌≡◌, ◌≢◌, ◌⊎◌, ℕ, zero, suc, ◌+◌, ◌<◌, ◌≤◌, inl, inr, List, [], ◌∷◌, Some, None, refl, sym, ap, ◌∙◌, subst, arith}
-use Rattle.std.specs.Prelude.{Contains, insert, nat_lt}
+use Rattle.std.proofs.Common.{◌≡◌, ◌≢◌, ◌⊎◌, ℕ, ◌+◌, ◌<◌, ◌≤◌, inl, inr, List, Some, None, refl, sym, ap, ◌∙◌, subst, arith}
+use Rattle.std.specs.Prelude.{Contains, nat_lt}
 use Rattle.std.specs.List.{count_by}
 use Rattle.ipam_addr.specs.Shape.{CidrValue}
 use Rattle.ipam_block.specs.declared.allocation.Allocation.{Allocation}
@@ -14,19 +14,11 @@ use Rattle.ipam_model.specs.Affinities.{BlockRead}
 use Rattle.ipam_model.specs.Plain.{PlainGift, Rows, block_of, claimed_block, handle_of, plain_gift, put, with_assigned}
 use Rattle.ipam_laws.proofs.BlockSteps.{in-insert}
 use Rattle.ipam_laws.proofs.CountLemmas.{cidr_cases}
-use Rattle.ipam_laws.proofs.Members.{in-cons, in-here, in-nothing, in-there}
-use Rattle.ipam_laws.proofs.OwnersEffects.{in-inserted}
+use Rattle.ipam_laws.proofs.Members.{in-nothing}
+use Rattle.ipam_laws.proofs.OwnersEffects.{in-inserted, in-still}
 use Rattle.ipam_plain.proofs.Alike.{record_at, record_at-other, record_at-put, value_in}
 use Rattle.ipam_plain.proofs.Claiming.{IsClaimedIn}
 use Rattle.ipam_plain.proofs.Held.{HeldAt, block-found, found-record}
-
-in-still : {X : Type 0} → (xs : List X) (place : ℕ) (x z : X) → Contains xs z → Contains (insert xs place x) z
-in-still xs zero x z h = in-there z x xs h
-in-still [] (suc place) x z h = absurd (in-nothing z h)
-in-still (y ∷ ys) (suc place) x z h = elim (in-cons z y ys h) [
-  | inl is ↦ subst (λ w. Contains (y ∷ insert ys place x) w) is (in-here y (insert ys place x))
-  | inr there ↦ in-there z y (insert ys place x) (in-still ys place x z there)
-]
 
 -- the allocation of what was given
 abbrev pub allocation_of : Attributes → PlainGift → Allocation

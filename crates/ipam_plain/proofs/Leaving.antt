@@ -1,8 +1,8 @@
 -- Which owners a DEL and a collection that run alone leave.
 use Rattle.std.proofs.Common.{◌≡◌, ◌≢◌, ◌⊎◌, ℕ, zero, suc, ◌+◌, ◌-◌, ◌<◌, inl, inr, Bool, true, false, cond, not, List, [], ◌∷◌, map, Option, Some, None, refl, sym, ap, ◌∙◌, subst, arith, eqb-true, bytes_eq}
 use Rattle.std.specs.Prelude.{Contains, ◌&&◌, ◌==◌}
-use Rattle.std.specs.List.{count_by, filter, flat_map, list_any}
-use Rattle.std.proofs.lemmas.Bool.{cases_Bool, eqb-false}
+use Rattle.std.specs.List.{count_by, filter, flat_map}
+use Rattle.std.proofs.lemmas.Bool.{cases_Bool}
 use Rattle.std.proofs.lemmas.List.Elements.{Contains-append_cases, Contains-append_left, Contains-append_right}
 use Rattle.std.proofs.lemmas.List.Sums.{sum_by-cons}
 use Rattle.ipam_addr.specs.Shape.{CidrValue}
@@ -31,7 +31,7 @@ use Rattle.ipam_model.specs.Reads.{Row, handle_said}
 use Rattle.ipam_model.specs.Remove.{Leak, freeing_owner, is_in_scope, is_live, leak_of, leaks, leaks_in_row, may_leak, suspects}
 use Rattle.ipam_laws.proofs.Calls.{found-handle, found-key}
 use Rattle.ipam_laws.proofs.CountLemmas.{same_text, text_cases}
-use Rattle.ipam_laws.proofs.LeaksAll.{own-owner}
+use Rattle.ipam_laws.proofs.LeaksAll.{own-owner, any-from, both-true, own-number}
 use Rattle.ipam_laws.proofs.Members.{filter-in, in-cons, in-filter, in-here, in-map, in-nothing, in-there, out-map}
 use Rattle.ipam_laws.proofs.OwnersOrder.{pairs-of}
 use Rattle.ipam_records.proofs.RowWrites.{sorted-with_row, sorted-without_row}
@@ -171,16 +171,6 @@ leaks-stays (first ∷ rest) rows c a h none =
     leaks-stays rest (with_freed (freeing_owner first.owner first.block) rows) c a (freed-stays (freeing_owner first.owner first.block) rows c a h (none first (in-here first rest)))
     (λ leak among. none leak (in-there leak first rest among))
 
-any-from : {X : Type 0} → (test : X → Bool) (list : List X) (x : X) → Contains list x → test x ≡ true → list_any test list ≡ true
-any-from test [] x among is = absurd (in-nothing x among)
-any-from test (y ∷ list) x among is = elim (cases_Bool (test y)) [
-  | inl here ↦ rw here refl
-  | inr not_here ↦ elim (in-cons x y list among) [
-    | inl same ↦ let no : test x ≡ false = ap test (sym same) ∙ not_here in absurd (cc (no, is))
-    | inr later ↦ rw not_here (any-from test list x later is)
-  ]
-]
-
 in-flat : {X Y : Type 0} → (f : X → List Y) (xs : List X) (x : X) (y : Y) → Contains xs x → Contains (f x) y → Contains (flat_map f xs) y
 in-flat f [] x y among own = absurd (in-nothing x among)
 in-flat {X} {Y} f (first ∷ rest) x y among own = elim (in-cons x first rest among) [
@@ -194,9 +184,6 @@ out-flat f (first ∷ rest) y h = elim (Contains-append_cases (f first) (flat_ma
   | inl own ↦ (first, in-here first rest, own)
   | inr further ↦ let (x, among, own) = out-flat f rest y further in (x, in-there x first rest among, own)
 ]
-
-own-number : (n : ℕ) → (n == n) ≡ true
-own-number n = elim (cases_Bool (n == n)) [ inl is ↦ is | inr not_it ↦ absurd (eqb-false n n not_it refl) ]
 
 -- a suspect's block and allocation
 record IsSuspectIn (rows : Rows) (request : CollectRequest) (leak : Leak) : Type 0 where
@@ -240,9 +227,6 @@ kept-is request a (inr live) = by (is_in_scope request.scope a)
 module _ (request : CollectRequest) (store : Datastore) (sound : IsDatastore store) where
   abbrev found : List Leak
   found = leaks (suspects request store.rows) request.live store.rows
-
-  both-true : {one two : Bool} → one ≡ true → two ≡ true → (one && two) ≡ true
-  both-true {one} {two} e f = λ i. e i && f i
 
   -- who may leak is found, and picked
   leak-picked : (c : CidrValue) (a : Allocation) → HeldAt store.rows c a → may_leak request a ≡ true → Contains found (leak_of c a) × (picks_of (leak_of c a) a ≡ true)

@@ -1,9 +1,6 @@
 -- What is picked does not depend on revisions.
 use Rattle.std.proofs.Common.{◌≡◌, ℕ, zero, suc, ◌+◌, Bool, true, false, cond, List, [], ◌∷◌, Option, Some, None, refl, sym, ap, ◌∙◌, subst}
 use Rattle.std.specs.Prelude.{◌&&◌, ◌||◌, ◌==◌, IsTrue, nat_lt, is_some, not}
-use Rattle.ipam_addr.specs.declared.address.Family.{Family}
-use Rattle.ipam_addr.specs.declared.address.Family.TheVariants.{V4, V6}
-use Rattle.ipam_addr.specs.Holding.{is_same_family}
 use Rattle.std.specs.List.{count_by, list_any}
 use Rattle.ipam_addr.specs.Shape.{CidrValue}
 use Rattle.ipam_addr.specs.Slots.{last_slot_of, slot_of}
@@ -20,6 +17,7 @@ use Rattle.ipam_model.specs.Plain.{Rows, seen_in}
 use Rattle.ipam_model.specs.Usable.{Asked, is_usable, unknown_name}
 use Rattle.ipam_plain.proofs.Alike.{Alike, IsSorted, alike-records, same-pools, value_in}
 use Rattle.ipam_plain.proofs.Seeing.{block-named, same-block, same-config, same-confirmed, same-count, same-reservations}
+use Rattle.ipam_laws.proofs.AddRounds.{usable-family}
 
 -- ---- the same but for revisions
 
@@ -62,28 +60,6 @@ rank-number (Foreign found ordinal) (Own there place) s = absurd s
 rank-number (Foreign found ordinal) (Unconfirmed there) s = absurd s
 rank-number (Foreign found ordinal) (Unclaimed read) s = absurd s
 rank-number (Foreign found ordinal) (Foreign there place) s = refl
-
--- ---- pools of the family
-
-and-left : (a b : Bool) → IsTrue (a && b) → IsTrue a
-and-left true b h = refl
-and-left false b h = absurd (cc h)
-
-and-right : (a b : Bool) → IsTrue (a && b) → IsTrue b
-and-right true b h = h
-and-right false b h = absurd (cc h)
-
-pub family-same : (one other : Family) → IsTrue (is_same_family one other) → one ≡ other
-family-same V4 V4 h = refl
-family-same V4 V6 h = absurd (cc h)
-family-same V6 V4 h = absurd (cc h)
-family-same V6 V6 h = refl
-
-pub usable-family : (asked : Asked) (pool : Pool) → IsTrue (is_usable asked pool) → asked.family ≡ pool.cidr.family
-usable-family asked pool h =
-    family-same asked.family pool.cidr.family
-    (and-right (not pool.disabled) (is_same_family asked.family pool.cidr.family)
-    (and-left (not pool.disabled && is_same_family asked.family pool.cidr.family) _ (and-left _ _ (and-left _ _ h))))
 
 -- ---- of what is seen alike
 

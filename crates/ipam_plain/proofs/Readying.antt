@@ -39,7 +39,7 @@ use Rattle.ipam_model.specs.Told.{of_add}
 use Rattle.ipam_model.specs.Usable.{Asked, families_if}
 use Rattle.ipam_model.proofs.ChoiceLemmas.{pick-ranked}
 use Rattle.ipam_laws.specs.AlonePlain.{AsksSame, IsReady}
-use Rattle.ipam_laws.proofs.AddRounds.{HasRead, picked-read}
+use Rattle.ipam_laws.proofs.AddRounds.{HasRead, picked-read, family-same}
 use Rattle.ipam_laws.proofs.AloneAdds.{NotAgain, add-runs}
 use Rattle.ipam_laws.proofs.AloneCalls.{Runs-bound, runs-alone}
 use Rattle.ipam_laws.proofs.AloneChoice.{claim-room}
@@ -55,7 +55,7 @@ use Rattle.ipam_plain.proofs.Claiming.{claimed-taken, plain-claimed, taken-same}
 use Rattle.ipam_plain.proofs.Counted.{AreSoundCounts, Follows, assigned-follows, claimed-follows, follows-trans}
 use Rattle.ipam_plain.proofs.Given.{GivesOne, assigned-gives, claimed-gives}
 use Rattle.ipam_plain.proofs.Held.{found-record, named}
-use Rattle.ipam_plain.proofs.Ranks.{SamePick, SeesSame, family-same, pick-itself, same-pick, same-room}
+use Rattle.ipam_plain.proofs.Ranks.{SamePick, SeesSame, pick-itself, same-pick, same-room}
 use Rattle.ipam_plain.proofs.Seeing.{block-named, block_at-record, count-put, same-block, same-config, same-confirmed, same-reservations}
 use Rattle.ipam_plain.proofs.Serving.{Keeps, plain-claimed-take}
 use Rattle.ipam_plain.proofs.Whole.{add_alone}

@@ -1,5 +1,5 @@
 -- What the rounds of a family come to, alone.
-use Rattle.std.proofs.Common.{◌≡◌, ◌≢◌, ℕ, zero, suc, ◌+◌, ◌-◌, ◌<◌, ◌≤◌, inl, inr, Bool, true, false, List, [], Option, Some, None, refl, sym, ap, ◌∙◌, subst, arith}
+use Rattle.std.proofs.Common.{◌≡◌, ◌≢◌, ℕ, zero, suc, ◌+◌, ◌-◌, ◌<◌, inl, inr, Bool, true, false, List, [], Option, Some, None, refl, sym, ap, ◌∙◌, subst, arith}
 use Rattle.ipam_addr.specs.declared.address.Family.{Family}
 use Rattle.ipam_addr.specs.Shape.{CidrValue}
 use Rattle.ipam_block.specs.Shape.{BlockValue}
@@ -35,7 +35,7 @@ use Rattle.ipam_model.specs.Told.{of_add}
 use Rattle.ipam_model.specs.Usable.{Asked}
 use Rattle.ipam_model.proofs.ChoiceLemmas.{choice_is}
 use Rattle.ipam_laws.proofs.AddRounds.{HasRead, chosen-family, picked-read}
-use Rattle.ipam_laws.proofs.AloneAdds.{listed-as_read}
+use Rattle.ipam_laws.proofs.AloneAdds.{listed-as_read, Spends}
 use Rattle.ipam_laws.proofs.AloneCalls.{Runs, runs-get, runs-list}
 use Rattle.ipam_laws.proofs.AloneLooks.{next1, next2, next3, next4, next5}
 use Rattle.ipam_laws.proofs.AloneParts.{taken-cidr}
@@ -79,11 +79,6 @@ pub record Keeps : Type 0 where
   pub revisions : ℕ
   pub rows : ℕ
   pub blocks : ℕ
-
--- no race was lost, and one claim was made at most
-pub record Spends (left now : Left) : Type 0 where
-  pub races : now.races ≡ left.races
-  pub claims : left.claims ≤ now.claims + 1
 
 module _ (request : AddRequest) (family : Family) (keeps : Keeps) where
   abbrev id : List ℕ

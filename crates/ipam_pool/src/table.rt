@@ -1,4 +1,4 @@
-ghost use Rattle.std.specs.Prelude.{◌≡◌, ℕ, ◌≤◌, ◌↔◌, [], ◌∷◌, ◌++◌, Any, All, IsTrue, IsNone, IsOkUnless, IfSome, IfOk, OnOk, OnErr, is_err, not, position};
+ghost use Rattle.std.specs.Prelude.{◌≡◌, ℕ, ◌≤◌, ◌↔◌, [], ◌∷◌, ◌++◌, Any, All, IsTrue, IsNone, IsOkUnless, IfSome, OnOk, OnErr, is_err, not, position};
 ghost use Rattle.std.specs.List.{list_any};
 ghost use Rattle.ipam_addr.specs.Width.{IsCidr};
 ghost use Rattle.ipam_addr.specs.Holding.{Holds};
@@ -130,11 +130,12 @@ impl PoolTable {
     {
         is_slot_of_any(self.pools.as_slice(), cidr)
     }
+}
 
-    /// A table of the same pools.
-    pub fn copy(&self) -> Result<PoolTable, AllocError>
-        ensures { IfOk result (λ t. t ≡ self.now) }
-    {
+impl Clone for PoolTable {
+    ghost is_clone = { λ old new. new ≡ old };
+
+    fn clone(&self) -> Result<PoolTable, AllocError> {
         let pools = self.pools.clone()?;
         Ok(PoolTable { pools })
     }

@@ -106,7 +106,7 @@ AllByRecursion-push P (y ∷ xs) x h k = (h.0, AllByRecursion-push P xs x h.1 k)
 
 -- ---- what is found is sound
 
-cidr_in-is : (d : Data) (r : CidrValue) → cidr_in d ≡ Some r → IsCidr r
+pub cidr_in-is : (d : Data) (r : CidrValue) → cidr_in d ≡ Some r → IsCidr r
 unfolding cidr_in
 cidr_in-is d r e = then-is cidr_of IsCidr cidr_of-is (as_str d) r e
 

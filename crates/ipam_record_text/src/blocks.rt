@@ -13,7 +13,7 @@ use std::alloc::{AllocError, Global};
 
 /// The CIDR that the text writes.
 #[tactic(auto, unfolding(crate::specs::Blocks::cidr_of))]
-pub(crate) fn cidr_of(text: &str) -> Option<Cidr>
+pub fn cidr_of(text: &str) -> Option<Cidr>
     ensures { result ≡ cidr_of text.now }
 {
     match read_cidr(text.as_bytes()) {
@@ -39,7 +39,7 @@ fn is_small(cidr: Cidr) -> bool
 
 /// The text, where it is a name.
 #[tactic(auto, unfolding(crate::specs::Blocks::name_of))]
-fn name_of(text: &str) -> Option<&str>
+pub fn name_of(text: &str) -> Option<&str>
     ensures { option_map (λ t. t.now) result ≡ name_of text.now }
 {
     if is_name(text.as_bytes()) {
@@ -51,7 +51,7 @@ fn name_of(text: &str) -> Option<&str>
 
 /// The text, where it is the id of a handle.
 #[tactic(auto, unfolding(crate::specs::Blocks::id_of))]
-fn id_of(text: &str) -> Option<&str>
+pub fn id_of(text: &str) -> Option<&str>
     ensures { option_map (λ t. t.now) result ≡ id_of text.now }
 {
     if is_handle_id(text.as_bytes()) {

@@ -170,8 +170,9 @@ fn cidrs_in(alloc: Global, items: &[Value]) -> Result<Option<Vec<Cidr>>, AllocEr
     Ok(Some(cidrs))
 }
 
+/// The CIDR whose text the JSON is.
 #[tactic(auto, unfolding(crate::specs::Reservations::cidr_in))]
-fn cidr_in(value: &Value) -> Option<Cidr>
+pub fn cidr_in(value: &Value) -> Option<Cidr>
     ensures { result ≡ cidr_in (view value.now) }
 {
     let text = value.as_str()?;

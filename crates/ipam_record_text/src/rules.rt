@@ -84,7 +84,8 @@ pub(crate) fn selector_in(alloc: Global, json: &Value) -> Result<Option<NodeSele
     }
 }
 
-fn selector_of(alloc: Global, text: &str) -> Result<Option<NodeSelector>, AllocError>
+/// The selector whose text it is.
+pub fn selector_of(alloc: Global, text: &str) -> Result<Option<NodeSelector>, AllocError>
     ensures { IfOk result (λ found. found ≡ selector_of text.now) }
 {
     match Selector::read(alloc, text.as_bytes()) {

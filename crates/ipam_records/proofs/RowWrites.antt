@@ -1,9 +1,9 @@
 -- What stays true of rows when one is put in or taken out: what holds of each, and their order.
-use Rattle.std.proofs.Common.{◌≡◌, ℕ, List, [], ◌∷◌, map, not, true, false, cond, ap, ◌∙◌, refl}
+use Rattle.std.proofs.Common.{◌≡◌, ℕ, Bool, List, [], ◌∷◌, map, not, true, false, cond, ap, ◌∙◌, refl}
 use Rattle.std.specs.declared.cmp.Ordering.{Ordering}
 use Rattle.std.specs.declared.cmp.Ordering.TheVariants.{Less, Equal, Greater}
 use Rattle.std.specs.Ordering.{ordering_reverse}
-use Rattle.std.specs.List.{All, AllByRecursion}
+use Rattle.std.specs.List.{All, AllByRecursion, filter}
 use Rattle.std.specs.List.Sorted.{IsStrictlySortedBy}
 use Rattle.std.proofs.lemmas.List.Elements.{All-cons, All-head, All-tail}
 use Rattle.ipam_records.specs.declared.key.Key.{Key}
@@ -66,19 +66,22 @@ unfolding IsStrictlySortedBy
 sorted-with_row new [] s = (tt, tt)
 sorted-with_row new (r ∷ rs) s = sorted-row_at (key_cmp (row_key new) (row_key r)) new r rs refl s (sorted-with_row new rs s.1)
 
-keys-without_row : (P : Key → Type 0) (key : Key) (rows : List (ℕ × Record)) → AllByRecursion P (map row_key rows) → AllByRecursion P (map row_key (without_row key rows))
-keys-without_row P key [] all = all
-keys-without_row P key (r ∷ rs) all =
-    elim (not (keys_equal (row_key r) key)) as (λ b. AllByRecursion P (map row_key (cond b (r ∷ without_row key rs) (without_row key rs)))) [
-      | true ↦ (all.0, keys-without_row P key rs all.1)
-      | false ↦ keys-without_row P key rs all.1
+keys-filter : (P : Key → Type 0) (passes : ℕ × Record → Bool) (rows : List (ℕ × Record)) → AllByRecursion P (map row_key rows) → AllByRecursion P (map row_key (filter passes rows))
+keys-filter P passes [] all = all
+keys-filter P passes (r ∷ rs) all =
+    elim (passes r) as (λ b. AllByRecursion P (map row_key (cond b (r ∷ filter passes rs) (filter passes rs)))) [
+      | true ↦ (all.0, keys-filter P passes rs all.1)
+      | false ↦ keys-filter P passes rs all.1
+    ]
+
+pub sorted-filter : (passes : ℕ × Record → Bool) (rows : List (ℕ × Record)) → IsStrictlySortedBy key_cmp (map row_key rows) → IsStrictlySortedBy key_cmp (map row_key (filter passes rows))
+unfolding IsStrictlySortedBy
+sorted-filter passes [] s = s
+sorted-filter passes (r ∷ rs) s =
+    elim (passes r) as (λ b. IsStrictlySortedBy key_cmp (map row_key (cond b (r ∷ filter passes rs) (filter passes rs)))) [
+      | true ↦ (keys-filter (λ y. key_cmp (row_key r) y ≡ Less) passes rs s.0, sorted-filter passes rs s.1)
+      | false ↦ sorted-filter passes rs s.1
     ]
 
 pub sorted-without_row : (key : Key) (rows : List (ℕ × Record)) → IsStrictlySortedBy key_cmp (map row_key rows) → IsStrictlySortedBy key_cmp (map row_key (without_row key rows))
-unfolding IsStrictlySortedBy
-sorted-without_row key [] s = s
-sorted-without_row key (r ∷ rs) s =
-    elim (not (keys_equal (row_key r) key)) as (λ b. IsStrictlySortedBy key_cmp (map row_key (cond b (r ∷ without_row key rs) (without_row key rs)))) [
-      | true ↦ (keys-without_row (λ y. key_cmp (row_key r) y ≡ Less) key rs s.0, sorted-without_row key rs s.1)
-      | false ↦ sorted-without_row key rs s.1
-    ]
+sorted-without_row key rows s = sorted-filter (λ row. not (keys_equal (row_key row) key)) rows s

@@ -47,7 +47,7 @@ impl Clone for Record {
     fn clone(&self) -> Result<Record, AllocError> {
         match self {
             Record::Config(config) => Ok(Record::Config(*config)),
-            Record::Pools(pools) => Ok(Record::Pools(pools.copy()?)),
+            Record::Pools(pools) => Ok(Record::Pools(pools.clone()?)),
             Record::Reservations(reservations) => {
                 Ok(Record::Reservations(copied_reservations(reservations)?))
             }

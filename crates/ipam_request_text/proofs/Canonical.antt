@@ -21,7 +21,10 @@ use Rattle.ipam_model.specs.declared.request.CollectRequest.{CollectRequest}
 use Rattle.ipam_model.specs.declared.request.ProbeRequest.{ProbeRequest}
 use Rattle.ipam_model.specs.declared.request.Request.{Request}
 use Rattle.ipam_model.specs.declared.request.Request.TheVariants.{Add, AddThis, Del, Check, Release, Collect, Admin as Change, Probe}
-use Rattle.ipam_request_text.specs.Parts.{whole_data, texts_data, pairs_data, with_pair, address_data, addresses_data, cidr_data, cidrs_data, scope_data, selector_data, tagged}
+use Rattle.ipam_json.specs.Built.{whole_data, tagged}
+use Rattle.ipam_block_text.specs.Body.{with_pair}
+use Rattle.ipam_record_text.specs.Reservations.{cidr_data}
+use Rattle.ipam_request_text.specs.Parts.{texts_data, pairs_data, address_data, addresses_data, cidrs_data, scope_data, selector_data}
 use Rattle.ipam_request_text.specs.Members.{unless, where_true, where_false, where_some_number, where_some_texts, where_some_pairs, where_manual, where_selective, where_scope, wishes}
 use Rattle.ipam_request_text.specs.Requests.{add_members, collect_members, probe_members, pool_members, config_members, change_data, request_data}
 

@@ -10,7 +10,7 @@ use Rattle.serde_json.specs.Find.{get_member, as_bool}
 use Rattle.serde_json.specs.View.{items_of}
 use Rattle.serde_json.proofs.Views.{get_member-put, get_member-put_other}
 use Rattle.ipam_json.specs.Path.{as_whole}
-use Rattle.ipam_json.specs.Built.{members_from}
+use Rattle.ipam_json.specs.Built.{members_from, whole_data}
 use Rattle.ipam_addr.specs.Shape.{AddrValue}
 use Rattle.ipam_addr.specs.Width.{IsAddress}
 use Rattle.ipam_addr.proofs.PrintLemmas.{address_of-address_text}
@@ -24,7 +24,7 @@ use Rattle.ipam_pool.specs.declared.pools.Mode.TheVariants.{Automatic, Manual}
 use Rattle.ipam_json.specs.Members.{◌>>=◌}
 use Rattle.ipam_record_text.proofs.RuleLemmas.{selector_of-printed, every_or}
 use Rattle.ipam_model.specs.Pairs.{Pair}
-use Rattle.ipam_request_text.specs.Parts.{whole_data, texts_data, pairs_data, address_data, scope_data, selector_data}
+use Rattle.ipam_request_text.specs.Parts.{texts_data, pairs_data, address_data, scope_data, selector_data}
 use Rattle.ipam_request_text.specs.Members.{unless, where_true, where_false, where_some_number, where_some_texts, where_some_pairs, where_manual, where_selective, where_scope}
 use Rattle.ipam_request_text.specs.Fields.{found_or, texts_after, texts_in, pairs_after, pairs_in, address_in, addresses_after, number_in, mode_in, selector_in, named_scope, scope_in}
 use Rattle.ipam_request_text.specs.declared.shape.Shape.{Shape}

@@ -1,7 +1,6 @@
 -- Lists of live handles are read back.
 use Rattle.std.proofs.Common.{◌≡◌, ℕ, List, [], ◌∷◌, ◌++◌, map, true, Option, Some, None, refl, ap, ◌∙◌, arith, append_assoc, append-nil, option_and_then, IfSome, sym}
 use Rattle.std.specs.List.{AllByRecursion}
-use Rattle.std.proofs.lemmas.Option.{cond_some}
 use Rattle.serde_json.specs.Data.{Data, string, Items, no_items, item}
 use Rattle.serde_json.specs.Find.{as_str, as_array}
 use Rattle.serde_json.specs.Read.{read}
@@ -11,18 +10,16 @@ use Rattle.ipam_json.specs.Canonical.{IsCanonical, IsCanonicalWithin}
 use Rattle.ipam_json.proofs.ReadsBack.{read-compact_text}
 use Rattle.ipam_json.proofs.Constructors.{IsCanonicalWithin-array, IsCanonicalWithin-string}
 use Rattle.ipam_json.specs.Members.{◌>>=◌, only_if}
+use Rattle.ipam_record_text.specs.Blocks.{id_of}
+use Rattle.ipam_record_text.proofs.Parts.{id_of-is}
 use Rattle.ipam_records.specs.Sound.{IsHandleId}
 use Rattle.ipam_request_text.specs.Parts.{texts_data}
 use Rattle.ipam_request_text.specs.Requests.{live_text}
-use Rattle.ipam_request_text.specs.Live.{id_of, id_in, ids_after, live_in, live_reading}
+use Rattle.ipam_request_text.specs.Live.{id_in, ids_after, live_in, live_reading}
 
 push-all : (xs : List (List ℕ)) (x : List ℕ) → AllByRecursion IsHandleId xs → IsHandleId x → AllByRecursion IsHandleId (xs ++ x ∷ [])
 push-all [] x h k = (k, tt)
 push-all (y ∷ xs) x h k = (h.0, push-all xs x h.1 k)
-
-id_of-is : (text id : List ℕ) → id_of text ≡ Some id → IsHandleId id
-unfolding id_of
-id_of-is text id e = let (is, same) = cond_some _ text id e in rw (← same) is
 
 id_in-is : (d : Data) (id : List ℕ) → id_in d ≡ Some id → IsHandleId id
 unfolding id_in

@@ -21,7 +21,7 @@ use Rattle.ipam_block.specs.Sound.{AreAttributes}
 use Rattle.ipam_record_text.specs.Pools.{IsSoundPool}
 use Rattle.ipam_record_text.specs.declared.config.Config.{Config as Settings}
 use Rattle.ipam_json.specs.Members.{◌>>=◌, only_if, in_32_bits, in_8_bits}
-use Rattle.ipam_record_text.specs.Reservations.{cidr_in, named_cidrs}
+use Rattle.ipam_record_text.specs.Reservations.{cidr_in, named_cidrs, cidr_data}
 use Rattle.ipam_record_text.proofs.ReservationLists.{cidr_in-cidr_data, cidrs_back}
 use Rattle.ipam_reserve.specs.Shape.{ReservationValue}
 use Rattle.ipam_records.specs.Sound.{IsReservation}
@@ -38,7 +38,8 @@ use Rattle.ipam_block_text.specs.Limits.{keys_ascend}
 use Rattle.ipam_request_text.specs.declared.shape.Shape.{Shape}
 use Rattle.ipam_request_text.specs.declared.shape.Shape.TheVariants as shape
 use Rattle.ipam_request_text.specs.Shapes.{may_have, are_known, shape_named}
-use Rattle.ipam_request_text.specs.Parts.{whole_data, texts_data, pairs_data, address_data, addresses_data, cidr_data, cidrs_data, scope_data, selector_data, tagged}
+use Rattle.ipam_json.specs.Built.{whole_data, tagged}
+use Rattle.ipam_request_text.specs.Parts.{texts_data, pairs_data, address_data, addresses_data, cidrs_data, scope_data, selector_data}
 use Rattle.ipam_request_text.specs.Members.{with_text, unless, where_true, where_false, where_some_number, where_some_texts, where_some_pairs, where_manual, where_selective, where_scope, wishes}
 use Rattle.ipam_request_text.specs.Requests.{add_members, collect_members, probe_members, pool_members, config_members, change_data, request_data, request_text}
 use Rattle.ipam_request_text.specs.Fields.{found_or, truth_or, number_in, texts_in, pairs_in, address_in, mode_in, selector_in, scope_in}

@@ -3,12 +3,8 @@ use Rattle.std.specs.Prelude.{ℕ, List, [], ◌∷◌, ◌++◌, Option, Some, 
 use Rattle.serde_json.specs.Data.{Data, Items, no_items, item}
 use Rattle.serde_json.specs.Find.{as_str, as_array}
 use Rattle.serde_json.specs.Read.{read}
-use Rattle.ipam_addr.specs.Names.{is_handle_text}
-use Rattle.ipam_json.specs.Members.{◌>>=◌, only_if}
-
--- the text, where it is the id of a handle
-unfoldable pub id_of : List ℕ → Option (List ℕ)
-id_of text = only_if (is_handle_text text) text
+use Rattle.ipam_json.specs.Members.{◌>>=◌}
+use Rattle.ipam_record_text.specs.Blocks.{id_of}
 
 -- the id whose text the JSON is
 unfoldable pub id_in : Data → Option (List ℕ)

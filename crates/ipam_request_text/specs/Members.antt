@@ -7,7 +7,8 @@ use Rattle.ipam_select.specs.Every.{is_every}
 use Rattle.ipam_pool.specs.declared.pools.Mode.{Mode}
 use Rattle.ipam_pool.specs.declared.pools.Mode.TheVariants.{Automatic, Manual}
 use Rattle.ipam_model.specs.Pairs.{Pair}
-use Rattle.ipam_request_text.specs.Parts.{whole_data, texts_data, pairs_data, scope_data, selector_data}
+use Rattle.ipam_json.specs.Built.{whole_data}
+use Rattle.ipam_request_text.specs.Parts.{texts_data, pairs_data, scope_data, selector_data}
 
 abbrev pub with_text : (name text : List ℕ) → Members → Members
 with_text name text ms = put name (string text) ms

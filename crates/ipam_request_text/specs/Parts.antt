@@ -1,21 +1,17 @@
 -- The JSON of what requests are made of.
 use Rattle.std.specs.Prelude.{ℕ, List, [], ◌∷◌, codes, map, fold}
-use Rattle.serde_json.specs.Data.{Data, string, number, unsigned, object, Members, no_members, put}
+use Rattle.serde_json.specs.Data.{Data, string, object, no_members}
 use Rattle.ipam_json.specs.Built.{object_of, array_of}
 use Rattle.ipam_addr.specs.Shape.{AddrValue, CidrValue}
-use Rattle.ipam_addr.specs.Text.{address_text, cidr_text_of}
+use Rattle.ipam_addr.specs.Text.{address_text}
 use Rattle.ipam_select.specs.Formula.{Formula}
 use Rattle.ipam_select.specs.Printing.{printed}
 use Rattle.ipam_model.specs.Pairs.{Pair}
-
-abbrev pub whole_data : ℕ → Data
-whole_data n = number (unsigned n)
+use Rattle.ipam_block_text.specs.Body.{with_pair}
+use Rattle.ipam_record_text.specs.Reservations.{cidr_data}
 
 abbrev pub texts_data : List (List ℕ) → Data
 texts_data texts = array_of (map string texts)
-
-abbrev pub with_pair : Members → Pair → Members
-with_pair members pair = put pair.0 (string pair.1) members
 
 -- the pairs by the bytes of their keys
 abbrev pub pairs_data : List Pair → Data
@@ -27,9 +23,6 @@ address_data a = string (address_text a)
 abbrev pub addresses_data : List AddrValue → Data
 addresses_data addresses = array_of (map address_data addresses)
 
-abbrev pub cidr_data : CidrValue → Data
-cidr_data r = string (cidr_text_of r)
-
 abbrev pub cidrs_data : List CidrValue → Data
 cidrs_data cidrs = array_of (map cidr_data cidrs)
 
@@ -40,7 +33,3 @@ scope_data scope =
 
 abbrev pub selector_data : Formula → Data
 selector_data f = string (printed f)
-
--- the object with this one member
-abbrev pub tagged : List ℕ → Data → Data
-tagged name d = object_of ((name, d) ∷ [])

@@ -2,7 +2,7 @@
 use Rattle.std.specs.Prelude.{ℕ, List, [], ◌∷◌, codes, Bool}
 use Rattle.serde_json.specs.Data.{Data, boolean, string, object, Members, no_members, put}
 use Rattle.serde_json.specs.Written.{compact_text}
-use Rattle.ipam_json.specs.Built.{object_of}
+use Rattle.ipam_json.specs.Built.{object_of, whole_data, tagged}
 use Rattle.ipam_addr.specs.Shape.{AddrValue, CidrValue}
 use Rattle.ipam_pool.specs.declared.pools.Pool.{Pool as OnePool}
 use Rattle.ipam_record_text.specs.declared.config.Config.{Config as Settings}
@@ -14,7 +14,8 @@ use Rattle.ipam_model.specs.declared.request.CollectRequest.{CollectRequest}
 use Rattle.ipam_model.specs.declared.request.ProbeRequest.{ProbeRequest}
 use Rattle.ipam_model.specs.declared.request.Request.{Request}
 use Rattle.ipam_model.specs.declared.request.Request.TheVariants.{Add, AddThis, Del, Check, Release, Collect, Admin as Change, Probe}
-use Rattle.ipam_request_text.specs.Parts.{whole_data, texts_data, address_data, addresses_data, cidr_data, cidrs_data, tagged}
+use Rattle.ipam_record_text.specs.Reservations.{cidr_data}
+use Rattle.ipam_request_text.specs.Parts.{texts_data, address_data, addresses_data, cidrs_data}
 use Rattle.ipam_request_text.specs.Members.{with_text, where_true, where_false, where_some_number, where_some_pairs, where_manual, where_selective, where_scope, wishes}
 
 unfoldable pub add_members : AddRequest → Members

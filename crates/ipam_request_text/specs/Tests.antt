@@ -12,7 +12,7 @@ use Rattle.ipam_pool.specs.declared.table.TheConstants.{MOST_POOLS}
 use Rattle.ipam_reserve.specs.declared.reservations.TheConstants.{MOST_CIDRS}
 use Rattle.ipam_reserve.specs.Shape.{ReservationValue}
 use Rattle.ipam_record_text.specs.Blocks.{cidr_of}
-use Rattle.ipam_model.specs.declared.limits.TheConstants.{CHECKED_MAX}
+use Rattle.ipam_block.specs.declared.limits.TheConstants.{CHECKED_MAX}
 use Rattle.ipam_model.specs.declared.request.AddRequest.{AddRequest}
 use Rattle.ipam_model.specs.declared.request.Admin.{Admin}
 use Rattle.ipam_model.specs.declared.request.Admin.TheVariants as change

@@ -1,16 +1,15 @@
 //! What the members of a request's objects hold.
 ghost use Rattle.std.specs.Prelude.{◌≡◌, [], ◌∷◌, ◌++◌, IfOk, option_map};
 ghost use Rattle.serde_json.specs.View.{view, items_view, members_view};
-ghost use Rattle.ipam_record_text.specs.Rules.{selector_of};
-ghost use Rattle.ipam_record_text.specs.Blocks.{cidr_of};
-ghost use Rattle.ipam_record_text.specs.Reservations.{cidr_in, cidrs_after};
+ghost use Rattle.ipam_record_text.specs.Reservations.{cidrs_after};
 ghost use Rattle.ipam_request_text.specs.Fields.{truth_or, whole_or_0, number_in, number_or_0, small_at, texts_after, texts_in, texts_or_none, pairs_after, pairs_in, pairs_or_none, address_in, addresses_after, cidr_at, mode_named, mode_in, mode_or, selector_in, selector_or, named_scope, scope_in, scope_or};
 
 use crate::shape::{Shape, are_known};
-use ipam_addr::{Addr, Cidr, read_addr, read_cidr};
+use ipam_addr::{Addr, Cidr, read_addr};
 use ipam_json::{in_8_bits, in_32_bits, text_at, whole_at};
 use ipam_pool::Mode;
-use ipam_select::{NodeSelector, SelectFault, Selector};
+use ipam_record_text::{cidr_in, selector_of};
+use ipam_select::NodeSelector;
 use ipam_text::{Seq, Text};
 use serde_json::{Map, Value};
 use std::alloc::{AllocError, Global};
@@ -167,30 +166,12 @@ pub(crate) fn addresses_of(alloc: Global, items: &[Value]) -> Result<Option<Seq<
     Ok(Some(Seq::of(addresses)))
 }
 
-#[tactic(auto, unfolding(ipam_record_text::specs::Blocks::cidr_of))]
-fn cidr_of(text: &str) -> Option<Cidr>
-    ensures { result ≡ cidr_of text.now }
-{
-    match read_cidr(text.as_bytes()) {
-        Ok(cidr) => Some(cidr),
-        Err(_) => None,
-    }
-}
-
 /// The CIDR whose text has this name.
 pub(crate) fn cidr_at(value: &Value, name: &str) -> Option<Cidr>
     ensures { result ≡ cidr_at name.now (view value.now) }
 {
     let found = value.get(name)?;
     cidr_in(found)
-}
-
-#[tactic(auto, unfolding(ipam_record_text::specs::Reservations::cidr_in))]
-fn cidr_in(value: &Value) -> Option<Cidr>
-    ensures { result ≡ cidr_in (view value.now) }
-{
-    let text = value.as_str()?;
-    cidr_of(text)
 }
 
 /// The CIDRs whose texts the items are.
@@ -252,17 +233,6 @@ fn selector_in(alloc: Global, value: &Value) -> Result<Option<NodeSelector>, All
     match value.as_str() {
         Some(text) => selector_of(alloc, text),
         None => Ok(None),
-    }
-}
-
-fn selector_of(alloc: Global, text: &str) -> Result<Option<NodeSelector>, AllocError>
-    ensures { IfOk result (λ found. found ≡ selector_of text.now) }
-{
-    match Selector::read(alloc, text.as_bytes()) {
-        Ok(selector) => Ok(Some(NodeSelector::new(alloc, selector))),
-        Err(SelectFault::Form) => Ok(None),
-        Err(SelectFault::Long) => Ok(None),
-        Err(SelectFault::Memory) => Err(AllocError),
     }
 }
 

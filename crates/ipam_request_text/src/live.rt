@@ -3,11 +3,11 @@ ghost use Rattle.std.specs.Prelude.{◌≡◌, [], Err, Some, None, IfOk, IfSome
 ghost use Rattle.std.specs.List.{AllByRecursion};
 ghost use Rattle.serde_json.specs.View.{view, items_view};
 ghost use Rattle.ipam_records.specs.Sound.{IsHandleId};
-ghost use Rattle.ipam_request_text.specs.Live.{live_reading, live_in, ids_after, id_in, id_of};
+ghost use Rattle.ipam_request_text.specs.Live.{live_reading, live_in, ids_after, id_in};
 
 use crate::fault::AskFault;
-use ipam_addr::is_handle_id;
 use ipam_json::json_of;
+use ipam_record_text::id_of;
 use ipam_text::{Seq, Text};
 use serde_json::Value;
 use std::alloc::{AllocError, Global};
@@ -72,16 +72,4 @@ fn id_in(value: &Value) -> Option<&str>
 {
     let text = value.as_str()?;
     id_of(text)
-}
-
-/// The text, where it is the id of a handle.
-#[tactic(auto, unfolding(crate::specs::Live::id_of))]
-fn id_of(text: &str) -> Option<&str>
-    ensures { option_map (λ t. t.now) result ≡ id_of text.now }
-{
-    if is_handle_id(text.as_bytes()) {
-        Some(text)
-    } else {
-        None
-    }
 }

@@ -4,7 +4,9 @@ ghost use Rattle.serde_json.specs.Data.{string, no_members, object};
 ghost use Rattle.serde_json.specs.View.{view, members_view};
 ghost use Rattle.ipam_json.specs.Built.{array_of};
 ghost use Rattle.ipam_select.specs.Printing.{printed};
-ghost use Rattle.ipam_request_text.specs.Parts.{texts_data, pairs_data, with_pair, addresses_data, address_data, cidrs_data, cidr_data, scope_data, selector_data};
+ghost use Rattle.ipam_block_text.specs.Body.{with_pair};
+ghost use Rattle.ipam_record_text.specs.Reservations.{cidr_data};
+ghost use Rattle.ipam_request_text.specs.Parts.{texts_data, pairs_data, addresses_data, address_data, cidrs_data, scope_data, selector_data};
 
 use ipam_addr::{Addr, Cidr, push_addr, push_cidr};
 use ipam_select::{NodeSelector, push_selector};

@@ -1,7 +1,6 @@
 ghost use Rattle.std.specs.Prelude.{◌≡◌, ◌++◌, [], ◌∷◌, codes, IfOk, OnOk, OnErr, string_bytes};
 ghost use Rattle.serde_json.specs.Data.{object};
 ghost use Rattle.serde_json.specs.View.{view, members_view};
-ghost use Rattle.ipam_request_text.specs.Parts.{tagged};
 ghost use Rattle.ipam_request_text.specs.Members.{with_text, wishes};
 ghost use Rattle.ipam_request_text.specs.Requests.{add_members, add_data, add_this_data, del_data, check_data, release_data, collect_data, probe_data, pool_data, disable_data, reserve_data, unreserve_data, config_data, change_data, request_data, request_text, live_text};
 
@@ -10,6 +9,7 @@ use crate::members::{
 };
 use crate::parts::{address_value, addresses_value, cidr_value, cidrs_value, texts_value};
 use ipam_addr::{Addr, Cidr};
+use ipam_json::tagged;
 use ipam_model::{AddRequest, Admin, CollectRequest, ProbeRequest, Request};
 use ipam_pool::Pool;
 use ipam_records::Config;
@@ -77,15 +77,6 @@ fn change_value(alloc: Global, change: &Admin) -> Result<Value, AllocError>
         Admin::Unreserve(name) => unreserve_value(alloc, name),
         Admin::Config(config) => config_value(alloc, config),
     }
-}
-
-/// The object with this one member.
-fn tagged(alloc: Global, name: &str, value: Value) -> Result<Value, AllocError>
-    ensures { IfOk result (λ v. view v ≡ tagged name.now (view value)) }
-{
-    let mut members = Map::new(alloc);
-    put(&mut members, alloc, name, value)?;
-    Ok(Value::Object(members))
 }
 
 fn put_text(

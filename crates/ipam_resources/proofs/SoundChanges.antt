@@ -19,8 +19,9 @@ use Rattle.ipam_pool.specs.declared.pools.Mode.TheVariants.{Automatic}
 use Rattle.ipam_reserve.specs.Shape.{ReservationValue}
 use Rattle.ipam_record_text.specs.declared.config.Config.{Config as Settings}
 use Rattle.ipam_record_text.specs.Pools.{IsSoundPool}
-use Rattle.ipam_record_text.specs.Reservations.{IsReservation, named_cidrs}
+use Rattle.ipam_record_text.specs.Reservations.{IsReservation, named_cidrs, cidr_in}
 use Rattle.ipam_json.proofs.MemberLemmas.{then-is}
+use Rattle.ipam_record_text.proofs.ReservationLists.{cidr_in-is}
 use Rattle.ipam_model.specs.SoundRequest.{IsSoundChange}
 use Rattle.ipam_resources.specs.declared.fault.DocumentFault.TheVariants as fault
 use Rattle.ipam_resources.specs.declared.fault.TheConstants.{DOCUMENT_MAX}
@@ -32,10 +33,10 @@ use Rattle.ipam_resources.specs.declared.member.Member.{Member}
 use Rattle.ipam_resources.specs.declared.member.Member.TheVariants as member
 use Rattle.ipam_resources.specs.declared.resource.Resource.{Resource}
 use Rattle.ipam_resources.specs.Members.{◌>>=◌, found_at, required, read_or, optional}
-use Rattle.ipam_resources.specs.Values.{name_in, cidr_in, size_in, bound_in, selector_in, ranges_in, default_size}
+use Rattle.ipam_resources.specs.Values.{name_in, size_in, bound_in, selector_in, ranges_in, default_size}
 use Rattle.ipam_resources.specs.Resources.{plain_pool, mode_at, pool_reading, reservation_reading, config_reading, config_name, pool_resource, reservation_resource, config_resource, kind_in, pool_in, reservation_in, config_in, resource_in, item_in}
 use Rattle.ipam_resources.specs.Documents.{alone, as_item, resources_after, resources_of, kind_said, by_kind, json_of, object_reading, document_reading}
-use Rattle.ipam_resources.proofs.ValueLemmas.{name_in-is, cidr_in-is, size_in-is, bound_in-is, selector_in-is, ranges_in-is}
+use Rattle.ipam_resources.proofs.ValueLemmas.{name_in-is, size_in-is, bound_in-is, selector_in-is, ranges_in-is}
 
 -- ---- what was read where there is something
 

@@ -32,7 +32,7 @@ use Rattle.ipam_json.proofs.MemberLemmas.{then-is, in_32_bits-is}
 use Rattle.ipam_record_text.proofs.Parts.{cidr_of-is, name_of-is}
 use Rattle.ipam_record_text.proofs.RuleLemmas.{selector_of-is}
 use Rattle.ipam_resources.specs.Documents.{json_of}
-use Rattle.ipam_resources.specs.Values.{name_in, cidr_in, size_in, bound_in, selector_in, is_empty, cidr_of_address, range_of, range_in, ranges_after, ranges_in}
+use Rattle.ipam_resources.specs.Values.{name_in, size_in, bound_in, selector_in, is_empty, cidr_of_address, range_of, range_in, ranges_after, ranges_in}
 
 pub is_empty_view : (vs : List Value) → is_empty (items_view vs) ≡ (length vs == 0)
 is_empty_view [] = refl
@@ -52,10 +52,6 @@ json_of_bytes bytes h = elim (cases_Bool (is_utf8 bytes)) [
 pub name_in-is : (d : Data) (name : List ℕ) → name_in d ≡ Some name → is_name_text name ≡ true
 unfolding name_in
 name_in-is d name e = then-is name_of (λ t. is_name_text t ≡ true) name_of-is (as_str d) name e
-
-pub cidr_in-is : (d : Data) (r : CidrValue) → cidr_in d ≡ Some r → IsCidr r
-unfolding cidr_in
-cidr_in-is d r e = then-is cidr_of IsCidr cidr_of-is (as_str d) r e
 
 pub size_in-is : (d : Data) (n : ℕ) → size_in d ≡ Some n → n < 2 ^ 8
 unfolding size_in

@@ -9,7 +9,7 @@ use Rattle.ipam_pool.specs.declared.pools.Mode.{Mode}
 use Rattle.ipam_pool.specs.declared.pools.Mode.TheVariants.{Automatic}
 use Rattle.ipam_reserve.specs.Shape.{ReservationValue}
 use Rattle.ipam_record_text.specs.declared.config.Config.{Config as Settings}
-use Rattle.ipam_record_text.specs.Reservations.{named_cidrs}
+use Rattle.ipam_record_text.specs.Reservations.{cidr_in, named_cidrs}
 use Rattle.ipam_model.specs.declared.request.Admin.TheVariants as change
 use Rattle.ipam_resources.specs.declared.kind.ResourceKind.{ResourceKind}
 use Rattle.ipam_resources.specs.declared.kind.ResourceKind.TheVariants as kind
@@ -18,7 +18,7 @@ use Rattle.ipam_resources.specs.declared.member.Member.TheVariants as member
 use Rattle.ipam_resources.specs.declared.resource.Resource.{Resource}
 use Rattle.ipam_resources.specs.Members.{◌>>=◌, required, optional}
 use Rattle.ipam_resources.specs.Naming.{kind_of}
-use Rattle.ipam_resources.specs.Values.{name_in, cidr_in, size_in, bound_in, selector_in, mode_in, uses_in, ranges_in, default_size}
+use Rattle.ipam_resources.specs.Values.{name_in, size_in, bound_in, selector_in, mode_in, uses_in, ranges_in, default_size}
 
 -- ---- a pool
 

@@ -21,10 +21,6 @@ use Rattle.ipam_record_text.specs.Rules.{selector_of}
 unfoldable pub name_in : Data → Option (List ℕ)
 name_in d = option_and_then name_of (as_str d)
 
--- a CIDR by its text
-unfoldable pub cidr_in : Data → Option CidrValue
-cidr_in d = option_and_then cidr_of (as_str d)
-
 -- a whole number from 0 to 255
 unfoldable pub size_in : Data → Option ℕ
 size_in d = do

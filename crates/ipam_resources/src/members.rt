@@ -3,13 +3,15 @@ ghost use Rattle.std.specs.Result.{result_map_both};
 ghost use Rattle.std.specs.Prelude.{◌≡◌, option_map};
 ghost use Rattle.serde_json.specs.Find.{as_bool};
 ghost use Rattle.serde_json.specs.View.{view};
+ghost use Rattle.ipam_record_text.specs.Reservations.{cidr_in};
 ghost use Rattle.ipam_resources.specs.Naming.{part_of};
 ghost use Rattle.ipam_resources.specs.Members.{part_in, found_at, required, optional};
-ghost use Rattle.ipam_resources.specs.Values.{name_in, cidr_in};
+ghost use Rattle.ipam_resources.specs.Values.{name_in};
 
 use crate::member::Member;
-use crate::values::{cidr_in, name_in};
+use crate::values::name_in;
 use ipam_addr::Cidr;
+use ipam_record_text::cidr_in;
 use serde_json::Value;
 
 /// What stands at the member's path.

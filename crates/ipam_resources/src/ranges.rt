@@ -5,8 +5,8 @@ ghost use Rattle.ipam_addr.specs.Text.{address_of};
 ghost use Rattle.serde_json.specs.View.{view, items_view};
 ghost use Rattle.ipam_resources.specs.Values.{cidr_of_address, range_of, range_in, ranges_after, ranges_in};
 
-use crate::values::cidr_of;
 use ipam_addr::{Addr, Cidr, cidr, read_addr};
+use ipam_record_text::cidr_of;
 use serde_json::Value;
 use std::alloc::{AllocError, Global};
 

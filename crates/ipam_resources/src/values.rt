@@ -2,14 +2,12 @@
 ghost use Rattle.std.specs.Prelude.{◌≡◌, IfOk, option_map, codes};
 ghost use Rattle.serde_json.specs.Find.{as_str};
 ghost use Rattle.serde_json.specs.View.{view, items_view};
-ghost use Rattle.ipam_record_text.specs.Blocks.{cidr_of, name_of};
-ghost use Rattle.ipam_record_text.specs.Rules.{selector_of};
-ghost use Rattle.ipam_resources.specs.Values.{name_in, cidr_in, size_in, bound_in, selector_in, mode_of, mode_in, is_text, lists_text, is_empty, are_uses, uses_in};
+ghost use Rattle.ipam_resources.specs.Values.{name_in, size_in, bound_in, selector_in, mode_of, mode_in, is_text, lists_text, is_empty, are_uses, uses_in};
 
-use ipam_addr::{Cidr, is_name, read_cidr};
 use ipam_json::{in_8_bits, in_32_bits};
 use ipam_pool::Mode;
-use ipam_select::{NodeSelector, SelectFault, Selector};
+use ipam_record_text::{name_of, selector_of};
+use ipam_select::NodeSelector;
 use serde_json::Value;
 use std::alloc::{AllocError, Global};
 
@@ -20,38 +18,6 @@ pub(crate) fn name_in(json: &Value) -> Option<&str>
 {
     let text = json.as_str()?;
     name_of(text)
-}
-
-/// The text, where it is a name.
-#[tactic(auto, unfolding(ipam_record_text::specs::Blocks::name_of))]
-fn name_of(text: &str) -> Option<&str>
-    ensures { option_map (λ t. t.now) result ≡ name_of text.now }
-{
-    if is_name(text.as_bytes()) {
-        Some(text)
-    } else {
-        None
-    }
-}
-
-/// The CIDR whose text the JSON is.
-#[tactic(auto, unfolding(crate::specs::Values::cidr_in))]
-pub(crate) fn cidr_in(json: &Value) -> Option<Cidr>
-    ensures { result ≡ cidr_in (view json.now) }
-{
-    let text = json.as_str()?;
-    cidr_of(text)
-}
-
-/// The CIDR that the text writes.
-#[tactic(auto, unfolding(ipam_record_text::specs::Blocks::cidr_of))]
-pub(crate) fn cidr_of(text: &str) -> Option<Cidr>
-    ensures { result ≡ cidr_of text.now }
-{
-    match read_cidr(text.as_bytes()) {
-        Ok(cidr) => Some(cidr),
-        Err(_) => None,
-    }
 }
 
 /// The whole number from 0 to 255 that the JSON is.
@@ -78,17 +44,6 @@ pub(crate) fn selector_in(alloc: Global, json: &Value) -> Result<Option<NodeSele
     match json.as_str() {
         Some(text) => selector_of(alloc, text),
         None => Ok(None),
-    }
-}
-
-fn selector_of(alloc: Global, text: &str) -> Result<Option<NodeSelector>, AllocError>
-    ensures { IfOk result (λ found. found ≡ selector_of text.now) }
-{
-    match Selector::read(alloc, text.as_bytes()) {
-        Ok(selector) => Ok(Some(NodeSelector::new(alloc, selector))),
-        Err(SelectFault::Form) => Ok(None),
-        Err(SelectFault::Long) => Ok(None),
-        Err(SelectFault::Memory) => Err(AllocError),
     }
 }
 

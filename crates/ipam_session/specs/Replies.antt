@@ -2,9 +2,9 @@
 use Rattle.std.specs.Prelude.{ℕ, List, [], ◌∷◌, ◌++◌, codes, map, Bool, true}
 use Rattle.serde_json.specs.Data.{Data, boolean, number, unsigned, string}
 use Rattle.serde_json.specs.Written.{compact_text}
-use Rattle.ipam_json.specs.Built.{object_of, array_of}
+use Rattle.ipam_json.specs.Built.{object_of, array_of, whole_data, tagged}
 use Rattle.ipam_addr.specs.Text.{cidr_text_of}
-use Rattle.ipam_answer_text.specs.Answers.{whole_data, tagged, answer_data}
+use Rattle.ipam_answer_text.specs.Answers.{answer_data}
 use Rattle.ipam_session.specs.declared.refusal.Refusal.{Refusal}
 use Rattle.ipam_session.specs.declared.refusal.Refusal.TheVariants as refusal
 use Rattle.ipam_feed.specs.declared.route.Route.{Route as OneRoute}

@@ -2,18 +2,16 @@
 ghost use Rattle.std.specs.Prelude.{◌≡◌, ◌++◌, [], ◌∷◌, map, codes, IfOk, OnOk, OnErr, string_bytes};
 ghost use Rattle.serde_json.specs.View.{view};
 ghost use Rattle.ipam_json.specs.Built.{object_of, array_of};
-ghost use Rattle.ipam_addr.specs.Text.{cidr_text_of};
-ghost use Rattle.ipam_answer_text.specs.Answers.{tagged};
 ghost use Rattle.ipam_session.specs.Replies.{call_data, call_text, route_data, change_data, routes_data, changes_data, since_data, reply_data, reply_line};
 
 use crate::refusal::Refusal;
 use crate::route::Since;
-use ipam_addr::{Cidr, push_cidr};
-use ipam_answer_text::answer_value;
+use ipam_answer_text::{answer_value, cidr_string};
 use ipam_feed::{Change, Route};
+use ipam_json::tagged;
 use ipam_model::Answer;
 use ipam_text::{Seq, Text};
-use serde_json::{Map, Value, json, put};
+use serde_json::{Value, json};
 use std::alloc::{AllocError, Global};
 
 /// What a line is replied.
@@ -90,15 +88,6 @@ fn reply_value(alloc: Global, reply: &Reply) -> Result<Value, AllocError>
     }
 }
 
-/// The object with this one member.
-fn tagged(alloc: Global, name: &str, value: Value) -> Result<Value, AllocError>
-    ensures { IfOk result (λ v. view v ≡ tagged name.now (view value)) }
-{
-    let mut members = Map::new(alloc);
-    put(&mut members, alloc, name, value)?;
-    Ok(Value::Object(members))
-}
-
 #[tactic(auto, unfolding(crate::specs::Replies::call_data))]
 fn call_value(alloc: Global, status: u8, stdout: &str) -> Result<Value, AllocError>
     ensures { IfOk result (λ v. view v ≡ call_data status stdout.now) }
@@ -163,12 +152,4 @@ fn change_value(alloc: Global, change: &Change) -> Result<Value, AllocError>
     let cidr = cidr_string(alloc, change.route.cidr)?;
     let node = change.route.node.as_str();
     json!(in alloc; {"cidr": cidr, "node": node, "revision": change.revision, "up": change.up})
-}
-
-fn cidr_string(alloc: Global, cidr: Cidr) -> Result<String, AllocError>
-    ensures { IfOk result (λ s. string_bytes s ≡ cidr_text_of cidr) }
-{
-    let mut text = String::new(alloc);
-    push_cidr(alloc, &mut text, cidr)?;
-    Ok(text)
 }

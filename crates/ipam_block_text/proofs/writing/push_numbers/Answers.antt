@@ -1,4 +1,4 @@
-use Rattle.ipam_block_text.specs.Body.{whole_data}
+use Rattle.ipam_json.specs.Built.{whole_data}
 use Rattle.ipam_block_text.proofs.Written.{item_written, list_ended, on_ok}
 use Rattle.ipam_block_text.proofs.writing.push_numbers.Goals as goal
 

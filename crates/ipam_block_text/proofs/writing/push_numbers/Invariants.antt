@@ -2,7 +2,7 @@ use Rattle.std.proofs.Common.{◌≡◌, ◌++◌, ◌∷◌, false, drop, map}
 use Rattle.std.specs.Prelude.{string_bytes}
 use Rattle.serde_json.specs.View.{items_of}
 use Rattle.serde_json.specs.Written.{items_text}
-use Rattle.ipam_block_text.specs.Body.{whole_data}
+use Rattle.ipam_json.specs.Built.{whole_data}
 use Rattle.ipam_block_text.proofs.writing.push_numbers.Given as goal
 
 -- what is written, with the text of what is left, is the whole

@@ -1,7 +1,6 @@
 use Rattle.std.proofs.Common.{◌++◌, codes, map, decimal, string_bytes}
 use Rattle.serde_json.specs.Written.{compact_text}
-use Rattle.ipam_json.specs.Built.{array_of}
-use Rattle.ipam_block_text.specs.Body.{whole_data}
+use Rattle.ipam_json.specs.Built.{array_of, whole_data}
 use Rattle.ipam_block_text.proofs.Written.{on_ok, then_more}
 use Rattle.ipam_block_text.proofs.writing.push_rest.Goals as goal
 

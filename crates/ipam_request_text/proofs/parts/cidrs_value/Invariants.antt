@@ -1,6 +1,6 @@
 use Rattle.std.proofs.Common.{◌≡◌, map, take}
 use Rattle.serde_json.specs.View.{view}
-use Rattle.ipam_request_text.specs.Parts.{cidr_data}
+use Rattle.ipam_record_text.specs.Reservations.{cidr_data}
 use Rattle.ipam_request_text.proofs.parts.cidrs_value.Given as goal
 
 abbrev pub invariant-loop-cidr : goal.invariant-loop-cidr

@@ -2,7 +2,7 @@ use Rattle.std.proofs.Common.{◌≡◌, take}
 use Rattle.std.specs.Prelude.{fold}
 use Rattle.serde_json.specs.Data.{no_members}
 use Rattle.serde_json.specs.View.{members_view}
-use Rattle.ipam_request_text.specs.Parts.{with_pair}
+use Rattle.ipam_block_text.specs.Body.{with_pair}
 use Rattle.ipam_request_text.proofs.parts.pairs_value.Given as goal
 
 abbrev pub invariant-loop-pair : goal.invariant-loop-pair

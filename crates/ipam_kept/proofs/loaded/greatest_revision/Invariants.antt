@@ -1,7 +1,7 @@
 use Rattle.std.proofs.Common.{◌≡◌, drop}
 use Rattle.std.specs.Prelude.{max}
 use Rattle.ipam_kept.specs.Rows.{greatest}
-use Rattle.ipam_commands.proofs.loading.greatest.Given as goal
+use Rattle.ipam_kept.proofs.loaded.greatest_revision.Given as goal
 
 -- with what is still to come, it is the greatest of all
 abbrev pub invariant-loop-row : goal.invariant-loop-row
