@@ -12,8 +12,8 @@ use crate::members::{
 };
 use crate::refusal::Member;
 use ipam_addr::{Addr, AddrFault, is_name, read_addr, read_cidr};
-use ipam_json::items_at;
 use ipam_block::CHECKED_MAX;
+use ipam_json::items_at;
 use ipam_pool::MOST_POOLS;
 use serde_json::Value;
 

@@ -1,10 +1,10 @@
 -- What is left of the rounds of a family, step by step.
 use Rattle.std.proofs.Common.{◌≡◌, refl, sym, ap, subst, ◌∙◌, ◌+◌, ℕ, zero, suc, List, Option, Some, None, IsSome}
 use Rattle.ipam_addr.specs.declared.address.Family.{Family}
-use Rattle.ipam_block.specs.Operations.{address_of}
+use Rattle.ipam_block.specs.Operations.{ordinal_address}
 use Rattle.ipam_records.specs.Hearing.{MayHear}
 use Rattle.ipam_records.specs.Said.{Said}
-use Rattle.ipam_records.specs.Word.{Word, asked, heard, ended, bound}
+use Rattle.ipam_records.specs.Word.{Word, next_call, after_reply, answer_in, bound}
 use Rattle.ipam_claim.specs.Claim.{claim_rest, claim_leaves}
 use Rattle.ipam_claim.specs.declared.claim.ClaimProc.{ClaimProc}
 use Rattle.ipam_claim.specs.declared.claim.ClaimTurned.{ClaimTurned}
@@ -19,7 +19,7 @@ use Rattle.ipam_model.specs.declared.request.AddRequest.{AddRequest}
 use Rattle.ipam_model.specs.Add.{asked_of, follow_pick, round_of, serve, take_in}
 use Rattle.ipam_model.specs.Add as model
 use Rattle.ipam_model.specs.Assigning.{Target, after_claim, assign}
-use Rattle.ipam_model.specs.Step.{Part, goes as went, followed, onward, rounds}
+use Rattle.ipam_model.specs.Step.{Part, goes as went, part_then, onward, rounds}
 use Rattle.ipam_model.specs.Usable.{Asked}
 use Rattle.ipam_parts.proofs.BoundLaws.{asked_bound, heard_bound, may_hear_bound}
 use Rattle.ipam_assign.specs.Assigning.{PartAssigned, assigning_leaves, assigning_rest}
@@ -43,7 +43,7 @@ use Rattle.ipam_add.specs.Serving.{Going, going, next_for, then_next, round_at, 
 
 -- ---- each step has a call to make
 
-pub step_asks : (g : Going) (left : Left) (step : Step) → IsSome (asked (serving_at g left step))
+pub step_asks : (g : Going) (left : Left) (step : Step) → IsSome (next_call (serving_at g left step))
 step_asks g left (Scans scanning) =
     asks_on (scanning_at (asked_of g.request g.family) scanning.stage) (after_scan g left)
     (scanning_asks (asked_of g.request g.family) scanning.stage)
@@ -54,38 +54,38 @@ step_asks g left (Assigns spot assigning) =
     asks_on (assigning_rest g.request.attributes.handle assigning) (onward (after_write g spot.scan spot.place))
     (assigning_asks g.request.attributes.handle assigning)
 
-pub serving_asks : (request : AddRequest) (s : Serving) → IsSome (asked (serving_rest request s))
+pub serving_asks : (request : AddRequest) (s : Serving) → IsSome (next_call (serving_rest request s))
 serving_asks request s = step_asks (going request s) s.left s.step
 
-pub step_goes_on : (g : Going) (left : Left) (step : Step) → None ≡ ended (serving_at g left step)
+pub step_goes_on : (g : Going) (left : Left) (step : Step) → None ≡ answer_in (serving_at g left step)
 step_goes_on g left step = asks_open (serving_at g left step) (step_asks g left step)
 
 -- ---- while the reads, a claim or an assignment go on
 
 pub asks_scan : (g : Going) (left : Left) (stage : ScanStage)
-    → asked (scans_part g left stage) ≡ asked (scanning_at (asked_of g.request g.family) stage)
+    → next_call (scans_part g left stage) ≡ next_call (scanning_at (asked_of g.request g.family) stage)
 asks_scan g left stage =
     asked_bound (scanning_at (asked_of g.request g.family) stage) (after_scan g left)
     (scanning_asks (asked_of g.request g.family) stage)
 
-pub asks_claim : (g : Going) (left : Left) (claim : ClaimProc) → asked (claims_part g left claim) ≡ asked (claim_rest claim)
+pub asks_claim : (g : Going) (left : Left) (claim : ClaimProc) → next_call (claims_part g left claim) ≡ next_call (claim_rest claim)
 asks_claim g left claim =
     asked_bound (bound (claim_rest claim) (after_claim left)) (onward (then_next g))
     (asks_on (claim_rest claim) (after_claim left) (claim_asks claim))
     ∙ asked_bound (claim_rest claim) (after_claim left) (claim_asks claim)
 
 pub asks_assign : (g : Going) (spot : Spot) (a : Assigning)
-    → asked (assigns_part g spot a) ≡ asked (assigning_rest g.request.attributes.handle a)
+    → next_call (assigns_part g spot a) ≡ next_call (assigning_rest g.request.attributes.handle a)
 asks_assign g spot a =
     asked_bound (assigning_rest g.request.attributes.handle a) (onward (after_write g spot.scan spot.place))
     (assigning_asks g.request.attributes.handle a)
 
 pub hears_scan : (g : Going) (left : Left) (stage : ScanStage) (asked_by : Asked) (leaves : Word Chose) (moment : ℕ) (said : Said)
-    → asked_by ≡ asked_of g.request g.family → leaves ≡ heard (scanning_at asked_by stage) moment said
-    → bound leaves (after_scan g left) ≡ heard (scans_part g left stage) moment said
+    → asked_by ≡ asked_of g.request g.family → leaves ≡ after_reply (scanning_at asked_by stage) moment said
+    → bound leaves (after_scan g left) ≡ after_reply (scans_part g left stage) moment said
 hears_scan g left stage asked_by leaves moment said same is =
     ap (λ w. bound w (after_scan g left)) is
-    ∙ ap (λ a. bound (heard (scanning_at a stage) moment said) (after_scan g left)) same
+    ∙ ap (λ a. bound (after_reply (scanning_at a stage) moment said) (after_scan g left)) same
     ∙ sym (heard_bound (scanning_at (asked_of g.request g.family) stage) (after_scan g left) moment said
     (scanning_asks (asked_of g.request g.family) stage))
 
@@ -97,13 +97,13 @@ may_hear_scan g left stage asked_by said same may =
     (scanning_asks (asked_of g.request g.family) stage) may)
 
 pub hears_claim : (g : Going) (left : Left) (claim : ClaimProc) (turned : ClaimTurned) (moment : ℕ) (said : Said)
-    → claim_leaves claim turned ≡ heard (claim_rest claim) moment said
-    → claims_leaves g left (Claims claim) turned ≡ heard (claims_part g left claim) moment said
+    → claim_leaves claim turned ≡ after_reply (claim_rest claim) moment said
+    → claims_leaves g left (Claims claim) turned ≡ after_reply (claims_part g left claim) moment said
 hears_claim g left claim turned moment said is =
-    ap (λ (w : Word ClaimAnswer). followed (bound w (after_claim left)) (then_next g)) is
+    ap (λ (w : Word ClaimAnswer). part_then (bound w (after_claim left)) (then_next g)) is
     ∙ sym (heard_bound (bound (claim_rest claim) (after_claim left)) (onward (then_next g)) moment said
     (asks_on (claim_rest claim) (after_claim left) (claim_asks claim))
-    ∙ ap (λ (w : Part (Unit {0})). followed w (then_next g))
+    ∙ ap (λ (w : Part (Unit {0})). part_then w (then_next g))
     (heard_bound (claim_rest claim) (after_claim left) moment said (claim_asks claim)))
 
 pub may_hear_claim : (g : Going) (left : Left) (claim : ClaimProc) (said : Said)
@@ -114,10 +114,10 @@ may_hear_claim g left claim said may =
     (asks_on (claim_rest claim) (after_claim left) (claim_asks claim)) may)
 
 pub hears_assign : (g : Going) (left : Left) (spot : Spot) (a : Assigning) (turned : AssigningTurned) (moment : ℕ) (said : Said)
-    → assigning_leaves g.request.attributes.handle a turned ≡ heard (assigning_rest g.request.attributes.handle a) moment said
-    → assigns_leaves g left (Assigns spot a) turned ≡ heard (assigns_part g spot a) moment said
+    → assigning_leaves g.request.attributes.handle a turned ≡ after_reply (assigning_rest g.request.attributes.handle a) moment said
+    → assigns_leaves g left (Assigns spot a) turned ≡ after_reply (assigns_part g spot a) moment said
 hears_assign g left spot a turned moment said is =
-    ap (λ (w : PartAssigned). followed w (after_write g spot.scan spot.place)) is
+    ap (λ (w : PartAssigned). part_then w (after_write g spot.scan spot.place)) is
     ∙ sym (heard_bound (assigning_rest g.request.attributes.handle a) (onward (after_write g spot.scan spot.place)) moment said
     (assigning_asks g.request.attributes.handle a))
 
@@ -131,7 +131,7 @@ pub assign_on : (g : Going) (left : Left) (spot : Spot) (a new : Assigning) (tur
     → ((id : List ℕ) → assigning_rest id new ≡ assigning_leaves id a turned)
     → serving_at g left (Assigns spot new) ≡ assigns_leaves g left (Assigns spot a) turned
 assign_on g left spot a new turned is =
-    ap (λ (w : PartAssigned). followed w (after_write g spot.scan spot.place)) (is g.request.attributes.handle)
+    ap (λ (w : PartAssigned). part_then w (after_write g spot.scan spot.place)) (is g.request.attributes.handle)
 
 -- ---- no other step has them
 
@@ -157,20 +157,20 @@ other_assign g left (Assigns spot a) turned none = absurd (none spot a refl)
 -- ---- an address is assigned
 
 written_at : (g : Going) (scan : Scan) (place : PlaceValue) (target : Target) (left : Left) (done : Option Assigned)
-    → place ≡ record { cidr = target.block.cidr; address = address_of target.block.cidr target.ordinal }
+    → place ≡ record { cidr = target.block.cidr; address = ordinal_address target.block.cidr target.ordinal }
     → after_write g scan place left done ≡ model.after_assign (round_at g scan) target left done
 written_at g scan place target left (Some done) same = ap (λ (p : PlaceValue). went left (served.Gave (gift_at scan p done))) same
 written_at g scan place target left None same = refl
 
 pub takes_at : (g : Going) (left : Left) (scan : Scan) (target : Target) (spot : Spot) (a : Assigning)
     → spot.scan ≡ scan
-    → spot.place ≡ record { cidr = target.block.cidr; address = address_of target.block.cidr target.ordinal }
+    → spot.place ≡ record { cidr = target.block.cidr; address = ordinal_address target.block.cidr target.ordinal }
     → assigning_rest g.request.attributes.handle a ≡ assign g.request.attributes target left
     → assigns_part g spot a ≡ take_in (round_at g scan) left target
 takes_at g left scan target spot a same at is =
-    ap (λ (w : PartAssigned). followed w (after_write g spot.scan spot.place)) is
-    ∙ ap (λ s. followed (assign g.request.attributes target left) (after_write g s spot.place)) same
-    ∙ (λ i. followed (assign g.request.attributes target left) (λ now done. written_at g scan spot.place target now done at i))
+    ap (λ (w : PartAssigned). part_then w (after_write g spot.scan spot.place)) is
+    ∙ ap (λ s. part_then (assign g.request.attributes target left) (after_write g s spot.place)) same
+    ∙ (λ i. part_then (assign g.request.attributes target left) (λ now done. written_at g scan spot.place target now done at i))
 
 -- ---- the first round, and each that follows
 
@@ -211,19 +211,19 @@ round_begins request old new fewer now is same_family same_rounds same_left same
     ∙ next_is request old.family old.rounds.more fewer now is
 
 pub next_asks : (request : AddRequest) (old : Serving) (fewer : Rounds) (now : Left) → fewer_than old.rounds.more ≡ Some fewer
-    → None ≡ ended (next_for (going request old) now)
+    → None ≡ answer_in (next_for (going request old) now)
 next_asks request old fewer now is =
     step_goes_on (record { request = request; family = old.family; more = fewer.more }) now anew
-    ∙ ap ended (rounds_begin request old.family fewer.more now ∙ next_is request old.family old.rounds.more fewer now is)
+    ∙ ap answer_in (rounds_begin request old.family fewer.more now ∙ next_is request old.family old.rounds.more fewer now is)
 
 pub none_left : (request : AddRequest) (old : Serving) (now : Left) → fewer_than old.rounds.more ≡ None
-    → Some (Stops now OutOfTries) ≡ ended (next_for (going request old) now)
+    → Some (Stops now OutOfTries) ≡ answer_in (next_for (going request old) now)
 none_left request old now is = by old.rounds.more is
   where
-    by : (more : ℕ) → fewer_than more ≡ None → Some (Stops now OutOfTries) ≡ ended (next_of (round_of request old.family) more now)
+    by : (more : ℕ) → fewer_than more ≡ None → Some (Stops now OutOfTries) ≡ answer_in (next_of (round_of request old.family) more now)
     by zero e = refl
     by (suc more) e = absurd (cc e)
 
 -- a claim has a call to make
-pub claim_goes_on : (claim : ClaimProc) → IsSome (asked (claim_rest claim))
+pub claim_goes_on : (claim : ClaimProc) → IsSome (next_call (claim_rest claim))
 claim_goes_on claim = claim_asks claim

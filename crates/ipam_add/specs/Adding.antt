@@ -10,7 +10,7 @@ use Rattle.ipam_model.specs.declared.part.Left.{Left}
 use Rattle.ipam_model.specs.declared.part.Outcome.{Outcome}
 use Rattle.ipam_model.specs.declared.request.AddRequest.{AddRequest}
 use Rattle.ipam_model.specs.Add.{add_each, add_stops, after_family}
-use Rattle.ipam_model.specs.Step.{Part, goes as went, followed, onward, settled}
+use Rattle.ipam_model.specs.Step.{Part, goes as went, part_then, onward, as_word}
 use Rattle.ipam_parts.specs.Freeing.{freeing_rest, freeing_leaves}
 use Rattle.ipam_parts.specs.declared.freeing.FreeingTurned.{FreeingTurned}
 use Rattle.ipam_parts.specs.declared.freeing.Freeing.{Freeing}
@@ -66,14 +66,14 @@ abbrev pub serves_part : AddRequest → Turn → Serving → Part AddAnswer
 serves_part request turn serving = bound (serving_rest request serving) (family_then request turn)
 
 abbrev pub refuses_part : AddRequest → Freeing → AddAnswer → Part AddAnswer
-refuses_part request freeing answer = followed (freeing_rest request.attributes.handle freeing) (then_answer answer)
+refuses_part request freeing answer = part_then (freeing_rest request.attributes.handle freeing) (then_answer answer)
 
 abbrev pub add_part : AddRequest → Turn → Stage → Part AddAnswer
 add_part request turn (Serves serving) = serves_part request turn serving
 add_part request turn (Refuses freeing answer) = refuses_part request freeing answer
 
 abbrev pub add_at : Part AddAnswer → Word AddAnswer
-add_at part = settled add_stops part
+add_at part = as_word add_stops part
 
 abbrev pub add_rest : AddProc → Word AddAnswer
 add_rest p = add_at (add_part p.request p.turn p.stage)
@@ -86,7 +86,7 @@ serves_leaves request turn stage turned = add_part request turn stage
 -- and likewise the freeing
 abbrev pub refuses_leaves : AddRequest → Turn → Stage → FreeingTurned → Part AddAnswer
 refuses_leaves request turn (Refuses freeing answer) turned =
-    followed (freeing_leaves request.attributes.handle freeing turned) (then_answer answer)
+    part_then (freeing_leaves request.attributes.handle freeing turned) (then_answer answer)
 refuses_leaves request turn stage turned = add_part request turn stage
 
 -- what is left once it goes there

@@ -15,7 +15,7 @@ use Rattle.ipam_model.specs.declared.request.AddRequest.{AddRequest}
 use Rattle.ipam_model.specs.Add.{asked_of, follow_pick, round_of}
 use Rattle.ipam_model.specs.Add as model
 use Rattle.ipam_model.specs.Assigning.{after_claim}
-use Rattle.ipam_model.specs.Step.{Part, goes as went, followed, onward}
+use Rattle.ipam_model.specs.Step.{Part, goes as went, part_then, onward}
 use Rattle.ipam_assign.specs.Assigning.{assigning_rest, assigning_leaves}
 use Rattle.ipam_assign.specs.PlaceShape.{PlaceValue}
 use Rattle.ipam_assign.specs.Rounds.{next_of}
@@ -67,11 +67,11 @@ abbrev pub scans_part : Going → Left → ScanStage → Part Served
 scans_part g left stage = bound (scanning_at (asked_of g.request g.family) stage) (after_scan g left)
 
 abbrev pub claims_part : Going → Left → ClaimProc → Part Served
-claims_part g left claim = followed (bound (claim_rest claim) (after_claim left)) (then_next g)
+claims_part g left claim = part_then (bound (claim_rest claim) (after_claim left)) (then_next g)
 
 abbrev pub assigns_part : Going → Spot → Assigning → Part Served
 assigns_part g spot assigning =
-    followed (assigning_rest g.request.attributes.handle assigning) (after_write g spot.scan spot.place)
+    part_then (assigning_rest g.request.attributes.handle assigning) (after_write g spot.scan spot.place)
 
 abbrev pub serving_at : Going → Left → Step → Part Served
 serving_at g left (Scans scanning) = scans_part g left scanning.stage
@@ -93,13 +93,13 @@ scans_leaves g left step learned = serving_at g left step
 -- and likewise the claim
 abbrev pub claims_leaves : Going → Left → Step → ClaimTurned → Part Served
 claims_leaves g left (Claims claim) turned =
-    followed (bound (claim_leaves claim turned) (after_claim left)) (then_next g)
+    part_then (bound (claim_leaves claim turned) (after_claim left)) (then_next g)
 claims_leaves g left step turned = serving_at g left step
 
 -- and the assignment
 abbrev pub assigns_leaves : Going → Left → Step → AssigningTurned → Part Served
 assigns_leaves g left (Assigns spot assigning) turned =
-    followed (assigning_leaves g.request.attributes.handle assigning turned) (after_write g spot.scan spot.place)
+    part_then (assigning_leaves g.request.attributes.handle assigning turned) (after_write g spot.scan spot.place)
 assigns_leaves g left step turned = serving_at g left step
 
 -- what is left once it goes there

@@ -2,7 +2,7 @@ ghost use Rattle.std.specs.Prelude.{◌≡◌, ◌||◌, true, Some, None, IfOk,
 ghost use Rattle.ipam_addr.specs.declared.address.Family.TheVariants.{V6};
 ghost use Rattle.ipam_records.specs.Hearing.{MayHear};
 ghost use Rattle.ipam_records.specs.Said.{said};
-ghost use Rattle.ipam_records.specs.Word.{asked, heard, ended, bound};
+ghost use Rattle.ipam_records.specs.Word.{next_call, after_reply, answer_in, bound};
 ghost use Rattle.ipam_model.specs.declared.request.AddRequest.{AddRequest as Asking};
 ghost use Rattle.ipam_model.specs.Add.{add_word, after_stop, is_refusal, refuse, serve};
 ghost use Rattle.ipam_model.specs.Step.{all_left as every_try};
@@ -89,7 +89,7 @@ impl AddProc {
 
     /// What follows the rounds of a family.
     fn after_served(&mut self, outcome: Outcome<Obtained>) -> Option<AddAnswer>
-        ensures answer { result ≡ ended (add_at (family_then self.old.request self.old.turn (outcome_as outcome))) }
+        ensures answer { result ≡ answer_in (add_at (family_then self.old.request self.old.turn (outcome_as outcome))) }
         ensures on { IfNone result (add_rest self.new ≡ add_at (family_then self.old.request self.old.turn (outcome_as outcome))) }
     {
         match outcome {
@@ -100,7 +100,7 @@ impl AddProc {
     }
 
     fn gave(&mut self, left: Left, grant: Grant, spare: Spare) -> Option<AddAnswer>
-        ensures answer { result ≡ ended (add_at (add_on self.old.request self.old.turn (gift_in grant) left)) }
+        ensures answer { result ≡ answer_in (add_at (add_on self.old.request self.old.turn (gift_in grant) left)) }
         ensures on { IfNone result (add_rest self.new ≡ add_at (add_on self.old.request self.old.turn (gift_in grant) left)) }
     {
         match self.turn {
@@ -116,7 +116,7 @@ impl AddProc {
 
     /// This is answered, once what was given is freed.
     fn refuses(&mut self, left: Left, answer: AddAnswer) -> Option<AddAnswer>
-        ensures answer { result ≡ ended (add_at (refuse self.old.request (turn_gifts self.old.turn) answer left)) }
+        ensures answer { result ≡ answer_in (add_at (refuse self.old.request (turn_gifts self.old.turn) answer left)) }
         ensures on { IfNone result (add_rest self.new ≡ add_at (refuse self.old.request (turn_gifts self.old.turn) answer left)) }
     {
         match self.turn {
@@ -130,7 +130,7 @@ impl AddProc {
     }
 
     fn stops(&mut self, left: Left, why: Stop) -> Option<AddAnswer>
-        ensures answer { result ≡ ended (add_at (after_stop self.old.request (turn_gifts self.old.turn) left why)) }
+        ensures answer { result ≡ answer_in (add_at (after_stop self.old.request (turn_gifts self.old.turn) left why)) }
         ensures on { IfNone result (add_rest self.new ≡ add_at (after_stop self.old.request (turn_gifts self.old.turn) left why)) }
     {
         let answer = add_stopped(left, why);
@@ -196,7 +196,7 @@ fn serve_goes(stage: &mut Stage, turned: ServingTurned) -> Option<Outcome<Obtain
     ensures on { IfNone result ((asking : Asking) (turn : Taking)
         → add_part asking turn stage.new ≡ serves_leaves asking turn stage.old turned) }
     ensures asks { IfNone result ((asking : Asking) (turn : Taking)
-        → None ≡ ended (add_at (serves_leaves asking turn stage.old turned))) }
+        → None ≡ answer_in (add_at (serves_leaves asking turn stage.old turned))) }
 {
     match stage {
         Stage::Serves(serving) => serving.go(turned),
@@ -206,7 +206,7 @@ fn serve_goes(stage: &mut Stage, turned: ServingTurned) -> Option<Outcome<Obtain
 
 /// The freeing goes where a reply led it. Behind it the answer is given.
 fn free_goes(stage: &mut Stage, turned: FreeingTurned) -> Option<AddAnswer>
-    ensures ended { (asking : Asking) (turn : Taking) → result ≡ ended (add_at (refuses_leaves asking turn stage.old turned)) }
+    ensures ended { (asking : Asking) (turn : Taking) → result ≡ answer_in (add_at (refuses_leaves asking turn stage.old turned)) }
     ensures on { IfNone result ((asking : Asking) (turn : Taking)
         → add_part asking turn stage.new ≡ refuses_leaves asking turn stage.old turned) }
 {
@@ -221,7 +221,7 @@ fn free_goes(stage: &mut Stage, turned: FreeingTurned) -> Option<AddAnswer>
 
 /// What is answered where the freeing came to this.
 fn freed(outcome: Outcome<u32>, answer: &mut AddAnswer) -> AddAnswer
-    ensures { Some result ≡ ended (freed_to answer.old outcome) }
+    ensures { Some result ≡ answer_in (freed_to answer.old outcome) }
 {
     match outcome {
         Outcome::Went(_, _) => mem::replace(answer, AddAnswer::Spent),

@@ -1,6 +1,6 @@
 ghost use Rattle.std.specs.Prelude.{◌≡◌, ◌-◌, ◌<◌, ℕ, List};
 ghost use Rattle.ipam_addr.specs.Width.{cidr_size};
-ghost use Rattle.ipam_block.specs.Operations.{address_of};
+ghost use Rattle.ipam_block.specs.Operations.{ordinal_address};
 ghost use Rattle.ipam_model.specs.Counting.{free, freeing_one};
 ghost use Rattle.ipam_parts.specs.Freeing.{freeing_rest};
 ghost use Rattle.ipam_add.specs.Grant.{gift_in};
@@ -39,7 +39,7 @@ impl Spot {
     pub(crate) fn of(scan: Scan, block: &Block, ordinal: u16) -> Spot
         requires { ordinal < cidr_size block.now.cidr }
         ensures scan { result.scan ≡ scan }
-        ensures place { result.place ≡ record { cidr = block.now.cidr; address = address_of block.now.cidr ordinal } }
+        ensures place { result.place ≡ record { cidr = block.now.cidr; address = ordinal_address block.now.cidr ordinal } }
     {
         Spot {
             scan,

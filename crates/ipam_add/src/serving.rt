@@ -3,7 +3,7 @@ ghost use Rattle.ipam_addr.specs.Width.{cidr_size};
 ghost use Rattle.ipam_block.specs.declared.limits.TheConstants.{ADDRESSES_MAX};
 ghost use Rattle.ipam_records.specs.Hearing.{MayHear};
 ghost use Rattle.ipam_records.specs.Said.{said};
-ghost use Rattle.ipam_records.specs.Word.{asked, heard, ended};
+ghost use Rattle.ipam_records.specs.Word.{next_call, after_reply, answer_in};
 ghost use Rattle.ipam_choice.specs.Picked.{pick_as, rank_as, ranked_as};
 ghost use Rattle.ipam_choice.specs.Viewed.{asked_of as viewed};
 ghost use Rattle.ipam_parts.specs.Reading.{lent_block};
@@ -11,7 +11,7 @@ ghost use Rattle.ipam_model.specs.declared.request.AddRequest.{AddRequest as Ask
 ghost use Rattle.ipam_model.specs.declared.part.Left.{Left as TheLeft};
 ghost use Rattle.ipam_model.specs.Add.{asked_of, name_at, serve, take_in, follow_rank};
 ghost use Rattle.ipam_model.specs.Assigning.{after_claim, claim_for, target_in};
-ghost use Rattle.ipam_model.specs.Step.{followed};
+ghost use Rattle.ipam_model.specs.Step.{part_then};
 ghost use Rattle.ipam_assign.specs.Picked.{FitsPick, FitsRanked, IsTakeable, IsClaimable};
 ghost use Rattle.ipam_assign.specs.Scanning.{learn};
 ghost use Rattle.ipam_add.specs.Serving.{Going, going, next_for, then_next, round_at, after_scan, serving_at, serving_rest, anew, scans_leaves, claims_leaves, assigns_leaves, serving_goes, serving_leaves, assign_ended, outcome_in};
@@ -93,7 +93,7 @@ impl Serving {
     /// The next call.
     #[tactic(auto, using(crate::proofs::ServingLemmas::asks_scan, crate::proofs::ServingLemmas::asks_claim, crate::proofs::ServingLemmas::asks_assign, crate::proofs::ServingLemmas::claim_goes_on))]
     pub fn call(&self, alloc: Global, request: &AddRequest) -> Result<Call, AllocError>
-        ensures { IfOk result (λ call. asked (serving_rest request.now self.now) ≡ Some call) }
+        ensures { IfOk result (λ call. next_call (serving_rest request.now self.now) ≡ Some call) }
     {
         match &self.step {
             Step::Scans(scanning) => Ok(scanning.call()),
@@ -114,7 +114,7 @@ impl Serving {
     ) -> Result<ServingTurned, AllocError>
         requires { MayHear (serving_rest request.now self.now) (said hearing.now.reply) }
         ensures { IfOk result (λ turned. serving_leaves request.now self.now turned
-            ≡ heard (serving_rest request.now self.now) hearing.now.moment (said hearing.now.reply)) }
+            ≡ after_reply (serving_rest request.now self.now) hearing.now.moment (said hearing.now.reply)) }
     {
         match &self.step {
             Step::Scans(scanning) => {
@@ -224,7 +224,7 @@ impl Serving {
         requires small { cidr_size cidr ≤ ADDRESSES_MAX }
         requires counted { IsClaimable (lent_block read) }
         ensures { IfOk result (λ goes. serving_goes request.now self.now goes
-            ≡ followed (claim_for request.now.node cidr (lent_block read.entry) self.now.left) (then_next (going request.now self.now))) }
+            ≡ part_then (claim_for request.now.node cidr (lent_block read.entry) self.now.left) (then_next (going request.now self.now))) }
     {
         let claim = ClaimProc::new(alloc, request.node.as_str(), cidr, read)?;
         Ok(Goes::To(Step::Claims(claim)))
@@ -232,7 +232,7 @@ impl Serving {
 
     /// Goes where a reply led. Takes no memory.
     pub fn go(&mut self, turned: ServingTurned) -> Option<Outcome<Obtained>>
-        ensures answer { (request : Asking) → outcome_in result ≡ ended (serving_leaves request self.old turned) }
+        ensures answer { (request : Asking) → outcome_in result ≡ answer_in (serving_leaves request self.old turned) }
         ensures on { IfNone result ((request : Asking) → serving_rest request self.new ≡ serving_leaves request self.old turned) }
     {
         match turned.goes {
@@ -258,7 +258,7 @@ impl Serving {
 
     /// Begins the next round, with so much left, where there is one more.
     fn next_round(&mut self, now: Left) -> Option<Outcome<Obtained>>
-        ensures answer { (request : Asking) → outcome_in result ≡ ended (next_for (going request self.old) now) }
+        ensures answer { (request : Asking) → outcome_in result ≡ answer_in (next_for (going request self.old) now) }
         ensures on { IfNone result ((request : Asking) → serving_rest request self.new ≡ next_for (going request self.old) now) }
     {
         match self.rounds.next() {
@@ -274,9 +274,9 @@ impl Serving {
 
     fn after_claim(&mut self, answer: ClaimAnswer) -> Option<Outcome<Obtained>>
         ensures answer { (request : Asking) → outcome_in result
-            ≡ ended (followed (after_claim self.old.left answer) (then_next (going request self.old))) }
+            ≡ answer_in (part_then (after_claim self.old.left answer) (then_next (going request self.old))) }
         ensures on { IfNone result ((request : Asking) → serving_rest request self.new
-            ≡ followed (after_claim self.old.left answer) (then_next (going request self.old))) }
+            ≡ part_then (after_claim self.old.left answer) (then_next (going request self.old))) }
     {
         match claimed(self.left, answer) {
             Outcome::Went(now, ()) => self.next_round(now),
@@ -290,7 +290,7 @@ impl Serving {
         outcome: Outcome<Option<Assigned>>,
         spare: Spare,
     ) -> Option<Outcome<Obtained>>
-        ensures answer { (request : Asking) → outcome_in result ≡ ended (assign_ended (going request self.old) spot outcome) }
+        ensures answer { (request : Asking) → outcome_in result ≡ answer_in (assign_ended (going request self.old) spot outcome) }
         ensures on { IfNone result ((request : Asking) → serving_rest request self.new
             ≡ assign_ended (going request self.old) spot outcome) }
     {
@@ -347,9 +347,9 @@ fn scan_goes(step: &mut Step, learned: Learned)
 /// The claim goes where a reply led it, and is answered in the end.
 fn claim_goes(step: &mut Step, turned: ClaimTurned) -> Option<ClaimAnswer>
     ensures ended { IfSome result (λ answer. (g : Going) (left : TheLeft)
-        → claims_leaves g left step.old turned ≡ followed (after_claim left answer) (then_next g)) }
+        → claims_leaves g left step.old turned ≡ part_then (after_claim left answer) (then_next g)) }
     ensures on { IfNone result ((g : Going) (left : TheLeft) → serving_at g left step.new ≡ claims_leaves g left step.old turned) }
-    ensures asks { IfNone result ((g : Going) (left : TheLeft) → None ≡ ended (claims_leaves g left step.old turned)) }
+    ensures asks { IfNone result ((g : Going) (left : TheLeft) → None ≡ answer_in (claims_leaves g left step.old turned)) }
 {
     match step {
         Step::Claims(claim) => claim.go(turned),
@@ -365,7 +365,7 @@ fn assign_goes(
     ensures ended { IfSome result (λ e. (g : Going) (left : TheLeft)
         → assigns_leaves g left step.old turned ≡ assign_ended g e.0 e.1) }
     ensures on { IfNone result ((g : Going) (left : TheLeft) → serving_at g left step.new ≡ assigns_leaves g left step.old turned) }
-    ensures asks { IfNone result ((g : Going) (left : TheLeft) → None ≡ ended (assigns_leaves g left step.old turned)) }
+    ensures asks { IfNone result ((g : Going) (left : TheLeft) → None ≡ answer_in (assigns_leaves g left step.old turned)) }
 {
     match step {
         Step::Assigns(spot, assigning) => match assigning.go(turned) {

@@ -7,7 +7,7 @@ use Rattle.ipam_model.specs.declared.outcome.AdminAnswer.TheVariants.{Done}
 use Rattle.ipam_model.specs.declared.part.Left.{Left}
 use Rattle.ipam_model.specs.declared.request.Admin.{Admin}
 use Rattle.ipam_model.specs.Admin.{admin_once, admin_stops}
-use Rattle.ipam_model.specs.Step.{Part, goes as went, on_write, settled}
+use Rattle.ipam_model.specs.Step.{Part, goes as went, on_write, as_word}
 use Rattle.ipam_parts.specs.Raising.{put_at}
 use Rattle.ipam_parts.specs.Tries.{again_of}
 use Rattle.ipam_admin.specs.declared.admin.Stage.{Stage}
@@ -31,7 +31,7 @@ part_at request left (Writes w) =
     Asks idle (put_at w.revision w.new) (λ moment reply. written_at request left reply)
 
 abbrev pub admin_at : Admin → Left → Stage → Word AdminAnswer
-admin_at request left stage = settled admin_stops (part_at request left stage)
+admin_at request left stage = as_word admin_stops (part_at request left stage)
 
 abbrev pub admin_rest : AdminProc → Word AdminAnswer
 admin_rest p = admin_at p.request p.left p.stage

@@ -1,9 +1,9 @@
 ghost use Rattle.std.specs.Prelude.{◌≡◌, IfOk, IfNone};
 ghost use Rattle.ipam_records.specs.Said.{said};
-ghost use Rattle.ipam_records.specs.Word.{asked, heard, ended};
+ghost use Rattle.ipam_records.specs.Word.{next_call, after_reply, answer_in};
 ghost use Rattle.ipam_records.specs.Hearing.{MayHear};
 ghost use Rattle.ipam_model.specs.Admin.{admin_word, admin_stops, key_changed};
-ghost use Rattle.ipam_model.specs.Step.{settled};
+ghost use Rattle.ipam_model.specs.Step.{as_word};
 ghost use Rattle.ipam_parts.specs.Raising.{put_at};
 ghost use Rattle.ipam_admin.specs.Admin.{again, written_at, admin_at, admin_rest, admin_goes, admin_leaves};
 ghost use Rattle.ipam_admin.specs.declared.admin.Stage.TheVariants.{Reads};
@@ -71,7 +71,7 @@ impl AdminProc {
     /// Where what was read leads.
     fn read(&self, alloc: Global, hearing: &Heard) -> Result<Goes, AllocError>
         ensures { IfOk result (λ goes. admin_goes self.now goes
-            ≡ heard (admin_at self.now.request self.now.left Reads) hearing.now.moment (said hearing.now.reply)) }
+            ≡ after_reply (admin_at self.now.request self.now.left Reads) hearing.now.moment (said hearing.now.reply)) }
     {
         match Change::of(alloc, &self.request, &hearing.reply)? {
             Change::Becomes(new) => {
@@ -86,7 +86,7 @@ impl AdminProc {
 
     /// Where a write leads that was answered so.
     fn written(&self, hearing: &Heard) -> Goes
-        ensures { admin_goes self.now result ≡ settled admin_stops (written_at self.now.request self.now.left (said hearing.now.reply)) }
+        ensures { admin_goes self.now result ≡ as_word admin_stops (written_at self.now.request self.now.left (said hearing.now.reply)) }
     {
         match WriteEnd::of(&hearing.reply) {
             WriteEnd::Took(revision) => Goes::Answers(AdminAnswer::Done(revision)),
@@ -99,7 +99,7 @@ impl AdminProc {
     /// Where a lost race leads.
     #[tactic(auto, using(ipam_parts::proofs::TryLaws::lost_goes))]
     fn lost(&self) -> Goes
-        ensures { admin_goes self.now result ≡ settled admin_stops (again self.now.request self.now.left) }
+        ensures { admin_goes self.now result ≡ as_word admin_stops (again self.now.request self.now.left) }
     {
         match after_lost(self.left) {
             Ok(left) => Goes::Again(left),

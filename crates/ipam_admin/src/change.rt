@@ -1,6 +1,6 @@
 ghost use Rattle.std.specs.Prelude.{◌≡◌, IfOk};
 ghost use Rattle.ipam_records.specs.Said.{said};
-ghost use Rattle.ipam_model.specs.Admin.{changed};
+ghost use Rattle.ipam_model.specs.Admin.{admin_change};
 ghost use Rattle.ipam_admin.specs.Change.{changed_to};
 
 use crate::pools::{disable, put_pool};
@@ -22,7 +22,7 @@ pub(crate) enum Change {
 impl Change {
     /// What the request makes of what was read.
     pub(crate) fn of(alloc: Global, request: &Admin, reply: &Reply) -> Result<Change, AllocError>
-        ensures { IfOk result (λ change. changed_to change ≡ changed request.now (said reply.now)) }
+        ensures { IfOk result (λ change. changed_to change ≡ admin_change request.now (said reply.now)) }
     {
         match request {
             Admin::Pool(pool) => put_pool(alloc, pools_in(alloc, reply)?, pool),

@@ -21,7 +21,7 @@ use Rattle.ipam_model.specs.declared.part.Stop.TheVariants as stop
 use Rattle.ipam_model.specs.declared.request.Admin.{Admin as Change}
 use Rattle.ipam_model.specs.declared.request.Admin.TheVariants as change
 use Rattle.ipam_model.specs.declared.request.Request.TheVariants.{Admin}
-use Rattle.ipam_model.specs.Admin.{Becomes, Changed, Refuses, admin_once, admin_stops, admin_word, admin_write, changed, is_named, is_same_pool, most_reservations, pool_appended, pool_refused, with_reservation}
+use Rattle.ipam_model.specs.Admin.{Becomes, Changed, Refuses, admin_once, admin_stops, admin_word, admin_write, admin_change, is_named, is_same_pool, most_reservations, pool_appended, pool_refused, with_reservation}
 use Rattle.ipam_model.specs.Alone.{alone, alone_over}
 use Rattle.ipam_model.specs.Cluster.{store_with}
 use Rattle.ipam_model.specs.History.{Base}
@@ -100,10 +100,10 @@ write-steady : (again : Part AdminAnswer) → IsSteady CanTellPart again → (le
 write-steady again h left said (Becomes new) fine = λ moment other reply. (refl, wrote again h left reply)
 write-steady again h left said (Refuses number name) fine = fine
 
-once-steady : (one : Change) → ((said : Said) → CanTellChanged (changed one said)) → (again : Part AdminAnswer) → IsSteady CanTellPart again → (left : Left) → IsSteady CanTellPart (admin_once one again left)
-once-steady one fine again h left = λ moment other said. (refl, write-steady again h left said (changed one said) (fine said))
+once-steady : (one : Change) → ((said : Said) → CanTellChanged (admin_change one said)) → (again : Part AdminAnswer) → IsSteady CanTellPart again → (left : Left) → IsSteady CanTellPart (admin_once one again left)
+once-steady one fine again h left = λ moment other said. (refl, write-steady again h left said (admin_change one said) (fine said))
 
-tries-steady : (one : Change) → ((said : Said) → CanTellChanged (changed one said)) → (races claims : ℕ) → IsSteady CanTellPart (tries (admin_once one) races claims)
+tries-steady : (one : Change) → ((said : Said) → CanTellChanged (admin_change one said)) → (races claims : ℕ) → IsSteady CanTellPart (tries (admin_once one) races claims)
 unfolding tries
 tries-steady one fine zero claims = once-steady one fine (stops (left_of zero claims) stop.OutOfTries) tt (left_of zero claims)
 tries-steady one fine (suc races) claims = once-steady one fine (tries (admin_once one) races claims) (tries-steady one fine races claims) (left_of (suc races) claims)
@@ -116,7 +116,7 @@ settled (Stops left stop.NoRoom) h = tt
 settled (Stops left (stop.CountAtLimit moment)) h = tt
 settled (Stops left stop.NoRevisions) h = tt
 
-word-steady : (one : Change) → ((said : Said) → CanTellChanged (changed one said)) → IsSteady CanTell (admin_word one)
+word-steady : (one : Change) → ((said : Said) → CanTellChanged (admin_change one said)) → IsSteady CanTell (admin_word one)
 word-steady one fine =
     steady-bound CanTellPart CanTell (λ (o : Outcome AdminAnswer). Ends (answer_of admin_stops o)) settled (tries (admin_once one) 63 63) (tries-steady one fine 63 63)
 
@@ -150,7 +150,7 @@ seven : (name : List ℕ) → IsSome (numbered_refusal 7 name)
 unfolding numbered_refusal
 seven name = refl
 
-change-tells : (one : Change) → IsOfDocument one → (said : Said) → CanTellChanged (changed one said)
+change-tells : (one : Change) → IsOfDocument one → (said : Said) → CanTellChanged (admin_change one said)
 change-tells (change.Pool pool) h said =
     let pools = pools_said said in
     either (list_any (is_same_pool pool) pools)

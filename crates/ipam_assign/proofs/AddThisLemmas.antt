@@ -4,7 +4,7 @@ use Rattle.ipam_addr.specs.Shape.{AddrValue}
 use Rattle.ipam_pool.specs.declared.pools.Pool.{Pool}
 use Rattle.ipam_records.specs.Hearing.{MayHear}
 use Rattle.ipam_records.specs.Said.{Said}
-use Rattle.ipam_records.specs.Word.{Word, Ends, Asks, Waits, asked, heard, ended, bound}
+use Rattle.ipam_records.specs.Word.{Word, Ends, Asks, Waits, next_call, after_reply, answer_in, bound}
 use Rattle.ipam_claim.specs.Claim.{claim_at, claim_rest, claim_leaves}
 use Rattle.ipam_claim.specs.declared.claim.ClaimTurned.{ClaimTurned}
 use Rattle.ipam_model.specs.declared.outcome.ClaimAnswer.{ClaimAnswer}
@@ -18,7 +18,7 @@ use Rattle.ipam_model.specs.declared.request.AddRequest.{AddRequest}
 use Rattle.ipam_model.specs.Affinities.{claim as claim_word}
 use Rattle.ipam_model.specs.AddThis.{this_round, this_in_pool, this_assigned, this_take, add_this_word}
 use Rattle.ipam_model.specs.Assigning.{after_claim, assign, target_in}
-use Rattle.ipam_model.specs.Step.{Part, followed, onward, all_left}
+use Rattle.ipam_model.specs.Step.{Part, part_then, onward, all_left}
 use Rattle.ipam_assign.specs.declared.add_this.AddThisProc.{AddThisProc}
 use Rattle.ipam_assign.specs.declared.add_this.Looked.{Looked}
 use Rattle.ipam_assign.specs.declared.add_this.Ruled.{Ruled}
@@ -65,8 +65,8 @@ next_begins request address more fewer now is = begin_at request address more fe
 
 pub next_asks : (request : AddRequest) (address : AddrValue) (more fewer : ℕ) (now : Left)
     → fewer_than more ≡ Some (record { more = fewer })
-    → None ≡ ended (this_at (next_of (this_round (wanted_at request address)) more now))
-next_asks request address more fewer now is = ap ended (next_begins request address more fewer now is)
+    → None ≡ answer_in (this_at (next_of (this_round (wanted_at request address)) more now))
+next_asks request address more fewer now is = ap answer_in (next_begins request address more fewer now is)
 
 -- the first round
 pub begins : (request : AddRequest) (address : AddrValue)
@@ -74,7 +74,7 @@ pub begins : (request : AddRequest) (address : AddrValue)
     ≡ add_this_word request address
 begins request address = sym (ap this_at (rounds_once (this_round (wanted_at request address)) 126 all_left))
 
-claim_asks_at : (stage : ClaimStage) (p : ClaimProc) → IsSome (asked (claim_at p.node p.cidr p.read stage))
+claim_asks_at : (stage : ClaimStage) (p : ClaimProc) → IsSome (next_call (claim_at p.node p.cidr p.read stage))
 unfolding claim_word
 claim_asks_at claim.Looks p = refl
 claim_asks_at (claim.Writes writing.Creates) p = refl
@@ -83,7 +83,7 @@ claim_asks_at (claim.Writes (writing.Claims kept)) p = refl
 claim_asks_at (claim.Writes (writing.Confirms kept)) p = refl
 
 -- a claim has a call to make
-pub claim_asks : (p : ClaimProc) → IsSome (asked (claim_rest p))
+pub claim_asks : (p : ClaimProc) → IsSome (next_call (claim_rest p))
 claim_asks p = claim_asks_at p.stage p
 
 -- the pool that holds the address has its slot, whose block is read
@@ -100,25 +100,25 @@ pools_lead g left ruled (Some pool) is = ap (λ place. this_at (block_part g lef
 
 -- ---- each stage has a call to make
 
-pub asks_on : {A B : Type 0} (word : Word A) (follows : A → Word B) → IsSome (asked word) → IsSome (asked (bound word follows))
+pub asks_on : {A B : Type 0} (word : Word A) (follows : A → Word B) → IsSome (next_call word) → IsSome (next_call (bound word follows))
 asks_on word follows some = subst (λ call. IsSome call) (sym (asked_bound word follows some)) some
 
-pub asks_open : {A : Type 0} (word : Word A) → IsSome (asked word) → None ≡ ended word
+pub asks_open : {A : Type 0} (word : Word A) → IsSome (next_call word) → None ≡ answer_in word
 asks_open (Ends answer) some = absurd (cc some)
 asks_open (Asks label call next) some = refl
 asks_open (Waits next) some = absurd (cc some)
 
-assigning_asks_at : (id : List ℕ) (b : BlockValue) (revision : ℕ) (stage : AssignStage) → IsSome (asked (assigning_at id b revision stage))
+assigning_asks_at : (id : List ℕ) (b : BlockValue) (revision : ℕ) (stage : AssignStage) → IsSome (next_call (assigning_at id b revision stage))
 assigning_asks_at id b revision (assign.Raises raising) =
     asks_on (raising_rest id raising) (onward (write_behind id b revision)) (raising_asks id raising)
 assigning_asks_at id b revision (assign.Writes left) = refl
 assigning_asks_at id b revision (assign.Lowers lowering) =
     asks_on (lowering_rest id lowering) (onward nothing) (lowering_asks id lowering)
 
-pub assigning_asks : (id : List ℕ) (a : Assigning) → IsSome (asked (assigning_rest id a))
+pub assigning_asks : (id : List ℕ) (a : Assigning) → IsSome (next_call (assigning_rest id a))
 assigning_asks id a = assigning_asks_at id a.block a.revision a.stage
 
-part_asks : (g : Going) (left : Left) (stage : Stage) → IsSome (asked (this_part g left stage))
+part_asks : (g : Going) (left : Left) (stage : Stage) → IsSome (next_call (this_part g left stage))
 part_asks g left ReadsConfig = refl
 part_asks g left (ReadsPools configured) = refl
 part_asks g left (ReadsBlock ruled) = refl
@@ -130,30 +130,30 @@ part_asks g left (Assigns looked assigning) =
     (onward (this_assigned (wanted_at g.request looked.address) (next_for g) (looked_of looked)))
     (assigning_asks g.request.attributes.handle assigning)
 
-pub stage_asks : (g : Going) (left : Left) (stage : Stage) → IsSome (asked (this_at (this_part g left stage)))
+pub stage_asks : (g : Going) (left : Left) (stage : Stage) → IsSome (next_call (this_at (this_part g left stage)))
 stage_asks g left stage = asks_on (this_part g left stage) _ (part_asks g left stage)
 
-pub stage_goes_on : (g : Going) (left : Left) (stage : Stage) → None ≡ ended (this_at (this_part g left stage))
+pub stage_goes_on : (g : Going) (left : Left) (stage : Stage) → None ≡ answer_in (this_at (this_part g left stage))
 stage_goes_on g left stage = asks_open (this_at (this_part g left stage)) (stage_asks g left stage)
 
 -- ---- while a claim or an assignment goes on
 
 pub asks_claim : (g : Going) (left : Left) (claim : ClaimProc)
-    → asked (this_at (claims_part g left claim)) ≡ asked (claim_rest claim)
+    → next_call (this_at (claims_part g left claim)) ≡ next_call (claim_rest claim)
 asks_claim g left claim =
     asked_bound (claims_part g left claim) _ (part_asks g left (Claims claim))
     ∙ asked_bound (bound (claim_rest claim) (after_claim left)) (onward (then_next g)) (asks_on (claim_rest claim) (after_claim left) (claim_asks claim))
     ∙ asked_bound (claim_rest claim) (after_claim left) (claim_asks claim)
 
 pub hears_claim : (g : Going) (left : Left) (claim : ClaimProc) (moment : ℕ) (said : Said)
-    → heard (this_at (claims_part g left claim)) moment said
-    ≡ this_at (followed (bound (heard (claim_rest claim) moment said) (after_claim left)) (then_next g))
+    → after_reply (this_at (claims_part g left claim)) moment said
+    ≡ this_at (part_then (bound (after_reply (claim_rest claim) moment said) (after_claim left)) (then_next g))
 hears_claim g left claim moment said =
     heard_bound (claims_part g left claim) _ moment said (part_asks g left (Claims claim))
     ∙ ap this_at
     (heard_bound (bound (claim_rest claim) (after_claim left)) (onward (then_next g)) moment said
     (asks_on (claim_rest claim) (after_claim left) (claim_asks claim))
-    ∙ ap (λ (w : Part (Unit {0})). followed w (then_next g))
+    ∙ ap (λ (w : Part (Unit {0})). part_then w (then_next g))
     (heard_bound (claim_rest claim) (after_claim left) moment said (claim_asks claim)))
 
 pub may_hear_claim : (g : Going) (left : Left) (claim : ClaimProc) (said : Said)
@@ -165,14 +165,14 @@ may_hear_claim g left claim said may =
     (may_hear_bound (claims_part g left claim) _ said (part_asks g left (Claims claim)) may))
 
 pub asks_assign : (g : Going) (left : Left) (looked : Looked) (a : Assigning)
-    → asked (this_at (assigns_part g looked a)) ≡ asked (assigning_rest g.request.attributes.handle a)
+    → next_call (this_at (assigns_part g looked a)) ≡ next_call (assigning_rest g.request.attributes.handle a)
 asks_assign g left looked a =
     asked_bound (assigns_part g looked a) _ (part_asks g left (Assigns looked a))
     ∙ asked_bound (assigning_rest g.request.attributes.handle a) _ (assigning_asks g.request.attributes.handle a)
 
 pub hears_assign : (g : Going) (left : Left) (looked : Looked) (a : Assigning) (moment : ℕ) (said : Said)
-    → heard (this_at (assigns_part g looked a)) moment said
-    ≡ this_at (followed (heard (assigning_rest g.request.attributes.handle a) moment said)
+    → after_reply (this_at (assigns_part g looked a)) moment said
+    ≡ this_at (part_then (after_reply (assigning_rest g.request.attributes.handle a) moment said)
     (this_assigned (wanted_at g.request looked.address) (next_for g) (looked_of looked)))
 hears_assign g left looked a moment said =
     heard_bound (assigns_part g looked a) _ moment said (part_asks g left (Assigns looked a))
@@ -185,24 +185,24 @@ may_hear_assign g left looked a said may =
     (may_hear_bound (assigns_part g looked a) _ said (part_asks g left (Assigns looked a)) may)
 
 pub claim_took : (g : Going) (left : Left) (claim : ClaimProc) (turned : ClaimTurned) (moment : ℕ) (said : Said)
-    → claim_leaves claim turned ≡ heard (claim_rest claim) moment said
-    → this_at (claims_leaves g left (Claims claim) turned) ≡ heard (this_at (claims_part g left claim)) moment said
+    → claim_leaves claim turned ≡ after_reply (claim_rest claim) moment said
+    → this_at (claims_leaves g left (Claims claim) turned) ≡ after_reply (this_at (claims_part g left claim)) moment said
 claim_took g left claim turned moment said is =
-    ap (λ (w : Word ClaimAnswer). this_at (followed (bound w (after_claim left)) (then_next g))) is
+    ap (λ (w : Word ClaimAnswer). this_at (part_then (bound w (after_claim left)) (then_next g))) is
     ∙ sym (hears_claim g left claim moment said)
 
 pub assign_took : (g : Going) (left : Left) (looked : Looked) (a : Assigning) (turned : AssigningTurned) (moment : ℕ) (said : Said)
-    → assigning_leaves g.request.attributes.handle a turned ≡ heard (assigning_rest g.request.attributes.handle a) moment said
-    → this_at (assigns_leaves g left (Assigns looked a) turned) ≡ heard (this_at (assigns_part g looked a)) moment said
+    → assigning_leaves g.request.attributes.handle a turned ≡ after_reply (assigning_rest g.request.attributes.handle a) moment said
+    → this_at (assigns_leaves g left (Assigns looked a) turned) ≡ after_reply (this_at (assigns_part g looked a)) moment said
 assign_took g left looked a turned moment said is =
-    ap (λ (w : PartAssigned). this_at (followed w (this_assigned (wanted_at g.request looked.address) (next_for g) (looked_of looked)))) is
+    ap (λ (w : PartAssigned). this_at (part_then w (this_assigned (wanted_at g.request looked.address) (next_for g) (looked_of looked)))) is
     ∙ sym (hears_assign g left looked a moment said)
 
 pub assign_on : (g : Going) (left : Left) (looked : Looked) (a new : Assigning) (turned : AssigningTurned)
     → ((id : List ℕ) → assigning_rest id new ≡ assigning_leaves id a turned)
     → this_part g left (Assigns looked new) ≡ assigns_leaves g left (Assigns looked a) turned
 assign_on g left looked a new turned is =
-    ap (λ (w : PartAssigned). followed w (this_assigned (wanted_at g.request looked.address) (next_for g) (looked_of looked)))
+    ap (λ (w : PartAssigned). part_then w (this_assigned (wanted_at g.request looked.address) (next_for g) (looked_of looked)))
     (is g.request.attributes.handle)
 
 pub takes_at : (g : Going) (left : Left) (ruled : Ruled) (moment revision : ℕ) (b : BlockValue) (looked : Looked) (a : Assigning)
@@ -212,9 +212,9 @@ pub takes_at : (g : Going) (left : Left) (ruled : Ruled) (moment revision : ℕ)
     → this_at (assigns_part g looked a)
     ≡ this_at (this_take (wanted_at g.request ruled.place.address) (next_for g) left (looked_in ruled moment) (revision, b))
 takes_at g left ruled moment revision b looked a same at is =
-    ap (λ l. this_at (followed (assigning_rest g.request.attributes.handle a) (this_assigned (wanted_at g.request looked.address) (next_for g) l))) same
-    ∙ ap (λ address. this_at (followed (assigning_rest g.request.attributes.handle a) (this_assigned (wanted_at g.request address) (next_for g) (looked_in ruled moment)))) at
-    ∙ ap (λ (w : PartAssigned). this_at (followed w (this_assigned (wanted_at g.request ruled.place.address) (next_for g) (looked_in ruled moment)))) is
+    ap (λ l. this_at (part_then (assigning_rest g.request.attributes.handle a) (this_assigned (wanted_at g.request looked.address) (next_for g) l))) same
+    ∙ ap (λ address. this_at (part_then (assigning_rest g.request.attributes.handle a) (this_assigned (wanted_at g.request address) (next_for g) (looked_in ruled moment)))) at
+    ∙ ap (λ (w : PartAssigned). this_at (part_then w (this_assigned (wanted_at g.request ruled.place.address) (next_for g) (looked_in ruled moment)))) is
 
 -- no other stage has an assignment
 pub other_stage : (g : Going) (left : Left) (stage : Stage) (turned : AssigningTurned)

@@ -15,12 +15,9 @@ use Rattle.ipam_records.specs.Hearing.{CanBeSaid}
 use Rattle.ipam_records.specs.KeyOrder.{keys_equal}
 use Rattle.ipam_records.specs.KeyOrderLaws.{same-keys_equal}
 use Rattle.ipam_records.specs.Said.{Said, Found, Missing, Listed, Can, Exists, Conflict, Full, Spent}
-use Rattle.ipam_model.specs.Reads.{block_said}
+use Rattle.ipam_model.specs.Reads.{block_said, StoredRecord}
 
-abbrev Row : Type 0
-Row = ℕ × Record
-
-passes : (test : Row → Bool) (rows : List Row) (row : Row) → find test rows ≡ Some row → test row ≡ true
+passes : (test : StoredRecord → Bool) (rows : List StoredRecord) (row : StoredRecord) → find test rows ≡ Some row → test row ≡ true
 passes test [] row is = absurd (cc is)
 passes test (first ∷ rest) row is =
     elim (test first) as (λ b. test first ≡ b → cond b (Some first) (find test rest) ≡ Some row → test row ≡ true) [
@@ -28,7 +25,7 @@ passes test (first ∷ rest) row is =
       | false ↦ λ no_match found. passes test rest row found
     ] refl is
 
-told_row : (found : Option Row) (revision : ℕ) (r : Record) → reply_to_get found ≡ Found revision r → found ≡ Some (revision, r)
+told_row : (found : Option StoredRecord) (revision : ℕ) (r : Record) → reply_to_get found ≡ Found revision r → found ≡ Some (revision, r)
 told_row None revision r told = absurd (cc told)
 told_row (Some row) revision r told = grind arith
 

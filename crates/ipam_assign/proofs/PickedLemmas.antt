@@ -8,7 +8,7 @@ use Rattle.ipam_addr.specs.Shape.{AddrValue, CidrValue}
 use Rattle.ipam_addr.specs.Slots.{HasSlots, last_slot_of, slot_of}
 use Rattle.ipam_addr.specs.Width.{cidr_size}
 use Rattle.ipam_block.specs.declared.limits.TheConstants.{ADDRESSES_MAX}
-use Rattle.ipam_block.specs.Operations.{address_of, room}
+use Rattle.ipam_block.specs.Operations.{ordinal_address, room}
 use Rattle.ipam_block.specs.Shape.{BlockValue}
 use Rattle.ipam_pool.specs.declared.pools.Pool.{Pool}
 use Rattle.ipam_pool.specs.Sound.{IsPoolTable}
@@ -16,13 +16,13 @@ use Rattle.ipam_records.specs.declared.call.Call.TheVariants.{List as ListAll}
 use Rattle.ipam_records.specs.declared.key.Kind.TheVariants as kind
 use Rattle.ipam_records.specs.declared.record.Record.{Record}
 use Rattle.ipam_records.specs.declared.record.Record.TheVariants as record_of
-use Rattle.ipam_records.specs.Datastore.{last_revision, listed, row_key}
+use Rattle.ipam_records.specs.Datastore.{last_revision, rows_of_kind, row_key}
 use Rattle.ipam_records.specs.Hearing.{CanBeSaid}
 use Rattle.ipam_records.specs.KeyOrder.{is_of_kind}
 use Rattle.ipam_records.specs.Said.{Said}
 use Rattle.ipam_records.specs.Sound.{IsRow}
-use Rattle.ipam_model.specs.Choice.{Rank, Own, Unconfirmed, Unclaimed, Foreign, Ranked, Pick, if_rank, is_block_at, block_in_found, is_node, is_unowned_and_empty, rank_number}
-use Rattle.ipam_model.specs.Reads.{rows_said}
+use Rattle.ipam_model.specs.Choice.{Rank, Own, Unconfirmed, Unclaimed, Foreign, Ranked, Pick, if_rank, is_block_at, block_in_found, is_unowned_and_empty, rank_number}
+use Rattle.ipam_model.specs.Reads.{rows_said, StoredRecord}
 use Rattle.ipam_model.specs.Usable.{Asked, is_usable, unknown_name}
 use Rattle.ipam_choice.specs.First.{first_of, found_there}
 use Rattle.ipam_choice.specs.Known.{pick_in, unless_unknown}
@@ -32,9 +32,7 @@ use Rattle.ipam_choice.proofs.FirstLemmas.{first_found-some}
 use Rattle.ipam_assign.specs.Picked.{IsTakeable, FitsRank, FitsRanked, FitsPick}
 use Rattle.ipam_assign.proofs.PlaceLemmas.{slot_is_small}
 use Rattle.ipam_assign.proofs.QueueLemmas.{found-takeable}
-
-abbrev Row : Type 0
-Row = ℕ × Record
+use Rattle.ipam_records.specs.BlockLists.{is_node}
 
 -- what holds of what is found at each item holds of what is found first
 first_holds : {A B : Type 0} (P : B → Type 0) (Q : A → Type 0) (finds : A → Option B) (xs : List A) (found : B)
@@ -47,9 +45,9 @@ first_holds {A} {B} P Q finds (x ∷ xs) found all each is =
     by rest (Some b) here e = each x (All-head Q x xs all) (here ∙ e)
     by rest None here e = rest e
 
--- ---- the rank of a block that was listed
+-- ---- the rank of a block that was rows_of_kind
 
--- a block as it was listed, in a sound datastore
+-- a block as it was rows_of_kind, in a sound datastore
 record IsListed (found : ℕ × BlockValue) : Type 0 where
   takeable : (reserved : AddrValue → Bool) (ordinal : ℕ) → room reserved found.1 ≡ Some ordinal → IsTakeable found.1 ordinal
   counted : found.1.sequence < 2 ^ 62
@@ -64,12 +62,12 @@ listed_row counter revision b last row =
     let counted : b.sequence < 2 ^ 62 = below_last row.counted row.given last in
     record {
       takeable = λ reserved ordinal is.
-          let there = found-takeable b ordinal (λ o. not (reserved (address_of b.cidr o))) row.is_record.block is in
+          let there = found-takeable b ordinal (λ o. not (reserved (ordinal_address b.cidr o))) row.is_record.block is in
           record { own = there.0; free = there.1; counted = counted };
       counted = counted;
     }
 
-listed_in : (counter : ℕ) (cidr : CidrValue) (rows : List Row) → counter ≤ last_revision → All (IsRow counter) rows
+listed_in : (counter : ℕ) (cidr : CidrValue) (rows : List StoredRecord) → counter ≤ last_revision → All (IsRow counter) rows
     → IfSome (block_under rows cidr) IsListed
 listed_in counter cidr [] last all = tt
 listed_in counter cidr ((revision, record_of.Block b) ∷ rows) last all =
@@ -110,11 +108,11 @@ ranked_block false confirmed false false found ordinal rank takeable counted is 
 
 ranked_listed : (sight : Sight) (found : ℕ × BlockValue) (o : Option ℕ) (rank : Rank) → room sight.reserved found.1 ≡ o
     → IsListed found → rank_by_room sight found o ≡ Some rank → FitsRank rank
-ranked_listed sight found None rank free listed is = absurd (cc is)
-ranked_listed sight found (Some ordinal) rank free listed is =
+ranked_listed sight found None rank free rows_of_kind is = absurd (cc is)
+ranked_listed sight found (Some ordinal) rank free rows_of_kind is =
     ranked_block (is_node sight.node found.1.node) (sight.confirmed found.1.cidr)
     (is_unowned_and_empty found.1 && sight.may_claim) sight.strict found ordinal rank
-    (listed.takeable sight.reserved ordinal free) listed.counted is
+    (rows_of_kind.takeable sight.reserved ordinal free) rows_of_kind.counted is
 
 ranked_bare : (sight : Sight) (slot : CidrValue) (rank : Rank) → rank_bare sight slot ≡ Some rank → FitsRank rank
 ranked_bare sight slot rank is = by (sight.may_claim && is_bare sight slot) is
@@ -126,7 +124,7 @@ ranked_bare sight slot rank is = by (sight.may_claim && is_bare sight slot) is
 -- the rank of a slot fits
 rank_fits : (sight : Sight) (slot : CidrValue) (rank : Rank) → IfSome (block_under sight.blocks slot) IsListed
     → rank_in_sight sight slot ≡ Some rank → FitsRank rank
-rank_fits sight slot rank listed is = by (block_under sight.blocks slot) listed is
+rank_fits sight slot rank rows_of_kind is = by (block_under sight.blocks slot) rows_of_kind is
   where
     either : (found : ℕ × BlockValue) → IsListed found → (o : Option Rank) → rank_by_room sight found (room sight.reserved found.1) ≡ o
         → option_or o (rank_bare sight slot) ≡ Some rank → FitsRank rank
@@ -152,7 +150,7 @@ if_ranked number slot (Some rank) found small fits is = by (rank_number rank == 
         subst FitsRanked same (record { small = small; rank = fits rank refl })
     by false e = absurd (cc e)
 
-module _ (asked : Asked) (sight : Sight) (listed : (slot : CidrValue) → IfSome (block_under sight.blocks slot) IsListed) where
+module _ (asked : Asked) (sight : Sight) (rows_of_kind : (slot : CidrValue) → IfSome (block_under sight.blocks slot) IsListed) where
   in_pool : (number : ℕ) (pool : Pool) (found : Ranked) → HasSlots pool.cidr pool.size
       → first_in sight number pool ≡ Some found → FitsRanked found
   in_pool number pool found slots is = by (first_ranked (rank_in_sight sight) number pool) refl is
@@ -163,7 +161,7 @@ module _ (asked : Asked) (sight : Sight) (listed : (slot : CidrValue) → IfSome
           let there = first_found-some (λ j. if_rank number (slot_of pool.cidr pool.size j) (rank_in_sight sight (slot_of pool.cidr pool.size j))) (last_slot_of pool.cidr pool.size + 1) 0 (k, ranked) here in
           let slot = slot_of pool.cidr pool.size k in
           if_ranked number slot (rank_in_sight sight slot) found (slot_is_small pool.cidr pool.size k slots)
-          (λ rank r. rank_fits sight slot rank (listed slot) r) (there.there ∙ e)
+          (λ rank r. rank_fits sight slot rank (rows_of_kind slot) r) (there.there ∙ e)
 
   in_usable : (number : ℕ) (pool : Pool) (found : Ranked) → HasSlots pool.cidr pool.size
       → if_usable asked sight number pool ≡ Some found → FitsRanked found
@@ -190,7 +188,7 @@ module _ (asked : Asked) (sight : Sight) (listed : (slot : CidrValue) → IfSome
       by None None here = tt
       by None (Some found) here = in_pools pools found slots here
 
--- what is picked by blocks that may be listed can be written
+-- what is picked by blocks that may be rows_of_kind can be written
 pub pick_fits : (asked : Asked) (pools : List Pool) (sight : Sight) (pick : Pick) (said : Said) → IsPoolTable pools
     → CanBeSaid (ListAll kind.Block) said → sight.blocks ≡ rows_said said → pick ≡ pick_in asked pools sight → FitsPick pick
 pick_fits asked pools sight pick said table can blocks is =
@@ -199,5 +197,5 @@ pick_fits asked pools sight pick said table can blocks is =
   where
     rows : All (IsRow can.store.counter) sight.blocks
     rows =
-        subst (λ (list : List Row). All (IsRow can.store.counter) list) (ap rows_said can.is_reply ∙ sym blocks)
+        subst (λ (list : List StoredRecord). All (IsRow can.store.counter) list) (ap rows_said can.is_reply ∙ sym blocks)
         (All-filter (λ row. is_of_kind kind.Block (row_key row)) (IsRow can.store.counter) can.store.rows can.sound.rows)

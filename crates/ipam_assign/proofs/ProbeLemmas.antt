@@ -1,7 +1,7 @@
 -- What is left of a probe, family by family.
 use Rattle.std.proofs.Common.{◌≡◌, ◌||◌, refl, sym, ap, ◌∙◌, ℕ, Bool, true, false, [], None, IsSome}
 use Rattle.ipam_records.specs.Said.{Said}
-use Rattle.ipam_records.specs.Word.{Word, asked, heard, ended, bound}
+use Rattle.ipam_records.specs.Word.{Word, next_call, after_reply, answer_in, bound}
 use Rattle.ipam_model.specs.declared.answer.Scan.{Scan}
 use Rattle.ipam_model.specs.declared.outcome.ProbeAnswer.{ProbeAnswer}
 use Rattle.ipam_model.specs.declared.request.ProbeRequest.{ProbeRequest}
@@ -18,14 +18,14 @@ use Rattle.ipam_assign.specs.declared.scanning.Stage.{Stage}
 use Rattle.ipam_assign.specs.declared.scanning.Stage.TheVariants.{ReadsConfig, ReadsPools, ReadsReservations, ListsAffinities, ListsBlocks}
 use Rattle.ipam_parts.proofs.BoundLaws.{asked_bound, heard_bound, goes_on_bound}
 
-pub scanning_asks : (asked_by : Asked) (stage : Stage) → IsSome (asked (scanning_at asked_by stage))
+pub scanning_asks : (asked_by : Asked) (stage : Stage) → IsSome (next_call (scanning_at asked_by stage))
 scanning_asks asked_by ReadsConfig = refl
 scanning_asks asked_by (ReadsPools configured) = refl
 scanning_asks asked_by (ReadsReservations pooled) = refl
 scanning_asks asked_by (ListsAffinities reserving) = refl
 scanning_asks asked_by (ListsBlocks gathered) = refl
 
-scanning_goes_on : (asked_by : Asked) (stage : Stage) → None ≡ ended (scanning_at asked_by stage)
+scanning_goes_on : (asked_by : Asked) (stage : Stage) → None ≡ answer_in (scanning_at asked_by stage)
 scanning_goes_on asked_by ReadsConfig = refl
 scanning_goes_on asked_by (ReadsPools configured) = refl
 scanning_goes_on asked_by (ReadsReservations pooled) = refl
@@ -33,22 +33,22 @@ scanning_goes_on asked_by (ListsAffinities reserving) = refl
 scanning_goes_on asked_by (ListsBlocks gathered) = refl
 
 pub asks : (request : ProbeRequest) (turn : Turn) (stage : Stage)
-    → asked (probe_at request turn stage) ≡ asked (scanning_at (asked_of_probe request (turn_family turn)) stage)
+    → next_call (probe_at request turn stage) ≡ next_call (scanning_at (asked_of_probe request (turn_family turn)) stage)
 asks request turn stage =
     asked_bound (scanning_at (asked_of_probe request (turn_family turn)) stage) (after_scan request turn)
     (scanning_asks (asked_of_probe request (turn_family turn)) stage)
 
-pub goes_on : (request : ProbeRequest) (turn : Turn) (stage : Stage) → None ≡ ended (probe_at request turn stage)
+pub goes_on : (request : ProbeRequest) (turn : Turn) (stage : Stage) → None ≡ answer_in (probe_at request turn stage)
 goes_on request turn stage =
     goes_on_bound (scanning_at (asked_of_probe request (turn_family turn)) stage) (after_scan request turn)
     (scanning_goes_on (asked_of_probe request (turn_family turn)) stage)
 
 pub hears : (request : ProbeRequest) (turn : Turn) (stage : Stage) (asked_by : Asked) (left : Word Chose) (moment : ℕ) (said : Said)
-    → asked_by ≡ asked_of_probe request (turn_family turn) → left ≡ heard (scanning_at asked_by stage) moment said
-    → bound left (after_scan request turn) ≡ heard (probe_at request turn stage) moment said
+    → asked_by ≡ asked_of_probe request (turn_family turn) → left ≡ after_reply (scanning_at asked_by stage) moment said
+    → bound left (after_scan request turn) ≡ after_reply (probe_at request turn stage) moment said
 hears request turn stage asked_by left moment said same is =
     ap (λ w. bound w (after_scan request turn)) is
-    ∙ ap (λ a. bound (heard (scanning_at a stage) moment said) (after_scan request turn)) same
+    ∙ ap (λ a. bound (after_reply (scanning_at a stage) moment said) (after_scan request turn)) same
     ∙ sym (heard_bound (scanning_at (asked_of_probe request (turn_family turn)) stage) (after_scan request turn) moment said
     (scanning_asks (asked_of_probe request (turn_family turn)) stage))
 

@@ -9,7 +9,7 @@ use Rattle.ipam_records.specs.declared.call.Call.TheVariants.{List as ListAll}
 use Rattle.ipam_records.specs.declared.key.Kind.TheVariants as kind
 use Rattle.ipam_records.specs.Label.{idle}
 use Rattle.ipam_records.specs.Said.{Said}
-use Rattle.ipam_records.specs.Word.{Ends, Asks, heard}
+use Rattle.ipam_records.specs.Word.{Ends, Asks, after_reply}
 use Rattle.ipam_reserve.specs.Spans.{ReservedValue, is_reserved_by}
 use Rattle.ipam_reserve.specs.Union.{is_in_union}
 use Rattle.ipam_model.specs.Choice.{Seen, is_confirmed_for}
@@ -31,7 +31,7 @@ seen_by pooled reservations affinities blocks = record {
 pub reserved_known : (asked : Asked) (pooled : Pooled) (reserved : ReservedValue) (moment : ℕ) (said : Said)
     → ((a : AddrValue) → is_reserved_by reserved a ≡ is_in_union (reservations_said said) a)
     → affinities_listed asked (record { pooled = pooled; reserved = reserved; r = moment })
-    ≡ heard (reservations_read asked pooled) moment said
+    ≡ after_reply (reservations_read asked pooled) moment said
 unfolding seen_by
 reserved_known asked pooled reserved moment said same =
     λ i. Asks idle (ListAll kind.Affinity) (λ f affinities.
@@ -46,6 +46,6 @@ reserved_known asked pooled reserved moment said same =
 pub confirmed_known : (asked : Asked) (reserving : Reserving) (confirmed : Confirmed) (moment : ℕ) (said : Said)
     → ((cidr : CidrValue) → has_confirmed confirmed cidr ≡ list_any (is_confirmed_for asked.node cidr) (rows_said said))
     → blocks_listed asked reserving moment (has_confirmed confirmed)
-    ≡ heard (affinities_listed asked reserving) moment said
+    ≡ after_reply (affinities_listed asked reserving) moment said
 confirmed_known asked reserving confirmed moment said same =
     λ i. blocks_listed asked reserving moment (λ cidr. same cidr i)

@@ -17,7 +17,7 @@ use Rattle.ipam_model.specs.Reads.{pools_said, block_said}
 use Rattle.ipam_model.specs.Choice as choice
 use Rattle.ipam_model.specs.declared.part.Assigned.{Assigned}
 use Rattle.ipam_model.specs.declared.part.Outcome.{Outcome}
-use Rattle.ipam_model.specs.Step.{Part, followed, onward, settled}
+use Rattle.ipam_model.specs.Step.{Part, part_then, onward, as_word}
 use Rattle.ipam_assign.specs.declared.add_this.Share.{Share}
 use Rattle.ipam_assign.specs.declared.add_this.Share.TheVariants.{Takes, Claims as TheClaims, Leaves}
 use Rattle.ipam_model.specs.Usable.{usable_pool_of}
@@ -80,11 +80,11 @@ block_part g left ruled =
     model.this_block (wanted_at g.request ruled.place.address) (next_for g) left (looked_in ruled b) (block_said said))
 
 abbrev pub claims_part : Going → Left → ClaimProc → Part AddThisAnswer
-claims_part g left claim = followed (bound (claim_rest claim) (after_claim left)) (then_next g)
+claims_part g left claim = part_then (bound (claim_rest claim) (after_claim left)) (then_next g)
 
 abbrev pub assigns_part : Going → Looked → Assigning → Part AddThisAnswer
 assigns_part g looked assigning =
-    followed (assigning_rest g.request.attributes.handle assigning)
+    part_then (assigning_rest g.request.attributes.handle assigning)
     (model.this_assigned (wanted_at g.request looked.address) (next_for g) (looked_of looked))
 
 abbrev pub this_part : Going → Left → Stage → Part AddThisAnswer
@@ -95,20 +95,20 @@ this_part g left (Claims claim) = claims_part g left claim
 this_part g left (Assigns looked assigning) = assigns_part g looked assigning
 
 abbrev pub this_at : Part AddThisAnswer → Word AddThisAnswer
-this_at part = settled model.add_this_stops part
+this_at part = as_word model.add_this_stops part
 
 abbrev pub this_rest : AddThisProc → Word AddThisAnswer
 this_rest p = this_at (this_part (going p) p.left p.stage)
 
 -- what is left once the claim goes where a reply led it; no other stage has one
 abbrev pub claims_leaves : Going → Left → Stage → ClaimTurned → Part AddThisAnswer
-claims_leaves g left (Claims claim) turned = followed (bound (claim_leaves claim turned) (after_claim left)) (then_next g)
+claims_leaves g left (Claims claim) turned = part_then (bound (claim_leaves claim turned) (after_claim left)) (then_next g)
 claims_leaves g left stage turned = this_part g left stage
 
 -- and likewise the assignment
 abbrev pub assigns_leaves : Going → Left → Stage → AssigningTurned → Part AddThisAnswer
 assigns_leaves g left (Assigns looked assigning) turned =
-    followed (assigning_leaves g.request.attributes.handle assigning turned)
+    part_then (assigning_leaves g.request.attributes.handle assigning turned)
     (model.this_assigned (wanted_at g.request looked.address) (next_for g) (looked_of looked))
 assigns_leaves g left stage turned = this_part g left stage
 

@@ -11,7 +11,7 @@ use Rattle.ipam_model.specs.declared.part.Left.{Left}
 use Rattle.ipam_model.specs.declared.part.Outcome.{Outcome}
 use Rattle.ipam_model.specs.declared.part.Outcome.TheVariants.{Went, Stops}
 use Rattle.ipam_model.specs.Counting.{credit_of, lower}
-use Rattle.ipam_model.specs.Step.{Part, goes as went, followed, after_lost, on_write}
+use Rattle.ipam_model.specs.Step.{Part, goes as went, part_then, after_lost, on_write}
 use Rattle.ipam_parts.specs.Lowering.{lowering_rest, lowering_leaves}
 use Rattle.ipam_parts.specs.Raising.{raising_rest, raising_leaves}
 use Rattle.ipam_parts.specs.declared.lowering.LoweringTurned.{LoweringTurned}
@@ -33,7 +33,7 @@ nothing now done = went now None
 -- what follows a lost write of the block, which was to be written so
 abbrev pub lost_at : List ℕ → BlockValue → Left → PartAssigned
 lost_at id b left =
-    after_lost left.races left.claims (λ less. followed (lower (credit_of id b.cidr 1) less) nothing)
+    after_lost left.races left.claims (λ less. part_then (lower (credit_of id b.cidr 1) less) nothing)
 
 -- what follows the write of the block
 abbrev pub written_at : List ℕ → BlockValue → Left → (moment : ℕ) → Said → PartAssigned
@@ -50,9 +50,9 @@ abbrev pub write_behind : List ℕ → BlockValue → (revision : ℕ) → Left 
 write_behind id b revision now done = writes id b revision now
 
 abbrev pub assigning_at : List ℕ → BlockValue → (revision : ℕ) → Stage → PartAssigned
-assigning_at id b revision (Raises raising) = followed (raising_rest id raising) (write_behind id b revision)
+assigning_at id b revision (Raises raising) = part_then (raising_rest id raising) (write_behind id b revision)
 assigning_at id b revision (Writes left) = writes id b revision left
-assigning_at id b revision (Lowers lowering) = followed (lowering_rest id lowering) nothing
+assigning_at id b revision (Lowers lowering) = part_then (lowering_rest id lowering) nothing
 
 abbrev pub assigning_rest : List ℕ → Assigning → PartAssigned
 assigning_rest id a = assigning_at id a.block a.revision a.stage
@@ -60,12 +60,12 @@ assigning_rest id a = assigning_at id a.block a.revision a.stage
 -- what is left once the raising goes where a reply led it; no other stage has one
 abbrev pub raises_leaves : List ℕ → BlockValue → (revision : ℕ) → Stage → RaisingTurned → PartAssigned
 raises_leaves id b revision (Raises raising) turned =
-    followed (raising_leaves id raising turned) (write_behind id b revision)
+    part_then (raising_leaves id raising turned) (write_behind id b revision)
 raises_leaves id b revision stage turned = assigning_at id b revision stage
 
 -- and likewise the lowering
 abbrev pub lowers_leaves : List ℕ → BlockValue → (revision : ℕ) → Stage → LoweringTurned → PartAssigned
-lowers_leaves id b revision (Lowers lowering) turned = followed (lowering_leaves id lowering turned) nothing
+lowers_leaves id b revision (Lowers lowering) turned = part_then (lowering_leaves id lowering turned) nothing
 lowers_leaves id b revision stage turned = assigning_at id b revision stage
 
 -- what is left once it goes there

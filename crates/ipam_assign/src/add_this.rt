@@ -3,14 +3,14 @@ ghost use Rattle.ipam_addr.specs.Width.{cidr_size};
 ghost use Rattle.ipam_block.specs.Operations.{holder, is_held};
 ghost use Rattle.ipam_records.specs.Hearing.{MayHear};
 ghost use Rattle.ipam_records.specs.Said.{said};
-ghost use Rattle.ipam_records.specs.Word.{asked, heard, ended};
+ghost use Rattle.ipam_records.specs.Word.{next_call, after_reply, answer_in};
 ghost use Rattle.ipam_model.specs.AddThis.{add_this_word, this_free, this_take, this_given, this_assigned, asked_of_this};
 ghost use Rattle.ipam_model.specs.Assigning.{after_claim, claim_for};
 ghost use Rattle.ipam_model.specs.Choice.{share_of};
 ghost use Rattle.ipam_model.specs.Step.{all_left as every_try};
 ghost use Rattle.ipam_assign.specs.declared.add_this.Stage.TheVariants.{ReadsConfig};
 ghost use Rattle.ipam_model.specs.Reads.{pools_said};
-ghost use Rattle.ipam_model.specs.Step.{followed};
+ghost use Rattle.ipam_model.specs.Step.{part_then};
 ghost use Rattle.ipam_model.specs.Usable.{usable_pool_of};
 ghost use Rattle.ipam_assign.specs.Usable.{place_of_pool};
 ghost use Rattle.ipam_assign.specs.AddThis.{Going, going, next_for, then_next, wanted_at, looked_in, looked_of, rules_of, share_as, pools_part, block_part, this_part, this_at, this_rest, this_goes, this_leaves, claims_leaves, assigns_leaves, assign_ended};
@@ -132,7 +132,7 @@ impl AddThisProc {
     #[tactic(auto, using(crate::proofs::AddThisLemmas::pools_lead))]
     fn in_pools(&self, configured: Configured, hearing: &Heard) -> Goes
         ensures { this_goes self.now result
-            ≡ heard (this_at (pools_part (going self.now) self.now.left configured)) hearing.now.moment (said hearing.now.reply) }
+            ≡ after_reply (this_at (pools_part (going self.now) self.now.left configured)) hearing.now.moment (said hearing.now.reply) }
     {
         match place_in_pools(&self.request, self.address, &hearing.reply) {
             None => Goes::Answers(AddThisAnswer::NotInPool(hearing.moment)),
@@ -147,7 +147,7 @@ impl AddThisProc {
     fn at_block(&self, alloc: Global, ruled: &Ruled, hearing: &Heard) -> Result<Goes, AllocError>
         requires { MayHear (this_at (block_part (going self.now) self.now.left ruled.now)) (said hearing.now.reply) }
         ensures { IfOk result (λ goes. this_goes self.now goes
-            ≡ heard (this_at (block_part (going self.now) self.now.left ruled.now)) hearing.now.moment (said hearing.now.reply)) }
+            ≡ after_reply (this_at (block_part (going self.now) self.now.left ruled.now)) hearing.now.moment (said hearing.now.reply)) }
     {
         match block_in(&hearing.reply) {
             None => self.claims(alloc, ruled.place.cidr(), None),
@@ -217,7 +217,7 @@ impl AddThisProc {
         requires small { cidr_size cidr ≤ ADDRESSES_MAX }
         requires counted { IfSome (lent_block read) (λ found. found.1.sequence < 2 ^ 62) }
         ensures { IfOk result (λ goes. this_goes self.now goes
-            ≡ this_at (followed (claim_for self.now.request.node cidr (lent_block read.entry) self.now.left) (then_next (going self.now)))) }
+            ≡ this_at (part_then (claim_for self.now.request.node cidr (lent_block read.entry) self.now.left) (then_next (going self.now)))) }
     {
         let claim = ClaimProc::new(alloc, self.request.node.as_str(), cidr, read)?;
         Ok(Goes::To(Stage::Claims(claim)))
@@ -226,7 +226,7 @@ impl AddThisProc {
     /// Begins the next round, with so much left, where there is one more.
     #[tactic(auto, using(crate::proofs::AddThisLemmas::round_begins, crate::proofs::AddThisLemmas::next_asks))]
     fn next_round(&mut self, now: Left) -> Option<AddThisAnswer>
-        ensures answer { result ≡ ended (this_at (next_for (going self.old) now)) }
+        ensures answer { result ≡ answer_in (this_at (next_for (going self.old) now)) }
         ensures on { IfNone result (this_rest self.new ≡ this_at (next_for (going self.old) now)) }
     {
         match self.rounds.next() {
@@ -241,8 +241,8 @@ impl AddThisProc {
     }
 
     fn after_claim(&mut self, answer: ClaimAnswer) -> Option<AddThisAnswer>
-        ensures answer { result ≡ ended (this_at (followed (after_claim self.old.left answer) (then_next (going self.old)))) }
-        ensures on { IfNone result (this_rest self.new ≡ this_at (followed (after_claim self.old.left answer) (then_next (going self.old)))) }
+        ensures answer { result ≡ answer_in (this_at (part_then (after_claim self.old.left answer) (then_next (going self.old)))) }
+        ensures on { IfNone result (this_rest self.new ≡ this_at (part_then (after_claim self.old.left answer) (then_next (going self.old)))) }
     {
         match claimed(self.left, answer) {
             Outcome::Went(now, ()) => self.next_round(now),
@@ -255,7 +255,7 @@ impl AddThisProc {
         looked: Looked,
         outcome: Outcome<Option<Assigned>>,
     ) -> Option<AddThisAnswer>
-        ensures answer { result ≡ ended (this_at (assign_ended (going self.old) looked outcome)) }
+        ensures answer { result ≡ answer_in (this_at (assign_ended (going self.old) looked outcome)) }
         ensures on { IfNone result (this_rest self.new ≡ this_at (assign_ended (going self.old) looked outcome)) }
     {
         match outcome {
@@ -270,7 +270,7 @@ impl AddThisProc {
         now: Left,
         assigned: Option<Assigned>,
     ) -> Option<AddThisAnswer>
-        ensures answer { result ≡ ended (this_at (this_assigned (wanted_at self.old.request looked.address) (next_for (going self.old)) (looked_of looked) now assigned)) }
+        ensures answer { result ≡ answer_in (this_at (this_assigned (wanted_at self.old.request looked.address) (next_for (going self.old)) (looked_of looked) now assigned)) }
         ensures on { IfNone result (this_rest self.new ≡ this_at (this_assigned (wanted_at self.old.request looked.address) (next_for (going self.old)) (looked_of looked) now assigned)) }
     {
         match assigned {
@@ -363,9 +363,9 @@ fn place_in_pools(request: &AddRequest, address: Addr, reply: &Reply) -> Option<
 /// The claim goes where a reply led it, and is answered in the end.
 fn claim_goes(stage: &mut Stage, turned: ClaimTurned) -> Option<ClaimAnswer>
     ensures ended { IfSome result (λ answer. (g : Going) (left : Left)
-        → claims_leaves g left stage.old turned ≡ followed (after_claim left answer) (then_next g)) }
+        → claims_leaves g left stage.old turned ≡ part_then (after_claim left answer) (then_next g)) }
     ensures on { IfNone result ((g : Going) (left : Left) → this_part g left stage.new ≡ claims_leaves g left stage.old turned) }
-    ensures asks { IfNone result ((g : Going) (left : Left) → None ≡ ended (this_at (claims_leaves g left stage.old turned))) }
+    ensures asks { IfNone result ((g : Going) (left : Left) → None ≡ answer_in (this_at (claims_leaves g left stage.old turned))) }
 {
     match stage {
         Stage::Claims(claim) => claim.go(turned),
@@ -381,7 +381,7 @@ fn assign_goes(
     ensures ended { IfSome result (λ e. (g : Going) (left : Left)
         → assigns_leaves g left stage.old turned ≡ assign_ended g e.0 e.1) }
     ensures on { IfNone result ((g : Going) (left : Left) → this_part g left stage.new ≡ assigns_leaves g left stage.old turned) }
-    ensures asks { IfNone result ((g : Going) (left : Left) → None ≡ ended (this_at (assigns_leaves g left stage.old turned))) }
+    ensures asks { IfNone result ((g : Going) (left : Left) → None ≡ answer_in (this_at (assigns_leaves g left stage.old turned))) }
 {
     match stage {
         Stage::Assigns(looked, assigning) => match assigning.go(turned) {

@@ -1,9 +1,9 @@
 ghost use Rattle.std.specs.Prelude.{◌≡◌, ◌<◌, ◌^◌, ℕ, List, Some, None, false, IfOk, IfNone};
 ghost use Rattle.ipam_addr.specs.Width.{cidr_size};
-ghost use Rattle.ipam_block.specs.Operations.{is_held, next_block, assigned};
+ghost use Rattle.ipam_block.specs.Operations.{is_held, next_block, block_with_ordinal};
 ghost use Rattle.ipam_records.specs.Hearing.{MayHear};
 ghost use Rattle.ipam_records.specs.Said.{said};
-ghost use Rattle.ipam_records.specs.Word.{asked, heard, ended};
+ghost use Rattle.ipam_records.specs.Word.{next_call, after_reply, answer_in};
 ghost use Rattle.ipam_model.specs.Assigning.{assign, target_in};
 ghost use Rattle.ipam_assign.specs.Assigning.{lost_at, written_at, none_behind, assigning_at, assigning_rest, assigning_goes, assigning_leaves, raises_leaves, lowers_leaves};
 ghost use Rattle.ipam_block.specs.Shape.{BlockValue};
@@ -84,7 +84,7 @@ impl Assigning {
     /// The next call.
     #[tactic(auto, using(crate::proofs::AssigningLemmas::asks_raising, crate::proofs::AssigningLemmas::asks_lowering))]
     pub fn call(&self, alloc: Global, id: &str) -> Result<Call, AllocError>
-        ensures { IfOk result (λ call. asked (assigning_rest id.now self.now) ≡ Some call) }
+        ensures { IfOk result (λ call. next_call (assigning_rest id.now self.now) ≡ Some call) }
     {
         match &self.stage {
             Stage::Raises(raising) => raising.call(alloc, id),
@@ -102,7 +102,7 @@ impl Assigning {
     ) -> Result<AssigningTurned, AllocError>
         requires { MayHear (assigning_rest id.now self.now) (said hearing.now.reply) }
         ensures { IfOk result (λ turned. assigning_leaves id.now self.now turned
-            ≡ heard (assigning_rest id.now self.now) hearing.now.moment (said hearing.now.reply)) }
+            ≡ after_reply (assigning_rest id.now self.now) hearing.now.moment (said hearing.now.reply)) }
     {
         match &self.stage {
             Stage::Raises(raising) => {
@@ -150,7 +150,7 @@ impl Assigning {
 
     /// Goes where a reply led. Takes no memory.
     pub fn go(&mut self, turned: AssigningTurned) -> Option<Outcome<Option<Assigned>>>
-        ensures answer { (id : List ℕ) → result ≡ ended (assigning_leaves id self.old turned) }
+        ensures answer { (id : List ℕ) → result ≡ answer_in (assigning_leaves id self.old turned) }
         ensures on { IfNone result ((id : List ℕ) → assigning_rest id self.new ≡ assigning_leaves id self.old turned) }
         ensures block { self.new.block ≡ self.old.block }
     {
@@ -168,7 +168,7 @@ impl Assigning {
 
 /// The raising goes where a reply led it. Behind it the block is written.
 fn raised(stage: &mut Stage, turned: RaisingTurned) -> Option<Outcome<Option<Assigned>>>
-    ensures answer { (id : List ℕ) (block : BlockValue) (revision : ℕ) → result ≡ ended (raises_leaves id block revision stage.old turned) }
+    ensures answer { (id : List ℕ) (block : BlockValue) (revision : ℕ) → result ≡ answer_in (raises_leaves id block revision stage.old turned) }
     ensures on { IfNone result ((id : List ℕ) (block : BlockValue) (revision : ℕ)
         → assigning_at id block revision stage.new ≡ raises_leaves id block revision stage.old turned) }
 {
@@ -187,7 +187,7 @@ fn raised(stage: &mut Stage, turned: RaisingTurned) -> Option<Outcome<Option<Ass
 
 /// The lowering goes where a reply led it. Behind it nothing was assigned.
 fn lowered(stage: &mut Stage, turned: LoweringTurned) -> Option<Outcome<Option<Assigned>>>
-    ensures answer { (id : List ℕ) (block : BlockValue) (revision : ℕ) → result ≡ ended (lowers_leaves id block revision stage.old turned) }
+    ensures answer { (id : List ℕ) (block : BlockValue) (revision : ℕ) → result ≡ answer_in (lowers_leaves id block revision stage.old turned) }
     ensures on { IfNone result ((id : List ℕ) (block : BlockValue) (revision : ℕ)
         → assigning_at id block revision stage.new ≡ lowers_leaves id block revision stage.old turned) }
 {
@@ -215,7 +215,7 @@ fn with_assigned(block: &Block, ordinal: u16, attributes: &Attributes) -> Result
     requires own { ordinal < cidr_size block.now.cidr }
     requires free { is_held block.now ordinal ≡ false }
     requires counted { block.now.sequence < 2 ^ 62 }
-    ensures { IfOk result (λ b. b ≡ assigned (next_block block.now) ordinal attributes.now) }
+    ensures { IfOk result (λ b. b ≡ block_with_ordinal (next_block block.now) ordinal attributes.now) }
 {
     let mut next = block.next()?;
     match next.assign(ordinal, attributes.clone()?) {

@@ -3,7 +3,7 @@ ghost use Rattle.ipam_addr.specs.Holding.{Holds};
 ghost use Rattle.ipam_addr.specs.Slots.{HasSlots};
 ghost use Rattle.ipam_addr.specs.Width.{cidr_size};
 ghost use Rattle.ipam_block.specs.declared.limits.TheConstants.{ADDRESSES_MAX};
-ghost use Rattle.ipam_block.specs.Operations.{address_of};
+ghost use Rattle.ipam_block.specs.Operations.{ordinal_address};
 ghost use Rattle.ipam_assign.specs.Place.{place_in};
 
 use ipam_addr::{Addr, Cidr, slot, slot_number};
@@ -49,7 +49,7 @@ impl Place {
     /// That of an ordinal of a block.
     pub fn in_block(block: &Block, ordinal: u16) -> Place
         requires { ordinal < cidr_size block.now.cidr }
-        ensures { result ≡ record { cidr = block.now.cidr; address = address_of block.now.cidr ordinal } }
+        ensures { result ≡ record { cidr = block.now.cidr; address = ordinal_address block.now.cidr ordinal } }
     {
         Place {
             cidr: block.cidr(),

@@ -1,7 +1,7 @@
 ghost use Rattle.std.specs.Prelude.{◌≡◌, ◌||◌, ◌++◌, ◌∷◌, [], true, IfOk, IfNone, Some};
 ghost use Rattle.ipam_records.specs.Hearing.{MayHear};
 ghost use Rattle.ipam_records.specs.Said.{said};
-ghost use Rattle.ipam_records.specs.Word.{asked as asked_for, heard, ended};
+ghost use Rattle.ipam_records.specs.Word.{next_call as asked_for, after_reply, answer_in};
 ghost use Rattle.ipam_choice.specs.Picked.{pick_as};
 ghost use Rattle.ipam_choice.specs.Viewed.{asked_of};
 ghost use Rattle.ipam_model.specs.Add.{name_at};

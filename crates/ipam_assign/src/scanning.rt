@@ -1,7 +1,7 @@
 ghost use Rattle.std.specs.Prelude.{◌≡◌, IfOk, Some};
 ghost use Rattle.ipam_records.specs.Hearing.{MayHear};
 ghost use Rattle.ipam_records.specs.Said.{said};
-ghost use Rattle.ipam_records.specs.Word.{asked as asked_for, heard};
+ghost use Rattle.ipam_records.specs.Word.{next_call as asked_for, after_reply};
 ghost use Rattle.ipam_choice.specs.Viewed.{asked_of};
 ghost use Rattle.ipam_model.specs.Usable.{Asked};
 ghost use Rattle.ipam_assign.specs.Picked.{FitsScanned};
@@ -119,7 +119,7 @@ impl Scanning {
         hearing: &Heard<'a>,
     ) -> Result<Scanned<'a>, AllocError>
         ensures leads { IfOk result (λ scanned. scanned_as (asked_of wanted.now) self.now.stage scanned
-            ≡ heard (scanning_at (asked_of wanted.now) self.now.stage) hearing.now.moment (said hearing.now.reply)) }
+            ≡ after_reply (scanning_at (asked_of wanted.now) self.now.stage) hearing.now.moment (said hearing.now.reply)) }
         ensures fits { IfOk result (λ scanned.
             MayHear (scanning_at (asked_of wanted.now) self.now.stage) (said hearing.now.reply) → FitsScanned scanned) }
     {
@@ -191,7 +191,7 @@ impl Learned {
 
     fn config(hearing: &Heard) -> Learned
         ensures { (asked : Asked) → scanning_at asked (learn ReadsConfig result)
-            ≡ heard (scanning_at asked ReadsConfig) hearing.now.moment (said hearing.now.reply) }
+            ≡ after_reply (scanning_at asked ReadsConfig) hearing.now.moment (said hearing.now.reply) }
     {
         Learned::configured(config_in(&hearing.reply), hearing.moment)
     }
@@ -206,7 +206,7 @@ impl Learned {
 impl Configured {
     fn took(&self, alloc: Global, hearing: &Heard) -> Result<Learned, AllocError>
         ensures { IfOk result (λ learned. (asked : Asked) → scanning_at asked (learn (ReadsPools self.now) learned)
-            ≡ heard (pools_read asked self.now) hearing.now.moment (said hearing.now.reply)) }
+            ≡ after_reply (pools_read asked self.now) hearing.now.moment (said hearing.now.reply)) }
     {
         let pools = pools_in(alloc, &hearing.reply)?;
         let learned = Learned::pools(pools, hearing.moment);
@@ -240,7 +240,7 @@ impl Learned {
 impl Pooled {
     fn took(&self, alloc: Global, hearing: &Heard) -> Result<Learned, AllocError>
         ensures { IfOk result (λ learned. (asked : Asked) → scanning_at asked (learn (ReadsReservations self.now) learned)
-            ≡ heard (reservations_read asked self.now) hearing.now.moment (said hearing.now.reply)) }
+            ≡ after_reply (reservations_read asked self.now) hearing.now.moment (said hearing.now.reply)) }
     {
         let reserved = Reserved::of(alloc, reservations_in(&hearing.reply))?;
         let learned = Learned::reserved(reserved, hearing.moment);
@@ -251,7 +251,7 @@ impl Pooled {
 impl Reserving {
     fn took(&self, alloc: Global, wanted: &Wanted, hearing: &Heard) -> Result<Learned, AllocError>
         ensures { IfOk result (λ learned. scanning_at (asked_of wanted.now) (learn (ListsAffinities self.now) learned)
-            ≡ heard (affinities_listed (asked_of wanted.now) self.now) hearing.now.moment (said hearing.now.reply)) }
+            ≡ after_reply (affinities_listed (asked_of wanted.now) self.now) hearing.now.moment (said hearing.now.reply)) }
     {
         let listing = listing_in(&hearing.reply);
         let confirmed = Confirmed::of(alloc, wanted.node, &listing)?;
@@ -264,7 +264,7 @@ impl Gathered {
     /// What is picked, once the blocks are listed.
     fn chosen<'a>(&self, wanted: &Wanted, hearing: &Heard<'a>) -> Scanned<'a>
         ensures leads { scanned_as (asked_of wanted.now) (ListsBlocks self.now) result
-            ≡ heard (scanning_at (asked_of wanted.now) (ListsBlocks self.now)) hearing.now.moment (said hearing.now.reply) }
+            ≡ after_reply (scanning_at (asked_of wanted.now) (ListsBlocks self.now)) hearing.now.moment (said hearing.now.reply) }
         ensures fits { MayHear (scanning_at (asked_of wanted.now) (ListsBlocks self.now)) (said hearing.now.reply) → FitsScanned result }
     {
         let reserving = &self.reserving;

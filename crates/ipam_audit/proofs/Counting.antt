@@ -9,7 +9,7 @@ use Rattle.std.proofs.lemmas.Slice.Chunks.{sum_by_chunks}
 use Rattle.ipam_records.specs.declared.record.Record.{Record}
 use Rattle.ipam_records.specs.Pages.{rows_of_pages}
 use Rattle.ipam_records.specs.declared.key.Kind.TheVariants as kind
-use Rattle.ipam_records.specs.Datastore.{Datastore, listed}
+use Rattle.ipam_records.specs.Datastore.{Datastore, rows_of_kind}
 use Rattle.ipam_model.specs.Owners.{owners, owners_in, owners_in_row}
 use Rattle.ipam_audit.proofs.Listing.{owners-listed}
 use Rattle.ipam_audit.proofs.Bounds.{chunk_few}
@@ -28,11 +28,11 @@ owners_counted size pages counts each some len =
     ∙ sym (counted pages)
 
 -- so the counts of the parts add up to all owners
-pub owners_in_parts : (store : Datastore) (size : ℕ) (pages : List (Vec (ℕ × Record))) (counts : List ℕ) → rows_of_pages pages ≡ listed kind.Block store → 0 < size → length counts ≡ length pages / size + min 1 (length pages % size) → ((n : ℕ) → n < length counts → get_or counts n 0 ≡ length (owners_in (rows_of_pages (slice_chunk pages size n)))) → sum counts ≡ length (owners store)
+pub owners_in_parts : (store : Datastore) (size : ℕ) (pages : List (Vec (ℕ × Record))) (counts : List ℕ) → rows_of_pages pages ≡ rows_of_kind kind.Block store → 0 < size → length counts ≡ length pages / size + min 1 (length pages % size) → ((n : ℕ) → n < length counts → get_or counts n 0 ≡ length (owners_in (rows_of_pages (slice_chunk pages size n)))) → sum counts ≡ length (owners store)
 owners_in_parts store size pages counts is some len each =
     owners_counted size pages counts each some len ∙ (ap (λ rows. length (owners_in rows)) is ∙ ap length (owners-listed store))
 
-pub part_fits : (store : Datastore) (size start : ℕ) (pages : List (Vec (ℕ × Record))) → rows_of_pages pages ≡ listed kind.Block store → length (owners store) < 2 ^ 64 → length (owners_in (rows_of_pages (take size (drop start pages)))) < 2 ^ 64
+pub part_fits : (store : Datastore) (size start : ℕ) (pages : List (Vec (ℕ × Record))) → rows_of_pages pages ≡ rows_of_kind kind.Block store → length (owners store) < 2 ^ 64 → length (owners_in (rows_of_pages (take size (drop start pages)))) < 2 ^ 64
 part_fits store size start pages is few =
     let all : length (owners_in (rows_of_pages pages)) ≡ length (owners store) = ap (λ rows. length (owners_in rows)) is ∙ ap length (owners-listed store) in
     let part = chunk_few pages start size in

@@ -6,7 +6,7 @@ use Rattle.ipam_records.specs.declared.record.Record.{Record}
 use Rattle.ipam_records.specs.declared.record.Record.TheVariants as record_of
 use Rattle.ipam_records.specs.Key.{key_of}
 use Rattle.ipam_records.specs.KeyOrder.{is_of_kind}
-use Rattle.ipam_records.specs.Datastore.{Datastore, listed, row_key}
+use Rattle.ipam_records.specs.Datastore.{Datastore, rows_of_kind, row_key}
 use Rattle.ipam_model.specs.Owners.{owners, owners_in, owners_in_row}
 use Rattle.ipam_audit.specs.declared.report.Report.{Report}
 use Rattle.ipam_audit.specs.Reported.{excess_of, excess_in, stale_of, stale_in, stray_of, stray_in, report_of}
@@ -62,20 +62,20 @@ module _ (store : Datastore) where
   none_owned revision (record_of.Affinity a) e = refl
   none_owned revision (record_of.Handle h) e = refl
 
-  pub excess-listed : excess_in store (listed kind.Handle store) ≡ excess_in store store.rows
+  pub excess-listed : excess_in store (rows_of_kind kind.Handle store) ≡ excess_in store store.rows
   excess-listed = flat_map-filter (λ (row : ℕ × Record). excess_of store row.1) (λ row. is_of_kind kind.Handle (row_key row)) (λ row. none_excess row.1) store.rows
 
-  pub stale-listed : stale_in (listed kind.Affinity store) ≡ stale_in store.rows
+  pub stale-listed : stale_in (rows_of_kind kind.Affinity store) ≡ stale_in store.rows
   stale-listed = filter_map-filter (λ (row : ℕ × Record). stale_of row.1) (λ row. is_of_kind kind.Affinity (row_key row)) (λ row. none_stale row.1) store.rows
 
-  pub stray-listed : stray_in store (listed kind.Affinity store) ≡ stray_in store store.rows
+  pub stray-listed : stray_in store (rows_of_kind kind.Affinity store) ≡ stray_in store store.rows
   stray-listed = filter_map-filter (λ (row : ℕ × Record). stray_of store row.1) (λ row. is_of_kind kind.Affinity (row_key row)) (λ row. none_stray row.1) store.rows
 
-  pub owners-listed : owners_in (listed kind.Block store) ≡ owners store
+  pub owners-listed : owners_in (rows_of_kind kind.Block store) ≡ owners store
   owners-listed = flat_map-filter owners_in_row (λ row. is_of_kind kind.Block (row_key row)) (λ row. none_owned row.0 row.1) store.rows
 
 -- the parts of a report
-pub report_is : (store : Datastore) (report : Report) → report.excess ≡ excess_in store (listed kind.Handle store) → report.stale ≡ stale_in (listed kind.Affinity store) → report.stray ≡ stray_in store (listed kind.Affinity store) → report.blocks ≡ length (listed kind.Block store) → report.owners ≡ length (owners store) → report.handles ≡ length (listed kind.Handle store) → report ≡ report_of store
+pub report_is : (store : Datastore) (report : Report) → report.excess ≡ excess_in store (rows_of_kind kind.Handle store) → report.stale ≡ stale_in (rows_of_kind kind.Affinity store) → report.stray ≡ stray_in store (rows_of_kind kind.Affinity store) → report.blocks ≡ length (rows_of_kind kind.Block store) → report.owners ≡ length (owners store) → report.handles ≡ length (rows_of_kind kind.Handle store) → report ≡ report_of store
 report_is store report excess stale stray blocks owned handles =
     let e = excess ∙ excess-listed store in
     let f = stale ∙ stale-listed store in

@@ -3,13 +3,13 @@ use Rattle.std.specs.Prelude.{◌≡◌, Option, Some, None}
 use Rattle.ipam_records.specs.declared.record.Record.TheVariants as record_of
 use Rattle.ipam_records.specs.Datastore.{Datastore}
 use Rattle.ipam_block.specs.Shape.{BlockValue}
-use Rattle.ipam_model.specs.Reads.{Row}
+use Rattle.ipam_model.specs.Reads.{StoredRecord}
 use Rattle.ipam_model.specs.Opened.{Texts, OpensAs}
 use Rattle.ipam_audit.specs.declared.report.Report.{Report}
 use Rattle.ipam_audit.specs.Reported.{report_of}
 
 -- the block of a row
-abbrev pub block_in_row : Option Row → Option BlockValue
+abbrev pub block_in_row : Option StoredRecord → Option BlockValue
 block_in_row (Some (revision, record_of.Block b)) = Some b
 block_in_row _ = None
 

@@ -9,10 +9,10 @@ use Rattle.ipam_records.specs.declared.key.Kind.TheVariants as kind
 use Rattle.ipam_records.specs.declared.record.Record.{Record}
 use Rattle.ipam_records.specs.declared.record.Record.TheVariants as record_of
 use Rattle.ipam_records.specs.BlockLists.{is_node}
-use Rattle.ipam_records.specs.Datastore.{Datastore, listed, row_of}
+use Rattle.ipam_records.specs.Datastore.{Datastore, rows_of_kind, row_of}
 use Rattle.ipam_model.specs.CountLaw.{held_count}
 use Rattle.ipam_model.specs.Owners.{owners}
-use Rattle.ipam_model.specs.Reads.{Row}
+use Rattle.ipam_model.specs.Reads.{StoredRecord}
 use Rattle.ipam_audit.specs.declared.report.Excess.{Excess}
 use Rattle.ipam_audit.specs.declared.report.Report.{Report}
 
@@ -28,7 +28,7 @@ excess_of store (record_of.Handle h) = filter_map (excess_at store h.id) h.count
 excess_of store _ = []
 
 -- those of the rows, by the handle's id and then by the block
-abbrev pub excess_in : Datastore → List Row → List Excess
+abbrev pub excess_in : Datastore → List StoredRecord → List Excess
 excess_in store = flat_map (λ row. excess_of store row.1)
 
 abbrev pub is_pending : State → Bool
@@ -44,11 +44,11 @@ abbrev pub stale_of : Record → Option (List ℕ × CidrValue)
 stale_of (record_of.Affinity a) = if is_pending_deletion a.state then Some (a.node, a.cidr) else None
 stale_of _ = None
 
-abbrev pub stale_in : List Row → List (List ℕ × CidrValue)
+abbrev pub stale_in : List StoredRecord → List (List ℕ × CidrValue)
 stale_in = filter_map (λ row. stale_of row.1)
 
 -- whether the row is a block's with this node
-abbrev pub has_node_in_row : List ℕ → Option Row → Bool
+abbrev pub has_node_in_row : List ℕ → Option StoredRecord → Bool
 has_node_in_row node (Some (revision, record_of.Block b)) = is_node node b.node
 has_node_in_row node _ = false
 
@@ -61,7 +61,7 @@ stray_of store (record_of.Affinity a) =
     if is_pending a.state && not (has_node store a.node a.cidr) then Some (a.node, a.cidr) else None
 stray_of store _ = None
 
-abbrev pub stray_in : Datastore → List Row → List (List ℕ × CidrValue)
+abbrev pub stray_in : Datastore → List StoredRecord → List (List ℕ × CidrValue)
 stray_in store = filter_map (λ row. stray_of store row.1)
 
 abbrev pub report_of : Datastore → Report
@@ -69,7 +69,7 @@ report_of store = record {
   excess = excess_in store store.rows;
   stale = stale_in store.rows;
   stray = stray_in store store.rows;
-  blocks = length (listed kind.Block store);
+  blocks = length (rows_of_kind kind.Block store);
   owners = length (owners store);
-  handles = length (listed kind.Handle store);
+  handles = length (rows_of_kind kind.Handle store);
 }

@@ -1,7 +1,7 @@
 //! The affinities that are left over.
 ghost use Rattle.std.specs.Prelude.{◌≡◌, ◌++◌, ◌&&◌, not, IfOk, OnOk};
 ghost use Rattle.ipam_records.specs.declared.key.Kind.TheVariants as kind;
-ghost use Rattle.ipam_records.specs.Datastore.{listed};
+ghost use Rattle.ipam_records.specs.Datastore.{rows_of_kind};
 ghost use Rattle.ipam_audit.specs.Reported.{stale_of, stale_in, stray_of, stray_in, is_pending, has_node};
 
 use crate::look::{has_node, listing};
@@ -14,7 +14,7 @@ use std::alloc::{AllocError, Global};
 
 /// Those that are pending deletion.
 pub(crate) fn stale(alloc: Global, store: &Store) -> Result<Vec<(Text, Cidr)>, AllocError>
-    ensures { IfOk result (λ found. found.items ≡ stale_in (listed kind.Affinity store.now.store)) }
+    ensures { IfOk result (λ found. found.items ≡ stale_in (rows_of_kind kind.Affinity store.now.store)) }
 {
     let mut found = Vec::new(alloc);
     for page in listing(store, Kind::Affinity).pages() {
@@ -52,7 +52,7 @@ fn stale_of(kept: &Record) -> Result<Option<(Text, Cidr)>, AllocError>
 /// The pending ones whose block is missing or has not their node.
 pub(crate) fn stray(alloc: Global, store: &Store) -> Result<Vec<(Text, Cidr)>, AllocError>
     ensures { IfOk result (λ found. found.items
-        ≡ stray_in store.now.store (listed kind.Affinity store.now.store)) }
+        ≡ stray_in store.now.store (rows_of_kind kind.Affinity store.now.store)) }
 {
     let mut found = Vec::new(alloc);
     for page in listing(store, Kind::Affinity).pages() {

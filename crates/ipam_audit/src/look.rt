@@ -4,7 +4,7 @@ ghost use Rattle.std.specs.List.{count_by};
 ghost use Rattle.std.specs.Option.{option_copied};
 ghost use Rattle.ipam_block.specs.Operations.{is_owned};
 ghost use Rattle.ipam_records.specs.declared.key.Key.TheVariants as key;
-ghost use Rattle.ipam_records.specs.Datastore.{listed, row_of};
+ghost use Rattle.ipam_records.specs.Datastore.{rows_of_kind, row_of};
 ghost use Rattle.ipam_records.specs.Listing.{rows_of};
 ghost use Rattle.ipam_model.specs.CountLaw.{held_count};
 ghost use Rattle.ipam_audit.specs.Reported.{has_node};
@@ -17,7 +17,7 @@ use ipam_store::Store;
 
 /// The rows of the kind.
 pub(crate) fn listing(store: &Store, kind: Kind) -> Listing<'_>
-    ensures { rows_of result ≡ listed kind store.now.store }
+    ensures { rows_of result ≡ rows_of_kind kind store.now.store }
 {
     match store.reply(&Call::List(kind)) {
         Reply::Listed(listing) => listing,

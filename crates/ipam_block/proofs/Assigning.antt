@@ -1,4 +1,4 @@
--- A block stays a block where one of its queued ordinals is assigned.
+-- A block stays a block where one of its queued ordinals is block_with_ordinal.
 use Rattle.std.proofs.Common.{◌≡◌, ◌≢◌, ℕ, zero, suc, ◌+◌, ◌<◌, ◌≤◌, Bool, true, false, not, cond, eqb, List, [], ◌∷◌, ◌++◌, length, get_or, ap, ◌∙◌, arith, refl, subst, inl, inr, eqb-true, eq-eqb}
 use Rattle.std.specs.Prelude.{filter, insert, count_by, sum_by, nat_lt, ◌==◌}
 use Rattle.std.specs.List.{range_with_len, list_any}
@@ -16,7 +16,7 @@ use Rattle.ipam_block.specs.declared.allocation.Allocation.{Allocation}
 use Rattle.ipam_block.specs.declared.allocation.Attributes.{Attributes}
 use Rattle.ipam_block.specs.Shape.{BlockValue}
 use Rattle.ipam_block.specs.Sound.{IsBlock, held_ordinals}
-use Rattle.ipam_block.specs.Operations.{is_held, assigned}
+use Rattle.ipam_block.specs.Operations.{is_held, block_with_ordinal}
 
 -- one for the ordinal, and 0 for another
 mark : ℕ → ℕ → ℕ
@@ -156,7 +156,7 @@ other_ordinals o (x ∷ xs) (suc k) d none within same =
       | inr h ↦ other_ordinals o xs k d (rw h.0 at none) (omega arith) same
     ]
 
-pub IsBlock-assigned : (b : BlockValue) (o : ℕ) (attributes : Attributes) → IsBlock b → o < cidr_size b.cidr → 0 < b.sequence → is_held b o ≡ false → IsBlock (assigned b o attributes)
+pub IsBlock-assigned : (b : BlockValue) (o : ℕ) (attributes : Attributes) → IsBlock b → o < cidr_size b.cidr → 0 < b.sequence → is_held b o ≡ false → IsBlock (block_with_ordinal b o attributes)
 IsBlock-assigned b o attributes h own written none =
     let a : Allocation = record { ordinal = o; attributes = attributes; stamp = b.sequence } in
     let place = lower_count-is o b.allocations in

@@ -26,12 +26,12 @@ abbrev pub next_block : BlockValue → BlockValue
 next_block b = record b { sequence = b.sequence + 1 }
 
 -- the address of an ordinal
-abbrev pub address_of : CidrValue → ℕ → AddrValue
-address_of cidr ordinal = record { family = cidr.family; number = cidr.base + ordinal }
+abbrev pub ordinal_address : CidrValue → ℕ → AddrValue
+ordinal_address cidr ordinal = record { family = cidr.family; number = cidr.base + ordinal }
 
 -- the first queued ordinal whose address is not reserved
 abbrev pub room : (AddrValue → Bool) → BlockValue → Option ℕ
-room reserved b = find (λ o. not (reserved (address_of b.cidr o))) b.queue
+room reserved b = find (λ o. not (reserved (ordinal_address b.cidr o))) b.queue
 
 -- the allocation of an ordinal, where it is held
 abbrev pub holder : BlockValue → ℕ → Option Allocation
@@ -58,14 +58,14 @@ with_allocation b a =
     }
 
 -- the block with this ordinal held from now on, stamped with the sequence number
-abbrev pub assigned : BlockValue → ℕ → Attributes → BlockValue
-assigned b ordinal attributes =
+abbrev pub block_with_ordinal : BlockValue → ℕ → Attributes → BlockValue
+block_with_ordinal b ordinal attributes =
     with_allocation b (record { ordinal = ordinal; attributes = attributes; stamp = b.sequence })
 
 -- the block without the allocations that pass the test: their ordinals go, ascending, to the back
 -- of the queue
-abbrev pub freed : (Allocation → Bool) → BlockValue → BlockValue
-freed test b =
+abbrev pub block_without : (Allocation → Bool) → BlockValue → BlockValue
+block_without test b =
     record b {
       allocations = filter (λ a. not (test a)) b.allocations;
       queue = b.queue ++ held_ordinals (filter test b.allocations);

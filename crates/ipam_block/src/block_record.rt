@@ -3,7 +3,7 @@ ghost use Rattle.std.specs.List.{list_any};
 ghost use Rattle.ipam_addr.specs.Width.{cidr_size};
 ghost use Rattle.std.specs.Vec.{vec_len, vec_capacity};
 ghost use Rattle.std.specs.VecDeque.{deque_len, deque_capacity};
-ghost use Rattle.ipam_block.specs.Operations.{address_of, node_bytes};
+ghost use Rattle.ipam_block.specs.Operations.{ordinal_address, node_bytes};
 ghost use Rattle.ipam_block.specs.Sound.{ordinals_below, held_ordinals};
 ghost use Rattle.ipam_block.specs.Picked.{picks};
 
@@ -85,7 +85,7 @@ impl Which<'_> {
 
 impl Block {
     ghost use Rattle.ipam_block.specs.Picked.{picks};
-    ghost use Rattle.ipam_block.specs.Operations.{fresh_block, next_block, room, holder, holding, lent_holding, is_held, assigned, freed, is_owned, is_stamped, affine_to, node_bytes};
+    ghost use Rattle.ipam_block.specs.Operations.{fresh_block, next_block, room, holder, holding, lent_holding, is_held, block_with_ordinal, block_without, is_owned, is_stamped, affine_to, node_bytes};
     ghost use Rattle.ipam_block.specs.Sound.{IsBlock};
     ghost use Rattle.ipam_block.specs.Test.{is_block, content_of};
 
@@ -168,7 +168,7 @@ impl Block {
     /// The address of one of its ordinals.
     pub fn address(&self, ordinal: u16) -> Addr
         requires { ordinal < cidr_size self.now.cidr }
-        ensures { result ≡ address_of self.now.cidr ordinal }
+        ensures { result ≡ ordinal_address self.now.cidr ordinal }
     {
         address_at(self.cidr, ordinal)
     }
@@ -264,7 +264,7 @@ impl Block {
         requires written { 0 < self.old.sequence }
         ensures held { is_err result ≡ is_held self.old ordinal }
         ensures stamp { IfOk result (λ s. s ≡ self.old.sequence) }
-        ensures ok { OnOk result (self.new ≡ assigned self.old ordinal attributes) }
+        ensures ok { OnOk result (self.new ≡ block_with_ordinal self.old ordinal attributes) }
         ensures returned { IfErr result (λ h. h.attributes ≡ attributes) }
         ensures err { OnErr result (self.new ≡ self.old) }
     {
@@ -283,7 +283,7 @@ impl Block {
 
     /// Frees all that the handle holds, and answers how many ordinals that were. Takes no memory.
     pub fn free_handle(&mut self, handle: &str) -> u16
-        ensures freed { self.new ≡ freed (is_owned handle.now) self.old }
+        ensures freed { self.new ≡ block_without (is_owned handle.now) self.old }
         ensures count { result ≡ count_by (is_owned handle.now) self.old.allocations }
     {
         self.free(&Which::Owned(handle)) as u16
@@ -292,7 +292,7 @@ impl Block {
     /// Frees the ordinal where it is held by this handle with this stamp, and answers whether it
     /// was. Takes no memory.
     pub fn free_stamped(&mut self, ordinal: u16, handle: &str, stamp: u64) -> bool
-        ensures freed { self.new ≡ freed (is_stamped ordinal handle.now stamp) self.old }
+        ensures freed { self.new ≡ block_without (is_stamped ordinal handle.now stamp) self.old }
         ensures found { result ≡ list_any (is_stamped ordinal handle.now stamp) self.old.allocations }
     {
         self.free(&Which::Stamped(ordinal, handle, stamp)) > 0
@@ -300,7 +300,7 @@ impl Block {
 
     /// Frees what is picked, and answers how many ordinals that were. Takes no memory.
     pub fn free(&mut self, which: &Which) -> usize
-        ensures freed { self.new ≡ freed (picks which.now) self.old }
+        ensures freed { self.new ≡ block_without (picks which.now) self.old }
         ensures count { result ≡ count_by (picks which.now) self.old.allocations }
         ensures few { result ≤ ADDRESSES_MAX }
     {
@@ -418,7 +418,7 @@ fn insert_reserved(held: &mut Vec<Allocation>, place: usize, allocation: Allocat
 /// The address of the block's ordinal.
 fn address_at(cidr: Cidr, ordinal: u16) -> Addr
     requires { ordinal < cidr_size cidr }
-    ensures { result ≡ address_of cidr ordinal }
+    ensures { result ≡ ordinal_address cidr ordinal }
 {
     let base = cidr.base();
     Addr {

@@ -42,7 +42,7 @@ use Rattle.ipam_block_text.specs.declared.parts.Parts.{Parts}
 use Rattle.ipam_block_text.specs.declared.fault.BodyFault.{BodyFault}
 use Rattle.ipam_block_text.specs.declared.fault.BodyFault.TheVariants.{Form, Unsound, Memory}
 use Rattle.ipam_block_text.specs.Attributes.{are_same, with_those_of, distinct_attributes}
-use Rattle.ipam_block_text.specs.Limits.{is_node, are_attributes}
+use Rattle.ipam_block_text.specs.Limits.{is_node_or_none, are_attributes}
 use Rattle.ipam_block_text.specs.Form.{AreParts, AreStamps}
 use Rattle.ipam_block_text.specs.Parts.{place_of, block_parts}
 use Rattle.ipam_block_text.specs.Body.{affinity_data, place_data, attributes_data, cidr_data, with_stamp, stamps_data, parts_data, block_body}
@@ -79,12 +79,12 @@ queued_below b h i d within =
 
 -- ---- the parts
 
-affinity_read : (node : Option (List ℕ)) → is_node node ≡ true → affinity_in (affinity_data node) ≡ Some node
+affinity_read : (node : Option (List ℕ)) → is_node_or_none node ≡ true → affinity_in (affinity_data node) ≡ Some node
 unfolding after_host
 affinity_read None h = refl
 affinity_read (Some name) h = ap (option_map Some) (passes is_name_text name h)
 
-node_read : (p : Parts) (s : Data) → is_node p.node ≡ true → node_in (parts_data p s) ≡ Some p.node
+node_read : (p : Parts) (s : Data) → is_node_or_none p.node ≡ true → node_in (parts_data p s) ≡ Some p.node
 unfolding node_in parts_data
 node_read p s h = affinity_read p.node h
 
@@ -111,7 +111,7 @@ queue_read : (p : Parts) (s : Data) → queue_in (parts_data p s) ≡ Some p.que
 unfolding queue_in parts_data
 queue_read p s = items_read as_whole whole_data p.queue (λ i d within. refl)
 
-pub parts_read : (p : Parts) (s : Data) → is_node p.node ≡ true → All (λ a. are_attributes a ≡ true) p.attributes → IsCidr p.cidr → cidr_size p.cidr ≤ ADDRESSES_MAX → p.sequence < 2 ^ 64 → parts_in (parts_data p s) ≡ Some p
+pub parts_read : (p : Parts) (s : Data) → is_node_or_none p.node ≡ true → All (λ a. are_attributes a ≡ true) p.attributes → IsCidr p.cidr → cidr_size p.cidr ≤ ADDRESSES_MAX → p.sequence < 2 ^ 64 → parts_in (parts_data p s) ≡ Some p
 unfolding parts_in
 parts_read p s node attributes range small sequence =
     rw (node_read p s node, places_read p s, all_attributes_read p s attributes, cidr_read p s range small, sequence_read p s sequence, queue_read p s) refl

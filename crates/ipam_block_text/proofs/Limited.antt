@@ -11,13 +11,13 @@ use Rattle.ipam_block.specs.declared.limits.TheConstants.{PAIRS_MAX, KEY_BYTES_M
 use Rattle.ipam_block.specs.Shape.{BlockValue}
 use Rattle.ipam_block.specs.Sound.{IsBlock, IsPair, AreAttributes, IsNode, IsBlockRecord}
 use Rattle.ipam_block_text.specs.Attributes.{Pair}
-use Rattle.ipam_block_text.specs.Limits.{is_small_pair, keys_ascend, are_pairs, are_attributes, is_node}
+use Rattle.ipam_block_text.specs.Limits.{is_small_pair, keys_ascend, are_pairs, are_attributes, is_node_or_none}
 use Rattle.ipam_block_text.proofs.PairKeys.{keys_sorted, sorted_keys}
 
 -- a block whose texts and numbers pass the tests
 pub record IsLimited (b : BlockValue) : Type 0 where
   pub block : IsBlock b
-  pub node : is_node b.node ≡ true
+  pub node : is_node_or_none b.node ≡ true
   pub attributes : All (λ a. are_attributes a.attributes ≡ true) b.allocations
   pub sequence : b.sequence < 2 ^ 64
 
@@ -53,11 +53,11 @@ attributes_back a h =
       ascending = keys_sorted a.secondary pairs.1;
     }
 
-pub node_there : (node : Option (List ℕ)) → IsNode node → is_node node ≡ true
+pub node_there : (node : Option (List ℕ)) → IsNode node → is_node_or_none node ≡ true
 node_there None h = refl
 node_there (Some name) h = h
 
-pub node_back : (node : Option (List ℕ)) → is_node node ≡ true → IsNode node
+pub node_back : (node : Option (List ℕ)) → is_node_or_none node ≡ true → IsNode node
 node_back None h = tt
 node_back (Some name) h = h
 

@@ -19,7 +19,7 @@ use Rattle.ipam_block.proofs.Tested.{is_block-true}
 use Rattle.ipam_block_text.specs.declared.fault.BodyFault.{BodyFault}
 use Rattle.ipam_block_text.specs.declared.fault.BodyFault.TheVariants.{Unsound}
 use Rattle.ipam_block_text.specs.declared.parts.Parts.{Parts}
-use Rattle.ipam_block_text.specs.Limits.{is_node, are_pairs, are_attributes}
+use Rattle.ipam_block_text.specs.Limits.{is_node_or_none, are_pairs, are_attributes}
 use Rattle.ipam_block_text.specs.Body.{block_body}
 use Rattle.ipam_block_text.specs.Reading.{each, only_if, pair_in, node_in, affinity_in, node_named, after_host, all_attributes_in, attributes_in, handle_in, secondary_in, sequence_in, stamp_of, allocation_at, held_from, block_in, checked, reading_from, form_in, form_text, block_form, block_reading, parts_in, stamps_in}
 use Rattle.ipam_json.specs.Members.{text_at, list_at, fields_at}
@@ -29,14 +29,14 @@ use Rattle.ipam_block_text.proofs.Said.{Says, parts_said, cidr_said}
 
 -- ---- the texts
 
-named_sound : (text : List ℕ) (node : Option (List ℕ)) → node_named text ≡ Some node → is_node node ≡ true
+named_sound : (text : List ℕ) (node : Option (List ℕ)) → node_named text ≡ Some node → is_node_or_none node ≡ true
 named_sound text node e =
     let named = map_some Some (option_and_then (only_if is_name_text) (after_host text)) node e in
     let tested = passed_some is_name_text (after_host text) named.0 named.1 in
-    sym (ap is_node named.2) ∙ tested.1
+    sym (ap is_node_or_none named.2) ∙ tested.1
 
-affinity_sound : (d : Data) (node : Option (List ℕ)) → affinity_in d ≡ Some node → is_node node ≡ true
-affinity_sound null found e = let P : Option (List ℕ) → Type 0 = λ o. is_node o ≡ true in subst P (some_node found e) refl
+affinity_sound : (d : Data) (node : Option (List ℕ)) → affinity_in d ≡ Some node → is_node_or_none node ≡ true
+affinity_sound null found e = let P : Option (List ℕ) → Type 0 = λ o. is_node_or_none o ≡ true in subst P (some_node found e) refl
   where
     some_node : (n : Option (List ℕ)) → Some None ≡ Some n → None ≡ n
     some_node n e = cc
@@ -46,7 +46,7 @@ affinity_sound (string s) found e = named_sound s found e
 affinity_sound (array ds) found e = absurd cc
 affinity_sound (object ms) found e = absurd cc
 
-node_sound : (d : Data) (node : Option (List ℕ)) → node_in d ≡ Some node → is_node node ≡ true
+node_sound : (d : Data) (node : Option (List ℕ)) → node_in d ≡ Some node → is_node_or_none node ≡ true
 unfolding node_in
 node_sound d node e =
     let found = and_then_some affinity_in (get (codes "affinity") d) node e in

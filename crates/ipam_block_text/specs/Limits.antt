@@ -25,9 +25,9 @@ keys_ascend (p ∷ pairs) = ascend_after p.0 pairs
 abbrev pub are_pairs : List Pair → Bool
 are_pairs pairs = nat_le (length pairs) PAIRS_MAX && list_all is_small_pair pairs && keys_ascend pairs
 
-abbrev pub is_node : Option (List ℕ) → Bool
-is_node None = true
-is_node (Some name) = is_name_text name
+abbrev pub is_node_or_none : Option (List ℕ) → Bool
+is_node_or_none None = true
+is_node_or_none (Some name) = is_name_text name
 
 abbrev pub are_attributes : Attributes → Bool
 are_attributes a = is_handle_text a.handle && are_pairs a.secondary

@@ -4,8 +4,8 @@ ghost use Rattle.serde_json.specs.View.{view};
 ghost use Rattle.cni_types.specs.Looking.{told_version};
 ghost use Rattle.ipam_call.specs.Versions.{version_for};
 
-use ipam_json::{json_of, text_at};
 use cni_types::{Version, input_text};
+use ipam_json::{json_of, text_at};
 use serde_json::Value;
 use std::alloc::{AllocError, Global};
 

@@ -19,7 +19,7 @@ use Rattle.ipam_records.specs.Pages.{rows_of_pages}
 use Rattle.ipam_records.specs.BlockLists.{cidr_if}
 use Rattle.ipam_records.proofs.BlockListLemmas.{cidrs_where-none, cidrs_where-ascends, none-ascends}
 use Rattle.ipam_records.proofs.RowSearch.{rows-take-drop}
-use Rattle.ipam_model.specs.Reads.{Row}
+use Rattle.ipam_model.specs.Reads.{StoredRecord}
 use Rattle.ipam_choice.specs.First.{Has}
 use Rattle.ipam_choice.specs.Blocks.{cidr_in, cidrs_in, is_in_before, EndsBefore, IsPartFrom}
 
@@ -66,14 +66,14 @@ cidr_of_row revision (record_of.Affinity a) = refl
 cidr_of_row revision (record_of.Handle h) = refl
 
 -- those of a row and more behind it
-pub cidrs_from_row : (row : Row) (rest : List Row) (o : Option CidrValue) → o ≡ cidr_in row.1 → cidrs_in (row ∷ rest) ≡ cons_option o (cidrs_in rest)
+pub cidrs_from_row : (row : StoredRecord) (rest : List StoredRecord) (o : Option CidrValue) → o ≡ cidr_in row.1 → cidrs_in (row ∷ rest) ≡ cons_option o (cidrs_in rest)
 cidrs_from_row row rest o is = ap (λ (p : Option CidrValue). cons_option p (cidrs_in rest)) (cidr_of_row row.0 row.1 ∙ sym is)
 
-pub next_is : (old new : List Row) (row : Row) (o : Option CidrValue) (cidr : CidrValue) → old ≡ row ∷ new → o ≡ cidr_in row.1 → o ≡ Some cidr → cidrs_in old ≡ cidr ∷ cidrs_in new
+pub next_is : (old new : List StoredRecord) (row : StoredRecord) (o : Option CidrValue) (cidr : CidrValue) → old ≡ row ∷ new → o ≡ cidr_in row.1 → o ≡ Some cidr → cidrs_in old ≡ cidr ∷ cidrs_in new
 next_is old new row o cidr parted is there =
     ap cidrs_in parted ∙ (cidrs_from_row row new o is ∙ ap (λ (p : Option CidrValue). cons_option p (cidrs_in new)) there)
 
-pub next_none : (old new : List Row) (row : Row) (o : Option CidrValue) → old ≡ row ∷ new → o ≡ cidr_in row.1 → o ≡ None → cidrs_in old ≡ cidrs_in new
+pub next_none : (old new : List StoredRecord) (row : StoredRecord) (o : Option CidrValue) → old ≡ row ∷ new → o ≡ cidr_in row.1 → o ≡ None → cidrs_in old ≡ cidrs_in new
 next_none old new row o parted is none =
     ap cidrs_in parted ∙ (cidrs_from_row row new o is ∙ ap (λ (p : Option CidrValue). cons_option p (cidrs_in new)) none)
 
@@ -100,9 +100,9 @@ AllBefore first pages i = (x : CidrValue) → Has x (cidrs_of (take i pages)) �
 rows-append : (xs ys : Pages) → rows_of_pages (xs ++ ys) ≡ rows_of_pages xs ++ rows_of_pages ys
 rows-append [] ys = refl
 rows-append (p ∷ xs) ys =
-    ap (λ (rows : List Row). p.items ++ rows) (rows-append xs ys) ∙ sym (append_assoc p.items (rows_of_pages xs) (rows_of_pages ys))
+    ap (λ (rows : List StoredRecord). p.items ++ rows) (rows-append xs ys) ∙ sym (append_assoc p.items (rows_of_pages xs) (rows_of_pages ys))
 
-cidrs-append : (xs ys : List Row) → cidrs_in (xs ++ ys) ≡ cidrs_in xs ++ cidrs_in ys
+cidrs-append : (xs ys : List StoredRecord) → cidrs_in (xs ++ ys) ≡ cidrs_in xs ++ cidrs_in ys
 cidrs-append = filter_map-append (cidr_if (λ b. true))
 
 pub pages_parted : (pages : Pages) (i : ℕ) → cidrs_of pages ≡ cidrs_of (take i pages) ++ cidrs_of (drop i pages)
@@ -115,13 +115,13 @@ is_before Equal e = absurd (cc e)
 is_before Greater e = absurd (cc e)
 
 -- the last block of rows that end before this one
-pub record LastBefore (first : CidrValue) (rows : List Row) : Type 0 where
+pub record LastBefore (first : CidrValue) (rows : List StoredRecord) : Type 0 where
   pub front : List CidrValue
   pub last : CidrValue
   pub parted : cidrs_in rows ≡ front ++ last ∷ []
   pub before : cidr_cmp last first ≡ Less
 
-last_before : (first : CidrValue) (rows : List Row) → EndsBefore first rows → LastBefore first rows
+last_before : (first : CidrValue) (rows : List StoredRecord) → EndsBefore first rows → LastBefore first rows
 last_before first rows ends = by (cidr_in ends.row.1) refl ends.before
   where
     by : (o : Option CidrValue) → o ≡ cidr_in ends.row.1 → is_in_before first o ≡ true → LastBefore first rows
@@ -143,7 +143,7 @@ pages_before first pages i page at within ends ascends x has =
     let more : take (i + 1) pages ≡ take i pages ++ page ∷ [] =
     take_more pages i page within ∙ ap (λ (p : Vec (ℕ × Record)). take i pages ++ p ∷ []) (sym at) in
     let rows : rows_of_pages (take (i + 1) pages) ≡ rows_of_pages (take i pages) ++ page.items =
-    ap rows_of_pages more ∙ (rows-append (take i pages) (page ∷ []) ∙ ap (λ (r : List Row). rows_of_pages (take i pages) ++ r) (append-nil page.items)) in
+    ap rows_of_pages more ∙ (rows-append (take i pages) (page ∷ []) ∙ ap (λ (r : List StoredRecord). rows_of_pages (take i pages) ++ r) (append-nil page.items)) in
     let front : cidrs_of (take (i + 1) pages) ≡ seen ++ end.last ∷ [] =
     ap cidrs_in rows ∙ (cidrs-append (rows_of_pages (take i pages)) page.items
     ∙ (ap (λ (cs : List CidrValue). cidrs_of (take i pages) ++ cs) end.parted

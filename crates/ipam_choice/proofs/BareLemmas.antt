@@ -17,7 +17,7 @@ use Rattle.ipam_reserve.specs.Spans.{ReservedValue, is_reserved_by}
 use Rattle.ipam_reserve.specs.Free.{IsFull, HasRoom, IsNextSlot, AreFullFrom}
 use Rattle.ipam_records.specs.declared.record.Record.TheVariants as record_of
 use Rattle.ipam_records.specs.KeyOrderLaws.{cidr_cmp_total, cidrs_same}
-use Rattle.ipam_model.specs.Reads.{Row}
+use Rattle.ipam_model.specs.Reads.{StoredRecord}
 use Rattle.ipam_model.specs.Usable.{is_same_cidr}
 use Rattle.ipam_model.specs.Choice.{is_block_at, block_in_found}
 use Rattle.ipam_choice.specs.First.{Has}
@@ -29,7 +29,7 @@ use Rattle.ipam_choice.proofs.AheadLemmas.{has_parted, stands_behind}
 use Rattle.ipam_choice.proofs.PoolLemmas.{slots_ascend}
 
 -- no slot of a lower number is bare
-abbrev pub NoneBareBelow : ReservedValue → List Row → Pool → ℕ → Type 0
+abbrev pub NoneBareBelow : ReservedValue → List StoredRecord → Pool → ℕ → Type 0
 NoneBareBelow r rows pool from =
     (j : ℕ) → j < from → is_bare_slot (is_reserved_by r) rows pool j ≡ false
 
@@ -48,10 +48,10 @@ same_there cidr slot same =
     subst (λ (c : CidrValue). is_same_cidr cidr c ≡ true) same (ap is_eq (tied_itself cidr_cmp_total cidr))
 
 module _ (slot : CidrValue) where
-  abbrev found_if : Bool → ℕ → block.BlockValue → List Row → Option (ℕ × block.BlockValue)
+  abbrev found_if : Bool → ℕ → block.BlockValue → List StoredRecord → Option (ℕ × block.BlockValue)
   found_if v revision b rows = block_in_found (cond v (Some (revision, record_of.Block b)) (find (is_block_at slot) rows))
 
-  pub block_there : (rows : List Row) → Has slot (cidrs_in rows) → is_none (block_under rows slot) ≡ false
+  pub block_there : (rows : List StoredRecord) → Has slot (cidrs_in rows) → is_none (block_under rows slot) ≡ false
   block_there [] has = absurd has
   block_there ((revision, record_of.Config c) ∷ rows) has = block_there rows has
   block_there ((revision, record_of.Pools p) ∷ rows) has = block_there rows has
@@ -65,7 +65,7 @@ module _ (slot : CidrValue) where
   block_there ((revision, record_of.Affinity a) ∷ rows) has = block_there rows has
   block_there ((revision, record_of.Handle h) ∷ rows) has = block_there rows has
 
-  pub no_block_there : (rows : List Row) → (Has slot (cidrs_in rows) → ⊥) → is_none (block_under rows slot) ≡ true
+  pub no_block_there : (rows : List StoredRecord) → (Has slot (cidrs_in rows) → ⊥) → is_none (block_under rows slot) ≡ true
   no_block_there [] none = refl
   no_block_there ((revision, record_of.Config c) ∷ rows) none = no_block_there rows none
   no_block_there ((revision, record_of.Pools p) ∷ rows) none = no_block_there rows none
@@ -86,7 +86,7 @@ behind_less : (c d : CidrValue) → cidr_cmp c d ≡ Greater → cidr_cmp d c �
 behind_less c d greater = cidr_cmp_total.antisymm d c ∙ ap ordering_reverse greater
 
 -- ---- along the slots and the blocks
-module _ (r : ReservedValue) (rows : List Row) (pool : Pool) where
+module _ (r : ReservedValue) (rows : List StoredRecord) (pool : Pool) where
   abbrev at : ℕ → CidrValue
   at k = slot_of pool.cidr pool.size k
 

@@ -8,14 +8,14 @@ use Rattle.ipam_addr.specs.Shape.{CidrValue}
 use Rattle.ipam_addr.specs.Holding.{is_same_family}
 use Rattle.ipam_records.specs.declared.record.Record.TheVariants as record_of
 use Rattle.ipam_records.specs.BlockLists.{is_node, cidrs_of_node}
-use Rattle.ipam_model.specs.Reads.{Row}
+use Rattle.ipam_model.specs.Reads.{StoredRecord}
 use Rattle.ipam_model.specs.Usable.{Asked}
 use Rattle.ipam_model.specs.Choice.{is_block_of}
 
 zero_more : (n : ℕ) → n ≡ 0 + n
 zero_more n = omega arith
 
-pub counted : (asked : Asked) (rows : List Row) → count_by (λ cidr. is_same_family asked.family cidr.family) (cidrs_of_node asked.node rows) ≡ count_by (is_block_of asked) rows
+pub counted : (asked : Asked) (rows : List StoredRecord) → count_by (λ cidr. is_same_family asked.family cidr.family) (cidrs_of_node asked.node rows) ≡ count_by (is_block_of asked) rows
 counted asked [] = refl
 counted asked ((revision, record_of.Config c) ∷ rows) = counted asked rows
 counted asked ((revision, record_of.Pools p) ∷ rows) = counted asked rows

@@ -10,11 +10,11 @@ use Rattle.ipam_addr.specs.Shape.{AddrValue, CidrValue}
 use Rattle.ipam_handle.specs.Order.{cidr_cmp}
 use Rattle.ipam_block.specs.Shape as block
 use Rattle.ipam_block.specs.declared.allocation.Allocation.{Allocation}
-use Rattle.ipam_block.specs.Operations.{address_of, room}
+use Rattle.ipam_block.specs.Operations.{ordinal_address, room}
 use Rattle.ipam_records.specs.declared.record.Record.TheVariants as record_of
 use Rattle.ipam_records.specs.BlockLists.{is_node, has_queue, cidrs_where, cidrs_unowned, cidrs_roomy}
 use Rattle.ipam_records.specs.KeyOrderLaws.{cidrs_same}
-use Rattle.ipam_model.specs.Reads.{Row}
+use Rattle.ipam_model.specs.Reads.{StoredRecord}
 use Rattle.ipam_model.specs.Usable.{is_same_cidr}
 use Rattle.ipam_model.specs.Choice.{is_block_at, block_in_found, is_unowned_and_empty, Rank, Own as OwnRank, Unconfirmed as UnconfirmedRank, Unclaimed as UnclaimedRank, Foreign as ForeignRank, Ranked, if_rank}
 use Rattle.ipam_choice.specs.declared.level.Level.{Level}
@@ -40,7 +40,7 @@ module _ (passes : block.BlockValue → Bool) (cidr : CidrValue) (found : ℕ ×
   in_tail true first rest has = inr has
   in_tail false first rest has = has
 
-  pub block_in_list : (rows : List Row) → block_under rows cidr ≡ Some found → Has cidr (cidrs_where passes rows)
+  pub block_in_list : (rows : List StoredRecord) → block_under rows cidr ≡ Some found → Has cidr (cidrs_where passes rows)
   block_in_list [] e = absurd (cc e)
   block_in_list ((revision, record_of.Config c) ∷ rows) e = block_in_list rows e
   block_in_list ((revision, record_of.Pools p) ∷ rows) e = block_in_list rows e
@@ -56,7 +56,7 @@ module _ (passes : block.BlockValue → Bool) (cidr : CidrValue) (found : ℕ ×
   block_in_list ((revision, record_of.Handle h) ∷ rows) e = block_in_list rows e
 
 -- ---- a block with a rank passes the test of the list
-queued : (reserved : AddrValue → Bool) (cidr : CidrValue) (queue : List ℕ) (ordinal : ℕ) → find (λ o. not (reserved (address_of cidr o))) queue ≡ Some ordinal → has_queue queue ≡ true
+queued : (reserved : AddrValue → Bool) (cidr : CidrValue) (queue : List ℕ) (ordinal : ℕ) → find (λ o. not (reserved (ordinal_address cidr o))) queue ≡ Some ordinal → has_queue queue ≡ true
 queued reserved cidr [] ordinal e = absurd (cc e)
 queued reserved cidr (o ∷ queue) ordinal e = refl
 

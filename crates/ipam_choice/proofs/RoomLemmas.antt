@@ -4,7 +4,7 @@ use Rattle.std.proofs.Common.{◌≡◌, ℕ, ◌+◌, ◌-◌, Bool, true, fals
 use Rattle.ipam_addr.specs.Shape.{AddrValue, CidrValue}
 use Rattle.ipam_addr.specs.Width.{cidr_size}
 use Rattle.ipam_addr.specs.Holding.{Holds}
-use Rattle.ipam_block.specs.Operations.{address_of}
+use Rattle.ipam_block.specs.Operations.{ordinal_address}
 use Rattle.ipam_reserve.specs.Spans.{ReservedValue, is_reserved_by}
 use Rattle.ipam_reserve.specs.Free.{IsFull, HasRoom}
 use Rattle.ipam_model.specs.Choice.{first_found}
@@ -12,16 +12,16 @@ use Rattle.ipam_choice.specs.Sight.{free_at, has_free}
 use Rattle.ipam_model.proofs.ChoiceLemmas.{first_found-none}
 use Rattle.ipam_choice.proofs.FirstLemmas.{first_found-nothing}
 
-free_at-tested : (reserved : AddrValue → Bool) (cidr : CidrValue) (ordinal : ℕ) (b : Bool) → reserved (address_of cidr ordinal) ≡ b → free_at reserved cidr ordinal ≡ cond b None (Some (address_of cidr ordinal))
-free_at-tested reserved cidr ordinal b is = ap (λ (t : Bool). cond t None (Some (address_of cidr ordinal))) is
+free_at-tested : (reserved : AddrValue → Bool) (cidr : CidrValue) (ordinal : ℕ) (b : Bool) → reserved (ordinal_address cidr ordinal) ≡ b → free_at reserved cidr ordinal ≡ cond b None (Some (ordinal_address cidr ordinal))
+free_at-tested reserved cidr ordinal b is = ap (λ (t : Bool). cond t None (Some (ordinal_address cidr ordinal))) is
 
 pub has_free-full : (r : ReservedValue) (cidr : CidrValue) → IsFull r cidr → has_free (is_reserved_by r) cidr ≡ false
 has_free-full r cidr full =
     ap is_some (first_found-nothing (free_at (is_reserved_by r) cidr) (cidr_size cidr) 0 (λ j above below.
     free_at-tested (is_reserved_by r) cidr j true
-    (full (address_of cidr j) (record { same_family = refl; from_base = omega arith; below_end = omega arith }))))
+    (full (ordinal_address cidr j) (record { same_family = refl; from_base = omega arith; below_end = omega arith }))))
 
-address_again : (cidr : CidrValue) (a : AddrValue) → Holds cidr a → address_of cidr (a.number - cidr.base) ≡ a
+address_again : (cidr : CidrValue) (a : AddrValue) → Holds cidr a → ordinal_address cidr (a.number - cidr.base) ≡ a
 address_again cidr a held =
     let number : cidr.base + (a.number - cidr.base) ≡ a.number = omega (arith, held.from_base) in
     λ i. record { family = sym held.same_family i; number = number i }
@@ -32,7 +32,7 @@ has_free-room r cidr room = by (first_found (free_at (is_reserved_by r) cidr) (c
     a : AddrValue
     a = room.addr
 
-    free : is_reserved_by r (address_of cidr (a.number - cidr.base)) ≡ false
+    free : is_reserved_by r (ordinal_address cidr (a.number - cidr.base)) ≡ false
     free = ap (is_reserved_by r) (address_again cidr a room.own) ∙ room.free
 
     by : (o : Option (ℕ × AddrValue)) → first_found (free_at (is_reserved_by r) cidr) (cidr_size cidr) 0 ≡ o → is_some o ≡ true

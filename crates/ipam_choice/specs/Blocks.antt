@@ -7,7 +7,7 @@ use Rattle.ipam_handle.specs.Order.{cidr_cmp}
 use Rattle.ipam_records.specs.declared.record.Record.{Record}
 use Rattle.ipam_records.specs.declared.record.Record.TheVariants as record_of
 use Rattle.ipam_records.specs.BlockLists.{cidrs_where}
-use Rattle.ipam_model.specs.Reads.{Row}
+use Rattle.ipam_model.specs.Reads.{StoredRecord}
 use Rattle.ipam_choice.specs.First.{Has}
 
 -- the block of the record, where it is a block's
@@ -16,7 +16,7 @@ cidr_in (record_of.Block b) = Some b.cidr
 cidr_in _ = None
 
 -- the blocks, in the order of their rows
-abbrev pub cidrs_in : List Row → List CidrValue
+abbrev pub cidrs_in : List StoredRecord → List CidrValue
 cidrs_in = cidrs_where (λ b. true)
 
 -- whether there is a block, and it stands before this one
@@ -25,9 +25,9 @@ is_in_before first None = false
 is_in_before first (Some cidr) = is_lt (cidr_cmp cidr first)
 
 -- the last of the rows is a block that stands before this one
-pub record EndsBefore (first : CidrValue) (rows : List Row) : Type 0 where
-  pub front : List Row
-  pub row : Row
+pub record EndsBefore (first : CidrValue) (rows : List StoredRecord) : Type 0 where
+  pub front : List StoredRecord
+  pub row : StoredRecord
   pub parted : rows ≡ front ++ row ∷ []
   pub before : is_in_before first (cidr_in row.1) ≡ true
 

@@ -6,7 +6,7 @@ use Rattle.ipam_record_text.specs.declared.config.Config.{Config}
 use Rattle.ipam_reserve.specs.Spans.{is_reserved_by}
 use Rattle.ipam_records.specs.Listing.{rows_of}
 use Rattle.ipam_model.specs.Choice.{may_claim, Pick, Unknown}
-use Rattle.ipam_model.specs.Reads.{Row}
+use Rattle.ipam_model.specs.Reads.{StoredRecord}
 use Rattle.ipam_model.specs.Usable.{Asked, unknown_name}
 use Rattle.ipam_choice.specs.Confirmed.{has_confirmed}
 use Rattle.ipam_choice.specs.First.{first_of}
@@ -24,7 +24,7 @@ pick_in asked pools sight =
     unless_unknown (unknown_name asked pools)
     (pick_from (first_of (first_usable asked sight pools) (0 ∷ 1 ∷ 2 ∷ 3 ∷ [])))
 
-abbrev pub sight_known : Asked → Config → (confirmed : CidrValue → Bool) → (reserved : AddrValue → Bool) → List Row → Sight
+abbrev pub sight_known : Asked → Config → (confirmed : CidrValue → Bool) → (reserved : AddrValue → Bool) → List StoredRecord → Sight
 sight_known asked config confirmed reserved blocks = record {
   node = asked.node;
   strict = config.strict;

@@ -6,7 +6,7 @@ use Rattle.ipam_pool.specs.declared.pools.Pool.{Pool}
 use Rattle.ipam_reserve.specs.Spans.{is_reserved_by}
 use Rattle.ipam_records.specs.Listing.{rows_of}
 use Rattle.ipam_records.specs.BlockLists.{cidrs_of_node, cidrs_unowned, cidrs_roomy}
-use Rattle.ipam_model.specs.Reads.{Row}
+use Rattle.ipam_model.specs.Reads.{StoredRecord}
 use Rattle.ipam_model.specs.Usable.{Asked, is_usable}
 use Rattle.ipam_model.specs.Choice.{Ranked, Pick, Picks, Lacks}
 use Rattle.ipam_choice.specs.declared.level.Level.{Level}
@@ -43,12 +43,12 @@ abbrev pub lower : Option Ranked → Option Ranked → Option Ranked
 lower found other = if is_lower found other then found else other
 
 -- whether the slot of this number has no block and some address that is not reserved
-abbrev pub is_bare_slot : (AddrValue → Bool) → List Row → Pool → ℕ → Bool
+abbrev pub is_bare_slot : (AddrValue → Bool) → List StoredRecord → Pool → ℕ → Bool
 is_bare_slot reserved blocks pool k =
     is_none (block_under blocks (slot_of pool.cidr pool.size k)) && has_free reserved (slot_of pool.cidr pool.size k)
 
 -- the first such slot
-pub record IsFirstBare (reserved : AddrValue → Bool) (blocks : List Row) (pool : Pool) (k : ℕ) : Type 0 where
+pub record IsFirstBare (reserved : AddrValue → Bool) (blocks : List StoredRecord) (pool : Pool) (k : ℕ) : Type 0 where
   pub within : k ≤ last_slot_of pool.cidr pool.size
   pub bare : is_bare_slot reserved blocks pool k ≡ true
   pub least : (j : ℕ) → j < k → is_bare_slot reserved blocks pool j ≡ false

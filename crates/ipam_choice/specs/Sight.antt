@@ -6,13 +6,14 @@ use Rattle.ipam_addr.specs.Shape.{AddrValue, CidrValue}
 use Rattle.ipam_addr.specs.Width.{IsCidr, cidr_size}
 use Rattle.ipam_addr.specs.Slots.{HasSlots, last_slot_of, slot_of}
 use Rattle.ipam_block.specs.Shape as block
-use Rattle.ipam_block.specs.Operations.{address_of, room}
+use Rattle.ipam_block.specs.Operations.{ordinal_address, room}
 use Rattle.ipam_pool.specs.declared.pools.Pool.{Pool}
 use Rattle.ipam_pool.specs.Slots.{is_slot_of}
-use Rattle.ipam_model.specs.Reads.{Row}
+use Rattle.ipam_model.specs.Reads.{StoredRecord}
 use Rattle.ipam_model.specs.Usable.{Asked}
-use Rattle.ipam_model.specs.Choice.{Seen, is_confirmed_for, is_block_at, block_in_found, is_node, is_reserved, is_unowned_and_empty, may_claim, first_found, Rank, Own, Unconfirmed, Unclaimed, Foreign, Ranked, if_rank}
+use Rattle.ipam_model.specs.Choice.{Seen, is_confirmed_for, is_block_at, block_in_found, is_reserved, is_unowned_and_empty, may_claim, first_found, Rank, Own, Unconfirmed, Unclaimed, Foreign, Ranked, if_rank}
 use Rattle.ipam_choice.specs.First.{found_there}
+use Rattle.ipam_records.specs.BlockLists.{is_node}
 
 -- the node, whether affinity is strict, whether the node may claim one more block, the blocks whose
 -- affinity to it is confirmed, what is reserved, and the rows of the blocks
@@ -22,7 +23,7 @@ pub record Sight : Type 0 where
   pub may_claim : Bool
   pub confirmed : CidrValue → Bool
   pub reserved : AddrValue → Bool
-  pub blocks : List Row
+  pub blocks : List StoredRecord
 
 -- that of a request
 abbrev pub sight_in : Asked → Seen → Sight
@@ -36,7 +37,7 @@ sight_in asked seen = record {
 }
 
 -- the block of the slot, with its revision, where there is one
-abbrev pub block_under : List Row → CidrValue → Option (ℕ × block.BlockValue)
+abbrev pub block_under : List StoredRecord → CidrValue → Option (ℕ × block.BlockValue)
 block_under rows cidr = block_in_found (find (is_block_at cidr) rows)
 
 -- the pool is cut into slots
@@ -66,7 +67,7 @@ rank_listed sight cidr = rank_of_found sight (block_under sight.blocks cidr)
 
 abbrev pub free_at : (AddrValue → Bool) → CidrValue → (ordinal : ℕ) → Option AddrValue
 free_at reserved cidr ordinal =
-    if reserved (address_of cidr ordinal) then None else Some (address_of cidr ordinal)
+    if reserved (ordinal_address cidr ordinal) then None else Some (ordinal_address cidr ordinal)
 
 -- whether some address of the slot is not reserved
 abbrev pub has_free : (AddrValue → Bool) → CidrValue → Bool

@@ -3,12 +3,13 @@ ghost use Rattle.std.specs.List.Sorted.{IsStrictlySortedBy};
 ghost use Rattle.ipam_handle.specs.Order.{cidr_cmp};
 ghost use Rattle.ipam_addr.specs.Width.{IsCidr};
 ghost use Rattle.ipam_block.specs.Operations.{node_bytes};
-ghost use Rattle.ipam_model.specs.Choice.{is_node, is_unowned_and_empty, if_rank, Own, Unconfirmed, Unclaimed, Foreign};
+ghost use Rattle.ipam_model.specs.Choice.{is_unowned_and_empty, if_rank, Own, Unconfirmed, Unclaimed, Foreign};
 ghost use Rattle.ipam_choice.specs.Picked.{found_of, rank_as, ranked_in};
 ghost use Rattle.ipam_choice.specs.First.{first_of, found_there};
 ghost use Rattle.ipam_choice.specs.Level.{level_number};
 ghost use Rattle.ipam_choice.specs.Sight.{IsSlotted, rank_of_found, rank_listed, rank_bare, if_slot, first_ranked, first_in};
 ghost use Rattle.ipam_choice.specs.Scanned.{sight_of, is_lower, list_for};
+ghost use Rattle.ipam_records.specs.BlockLists.{is_node};
 
 use crate::confirmed::Confirmed;
 use crate::level::Level;

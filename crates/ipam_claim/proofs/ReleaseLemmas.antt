@@ -5,7 +5,7 @@ use Rattle.ipam_addr.specs.Shape.{CidrValue}
 use Rattle.ipam_model.specs.declared.part.Left.{Left}
 use Rattle.ipam_model.specs.Affinities.{Tie, release, release_once, release_stops}
 use Rattle.ipam_model.specs.Reads.{block_said}
-use Rattle.ipam_model.specs.Step.{all_left, settled}
+use Rattle.ipam_model.specs.Step.{all_left, as_word}
 use Rattle.ipam_records.specs.declared.key.Key.TheVariants as key
 use Rattle.ipam_records.specs.Hearing.{MayHear}
 use Rattle.ipam_records.specs.Said.{Said}
@@ -19,7 +19,7 @@ use Rattle.ipam_parts.proofs.TryLaws.{retried_once}
 pub begins : (node : List ℕ) (cidr : CidrValue)
     → release_at (record { node = node; block = cidr }) all_left (Reads Affinity) ≡ release node cidr
 begins node cidr =
-    ap (settled release_stops) (sym (retried_once (release_once (record { node = node; block = cidr })) all_left))
+    ap (as_word release_stops) (sym (retried_once (release_once (record { node = node; block = cidr })) all_left))
 
 -- the block that is read can be written once more
 pub read_counted : (tie : Tie) (left : Left) (reading : Reading) (mark : ℕ) (said : Said) → reading ≡ Block mark

@@ -1,7 +1,7 @@
 -- A claim that goes on has a call to make.
 use Rattle.std.specs.Prelude.{◌≡◌, refl, ℕ, List, None}
 use Rattle.ipam_addr.specs.Shape.{CidrValue}
-use Rattle.ipam_records.specs.Word.{ended}
+use Rattle.ipam_records.specs.Word.{answer_in}
 use Rattle.ipam_model.specs.Affinities.{BlockRead, claim}
 use Rattle.ipam_claim.specs.declared.claim.Stage.{Stage}
 use Rattle.ipam_claim.specs.declared.claim.Stage.TheVariants.{Looks, Writes}
@@ -9,7 +9,7 @@ use Rattle.ipam_claim.specs.declared.claim.Writing.TheVariants.{Creates, TakesBa
 use Rattle.ipam_claim.specs.Claim.{claim_at}
 
 pub goes_on : (node : List ℕ) (cidr : CidrValue) (read : BlockRead) (stage : Stage)
-    → None ≡ ended (claim_at node cidr read stage)
+    → None ≡ answer_in (claim_at node cidr read stage)
 unfolding claim
 goes_on node cidr read Looks = refl
 goes_on node cidr read (Writes Creates) = refl

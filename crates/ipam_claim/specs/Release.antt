@@ -10,7 +10,7 @@ use Rattle.ipam_model.specs.declared.outcome.ReleaseAnswer.{ReleaseAnswer}
 use Rattle.ipam_model.specs.declared.part.Left.{Left}
 use Rattle.ipam_model.specs.Affinities.{Tie, affinity, is_at_mark, release_once, release_look, release_block, release_delete, release_stops}
 use Rattle.ipam_model.specs.Reads.{affinity_said}
-use Rattle.ipam_model.specs.Step.{Part, on_write, settled}
+use Rattle.ipam_model.specs.Step.{Part, on_write, as_word}
 use Rattle.ipam_parts.specs.Tries.{again_of}
 use Rattle.ipam_claim.specs.declared.release.Marked.{Marked}
 use Rattle.ipam_claim.specs.declared.release.Stage.{Stage}
@@ -59,7 +59,7 @@ part_at tie left (Reads reading) = reading_at tie left reading
 part_at tie left (Writes writing) = writing_at tie left writing
 
 abbrev pub release_at : Tie → Left → Stage → Word ReleaseAnswer
-release_at tie left stage = settled release_stops (part_at tie left stage)
+release_at tie left stage = as_word release_stops (part_at tie left stage)
 
 -- the stage behind the second read, where the affinity was at its mark
 abbrev pub stage_at_mark : Stage → Stage

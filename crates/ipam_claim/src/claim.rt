@@ -5,7 +5,7 @@ ghost use Rattle.ipam_block.specs.declared.limits.TheConstants.{ADDRESSES_MAX};
 ghost use Rattle.ipam_records.specs.declared.record.Record.TheVariants as record_of;
 ghost use Rattle.ipam_records.specs.Hearing.{MayHear};
 ghost use Rattle.ipam_records.specs.Said.{said, Can};
-ghost use Rattle.ipam_records.specs.Word.{asked, heard, ended};
+ghost use Rattle.ipam_records.specs.Word.{next_call, after_reply, answer_in};
 ghost use Rattle.ipam_model.specs.Affinities.{BlockRead, affinity, claim, claim_found, claiming};
 ghost use Rattle.ipam_model.specs.Reads.{affinity_said};
 ghost use Rattle.ipam_claim.specs.Claim.{lent_block, claim_at, writing_at, claim_rest, claim_leaves, claim_goes};
@@ -114,7 +114,7 @@ impl ClaimProc {
     }
 
     fn write(&self, alloc: Global, writing: Writing) -> Result<Call, AllocError>
-        ensures { IfOk result (λ call. asked (writing_at self.now.node self.now.cidr self.now.read writing) ≡ Some call) }
+        ensures { IfOk result (λ call. next_call (writing_at self.now.node self.now.cidr self.now.read writing) ≡ Some call) }
     {
         match writing {
             Writing::Creates => Ok(Call::Create(self.affinity(State::Pending)?)),
@@ -196,7 +196,7 @@ fn found(reply: &Reply) -> Stage
 /// Where a write leads that was answered so.
 fn written(writing: Writing, reply: &Reply) -> Goes
     ensures { (node : List ℕ) (cidr : CidrValue) (read : BlockRead) (moment : ℕ)
-        → claim_goes node cidr read result ≡ heard (writing_at node cidr read writing) moment (said reply.now) }
+        → claim_goes node cidr read result ≡ after_reply (writing_at node cidr read writing) moment (said reply.now) }
 {
     match WriteEnd::of(reply) {
         WriteEnd::Took(revision) => took(writing, revision),
@@ -209,7 +209,7 @@ fn written(writing: Writing, reply: &Reply) -> Goes
 /// Where a write leads that took this revision.
 fn took(writing: Writing, revision: u64) -> Goes
     ensures { (node : List ℕ) (cidr : CidrValue) (read : BlockRead) (moment : ℕ)
-        → claim_goes node cidr read result ≡ heard (writing_at node cidr read writing) moment (Can revision) }
+        → claim_goes node cidr read result ≡ after_reply (writing_at node cidr read writing) moment (Can revision) }
 {
     match writing {
         Writing::Creates | Writing::TakesBack(_) => {

@@ -6,11 +6,11 @@ ghost use Rattle.ipam_records.specs.declared.record.Record.TheVariants as record
 ghost use Rattle.ipam_affinity.specs.declared.state.State.TheVariants.{PendingDeletion};
 ghost use Rattle.ipam_records.specs.Hearing.{MayHear};
 ghost use Rattle.ipam_records.specs.Said.{said, Can};
-ghost use Rattle.ipam_records.specs.Word.{asked, heard, ended};
+ghost use Rattle.ipam_records.specs.Word.{next_call, after_reply, answer_in};
 ghost use Rattle.ipam_block.specs.Operations.{affine_to, next_block};
 ghost use Rattle.ipam_model.specs.Affinities.{affinity, baring, other_node, release, release_stops};
 ghost use Rattle.ipam_model.specs.Reads.{affinity_said};
-ghost use Rattle.ipam_model.specs.Step.{settled};
+ghost use Rattle.ipam_model.specs.Step.{as_word};
 ghost use Rattle.ipam_claim.specs.declared.release.Stage.TheVariants.{Reads, Writes};
 ghost use Rattle.ipam_claim.specs.Release.{tie_of, again, stage_at_mark, release_at, release_rest, release_leaves, release_goes};
 
@@ -135,7 +135,7 @@ impl ReleaseAffinityProc {
     }
 
     fn read(&self, reading: &Reading) -> Result<Call, AllocError>
-        ensures { IfOk result (λ call. asked (release_at (tie_of self.now) self.now.left (Reads reading.now)) ≡ Some call) }
+        ensures { IfOk result (λ call. next_call (release_at (tie_of self.now) self.now.left (Reads reading.now)) ≡ Some call) }
     {
         match reading {
             Reading::Affinity | Reading::Again(_) => Ok(Call::Get(self.key()?)),
@@ -144,7 +144,7 @@ impl ReleaseAffinityProc {
     }
 
     fn write(&self, alloc: Global, writing: &Writing) -> Result<Call, AllocError>
-        ensures { IfOk result (λ call. asked (release_at (tie_of self.now) self.now.left (Writes writing.now)) ≡ Some call) }
+        ensures { IfOk result (λ call. next_call (release_at (tie_of self.now) self.now.left (Writes writing.now)) ≡ Some call) }
     {
         match writing {
             Writing::Marks(revision) => Ok(Call::Update(self.marked()?, *revision)),
@@ -159,7 +159,7 @@ impl ReleaseAffinityProc {
         requires heard { MayHear (release_at (tie_of self.now) self.now.left (Reads reading.now)) (said hearing.now.reply) }
         requires here { self.now.stage ≡ Reads reading.now }
         ensures { IfOk result (λ goes. release_goes self.now goes
-            ≡ heard (release_at (tie_of self.now) self.now.left (Reads reading.now)) hearing.now.moment (said hearing.now.reply)) }
+            ≡ after_reply (release_at (tie_of self.now) self.now.left (Reads reading.now)) hearing.now.moment (said hearing.now.reply)) }
     {
         match reading {
             Reading::Affinity => Ok(match affinity_in(&hearing.reply) {
@@ -181,7 +181,7 @@ impl ReleaseAffinityProc {
     /// Where a lost race leads.
     #[tactic(auto, using(ipam_parts::proofs::TryLaws::lost_goes))]
     fn lost(&self) -> Goes
-        ensures { release_goes self.now result ≡ settled release_stops (again (tie_of self.now) self.now.left) }
+        ensures { release_goes self.now result ≡ as_word release_stops (again (tie_of self.now) self.now.left) }
     {
         match after_lost(self.left) {
             Ok(left) => Goes::Again(left),
@@ -192,7 +192,7 @@ impl ReleaseAffinityProc {
     /// Where a write leads that was answered so.
     fn after_write(&self, writing: &Writing, hearing: &Heard) -> Goes
         ensures { release_goes self.now result
-            ≡ heard (release_at (tie_of self.now) self.now.left (Writes writing.now)) hearing.now.moment (said hearing.now.reply) }
+            ≡ after_reply (release_at (tie_of self.now) self.now.left (Writes writing.now)) hearing.now.moment (said hearing.now.reply) }
     {
         match WriteEnd::of(&hearing.reply) {
             WriteEnd::Took(revision) => took(writing, revision),
@@ -253,7 +253,7 @@ impl Procedure for ReleaseAffinityProc {
 /// Where a write leads that took this revision.
 fn took(writing: &Writing, revision: u64) -> Goes
     ensures { (p : ReleaseAffinityProc) (moment : ℕ) → release_goes p result
-        ≡ heard (release_at (tie_of p) p.left (Writes writing.now)) moment (Can revision) }
+        ≡ after_reply (release_at (tie_of p) p.left (Writes writing.now)) moment (Can revision) }
 {
     match writing {
         Writing::Marks(_) => Goes::To(Stage::Reads(Reading::Block(revision))),

@@ -5,13 +5,13 @@ use Rattle.ipam_laws.proofs.RightWhole.{right_law}
 use Rattle.ipam_laws.proofs.StandsFor.{stands}
 use Rattle.ipam_records.specs.Datastore.{Datastore}
 use Rattle.ipam_records.specs.Sound.{IsHandleId}
-use Rattle.ipam_records.specs.Word.{waits, fed}
+use Rattle.ipam_records.specs.Word.{waits, after_feed}
 use Rattle.ipam_model.specs.declared.entry.Entry.{Entry}
 use Rattle.ipam_model.specs.declared.entry.Entry.TheVariants as entry
 use Rattle.ipam_model.specs.declared.request.Request.{Request}
 use Rattle.ipam_model.specs.declared.request.Request.TheVariants as request_of
 use Rattle.ipam_model.specs.Cluster as model
-use Rattle.ipam_model.specs.Cluster.{after, begun, fed_with}
+use Rattle.ipam_model.specs.Cluster.{after, fresh_run, run_after_feed}
 use Rattle.ipam_model.specs.Course.{is_due}
 use Rattle.ipam_model.specs.History.{MayCome, MayFeed, cluster_at}
 use Rattle.ipam_model.specs.Requests.{word_of}
@@ -101,7 +101,7 @@ begins old new slot running request there all few idle sound word grace store en
         idle = none_there (slot_of old slot) (one.slots slot) (is.slots slot) idle;
         sound = sound;
       },
-      in_slot old new one slot (Some running) (begun request) is (subst (λ n. slot < n) (sym all) there) store entries slots
+      in_slot old new one slot (Some running) (fresh_run request) is (subst (λ n. slot < n) (sym all) there) store entries slots
           (record { word = word; grace = grace }),
     ))
 
@@ -146,11 +146,11 @@ due_there old one slot at live running is there few held waiting over sound =
     }
 
 fed_there : (one : Option model.Running) (was after : Running) (live : List (List ℕ)) → RunsThere was one
-    → running_rest after ≡ fed (running_rest was) live → running_grace after ≡ running_grace was
-    → IsSlot (Some after) (fed_with live one)
+    → running_rest after ≡ after_feed (running_rest was) live → running_grace after ≡ running_grace was
+    → IsSlot (Some after) (run_after_feed live one)
 fed_there one was after live found word grace =
-    subst (λ (o : Option model.Running). IsSlot (Some after) (fed_with live o)) (sym found.is)
-    (record { word = word ∙ ap (λ w. fed w live) found.runs.word; grace = grace ∙ found.runs.grace })
+    subst (λ (o : Option model.Running). IsSlot (Some after) (run_after_feed live o)) (sym found.is)
+    (record { word = word ∙ ap (λ w. after_feed w live) found.runs.word; grace = grace ∙ found.runs.grace })
 
 pub due_running : (code : Option Running) (at : ℕ) → IsDue code at → (running : Running) × (code ≡ Some running) × IsDue (Some running) at
 due_running None at due = absurd due
@@ -159,14 +159,14 @@ due_running (Some running) at due = (running, refl, due)
 pub feeds : (old new : Cluster) (slot at : ℕ) (live copy : List (List ℕ)) (was : Running)
     → slot < 64 → length old.slots.items ≡ 64 → old.entries < 2 ^ 62 → slot_of old slot ≡ Some was
     → IsDue (Some was) at → All IsHandleId live → copy ≡ live
-    → RunsOn old.slots.items new.slots.items slot was (fed (running_rest was) live)
+    → RunsOn old.slots.items new.slots.items slot was (after_feed (running_rest was) live)
     → new.store.store ≡ old.store.store → new.entries ≡ old.entries + 1
     → AddsTo old new (entry.Fed slot at copy)
 unfolding after
 feeds old new slot at live copy was there all few held due sound same on store entries =
     let added = adds old new (entry.Fed slot at live) (λ one is. (
       due_there old one slot at live was is there few held due.0 due.1 sound,
-      in_slot old new one slot (Some on.running) (fed_with live (one.slots slot)) is (subst (λ n. slot < n) (sym all) there) store entries on.slots
+      in_slot old new one slot (Some on.running) (run_after_feed live (one.slots slot)) is (subst (λ n. slot < n) (sym all) there) store entries on.slots
           (fed_there (one.slots slot) was on.running live (runs_there (slot_of old slot) (one.slots slot) was (is.slots slot) held) on.word on.grace),
     )) in
     subst (λ (l : List (List ℕ)). AddsTo old new (entry.Fed slot at l)) (sym same) added

@@ -18,7 +18,7 @@ use Rattle.ipam_records.specs.KeyOrder.{key_cmp}
 use Rattle.ipam_records.specs.Hearing.{MayHear}
 use Rattle.ipam_records.specs.Said.{Said}
 use Rattle.ipam_records.specs.Sound.{IsDatastore, IsRow}
-use Rattle.ipam_records.specs.Word.{Word, Ends, Asks, Waits, asked, ended, waits}
+use Rattle.ipam_records.specs.Word.{Word, Ends, Asks, Waits, next_call, answer_in, waits}
 use Rattle.ipam_model.specs.declared.answer.Answer.{Answer}
 use Rattle.ipam_model.specs.declared.entry.Entry.{Entry}
 use Rattle.ipam_model.specs.declared.entry.Entry.TheVariants as entry
@@ -26,7 +26,7 @@ use Rattle.ipam_model.specs.declared.entry.Fate.TheVariants.{Well}
 use Rattle.ipam_model.specs.declared.entry.SlotState.TheVariants as state
 use Rattle.ipam_model.specs.Cluster.{after, store_after, store_with}
 use Rattle.ipam_model.specs.History.{Base, Lawful, cluster_at, store_at}
-use Rattle.ipam_model.specs.Reads.{Row}
+use Rattle.ipam_model.specs.Reads.{StoredRecord}
 use Rattle.ipam_store.specs.Granted.{IsGranted, IsSoundWrite}
 use Rattle.ipam_running.specs.declared.running.Running.{Running}
 use Rattle.ipam_running.specs.Running.{running_rest}
@@ -40,16 +40,16 @@ use Rattle.ipam_cluster.proofs.Calling.{told_call, may_call, write_is, write_nex
 
 -- ---- what runs has a next call
 
-word_asks : (word : Word Answer) → ended word ≡ None → waits word ≡ false → IsSome (asked word)
+word_asks : (word : Word Answer) → answer_in word ≡ None → waits word ≡ false → IsSome (next_call word)
 word_asks (Ends answer) on still = absurd (cc on)
 word_asks (Asks label call next) on still = refl
 word_asks (Waits next) on still = absurd (cc still)
 
-pub running_asks : (code : Option Running) (running : Running) → code ≡ Some running → state_in code ≡ state.Running → IsSome (asked (running_rest running))
+pub running_asks : (code : Option Running) (running : Running) → code ≡ Some running → state_in code ≡ state.Running → IsSome (next_call (running_rest running))
 running_asks None running held is = absurd (cc held)
 running_asks (Some own) running held is =
     let same : own ≡ running = cc held in
-    subst (λ (r : Running). IsSome (asked (running_rest r))) same (word_asks (running_rest own) (runs_on own) (by (waits (running_rest own)) is))
+    subst (λ (r : Running). IsSome (next_call (running_rest r))) same (word_asks (running_rest own) (runs_on own) (by (waits (running_rest own)) is))
   where
     by : (b : Bool) → (if b then state.Waiting else state.Running) ≡ state.Running → b ≡ false
     by true e = absurd (cc e)
@@ -58,12 +58,12 @@ running_asks (Some own) running held is =
 -- ---- what it may be told
 
 pub may_be_told : (cluster : Cluster) (slot : ℕ) (running : Running) (call : Call) → Stood cluster → slot_of cluster slot ≡ Some running
-    → asked (running_rest running) ≡ Some call → MayHear (running_rest running) (reply_of cluster.store.store call)
+    → next_call (running_rest running) ≡ Some call → MayHear (running_rest running) (reply_of cluster.store.store call)
 may_be_told cluster slot running call (base, (history, h)) held asks =
     let one = cluster_at base history in
     let found = runs_there (slot_of cluster slot) (one.slots slot) running (h.is_cluster.slots slot) held in
     let heard = may_hear base history slot found.it call h.stands.consistent.sound h.stands.consistent.covered h.stands.lawful found.is
-    (sym (ap asked found.runs.word) ∙ asks) in
+    (sym (ap next_call found.runs.word) ∙ asks) in
     subst (λ (w : Word Answer). MayHear w (reply_of cluster.store.store call)) (sym found.runs.word)
     (subst (λ (s : Datastore). MayHear found.it.word (reply_of s call)) (sym h.is_cluster.store) heard)
 
@@ -72,7 +72,7 @@ may_be_told cluster slot running call (base, (history, h)) held asks =
 pub granted_may : (store : Datastore) (call : Call) (write : Option Write) → write ≡ write_granted call (reply_of store call) → ForSome write (IsGranted store)
 granted_may store call write is = λ it held. record { call = call; is = sym is ∙ held }
 
-with_row-own : (row : Row) (rows : List Row) (P : Row → Type 0) → All P (with_row row rows) → P row
+with_row-own : (row : StoredRecord) (rows : List StoredRecord) (P : StoredRecord → Type 0) → All P (with_row row rows) → P row
 with_row-own row [] P all = All-head P row [] all
 with_row-own row (first ∷ rest) P all = by (key_cmp (row_key row) (row_key first)) all (with_row-own row rest P)
   where
@@ -90,7 +90,7 @@ sound_written store (Remove revision key) sound = tt
 -- the datastore stays sound behind the call
 sound_behind : (cluster : Cluster) (slot : ℕ) (running : Running) (call : Call) (base : Base) (history : List Entry)
     → slot < 64 → cluster.entries < 2 ^ 62 → Lawful base history → IsDatastore base.store
-    → (is : IsCluster cluster (cluster_at base history)) → slot_of cluster slot ≡ Some running → asked (running_rest running) ≡ Some call
+    → (is : IsCluster cluster (cluster_at base history)) → slot_of cluster slot ≡ Some running → next_call (running_rest running) ≡ Some call
     → IsDatastore (store_after (told_call cluster slot Well running call) (store_at base history))
 unfolding Lawful cluster_at after
 sound_behind cluster slot running call base history there few lawful sound is held asks =
@@ -99,7 +99,7 @@ sound_behind cluster slot running call base history there few lawful sound is he
 
 pub write_is_sound : (cluster : Cluster) (slot : ℕ) (running : Running) (call : Call) (write : Option Write)
     → Stood cluster → slot < 64 → cluster.entries < 2 ^ 62 → slot_of cluster slot ≡ Some running
-    → asked (running_rest running) ≡ Some call → write ≡ write_granted call (reply_of cluster.store.store call)
+    → next_call (running_rest running) ≡ Some call → write ≡ write_granted call (reply_of cluster.store.store call)
     → ForSome write IsSoundWrite
 write_is_sound cluster slot running call write (base, (history, h)) there few held asks is = λ it some.
     let said = reply_of cluster.store.store call in
@@ -116,7 +116,7 @@ if_ok (Err error) P holds = search rules
 
 pub is_prepared : (cluster : Cluster) (slot : ℕ) (running : Running) (call : Call) (said : Said) (prepared : Prepared)
     → Stood cluster → slot < 64 → cluster.entries < 2 ^ 62 → 1 ≤ cluster.store.spare
-    → slot_of cluster slot ≡ Some running → asked (running_rest running) ≡ Some call → said ≡ reply_of cluster.store.store call
+    → slot_of cluster slot ≡ Some running → next_call (running_rest running) ≡ Some call → said ≡ reply_of cluster.store.store call
     → prepared.slot ≡ slot → prepared.write ≡ write_granted call said → TellsOf prepared call said
     → Leads running prepared.turned cluster.entries said
     → IsPrepared cluster prepared

@@ -5,7 +5,7 @@ use Rattle.ipam_records.specs.declared.call.Call.{Call}
 use Rattle.ipam_records.specs.declared.call.Call.TheVariants as call_of
 use Rattle.ipam_records.specs.Datastore.{Datastore, reply_of, write_granted}
 use Rattle.ipam_records.specs.Said.{Said, Found, Missing, Listed, Can, Exists, Conflict, Full, Spent}
-use Rattle.ipam_records.specs.Word.{Word, Ends, Asks, Waits, asked, heard, ended}
+use Rattle.ipam_records.specs.Word.{Word, Ends, Asks, Waits, next_call, after_reply, answer_in}
 use Rattle.ipam_model.specs.declared.answer.Answer.{Answer}
 use Rattle.ipam_model.specs.declared.answer.Answer.TheVariants.{Fault}
 use Rattle.ipam_model.specs.declared.entry.Called.{Called}
@@ -14,7 +14,7 @@ use Rattle.ipam_model.specs.declared.entry.Fate.{Fate}
 use Rattle.ipam_model.specs.declared.entry.Fate.TheVariants.{Well, Before, After}
 use Rattle.ipam_model.specs.declared.entry.Told.TheVariants as told
 use Rattle.ipam_model.specs.Cluster as model
-use Rattle.ipam_model.specs.Cluster.{after, answered, call_entry, called, goes_on, record_written, store_after, store_with, write_told}
+use Rattle.ipam_model.specs.Cluster.{after, word_after_reply, call_entry, call_made, goes_on, record_written, store_after, store_with, write_told}
 use Rattle.ipam_model.specs.History.{MayCall}
 use Rattle.ipam_model.specs.Named.{name_of, told_of}
 use Rattle.ipam_running.specs.declared.running.Running.{Running}
@@ -44,16 +44,16 @@ write_is call Full = refl
 write_is call Spent = refl
 
 -- the entry of the call that a word asks for
-entry_is : (slot : ℕ) (fate : Fate) (store : Datastore) (moment : ℕ) (word : Word Answer) (call : Call) → asked word ≡ Some call
-    → call_entry slot fate store moment word ≡ Some (called slot fate call (reply_of store call) (ended (heard word moment (reply_of store call))))
+entry_is : (slot : ℕ) (fate : Fate) (store : Datastore) (moment : ℕ) (word : Word Answer) (call : Call) → next_call word ≡ Some call
+    → call_entry slot fate store moment word ≡ Some (call_made slot fate call (reply_of store call) (answer_in (after_reply word moment (reply_of store call))))
 entry_is slot fate store moment (Ends answer) call e = absurd (cc e)
 entry_is slot fate store moment (Asks label own next) call e =
     let same : own ≡ call = cc e in
-    ap (λ c. Some (called slot fate c (reply_of store c) (ended (next moment (reply_of store c))))) same
+    ap (λ c. Some (call_made slot fate c (reply_of store c) (answer_in (next moment (reply_of store c))))) same
 entry_is slot fate store moment (Waits next) call e = absurd (cc e)
 
-answered_is : (store : Datastore) (moment : ℕ) (word : Word Answer) (call : Call) → asked word ≡ Some call
-    → answered store moment word ≡ heard word moment (reply_of store call)
+answered_is : (store : Datastore) (moment : ℕ) (word : Word Answer) (call : Call) → next_call word ≡ Some call
+    → word_after_reply store moment word ≡ after_reply word moment (reply_of store call)
 answered_is store moment (Ends answer) call e = refl
 answered_is store moment (Asks label own next) call e = let same : own ≡ call = cc e in ap (λ c. next moment (reply_of store c)) same
 answered_is store moment (Waits next) call e = refl
@@ -63,7 +63,7 @@ answered_is store moment (Waits next) call e = refl
 -- the call of the word, with its answer at the cluster's own reply and moment
 abbrev pub told_call : Cluster → (slot : ℕ) → Fate → Running → Call → Called
 told_call cluster slot fate running call =
-    called slot fate call (reply_of cluster.store.store call) (ended (heard (running_rest running) cluster.entries (reply_of cluster.store.store call)))
+    call_made slot fate call (reply_of cluster.store.store call) (answer_in (after_reply (running_rest running) cluster.entries (reply_of cluster.store.store call)))
 
 may_at : (one : model.Cluster) (slot : ℕ) (fate : Fate) (it : model.Running) (c : Called) → slot < 64 → one.entries < 2 ^ 62
     → one.slots slot ≡ Some it → slot ≡ c.slot → fate ≡ c.fate → call_entry slot fate one.store one.entries it.word ≡ Some c
@@ -76,32 +76,32 @@ may_at one slot fate it c there few runs same_slot same_fate is = record {
       (subst (λ (s : ℕ). call_entry s fate one.store one.entries it.word ≡ Some c) same_slot is);
 }
 
-own_slot : (slot : ℕ) (fate : Fate) (call : Call) (said : Said) (answer : Option Answer) → slot ≡ (called slot fate call said answer).slot
+own_slot : (slot : ℕ) (fate : Fate) (call : Call) (said : Said) (answer : Option Answer) → slot ≡ (call_made slot fate call said answer).slot
 own_slot slot Well call said answer = refl
 own_slot slot Before call said answer = refl
 own_slot slot After call said answer = refl
 
-own_fate : (slot : ℕ) (fate : Fate) (call : Call) (said : Said) (answer : Option Answer) → fate ≡ (called slot fate call said answer).fate
+own_fate : (slot : ℕ) (fate : Fate) (call : Call) (said : Said) (answer : Option Answer) → fate ≡ (call_made slot fate call said answer).fate
 own_fate slot Well call said answer = refl
 own_fate slot Before call said answer = refl
 own_fate slot After call said answer = refl
 
 pub may_call : (old : Cluster) (one : model.Cluster) (slot : ℕ) (fate : Fate) (running : Running) (call : Call)
-    → IsCluster old one → slot < 64 → old.entries < 2 ^ 62 → slot_of old slot ≡ Some running → asked (running_rest running) ≡ Some call
+    → IsCluster old one → slot < 64 → old.entries < 2 ^ 62 → slot_of old slot ≡ Some running → next_call (running_rest running) ≡ Some call
     → MayCall one (told_call old slot fate running call)
 may_call old one slot fate running call is there few held asks =
     let found = runs_there (slot_of old slot) (one.slots slot) running (is.slots slot) held in
     let entry : Datastore → ℕ → Word Answer → Option Called =
-    λ store moment word. Some (called slot fate call (reply_of store call) (ended (heard word moment (reply_of store call)))) in
+    λ store moment word. Some (call_made slot fate call (reply_of store call) (answer_in (after_reply word moment (reply_of store call)))) in
     let same : entry one.store one.entries found.it.word ≡ entry old.store.store old.entries (running_rest running) =
     ap (λ s. entry s one.entries found.it.word) (sym is.store)
     ∙ ap (λ m. entry old.store.store m found.it.word) (sym is.entries)
     ∙ ap (λ w. entry old.store.store old.entries w) (sym found.runs.word) in
     let said = reply_of old.store.store call in
-    let answer = ended (heard (running_rest running) old.entries said) in
+    let answer = answer_in (after_reply (running_rest running) old.entries said) in
     may_at one slot fate found.it (told_call old slot fate running call) there (subst (λ n. n < 2 ^ 62) is.entries few) found.is
     (own_slot slot fate call said answer) (own_fate slot fate call said answer)
-    (entry_is slot fate one.store one.entries found.it.word call (sym (ap asked found.runs.word) ∙ asks) ∙ same)
+    (entry_is slot fate one.store one.entries found.it.word call (sym (ap next_call found.runs.word) ∙ asks) ∙ same)
 
 -- ---- what it makes of the cluster
 
@@ -115,22 +115,22 @@ moved_by old new one c code is within store entries slots this =
 
 -- what runs on has what is left behind the answer
 on_there : (old : Cluster) (one : model.Cluster) (slot : ℕ) (was after : Running) (call : Call) → IsCluster old one
-    → RunsThere was (one.slots slot) → asked (running_rest was) ≡ Some call
-    → running_rest after ≡ heard (running_rest was) old.entries (reply_of old.store.store call) → running_grace after ≡ running_grace was
+    → RunsThere was (one.slots slot) → next_call (running_rest was) ≡ Some call
+    → running_rest after ≡ after_reply (running_rest was) old.entries (reply_of old.store.store call) → running_grace after ≡ running_grace was
     → IsSlot (Some after) (goes_on one.store one.entries None (one.slots slot))
 on_there old one slot was after call is found asks word grace =
     subst (λ (o : Option model.Running). IsSlot (Some after) (goes_on one.store one.entries None o)) (sym found.is) (record {
       word = word
-          ∙ ap (λ s. heard (running_rest was) old.entries (reply_of s call)) is.store
-          ∙ ap (λ m. heard (running_rest was) m (reply_of one.store call)) is.entries
-          ∙ ap (λ w. heard w one.entries (reply_of one.store call)) found.runs.word
-          ∙ sym (answered_is one.store one.entries found.it.word call (sym (ap asked found.runs.word) ∙ asks));
+          ∙ ap (λ s. after_reply (running_rest was) old.entries (reply_of s call)) is.store
+          ∙ ap (λ m. after_reply (running_rest was) m (reply_of one.store call)) is.entries
+          ∙ ap (λ w. after_reply w one.entries (reply_of one.store call)) found.runs.word
+          ∙ sym (answered_is one.store one.entries found.it.word call (sym (ap next_call found.runs.word) ∙ asks));
       grace = grace ∙ found.runs.grace;
     })
 
 -- ---- what is written
 
-pub write_next_is : (store : Datastore) (code : Option Running) (running : Running) (call : Call) → code ≡ Some running → asked (running_rest running) ≡ Some call
+pub write_next_is : (store : Datastore) (code : Option Running) (running : Running) (call : Call) → code ≡ Some running → next_call (running_rest running) ≡ Some call
     → write_next code store ≡ write_granted call (reply_of store call)
 write_next_is store code running call held asks = ap (λ c. write_next c store) held ∙ ap (λ c. write_asked c store) asks
 
@@ -179,12 +179,12 @@ failed_before prepared = record {
   answer = Some Fault;
 }
 
--- what is answered where the reply leads
-answer_is : (old : Cluster) (prepared : Prepared) (p : IsPrepared old prepared) (answer : Option Answer) → answer ≡ ended (running_leaves p.running prepared.turned)
-    → ended (heard (running_rest p.running) old.entries (reply_of old.store.store p.call)) ≡ answer
-answer_is old prepared p answer is = sym (ap ended p.leads.leaves) ∙ sym is
+-- what is word_after_reply where the reply leads
+answer_is : (old : Cluster) (prepared : Prepared) (p : IsPrepared old prepared) (answer : Option Answer) → answer ≡ answer_in (running_leaves p.running prepared.turned)
+    → answer_in (after_reply (running_rest p.running) old.entries (reply_of old.store.store p.call)) ≡ answer
+answer_is old prepared p answer is = sym (ap answer_in p.leads.leaves) ∙ sym is
 
-well_is : (old : Cluster) (prepared : Prepared) (p : IsPrepared old prepared) (answer : Option Answer) → answer ≡ ended (running_leaves p.running prepared.turned)
+well_is : (old : Cluster) (prepared : Prepared) (p : IsPrepared old prepared) (answer : Option Answer) → answer ≡ answer_in (running_leaves p.running prepared.turned)
     → told_call old prepared.slot Well p.running p.call ≡ well_called prepared answer
 well_is old prepared p answer is = λ i. record {
   slot = prepared.slot;
@@ -217,7 +217,7 @@ before_is old prepared p = λ i. record {
 
 -- what is in the slot once it went where the reply led it
 pub record Went (old new : List (Option Running)) (slot : ℕ) (was : Running) (turned : RunningTurned) (answer : Option Answer) : Type 0 where
-  pub answered : answer ≡ ended (running_leaves was turned)
+  pub answered : answer ≡ answer_in (running_leaves was turned)
   pub gone : IsSome answer → new ≡ set old slot None
   pub on : IsNone answer → RunsOn old new slot was (running_leaves was turned)
 

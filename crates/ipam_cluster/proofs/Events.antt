@@ -5,7 +5,7 @@ use Rattle.std.proofs.lemmas.Bool.{cases_Bool}
 use Rattle.std.proofs.lemmas.Bool.Decides.{nat_tests}
 use Rattle.ipam_laws.proofs.EventHistory.{entry-event}
 use Rattle.ipam_records.specs.Datastore.{reply_of}
-use Rattle.ipam_records.specs.Word.{Word, Ends, Asks, Waits, asked, ended, waits}
+use Rattle.ipam_records.specs.Word.{Word, Ends, Asks, Waits, next_call, answer_in, waits}
 use Rattle.ipam_model.specs.declared.answer.Answer.{Answer}
 use Rattle.ipam_model.specs.declared.entry.Entry.{Entry}
 use Rattle.ipam_model.specs.declared.entry.Entry.TheVariants as entry
@@ -14,7 +14,7 @@ use Rattle.ipam_model.specs.declared.entry.SlotState.TheVariants as state
 use Rattle.ipam_model.specs.declared.request.Request.{Request}
 use Rattle.ipam_model.specs.declared.request.Request.TheVariants as request_of
 use Rattle.ipam_model.specs.Cluster as model
-use Rattle.ipam_model.specs.Cluster.{call_entry, called}
+use Rattle.ipam_model.specs.Cluster.{call_entry, call_made}
 use Rattle.ipam_model.specs.Course.{Begin, Turn, Feed, Stop, Refusal, Busy, Idle, Waiting, NotWaiting, TooSoon, Worn, begin_entry, entries_of, feed_entry, feed_waiting, is_due, most_entries, one, stop_entry, too_soon, turn_called, turn_entry, unless_worn}
 use Rattle.ipam_model.specs.CourseLaw.{event_of}
 use Rattle.ipam_model.specs.History.{Base, Lawful, cluster_at}
@@ -111,12 +111,12 @@ running_there : (code : Option Running) → state_in code ≡ state.Running → 
 running_there None is = absurd (cc is)
 running_there (Some running) is = (running, refl)
 
-worn_call : (cluster : model.Cluster) (slot : ℕ) (fate : Fate) (word : Word Answer) → IsSome (asked word) → 2 ^ 62 ≤ cluster.entries
+worn_call : (cluster : model.Cluster) (slot : ℕ) (fate : Fate) (word : Word Answer) → IsSome (next_call word) → 2 ^ 62 ≤ cluster.entries
     → one (turn_called cluster (call_entry slot fate cluster.store cluster.entries word)) ≡ Err Worn
 worn_call cluster slot fate (Ends answer) asks many = absurd (cc asks)
 worn_call cluster slot fate (Asks label call next) asks many =
     let said = reply_of cluster.store call in
-    is_worn cluster (entry.Called (called slot fate call said (ended (next cluster.entries said)))) many
+    is_worn cluster (entry.Called (call_made slot fate call said (answer_in (next cluster.entries said)))) many
 worn_call cluster slot fate (Waits next) asks many = absurd (cc asks)
 
 pub turn_worn : (cluster : Cluster) (base : Base) (history : List Entry) (slot : ℕ) (fate : Fate) → StandsFor cluster base history
@@ -126,7 +126,7 @@ turn_worn cluster base history slot fate h is many =
     let found = runs_there (slot_of cluster slot) ((cluster_at base history).slots slot) running (h.is_cluster.slots slot) held in
     let asks = running_asks (slot_of cluster slot) running held is in
     ap (λ o. one (turn_entry (cluster_at base history) slot fate o)) found.is
-    ∙ worn_call (cluster_at base history) slot fate found.it.word (subst (λ w. IsSome (asked w)) found.runs.word asks)
+    ∙ worn_call (cluster_at base history) slot fate found.it.word (subst (λ w. IsSome (next_call w)) found.runs.word asks)
     (worn_there cluster base history h many)
 
 -- ---- a second list is not taken
@@ -168,8 +168,8 @@ waits_there (Some running) (Some it) grace is with = record {
 
 too_early : (request : Request) (grace : Grace) (at : ℕ) → grace_of request ≡ Some grace → at < grace.at + grace.grace
     → (is_due request at ≡ false) × (too_soon request ≡ TooSoon grace.at grace.grace)
-too_early (request_of.Collect asked) grace at is early =
-    let same : record { at = asked.at; grace = asked.grace } ≡ grace = cc is in (
+too_early (request_of.Collect next_call) grace at is early =
+    let same : record { at = next_call.at; grace = next_call.grace } ≡ grace = cc is in (
       grind (arith, nat_tests),
       ap (λ (g : Grace). TooSoon g.at g.grace) same,
     )

@@ -32,7 +32,7 @@ use Rattle.ipam_records.specs.Sound.{IsDatastore, IsRow}
 use Rattle.ipam_records.proofs.KeyTextLemmas.{key_bytes_injective}
 use Rattle.ipam_records.proofs.RecordTexts.{IsKey-key_of}
 use Rattle.ipam_model.specs.Opened.{AreByKey, IsTextOf, Texts, text_of, texts_of}
-use Rattle.ipam_model.specs.Reads.{Row}
+use Rattle.ipam_model.specs.Reads.{StoredRecord}
 
 abbrev pub key_lt : RowText → RowText → Bool
 key_lt one other = is_lt (slice_cmp nat_cmp one.key other.key)
@@ -51,7 +51,7 @@ sorted_by_key {g = g} {f = f} xs up h =
 abbrev text_key : RowText → List ℕ
 text_key row = row.key
 
-apart : (row other : Row) (counter : ℕ) → IsRow counter row → IsRow counter other → key_cmp (row_key row) (row_key other) ≡ Less
+apart : (row other : StoredRecord) (counter : ℕ) → IsRow counter row → IsRow counter other → key_cmp (row_key row) (row_key other) ≡ Less
     → bytes_eq (key_bytes (row_key row)) (key_bytes (row_key other)) ≡ false
 apart row other counter one two less = elim (cases_Bool (bytes_eq (key_bytes (row_key row)) (key_bytes (row_key other)))) [
   | inl same ↦
@@ -61,7 +61,7 @@ apart row other counter one two less = elim (cases_Bool (bytes_eq (key_bytes (ro
   | inr differ ↦ differ
 ]
 
-apart_from : (row : Row) (counter : ℕ) → IsRow counter row → (rest : List Row) → All (IsRow counter) rest
+apart_from : (row : StoredRecord) (counter : ℕ) → IsRow counter row → (rest : List StoredRecord) → All (IsRow counter) rest
     → AllByRecursion (λ k. key_cmp (row_key row) k ≡ Less) (map row_key rest)
     → AllByRecursion (λ text. bytes_eq (key_bytes (row_key row)) text ≡ false) (map text_key (map text_of rest))
 apart_from row counter one [] all less = tt
@@ -70,7 +70,7 @@ apart_from row counter one (other ∷ rest) all less = (
   apart_from row counter one rest (All-tail (IsRow counter) other rest all) less.1,
 )
 
-distinct : (counter : ℕ) (rows : List Row) → All (IsRow counter) rows → IsStrictlySortedBy key_cmp (map row_key rows)
+distinct : (counter : ℕ) (rows : List StoredRecord) → All (IsRow counter) rows → IsStrictlySortedBy key_cmp (map row_key rows)
     → IsDistinct bytes_eq (map text_key (map text_of rows))
 unfolding IsDistinct
 distinct counter [] all sorted = tt
@@ -127,7 +127,7 @@ sorted_ascend store given rows sound is moved sorted =
 
 -- ---- they are the text of the datastore
 
-row_given : (counter : ℕ) (rows : List Row) → All (IsRow counter) rows → All (λ (row : Row). row.0 ≤ counter) rows
+row_given : (counter : ℕ) (rows : List StoredRecord) → All (IsRow counter) rows → All (λ (row : StoredRecord). row.0 ≤ counter) rows
 row_given counter rows all = λ k d within. (all k d within).given
 
 pub is_text : (store : Datastore) (rows : List RowText) → IsDatastore store → IsPermutation (texts_of store) rows → AreByKey rows
@@ -144,7 +144,7 @@ is_text store rows sound moved by_key = record {
 
 -- ---- one row after the other
 
-pub one_more : (rows : List Row) (place : ℕ) (row : Row) → slice_get rows place ≡ Some row
+pub one_more : (rows : List StoredRecord) (place : ℕ) (row : StoredRecord) → slice_get rows place ≡ Some row
     → map text_of (take (place + 1) rows) ≡ map text_of (take place rows) ++ text_of row ∷ []
 one_more rows place row there =
     let at : get_or rows place row ≡ row = sym (unwrap_or-slice_get rows place row) ∙ ap (λ o. unwrap_or o row) there in

@@ -7,7 +7,7 @@ use Rattle.ipam_records.specs.declared.call.Write.TheVariants.{Put}
 use Rattle.ipam_records.specs.declared.record.Record.{Record}
 use Rattle.ipam_records.specs.Datastore.{Datastore, reply_of, write_granted}
 use Rattle.ipam_records.specs.Said.{Said}
-use Rattle.ipam_records.specs.Word.{asked, heard}
+use Rattle.ipam_records.specs.Word.{next_call, after_reply}
 use Rattle.ipam_model.specs.declared.limits.TheConstants.{SLOTS}
 use Rattle.ipam_model.specs.Cluster.{record_written}
 use Rattle.ipam_model.specs.Named.{name_of, told_of}
@@ -32,7 +32,7 @@ write_asked (Some call) store = write_granted call (reply_of store call)
 -- what the next call of what runs writes
 abbrev pub write_next : Option Running → Datastore → Option Write
 write_next None store = None
-write_next (Some running) store = write_asked (asked (running_rest running)) store
+write_next (Some running) store = write_asked (next_call (running_rest running)) store
 
 -- it tells of this call, which was answered so
 pub record TellsOf (prepared : Prepared) (call : Call) (said : Said) : Type 0 where
@@ -43,7 +43,7 @@ pub record TellsOf (prepared : Prepared) (call : Call) (said : Said) : Type 0 wh
 -- the reply leads what runs there
 pub record Leads (running : Running) (turned : RunningTurned) (moment : ℕ) (said : Said) : Type 0 where
   pub fits : FitsRunning running turned
-  pub leaves : running_leaves running turned ≡ heard (running_rest running) moment said
+  pub leaves : running_leaves running turned ≡ after_reply (running_rest running) moment said
 
 -- It is its slot's next call, with what the datastore answers and where that leads; and the datastore
 -- can take its write without more memory.
@@ -54,7 +54,7 @@ pub record IsPrepared (cluster : Cluster) (prepared : Prepared) : Type 0 where
   pub running : Running
   pub runs : slot_of cluster prepared.slot ≡ Some running
   pub call : Call
-  pub asks : asked (running_rest running) ≡ Some call
+  pub asks : next_call (running_rest running) ≡ Some call
   pub tells : TellsOf prepared call (reply_of cluster.store.store call)
   pub leads : Leads running prepared.turned cluster.entries (reply_of cluster.store.store call)
   pub sound : ForSome prepared.write IsSoundWrite

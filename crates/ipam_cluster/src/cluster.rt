@@ -5,7 +5,7 @@ ghost use Rattle.ipam_model.specs.declared.limits.TheConstants.{SLOTS};
 ghost use Rattle.ipam_model.specs.Cluster.{store_with};
 ghost use Rattle.ipam_model.specs.Requests.{word_of};
 ghost use Rattle.ipam_model.specs.SoundRequest.{IsSoundRequest};
-ghost use Rattle.ipam_records.specs.Word.{ended};
+ghost use Rattle.ipam_records.specs.Word.{answer_in};
 ghost use Rattle.ipam_running.specs.declared.running.Running.{Running as AnyRunning};
 ghost use Rattle.ipam_running.specs.Running.{running_rest, running_leaves, running_grace, grace_of};
 ghost use Rattle.ipam_store.specs.Granted.{IsGranted, IsSoundWrite};
@@ -267,7 +267,7 @@ impl Cluster {
         ensures store { self.new.store ≡ self.old.store }
         ensures entries { self.new.entries ≡ self.old.entries + 1 }
         ensures answer { (was : AnyRunning) → slot_of self.old slot ≡ Some was
-            → result ≡ ended (running_leaves was turned) }
+            → result ≡ answer_in (running_leaves was turned) }
         ensures gone { IsSome result → self.new.slots.items ≡ slice_set self.old.slots.items slot None }
         ensures on { IsNone result → (was : AnyRunning) → slot_of self.old slot ≡ Some was
             → RunsOn self.old.slots.items self.new.slots.items slot was (running_leaves was turned) }

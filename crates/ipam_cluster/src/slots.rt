@@ -1,6 +1,6 @@
 //! The slots of a cluster, one beside the other.
 ghost use Rattle.std.specs.Prelude.{◌≡◌, ◌<◌, ℕ, Some, None, length, slice_set, IsSome, IsNone, IfOk, OnOk, OnErr};
-ghost use Rattle.ipam_records.specs.Word.{ended, fed};
+ghost use Rattle.ipam_records.specs.Word.{answer_in, after_feed};
 ghost use Rattle.ipam_running.specs.declared.running.Running.{Running as AnyRunning};
 ghost use Rattle.ipam_running.specs.Running.{running_rest, running_leaves};
 ghost use Rattle.ipam_cluster.specs.Busy.{busy_count};
@@ -49,7 +49,7 @@ pub(crate) fn feed(
     requires due { IsDue (slot_in slots.old.items slot) at }
     ensures many { length slots.new.items ≡ length slots.old.items }
     ensures ok { OnOk result ((was : AnyRunning) → slot_in slots.old.items slot ≡ Some was
-        → RunsOn slots.old.items slots.new.items slot was (fed (running_rest was) live.now)) }
+        → RunsOn slots.old.items slots.new.items slot was (after_feed (running_rest was) live.now)) }
     ensures err { OnErr result (slots.new.items ≡ slots.old.items) }
 {
     match &mut slots[slot as usize] {
@@ -69,7 +69,7 @@ pub(crate) fn go(
     requires may { MayGo (slot_in slots.old.items slot) turned }
     ensures many { length slots.new.items ≡ length slots.old.items }
     ensures answer { (was : AnyRunning) → slot_in slots.old.items slot ≡ Some was
-        → result ≡ ended (running_leaves was turned) }
+        → result ≡ answer_in (running_leaves was turned) }
     ensures gone { IsSome result → slots.new.items ≡ slice_set slots.old.items slot None }
     ensures on { IsNone result → (was : AnyRunning) → slot_in slots.old.items slot ≡ Some was
         → RunsOn slots.old.items slots.new.items slot was (running_leaves was turned) }
@@ -86,7 +86,7 @@ fn go_on(slots: &mut Vec<Option<Running>>, slot: u8, turned: RunningTurned) -> O
     requires may { MayGo (slot_in slots.old.items slot) turned }
     ensures many { length slots.new.items ≡ length slots.old.items }
     ensures answer { (was : AnyRunning) → slot_in slots.old.items slot ≡ Some was
-        → result ≡ ended (running_leaves was turned) }
+        → result ≡ answer_in (running_leaves was turned) }
     ensures slots { (after : AnyRunning) × (slots.new.items ≡ slice_set slots.old.items slot (Some after)) }
     ensures on { IsNone result → (was : AnyRunning) → slot_in slots.old.items slot ≡ Some was
         → RunsOn slots.old.items slots.new.items slot was (running_leaves was turned) }

@@ -21,7 +21,7 @@ use Rattle.ipam_addr.proofs.HoldingLemmas.{same_family_from}
 use Rattle.ipam_addr.specs.Holding.{is_same_family}
 use Rattle.ipam_block.specs.declared.allocation.Allocation.{Allocation}
 use Rattle.ipam_block.specs.Shape.{BlockValue}
-use Rattle.ipam_block.specs.Operations.{address_of}
+use Rattle.ipam_block.specs.Operations.{ordinal_address}
 use Rattle.ipam_records.specs.declared.key.Key.{Key}
 use Rattle.ipam_records.specs.declared.key.Key.TheVariants as key
 use Rattle.ipam_records.specs.declared.record.Record.TheVariants as record_of
@@ -29,7 +29,7 @@ use Rattle.ipam_records.specs.KeyOrder.{keys_equal}
 use Rattle.ipam_records.specs.Datastore.{row_key, row_of}
 use Rattle.ipam_records.proofs.BlockMembers.{row_of-contained}
 use Rattle.ipam_model.specs.Owners.{Owner, owner_of, same_address, same_owner, is_owner_in, owners_in, owners_in_row}
-use Rattle.ipam_model.specs.Reads.{Row}
+use Rattle.ipam_model.specs.Reads.{StoredRecord}
 use Rattle.ipam_parts.proofs.HeldFacts.{held_below}
 use Rattle.ipam_collect.specs.Leaks.{AreSoundRows, block_around, owners_found}
 
@@ -46,7 +46,7 @@ either true b is = inl refl
 either false b is = inr is
 
 -- ---- what is found in a row
-pub found_owns : (o : Owner) (named : Key) (rows : List Row) → list_any (same_owner o) (owners_found (row_of named rows)) ≡ true → is_owner_in rows o ≡ true
+pub found_owns : (o : Owner) (named : Key) (rows : List StoredRecord) → list_any (same_owner o) (owners_found (row_of named rows)) ≡ true → is_owner_in rows o ≡ true
 found_owns o named [] owns = absurd (cc owns)
 found_owns o named (row ∷ rows) owns = by (found_owns o named rows) (keys_equal (row_key row) named) owns
   where
@@ -59,18 +59,18 @@ found_owns o named (row ∷ rows) owns = by (found_owns o named rows) (keys_equa
         ∙ or_right (list_any (same_owner o) (owners_in_row row)) (is_owner_in rows o) (rest later)
 
 -- a row that records the owner
-record HasOwner (o : Owner) (rows : List Row) : Type 0 where
-  row : Row
+record HasOwner (o : Owner) (rows : List StoredRecord) : Type 0 where
+  row : StoredRecord
   among : Contains rows row
   owns : list_any (same_owner o) (owners_in_row row) ≡ true
 
-there : (first : Row) (rows : List Row) (row : Row) → Contains rows row → Contains (first ∷ rows) row
+there : (first : StoredRecord) (rows : List StoredRecord) (row : StoredRecord) → Contains rows row → Contains (first ∷ rows) row
 there first rows row (k, within, is) = (suc k, omega arith, is)
 
-later_row : (o : Owner) (first : Row) (rows : List Row) → HasOwner o rows → HasOwner o (first ∷ rows)
+later_row : (o : Owner) (first : StoredRecord) (rows : List StoredRecord) → HasOwner o rows → HasOwner o (first ∷ rows)
 later_row o first rows has = record { row = has.row; among = there first rows has.row has.among; owns = has.owns }
 
-row_with : (o : Owner) (rows : List Row) → is_owner_in rows o ≡ true → HasOwner o rows
+row_with : (o : Owner) (rows : List StoredRecord) → is_owner_in rows o ≡ true → HasOwner o rows
 row_with o [] owns = absurd (cc owns)
 row_with o (row ∷ rows) owns =
     elim (either (list_any (same_owner o) (owners_in_row row)) (is_owner_in rows o) (sym (list_any-append (same_owner o) (owners_in_row row) (owners_in rows)) ∙ owns)) [
@@ -92,7 +92,7 @@ allocated o cidr (a ∷ list) below owns =
       | inr later ↦ allocated o cidr list (All-tail (λ (x : Allocation). x.ordinal < cidr_size cidr) a list below) later
     ]
 
-address_from : (a : AddrValue) (cidr : CidrValue) (ordinal : ℕ) → same_address a (address_of cidr ordinal) ≡ true → (a.family ≡ cidr.family) × (a.number ≡ cidr.base + ordinal)
+address_from : (a : AddrValue) (cidr : CidrValue) (ordinal : ℕ) → same_address a (ordinal_address cidr ordinal) ≡ true → (a.family ≡ cidr.family) × (a.number ≡ cidr.base + ordinal)
 address_from a cidr ordinal same =
     let parts = and_parts (is_same_family a.family cidr.family) (a.number == cidr.base + ordinal) same in
     (same_family_from a.family cidr.family parts.0, eqb-true a.number (cidr.base + ordinal) parts.1)
@@ -150,25 +150,25 @@ around_made a whole bits low w same small few low_is w_is r is =
     ∙ ap (λ (x : AddrValue). Ok (block_around x bits)) same))
 
 -- the owner is found around its address
-pub record IsFoundAround (o : Owner) (rows : List Row) : Type 0 where
+pub record IsFoundAround (o : Owner) (rows : List StoredRecord) : Type 0 where
   pub bits : ℕ
   pub small : bits < 13
   pub owns : list_any (same_owner o) (owners_found (row_of (key.Block (block_around o.address bits)) rows)) ≡ true
 
-module _ (o : Owner) (rows : List Row) (sound : AreSoundRows rows) where
+module _ (o : Owner) (rows : List StoredRecord) (sound : AreSoundRows rows) where
   in_block : (revision : ℕ) (b : BlockValue) → Contains rows (revision, record_of.Block b) → list_any (same_owner o) (map (owner_of b.cidr) b.allocations) ≡ true → IsFoundAround o rows
   in_block revision b among owns =
       let is_block = sound.blocks revision b among in
       let it = allocated o b.cidr b.allocations (held_below b is_block) owns in
-      let same = and_parts (same_address o.address (address_of b.cidr it.allocation.ordinal) && bytes_eq o.handle it.allocation.attributes.handle) (o.stamp == it.allocation.stamp) it.same in
-      let address = address_from o.address b.cidr it.allocation.ordinal (and_parts (same_address o.address (address_of b.cidr it.allocation.ordinal)) (bytes_eq o.handle it.allocation.attributes.handle) same.0).0 in
+      let same = and_parts (same_address o.address (ordinal_address b.cidr it.allocation.ordinal) && bytes_eq o.handle it.allocation.attributes.handle) (o.stamp == it.allocation.stamp) it.same in
+      let address = address_from o.address b.cidr it.allocation.ordinal (and_parts (same_address o.address (ordinal_address b.cidr it.allocation.ordinal)) (bytes_eq o.handle it.allocation.attributes.handle) same.0).0 in
       let bits = width b.cidr.family - b.cidr.prefix in
       let around : block_around o.address bits ≡ b.cidr = around_it o.address b.cidr it.allocation.ordinal is_block.range it.below address.0 address.1 in
       let found : row_of (key.Block (block_around o.address bits)) rows ≡ Some (revision, record_of.Block b) =
       ap (λ (c : CidrValue). row_of (key.Block c) rows) around ∙ row_of-contained rows sound.ascending (revision, record_of.Block b) among in
-      record { bits = bits; small = small_power bits is_block.small; owns = ap (λ (r : Option Row). list_any (same_owner o) (owners_found r)) found ∙ owns }
+      record { bits = bits; small = small_power bits is_block.small; owns = ap (λ (r : Option StoredRecord). list_any (same_owner o) (owners_found r)) found ∙ owns }
 
-  in_row : (row : Row) → Contains rows row → list_any (same_owner o) (owners_in_row row) ≡ true → IsFoundAround o rows
+  in_row : (row : StoredRecord) → Contains rows row → list_any (same_owner o) (owners_in_row row) ≡ true → IsFoundAround o rows
   in_row (revision, record_of.Config c) among owns = absurd (cc owns)
   in_row (revision, record_of.Pools p) among owns = absurd (cc owns)
   in_row (revision, record_of.Reservations r) among owns = absurd (cc owns)

@@ -12,15 +12,15 @@ use Rattle.ipam_records.proofs.PageLemmas.{rows_of_pages-drop}
 use Rattle.ipam_model.specs.declared.request.CollectRequest.{CollectRequest}
 use Rattle.ipam_addr.specs.Holding.{is_same_family}
 use Rattle.ipam_addr.specs.Shape.{AddrValue, CidrValue}
-use Rattle.ipam_block.specs.Operations.{address_of}
+use Rattle.ipam_block.specs.Operations.{ordinal_address}
 use Rattle.ipam_model.specs.Owners.{same_address}
 use Rattle.ipam_model.specs.Pairs.{Pair, has_value}
-use Rattle.ipam_model.specs.Reads.{Row}
+use Rattle.ipam_model.specs.Reads.{StoredRecord}
 use Rattle.ipam_model.specs.Remove.{Leak, suspects, leaks_in_row}
 use Rattle.ipam_parts.proofs.PlaceFacts.{find_placed, find_nowhere}
 
 -- what a row adds to what the rows in front of it gave
-pub one_row_more : (request : CollectRequest) (rows : List Row) (place : ℕ) (row : Row) → row ≡ get_or rows place row → place < length rows
+pub one_row_more : (request : CollectRequest) (rows : List StoredRecord) (place : ℕ) (row : StoredRecord) → row ≡ get_or rows place row → place < length rows
     → suspects request (take place rows) ++ leaks_in_row request row ≡ suspects request (take (place + 1) rows)
 one_row_more request rows place row is within =
     sym (ap (suspects request) (take_more rows place row within ∙ ap (λ r. take place rows ++ r ∷ []) (sym is))
@@ -64,7 +64,7 @@ and_false false = refl
 
 -- an ordinal behind all addresses
 pub too_far : (address : AddrValue) (cidr : CidrValue) (ordinal : ℕ) → address.number < 2 ^ 128 → 2 ^ 128 ≤ cidr.base + ordinal
-    → false ≡ same_address address (address_of cidr ordinal)
+    → false ≡ same_address address (ordinal_address cidr ordinal)
 too_far address cidr ordinal small far =
     let differs : address.number ≢ cidr.base + ordinal = λ same. omega arith in
     rw (ne_eqb address.number (cidr.base + ordinal) differs) (and_false (is_same_family address.family cidr.family))

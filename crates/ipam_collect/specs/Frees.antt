@@ -6,7 +6,7 @@ use Rattle.ipam_model.specs.declared.answer.Item.{Item}
 use Rattle.ipam_model.specs.declared.outcome.CollectAnswer.{CollectAnswer}
 use Rattle.ipam_model.specs.declared.part.Left.{Left}
 use Rattle.ipam_model.specs.Remove.{Leak, collect_stops, free_leaks}
-use Rattle.ipam_model.specs.Step.{Part, followed, settled}
+use Rattle.ipam_model.specs.Step.{Part, part_then, as_word}
 use Rattle.ipam_parts.specs.declared.freeing.FreeingTurned.{FreeingTurned}
 use Rattle.ipam_parts.specs.Freeing.{freeing_rest, freeing_leaves}
 use Rattle.ipam_collect.specs.Tally.{finished, id_in}
@@ -17,7 +17,7 @@ done_of b1 b2 items = record { b1 = b1; b2 = b2; items = items }
 
 -- what is left with these items told and these leaks left
 abbrev pub leaks_left : (b1 b2 : ℕ) → List Item × List Leak → Left → Word CollectAnswer
-leaks_left b1 b2 tally left = settled collect_stops (free_leaks (done_of b1 b2 tally.0) tally.1 left)
+leaks_left b1 b2 tally left = as_word collect_stops (free_leaks (done_of b1 b2 tally.0) tally.1 left)
 
 -- what follows the freeing of the first of the leaks
 abbrev pub then_left : (b1 b2 : ℕ) → List Item × List Leak → Left → (amount : ℕ) → Part CollectAnswer
@@ -26,9 +26,9 @@ then_left b1 b2 tally now amount =
 
 abbrev pub frees_at : Frees → Word CollectAnswer
 frees_at f =
-    settled collect_stops (followed (freeing_rest (id_in f.tally.1) f.freeing) (then_left f.b1 f.b2 f.tally))
+    as_word collect_stops (part_then (freeing_rest (id_in f.tally.1) f.freeing) (then_left f.b1 f.b2 f.tally))
 
 -- what is left once the freeing goes where a reply led it
 abbrev pub frees_leaves : Frees → FreeingTurned → Word CollectAnswer
 frees_leaves f turned =
-    settled collect_stops (followed (freeing_leaves (id_in f.tally.1) f.freeing turned) (then_left f.b1 f.b2 f.tally))
+    as_word collect_stops (part_then (freeing_leaves (id_in f.tally.1) f.freeing turned) (then_left f.b1 f.b2 f.tally))

@@ -10,10 +10,10 @@ use Rattle.ipam_records.specs.declared.record.Record.TheVariants as record_of
 use Rattle.ipam_records.specs.KeyOrder.{key_cmp}
 use Rattle.ipam_records.specs.Datastore.{row_key}
 use Rattle.ipam_model.specs.Owners.{Owner, owners_in_row}
-use Rattle.ipam_model.specs.Reads.{Row}
+use Rattle.ipam_model.specs.Reads.{StoredRecord}
 
 -- each block among the rows is sound, and the keys ascend
-pub record AreSoundRows (rows : List Row) : Type 0 where
+pub record AreSoundRows (rows : List StoredRecord) : Type 0 where
   pub blocks : (revision : ℕ) (b : BlockValue) → Contains rows (revision, record_of.Block b) → IsBlock b
   pub ascending : IsStrictlySortedBy key_cmp (map row_key rows)
 
@@ -26,6 +26,6 @@ block_around a bits = record {
 }
 
 -- the owners of the row that was found
-abbrev pub owners_found : Option Row → List Owner
+abbrev pub owners_found : Option StoredRecord → List Owner
 owners_found None = []
 owners_found (Some row) = owners_in_row row

@@ -1,7 +1,7 @@
 ghost use Rattle.std.specs.Prelude.{◌≡◌, ◌+◌, ◌≤◌, [], nat_le, true, IfOk, IfNone, OnOk, OnErr};
 ghost use Rattle.ipam_records.specs.Hearing.{MayHear};
 ghost use Rattle.ipam_records.specs.Listing.{rows_of};
-ghost use Rattle.ipam_records.specs.Word.{asked, heard, ended, waits, fed};
+ghost use Rattle.ipam_records.specs.Word.{next_call, after_reply, answer_in, waits, after_feed};
 ghost use Rattle.ipam_model.specs.Remove.{collect_word, suspects, leaks};
 ghost use Rattle.ipam_model.specs.Step.{all_left as every_try};
 ghost use Rattle.ipam_collect.specs.Collect.{due_from, grace_in, grace_asked, collect_at, collect_rest, collect_goes, collect_leaves, stage_leaves, stage_fed};
@@ -124,7 +124,7 @@ impl CollectProc {
     pub fn feed(&mut self, alloc: Global, live: &[Text], at: u64) -> Result<(), AllocError>
         requires waits { waits (collect_rest self.old) ≡ true }
         requires due { due_from self.old ≤ at }
-        ensures ok { OnOk result (collect_rest self.new ≡ fed (collect_rest self.old) live.now) }
+        ensures ok { OnOk result (collect_rest self.new ≡ after_feed (collect_rest self.old) live.now) }
         ensures err { OnErr result (self.new ≡ self.old) }
         ensures grace { grace_in self.new ≡ grace_in self.old }
     {
@@ -175,7 +175,7 @@ impl Procedure for CollectProc {
     }
 
     fn go(&mut self, turned: CollectTurned) -> Option<CollectAnswer>
-        ensures answer { result ≡ ended (collect_leaves self.old turned) }
+        ensures answer { result ≡ answer_in (collect_leaves self.old turned) }
         ensures on { IfNone result (collect_rest self.new ≡ collect_leaves self.old turned) }
         ensures grace { grace_in self.new ≡ grace_in self.old }
     {
@@ -259,7 +259,7 @@ fn freed(
     stage: &mut Stage,
     turned: FreeingTurned,
 ) -> Option<CollectAnswer>
-    ensures answer { result ≡ ended (stage_leaves request.now stage.old turned) }
+    ensures answer { result ≡ answer_in (stage_leaves request.now stage.old turned) }
     ensures on { IfNone result (collect_at request.now stage.new ≡ stage_leaves request.now stage.old turned) }
 {
     match stage {

@@ -1,7 +1,7 @@
 ghost use Rattle.std.specs.Prelude.{◌≡◌, [], Some, IfOk, IfNone};
 ghost use Rattle.ipam_records.specs.Hearing.{MayHear};
 ghost use Rattle.ipam_records.specs.Said.{said};
-ghost use Rattle.ipam_records.specs.Word.{asked, heard, ended};
+ghost use Rattle.ipam_records.specs.Word.{next_call, after_reply, answer_in};
 ghost use Rattle.ipam_model.specs.Remove.{collect_stops};
 ghost use Rattle.ipam_model.specs.Step.{stop_answer};
 ghost use Rattle.ipam_collect.specs.Frees.{done_of, leaks_left, frees_at, frees_leaves};
@@ -50,7 +50,7 @@ impl Frees {
 
     #[tactic(auto, using(crate::proofs::FreesLemmas::asks))]
     pub(crate) fn call(&self, alloc: Global) -> Result<Call, AllocError>
-        ensures { IfOk result (λ call. asked (frees_at self.now) ≡ Some call) }
+        ensures { IfOk result (λ call. next_call (frees_at self.now) ≡ Some call) }
     {
         let call = self.freeing.call(alloc, self.id())?;
         Ok(call)
@@ -60,7 +60,7 @@ impl Frees {
     pub(crate) fn took(&self, alloc: Global, hearing: &Heard) -> Result<FreeingTurned, AllocError>
         requires { MayHear (frees_at self.now) (said hearing.now.reply) }
         ensures { IfOk result (λ turned. frees_leaves self.now turned
-            ≡ heard (frees_at self.now) hearing.now.moment (said hearing.now.reply)) }
+            ≡ after_reply (frees_at self.now) hearing.now.moment (said hearing.now.reply)) }
     {
         let turned = self.freeing.took(alloc, self.id(), hearing)?;
         Ok(turned)
@@ -68,7 +68,7 @@ impl Frees {
 
     /// The freeing goes where a reply led it, and once it has come to an end, to the next leak.
     pub(crate) fn go(&mut self, turned: FreeingTurned) -> Option<CollectAnswer>
-        ensures answer { result ≡ ended (frees_leaves self.old turned) }
+        ensures answer { result ≡ answer_in (frees_leaves self.old turned) }
         ensures on { IfNone result (frees_at self.new ≡ frees_leaves self.old turned) }
     {
         match self.freeing.go(turned) {
@@ -80,7 +80,7 @@ impl Frees {
 
     /// Goes to the next leak, or answers where there is none.
     fn next(&mut self, left: Left, freed: bool) -> Option<CollectAnswer>
-        ensures answer { result ≡ ended (leaks_left self.old.b1 self.old.b2 (finished freed self.old.tally.0 self.old.tally.1) left) }
+        ensures answer { result ≡ answer_in (leaks_left self.old.b1 self.old.b2 (finished freed self.old.tally.0 self.old.tally.1) left) }
         ensures on { IfNone result (frees_at self.new ≡ leaks_left self.old.b1 self.old.b2 (finished freed self.old.tally.0 self.old.tally.1) left) }
     {
         self.tally.finish(freed);

@@ -1,6 +1,6 @@
 ghost use Rattle.std.specs.Prelude.{◌≡◌, ◌<◌, ◌≤◌, ◌%◌, ◌^◌, ◌&&◌, ℕ, not, Some, IfOk};
 ghost use Rattle.std.specs.List.{list_any};
-ghost use Rattle.ipam_block.specs.Operations.{address_of};
+ghost use Rattle.ipam_block.specs.Operations.{ordinal_address};
 ghost use Rattle.ipam_records.specs.Listing.{rows_of};
 ghost use Rattle.ipam_model.specs.Owners.{is_owner_in, same_owner, same_address, owner_of, owners_in_row};
 ghost use Rattle.ipam_model.specs.Remove.{leaks, is_live};
@@ -151,7 +151,7 @@ fn is_owner(suspect: &Suspect, cidr: Cidr, allocation: &Allocation) -> bool
 /// Whether the address is that of the ordinal.
 #[tactic(auto, using(crate::proofs::SuspectLemmas::too_far))]
 fn is_address(address: Addr, cidr: Cidr, ordinal: u16) -> bool
-    ensures { result ≡ same_address address (address_of cidr ordinal) }
+    ensures { result ≡ same_address address (ordinal_address cidr ordinal) }
 {
     let base = cidr.base();
     match base.number.checked_add(u128::from(ordinal)) {

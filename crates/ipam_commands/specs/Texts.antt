@@ -8,8 +8,8 @@ use Rattle.ipam_records.specs.declared.call.Row.{Row as RowText}
 use Rattle.ipam_records.specs.declared.key.Kind.TheVariants as kind
 use Rattle.ipam_records.specs.declared.record.Record.{Record}
 use Rattle.ipam_records.specs.declared.record.Record.TheVariants as record_of
-use Rattle.ipam_records.specs.Datastore.{Datastore, listed}
-use Rattle.ipam_model.specs.Reads.{Row}
+use Rattle.ipam_records.specs.Datastore.{Datastore, rows_of_kind}
+use Rattle.ipam_model.specs.Reads.{StoredRecord}
 use Rattle.ipam_words.specs.declared.kind.RowKind.{RowKind}
 use Rattle.ipam_words.specs.Kinds.{is_of_kind}
 
@@ -46,10 +46,10 @@ abbrev pub route_line : (node : List ℕ) → Record → List ℕ
 route_line node (record_of.Affinity affinity) = affinity_line node affinity
 route_line node _ = []
 
-abbrev pub route_lines : (node : List ℕ) → List Row → List ℕ
+abbrev pub route_lines : (node : List ℕ) → List StoredRecord → List ℕ
 route_lines node [] = []
 route_lines node (row ∷ rows) = route_line node row.1 ++ route_lines node rows
 
 -- the node's affinities stand by family, base and prefix
 abbrev pub routes_text : (node : List ℕ) → Datastore → List ℕ
-routes_text node store = route_lines node (listed kind.Affinity store)
+routes_text node store = route_lines node (rows_of_kind kind.Affinity store)

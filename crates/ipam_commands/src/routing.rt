@@ -2,7 +2,7 @@
 ghost use Rattle.std.specs.Prelude.{◌≡◌, ◌++◌, IfOk, OnOk, string_bytes};
 ghost use Rattle.ipam_records.specs.Listing.{rows_of};
 ghost use Rattle.ipam_records.specs.Pages.{rows_of_pages};
-ghost use Rattle.ipam_records.specs.Datastore.{listed};
+ghost use Rattle.ipam_records.specs.Datastore.{rows_of_kind};
 ghost use Rattle.ipam_records.specs.declared.key.Kind.TheVariants as kind;
 ghost use Rattle.ipam_commands.specs.Telling.{Tells, Writes};
 ghost use Rattle.ipam_commands.specs.Texts.{affinity_line, is_confirmed, is_route, route_line, route_lines, routes_text};
@@ -49,7 +49,7 @@ fn routes_text(alloc: Global, node: &str, store: &Store) -> Result<String, Alloc
 
 /// The rows of the affinities, page by page.
 fn affinity_pages(store: &Store) -> &[Vec<(u64, Record)>]
-    ensures { rows_of_pages result.now ≡ listed kind.Affinity store.now.store }
+    ensures { rows_of_pages result.now ≡ rows_of_kind kind.Affinity store.now.store }
 {
     match store.reply(&Call::List(Kind::Affinity)) {
         Reply::Listed(listing) => listing.pages(),

@@ -7,7 +7,7 @@ use Rattle.std.specs.List.Sorted.{IsStrictlySortedBy}
 use Rattle.ipam_records.specs.declared.record.Record.{Record}
 use Rattle.ipam_records.specs.declared.key.Kind.TheVariants as kind
 use Rattle.ipam_records.specs.declared.call.Write.{Write}
-use Rattle.ipam_records.specs.Datastore.{Datastore, row_key, listed}
+use Rattle.ipam_records.specs.Datastore.{Datastore, row_key, rows_of_kind}
 use Rattle.ipam_records.specs.KeyOrder.{key_cmp, is_of_kind}
 use Rattle.ipam_records.specs.Sound.{IsDatastore}
 use Rattle.ipam_records.proofs.RowWrites.{sorted-filter}
@@ -54,10 +54,10 @@ floor_step n counter (Some c) changes = last_or n counter changes
 
 -- ---- the ring follows
 -- the affinities of a datastore stand in order
-pub listed-ascend : (base : Datastore) → IsDatastore base → IsStrictlySortedBy key_cmp (map row_key (listed kind.Affinity base))
+pub listed-ascend : (base : Datastore) → IsDatastore base → IsStrictlySortedBy key_cmp (map row_key (rows_of_kind kind.Affinity base))
 listed-ascend base sound = sorted-filter (λ row. is_of_kind kind.Affinity (row_key row)) base.rows sound.ascending
 
-pub Follows-opened : (ring : RingValue) (base : Datastore) (rows : List (ℕ × Record)) → IsDatastore base → rows ≡ listed kind.Affinity base → ring.routes ≡ routes_of rows → ring.changes ≡ [] → ring.floor ≡ base.counter → ring.counter ≡ base.counter → Follows ring base []
+pub Follows-opened : (ring : RingValue) (base : Datastore) (rows : List (ℕ × Record)) → IsDatastore base → rows ≡ rows_of_kind kind.Affinity base → ring.routes ≡ routes_of rows → ring.changes ≡ [] → ring.floor ≡ base.counter → ring.counter ≡ base.counter → Follows ring base []
 Follows-opened ring base rows sound is routes changes floor counter = record {
   ascending = sound.ascending;
   next = tt;

@@ -42,7 +42,7 @@ impl Model for Ring {
 impl Ring {
     ghost use Rattle.ipam_records.specs.declared.call.Write.{Write};
     ghost use Rattle.ipam_records.specs.declared.key.Kind.TheVariants as kind;
-    ghost use Rattle.ipam_records.specs.Datastore.{Datastore, listed, row_key};
+    ghost use Rattle.ipam_records.specs.Datastore.{Datastore, rows_of_kind, row_key};
     ghost use Rattle.ipam_records.specs.KeyOrder.{key_cmp};
     ghost use Rattle.ipam_records.specs.Sound.{IsDatastore};
     ghost use Rattle.ipam_feed.specs.Route.{routes_in, route_cmp};
@@ -55,7 +55,7 @@ impl Ring {
     pub fn open(alloc: Global, affinities: &Listing, counter: u64) -> Result<Ring, AllocError>
         requires { IsStrictlySortedBy key_cmp (map row_key (rows_of affinities.now)) }
         ensures follows { IfOk result (λ ring. (base : Datastore) → IsDatastore base
-            → rows_of affinities.now ≡ listed kind.Affinity base → counter ≡ base.counter → Follows ring base []) }
+            → rows_of affinities.now ≡ rows_of_kind kind.Affinity base → counter ≡ base.counter → Follows ring base []) }
         ensures counter { IfOk result (λ ring. ring.counter ≡ counter) }
     {
         Ok(Ring {

@@ -22,7 +22,7 @@ use Rattle.ipam_records.specs.Sound.{IsRow}
 use Rattle.ipam_model.specs.Consistent.{IsConsistent, cidr_named}
 use Rattle.ipam_model.specs.Opened.{AreByKey, IsRefusedBy, IsTextOf, OpensAs, Texts, texts_of}
 use Rattle.ipam_model.specs.History.{cluster_at, Lawful}
-use Rattle.ipam_model.specs.Reads.{Row}
+use Rattle.ipam_model.specs.Reads.{StoredRecord}
 use Rattle.ipam_laws.proofs.OpenedHistory.{opened_again}
 use Rattle.ipam_laws.proofs.Openings.{opens_as_one}
 use Rattle.ipam_opening.specs.declared.fault.OpenFault.{OpenFault}
@@ -75,7 +75,7 @@ consistent = record {
     counted = lit≤ tt;
   };
   at_slots = λ row cidr among named.
-      absurd (cc (named, ap (λ (r : Row). cidr_named (row_key r)) (only (1, Pools (pool ∷ [])) row among)));
+      absurd (cc (named, ap (λ (r : StoredRecord). cidr_named (row_key r)) (only (1, Pools (pool ∷ [])) row among)));
   covered = λ id cidr. lit≤ tt;
   agrees = record {
     of_block = λ cidr node h. absurd (cc h.1.1);

@@ -12,7 +12,7 @@ use Rattle.ipam_model.specs.declared.request.CollectRequest.{CollectRequest}
 use Rattle.ipam_model.specs.declared.request.Request.{Request}
 use Rattle.ipam_model.specs.declared.request.Request.TheVariants.{Add, AddThis, Del, Check, Release, Collect, Admin, Probe}
 use Rattle.ipam_model.specs.Cluster as model
-use Rattle.ipam_model.specs.Cluster.{after, fed_with, goes_on, with_slot}
+use Rattle.ipam_model.specs.Cluster.{after, run_after_feed, goes_on, with_slot}
 use Rattle.ipam_model.specs.Course.{Event, Begin, Turn, Feed, Stop, Restart}
 use Rattle.ipam_model.specs.CourseLaw.{event_of}
 use Rattle.ipam_model.specs.History.{cluster_at}
@@ -45,7 +45,7 @@ module _ (Holds : Request → Type 0) where
   answered store moment None None h = tt
   answered store moment None (Some running) h = h
 
-  fed-list : (live : List (List ℕ)) (one : Option model.Running) → IfRuns Holds one → IfRuns Holds (fed_with live one)
+  fed-list : (live : List (List ℕ)) (one : Option model.Running) → IfRuns Holds one → IfRuns Holds (run_after_feed live one)
   fed-list live None h = tt
   fed-list live (Some running) h = h
 
@@ -53,7 +53,7 @@ module _ (Holds : Request → Type 0) where
       → (k : ℕ) → IfRuns Holds ((after cluster made).slots k)
   unfolding after
   runs-after cluster (entry.Began slot request) all own = put slot (Some (record { request = request; word = word_of request })) cluster.slots own all
-  runs-after cluster (entry.Fed slot at live) all own = put slot (fed_with live (cluster.slots slot)) cluster.slots (fed-list live (cluster.slots slot) (all slot)) all
+  runs-after cluster (entry.Fed slot at live) all own = put slot (run_after_feed live (cluster.slots slot)) cluster.slots (fed-list live (cluster.slots slot) (all slot)) all
   runs-after cluster (entry.Stopped slot) all own = put slot None cluster.slots tt all
   runs-after cluster (entry.Called c) all own =
       put c.slot (goes_on cluster.store cluster.entries c.answer (cluster.slots c.slot)) cluster.slots

@@ -4,7 +4,7 @@ use Rattle.ipam_block.specs.declared.allocation.Allocation.{Allocation}
 use Rattle.ipam_records.specs.declared.record.Record.{Record}
 use Rattle.ipam_records.specs.declared.record.Record.TheVariants as record_of
 use Rattle.ipam_model.specs.declared.entry.Entry.{Entry}
-use Rattle.ipam_model.specs.Reads.{Row}
+use Rattle.ipam_model.specs.Reads.{StoredRecord}
 use Rattle.ipam_gen.specs.declared.summary.Numbers.{Numbers}
 use Rattle.ipam_gen.specs.Generated.{IsGenerated}
 use Rattle.ipam_gen.specs.Summary.{Summary, summary_of}
@@ -25,8 +25,8 @@ owned_in (record_of.Block b) = length b.allocations
 owned_in _ = 0
 
 -- how many by what all of them say
-abbrev pub owned_among : List Row → ℕ
-owned_among rows = sum_by (λ (row : Row). owned_in row.1) rows
+abbrev pub owned_among : List StoredRecord → ℕ
+owned_among rows = sum_by (λ (row : StoredRecord). owned_in row.1) rows
 
 -- these are the numbers of the generator's course
 pub record IsCourse (count : ℕ) (summary : Summary) : Type 0 where

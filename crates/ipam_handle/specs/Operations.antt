@@ -31,8 +31,8 @@ counts_with counts block count =
     else insert_entry cidr_cmp counts block count
 
 -- the handle with more, or fewer, addresses of the block
-abbrev pub raised : HandleValue → CidrValue → ℕ → HandleValue
-raised h block by = record h { counts = counts_with h.counts block (count_of h block + by) }
+abbrev pub with_raised_count : HandleValue → CidrValue → ℕ → HandleValue
+with_raised_count h block by = record h { counts = counts_with h.counts block (count_of h block + by) }
 
-abbrev pub lowered : HandleValue → CidrValue → ℕ → HandleValue
-lowered h block by = record h { counts = counts_with h.counts block (count_of h block - by) }
+abbrev pub with_lowered_count : HandleValue → CidrValue → ℕ → HandleValue
+with_lowered_count h block by = record h { counts = counts_with h.counts block (count_of h block - by) }

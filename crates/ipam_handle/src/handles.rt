@@ -50,7 +50,7 @@ impl Model for Handle {
 }
 
 impl Handle {
-    ghost use Rattle.ipam_handle.specs.Operations.{content, count_of, HasBlock, KeepsOthers, raised, lowered};
+    ghost use Rattle.ipam_handle.specs.Operations.{content, count_of, HasBlock, KeepsOthers, with_raised_count, with_lowered_count};
 
     /// A handle with no counts, with no memory taken.
     pub fn new(alloc: Global, id: Text) -> Handle
@@ -110,7 +110,7 @@ impl Handle {
     /// Adds to the count of the block. A block that has one takes no memory.
     pub fn raise(&mut self, cidr: Cidr, by: u32) -> Result<(), RaiseFault>
         requires { 0 < by }
-        ensures ok { OnOk result (self.new ≡ raised self.old cidr by) }
+        ensures ok { OnOk result (self.new ≡ with_raised_count self.old cidr by) }
         ensures err { OnErr result (self.new ≡ self.old) }
         ensures full { (result ≡ Err RaiseFault.CountFull) ↔ (u32.MAX < count_of self.old cidr + by) }
         ensures memory { result ≡ Err RaiseFault.Memory → ¬ (HasBlock self.old cidr) }
@@ -129,7 +129,7 @@ impl Handle {
     pub fn lower(&mut self, cidr: Cidr, by: u32)
         requires some { 0 < by }
         requires within { by ≤ count_of self.old cidr }
-        ensures lowered { self.new ≡ lowered self.old cidr by }
+        ensures lowered { self.new ≡ with_lowered_count self.old cidr by }
         ensures here { count_of self.new cidr + by ≡ count_of self.old cidr }
         ensures elsewhere { KeepsOthers self.old self.new cidr }
         ensures gone { by ≡ count_of self.old cidr → ¬ (HasBlock self.new cidr) }

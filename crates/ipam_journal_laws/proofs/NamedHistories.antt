@@ -12,7 +12,7 @@ use Rattle.ipam_records.specs.Key.{key_of}
 use Rattle.ipam_records.specs.KeyOrder.{is_of_kind}
 use Rattle.ipam_records.specs.Said.{Said, Can, Full, Spent, Conflict}
 use Rattle.ipam_records.specs.Sound.{IsDatastore, IsRow}
-use Rattle.ipam_records.specs.Word.{Word, Ends, Asks, Waits, ended, fed}
+use Rattle.ipam_records.specs.Word.{Word, Ends, Asks, Waits, answer_in, after_feed}
 use Rattle.ipam_model.specs.declared.answer.Answer.{Answer}
 use Rattle.ipam_model.specs.declared.entry.CallName.{CallName}
 use Rattle.ipam_model.specs.declared.entry.Called.{Called}
@@ -20,10 +20,10 @@ use Rattle.ipam_model.specs.declared.entry.Entry.{Entry}
 use Rattle.ipam_model.specs.declared.entry.Entry.TheVariants as entry
 use Rattle.ipam_model.specs.declared.entry.Fate.{Fate}
 use Rattle.ipam_model.specs.declared.entry.Fate.TheVariants.{Well, Before, After}
-use Rattle.ipam_model.specs.Cluster.{Running, after, answered, begun, call_entry, called, fed_with, goes_on}
+use Rattle.ipam_model.specs.Cluster.{Running, after, word_after_reply, fresh_run, call_entry, call_made, run_after_feed, goes_on}
 use Rattle.ipam_model.specs.History.{Base, Lawful, cluster_at}
 use Rattle.ipam_model.specs.Named.{name_of}
-use Rattle.ipam_model.specs.Reads.{Row}
+use Rattle.ipam_model.specs.Reads.{StoredRecord}
 use Rattle.ipam_laws.proofs.KeptWords.{slot-is}
 use Rattle.ipam_laws.proofs.SoundHistory.{sound_law}
 use Rattle.ipam_laws.proofs.SoundSteps.{row-there}
@@ -36,11 +36,11 @@ use Rattle.ipam_journal_laws.proofs.NamedRequests.{word-named}
 found-sound : (store : Datastore) (k : Key) → IsDatastore store → IsSoundSaid (reply_to_get (row_of k store.rows))
 found-sound store k sound = from (row_of k store.rows) refl
   where
-    from : (o : Option Row) → row_of k store.rows ≡ o → IsSoundSaid (reply_to_get o)
+    from : (o : Option StoredRecord) → row_of k store.rows ≡ o → IsSoundSaid (reply_to_get o)
     from None e = tt
     from (Some row) e = (row-there store k row.0 row.1 sound e).is_record
 
-rows-sound : (counter : ℕ) (rows : List Row) → AllByRecursion (IsRow counter) rows → (kind : Kind) → AllByRecursion IsSoundRow (filter (λ row. is_of_kind kind (row_key row)) rows)
+rows-sound : (counter : ℕ) (rows : List StoredRecord) → AllByRecursion (IsRow counter) rows → (kind : Kind) → AllByRecursion IsSoundRow (filter (λ row. is_of_kind kind (row_key row)) rows)
 rows-sound counter [] h kind = tt
 rows-sound counter (row ∷ rows) h kind = from (is_of_kind kind (row_key row)) (rows-sound counter rows h.1 kind)
   where
@@ -55,7 +55,7 @@ granted-sound store = from (nat_lt store.counter last_revision)
     from true = tt
     from false = tt
 
-created-sound : (store : Datastore) (k : Key) (o : Option Row) → IsSoundSaid (reply_to_create store k o)
+created-sound : (store : Datastore) (k : Key) (o : Option StoredRecord) → IsSoundSaid (reply_to_create store k o)
 created-sound store k (Some row) = tt
 created-sound store k None = from (has_room store k)
   where
@@ -63,7 +63,7 @@ created-sound store k None = from (has_room store k)
     from true = granted-sound store
     from false = tt
 
-changed-sound : (store : Datastore) (revision : ℕ) (o : Option Row) → IsSoundSaid (reply_to_change store revision o)
+changed-sound : (store : Datastore) (revision : ℕ) (o : Option StoredRecord) → IsSoundSaid (reply_to_change store revision o)
 changed-sound store revision None = tt
 changed-sound store revision (Some row) = from (row.0 == revision)
   where
@@ -84,16 +84,16 @@ abbrev OfSlot : Option Running → Type 0
 OfSlot None = Unit {0}
 OfSlot (Some running) = IsNamed running.word
 
-fed-word : (live : List (List ℕ)) (w : Word Answer) → IsNamed w → IsNamed (fed w live)
+fed-word : (live : List (List ℕ)) (w : Word Answer) → IsNamed w → IsNamed (after_feed w live)
 fed-word live (Ends answer) h = h
 fed-word live (Asks label asked next) h = h
 fed-word live (Waits next) h = h live
 
-fed-slot : (live : List (List ℕ)) (o : Option Running) → OfSlot o → OfSlot (fed_with live o)
+fed-slot : (live : List (List ℕ)) (o : Option Running) → OfSlot o → OfSlot (run_after_feed live o)
 fed-slot live None h = tt
 fed-slot live (Some running) h = fed-word live running.word h
 
-heard-word : (store : Datastore) (moment : ℕ) (w : Word Answer) → IsDatastore store → IsNamed w → IsNamed (answered store moment w)
+heard-word : (store : Datastore) (moment : ℕ) (w : Word Answer) → IsDatastore store → IsNamed w → IsNamed (word_after_reply store moment w)
 heard-word store moment (Ends answer) sound h = h
 heard-word store moment (Asks label asked next) sound h = h.1 moment (reply_of store asked) (said-sound store asked sound)
 heard-word store moment (Waits next) sound h = h
@@ -107,10 +107,10 @@ slots-named : (base : Base) (history : List Entry) → IsDatastore base.store �
 unfolding cluster_at after Lawful
 slots-named base [] sound h slot = tt
 slots-named base (entry.Began other request ∷ history) sound h slot =
-    slot-is OfSlot other slot (begun request) (cluster_at base history).slots
+    slot-is OfSlot other slot (fresh_run request) (cluster_at base history).slots
     (λ own. word-named request h.1.sound) (λ differ. slots-named base history sound h.0 slot)
 slots-named base (entry.Fed other at live ∷ history) sound h slot =
-    slot-is OfSlot other slot (fed_with live ((cluster_at base history).slots other)) (cluster_at base history).slots
+    slot-is OfSlot other slot (run_after_feed live ((cluster_at base history).slots other)) (cluster_at base history).slots
     (λ own. fed-slot live ((cluster_at base history).slots other) (slots-named base history sound h.0 other))
     (λ differ. slots-named base history sound h.0 slot)
 slots-named base (entry.Stopped other ∷ history) sound h slot =
@@ -129,7 +129,7 @@ abbrev call_of : Option Called → CallName → CallName
 call_of None other = other
 call_of (Some c) other = c.call
 
-same-call : (slot : ℕ) (fate : Fate) (asked : Call) (reply : Said) (answer : Option Answer) (c : Called) → Some (called slot fate asked reply answer) ≡ Some c → name_of asked ≡ c.call
+same-call : (slot : ℕ) (fate : Fate) (asked : Call) (reply : Said) (answer : Option Answer) (c : Called) → Some (call_made slot fate asked reply answer) ≡ Some c → name_of asked ≡ c.call
 same-call slot Well asked reply answer c e = ap (λ o. call_of o (name_of asked)) e
 same-call slot Before asked reply answer c e = ap (λ o. call_of o (name_of asked)) e
 same-call slot After asked reply answer c e = ap (λ o. call_of o (name_of asked)) e
@@ -137,7 +137,7 @@ same-call slot After asked reply answer c e = ap (λ o. call_of o (name_of asked
 call-named : (slot : ℕ) (fate : Fate) (store : Datastore) (moment : ℕ) (w : Word Answer) (c : Called) → IsNamed w → call_entry slot fate store moment w ≡ Some c → IsAboutName c.call
 call-named slot fate store moment (Ends answer) c h e = absurd (cc e)
 call-named slot fate store moment (Asks label asked next) c h e =
-    subst (λ (n : CallName). IsAboutName n) (same-call slot fate asked (reply_of store asked) (ended (next moment (reply_of store asked))) c e) h.0
+    subst (λ (n : CallName). IsAboutName n) (same-call slot fate asked (reply_of store asked) (answer_in (next moment (reply_of store asked))) c e) h.0
 call-named slot fate store moment (Waits next) c h e = absurd (cc e)
 
 pub history_named : (base : Base) (history : List Entry) → IsDatastore base.store → Lawful base history → AllByRecursion HasNames history

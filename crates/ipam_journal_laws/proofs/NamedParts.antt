@@ -10,7 +10,7 @@ use Rattle.ipam_affinity.specs.declared.record.Affinity.{Affinity}
 use Rattle.ipam_affinity.specs.declared.state.State.{State}
 use Rattle.ipam_affinity.specs.declared.state.State.TheVariants.{Pending, Confirmed, PendingDeletion}
 use Rattle.ipam_handle.specs.Shape as handle
-use Rattle.ipam_handle.specs.Operations.{count_of, raised, lowered}
+use Rattle.ipam_handle.specs.Operations.{count_of, with_raised_count, with_lowered_count}
 use Rattle.ipam_records.specs.declared.record.Record.{Record}
 use Rattle.ipam_records.specs.declared.record.Record.TheVariants as record_of
 use Rattle.ipam_records.specs.Key.{key_of}
@@ -33,14 +33,14 @@ use Rattle.ipam_model.specs.Assigning.{Target, assign, assign_block, assign_lost
 use Rattle.ipam_model.specs.Choice.{Seen}
 use Rattle.ipam_model.specs.Counting.{most_count, raise, raise_once, raise_write, lower, lower_once, written_or_deleted, revision_said, Freeing, free, free_once, free_found, free_these, credit_of}
 use Rattle.ipam_model.specs.Named.{name_of}
-use Rattle.ipam_model.specs.Reads.{Row, config_said, pools_said, reservations_said, rows_said, handle_said, block_said, affinity_said}
-use Rattle.ipam_model.specs.Step.{all_left, left_of, Part, StopAnswers, answer_of, goes, stops, tries, retried, rounds, settled, after_write, on_write, onward, followed, write_back}
+use Rattle.ipam_model.specs.Reads.{StoredRecord, config_said, pools_said, reservations_said, rows_said, handle_said, block_said, affinity_said}
+use Rattle.ipam_model.specs.Step.{all_left, left_of, Part, StopAnswers, answer_of, goes, stops, tries, with_retries, rounds, as_word, after_write, on_write, onward, part_then, write_back}
 use Rattle.ipam_journal_laws.specs.Names.{HasName, IsAboutName}
 
 -- ---- words
 
 -- the record of the row is sound
-abbrev pub IsSoundRow : Row → Type 0
+abbrev pub IsSoundRow : StoredRecord → Type 0
 IsSoundRow row = IsRecord row.1
 
 -- every record that is told of is sound
@@ -66,14 +66,14 @@ bound-named (Ends answer) follows h k = k answer
 bound-named (Asks label asked next) follows h k = (h.0, λ moment said told. bound-named (next moment said) follows (h.1 moment said told) k)
 bound-named (Waits next) follows h k = λ live. bound-named (next live) follows (h live) k
 
-pub followed-named : {A B : Type 0} → (part : Part A) (follows : Left → A → Part B) → IsNamed part → ((left : Left) (a : A) → IsNamed (follows left a)) → IsNamed (followed part follows)
+pub followed-named : {A B : Type 0} → (part : Part A) (follows : Left → A → Part B) → IsNamed part → ((left : Left) (a : A) → IsNamed (follows left a)) → IsNamed (part_then part follows)
 followed-named {A = A} part follows h k = bound-named part (onward follows) h ends
   where
     ends : (o : Outcome A) → IsNamed (onward follows o)
     ends (Went left a) = k left a
     ends (Stops left why) = tt
 
-pub settled-named : {A : Type 0} → (answers : StopAnswers A) (part : Part A) → IsNamed part → IsNamed (settled answers part)
+pub settled-named : {A : Type 0} → (answers : StopAnswers A) (part : Part A) → IsNamed part → IsNamed (as_word answers part)
 settled-named answers part h = bound-named part (λ outcome. Ends (answer_of answers outcome)) h (λ o. tt)
 
 pub after_write-named : {A : Type 0} → (said : Said) (took : ℕ → Word A) (lost full spent : Word A) → ((revision : ℕ) → IsNamed (took revision)) → IsNamed lost → IsNamed full → IsNamed spent → IsNamed (after_write said took lost full spent)
@@ -132,7 +132,7 @@ handle_said-named id Spent h told = h
 raise_write-named : (id : List ℕ) (cidr : CidrValue) (again : Part (Unit {0})) (left : Left) (moment : ℕ) (said : Said) (b : Bool) → IsHandleId id → IsSoundSaid said → IsNamed again → IsNamed (cond b (stops left (CountAtLimit moment)) (raise_write id cidr again left said))
 raise_write-named id cidr again left moment said true named told h = tt
 raise_write-named id cidr again left moment said false named told h = (
-  write_back-named said (record_of.Handle (raised (handle_said id said) cidr 1)) (handle_said-named id said named told),
+  write_back-named said (record_of.Handle (with_raised_count (handle_said id said) cidr 1)) (handle_said-named id said named told),
   λ second reply answered. on_write-named reply left (λ revision. goes left tt) again (λ revision. tt) h,
 )
 
@@ -151,7 +151,7 @@ lower_once-named : (credit : Credit) → IsHandleId credit.handle → (again : P
 lower_once-named credit named again left h = (
   named,
   λ moment said told.
-      let less = lowered (handle_said credit.handle said) credit.block credit.amount in (
+      let less = with_lowered_count (handle_said credit.handle said) credit.block credit.amount in (
         lowering-named less less.counts (revision_said said) (handle_said-named credit.handle said named told),
         λ second reply answered. on_write-named reply left (λ revision. goes left tt) again (λ revision. tt) h,
       ),
@@ -167,7 +167,7 @@ free_these-named what again left zero found named h = tt
 free_these-named what again left (suc more) found named h = (
   tt,
   λ moment reply answered. on_write-named reply left
-      (λ taken. followed (lower (credit_of what.handle what.block (suc more)) left) (λ now done. goes now (suc more))) again
+      (λ taken. part_then (lower (credit_of what.handle what.block (suc more)) left) (λ now done. goes now (suc more))) again
       (λ taken. followed-named (lower (credit_of what.handle what.block (suc more)) left) (λ now done. goes now (suc more)) (lower-named (credit_of what.handle what.block (suc more)) left named) (λ now done. tt)) h,
 )
 
@@ -293,7 +293,7 @@ release_once-named tie named again left h = (named, λ moment said told. release
 pub release-named : (node : List ℕ) (cidr : CidrValue) → IsName node → IsNamed (release node cidr)
 release-named node cidr named =
     let tie : Tie = record { node = node; block = cidr } in
-    settled-named release_stops (retried (release_once tie) all_left) (tries-named (release_once tie) (release_once-named tie named) 63 63)
+    settled-named release_stops (with_retries (release_once tie) all_left) (tries-named (release_once tie) (release_once-named tie named) 63 63)
 
 -- ---- assigning
 

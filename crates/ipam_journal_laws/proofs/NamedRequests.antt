@@ -53,11 +53,11 @@ use Rattle.ipam_model.specs.Choice.{Share, Takes, Claims, Leaves, by_share, shar
 use Rattle.ipam_model.specs.Counting.{freeing_all, free}
 use Rattle.ipam_model.specs.Look as look
 use Rattle.ipam_model.specs.Owners.{is_owner_in}
-use Rattle.ipam_model.specs.Reads.{Row, config_said, pools_said, rows_said, handle_said, block_said}
+use Rattle.ipam_model.specs.Reads.{StoredRecord, config_said, pools_said, rows_said, handle_said, block_said}
 use Rattle.ipam_model.specs.Remove as remove
 use Rattle.ipam_model.specs.Requests.{word_of, told_as}
 use Rattle.ipam_model.specs.SoundRequest.{IsSoundRequest}
-use Rattle.ipam_model.specs.Step.{all_left, Part, goes, retried, in_rounds}
+use Rattle.ipam_model.specs.Step.{all_left, Part, goes, with_retries, in_rounds}
 use Rattle.ipam_model.specs.Told.{of_add, of_add_this, of_del, of_check, of_release, of_collect, of_admin, of_probe}
 use Rattle.ipam_model.specs.Usable.{families_if, pool_of, usable_pool_of}
 use Rattle.ipam_laws.proofs.RequestSteps.{key-changed}
@@ -229,7 +229,7 @@ leaks_of-named request cidr (a ∷ held) h = from (remove.may_leak request a) (l
     from true rest = (h.0.id, rest)
     from false rest = rest
 
-in_row-named : (request : CollectRequest) (row : Row) → IsSoundRow row → AllByRecursion IsLeakNamed (remove.leaks_in_row request row)
+in_row-named : (request : CollectRequest) (row : StoredRecord) → IsSoundRow row → AllByRecursion IsLeakNamed (remove.leaks_in_row request row)
 in_row-named request (revision, record_of.Block b) sound = leaks_of-named request b.cidr b.allocations (recursion_from_All _ b.allocations sound.attributes)
 in_row-named request (revision, record_of.Config config) sound = tt
 in_row-named request (revision, record_of.Pools pools) sound = tt
@@ -241,12 +241,12 @@ both-named : (leaks others : List remove.Leak) → AllByRecursion IsLeakNamed le
 both-named [] others h k = k
 both-named (leak ∷ leaks) others h k = (h.0, both-named leaks others h.1 k)
 
-suspects-named : (request : CollectRequest) (rows : List Row) → AllByRecursion IsSoundRow rows → AllByRecursion IsLeakNamed (remove.suspects request rows)
+suspects-named : (request : CollectRequest) (rows : List StoredRecord) → AllByRecursion IsSoundRow rows → AllByRecursion IsLeakNamed (remove.suspects request rows)
 suspects-named request [] sound = tt
 suspects-named request (row ∷ rows) sound =
     both-named (remove.leaks_in_row request row) (remove.suspects request rows) (in_row-named request row sound.0) (suspects-named request rows sound.1)
 
-leaks-named : (kept : List remove.Leak) (live : List (List ℕ)) (rows : List Row) → AllByRecursion IsLeakNamed kept → AllByRecursion IsLeakNamed (remove.leaks kept live rows)
+leaks-named : (kept : List remove.Leak) (live : List (List ℕ)) (rows : List StoredRecord) → AllByRecursion IsLeakNamed kept → AllByRecursion IsLeakNamed (remove.leaks kept live rows)
 leaks-named [] live rows h = tt
 leaks-named (leak ∷ kept) live rows h = from (is_owner_in rows leak.owner && not (remove.is_live live leak.owner.handle)) (leaks-named kept live rows h.1)
   where
@@ -306,7 +306,7 @@ change_key-named (setting.Unreserve name) = tt
 change_key-named (setting.Config config) = tt
 
 -- the record that a change makes is that of its key, which is of no node and of no handle
-becomes-named : (request : Setting) (said : Said) (new : Record) → change.changed request said ≡ change.Becomes new → HasName (key_of new)
+becomes-named : (request : Setting) (said : Said) (new : Record) → change.admin_change request said ≡ change.Becomes new → HasName (key_of new)
 becomes-named request said new e = subst (λ (k : Key). HasName k) (sym (key-changed request said new e)) (change_key-named request)
 
 admin_write-named : (again : Part AdminAnswer) (left : Left) (said : Said) (changed : change.Changed) → ((new : Record) → changed ≡ change.Becomes new → HasName (key_of new)) → IsNamed again → IsNamed (change.admin_write again left said changed)
@@ -318,10 +318,10 @@ admin_write-named again left said (change.Refuses number name) named h = tt
 
 admin_once-named : (request : Setting) (again : Part AdminAnswer) (left : Left) → IsNamed again → IsNamed (change.admin_once request again left)
 admin_once-named request again left h =
-    (change_key-named request, λ moment said told. admin_write-named again left said (change.changed request said) (becomes-named request said) h)
+    (change_key-named request, λ moment said told. admin_write-named again left said (change.admin_change request said) (becomes-named request said) h)
 
 admin-named : (request : Setting) → IsNamed (change.admin_word request)
-admin-named request = settled-named change.admin_stops (retried (change.admin_once request) all_left) (tries-named (change.admin_once request) (admin_once-named request) 63 63)
+admin-named request = settled-named change.admin_stops (with_retries (change.admin_once request) all_left) (tries-named (change.admin_once request) (admin_once-named request) 63 63)
 
 -- ---- the probe
 

@@ -15,7 +15,7 @@ use Rattle.ipam_records.specs.Key.{key_of}
 use Rattle.ipam_records.specs.KeyText.{IsKey}
 use Rattle.ipam_records.specs.Said.{Said, Found, Missing, Listed, Can, Exists, Conflict, Full, Spent}
 use Rattle.ipam_records.specs.Sound.{IsDatastore, IsRow}
-use Rattle.ipam_records.specs.Word.{Word, Ends, Asks, Waits, asked, ended}
+use Rattle.ipam_records.specs.Word.{Word, Ends, Asks, Waits, next_call, answer_in}
 use Rattle.ipam_records.proofs.DatastoreLemmas.{row_key-row_of, row_of-with_row}
 use Rattle.ipam_model.specs.declared.answer.Answer.{Answer}
 use Rattle.ipam_model.specs.declared.entry.CallName.{CallName}
@@ -24,13 +24,13 @@ use Rattle.ipam_model.specs.declared.entry.Entry.{Entry}
 use Rattle.ipam_model.specs.declared.entry.Entry.TheVariants as entry
 use Rattle.ipam_model.specs.declared.entry.Fate.{Fate}
 use Rattle.ipam_model.specs.declared.entry.Fate.TheVariants.{Before, After}
-use Rattle.ipam_model.specs.Cluster.{Running, after, call_entry, called, store_after, store_with}
+use Rattle.ipam_model.specs.Cluster.{Running, after, call_entry, call_made, store_after, store_with}
 use Rattle.ipam_model.specs.Consistent.{IsConsistent}
 use Rattle.ipam_model.specs.FateLaw.{IsSameCall}
 use Rattle.ipam_model.specs.History.{Base, Lawful, cluster_at, store_at}
 use Rattle.ipam_model.specs.Named.{name_of}
 use Rattle.ipam_model.specs.Opened.{IsTextOf, text_of, texts_of}
-use Rattle.ipam_model.specs.Reads.{Row}
+use Rattle.ipam_model.specs.Reads.{StoredRecord}
 use Rattle.ipam_laws.proofs.Fates.{any_fate}
 use Rattle.ipam_laws.proofs.Members.{all-of, out-map}
 use Rattle.ipam_laws.proofs.OpenedHistory.{opened_again}
@@ -130,7 +130,7 @@ writes-key own Full done e = absurd (cc e)
 writes-key own Spent done e = absurd (cc e)
 
 -- the key that a granted write names is sound, where the datastore behind it is
-changed-there : (store : Datastore) (seen revision : ℕ) (o : Option Row) → reply_to_change store seen o ≡ Can revision → (row : Row) × (o ≡ Some row)
+changed-there : (store : Datastore) (seen revision : ℕ) (o : Option StoredRecord) → reply_to_change store seen o ≡ Can revision → (row : StoredRecord) × (o ≡ Some row)
 changed-there store seen revision None e = absurd (cc e)
 changed-there store seen revision (Some row) e = (row, refl)
 
@@ -169,13 +169,13 @@ record DoneOf (slot : ℕ) (store : Datastore) (own : Call) (c : Called) : Type 
   pub store_is : store_after c store ≡ store_with (write_granted own (reply_of store own)) store
   pub name : c.call ≡ name_of own
 
-done-of : (slot : ℕ) (store : Datastore) (moment : ℕ) (word : Word Answer) (own : Call) (c : Called) → asked word ≡ Some own → call_entry slot After store moment word ≡ Some c → DoneOf slot store own c
+done-of : (slot : ℕ) (store : Datastore) (moment : ℕ) (word : Word Answer) (own : Call) (c : Called) → next_call word ≡ Some own → call_entry slot After store moment word ≡ Some c → DoneOf slot store own c
 done-of slot store moment (Ends answer) own c asks e = absurd (cc asks)
 done-of slot store moment (Waits next) own c asks e = absurd (cc asks)
 done-of slot store moment (Asks label first next) own c asks e =
     let same : first ≡ own = cc asks in
-    let is : called slot After first (reply_of store first) (ended (next moment (reply_of store first))) ≡ c = cc e in
-    subst (λ (x : Called). DoneOf slot store own x) is (subst (λ (o : Call). DoneOf slot store o (called slot After first (reply_of store first) (ended (next moment (reply_of store first))))) same (record {
+    let is : call_made slot After first (reply_of store first) (answer_in (next moment (reply_of store first))) ≡ c = cc e in
+    subst (λ (x : Called). DoneOf slot store own x) is (subst (λ (o : Call). DoneOf slot store o (call_made slot After first (reply_of store first) (answer_in (next moment (reply_of store first))))) same (record {
       store_is = ap (λ w. store_with w store) (write_told-granted first (reply_of store first));
       name = refl;
     }))
@@ -195,7 +195,7 @@ pub record DoneInstead (base : Base) (history : List Entry) (c : Called) (done :
   pub own : WritesKeyOf (texts_written done) c.call
 
 pub done-instead : (base : Base) (history : List Entry) (c : Called) (one : Running) (own : Call) (done : Write) → IsConsistent base.store → Lawful base (entry.Called c ∷ history)
-    → (cluster_at base history).slots c.slot ≡ Some one → asked one.word ≡ Some own → write_granted own (reply_of (store_at base history) own) ≡ Some done → DoneInstead base history c done
+    → (cluster_at base history).slots c.slot ≡ Some one → next_call one.word ≡ Some own → write_granted own (reply_of (store_at base history) own) ≡ Some done → DoneInstead base history c done
 unfolding Lawful cluster_at
 done-instead base history c one own done consistent lawful runs asks grants =
     let (other, same, other_lawful) = any_fate base history c After lawful in
@@ -203,7 +203,7 @@ done-instead base history c one own done consistent lawful runs asks grants =
     let store = store_at base history in
     let there : (cluster_at base history).slots c.slot ≡ Some may.running = subst (λ (s : ℕ). (cluster_at base history).slots s ≡ Some may.running) same.same_slot may.runs in
     let running : one ≡ may.running = cc (there, runs) in
-    let asks_there : asked may.running.word ≡ Some own = subst (λ (r : Running). asked r.word ≡ Some own) running asks in
+    let asks_there : next_call may.running.word ≡ Some own = subst (λ (r : Running). next_call r.word ≡ Some own) running asks in
     let made : call_entry other.slot After store (cluster_at base history).entries may.running.word ≡ Some other = subst (λ (f : Fate). call_entry other.slot f store (cluster_at base history).entries may.running.word ≡ Some other) same.has_fate may.is_called in
     let is = done-of other.slot store (cluster_at base history).entries may.running.word own other asks_there made in
     let stores : store_after other store ≡ written store done = is.store_is ∙ ap (λ w. store_with w store) grants in

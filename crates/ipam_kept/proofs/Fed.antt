@@ -6,7 +6,7 @@ use Rattle.ipam_records.specs.declared.call.Write.{Write}
 use Rattle.ipam_records.specs.declared.call.Write.TheVariants as write
 use Rattle.ipam_records.specs.Datastore.{Datastore, reply_of, write_granted, write_of}
 use Rattle.ipam_records.specs.Said.{Said, Found, Missing, Listed, Can, Exists, Conflict, Full, Spent}
-use Rattle.ipam_records.specs.Word.{Word, Ends, Asks, Waits, asked, ended}
+use Rattle.ipam_records.specs.Word.{Word, Ends, Asks, Waits, next_call, answer_in}
 use Rattle.ipam_feed.specs.Feed.{changes_since, routes_at, write_revision}
 use Rattle.ipam_feed.specs.Feed as feed
 use Rattle.ipam_model.specs.declared.answer.Answer.{Answer}
@@ -15,7 +15,7 @@ use Rattle.ipam_model.specs.declared.entry.Entry.{Entry}
 use Rattle.ipam_model.specs.declared.entry.Entry.TheVariants as entry
 use Rattle.ipam_model.specs.declared.entry.Fate.{Fate}
 use Rattle.ipam_model.specs.declared.entry.Fate.TheVariants.{Well, Before}
-use Rattle.ipam_model.specs.Cluster.{after, call_entry, called, store_with, write_told}
+use Rattle.ipam_model.specs.Cluster.{after, call_entry, call_made, store_with, write_told}
 use Rattle.ipam_model.specs.Cluster as model
 use Rattle.ipam_model.specs.History.{Base, Lawful, cluster_at, store_at}
 use Rattle.ipam_laws.proofs.StoreSteps.{can-next, write_told-granted}
@@ -72,31 +72,31 @@ asked-revision store (Some own) done e = granted-revision store own (reply_of st
 
 pub next-revision : (store : Datastore) (held : Option Running) (done : Write) → write_next held store ≡ Some done → write_revision done ≡ store.counter + 1
 next-revision store None done e = absurd (cc e)
-next-revision store (Some running) done e = asked-revision store (asked (running_rest running)) done e
+next-revision store (Some running) done e = asked-revision store (next_call (running_rest running)) done e
 
 -- ---- what an entry tells to be written
 
-told-done : (slot : ℕ) (store : Datastore) (moment : ℕ) (word : Word Answer) (c : Called) → call_entry slot Well store moment word ≡ Some c → write_told c.call c.reply c.written ≡ write_asked (asked word) store
+told-done : (slot : ℕ) (store : Datastore) (moment : ℕ) (word : Word Answer) (c : Called) → call_entry slot Well store moment word ≡ Some c → write_told c.call c.reply c.written ≡ write_asked (next_call word) store
 told-done slot store moment (Ends answer) c e = absurd (cc e)
 told-done slot store moment (Waits next) c e = absurd (cc e)
 told-done slot store moment (Asks label first next) c e =
-    let is : called slot Well first (reply_of store first) (ended (next moment (reply_of store first))) ≡ c = cc e in
+    let is : call_made slot Well first (reply_of store first) (answer_in (next moment (reply_of store first))) ≡ c = cc e in
     subst (λ (x : Called). write_told x.call x.reply x.written ≡ write_granted first (reply_of store first)) is (write_told-granted first (reply_of store first))
 
 told-failed : (slot : ℕ) (store : Datastore) (moment : ℕ) (word : Word Answer) (c : Called) → call_entry slot Before store moment word ≡ Some c → write_told c.call c.reply c.written ≡ None
 told-failed slot store moment (Ends answer) c e = absurd (cc e)
 told-failed slot store moment (Waits next) c e = absurd (cc e)
 told-failed slot store moment (Asks label first next) c e =
-    let is : called slot Before first (reply_of store first) (ended (next moment (reply_of store first))) ≡ c = cc e in
+    let is : call_made slot Before first (reply_of store first) (answer_in (next moment (reply_of store first))) ≡ c = cc e in
     subst (λ (x : Called). write_told x.call x.reply x.written ≡ None) is refl
 
-same-next : (store : Datastore) (held : Option Running) (there : Option model.Running) (one : model.Running) → IsSlot held there → there ≡ Some one → write_next held store ≡ write_asked (asked one.word) store
+same-next : (store : Datastore) (held : Option Running) (there : Option model.Running) (one : model.Running) → IsSlot held there → there ≡ Some one → write_next held store ≡ write_asked (next_call one.word) store
 same-next store None None one is runs = absurd (cc runs)
 same-next store None (Some own) one is runs = absurd is
 same-next store (Some running) None one is runs = absurd is
 same-next store (Some running) (Some own) one is runs =
     let same : own ≡ one = cc runs in
-    ap (λ (w : Word Answer). write_asked (asked w) store) is.word ∙ ap (λ (r : model.Running). write_asked (asked r.word) store) same
+    ap (λ (w : Word Answer). write_asked (next_call w) store) is.word ∙ ap (λ (r : model.Running). write_asked (next_call r.word) store) same
 
 -- a call that was done tells what it was to write
 pub writes-done : (cluster : Cluster) (base : Base) (history : List Entry) (c : Called) → StandsFor cluster base history → Lawful base (entry.Called c ∷ history) → c.fate ≡ Well
@@ -108,7 +108,7 @@ writes-done cluster base history c h lawful well =
     let is : call_entry c.slot Well one.store one.entries may.running.word ≡ Some c = subst (λ (f : Fate). call_entry c.slot f one.store one.entries may.running.word ≡ Some c) well may.is_called in
     let next = same-next cluster.store.store (slot_of cluster c.slot) (one.slots c.slot) may.running (h.is_cluster.slots c.slot) may.runs in
     told-done c.slot one.store one.entries may.running.word c is
-    ∙ (ap (λ (s : Datastore). write_asked (asked may.running.word) s) (sym h.is_cluster.store) ∙ sym next)
+    ∙ (ap (λ (s : Datastore). write_asked (next_call may.running.word) s) (sym h.is_cluster.store) ∙ sym next)
 
 -- one that failed before tells nothing
 pub writes-failed : (base : Base) (history : List Entry) (c : Called) → Lawful base (entry.Called c ∷ history) → c.fate ≡ Before → write_told c.call c.reply c.written ≡ None

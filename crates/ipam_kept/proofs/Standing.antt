@@ -6,7 +6,7 @@ use Rattle.ipam_records.specs.declared.call.Row.{Row as RowText}
 use Rattle.ipam_records.specs.declared.call.Write.{Write}
 use Rattle.ipam_records.specs.Datastore.{Datastore, reply_of, write_granted, written}
 use Rattle.ipam_records.specs.Sound.{IsDatastore}
-use Rattle.ipam_records.specs.Word.{asked}
+use Rattle.ipam_records.specs.Word.{next_call}
 use Rattle.ipam_model.specs.declared.entry.Called.{Called}
 use Rattle.ipam_model.specs.declared.entry.Entry.{Entry}
 use Rattle.ipam_model.specs.declared.entry.Entry.TheVariants as entry
@@ -148,22 +148,22 @@ module _ {D : Type 0} (tells : Tells D) (old new : Kept D) (left : LeavesKeeper 
 
 record Asking (store : Datastore) (done : Write) (one : model.Running) : Type 0 where
   pub call : Call
-  pub asks : asked one.word ≡ Some call
+  pub asks : next_call one.word ≡ Some call
   pub grants : write_granted call (reply_of store call) ≡ Some done
 
 asking : (store : Datastore) (done : Write) (held : Option Running) (there : Option model.Running) (one : model.Running) → IsSlot held there → there ≡ Some one → write_next held store ≡ Some done → Asking store done one
 asking store done None there one is runs e = absurd (cc e)
 asking store done (Some running) None one is runs e = absurd is
-asking store done (Some running) (Some own) one is runs e = by (asked (running_rest running)) refl e
+asking store done (Some running) (Some own) one is runs e = by (next_call (running_rest running)) refl e
   where
     same : own ≡ one
     same = cc runs
 
-    by : (o : Option Call) → asked (running_rest running) ≡ o → write_asked o store ≡ Some done → Asking store done one
+    by : (o : Option Call) → next_call (running_rest running) ≡ o → write_asked o store ≡ Some done → Asking store done one
     by None asks f = absurd (cc f)
     by (Some call) asks f = record {
       call = call;
-      asks = subst (λ (r : model.Running). asked r.word ≡ Some call) same (ap asked (sym is.word) ∙ asks);
+      asks = subst (λ (r : model.Running). next_call r.word ≡ Some call) same (ap next_call (sym is.word) ∙ asks);
       grants = f;
     }
 

@@ -25,7 +25,7 @@ use Rattle.ipam_keeper.specs.Rows.{Ascend, row_of, texts_equal}
 use Rattle.ipam_keeper.proofs.Ascending.{Ascend-rows_with, Ascend-rows_without}
 use Rattle.ipam_keeper.proofs.Lookups.{row_of-rows_with, row_of-rows_without, same_rows}
 use Rattle.ipam_model.specs.Opened.{AreByKey, OpensAs, Texts, reading_of, text_of, texts_of}
-use Rattle.ipam_model.specs.Reads.{Row}
+use Rattle.ipam_model.specs.Reads.{StoredRecord}
 use Rattle.ipam_laws.proofs.AllRead.{all_read}
 use Rattle.ipam_laws.proofs.Members.{all-of, in-here, in-map, in-there, out-map}
 use Rattle.ipam_laws.proofs.Openings.{less-than, never-less}
@@ -47,22 +47,22 @@ pub record StandAt (rows : List RowText) (store : Datastore) : Type 0 where
   pub at : (key : List ℕ) → row_of key rows ≡ text_found key store
 
 module _ (store : Datastore) (sound : IsDatastore store) where
-  pub key-sound : (row : Row) → Contains store.rows row → IsKey (row_key row)
+  pub key-sound : (row : StoredRecord) → Contains store.rows row → IsKey (row_key row)
   key-sound row there = IsKey-key_of row.1 (All-contains (IsRow store.counter) store.rows row sound.rows there).is_record
 
   -- a row of the datastore stands at its key's text
-  pub stands-at : (row : Row) → Contains store.rows row → text_found (key_bytes (row_key row)) store ≡ Some (text_of row)
+  pub stands-at : (row : StoredRecord) → Contains store.rows row → text_found (key_bytes (row_key row)) store ≡ Some (text_of row)
   unfolding text_found
   stands-at row there =
       ap (λ (k : Option Key). option_map text_of (row_read k store)) (key_read-key_bytes (row_key row) (key-sound row there))
       ∙ ap (option_map text_of) (store-found store.rows row sound.ascending there)
 
   -- what stands at a text is a row of the datastore with that key
-  pub row-standing : (key : List ℕ) (row : RowText) → text_found key store ≡ Some row → (own : Row) × Contains store.rows own × (text_of own ≡ row) × (key_bytes (row_key own) ≡ key)
+  pub row-standing : (key : List ℕ) (row : RowText) → text_found key store ≡ Some row → (own : StoredRecord) × Contains store.rows own × (text_of own ≡ row) × (key_bytes (row_key own) ≡ key)
   unfolding text_found
   row-standing key row e = by (key_read key) refl e
     where
-      found : (named : Key) → key_read key ≡ Some named → (o : Option Row) → row_at_key named store.rows ≡ o → option_map text_of o ≡ Some row → (own : Row) × Contains store.rows own × (text_of own ≡ row) × (key_bytes (row_key own) ≡ key)
+      found : (named : Key) → key_read key ≡ Some named → (o : Option StoredRecord) → row_at_key named store.rows ≡ o → option_map text_of o ≡ Some row → (own : StoredRecord) × Contains store.rows own × (text_of own ≡ row) × (key_bytes (row_key own) ≡ key)
       found named is None f g = absurd (cc g)
       found named is (Some own) f g = (
         own,
@@ -71,13 +71,13 @@ module _ (store : Datastore) (sound : IsDatastore store) where
         ap key_bytes (row_key-row_of named store.rows own f) ∙ (IsTextOf-key_read key named is).spelled,
       )
 
-      by : (k : Option Key) → key_read key ≡ k → option_map text_of (row_read k store) ≡ Some row → (own : Row) × Contains store.rows own × (text_of own ≡ row) × (key_bytes (row_key own) ≡ key)
+      by : (k : Option Key) → key_read key ≡ k → option_map text_of (row_read k store) ≡ Some row → (own : StoredRecord) × Contains store.rows own × (text_of own ≡ row) × (key_bytes (row_key own) ≡ key)
       by None is g = absurd (cc g)
       by (Some named) is g = found named is (row_at_key named store.rows) refl g
 
   -- ---- the texts of the datastore's rows are those that stand at its keys
 
-  texts-differ : (rows : List Row) → ((row : Row) → Contains rows row → IsKey (row_key row)) → IsStrictlySortedBy key_cmp (map row_key rows) → AllPairs (λ (r s : RowText). r ≢ s) (map text_of rows)
+  texts-differ : (rows : List StoredRecord) → ((row : StoredRecord) → Contains rows row → IsKey (row_key row)) → IsStrictlySortedBy key_cmp (map row_key rows) → AllPairs (λ (r s : RowText). r ≢ s) (map text_of rows)
   unfolding IsStrictlySortedBy
   texts-differ [] keys sorted = λ i j d below within. absurd (omega arith)
   texts-differ (row ∷ rows) keys sorted =
@@ -159,7 +159,7 @@ put-found : (store : Datastore) (revision : ℕ) (new : Record) → IsKey (key_o
 unfolding text_found
 put-found store revision new sound key = by (key_read key) refl
   where
-    row : Row
+    row : StoredRecord
     row = (revision, new)
 
     next : Datastore
@@ -237,7 +237,7 @@ unfolding row_left
 after-at (Put row) rows key = row_of-rows_with key row rows
 after-at (Remove gone) rows key = row_of-rows_without key gone rows
 
-back-is : (key : List ℕ) (o : Option Row) → ((row : Row) → o ≡ Some row → key_bytes (row_key row) ≡ key) → (key_written (putting_back key o) ≡ key) × (row_left (putting_back key o) ≡ option_map text_of o)
+back-is : (key : List ℕ) (o : Option StoredRecord) → ((row : StoredRecord) → o ≡ Some row → key_bytes (row_key row) ≡ key) → (key_written (putting_back key o) ≡ key) × (row_left (putting_back key o) ≡ option_map text_of o)
 unfolding row_left
 back-is key None own = (refl, refl)
 back-is key (Some row) own = (own row refl, refl)
@@ -247,7 +247,7 @@ pub row_back-is : (key : List ℕ) (store : Datastore) → (key_written (row_bac
 unfolding text_found
 row_back-is key store = back-is key (row_read (key_read key) store) (λ row e. by (key_read key) refl row e)
   where
-    by : (k : Option Key) → key_read key ≡ k → (row : Row) → row_read k store ≡ Some row → key_bytes (row_key row) ≡ key
+    by : (k : Option Key) → key_read key ≡ k → (row : StoredRecord) → row_read k store ≡ Some row → key_bytes (row_key row) ≡ key
     by None is row e = absurd (cc e)
     by (Some named) is row e = ap key_bytes (row_key-row_of named store.rows row e) ∙ (IsTextOf-key_read key named is).spelled
 

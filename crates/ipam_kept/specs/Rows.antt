@@ -9,7 +9,7 @@ use Rattle.ipam_records.specs.declared.key.Key.{Key}
 use Rattle.ipam_records.specs.KeyText.{key_bytes, key_read}
 use Rattle.ipam_keeper.specs.Rows.{rows_with, rows_without}
 use Rattle.ipam_model.specs.Opened.{AreByKey, Texts, text_of, texts_of}
-use Rattle.ipam_model.specs.Reads.{Row}
+use Rattle.ipam_model.specs.Reads.{StoredRecord}
 use Rattle.ipam_kept.specs.declared.write.RowWrite.{RowWrite}
 use Rattle.ipam_kept.specs.declared.write.RowWrite.TheVariants.{Put, Remove}
 
@@ -35,12 +35,12 @@ rows_after (Put row) = rows_with row
 rows_after (Remove key) = rows_without key
 
 -- the row of a key that is read
-abbrev pub row_read : Option Key → Datastore → Option Row
+abbrev pub row_read : Option Key → Datastore → Option StoredRecord
 row_read None store = None
 row_read (Some key) store = row_of key store.rows
 
 -- what puts a row back, or takes away the one that the datastore does not have
-abbrev pub putting_back : (key : List ℕ) → Option Row → RowWrite
+abbrev pub putting_back : (key : List ℕ) → Option StoredRecord → RowWrite
 putting_back key None = Remove key
 putting_back key (Some row) = Put (text_of row)
 

@@ -3,7 +3,7 @@ ghost use Rattle.std.specs.Prelude.{◌≡◌, ◌+◌, List, [], IfOk, OnOk};
 ghost use Rattle.std.specs.Option.{option_copied, ForSome};
 ghost use Rattle.ipam_records.specs.declared.call.Write.{Write as OneWrite};
 ghost use Rattle.ipam_records.specs.declared.key.Kind.TheVariants as kind;
-ghost use Rattle.ipam_records.specs.Datastore.{Datastore, listed};
+ghost use Rattle.ipam_records.specs.Datastore.{Datastore, rows_of_kind};
 ghost use Rattle.ipam_records.specs.Listing.{rows_of};
 ghost use Rattle.ipam_records.specs.Sound.{IsDatastore};
 ghost use Rattle.ipam_feed.specs.Feed.{write_revision};
@@ -27,7 +27,7 @@ pub(crate) fn open_ring(alloc: Global, store: &Store) -> Result<Ring, AllocError
 
 /// The affinities of the datastore.
 fn affinities(store: &Store) -> Listing<'_>
-    ensures rows { rows_of result ≡ listed kind.Affinity store.now.store }
+    ensures rows { rows_of result ≡ rows_of_kind kind.Affinity store.now.store }
     ensures sound { IsDatastore store.now.store }
 {
     match store.reply(&Call::List(Kind::Affinity)) {

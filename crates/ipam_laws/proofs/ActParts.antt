@@ -8,9 +8,9 @@ use Rattle.ipam_affinity.specs.declared.state.State.{State}
 use Rattle.ipam_affinity.specs.declared.state.State.TheVariants.{Pending, Confirmed, PendingDeletion}
 use Rattle.ipam_block.specs.declared.allocation.Attributes.{Attributes}
 use Rattle.ipam_block.specs.Shape.{BlockValue}
-use Rattle.ipam_block.specs.Operations.{assigned, freed, next_block}
+use Rattle.ipam_block.specs.Operations.{block_with_ordinal, block_without, next_block}
 use Rattle.ipam_handle.specs.Shape as handle
-use Rattle.ipam_handle.specs.Operations.{count_of, lowered, raised}
+use Rattle.ipam_handle.specs.Operations.{count_of, with_lowered_count, with_raised_count}
 use Rattle.ipam_records.specs.declared.call.Call.{Call}
 use Rattle.ipam_records.specs.declared.call.Call.TheVariants.{Get, List as ListAll, Create, Update, Delete}
 use Rattle.ipam_records.specs.declared.key.Key.TheVariants as key
@@ -18,7 +18,7 @@ use Rattle.ipam_records.specs.declared.record.Record.{Record}
 use Rattle.ipam_records.specs.declared.record.Record.TheVariants as record_of
 use Rattle.ipam_records.specs.Datastore.{Datastore, reply_of, reply_to_get, row_of}
 use Rattle.ipam_records.specs.Key.{key_of}
-use Rattle.ipam_records.specs.Label.{Credit, Label, Nowhere, idle, owing}
+use Rattle.ipam_records.specs.Label.{Credit, CallLabel, Nowhere, idle, owing}
 use Rattle.ipam_records.specs.Said.{Said, Found, Missing, Listed, Can, Exists, Conflict, Full, Spent}
 use Rattle.ipam_records.specs.Word.{Word, Ends}
 use Rattle.ipam_model.specs.declared.outcome.ClaimAnswer.{ClaimAnswer}
@@ -34,7 +34,7 @@ use Rattle.ipam_model.specs.declared.part.Left.{Left}
 use Rattle.ipam_model.specs.declared.part.Outcome.{Outcome}
 use Rattle.ipam_model.specs.declared.part.Outcome.TheVariants.{Went, Stops}
 use Rattle.ipam_model.specs.declared.part.Stop.TheVariants.{OutOfTries, NoRoom, CountAtLimit, NoRevisions}
-use Rattle.ipam_model.specs.Step.{Part, after_lost, after_write, followed, goes, left_of, onward, stops, tries, write_back}
+use Rattle.ipam_model.specs.Step.{Part, after_lost, after_write, part_then, goes, left_of, onward, stops, tries, write_back}
 use Rattle.ipam_laws.proofs.Acts.{Acts, Acts-bound, Later, Same, Since}
 use Rattle.ipam_laws.proofs.BlockSteps.{IsNoBlock}
 use Rattle.ipam_laws.proofs.Calls.{found-block, found-key}
@@ -55,10 +55,10 @@ abbrev pub IsCurrent : Datastore → (revision : ℕ) → BlockValue → Type 0
 IsCurrent store revision b = (found : Record) → HasAt store (key.Block b.cidr) revision found → found ≡ record_of.Block b
 
 abbrev pub freeing_call : Freeing → BlockValue → ℕ → Call
-freeing_call what b revision = Update (record_of.Block (freed what.picks (next_block b))) revision
+freeing_call what b revision = Update (record_of.Block (block_without what.picks (next_block b))) revision
 
 abbrev pub assigning_call : Attributes → Target → Call
-assigning_call attributes target = Update (record_of.Block (assigned (next_block target.block) target.ordinal attributes)) target.revision
+assigning_call attributes target = Update (record_of.Block (block_with_ordinal (next_block target.block) target.ordinal attributes)) target.revision
 
 -- whatever an answer is
 abbrev pub Any : {A : Type 0} → Trail → A → Type 0
@@ -78,7 +78,7 @@ lowering-apart : (h : handle.HandleValue) (counts : List (CidrValue × ℕ)) (re
 lowering-apart h [] revision = tt
 lowering-apart h (count ∷ counts) revision = tt
 
--- an address was assigned by a call of the trail
+-- an address was block_with_ordinal by a call of the trail
 pub record DidAssign (attributes : Attributes) (target : Target) (trail : Trail) : Type 0 where
   pub moment : ℕ
   pub store : Datastore
@@ -93,7 +93,7 @@ AssignDone attributes target trail (Went left (Some done)) = DidAssign attribute
 AssignDone attributes target trail (Went left None) = Unit {0}
 AssignDone attributes target trail (Stops left why) = Unit {0}
 
-module _ (May : Trail → Datastore → Label → Call → Type 0) (apart : (trail : Trail) (store : Datastore) (label : Label) (asked : Call) → IsApart asked → May trail store label asked) (stands : (trail : Trail) (store : Datastore) (label : Label) (asked : Call) → label.point ≢ Nowhere → May trail store label asked) where
+module _ (May : Trail → Datastore → CallLabel → Call → Type 0) (apart : (trail : Trail) (store : Datastore) (label : CallLabel) (asked : Call) → IsApart asked → May trail store label asked) (stands : (trail : Trail) (store : Datastore) (label : CallLabel) (asked : Call) → label.point ≢ Nowhere → May trail store label asked) where
   pub wrote : {A : Type 0} → (Q : Trail → A → Type 0) (trail : Trail) (said reply : Said) (took : ℕ → Word A) (lost full spent : Word A) → said ≡ reply
       → ((revision : ℕ) → said ≡ Can revision → Acts May Q trail (took revision)) → Acts May Q trail lost → Acts May Q trail full → Acts May Q trail spent → Acts May Q trail (after_write reply took lost full spent)
   wrote Q trail said (Can revision) took lost full spent e a b c d = a revision e
@@ -120,7 +120,7 @@ module _ (May : Trail → Datastore → Label → Call → Type 0) (apart : (tra
       by moment store true = tt
       by moment store false = λ second other agrees.
           let said = reply_of store (Get (key.Handle id)) in
-          let new = record_of.Handle (raised (handle_said id said) cidr 1) in
+          let new = record_of.Handle (with_raised_count (handle_said id said) cidr 1) in
           let asked = write_back said new in
           let longer = Did second other asked ∷ Did moment store (Get (key.Handle id)) ∷ trail in (
             apart (Did moment store (Get (key.Handle id)) ∷ trail) other idle asked (back-apart said new tt),
@@ -138,7 +138,7 @@ module _ (May : Trail → Datastore → Label → Call → Type 0) (apart : (tra
         apart trail store (owing credit) get tt,
         λ second other agrees_then.
             let said = reply_of store get in
-            let less = lowered (handle_said credit.handle said) credit.block credit.amount in
+            let less = with_lowered_count (handle_said credit.handle said) credit.block credit.amount in
             let asked = lowering less (revision_said said) in
             let longer = Did second other asked ∷ Did moment store get ∷ trail in (
               apart (Did moment store get ∷ trail) other (owing credit) asked (lowering-apart less less.counts (revision_said said)),
@@ -152,7 +152,7 @@ module _ (May : Trail → Datastore → Label → Call → Type 0) (apart : (tra
   lower-tries credit (suc races) claims = lower-once credit (tries (lower_once credit) races claims) (left_of (suc races) claims) (lower-tries credit races claims)
 
   -- a part that only goes on
-  pub then-goes : {A B : Type 0} → (part : Part A) (follows : Left → A → Part B) → ActsAnyway part → ((left : Left) (a : A) → ActsAnyway (follows left a)) → ActsAnyway (followed part follows)
+  pub then-goes : {A B : Type 0} → (part : Part A) (follows : Left → A → Part B) → ActsAnyway part → ((left : Left) (a : A) → ActsAnyway (follows left a)) → ActsAnyway (part_then part follows)
   then-goes {A = A} part follows h k trail = Acts-bound May Any Any (onward follows) part trail (h trail) ends
     where
       ends : (longer : Trail) (outcome : Outcome A) → Since trail longer → Any longer outcome → Acts May Any longer (onward follows outcome)
@@ -161,7 +161,7 @@ module _ (May : Trail → Datastore → Label → Call → Type 0) (apart : (tra
 
   -- ---- freeing
 
-  -- what may be freed behind this trail
+  -- what may be block_without behind this trail
   abbrev pub MayFree : Freeing → Trail → Type 0
   MayFree what origin =
       (trail : Trail) → Since origin trail → (store : Datastore) (b : BlockValue) (revision amount : ℕ) → b.cidr ≡ what.block → IsCurrent store revision b → count_by what.picks b.allocations ≡ suc amount
@@ -195,7 +195,7 @@ module _ (May : Trail → Datastore → Label → Call → Type 0) (apart : (tra
       let longer = Did second other asked ∷ read ∷ trail in (
         may (read ∷ trail) (Later read trail since) other found.1 found.0 more same current count,
         wrote Any longer (reply_of other asked) (reply_of other asked)
-            (λ taken. followed (lower (credit_of what.handle what.block (suc more)) left) (λ now done. goes now (suc more))) again (stops left NoRoom) (stops left NoRevisions) refl
+            (λ taken. part_then (lower (credit_of what.handle what.block (suc more)) left) (λ now done. goes now (suc more))) again (stops left NoRoom) (stops left NoRevisions) refl
             (λ revision f. then-goes (lower (credit_of what.handle what.block (suc more)) left) (λ now done. goes now (suc more)) (lower-tries (credit_of what.handle what.block (suc more)) left.races left.claims) (λ now done t. tt) longer)
             (h longer (Later (Did second other asked) (read ∷ trail) (Later read trail since))) tt tt,
       )
@@ -324,12 +324,12 @@ module _ (May : Trail → Datastore → Label → Call → Type 0) (apart : (tra
 
   -- ---- assigning
 
-  -- what may be assigned behind this trail
+  -- what may be block_with_ordinal behind this trail
   pub record MayAssign (attributes : Attributes) (target : Target) (origin : Trail) : Type 0 where
     pub current : (trail : Trail) → Since origin trail → (store : Datastore) → AgreesAll store trail → IsCurrent store target.revision target.block
     pub may : (trail : Trail) (store : Datastore) → IsCurrent store target.revision target.block → May trail store (owing (credit_of attributes.handle target.block.cidr 1)) (assigning_call attributes target)
 
-  assign-lost : (attributes : Attributes) (target : Target) (races claims : ℕ) (trail : Trail) → Acts May (AssignDone attributes target) trail (after_lost races claims (λ less. followed (lower (credit_of attributes.handle target.block.cidr 1) less) (λ now done. goes now None)))
+  assign-lost : (attributes : Attributes) (target : Target) (races claims : ℕ) (trail : Trail) → Acts May (AssignDone attributes target) trail (after_lost races claims (λ less. part_then (lower (credit_of attributes.handle target.block.cidr 1) less) (λ now done. goes now None)))
   unfolding AssignDone
   assign-lost attributes target zero claims trail = tt
   assign-lost attributes target (suc races) claims trail =

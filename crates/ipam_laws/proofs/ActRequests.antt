@@ -44,7 +44,7 @@ use Rattle.ipam_addr.proofs.HoldingLemmas.{holds_from}
 use Rattle.ipam_addr.proofs.SlotLemmas.{slot_number_holds}
 use Rattle.ipam_addr.specs.Slots.{slot_of}
 use Rattle.ipam_addr.specs.Width.{size_of}
-use Rattle.ipam_block.specs.Operations.{address_of, holder}
+use Rattle.ipam_block.specs.Operations.{ordinal_address, holder}
 use Rattle.ipam_block.specs.declared.allocation.Allocation.{Allocation}
 use Rattle.ipam_records.specs.declared.record.Record.{Record}
 use Rattle.ipam_records.specs.Key.{key_of}
@@ -123,9 +123,9 @@ probe-acts request scans (family ∷ families) trail = λ c config a1. (
 admin-once : (request : Setting) (again : Part AdminAnswer) (left : Left) → ((trail : Trail) → Acts (Act (Admin request)) Any trail again) → (trail : Trail) → Acts (Act (Admin request)) Any trail (change.admin_once request again left)
 admin-once request again left h trail = λ moment store agrees.
     let asked = Get (change.key_changed request) in
-    (Apart tt, by (Did moment store asked ∷ trail) (reply_of store asked) (change.changed request (reply_of store asked)) refl)
+    (Apart tt, by (Did moment store asked ∷ trail) (reply_of store asked) (change.admin_change request (reply_of store asked)) refl)
   where
-    by : (longer : Trail) (said : Said) (what : change.Changed) → change.changed request said ≡ what → Acts (Act (Admin request)) Any longer (change.admin_write again left said what)
+    by : (longer : Trail) (said : Said) (what : change.Changed) → change.admin_change request said ≡ what → Acts (Act (Admin request)) Any longer (change.admin_write again left said what)
     by longer said (change.Refuses number name) e = tt
     by longer said (change.Becomes new) e = λ moment store agrees.
         let asked = write_back said new in
@@ -163,15 +163,15 @@ module _ (add : AddRequest) (address : AddrValue) where
   ActsThis part = (trail : Trail) → Acts (Act (AddThis add address)) Any trail part
 
   -- the address of the slot that holds it
-  own-address : (pool : Pool) (cidr : CidrValue) → holds_address pool.cidr address ≡ true → cidr ≡ this.slot_holding pool address → address_of cidr (address.number - cidr.base) ≡ address
+  own-address : (pool : Pool) (cidr : CidrValue) → holds_address pool.cidr address ≡ true → cidr ≡ this.slot_holding pool address → ordinal_address cidr (address.number - cidr.base) ≡ address
   own-address pool cidr holds is =
       let number = holding-number pool address holds in
       let inside = slot_number_holds pool.cidr pool.size address (holds_from pool.cidr address holds) in
       let slot = slot_of pool.cidr pool.size ((address.number - pool.cidr.base) / size_of pool.cidr.family pool.size) in
       let from = inside.from_base in
       let sum : slot.base + (address.number - slot.base) ≡ address.number = omega arith in
-      let there : address_of slot (address.number - slot.base) ≡ address = λ i. record { family = sym inside.same_family i; number = sum i } in
-      subst (λ (c : CidrValue). address_of c (address.number - c.base) ≡ address) (sym (is ∙ number)) there
+      let there : ordinal_address slot (address.number - slot.base) ≡ address = λ i. record { family = sym inside.same_family i; number = sum i } in
+      subst (λ (c : CidrValue). ordinal_address c (address.number - c.base) ≡ address) (sym (is ∙ number)) there
 
   take-this : (pool : Pool) (looked : this.Looked) (next : this.NextRound) → ((left : Left) → ActsThis (next left)) → (origin : Trail) (left : Left) (found : ℕ × BlockValue)
       → holds_address pool.cidr address ≡ true → looked.cidr ≡ this.slot_holding pool address → found.1.cidr ≡ looked.cidr → ((store : Datastore) → AgreesAll store origin → IsCurrent store found.0 found.1)
@@ -185,8 +185,8 @@ module _ (add : AddRequest) (address : AddrValue) where
       }))
       (λ longer outcome since k. ends longer outcome)
     where
-      own : address_of found.1.cidr (address.number - looked.cidr.base) ≡ address
-      own = ap (λ (c : CidrValue). address_of c (address.number - looked.cidr.base)) same ∙ own-address pool looked.cidr holds is
+      own : ordinal_address found.1.cidr (address.number - looked.cidr.base) ≡ address
+      own = ap (λ (c : CidrValue). ordinal_address c (address.number - looked.cidr.base)) same ∙ own-address pool looked.cidr holds is
 
       ends : (longer : Trail) (outcome : Outcome (Option Assigned)) → Acts (Act (AddThis add address)) Any longer (onward (this.this_assigned wanted next looked) outcome)
       ends longer (Went now (Some done)) = tt

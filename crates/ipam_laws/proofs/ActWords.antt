@@ -6,7 +6,7 @@ use Rattle.ipam_records.specs.declared.call.Call.{Call}
 use Rattle.ipam_records.specs.declared.call.Call.TheVariants.{List as ListAll}
 use Rattle.ipam_records.specs.declared.key.Kind.TheVariants as kind
 use Rattle.ipam_records.specs.Datastore.{Datastore, reply_of}
-use Rattle.ipam_records.specs.Label.{Label, Nowhere}
+use Rattle.ipam_records.specs.Label.{CallLabel, Nowhere}
 use Rattle.ipam_records.specs.Word.{Ends}
 use Rattle.ipam_model.specs.declared.answer.Collected.{Collected}
 use Rattle.ipam_model.specs.declared.part.Left.{Left}
@@ -18,21 +18,21 @@ use Rattle.ipam_model.specs.declared.request.Request.TheVariants.{Del, Collect}
 use Rattle.ipam_model.specs.Counting.{freeing_all, free}
 use Rattle.ipam_model.specs.Reads.{rows_said}
 use Rattle.ipam_model.specs.Remove.{Leak, collect_stops, collect_word, del_blocks, free_leaks, freeing_owner, item_of, leaks, suspects, with_item}
-use Rattle.ipam_model.specs.Step.{Part, StopAnswers, all_left, answer_of, onward, settled}
+use Rattle.ipam_model.specs.Step.{Part, StopAnswers, all_left, answer_of, onward, as_word}
 use Rattle.ipam_laws.proofs.Acting.{Act, Apart, Frees, HasListed, OfCollect, OfDel, Stands}
 use Rattle.ipam_laws.proofs.ActParts.{Any, IsApart, free-acts}
 use Rattle.ipam_laws.proofs.Acts.{Acts, Acts-bound, Same, Since, since-since}
 use Rattle.ipam_laws.proofs.Members.{in-here, in-there}
 use Rattle.ipam_laws.proofs.Trails.{Did, Got, Trail}
 
-pub apart-acts : (request : Request) (trail : Trail) (store : Datastore) (label : Label) (asked : Call) → IsApart asked → Act request trail store label asked
+pub apart-acts : (request : Request) (trail : Trail) (store : Datastore) (label : CallLabel) (asked : Call) → IsApart asked → Act request trail store label asked
 apart-acts request trail store label asked h = Apart h
 
-pub stands-acts : (request : Request) (trail : Trail) (store : Datastore) (label : Label) (asked : Call) → label.point ≢ Nowhere → Act request trail store label asked
+pub stands-acts : (request : Request) (trail : Trail) (store : Datastore) (label : CallLabel) (asked : Call) → label.point ≢ Nowhere → Act request trail store label asked
 stands-acts request trail store label asked h = Stands h
 
 -- a part that answers
-pub settles : {A : Type 0} → (request : Request) (answers : StopAnswers A) (part : Part A) (trail : Trail) → Acts (Act request) Any trail part → Acts (Act request) Any trail (settled answers part)
+pub settles : {A : Type 0} → (request : Request) (answers : StopAnswers A) (part : Part A) (trail : Trail) → Acts (Act request) Any trail part → Acts (Act request) Any trail (as_word answers part)
 settles request answers part trail h = Acts-bound (Act request) Any Any (λ outcome. Ends (answer_of answers outcome)) part trail h (λ longer a since any. tt)
 
 -- ---- DEL

@@ -9,7 +9,7 @@ use Rattle.ipam_records.specs.declared.call.Call.{Call}
 use Rattle.ipam_records.specs.declared.call.Call.TheVariants.{List as ListAll}
 use Rattle.ipam_records.specs.declared.key.Kind.TheVariants as kind
 use Rattle.ipam_records.specs.Datastore.{Datastore, reply_of}
-use Rattle.ipam_records.specs.Label.{Label, Nowhere}
+use Rattle.ipam_records.specs.Label.{CallLabel, Nowhere}
 use Rattle.ipam_model.specs.declared.request.AddRequest.{AddRequest}
 use Rattle.ipam_model.specs.declared.request.CollectRequest.{CollectRequest}
 use Rattle.ipam_model.specs.declared.request.Request.{Request}
@@ -46,7 +46,7 @@ pub data MayLose (request : Request) (trail : Trail) (what : Freeing) : Type 0 w
 
 -- The call writes no block, or the request stands between two writes of a claim or a release; or it
 -- assigns an address to the request's handle, or frees what the request may free.
-pub data Act (request : Request) (trail : Trail) (store : Datastore) (label : Label) (asked : Call) : Type 0 where
+pub data Act (request : Request) (trail : Trail) (store : Datastore) (label : CallLabel) (asked : Call) : Type 0 where
   Apart : IsApart asked → Act request trail store label asked
   Stands : label.point ≢ Nowhere → Act request trail store label asked
   Assigns : (attributes : Attributes) (target : Target) → asked ≡ assigning_call attributes target → IsCurrent store target.revision target.block

@@ -2,7 +2,7 @@
 use Rattle.std.proofs.Common.{ℕ, List, ◌∷◌}
 use Rattle.ipam_records.specs.declared.call.Call.{Call}
 use Rattle.ipam_records.specs.Datastore.{Datastore, reply_of}
-use Rattle.ipam_records.specs.Label.{Label}
+use Rattle.ipam_records.specs.Label.{CallLabel}
 use Rattle.ipam_records.specs.Word.{Word, Ends, Asks, Waits, bound}
 use Rattle.ipam_laws.proofs.Trails.{AgreesAll, Did, Got, Step, Trail}
 
@@ -29,7 +29,7 @@ since-agrees store trail longer (Later (Got moment at live) rest k) h = since-ag
 
 -- ---- words that act so
 
-module _ (May : Trail → Datastore → Label → Call → Type 0) where
+module _ (May : Trail → Datastore → CallLabel → Call → Type 0) where
   -- Whatever stores answer the calls, each call is such as it may be, and each answer has this of the
   -- trail that led to it.
   abbrev pub Acts : {A : Type 0} → (Trail → A → Type 0) → Trail → Word A → Type 0

@@ -11,7 +11,7 @@ use Rattle.ipam_records.specs.declared.call.Call.TheVariants.{Get, List as ListA
 use Rattle.ipam_records.specs.declared.key.Key.TheVariants as key
 use Rattle.ipam_records.specs.declared.key.Kind.TheVariants as kind
 use Rattle.ipam_records.specs.declared.record.Record.TheVariants as record_of
-use Rattle.ipam_records.specs.Datastore.{Datastore, listed, reply_of}
+use Rattle.ipam_records.specs.Datastore.{Datastore, rows_of_kind, reply_of}
 use Rattle.ipam_records.specs.Word.{Word, Ends, Asks, Waits, bound}
 use Rattle.ipam_model.specs.declared.answer.Answer.{Answer}
 use Rattle.ipam_model.specs.declared.answer.Answer.TheVariants as answer
@@ -25,7 +25,7 @@ use Rattle.ipam_model.specs.declared.outcome.Gift.{Gift}
 use Rattle.ipam_model.specs.declared.outcome.Served.{Served}
 use Rattle.ipam_model.specs.declared.outcome.Served.TheVariants.{Gave, Refused}
 use Rattle.ipam_model.specs.Add.{gift_of, NextRound, Round, add_each, add_stops, add_word, after_assign, after_family, after_stop, asked_of, claim_in, follow_pick, follow_rank, free_gift, name_at, refuse, round_of, serve, take_in}
-use Rattle.ipam_block.specs.Operations.{address_of}
+use Rattle.ipam_block.specs.Operations.{ordinal_address}
 use Rattle.ipam_model.specs.declared.answer.Given.{Given}
 use Rattle.ipam_model.specs.AddLaw.{families_of, scan_of}
 use Rattle.ipam_model.specs.declared.part.Assigned.{Assigned}
@@ -54,7 +54,7 @@ use Rattle.ipam_laws.proofs.Trails.{AgreesAll, Comes, Comes-bound, Did, Got, Ste
 
 -- ---- a round
 
--- the latest step listed the block as it was read
+-- the latest step rows_of_kind the block as it was read
 pub record IsListed (trail : Trail) (found : ℕ × block.BlockValue) : Type 0 where
   pub b : ℕ
   pub blocks : Datastore
@@ -118,7 +118,7 @@ take-comes round seen five left slot ordinal found r after picked known =
         subst (λ (t : Trail). IsChosen round.request round.scan choice t) (sym last.is) further
 
     given : (trail : Trail) (one : Given) (done : Assigned) → one.w ≡ done.moment → AssignsLast five round.request.attributes (target_in found ordinal) done trail → one ≡ record {
-      address = address_of found.1.cidr ordinal;
+      address = ordinal_address found.1.cidr ordinal;
       c = round.scan.c;
       p = round.scan.p;
       r = round.scan.r;
@@ -127,10 +127,10 @@ take-comes round seen five left slot ordinal found r after picked known =
       w = one.w;
     } → GivesLast five round.scan.family trail → IsGivenBy round.request trail round.scan.family one
     given trail one done at_w assigns is last =
-        let listed = known.2 in
-        let both : Did listed.b listed.blocks (ListAll kind.Block) ∷ listed.rest ≡ Did round.scan.b r.reads.blocks (ListAll kind.Block) ∷ _ = sym listed.is ∙ r.reads.is in
-        let blocks : listed.blocks ≡ r.reads.blocks = cc both in
-        let moment : listed.b ≡ one.b = (let m : listed.b ≡ round.scan.b = cc both in m) ∙ sym (ap (λ (g : Given). g.b) is) in
+        let rows_of_kind = known.2 in
+        let both : Did rows_of_kind.b rows_of_kind.blocks (ListAll kind.Block) ∷ rows_of_kind.rest ≡ Did round.scan.b r.reads.blocks (ListAll kind.Block) ∷ _ = sym rows_of_kind.is ∙ r.reads.is in
+        let blocks : rows_of_kind.blocks ≡ r.reads.blocks = cc both in
+        let moment : rows_of_kind.b ≡ one.b = (let m : rows_of_kind.b ≡ round.scan.b = cc both in m) ∙ sym (ap (λ (g : Given). g.b) is) in
         let same : round.scan ≡ scan_of round.scan.family one = ap (scan_of round.scan.family) (sym is) in
         record {
           cidr = slot;
@@ -139,7 +139,7 @@ take-comes round seen five left slot ordinal found r after picked known =
             | inl own ↦ inl (subst (λ (scan : Scan). IsChosen round.request scan (Use slot ordinal) trail) same (chosen (Use slot ordinal) trail last own))
             | inr other ↦ inr (subst (λ (scan : Scan). IsChosen round.request scan (Borrow slot ordinal) trail) same (chosen (Borrow slot ordinal) trail last other))
           ];
-          is_address = ap (λ (g : Given). g.address) is ∙ ap (λ (c : CidrValue). address_of c ordinal) known.0;
+          is_address = ap (λ (g : Given). g.address) is ∙ ap (λ (c : CidrValue). ordinal_address c ordinal) known.0;
           found = found;
           done = done;
           five = five;
@@ -147,10 +147,10 @@ take-comes round seen five left slot ordinal found r after picked known =
           since = Since-same;
           assigns = assigns;
           at_w = at_w;
-          blocks = listed.blocks;
-          rest = listed.rest;
-          listed = subst (λ (m : ℕ). five ≡ Did m listed.blocks (ListAll kind.Block) ∷ listed.rest) moment listed.is;
-          was = subst (λ (c : CidrValue). HasAt listed.blocks (key.Block c) found.0 (record_of.Block found.1)) known.0 listed.at;
+          blocks = rows_of_kind.blocks;
+          rest = rows_of_kind.rest;
+          listed = subst (λ (m : ℕ). five ≡ Did m rows_of_kind.blocks (ListAll kind.Block) ∷ rows_of_kind.rest) moment rows_of_kind.is;
+          was = subst (λ (c : CidrValue). HasAt rows_of_kind.blocks (key.Block c) found.0 (record_of.Block found.1)) known.0 rows_of_kind.at;
           named = known.0;
         }
 
@@ -211,8 +211,8 @@ follow-comes round seen five left (Picks ranked) r after picked is =
 follow-comes round seen five left Lacks r after picked is = is-chosen round.request round.scan seen five Nothing r is
 follow-comes round seen five left (Unknown place) r after picked is = (round.scan, place, refl, refl, is-chosen round.request round.scan seen five (NoPool place) r is)
 
--- a block that was listed is known from then on
-pub listed-known : (blocks : Datastore) (four : Trail) (b : ℕ) (slot : CidrValue) (read : BlockRead) → block_in_found (find (is_block_at slot) (listed kind.Block blocks)) ≡ read → KnownAt (Did b blocks (ListAll kind.Block) ∷ four) slot read
+-- a block that was rows_of_kind is known from then on
+pub listed-known : (blocks : Datastore) (four : Trail) (b : ℕ) (slot : CidrValue) (read : BlockRead) → block_in_found (find (is_block_at slot) (rows_of_kind kind.Block blocks)) ≡ read → KnownAt (Did b blocks (ListAll kind.Block) ∷ four) slot read
 unfolding AgreesAll
 listed-known blocks four b slot None e = tt
 listed-known blocks four b slot (Some found) e =

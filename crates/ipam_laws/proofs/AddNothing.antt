@@ -5,7 +5,7 @@ use Rattle.std.specs.List.{count_by}
 use Rattle.std.specs.Prelude.{nat_lt}
 use Rattle.std.proofs.lemmas.Bool.{cases_Bool, eqb-false}
 use Rattle.ipam_block.specs.declared.allocation.Allocation.{Allocation}
-use Rattle.ipam_block.specs.Operations.{assigned, is_stamped, next_block}
+use Rattle.ipam_block.specs.Operations.{block_with_ordinal, is_stamped, next_block}
 use Rattle.ipam_records.specs.declared.call.Call.{Call}
 use Rattle.ipam_records.specs.Datastore.{Datastore, reply_of}
 use Rattle.ipam_records.specs.Said.{Can}
@@ -60,7 +60,7 @@ gained-held : (old next : Datastore) (request : AddRequest) (target : Target) (r
     → (owner : Owner) → Gains old next owner → IsGained next request target owner
 gained-held old next request target revision c d granted current is owner gains =
     let b = target.block in
-    let new = assigned (next_block b) target.ordinal request.attributes in
+    let new = block_with_ordinal (next_block b) target.ordinal request.attributes in
     let w : Rewrites old next b new = rewrites old next b new target.revision revision c d refl granted (λ found there. current found there) is in
     let made = assigned-gains old next b target.ordinal request.attributes w in
     let a : Allocation = record { ordinal = target.ordinal; attributes = request.attributes; stamp = b.sequence + 1 } in

@@ -9,9 +9,9 @@ use Rattle.ipam_affinity.specs.declared.state.State.{State}
 use Rattle.ipam_affinity.specs.declared.state.State.TheVariants.{Pending, Confirmed, PendingDeletion}
 use Rattle.ipam_block.specs.declared.allocation.Attributes.{Attributes}
 use Rattle.ipam_block.specs.Shape as block
-use Rattle.ipam_block.specs.Operations.{affine_to, assigned, freed, fresh_block, next_block}
+use Rattle.ipam_block.specs.Operations.{affine_to, block_with_ordinal, block_without, fresh_block, next_block}
 use Rattle.ipam_handle.specs.Shape as handle
-use Rattle.ipam_handle.specs.Operations.{count_of, lowered, raised}
+use Rattle.ipam_handle.specs.Operations.{count_of, with_lowered_count, with_raised_count}
 use Rattle.ipam_records.specs.declared.call.Call.{Call}
 use Rattle.ipam_records.specs.declared.call.Call.TheVariants.{Get, Create, Update, Delete}
 use Rattle.ipam_records.specs.declared.key.Key.TheVariants as key
@@ -36,7 +36,7 @@ use Rattle.ipam_model.specs.declared.part.Outcome.{Outcome}
 use Rattle.ipam_model.specs.declared.part.Stop.{Stop}
 use Rattle.ipam_model.specs.declared.part.Stop.TheVariants.{OutOfTries, OutOfClaims, NoRoom, CountAtLimit, NoRevisions}
 use Rattle.ipam_model.specs.declared.part.Outcome.TheVariants.{Went, Stops}
-use Rattle.ipam_model.specs.Step.{Part, after_lost, after_write, followed, goes, left_of, on_write, onward, stops, tries, write_back}
+use Rattle.ipam_model.specs.Step.{Part, after_lost, after_write, part_then, goes, left_of, on_write, onward, stops, tries, write_back}
 use Rattle.ipam_laws.proofs.Trails.{AgreesAll, Comes, Comes-bound, Did, Trail}
 use Rattle.ipam_laws.proofs.AddTrails.{IsGift, IsQuiet, Knows, More, Quietly, Same, Undone, assign-gives, assign-only, create-quiet, knows-did, not-block, quietly-knows, update-quiet}
 
@@ -113,8 +113,8 @@ raise-once id cidr origin again left h trail quiet = λ moment store agrees.
     by moment store true e = record { store = store; between = trail; quiet = quiet; is = refl; limit = e }
     by moment store false e = λ second other agrees.
         let said = reply_of store (Get (key.Handle id)) in
-        let asked = write_back said (record_of.Handle (raised (handle_said id said) cidr 1)) in
-        let behind = More second other asked (Did moment store (Get (key.Handle id)) ∷ trail) (write-quiet other said (raised (handle_said id said) cidr 1))
+        let asked = write_back said (record_of.Handle (with_raised_count (handle_said id said) cidr 1)) in
+        let behind = More second other asked (Did moment store (Get (key.Handle id)) ∷ trail) (write-quiet other said (with_raised_count (handle_said id said) cidr 1))
         (More moment store (Get (key.Handle id)) trail (get-quiet store id) quiet) in
         after-write (RaiseEnds id cidr origin) (Did second other asked ∷ Did moment store (Get (key.Handle id)) ∷ trail) (reply_of other asked) (reply_of other asked)
         (λ revision. goes left tt) again (stops left NoRoom) (stops left NoRevisions) refl
@@ -135,7 +135,7 @@ lower-once : (credit : Credit) (origin : Trail) (again : Part (Unit {0})) (left 
 unfolding GoesQuietly NotLimit
 lower-once credit origin again left h trail quiet = λ moment store agrees second other agrees_then.
     let said = reply_of store (Get (key.Handle credit.handle)) in
-    let less = lowered (handle_said credit.handle said) credit.block credit.amount in
+    let less = with_lowered_count (handle_said credit.handle said) credit.block credit.amount in
     let asked = lowering less (revision_said said) in
     let behind = More second other asked (Did moment store (Get (key.Handle credit.handle)) ∷ trail) (lowering-quiet other less less.counts (revision_said said))
     (More moment store (Get (key.Handle credit.handle)) trail (get-quiet store credit.handle) quiet) in
@@ -154,14 +154,14 @@ free-these : (what : Freeing) (again : Part ℕ) (left : Left) (amount : ℕ) (f
 unfolding StopsOtherwise NotLimit GoesQuietly
 free-these what again left zero found h trail = tt
 free-these what again left (suc more) found h trail = λ moment store agrees.
-    let asked = Update (record_of.Block (freed what.picks (next_block found.1))) found.0 in
+    let asked = Update (record_of.Block (block_without what.picks (next_block found.1))) found.0 in
     let longer = Did moment store asked ∷ trail in
     after-write StopsOtherwise longer (reply_of store asked) (reply_of store asked)
-    (λ taken. followed (lower (credit_of what.handle what.block (suc more)) left) (λ now done. goes now (suc more))) again (stops left NoRoom) (stops left NoRevisions) refl
+    (λ taken. part_then (lower (credit_of what.handle what.block (suc more)) left) (λ now done. goes now (suc more))) again (stops left NoRoom) (stops left NoRevisions) refl
     (λ revision e. lowers longer (credit_of what.handle what.block (suc more)))
     (h longer) tt tt
   where
-    lowers : (longer : Trail) (credit : Credit) → Comes StopsOtherwise longer (followed (lower credit left) (λ now done. goes now (suc more)))
+    lowers : (longer : Trail) (credit : Credit) → Comes StopsOtherwise longer (part_then (lower credit left) (λ now done. goes now (suc more)))
     lowers longer credit =
         Comes-bound (GoesQuietly longer) StopsOtherwise (onward (λ now done. goes now (suc more))) (lower credit left) longer (lower-tries credit longer left.races left.claims longer Same) ends
       where
@@ -271,7 +271,7 @@ claim-for origin trail node cidr read left quiet knows =
     ends longer claimed.Full k = (tt, k)
     ends longer claimed.Spent k = (tt, k)
 
--- ---- an address is assigned
+-- ---- an address is block_with_ordinal
 
 -- the latest call gives an address of the family and of no other, quietly behind the trail
 pub record GivesLast (origin : Trail) (family : Family) (trail : Trail) : Type 0 where
@@ -284,14 +284,14 @@ pub record GivesLast (origin : Trail) (family : Family) (trail : Trail) : Type 0
   pub only : (other : Family) → IsGift store asked other → other ≡ family
   pub is : trail ≡ Did moment store asked ∷ between
 
--- the latest call assigned the target, quietly behind the trail
+-- the latest call block_with_ordinal the target, quietly behind the trail
 pub record AssignsLast (origin : Trail) (attributes : Attributes) (target : Target) (done : Assigned) (trail : Trail) : Type 0 where
   pub store : Datastore
   pub between : Trail
   pub quiet : Quietly origin between
   pub revision : ℕ
-  pub is : trail ≡ Did done.moment store (Update (record_of.Block (assigned (next_block target.block) target.ordinal attributes)) target.revision) ∷ between
-  pub granted : reply_of store (Update (record_of.Block (assigned (next_block target.block) target.ordinal attributes)) target.revision) ≡ Can revision
+  pub is : trail ≡ Did done.moment store (Update (record_of.Block (block_with_ordinal (next_block target.block) target.ordinal attributes)) target.revision) ∷ between
+  pub granted : reply_of store (Update (record_of.Block (block_with_ordinal (next_block target.block) target.ordinal attributes)) target.revision) ≡ Can revision
   pub current : (found : Record) → HasAt store (key.Block target.block.cidr) target.revision found → found ≡ record_of.Block target.block
   pub stamp : done.stamp ≡ target.block.sequence + 1
 
@@ -320,7 +320,7 @@ assign-lost origin trail attributes target left quiet = by left.races left.claim
     ends longer (Went now done) k = k
     ends longer (Stops now why) k = otherwise-ends origin attributes target longer now why k
 
-    by : (races claims : ℕ) → Comes (AssignEnds origin attributes target) trail (after_lost races claims (λ less. followed (lower credit less) (λ now done. goes now None)))
+    by : (races claims : ℕ) → Comes (AssignEnds origin attributes target) trail (after_lost races claims (λ less. part_then (lower credit less) (λ now done. goes now None)))
     by zero claims = quiet
     by (suc races) claims =
         Comes-bound (GoesQuietly origin) (AssignEnds origin attributes target) (onward (λ now done. goes now None)) (lower credit (left_of races claims)) trail
@@ -338,10 +338,10 @@ assign-block : (origin trail : Trail) (attributes : Attributes) (target : Target
     → Comes (AssignEnds origin attributes target) trail (assign_block attributes target left)
 unfolding AssignEnds
 assign-block origin trail attributes target left quiet knows = λ moment store agrees.
-    by moment store agrees (reply_of store (Update (record_of.Block (assigned (next_block target.block) target.ordinal attributes)) target.revision)) refl
+    by moment store agrees (reply_of store (Update (record_of.Block (block_with_ordinal (next_block target.block) target.ordinal attributes)) target.revision)) refl
   where
     asked : Call
-    asked = Update (record_of.Block (assigned (next_block target.block) target.ordinal attributes)) target.revision
+    asked = Update (record_of.Block (block_with_ordinal (next_block target.block) target.ordinal attributes)) target.revision
 
     lost : (moment : ℕ) (store : Datastore) → ((revision : ℕ) → reply_of store asked ≢ Can revision) → Comes (AssignEnds origin attributes target) (Did moment store asked ∷ trail) (assign_lost attributes target left)
     lost moment store not = assign-lost origin (Did moment store asked ∷ trail) attributes target left (More moment store asked trail (undone-quiet store asked (λ e. cc e) not) quiet)
@@ -357,7 +357,7 @@ assign-block origin trail attributes target left quiet knows = λ moment store a
         between = trail;
         quiet = quiet;
         gift = assign-gives store trail target.block target.ordinal target.revision revision attributes agrees knows e;
-        only = assign-only store (assigned (next_block target.block) target.ordinal attributes) target.revision;
+        only = assign-only store (block_with_ordinal (next_block target.block) target.ordinal attributes) target.revision;
         is = refl;
       },
       record {

@@ -14,7 +14,7 @@ use Rattle.ipam_records.specs.declared.key.Key.TheVariants as key
 use Rattle.ipam_records.specs.declared.key.Kind.TheVariants as kind
 use Rattle.ipam_records.specs.declared.record.Record.{Record}
 use Rattle.ipam_records.specs.declared.record.Record.TheVariants as record_of
-use Rattle.ipam_records.specs.Datastore.{Datastore, listed, reply_of, row_of}
+use Rattle.ipam_records.specs.Datastore.{Datastore, rows_of_kind, reply_of, row_of}
 use Rattle.ipam_records.proofs.DatastoreLemmas.{row_key-row_of}
 use Rattle.ipam_model.specs.declared.answer.Scan.{Scan}
 use Rattle.ipam_model.specs.declared.choice.Choice.{Choice}
@@ -25,14 +25,14 @@ use Rattle.ipam_model.specs.declared.request.AddRequest.{AddRequest}
 use Rattle.ipam_model.specs.declared.outcome.Served.{Served}
 use Rattle.ipam_model.specs.declared.outcome.Served.TheVariants.{Gave, Refused}
 use Rattle.ipam_model.specs.Add.{asked_of, name_at}
-use Rattle.ipam_block.specs.Operations.{address_of}
+use Rattle.ipam_block.specs.Operations.{ordinal_address}
 use Rattle.ipam_model.specs.declared.answer.Given.{Given}
 use Rattle.ipam_model.specs.AddLaw.{families_of, scan_of}
 use Rattle.ipam_model.specs.AffinityLaw.{HasAt}
-use Rattle.ipam_model.specs.Choice.{FirstCandidate, IsBest, IsChoice, Picks, Rank, Ranked, Own, Unconfirmed, Unclaimed, Foreign, Seen, block_at, block_in_found, choice_at, chosen, has_free_address, is_block_at, is_confirmed_for, is_node, is_unowned_and_empty, may_claim, pick_of, rank_at, rank_of_block, room_of}
+use Rattle.ipam_model.specs.Choice.{FirstCandidate, IsBest, IsChoice, Picks, Rank, Ranked, Own, Unconfirmed, Unclaimed, Foreign, Seen, block_at, block_in_found, choice_at, chosen, has_free_address, is_block_at, is_confirmed_for, is_unowned_and_empty, may_claim, pick_of, rank_at, rank_of_block, room_of}
 use Rattle.ipam_model.specs.Affinities.{BlockRead}
 use Rattle.ipam_model.specs.Counting.{most_count}
-use Rattle.ipam_model.specs.Reads.{Row, config_said, handle_said, pools_said, reservations_said, rows_said}
+use Rattle.ipam_model.specs.Reads.{StoredRecord, config_said, handle_said, pools_said, reservations_said, rows_said}
 use Rattle.ipam_model.specs.declared.part.Left.{Left}
 use Rattle.ipam_model.specs.declared.part.Outcome.{Outcome}
 use Rattle.ipam_model.specs.declared.part.Stop.{Stop}
@@ -50,6 +50,7 @@ use Rattle.ipam_laws.proofs.Calls.{found-block}
 use Rattle.ipam_laws.proofs.SeenReads.{seen_by_stores}
 use Rattle.ipam_laws.proofs.WordSteps.{listed-block}
 use Rattle.ipam_laws.proofs.Trails.{Did, Step, Trail}
+use Rattle.ipam_records.specs.BlockLists.{is_node}
 
 -- ---- what was read in a round
 
@@ -195,8 +196,8 @@ pub record IsGivenBy (request : AddRequest) (trail : Trail) (family : Family) (g
   pub cidr : CidrValue
   pub ordinal : ℕ
   pub chosen : IsChosen request (scan_of family given) (Use cidr ordinal) trail ⊎ IsChosen request (scan_of family given) (Borrow cidr ordinal) trail
-  pub is_address : given.address ≡ address_of cidr ordinal
-  -- its block was listed in that round, and then it was assigned there
+  pub is_address : given.address ≡ ordinal_address cidr ordinal
+  -- its block was rows_of_kind in that round, and then it was assigned there
   pub found : ℕ × block.BlockValue
   pub done : Assigned
   pub five : Trail
@@ -373,10 +374,10 @@ pub record IsSeenAt (store : Datastore) (cidr : CidrValue) (found : ℕ × block
   pub at : HasAt store (key.Block found.1.cidr) found.0 (record_of.Block found.1)
   pub same : found.1.cidr ≡ cidr
 
-pub seen-at : (store : Datastore) (cidr : CidrValue) (found : ℕ × block.BlockValue) → block_in_found (find (is_block_at cidr) (listed kind.Block store)) ≡ Some found → IsSeenAt store cidr found
+pub seen-at : (store : Datastore) (cidr : CidrValue) (found : ℕ × block.BlockValue) → block_in_found (find (is_block_at cidr) (rows_of_kind kind.Block store)) ≡ Some found → IsSeenAt store cidr found
 seen-at store cidr found e = by (row_of (key.Block cidr) store.rows) refl (ap block_in_found (sym (listed-block store.rows cidr)) ∙ e)
   where
-    by : (o : Option Row) → row_of (key.Block cidr) store.rows ≡ o → block_in_found o ≡ Some found → IsSeenAt store cidr found
+    by : (o : Option StoredRecord) → row_of (key.Block cidr) store.rows ≡ o → block_in_found o ≡ Some found → IsSeenAt store cidr found
     by None row f = absurd (cc f)
     by (Some row) there f =
         let (b, is, same) = found-block cidr row.1 (row_key-row_of (key.Block cidr) store.rows row there) in

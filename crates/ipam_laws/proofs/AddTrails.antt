@@ -7,7 +7,7 @@ use Rattle.ipam_addr.specs.Shape.{CidrValue}
 use Rattle.ipam_block.specs.declared.allocation.Allocation.{Allocation}
 use Rattle.ipam_block.specs.declared.allocation.Attributes.{Attributes}
 use Rattle.ipam_block.specs.Shape as block
-use Rattle.ipam_block.specs.Operations.{assigned, next_block}
+use Rattle.ipam_block.specs.Operations.{block_with_ordinal, next_block}
 use Rattle.ipam_records.specs.declared.call.Call.{Call}
 use Rattle.ipam_records.specs.declared.call.Call.TheVariants.{Create, Update}
 use Rattle.ipam_records.specs.declared.call.Write.TheVariants.{Put}
@@ -24,7 +24,7 @@ use Rattle.ipam_model.specs.Cluster.{store_with}
 use Rattle.ipam_model.specs.Credits.{key_written}
 use Rattle.ipam_model.specs.Named.{name_of}
 use Rattle.ipam_model.specs.Owners.{owned_in, owned_in_row}
-use Rattle.ipam_model.specs.Reads.{Row}
+use Rattle.ipam_model.specs.Reads.{StoredRecord}
 use Rattle.ipam_laws.proofs.Lift.{behind}
 use Rattle.ipam_laws.proofs.Trails.{AgreesAll, Did, Got, Trail}
 
@@ -86,7 +86,7 @@ not-block store asked no_round apart = record {
 
 -- ---- what a write of a block leaves
 
-change-there : (store : Datastore) (old : ℕ) (row : Option Row) (revision : ℕ) → reply_to_change store old row ≡ Can revision → (found : Record) × (row ≡ Some (old, found))
+change-there : (store : Datastore) (old : ℕ) (row : Option StoredRecord) (revision : ℕ) → reply_to_change store old row ≡ Can revision → (found : Record) × (row ≡ Some (old, found))
 change-there store old None revision e = absurd (cc e)
 change-there store old (Some row) revision e = from (row.0 == old) refl e
   where
@@ -94,7 +94,7 @@ change-there store old (Some row) revision e = from (row.0 == old) refl e
     from true same f = (row.1, ap (λ (n : ℕ). Some (n, row.1)) (eqb-true row.0 old same))
     from false differ f = absurd (cc f)
 
-create-none : (store : Datastore) (asked : Key) (row : Option Row) (revision : ℕ) → reply_to_create store asked row ≡ Can revision → row ≡ None
+create-none : (store : Datastore) (asked : Key) (row : Option StoredRecord) (revision : ℕ) → reply_to_create store asked row ≡ Can revision → row ≡ None
 create-none store asked None revision e = refl
 create-none store asked (Some row) revision e = absurd (cc e)
 
@@ -166,9 +166,9 @@ insert-length (y ∷ ys) (suc place) x = let k = insert-length ys place x in ome
 
 -- the block with one more allocation gives an address of its family, and of no other
 pub assign-gives : (store : Datastore) (trail : Trail) (b : block.BlockValue) (ordinal old revision : ℕ) (attributes : Attributes) → AgreesAll store trail → Knows trail old b
-    → reply_of store (Update (record_of.Block (assigned (next_block b) ordinal attributes)) old) ≡ Can revision → IsGift store (Update (record_of.Block (assigned (next_block b) ordinal attributes)) old) b.cidr.family
+    → reply_of store (Update (record_of.Block (block_with_ordinal (next_block b) ordinal attributes)) old) ≡ Can revision → IsGift store (Update (record_of.Block (block_with_ordinal (next_block b) ordinal attributes)) old) b.cidr.family
 assign-gives store trail b ordinal old revision attributes agrees knows e =
-    let new = assigned (next_block b) ordinal attributes in
+    let new = block_with_ordinal (next_block b) ordinal attributes in
     let first = update-from store trail b new old revision agrees knows refl e in
     let then = update-leaves store new old revision e in
     let longer = insert-length b.allocations (count_by (λ (x : Allocation). nat_lt x.ordinal ordinal) b.allocations) (record { ordinal = ordinal; attributes = attributes; stamp = b.sequence + 1 }) in

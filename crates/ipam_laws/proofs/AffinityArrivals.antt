@@ -11,7 +11,7 @@ use Rattle.ipam_records.specs.declared.key.Key.TheVariants as key
 use Rattle.ipam_records.specs.declared.record.Record.{Record}
 use Rattle.ipam_records.specs.declared.record.Record.TheVariants as record_of
 use Rattle.ipam_records.specs.Datastore.{Datastore, row_of}
-use Rattle.ipam_records.specs.Label.{Label, idle, owing, Point, Nowhere, Claiming, Claimed, Releasing, Released}
+use Rattle.ipam_records.specs.Label.{CallLabel, idle, owing, Point, Nowhere, Claiming, Claimed, Releasing, Released}
 use Rattle.ipam_model.specs.Affinities.{BlockRead, Tie, affinity, revision_read}
 use Rattle.ipam_model.specs.AffinityLaw.{HasAt, IsBlockCurrent, IsAffinityCurrent}
 use Rattle.ipam_model.specs.Counting.{credit_of}
@@ -224,7 +224,7 @@ arrives-released old known store next below tie mark b was put cidr_is node_not 
 -- ---- the point of each step
 
 -- the mover arrives at the point that its step comes to
-step-arrives : (old known : Known) (store next : Datastore) (label after : Label) → Step old store next label after → Grows old known → Agrees known next → ((k : Key) (revision : ℕ) (found : Record) → HasAt next k revision found → known k revision found) → AreBelow old store → Kept old label.point
+step-arrives : (old known : Known) (store next : Datastore) (label after : CallLabel) → Step old store next label after → Grows old known → Agrees known next → ((k : Key) (revision : ℕ) (found : Record) → HasAt next k revision found → known k revision found) → AreBelow old store → Kept old label.point
     → Arrives old known next after.point
 step-arrives old known store next label after step grows agrees seen below kept = from step
   where
@@ -234,8 +234,8 @@ step-arrives old known store next label after step grows agrees seen below kept 
     nowhere : after.point ≡ Nowhere → Arrives old known next after.point
     nowhere e = at Nowhere e (arrives-nowhere old known next)
 
-    point_of : (l m : Label) → l ≡ m → l.point ≡ m.point
-    point_of l m e = ap (λ (x : Label). x.point) e
+    point_of : (l m : CallLabel) → l ≡ m → l.point ≡ m.point
+    point_of l m e = ap (λ (x : CallLabel). x.point) e
 
     from : Step old store next label after → Arrives old known next after.point
     from (Idles a b) = nowhere (point_of after idle b)
@@ -308,7 +308,7 @@ arrived old known store points then slot h kept arrives others = record {
           ])
     ]
 
-pub step-holds : (old known : Known) (store next : Datastore) (label after : Label) (points then : ℕ → Point) (slot : ℕ) → Step old store next label after → Grows old known → Agrees known next → ((k : Key) (revision : ℕ) (found : Record) → HasAt next k revision found → known k revision found) → AreBelow old store
+pub step-holds : (old known : Known) (store next : Datastore) (label after : CallLabel) (points then : ℕ → Point) (slot : ℕ) → Step old store next label after → Grows old known → Agrees known next → ((k : Key) (revision : ℕ) (found : Record) → HasAt next k revision found → known k revision found) → AreBelow old store
     → label.point ≡ points slot → (then slot ≡ after.point) ⊎ (then slot ≡ Nowhere) → ((other : ℕ) → slot ≢ other → then other ≡ points other)
     → Holds old store points → Holds known next then
 step-holds old known store next label after points then slot step grows agrees seen below is now others h =

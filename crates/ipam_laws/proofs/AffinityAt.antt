@@ -11,13 +11,13 @@ use Rattle.ipam_records.specs.declared.record.Record.{Record}
 use Rattle.ipam_records.specs.declared.record.Record.TheVariants as record_of
 use Rattle.ipam_records.specs.Datastore.{Datastore, reply_to_get, row_of, written}
 use Rattle.ipam_records.specs.Key.{key_of}
-use Rattle.ipam_records.specs.Label.{Label, Point, Claiming, Claimed, Releasing, Released}
+use Rattle.ipam_records.specs.Label.{CallLabel, Point, Claiming, Claimed, Releasing, Released}
 use Rattle.ipam_records.proofs.DatastoreLemmas.{row_of-with_row, row_of-with_row-other, row_of-without_row, row_of-without_row-other}
 use Rattle.ipam_model.specs.Admin.{key_changed}
 use Rattle.ipam_model.specs.Affinities.{BlockRead, Tie, affinity, other_node, revision_read}
 use Rattle.ipam_model.specs.AffinityLaw.{HasAt, IsBlockCurrent, IsAffinityCurrent}
 use Rattle.ipam_model.specs.Moments.{revision_of}
-use Rattle.ipam_model.specs.Reads.{Row}
+use Rattle.ipam_model.specs.Reads.{StoredRecord}
 use Rattle.ipam_laws.proofs.Lift.{Known}
 use Rattle.ipam_laws.proofs.OneRecord.{key_cases}
 use Rattle.ipam_laws.proofs.RequestSteps.{IsUntied, changed-untied}
@@ -25,7 +25,7 @@ use Rattle.ipam_laws.proofs.Steps.{IsAsRead, IsOwnOrNobodys, IsPut, taken, bared
 
 -- ---- a block's node, and an affinity's state
 
-abbrev pub node_in_row : Option Row → Option (List ℕ)
+abbrev pub node_in_row : Option StoredRecord → Option (List ℕ)
 node_in_row (Some (revision, record_of.Block b)) = b.node
 node_in_row _ = None
 
@@ -33,7 +33,7 @@ node_in_row _ = None
 abbrev pub node_at : Datastore → CidrValue → Option (List ℕ)
 node_at store cidr = node_in_row (row_of (key.Block cidr) store.rows)
 
-abbrev pub state_in_row : Option Row → Option State
+abbrev pub state_in_row : Option StoredRecord → Option State
 state_in_row (Some (revision, record_of.Affinity a)) = Some a.state
 state_in_row _ = None
 
@@ -221,10 +221,10 @@ delete-at store next from node cidr tie mark found e at there =
 
 -- ---- every step
 
-point-is : (label other : Label) → label ≡ other → label.point ≡ other.point
-point-is label other e = ap (λ (l : Label). l.point) e
+point-is : (label other : CallLabel) → label ≡ other → label.point ≡ other.point
+point-is label other e = ap (λ (l : CallLabel). l.point) e
 
-pub step-at : (known : Known) (store next : Datastore) (label after : Label) → Step known store next label after → (node : List ℕ) (cidr : CidrValue) → At store next label.point node cidr
+pub step-at : (known : Known) (store next : Datastore) (label after : CallLabel) → Step known store next label after → (node : List ℕ) (cidr : CidrValue) → At store next label.point node cidr
 step-at known store next label after (Idles a b) node cidr = same-at store next label.point node cidr a
 step-at known store next label after (Owes credit a b c) node cidr = same-at store next label.point node cidr a
 step-at known store next label after (Finds tie read kept state a b c d e f) node cidr = same-at store next label.point node cidr a

@@ -10,13 +10,13 @@ use Rattle.ipam_records.specs.declared.key.Key.TheVariants as key
 use Rattle.ipam_records.specs.declared.record.Record.{Record}
 use Rattle.ipam_records.specs.declared.record.Record.TheVariants as record_of
 use Rattle.ipam_records.specs.Datastore.{Datastore, row_of}
-use Rattle.ipam_records.specs.Label.{Label, Point, Claiming, Claimed, Releasing, Released}
+use Rattle.ipam_records.specs.Label.{CallLabel, Point, Claiming, Claimed, Releasing, Released}
 use Rattle.ipam_records.specs.Sound.{IsDatastore}
 use Rattle.ipam_model.specs.declared.entry.Entry.{Entry}
 use Rattle.ipam_model.specs.Affinities.{Tie, affinity}
 use Rattle.ipam_model.specs.AffinityLaw.{HasAt, HasAffinity, HasNode, AgreesWithAffinities, AffinityLaw, OneNodeLaw, IsLabelled, IsAffinityCurrent, PointsAgree, PointsKeep, WasAt, WasOwnOrNobodys, WasToBeKept, WasToBeDeleted, LabelPointsLaw}
 use Rattle.ipam_model.specs.History.{Base, Lawful, cluster_at, store_at, slot_of_entry, moment_of}
-use Rattle.ipam_model.specs.Reads.{Row}
+use Rattle.ipam_model.specs.Reads.{StoredRecord}
 use Rattle.ipam_laws.proofs.Calls.{found-key}
 use Rattle.ipam_laws.proofs.WriteSteps.{found-affinity}
 use Rattle.ipam_laws.proofs.SlotSteps.{label_in, label_at, known_at, known-earlier, known-now, known-below, history-agrees, grows-next, turn-of}
@@ -32,7 +32,7 @@ node-has store cidr node (b, there, is) = ap node_in_row there.1 ∙ is
 pub has-node : (store : Datastore) (cidr : CidrValue) (node : List ℕ) → node_at store cidr ≡ Some node → HasNode store cidr node
 has-node store cidr node e = from (row_of (key.Block cidr) store.rows) refl e
   where
-    from : (o : Option Row) → row_of (key.Block cidr) store.rows ≡ o → node_in_row o ≡ Some node → HasNode store cidr node
+    from : (o : Option StoredRecord) → row_of (key.Block cidr) store.rows ≡ o → node_in_row o ≡ Some node → HasNode store cidr node
     from None is f = absurd (cc f)
     from (Some (revision, record_of.Block b)) is f = (b, (revision, is), f)
     from (Some (revision, record_of.Config config)) is f = absurd (cc f)
@@ -50,7 +50,7 @@ has-state store node cidr state e = from (row_of (key.Affinity node cidr) store.
     tie : Tie
     tie = record { node = node; block = cidr }
 
-    from : (o : Option Row) → row_of (key.Affinity node cidr) store.rows ≡ o → state_in_row o ≡ Some state → HasAffinity store node cidr state
+    from : (o : Option StoredRecord) → row_of (key.Affinity node cidr) store.rows ≡ o → state_in_row o ≡ Some state → HasAffinity store node cidr state
     from None is f = absurd (cc f)
     from (Some (revision, found)) is f =
         let (a, same, whole) = found-affinity (record { node = node; block = cidr }) found (found-key store (key.Affinity node cidr) revision found is) in
@@ -112,10 +112,10 @@ next-holds base history new sound h earlier holds =
     (history-agrees base (new ∷ history) sound h) (known-now base (new ∷ history))
     (record { below = known-below base history sound earlier }) refl
     (elim turn.now [
-      | inl reached ↦ inl (ap (λ (l : Label). l.point) reached)
-      | inr idles ↦ inr (ap (λ (l : Label). l.point) idles)
+      | inl reached ↦ inl (ap (λ (l : CallLabel). l.point) reached)
+      | inr idles ↦ inr (ap (λ (l : CallLabel). l.point) idles)
     ])
-    (λ other differ. ap (λ (l : Label). l.point) (turn.others other differ))
+    (λ other differ. ap (λ (l : CallLabel). l.point) (turn.others other differ))
     holds
 
 pub history-holds : (base : Base) (history : List Entry) → IsDatastore base.store → AgreesWithAffinities base.store → Lawful base history → HoldsAt base history

@@ -13,16 +13,16 @@ use Rattle.ipam_records.specs.declared.record.Record.{Record}
 use Rattle.ipam_records.specs.declared.record.Record.TheVariants as record_of
 use Rattle.ipam_records.specs.Datastore.{Datastore, row_of, written}
 use Rattle.ipam_records.specs.Key.{key_of}
-use Rattle.ipam_records.specs.Label.{Label, Point, Claiming, Claimed, Releasing, Released}
+use Rattle.ipam_records.specs.Label.{CallLabel, Point, Claiming, Claimed, Releasing, Released}
 use Rattle.ipam_model.specs.Affinities.{BlockRead, affinity, other_node, revision_read}
 use Rattle.ipam_model.specs.AffinityLaw.{HasAt, IsBlockCurrent, IsAffinityCurrent}
-use Rattle.ipam_model.specs.Choice.{is_node}
 use Rattle.ipam_model.specs.Moments.{revision_of}
-use Rattle.ipam_model.specs.Reads.{Row}
+use Rattle.ipam_model.specs.Reads.{StoredRecord}
 use Rattle.ipam_laws.proofs.Lift.{Known, Grows}
 use Rattle.ipam_laws.proofs.OneRecord.{key_cases, put-found, remove-found}
 use Rattle.ipam_laws.proofs.Steps.{IsKnownBlock, IsOwnOrNobodys, IsPut, known-block-grows, Step, Idles, Owes, Finds, Starts, Takes, Confirms, Marks, Looks, Bares, Deletes, Raises, Lowers, LowersOut, Frees, Assigns, Changes}
 use Rattle.ipam_laws.proofs.AffinityAt.{node_at, state_at, put-at, put-beside, gone-beside, there-current, At, Stays, Sets, IsConfirmed, IsDeleted, IsTaken, IsBared}
+use Rattle.ipam_records.specs.BlockLists.{is_node}
 
 -- ---- what is current behind a write was current before
 
@@ -32,7 +32,7 @@ pub data Written (store next : Datastore) : Type 0 where
   Puts : (new : Record) → IsPut store next new → Written store next
   Removes : (gone : Key) → next ≡ written store (Remove (store.counter + 1) gone) → ((cidr : CidrValue) → gone ≢ key.Block cidr) → Written store next
 
-pub step-written : (known : Known) (store next : Datastore) (label after : Label) → Step known store next label after → Written store next
+pub step-written : (known : Known) (store next : Datastore) (label after : CallLabel) → Step known store next label after → Written store next
 step-written known store next label after (Idles a b) = Nothing a
 step-written known store next label after (Owes credit a b c) = Nothing a
 step-written known store next label after (Finds tie read kept state a b c d e f) = Nothing a
@@ -54,7 +54,7 @@ step-written known store next label after (Changes request new a b c d e) = Puts
 pub current-there : (store : Datastore) (k : Key) (revision : ℕ) → revision_of store k ≡ Some revision → (found : Record) × HasAt store k revision found
 current-there store k revision e = from (row_of k store.rows) refl (let f : revision_of store k ≡ Some revision = e in f)
   where
-    from : (o : Option Row) → row_of k store.rows ≡ o → revision_of store k ≡ Some revision → (found : Record) × HasAt store k revision found
+    from : (o : Option StoredRecord) → row_of k store.rows ≡ o → revision_of store k ≡ Some revision → (found : Record) × HasAt store k revision found
     from None is f = let g : None ≡ Some revision = rw is at f in absurd (cc g)
     from (Some row) is f =
         let g : Some row.0 ≡ Some revision = rw is at f in
@@ -64,7 +64,7 @@ current-there store k revision e = from (row_of k store.rows) refl (let f : revi
 current-absent : (store : Datastore) (k : Key) → revision_of store k ≡ None → row_of k store.rows ≡ None
 current-absent store k e = from (row_of k store.rows) refl e
   where
-    from : (o : Option Row) → row_of k store.rows ≡ o → revision_of store k ≡ None → row_of k store.rows ≡ None
+    from : (o : Option StoredRecord) → row_of k store.rows ≡ o → revision_of store k ≡ None → row_of k store.rows ≡ None
     from None is f = is
     from (Some row) is f = let g : Some row.0 ≡ None = rw is at f in absurd (cc g)
 

@@ -32,7 +32,7 @@ use Rattle.ipam_model.specs.Assigning.{assign, claim_for, target_in}
 use Rattle.ipam_model.specs.Choice.{Foreign, Lacks, Own, Pick, Picks, Rank, Ranked, Seen, Unclaimed, Unconfirmed, Unknown, block_at, block_in_found, pick_of}
 use Rattle.ipam_model.specs.Counting.{freeing_one}
 use Rattle.ipam_model.specs.Plain.{seen_in}
-use Rattle.ipam_model.specs.Reads.{Row}
+use Rattle.ipam_model.specs.Reads.{StoredRecord}
 use Rattle.ipam_model.specs.Step.{Part, all_left, answer_of, left_of, onward, rounds, stops}
 use Rattle.ipam_model.specs.Usable.{families_if}
 use Rattle.ipam_laws.proofs.AddRounds.{HasRead, picked-read}
@@ -48,9 +48,9 @@ use Rattle.ipam_laws.proofs.WordSteps.{listed-block}
 
 -- a block is as a list of blocks shows it
 pub listed-as_read : (store : Datastore) (slot : CidrValue) → IsAsRead store slot (block_at (seen_in store.rows) slot)
-listed-as_read store slot = subst (λ (o : Option Row). IsAsRead store slot (block_in_found o)) (sym (listed-block store.rows slot)) (by (row_of (key.Block slot) store.rows) refl)
+listed-as_read store slot = subst (λ (o : Option StoredRecord). IsAsRead store slot (block_in_found o)) (sym (listed-block store.rows slot)) (by (row_of (key.Block slot) store.rows) refl)
   where
-    by : (o : Option Row) → row_of (key.Block slot) store.rows ≡ o → IsAsRead store slot (block_in_found o)
+    by : (o : Option StoredRecord) → row_of (key.Block slot) store.rows ≡ o → IsAsRead store slot (block_in_found o)
     by None e = e
     by (Some row) e =
         let (b, is, same) = found-block slot row.1 (row_key-row_of (key.Block slot) store.rows row e) in

@@ -10,7 +10,7 @@ use Rattle.ipam_records.specs.declared.key.Kind.{Kind}
 use Rattle.ipam_records.specs.declared.record.Record.{Record}
 use Rattle.ipam_records.specs.Datastore.{Datastore, granted, has_room, last_revision, reply_of, reply_to_change, reply_to_create, row_of}
 use Rattle.ipam_records.specs.Key.{key_of}
-use Rattle.ipam_records.specs.Label.{Label, idle}
+use Rattle.ipam_records.specs.Label.{CallLabel, idle}
 use Rattle.ipam_records.specs.Said.{Said, Can, Conflict, Full, Spent}
 use Rattle.ipam_records.specs.Sound.{IsDatastore, IsRecord}
 use Rattle.ipam_records.specs.Word.{Word, Ends, Asks, Waits, bound}
@@ -30,7 +30,7 @@ use Rattle.ipam_laws.proofs.SoundSteps.{row-there, step-sound}
 use Rattle.ipam_laws.proofs.StoreSteps.{StoreStep, Stays, Puts, Removes, granted-step}
 
 -- the records are sound, and counts cover addresses and what the label owes
-pub record Good (label : Label) (store : Datastore) : Type 0 where
+pub record Good (label : CallLabel) (store : Datastore) : Type 0 where
   pub sound : IsDatastore store
   pub covers : (id : List ℕ) (cidr : CidrValue) → held_count store id cidr + owed id cidr label ≤ handle_count store id cidr
 
@@ -135,10 +135,10 @@ module _ (live : List (List ℕ)) where
 
   -- ---- reads
 
-  pub runs-get : {A : Type 0} → (Q : Datastore → A → Type 0) (store : Datastore) (moment : ℕ) (label : Label) (k : Key) (next : ℕ → Said → Word A) → (Good label store → Runs Q store (moment + 1) (next moment (reply_of store (Get k)))) → Runs Q store moment (Asks label (Get k) next)
+  pub runs-get : {A : Type 0} → (Q : Datastore → A → Type 0) (store : Datastore) (moment : ℕ) (label : CallLabel) (k : Key) (next : ℕ → Said → Word A) → (Good label store → Runs Q store (moment + 1) (next moment (reply_of store (Get k)))) → Runs Q store moment (Asks label (Get k) next)
   runs-get Q store moment label k next h good = subst (λ (s : Datastore). Runs Q s (moment + 1) (next moment (reply_of store (Get k)))) (sym (behind-get store k)) (h good)
 
-  pub runs-list : {A : Type 0} → (Q : Datastore → A → Type 0) (store : Datastore) (moment : ℕ) (label : Label) (kind : Kind) (next : ℕ → Said → Word A) → (Good label store → Runs Q store (moment + 1) (next moment (reply_of store (ListAll kind)))) → Runs Q store moment (Asks label (ListAll kind) next)
+  pub runs-list : {A : Type 0} → (Q : Datastore → A → Type 0) (store : Datastore) (moment : ℕ) (label : CallLabel) (kind : Kind) (next : ℕ → Said → Word A) → (Good label store → Runs Q store (moment + 1) (next moment (reply_of store (ListAll kind)))) → Runs Q store moment (Asks label (ListAll kind) next)
   runs-list Q store moment label kind next h good = subst (λ (s : Datastore). Runs Q s (moment + 1) (next moment (reply_of store (ListAll kind)))) (sym (behind-list store kind)) (h good)
 
 -- ---- writes that lose no race

@@ -5,7 +5,7 @@ use Rattle.std.specs.List.{filter, find, list_any, range_with_len}
 use Rattle.ipam_addr.specs.Shape.{AddrValue, CidrValue}
 use Rattle.ipam_addr.specs.Width.{cidr_size}
 use Rattle.ipam_affinity.specs.declared.state.State.TheVariants.{Confirmed}
-use Rattle.ipam_block.specs.Operations.{address_of}
+use Rattle.ipam_block.specs.Operations.{ordinal_address}
 use Rattle.ipam_reserve.specs.Union.{is_in_union}
 use Rattle.ipam_records.specs.declared.key.Key.TheVariants as key
 use Rattle.ipam_records.specs.declared.key.Kind.TheVariants as kind
@@ -15,9 +15,9 @@ use Rattle.ipam_records.specs.KeyOrder.{is_of_kind, keys_equal}
 use Rattle.ipam_model.specs.declared.choice.Choice.{Choice}
 use Rattle.ipam_model.specs.declared.choice.Choice.TheVariants.{Claim}
 use Rattle.ipam_model.specs.Affinities.{BlockRead, affinity}
-use Rattle.ipam_model.specs.Choice.{Candidate, Foreign, IsBest, IsCandidate, Lacks, Own, Pick, Picks, Rank, Ranked, Seen, Unclaimed, Unconfirmed, Unknown, block_at, block_in_found, choice_in, choice_of, chosen, first_found, free_address, has_free_address, is_confirmed_for, is_node, is_reserved, may_claim, pick_of, rank_at, rank_in, rank_number, rank_of, rank_of_block, room_of}
+use Rattle.ipam_model.specs.Choice.{Candidate, Foreign, IsBest, IsCandidate, Lacks, Own, Pick, Picks, Rank, Ranked, Seen, Unclaimed, Unconfirmed, Unknown, block_at, block_in_found, choice_in, choice_of, chosen, first_found, free_address, has_free_address, is_confirmed_for, is_reserved, may_claim, pick_of, rank_at, rank_in, rank_number, rank_of, rank_of_block, room_of}
 use Rattle.ipam_model.specs.Plain.{seen_in}
-use Rattle.ipam_model.specs.Reads.{Row, pools_said, reservations_said}
+use Rattle.ipam_model.specs.Reads.{StoredRecord, pools_said, reservations_said}
 use Rattle.ipam_model.specs.Usable.{Asked, unknown_name}
 use Rattle.ipam_model.proofs.ChoiceLemmas.{pick-ranked}
 use Rattle.ipam_laws.proofs.ChosenSlots.{best-choice, chosen-slot, least-rank, none-unknown, slot_in}
@@ -25,6 +25,7 @@ use Rattle.ipam_laws.proofs.CountLemmas.{same_itself, same_text}
 use Rattle.ipam_laws.proofs.Members.{filter-in, in-cons, in-find, in-nothing}
 use Rattle.ipam_laws.proofs.Steps.{taken}
 use Rattle.ipam_laws.proofs.WordSteps.{listed-block}
+use Rattle.ipam_records.specs.BlockLists.{is_node}
 
 -- what is picked is not to be claimed
 abbrev pub IsTaken : Rank → Type 0
@@ -47,14 +48,14 @@ IsPicked (Unknown place) = ⊥
 -- ---- room
 
 -- an address that is not reserved is found among the ordinals
-found-free : (seen : Seen) (cidr : CidrValue) (many from : ℕ) → is_some (first_found (free_address seen cidr) many from) ≡ true → (ordinal : ℕ) × (find (λ o. not (is_reserved seen (address_of cidr o))) (range_with_len from many) ≡ Some ordinal)
+found-free : (seen : Seen) (cidr : CidrValue) (many from : ℕ) → is_some (first_found (free_address seen cidr) many from) ≡ true → (ordinal : ℕ) × (find (λ o. not (is_reserved seen (ordinal_address cidr o))) (range_with_len from many) ≡ Some ordinal)
 unfolding first_found
 found-free seen cidr zero from e = absurd (cc e)
-found-free seen cidr (suc many) from e = by (λ f. found-free seen cidr many (from + 1) f) (is_reserved seen (address_of cidr from)) e
+found-free seen cidr (suc many) from e = by (λ f. found-free seen cidr many (from + 1) f) (is_reserved seen (ordinal_address cidr from)) e
   where
-    by : (is_some (first_found (free_address seen cidr) many (from + 1)) ≡ true → (ordinal : ℕ) × (find (λ o. not (is_reserved seen (address_of cidr o))) (range_with_len (from + 1) many) ≡ Some ordinal))
-        → (b : Bool) → is_some (elim (cond b None (Some (address_of cidr from))) as (λ o. Option (ℕ × AddrValue)) [ Some found ↦ Some (from, found) | None ↦ first_found (free_address seen cidr) many (from + 1) ]) ≡ true
-        → (ordinal : ℕ) × (cond (not b) (Some from) (find (λ o. not (is_reserved seen (address_of cidr o))) (range_with_len (from + 1) many)) ≡ Some ordinal)
+    by : (is_some (first_found (free_address seen cidr) many (from + 1)) ≡ true → (ordinal : ℕ) × (find (λ o. not (is_reserved seen (ordinal_address cidr o))) (range_with_len (from + 1) many) ≡ Some ordinal))
+        → (b : Bool) → is_some (elim (cond b None (Some (ordinal_address cidr from))) as (λ o. Option (ℕ × AddrValue)) [ Some found ↦ Some (from, found) | None ↦ first_found (free_address seen cidr) many (from + 1) ]) ≡ true
+        → (ordinal : ℕ) × (cond (not b) (Some from) (find (λ o. not (is_reserved seen (ordinal_address cidr o))) (range_with_len (from + 1) many)) ≡ Some ordinal)
     by rest true f = rest f
     by rest false f = (from, refl)
 
@@ -74,7 +75,7 @@ claim-room asked seen slot (Some found) rank e = by (room_of seen found.1) refl 
 
 -- ---- confirmed
 
-any-in : (test : Row → Bool) (row : Row) (rows : List Row) → Contains rows row → test row ≡ true → list_any test rows ≡ true
+any-in : (test : StoredRecord → Bool) (row : StoredRecord) (rows : List StoredRecord) → Contains rows row → test row ≡ true → list_any test rows ≡ true
 any-in test row [] there is = absurd (in-nothing row there)
 any-in test row (first ∷ rest) there is = by (test first) refl (in-cons row first rest there) (any-in test row rest)
   where
@@ -83,14 +84,14 @@ any-in test row (first ∷ rest) there is = by (test first) refl (in-cons row fi
     by false e (inl same) k = let own = ap test same in absurd (cc (own, is, e))
     by false e (inr further) k = k further is
 
-is-confirmed : (node : List ℕ) (cidr : CidrValue) (rows : List Row) (mark : ℕ) → row_of (key.Affinity node cidr) rows ≡ Some (mark, record_of.Affinity (affinity node cidr Confirmed)) → list_any (is_confirmed_for node cidr) (filter (λ row. is_of_kind kind.Affinity (row_key row)) rows) ≡ true
+is-confirmed : (node : List ℕ) (cidr : CidrValue) (rows : List StoredRecord) (mark : ℕ) → row_of (key.Affinity node cidr) rows ≡ Some (mark, record_of.Affinity (affinity node cidr Confirmed)) → list_any (is_confirmed_for node cidr) (filter (λ row. is_of_kind kind.Affinity (row_key row)) rows) ≡ true
 is-confirmed node cidr rows mark e =
-    let row : Row = (mark, record_of.Affinity (affinity node cidr Confirmed)) in
-    let there = (in-find (λ (r : Row). keys_equal (row_key r) (key.Affinity node cidr)) row rows e).0 in
+    let row : StoredRecord = (mark, record_of.Affinity (affinity node cidr Confirmed)) in
+    let there = (in-find (λ (r : StoredRecord). keys_equal (row_key r) (key.Affinity node cidr)) row rows e).0 in
     let t = same_text node in
     let u = same_itself cidr in
     any-in (is_confirmed_for node cidr) row (filter (λ row. is_of_kind kind.Affinity (row_key row)) rows)
-    (filter-in (λ (r : Row). is_of_kind kind.Affinity (row_key r)) row rows there refl) (rw (t, u) refl)
+    (filter-in (λ (r : StoredRecord). is_of_kind kind.Affinity (row_key r)) row rows there refl) (rw (t, u) refl)
 
 -- ---- the candidate
 
@@ -150,7 +151,7 @@ first-rank asked seen c candidate zero_is none = (picks-no_claim (pick_of asked 
 -- ---- behind a claim
 
 -- what a claim leaves of the rows that a choice sees
-pub record IsClaimed (rows then : List Row) (node : List ℕ) (slot : CidrValue) (read : BlockRead) : Type 0 where
+pub record IsClaimed (rows then : List StoredRecord) (node : List ℕ) (slot : CidrValue) (read : BlockRead) : Type 0 where
   pub revision : ℕ
   pub has_block : row_of (key.Block slot) then ≡ Some (revision, record_of.Block (taken node slot read))
   pub mark : ℕ
@@ -159,7 +160,7 @@ pub record IsClaimed (rows then : List Row) (node : List ℕ) (slot : CidrValue)
   pub same_reservations : row_of key.Reservations then ≡ row_of key.Reservations rows
   pub cidr : (taken node slot read).cidr ≡ slot
 
-own-rank : (asked : Asked) (rows then : List Row) (slot : CidrValue) (read : BlockRead) (rank : Rank) → rank_at asked (seen_in rows) slot read ≡ Some rank → IsClaimed rows then asked.node slot read
+own-rank : (asked : Asked) (rows then : List StoredRecord) (slot : CidrValue) (read : BlockRead) (rank : Rank) → rank_at asked (seen_in rows) slot read ≡ Some rank → IsClaimed rows then asked.node slot read
     → (own : Rank) × (rank_of asked (seen_in then) slot ≡ Some own) × (rank_number own ≡ 0)
 own-rank asked rows then slot read rank ranked h =
     let seen = seen_in rows in
@@ -167,7 +168,7 @@ own-rank asked rows then slot read rank ranked h =
     let b = taken asked.node slot read in
     let (ordinal, room) = claim-room asked seen slot read rank ranked in
     let at : block_at later slot ≡ Some (h.revision, b) = ap block_in_found (listed-block then slot ∙ h.has_block) in
-    let room_then : room_of later b ≡ Some ordinal = ap (λ (o : Option Row). find (λ k. not (is_in_union (reservations_said (reply_to_get o)) (address_of b.cidr k))) b.queue) h.same_reservations ∙ room in
+    let room_then : room_of later b ≡ Some ordinal = ap (λ (o : Option StoredRecord). find (λ k. not (is_in_union (reservations_said (reply_to_get o)) (ordinal_address b.cidr k))) b.queue) h.same_reservations ∙ room in
     let confirmed : list_any (is_confirmed_for asked.node b.cidr) later.affinities ≡ true =
     subst (λ (c : CidrValue). list_any (is_confirmed_for asked.node c) later.affinities ≡ true) (sym h.cidr) (is-confirmed asked.node slot then h.mark h.confirmed) in
     let own : is_node asked.node b.node ≡ true = taken-own asked.node slot read in
@@ -178,11 +179,11 @@ own-rank asked rows then slot read rank ranked h =
     taken-own node slot None = same_text node
     taken-own node slot (Some found) = same_text node
 
-pub claimed-no_claim : (asked : Asked) (rows then : List Row) (ranked : Ranked) (read : BlockRead) → pick_of asked (seen_in rows) ≡ Picks ranked → block_at (seen_in rows) ranked.slot ≡ read → IsClaimed rows then asked.node ranked.slot read → NoClaim (pick_of asked (seen_in then)) × IsPicked (pick_of asked (seen_in then))
+pub claimed-no_claim : (asked : Asked) (rows then : List StoredRecord) (ranked : Ranked) (read : BlockRead) → pick_of asked (seen_in rows) ≡ Picks ranked → block_at (seen_in rows) ranked.slot ≡ read → IsClaimed rows then asked.node ranked.slot read → NoClaim (pick_of asked (seen_in then)) × IsPicked (pick_of asked (seen_in then))
 claimed-no_claim asked rows then ranked read picked is h =
     let seen = seen_in rows in
     let later = seen_in then in
-    let pools : later.pools ≡ seen.pools = ap (λ (o : Option Row). pools_said (reply_to_get o)) h.same_pools in
+    let pools : later.pools ≡ seen.pools = ap (λ (o : Option StoredRecord). pools_said (reply_to_get o)) h.same_pools in
     let (c, candidate, slot) = picked-candidate asked seen ranked picked in
     let rank = pick-ranked asked seen ranked picked in
     let (own, owns, zero_is) = own-rank asked rows then ranked.slot read ranked.rank (ap (rank_at asked seen ranked.slot) (sym is) ∙ rank) h in

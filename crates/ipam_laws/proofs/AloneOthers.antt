@@ -35,7 +35,7 @@ use Rattle.ipam_model.specs.AffinityLaw.{HasAt}
 use Rattle.ipam_model.specs.Counting.{free, freeing_all}
 use Rattle.ipam_model.specs.Reads.{affinity_said, block_said, handle_said, rows_said}
 use Rattle.ipam_model.specs.Remove.{Leak, collect_stops, collect_word, del_blocks, del_stops, del_word, free_leaks, freeing_owner, item_of, leaks, suspects, with_item}
-use Rattle.ipam_model.specs.Step.{Part, StopAnswers, all_left, answer_of, goes, left_of, onward, settled, stops, tries, write_back}
+use Rattle.ipam_model.specs.Step.{Part, StopAnswers, all_left, answer_of, goes, left_of, onward, as_word, stops, tries, write_back}
 use Rattle.ipam_laws.proofs.AloneCalls.{IsUnlost, Runs, Runs-bound, create-unlost, delete-unlost, runs-get, runs-list, unlost-runs, update-unlost}
 use Rattle.ipam_laws.proofs.AloneParts.{IsWant, Unlost, back-unlost, free-runs, put-keeps, put-there}
 use Rattle.ipam_laws.proofs.Calls.{found-key}
@@ -54,7 +54,7 @@ NotTried Fine then (Went now value) = Fine value
 NotTried Fine then (Stops now why) = IsWant why
 
 pub settles-runs : {A : Type 0} → (live : List (List ℕ)) (Fine : A → Type 0) (answers : StopAnswers A) → Fine answers.full → ((moment : ℕ) → Fine (answers.count_full moment)) → Fine answers.spent → (part : Part A) (store : Datastore) (moment : ℕ) → Runs live (NotTried Fine) store moment part
-    → Runs live (λ then value. Fine value) store moment (settled answers part)
+    → Runs live (λ then value. Fine value) store moment (as_word answers part)
 settles-runs {A} live Fine answers full count spent part store moment h = Runs-bound live (NotTried Fine) (λ then value. Fine value) (λ outcome. Ends (answer_of answers outcome)) part store moment h ends
   where
     ends : (then : Datastore) (later : ℕ) (outcome : Outcome A) → NotTried Fine then outcome → Fine (answer_of answers outcome)
@@ -86,7 +86,7 @@ del-blocks id at (cidr ∷ rest) left store moment =
 
 pub del-runs : (id : List ℕ) (store : Datastore) (moment : ℕ) → Runs [] (λ then told. NotAgainDel told) store moment (del_word id)
 del-runs id store moment =
-    runs-get [] (λ then told. NotAgainDel told) store moment idle (key.Handle id) (λ at said. settled del_stops (del_blocks id at (map (λ count. count.0) (handle_said id said).counts) all_left))
+    runs-get [] (λ then told. NotAgainDel told) store moment idle (key.Handle id) (λ at said. as_word del_stops (del_blocks id at (map (λ count. count.0) (handle_said id said).counts) all_left))
     (λ good. settles-runs [] NotAgainDel del_stops (λ lost e. cc e) (λ at lost e. cc e) (λ lost e. cc e) (del_blocks id moment (map (λ count. count.0) (handle_said id (reply_of store (Get (key.Handle id)))).counts) all_left) store (moment + 1)
     (del-blocks id moment (map (λ count. count.0) (handle_said id (reply_of store (Get (key.Handle id)))).counts) all_left store (moment + 1)))
 
@@ -106,10 +106,10 @@ pub collect-runs : (request : CollectRequest) (live : List (List ℕ)) (store : 
 collect-runs request live store moment =
     let Q : Datastore → CollectAnswer → Type 0 = λ then told. NotAgainCollect told in
     let second : (b1 : ℕ) (first : Said) → ℕ → Said → Word CollectAnswer = λ b1 first b2 said.
-    settled collect_stops (free_leaks (record { b1 = b1; b2 = b2; items = [] }) (leaks (suspects request (rows_said first)) live (rows_said said)) all_left) in
+    as_word collect_stops (free_leaks (record { b1 = b1; b2 = b2; items = [] }) (leaks (suspects request (rows_said first)) live (rows_said said)) all_left) in
     let first_rows = reply_of store (ListAll kind.Block) in
     runs-list live Q store moment idle kind.Block
-    (λ b1 first. Waits (λ list. Asks idle (ListAll kind.Block) (λ b2 said. settled collect_stops (free_leaks (record { b1 = b1; b2 = b2; items = [] }) (leaks (suspects request (rows_said first)) list (rows_said said)) all_left))))
+    (λ b1 first. Waits (λ list. Asks idle (ListAll kind.Block) (λ b2 said. as_word collect_stops (free_leaks (record { b1 = b1; b2 = b2; items = [] }) (leaks (suspects request (rows_said first)) list (rows_said said)) all_left))))
     (λ g1. runs-list live Q store (moment + 1 + 1) idle kind.Block (second moment first_rows)
     (λ g2. settles-runs live NotAgainCollect collect_stops (λ lost e. cc e) (λ at lost e. cc e) (λ lost e. cc e)
     (free_leaks (record { b1 = moment; b2 = moment + 1 + 1; items = [] }) (leaks (suspects request (rows_said first_rows)) live (rows_said first_rows)) all_left) store (moment + 1 + 1 + 1)
@@ -122,10 +122,10 @@ NotAgainAdmin told = (lost : ℕ) → told ≢ admin.Again lost
 
 admin-once : (setting : Setting) (again : Part AdminAnswer) (left : Left) (store : Datastore) (moment : ℕ) → Runs [] (NotTried NotAgainAdmin) store moment (change.admin_once setting again left)
 admin-once setting again left store moment =
-    runs-get [] (NotTried NotAgainAdmin) store moment idle (change.key_changed setting) (λ at said. change.admin_write again left said (change.changed setting said))
-    (λ good. by (change.changed setting (reply_of store (Get (change.key_changed setting)))) refl)
+    runs-get [] (NotTried NotAgainAdmin) store moment idle (change.key_changed setting) (λ at said. change.admin_write again left said (change.admin_change setting said))
+    (λ good. by (change.admin_change setting (reply_of store (Get (change.key_changed setting)))) refl)
   where
-    by : (what : change.Changed) → change.changed setting (reply_of store (Get (change.key_changed setting))) ≡ what → Runs [] (NotTried NotAgainAdmin) store (moment + 1) (change.admin_write again left (reply_of store (Get (change.key_changed setting))) what)
+    by : (what : change.Changed) → change.admin_change setting (reply_of store (Get (change.key_changed setting))) ≡ what → Runs [] (NotTried NotAgainAdmin) store (moment + 1) (change.admin_write again left (reply_of store (Get (change.key_changed setting))) what)
     by (change.Refuses number name) e = λ lost f. cc f
     by (change.Becomes new) e = λ good.
         let said = reply_of store (Get (change.key_changed setting)) in

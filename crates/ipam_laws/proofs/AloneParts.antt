@@ -7,8 +7,8 @@ use Rattle.ipam_affinity.specs.declared.state.State.{State}
 use Rattle.ipam_affinity.specs.declared.state.State.TheVariants.{Pending, Confirmed, PendingDeletion}
 use Rattle.ipam_block.specs.declared.allocation.Attributes.{Attributes}
 use Rattle.ipam_block.specs.Shape.{BlockValue}
-use Rattle.ipam_block.specs.Operations.{assigned, freed, next_block}
-use Rattle.ipam_handle.specs.Operations.{count_of, lowered, raised}
+use Rattle.ipam_block.specs.Operations.{block_with_ordinal, block_without, next_block}
+use Rattle.ipam_handle.specs.Operations.{count_of, with_lowered_count, with_raised_count}
 use Rattle.ipam_handle.specs.Shape.{HandleValue}
 use Rattle.ipam_records.specs.declared.call.Call.{Call}
 use Rattle.ipam_records.specs.declared.call.Call.TheVariants.{Get, Create, Update, Delete}
@@ -35,7 +35,7 @@ use Rattle.ipam_model.specs.Assigning.{Target, after_claim, assign, assign_block
 use Rattle.ipam_model.specs.CountLaw.{count_in_row, handle_count}
 use Rattle.ipam_model.specs.Counting.{Freeing, credit_of, free, free_found, free_once, free_these, lower, lower_once, lowering, most_count, raise, raise_once, raise_write, revision_said, written_or_deleted}
 use Rattle.ipam_model.specs.Reads.{affinity_said, block_said, handle_said}
-use Rattle.ipam_model.specs.Step.{Part, followed, goes, left_of, on_write, onward, stops, tries, write_back}
+use Rattle.ipam_model.specs.Step.{Part, part_then, goes, left_of, on_write, onward, stops, tries, write_back}
 use Rattle.ipam_laws.proofs.ActParts.{assigning_call, freeing_call}
 use Rattle.ipam_laws.proofs.AloneCalls.{Good, IsUnlost, Runs, Runs-bound, create-unlost, delete-unlost, runs-get, unlost-runs, update-unlost}
 use Rattle.ipam_laws.proofs.Calls.{found-block, found-handle, found-key}
@@ -135,7 +135,7 @@ module _ (live : List (List ℕ)) where
       by true = tt
       by false = λ good.
           let said = reply_of store (Get (key.Handle id)) in
-          let new = record_of.Handle (raised (handle_said id said) cidr 1) in
+          let new = record_of.Handle (with_raised_count (handle_said id said) cidr 1) in
           let asked = write_back said new in
           unlost-runs live (RaiseEnds left store) (behind store asked) (moment + 1 + 1) (reply_of store asked) (λ revision. goes left tt) again (stops left NoRoom) (stops left NoRevisions)
           (back-unlost store (key.Handle id) new (ap key.Handle own))
@@ -156,7 +156,7 @@ module _ (live : List (List ℕ)) where
       ends : (then : Datastore) (later : ℕ) (outcome : Outcome (Unit {0})) → RaiseEnds left store then outcome → Runs live (AssignEnds left) then later (onward (λ now done. assign_block attributes target now) outcome)
       ends then later (Stops now why) k = k
       ends then later (Went now done) k = λ good.
-          let new = record_of.Block (assigned (next_block target.block) target.ordinal attributes) in
+          let new = record_of.Block (block_with_ordinal (next_block target.block) target.ordinal attributes) in
           let asked = assigning_call attributes target in
           unlost-runs live (AssignEnds left) (behind then asked) (later + 1) (reply_of then asked) (λ taken. goes now (Some (record { moment = later; stamp = target.block.sequence + 1 }))) (assign_lost attributes target now) (stops now NoRoom) (stops now NoRevisions)
           (update-unlost then new (record_of.Block target.block) target.revision (k.1 target.block.cidr ∙ there)) (λ r e. k.0) tt tt
@@ -164,13 +164,13 @@ module _ (live : List (List ℕ)) where
   -- ---- lowering
 
   lower-write : (credit : Credit) (again : Part (Unit {0})) (left : Left) (store : Datastore) (moment revision : ℕ) (h : HandleValue) → HasAt store (key.Handle credit.handle) revision (record_of.Handle h) → h.id ≡ credit.handle → (counts : List (CidrValue × ℕ))
-      → Runs live (Unlost left) store moment (Asks (owing credit) (written_or_deleted (lowered h credit.block credit.amount) counts revision) (λ at reply. on_write reply left (λ taken. goes left tt) again))
+      → Runs live (Unlost left) store moment (Asks (owing credit) (written_or_deleted (with_lowered_count h credit.block credit.amount) counts revision) (λ at reply. on_write reply left (λ taken. goes left tt) again))
   lower-write credit again left store moment revision h there own [] = λ good.
       let asked = Delete (key.Handle h.id) revision in
       unlost-runs live (Unlost left) (behind store asked) (moment + 1) (reply_of store asked) (λ taken. goes left tt) again (stops left NoRoom) (stops left NoRevisions)
       (delete-unlost store (key.Handle h.id) (record_of.Handle h) revision (subst (λ (i : List ℕ). HasAt store (key.Handle i) revision (record_of.Handle h)) (sym own) there)) (λ r e. refl) tt tt
   lower-write credit again left store moment revision h there own (count ∷ counts) = λ good.
-      let new = record_of.Handle (lowered h credit.block credit.amount) in
+      let new = record_of.Handle (with_lowered_count h credit.block credit.amount) in
       let asked = Update new revision in
       unlost-runs live (Unlost left) (behind store asked) (moment + 1) (reply_of store asked) (λ taken. goes left tt) again (stops left NoRoom) (stops left NoRevisions)
       (update-unlost store new (record_of.Handle h) revision (subst (λ (i : List ℕ). HasAt store (key.Handle i) revision (record_of.Handle h)) (sym own) there)) (λ r e. refl) tt tt
@@ -178,11 +178,11 @@ module _ (live : List (List ℕ)) where
   lower-once : (credit : Credit) (again : Part (Unit {0})) (left : Left) (store : Datastore) (moment : ℕ) → 0 < credit.amount → Runs live (Unlost left) store moment (lower_once credit again left)
   lower-once credit again left store moment some =
       runs-get live (Unlost left) store moment (owing credit) (key.Handle credit.handle)
-      (λ at said. Asks (owing credit) (lowering (lowered (handle_said credit.handle said) credit.block credit.amount) (revision_said said)) (λ second reply. on_write reply left (λ taken. goes left tt) again))
+      (λ at said. Asks (owing credit) (lowering (with_lowered_count (handle_said credit.handle said) credit.block credit.amount) (revision_said said)) (λ second reply. on_write reply left (λ taken. goes left tt) again))
       (λ good.
       let (revision, h, there, own) = handle-there credit store some good in
-      let P : Said → Type 0 = λ said. Runs live (Unlost left) store (moment + 1) (Asks (owing credit) (lowering (lowered (handle_said credit.handle said) credit.block credit.amount) (revision_said said)) (λ second reply. on_write reply left (λ taken. goes left tt) again)) in
-      let found : P (Found revision (record_of.Handle h)) = lower-write credit again left store (moment + 1) revision h there own (lowered h credit.block credit.amount).counts in
+      let P : Said → Type 0 = λ said. Runs live (Unlost left) store (moment + 1) (Asks (owing credit) (lowering (with_lowered_count (handle_said credit.handle said) credit.block credit.amount) (revision_said said)) (λ second reply. on_write reply left (λ taken. goes left tt) again)) in
+      let found : P (Found revision (record_of.Handle h)) = lower-write credit again left store (moment + 1) revision h there own (with_lowered_count h credit.block credit.amount).counts in
       subst P (sym (ap reply_to_get there)) found)
 
   lower-runs : (credit : Credit) (races claims : ℕ) (store : Datastore) (moment : ℕ) → 0 < credit.amount → Runs live (Unlost (left_of races claims)) store moment (tries (lower_once credit) races claims)
@@ -195,10 +195,10 @@ module _ (live : List (List ℕ)) where
   free-these : (what : Freeing) (again : Part ℕ) (left : Left) (store : Datastore) (moment amount : ℕ) (found : ℕ × BlockValue) → HasAt store (key.Block found.1.cidr) found.0 (record_of.Block found.1) → Runs live (Unlost left) store moment (free_these what again left amount found)
   free-these what again left store moment zero found there = refl
   free-these what again left store moment (suc more) found there = λ good.
-      let new = record_of.Block (freed what.picks (next_block found.1)) in
+      let new = record_of.Block (block_without what.picks (next_block found.1)) in
       let asked = freeing_call what found.1 found.0 in
       let credit = credit_of what.handle what.block (suc more) in
-      unlost-runs live (Unlost left) (behind store asked) (moment + 1) (reply_of store asked) (λ taken. followed (lower credit left) (λ now done. goes now (suc more))) again (stops left NoRoom) (stops left NoRevisions)
+      unlost-runs live (Unlost left) (behind store asked) (moment + 1) (reply_of store asked) (λ taken. part_then (lower credit left) (λ now done. goes now (suc more))) again (stops left NoRoom) (stops left NoRevisions)
       (update-unlost store new (record_of.Block found.1) found.0 there)
       (λ r e. Runs-bound live (Unlost left) (Unlost left) (onward (λ now done. goes now (suc more))) (lower credit left) (behind store asked) (moment + 1)
       (lower-runs credit left.races left.claims (behind store asked) (moment + 1) (omega arith)) ends)

@@ -4,7 +4,7 @@ use Rattle.ipam_records.specs.declared.call.Call.TheVariants.{Get, List as ListA
 use Rattle.ipam_records.specs.declared.key.Key.{Key}
 use Rattle.ipam_records.specs.declared.key.Kind.{Kind}
 use Rattle.ipam_records.specs.Datastore.{Datastore, reply_of}
-use Rattle.ipam_records.specs.Label.{Label}
+use Rattle.ipam_records.specs.Label.{CallLabel}
 use Rattle.ipam_records.specs.Said.{Said}
 use Rattle.ipam_records.specs.Word.{Word, Ends, Asks, Waits, bound}
 use Rattle.ipam_model.specs.Alone.{alone}
@@ -31,8 +31,8 @@ module _ (live : List (List ℕ)) where
   runs-alone Q (Waits next) store moment h = runs-alone Q (next live) store (moment + 1) h
 
   -- a read changes nothing
-  pub runs-get : {A : Type 0} → (Q : Datastore → A → Type 0) (store : Datastore) (moment : ℕ) (label : Label) (k : Key) (next : ℕ → Said → Word A) → RunsTo Q store (moment + 1) (next moment (reply_of store (Get k))) → RunsTo Q store moment (Asks label (Get k) next)
+  pub runs-get : {A : Type 0} → (Q : Datastore → A → Type 0) (store : Datastore) (moment : ℕ) (label : CallLabel) (k : Key) (next : ℕ → Said → Word A) → RunsTo Q store (moment + 1) (next moment (reply_of store (Get k))) → RunsTo Q store moment (Asks label (Get k) next)
   runs-get Q store moment label k next h = subst (λ (s : Datastore). RunsTo Q s (moment + 1) (next moment (reply_of store (Get k)))) (sym (behind-get store k)) h
 
-  pub runs-list : {A : Type 0} → (Q : Datastore → A → Type 0) (store : Datastore) (moment : ℕ) (label : Label) (kind : Kind) (next : ℕ → Said → Word A) → RunsTo Q store (moment + 1) (next moment (reply_of store (ListAll kind))) → RunsTo Q store moment (Asks label (ListAll kind) next)
+  pub runs-list : {A : Type 0} → (Q : Datastore → A → Type 0) (store : Datastore) (moment : ℕ) (label : CallLabel) (kind : Kind) (next : ℕ → Said → Word A) → RunsTo Q store (moment + 1) (next moment (reply_of store (ListAll kind))) → RunsTo Q store moment (Asks label (ListAll kind) next)
   runs-list Q store moment label kind next h = subst (λ (s : Datastore). RunsTo Q s (moment + 1) (next moment (reply_of store (ListAll kind)))) (sym (behind-list store kind)) h

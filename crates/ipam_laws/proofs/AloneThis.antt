@@ -24,8 +24,8 @@ use Rattle.ipam_model.specs.AddThis.{Looked, NextRound, Rules, Wanted, add_this_
 use Rattle.ipam_model.specs.Affinities.{BlockRead}
 use Rattle.ipam_model.specs.AffinityLaw.{HasAt}
 use Rattle.ipam_model.specs.Assigning.{assign, claim_for, target_in}
-use Rattle.ipam_model.specs.Choice.{Claims, Leaves, Share, Takes, by_share, is_node, share_of}
-use Rattle.ipam_model.specs.Reads.{Row, block_said, config_said, pools_said}
+use Rattle.ipam_model.specs.Choice.{Claims, Leaves, Share, Takes, by_share, share_of}
+use Rattle.ipam_model.specs.Reads.{StoredRecord, block_said, config_said, pools_said}
 use Rattle.ipam_model.specs.Step.{all_left, goes, left_of, onward, rounds, stops}
 use Rattle.ipam_model.specs.Usable.{usable_pool_of}
 use Rattle.ipam_laws.proofs.AloneCalls.{Runs, Runs-bound, runs-get}
@@ -33,6 +33,7 @@ use Rattle.ipam_laws.proofs.AloneOthers.{NotTried, settles-runs}
 use Rattle.ipam_laws.proofs.AloneParts.{AssignEnds, ClaimForEnds, assign-runs, claim_for-runs, found-as_read, taken-cidr}
 use Rattle.ipam_laws.proofs.CountLemmas.{same_text}
 use Rattle.ipam_laws.proofs.Steps.{IsAsRead, taken}
+use Rattle.ipam_records.specs.BlockLists.{is_node}
 
 abbrev pub NotAgainThis : AddThisAnswer → Type 0
 NotAgainThis told = (lost claims : ℕ) → told ≢ add.Again lost claims
@@ -124,7 +125,7 @@ module _ (request : AddRequest) (address : AddrValue) where
         ends then later (Stops now why) k = k
         ends then later (Went now done) k =
             let c = k.1 in
-            let pools : pool_in then ≡ pool_in store = ap (λ (o : Option Row). usable_pool_of (asked_of_this request address) address (pools_said (reply_to_get o))) (c.settings key.Pools tt) in
+            let pools : pool_in then ≡ pool_in store = ap (λ (o : Option StoredRecord). usable_pool_of (asked_of_this request address) address (pools_said (reply_to_get o))) (c.settings key.Pools tt) in
             let settled : IsSettled then = λ other there.
             let same : pool ≡ other = cc (is, pools, there) in
             subst (λ (x : CidrValue). IsOwnAt then x request.node) (slot ∙ ap (λ (p : Pool). slot_holding p address) same)

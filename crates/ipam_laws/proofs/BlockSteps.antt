@@ -4,7 +4,7 @@ use Rattle.std.specs.Prelude.{Contains, insert, not}
 use Rattle.ipam_addr.specs.Shape.{CidrValue}
 use Rattle.ipam_block.specs.declared.allocation.Allocation.{Allocation}
 use Rattle.ipam_block.specs.declared.allocation.Attributes.{Attributes}
-use Rattle.ipam_block.specs.Operations.{next_block, assigned, freed}
+use Rattle.ipam_block.specs.Operations.{next_block, block_with_ordinal, block_without}
 use Rattle.ipam_block.specs.Shape.{BlockValue}
 use Rattle.ipam_records.specs.declared.call.Write.TheVariants.{Remove}
 use Rattle.ipam_records.specs.declared.key.Key.{Key}
@@ -13,7 +13,7 @@ use Rattle.ipam_records.specs.declared.record.Record.{Record}
 use Rattle.ipam_records.specs.declared.record.Record.TheVariants as record_of
 use Rattle.ipam_records.specs.Datastore.{Datastore, reply_to_get, row_of, written}
 use Rattle.ipam_records.specs.Key.{key_of}
-use Rattle.ipam_records.specs.Label.{Label}
+use Rattle.ipam_records.specs.Label.{CallLabel}
 use Rattle.ipam_records.proofs.DatastoreLemmas.{row_of-with_row-other, row_of-without_row-other}
 use Rattle.ipam_model.specs.declared.request.Admin.{Admin}
 use Rattle.ipam_model.specs.declared.request.Admin.TheVariants as change_of
@@ -75,7 +75,7 @@ bared-writes store node cidr None there = inl there
 bared-writes store node cidr (Some (revision, b)) (same, there) =
     inr (revision, b, subst (λ (x : CidrValue). HasAt store (key.Block x) revision (record_of.Block b)) (sym same) there, record { counted = refl; held = λ a among. inl among })
 
-freed-next : (picks : Allocation → Bool) (b : BlockValue) → IsNextBlock b (freed picks (next_block b))
+freed-next : (picks : Allocation → Bool) (b : BlockValue) → IsNextBlock b (block_without picks (next_block b))
 freed-next picks b = record { counted = refl; held = λ a among. inl (in-filter (λ x. not (picks x)) a b.allocations among).0 }
 
 -- an inserted element, or one that was there
@@ -90,7 +90,7 @@ in-insert (z ∷ zs) (suc place) x y h = elim (in-cons y z (insert zs place x) h
   ]
 ]
 
-assigned-next : (b : BlockValue) (ordinal : ℕ) (attributes : Attributes) → IsNextBlock b (assigned (next_block b) ordinal attributes)
+assigned-next : (b : BlockValue) (ordinal : ℕ) (attributes : Attributes) → IsNextBlock b (block_with_ordinal (next_block b) ordinal attributes)
 assigned-next b ordinal attributes = record {
   counted = refl;
   held = λ a among. elim (in-insert b.allocations _ _ a among) [
@@ -108,7 +108,7 @@ changed-no-block (change_of.Reserve new) = tt
 changed-no-block (change_of.Unreserve name) = tt
 changed-no-block (change_of.Config config) = tt
 
-pub step-blocks : (known : Known) (store next : Datastore) (label after : Label) → Step known store next label after → BlockStep store next
+pub step-blocks : (known : Known) (store next : Datastore) (label after : CallLabel) → Step known store next label after → BlockStep store next
 step-blocks known store next label after (Idles a b) = stays store next a
 step-blocks known store next label after (Owes credit a b c) = stays store next a
 step-blocks known store next label after (Finds tie read kept state a b c d e f) = stays store next a
@@ -123,10 +123,10 @@ step-blocks known store next label after (Raises id cidr h a b c d e f) = puts s
 step-blocks known store next label after (Lowers credit h revision first rest a b c d e f) = puts store next _ a tt
 step-blocks known store next label after (LowersOut credit h revision a b c d e f) = removes store next (key.Handle h.id) a tt
 step-blocks known store next label after (Frees what amount revision b s t u v w x y) =
-    Writes (freed what.picks (next_block b)) s
+    Writes (block_without what.picks (next_block b)) s
     (inr (revision, b, subst (λ (x : CidrValue). HasAt store (key.Block x) revision (record_of.Block b)) (sym w) v, freed-next what.picks b))
 step-blocks known store next label after (Assigns attributes target a b c d e f) =
-    Writes (assigned (next_block target.block) target.ordinal attributes) a
+    Writes (block_with_ordinal (next_block target.block) target.ordinal attributes) a
     (inr (target.revision, target.block, d, assigned-next target.block target.ordinal attributes))
 step-blocks known store next label after (Changes request new a b c d e) =
     puts store next new a (subst (λ (k : Key). IsNoBlock k) (sym (key-changed request (reply_to_get (row_of (key_changed request) store.rows)) new d)) (changed-no-block request))

@@ -15,7 +15,7 @@ use Rattle.ipam_records.specs.Datastore.{Datastore, reply_of, reply_to_get, repl
 use Rattle.ipam_records.specs.declared.call.Write.{Write}
 use Rattle.ipam_records.specs.declared.call.Write.TheVariants.{Put, Remove}
 use Rattle.ipam_records.specs.Key.{key_of}
-use Rattle.ipam_records.specs.Label.{Label}
+use Rattle.ipam_records.specs.Label.{CallLabel}
 use Rattle.ipam_records.specs.Said.{Said, Found, Missing, Listed, Can, Exists, Conflict, Full, Spent}
 use Rattle.ipam_records.specs.Word.{Word, Asks}
 use Rattle.ipam_records.proofs.DatastoreLemmas.{row_key-row_of, row_of-with_row}
@@ -120,16 +120,16 @@ written-known (call.Create new) r store known = inr (inr (row_of-with_row (r, ne
 written-known (call.Update new old) r store known = inr (inr (row_of-with_row (r, new) store.rows))
 written-known (call.Delete k old) r store known = tt
 
-module _ (Does : Known → Datastore → Datastore → Label → Label → Type 0) where
+module _ (Does : Known → Datastore → Datastore → CallLabel → CallLabel → Type 0) where
   -- a read, after which nothing has changed and the rows that there are are known
-  pub get-meets : {A : Type 0} → (following : A → Label) (P : Known → A → Type 0) (known : Known) (label : Label) (k : Key) (next : ℕ → Said → Word A)
+  pub get-meets : {A : Type 0} → (following : A → CallLabel) (P : Known → A → Type 0) (known : Known) (label : CallLabel) (k : Key) (next : ℕ → Said → Word A)
       → ((moment : ℕ) (store : Datastore) → Agrees known store → Does known store store label (label_to following (next moment (reply_to_get (row_of k store.rows)))) × Meets Does following P (more known store store) (next moment (reply_to_get (row_of k store.rows))))
       → Meets Does following P known (Asks label (call.Get k) next)
   get-meets following P known label k next h = λ moment store agrees.
       subst (λ (s : Datastore). Does known store s label (label_to following (next moment (reply_of store (call.Get k)))) × Meets Does following P (more known store s) (next moment (reply_of store (call.Get k))))
       (sym (behind-get store k)) (h moment store agrees)
 
-  pub list-meets : {A : Type 0} → (following : A → Label) (P : Known → A → Type 0) (known : Known) (label : Label) (kind : Kind) (next : ℕ → Said → Word A)
+  pub list-meets : {A : Type 0} → (following : A → CallLabel) (P : Known → A → Type 0) (known : Known) (label : CallLabel) (kind : Kind) (next : ℕ → Said → Word A)
       → ((moment : ℕ) (store : Datastore) → Agrees known store → Does known store store label (label_to following (next moment (reply_of store (call.List kind)))) × Meets Does following P (more known store store) (next moment (reply_of store (call.List kind))))
       → Meets Does following P known (Asks label (call.List kind) next)
   list-meets following P known label kind next h = λ moment store agrees.
@@ -137,7 +137,7 @@ module _ (Does : Known → Datastore → Datastore → Label → Label → Type 
       (sym (behind-list store kind)) (h moment store agrees)
 
   -- a write, which is done or changes nothing
-  pub write-meets-at : {A : Type 0} → ((known other : Known) (store next : Datastore) (label after : Label) → Grows known other → Does known store next label after → Does other store next label after) → (following : A → Label) (P : Known → A → Type 0) (known : Known) (label : Label) (asked : Call) (took : (moment revision : ℕ) → Word A) (lost full spent : Word A)
+  pub write-meets-at : {A : Type 0} → ((known other : Known) (store next : Datastore) (label after : CallLabel) → Grows known other → Does known store next label after → Does other store next label after) → (following : A → CallLabel) (P : Known → A → Type 0) (known : Known) (label : CallLabel) (asked : Call) (took : (moment revision : ℕ) → Word A) (lost full spent : Word A)
       → ((one other : Known) (a : A) → Grows one other → P one a → P other a)
       → ((moment : ℕ) (store : Datastore) → Agrees known store → (r : ℕ) → reply_of store asked ≡ Can r → Does known store (store_with (write_of asked r) store) label (label_to following (took moment r)))
       → ((moment : ℕ) (other : Known) (r : ℕ) → Grows known other → IsWritten other (write_of asked r) → Meets Does following P other (took moment r))
@@ -165,7 +165,7 @@ module _ (Does : Known → Datastore → Datastore → Label → Label → Type 
       from moment store agrees Spent e = (on_spent store, wider spent store store after_spent)
 
   -- the same where what follows does not depend on the moment
-  pub write-meets : {A : Type 0} → ((known other : Known) (store next : Datastore) (label after : Label) → Grows known other → Does known store next label after → Does other store next label after) → (following : A → Label) (P : Known → A → Type 0) (known : Known) (label : Label) (asked : Call) (took : ℕ → Word A) (lost full spent : Word A)
+  pub write-meets : {A : Type 0} → ((known other : Known) (store next : Datastore) (label after : CallLabel) → Grows known other → Does known store next label after → Does other store next label after) → (following : A → CallLabel) (P : Known → A → Type 0) (known : Known) (label : CallLabel) (asked : Call) (took : ℕ → Word A) (lost full spent : Word A)
       → ((one other : Known) (a : A) → Grows one other → P one a → P other a)
       → ((store : Datastore) → Agrees known store → (r : ℕ) → reply_of store asked ≡ Can r → Does known store (store_with (write_of asked r) store) label (label_to following (took r)))
       → ((other : Known) (r : ℕ) → Grows known other → IsWritten other (write_of asked r) → Meets Does following P other (took r))

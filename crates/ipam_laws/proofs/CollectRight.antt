@@ -1,12 +1,12 @@
--- What a collection is answered is right: it tells of exactly the leaks, in their order, each freed exactly
--- where it freed it, and none of them owns its address.
+-- What a collection is answered is right: it tells of exactly the leaks, in their order, each block_without exactly
+-- where it block_without it, and none of them owns its address.
 use Rattle.std.proofs.Common.{◌≡◌, ◌≢◌, ℕ, zero, suc, ◌+◌, ◌-◌, ◌<◌, ◌≤◌, inl, inr, Bool, true, List, [], ◌∷◌, ◌++◌, map, Option, Some, None, refl, sym, ap, ◌∙◌, subst, arith, ltb-false}
 use Rattle.std.specs.Prelude.{AllPairs, Contains, IsTrue, ◌&&◌, ◌==◌, ◌↔◌, bytes_eq, nat_lt, option_map}
 use Rattle.std.specs.List.{count_by}
 use Rattle.std.proofs.lemmas.Bool.{cases_Bool, eqb-false, leb-true}
 use Rattle.std.proofs.lemmas.List.Kept.{AllPairs-cons}
 use Rattle.ipam_addr.specs.Shape.{AddrValue}
-use Rattle.ipam_block.specs.Operations.{freed, is_stamped, next_block}
+use Rattle.ipam_block.specs.Operations.{block_without, is_stamped, next_block}
 use Rattle.ipam_block.specs.Shape.{BlockValue}
 use Rattle.ipam_handle.specs.Order.{family_rank}
 use Rattle.ipam_records.specs.declared.call.Call.{Call}
@@ -115,7 +115,7 @@ fed-leaves base slot at live h = refl
 -- ---- in the span
 
 module _ (span : Span) (consistent : IsConsistent span.base.store) (lawful : Lawful span.base span.history) (whole : List Leak) (items : List Item) (in_block : (leak : Leak) → Contains whole leak → IsInBlock leak) where
-  -- a call that freed a leak took it away, and nobody else
+  -- a call that block_without a leak took it away, and nobody else
   record IsTaken (m : ℕ) (leak : Leak) : Type 0 where
     was : Owns (seen_at span m) leak.owner
     gone : ¬ (Owns (seen_at span (m + 1)) leak.owner)
@@ -131,8 +131,8 @@ module _ (span : Span) (consistent : IsConsistent span.base.store) (lawful : Law
       let granted : reply_of (seen_at span m) call ≡ Can revision = ap (λ (s : Datastore). reply_of s call) did.before_it ∙ done in
       let there : IsCurrent (seen_at span m) old b = subst (λ (s : Datastore). IsCurrent s old b) (sym did.before_it) (λ found at. current found at) in
       let ordinal = leak.owner.address.number - leak.block.base in
-      let w : Rewrites (seen_at span m) (seen_at span (m + 1)) b (freed (is_stamped ordinal leak.owner.handle leak.owner.stamp) (next_block b)) =
-      rewrites (seen_at span m) (seen_at span (m + 1)) b (freed (is_stamped ordinal leak.owner.handle leak.owner.stamp) (next_block b)) old revision before next refl granted (λ found at. there found at) made in
+      let w : Rewrites (seen_at span m) (seen_at span (m + 1)) b (block_without (is_stamped ordinal leak.owner.handle leak.owner.stamp) (next_block b)) =
+      rewrites (seen_at span m) (seen_at span (m + 1)) b (block_without (is_stamped ordinal leak.owner.handle leak.owner.stamp) (next_block b)) old revision before next refl granted (λ found at. there found at) made in
       let l = loses-one (seen_at span m) (seen_at span (m + 1)) b ordinal leak.owner.handle leak.owner.stamp more w count in
       let inside = in_block leak among in
       let own : stamped_owner b.cidr ordinal leak.owner.handle leak.owner.stamp ≡ leak.owner = owner-at leak b.cidr inside.number inside.family same in
@@ -142,14 +142,14 @@ module _ (span : Span) (consistent : IsConsistent span.base.store) (lawful : Law
         others = λ o owns differ. (l.are o).1 (owns, λ lost. differ (lost ∙ own));
       }
 
-  -- the leak that was freed
+  -- the leak that was block_without
   record IsTold (o : Owner) : Type 0 where
     leak : Leak
     more : ℕ
     item : Contains items (item_of leak (suc more))
     is : o ≡ leak.owner
 
-  -- whoever lost its address by the collection is told as freed
+  -- whoever lost its address by the collection is told as block_without
   lost-told : (trail : Trail) (upto : ℕ) → IsTrail span upto trail → CollectSteps whole items trail → (k : ℕ) → k < upto → (o : Owner) → LostAt span k o → IsTold o
   unfolding IsTrail CollectSteps
   lost-told [] upto is steps k below o lost = elim (three k (begin_moment span)) [
@@ -188,7 +188,7 @@ module _ (span : Span) (consistent : IsConsistent span.base.store) (lawful : Law
     | inr (inr late) ↦ absurd (is.1.nothing_between k lost.there late below lost.in_span)
   ]
 
-  -- what is told as freed was lost
+  -- what is told as block_without was lost
   freed-lost : (leak : Leak) → Contains whole leak → (head trail : Trail) (amount : ℕ) → IsTrail span (now span) trail → Rid (freeing_owner leak.owner leak.block) head amount trail → 0 < amount → LostInSpan span leak.owner
   unfolding IsTrail
   freed-lost leak among head trail amount is (NoneThere m store earlier there later none read) some = absurd (omega (arith, none))

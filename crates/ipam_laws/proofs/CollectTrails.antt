@@ -7,7 +7,7 @@ use Rattle.ipam_block.specs.Shape.{BlockValue}
 use Rattle.ipam_records.specs.declared.call.Call.{Call}
 use Rattle.ipam_records.specs.declared.call.Call.TheVariants.{List as ListAll}
 use Rattle.ipam_records.specs.declared.key.Kind.TheVariants as kind
-use Rattle.ipam_records.specs.Datastore.{Datastore, listed, reply_of}
+use Rattle.ipam_records.specs.Datastore.{Datastore, rows_of_kind, reply_of}
 use Rattle.ipam_records.specs.Said.{Can}
 use Rattle.ipam_records.specs.Word.{Ends}
 use Rattle.ipam_model.specs.declared.answer.Answer.{Answer}
@@ -132,7 +132,7 @@ abbrev pub head_of : Lists → Trail
 head_of lists = Did lists.b2 lists.second (ListAll kind.Block) ∷ Got lists.fed_at lists.time lists.live ∷ Did lists.b1 lists.first (ListAll kind.Block) ∷ []
 
 abbrev pub whole_of : CollectRequest → Lists → List Leak
-whole_of request lists = leaks (suspects request (listed kind.Block lists.first)) lists.live (listed kind.Block lists.second)
+whole_of request lists = leaks (suspects request (rows_of_kind kind.Block lists.first)) lists.live (rows_of_kind kind.Block lists.second)
 
 -- all that leaks was gone through
 pub record DidCollect (request : CollectRequest) (collected : Collected) (trail : Trail) : Type 0 where

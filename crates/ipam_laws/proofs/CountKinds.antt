@@ -6,15 +6,15 @@ use Rattle.ipam_addr.specs.Shape.{CidrValue}
 use Rattle.ipam_block.specs.declared.allocation.Allocation.{Allocation}
 use Rattle.ipam_block.specs.declared.allocation.Attributes.{Attributes}
 use Rattle.ipam_block.specs.Shape as block
-use Rattle.ipam_block.specs.Operations.{is_owned, next_block, assigned, freed}
+use Rattle.ipam_block.specs.Operations.{is_owned, next_block, block_with_ordinal, block_without}
 use Rattle.ipam_handle.specs.Shape as handle
-use Rattle.ipam_handle.specs.Operations.{content, count_of, count_in, raised, lowered}
+use Rattle.ipam_handle.specs.Operations.{content, count_of, count_in, with_raised_count, with_lowered_count}
 use Rattle.ipam_records.specs.declared.key.Key.{Key}
 use Rattle.ipam_records.specs.declared.key.Key.TheVariants as key
 use Rattle.ipam_records.specs.declared.record.Record.TheVariants as record_of
 use Rattle.ipam_records.specs.declared.call.Write.TheVariants.{Put, Remove}
 use Rattle.ipam_records.specs.Datastore.{Datastore, reply_to_get, row_of, written}
-use Rattle.ipam_records.specs.Label.{Label, Credit, idle, owing}
+use Rattle.ipam_records.specs.Label.{CallLabel, Credit, idle, owing}
 use Rattle.ipam_model.specs.declared.request.Admin.{Admin}
 use Rattle.ipam_model.specs.declared.request.Admin.TheVariants as change_of
 use Rattle.ipam_model.specs.Admin.{key_changed}
@@ -30,15 +30,15 @@ use Rattle.ipam_laws.proofs.CountSteps.{owed, CountsGrow, OwesLess, IsApart, sta
 
 -- ---- counts that change
 
-raise-does : (store : Datastore) (r : ℕ) (h : handle.HandleValue) (id : List ℕ) (cidr : CidrValue) → h.id ≡ id → ((c : CidrValue) → handle_count store id c ≡ count_of h c) → CountsGrow store (written store (Put r (record_of.Handle (raised h cidr 1)))) idle (owing (credit_of id cidr 1))
+raise-does : (store : Datastore) (r : ℕ) (h : handle.HandleValue) (id : List ℕ) (cidr : CidrValue) → h.id ≡ id → ((c : CidrValue) → handle_count store id c ≡ count_of h c) → CountsGrow store (written store (Put r (record_of.Handle (with_raised_count h cidr 1)))) idle (owing (credit_of id cidr 1))
 raise-does store r h id cidr same counts =
-    handle-grow store r (raised h cidr 1) idle (owing (credit_of id cidr 1)) here
+    handle-grow store r (with_raised_count h cidr 1) idle (owing (credit_of id cidr 1)) here
     (λ other c differ. let e = owed-other_id (credit_of id cidr 1) other c (λ f. differ (same ∙ f)) in omega arith)
   where
-    there : (c : CidrValue) → owed id c (owing (credit_of id cidr 1)) + handle_count store id c ≤ count_of (raised h cidr 1) c
+    there : (c : CidrValue) → owed id c (owing (credit_of id cidr 1)) + handle_count store id c ≤ count_of (with_raised_count h cidr 1) c
     there c = elim (cidr_cases cidr c) [
       | inl (t, is) ↦
-          let P : CidrValue → Type 0 = λ x. owed id x (owing (credit_of id cidr 1)) + handle_count store id x ≤ count_of (raised h cidr 1) x in
+          let P : CidrValue → Type 0 = λ x. owed id x (owing (credit_of id cidr 1)) + handle_count store id x ≤ count_of (with_raised_count h cidr 1) x in
           let own = owed-own (credit_of id cidr 1) in
           let more = raised-here h cidr in
           let old = counts cidr in
@@ -51,21 +51,21 @@ raise-does store r h id cidr same counts =
           omega arith
     ]
 
-    here : (c : CidrValue) → owed h.id c (owing (credit_of id cidr 1)) + handle_count store h.id c ≤ owed h.id c idle + count_of (raised h cidr 1) c
+    here : (c : CidrValue) → owed h.id c (owing (credit_of id cidr 1)) + handle_count store h.id c ≤ owed h.id c idle + count_of (with_raised_count h cidr 1) c
     here c =
-        let P : List ℕ → Type 0 = λ x. owed x c (owing (credit_of id cidr 1)) + handle_count store x c ≤ owed x c idle + count_of (raised h cidr 1) c in
+        let P : List ℕ → Type 0 = λ x. owed x c (owing (credit_of id cidr 1)) + handle_count store x c ≤ owed x c idle + count_of (with_raised_count h cidr 1) c in
         let k = there c in
         let at_id : P id = omega arith in
         subst P (sym same) at_id
 
-lower-update : (store : Datastore) (r : ℕ) (h : handle.HandleValue) (credit : Credit) → h.id ≡ credit.handle → ((c : CidrValue) → handle_count store credit.handle c ≡ count_of h c) → CountsGrow store (written store (Put r (record_of.Handle (lowered h credit.block credit.amount)))) (owing credit) idle
+lower-update : (store : Datastore) (r : ℕ) (h : handle.HandleValue) (credit : Credit) → h.id ≡ credit.handle → ((c : CidrValue) → handle_count store credit.handle c ≡ count_of h c) → CountsGrow store (written store (Put r (record_of.Handle (with_lowered_count h credit.block credit.amount)))) (owing credit) idle
 lower-update store r h credit same counts =
-    handle-grow store r (lowered h credit.block credit.amount) (owing credit) idle here (λ other c differ. omega arith)
+    handle-grow store r (with_lowered_count h credit.block credit.amount) (owing credit) idle here (λ other c differ. omega arith)
   where
-    there : (c : CidrValue) → handle_count store credit.handle c ≤ owed credit.handle c (owing credit) + count_of (lowered h credit.block credit.amount) c
+    there : (c : CidrValue) → handle_count store credit.handle c ≤ owed credit.handle c (owing credit) + count_of (with_lowered_count h credit.block credit.amount) c
     there c = elim (cidr_cases credit.block c) [
       | inl (t, is) ↦
-          let P : CidrValue → Type 0 = λ x. handle_count store credit.handle x ≤ owed credit.handle x (owing credit) + count_of (lowered h credit.block credit.amount) x in
+          let P : CidrValue → Type 0 = λ x. handle_count store credit.handle x ≤ owed credit.handle x (owing credit) + count_of (with_lowered_count h credit.block credit.amount) x in
           let own = owed-own credit in
           let fewer = lowered-here h credit.block credit.amount in
           let old = counts credit.block in
@@ -77,14 +77,14 @@ lower-update store r h credit same counts =
           omega arith
     ]
 
-    here : (c : CidrValue) → owed h.id c idle + handle_count store h.id c ≤ owed h.id c (owing credit) + count_of (lowered h credit.block credit.amount) c
+    here : (c : CidrValue) → owed h.id c idle + handle_count store h.id c ≤ owed h.id c (owing credit) + count_of (with_lowered_count h credit.block credit.amount) c
     here c =
-        let P : List ℕ → Type 0 = λ x. owed x c idle + handle_count store x c ≤ owed x c (owing credit) + count_of (lowered h credit.block credit.amount) c in
+        let P : List ℕ → Type 0 = λ x. owed x c idle + handle_count store x c ≤ owed x c (owing credit) + count_of (with_lowered_count h credit.block credit.amount) c in
         let k = there c in
         let at_id : P credit.handle = omega arith in
         subst P (sym same) at_id
 
-lower-delete : (store : Datastore) (r : ℕ) (h : handle.HandleValue) (credit : Credit) → h.id ≡ credit.handle → (lowered h credit.block credit.amount).counts ≡ [] → ((c : CidrValue) → handle_count store credit.handle c ≡ count_of h c) → CountsGrow store (written store (Remove r (key.Handle h.id))) (owing credit) idle
+lower-delete : (store : Datastore) (r : ℕ) (h : handle.HandleValue) (credit : Credit) → h.id ≡ credit.handle → (with_lowered_count h credit.block credit.amount).counts ≡ [] → ((c : CidrValue) → handle_count store credit.handle c ≡ count_of h c) → CountsGrow store (written store (Remove r (key.Handle h.id))) (owing credit) idle
 lower-delete store r h credit same empty counts =
     handle-remove store r h.id (owing credit) idle here (λ other c differ. omega arith)
   where
@@ -115,34 +115,34 @@ lower-delete store r h credit same empty counts =
 -- ---- labels that owe nothing
 
 -- the label owes nothing
-abbrev pub OwesNothing : Label → Type 0
+abbrev pub OwesNothing : CallLabel → Type 0
 OwesNothing label = (id : List ℕ) (cidr : CidrValue) → owed id cidr label ≡ 0
 
-nothing-less : (label after : Label) → OwesNothing after → OwesLess label after
+nothing-less : (label after : CallLabel) → OwesNothing after → OwesLess label after
 nothing-less label after none id cidr = let e = none id cidr in omega arith
 
-nothing-stays : (store : Datastore) (label after : Label) → OwesNothing after → CountsGrow store store label after
+nothing-stays : (store : Datastore) (label after : CallLabel) → OwesNothing after → CountsGrow store store label after
 nothing-stays store label after none = stays-grow store label after (nothing-less label after none)
 
 -- ---- a block that holds no more than it did
 
-block-keeps : (store : Datastore) (r : ℕ) (b : block.BlockValue) (label after : Label) → ((id : List ℕ) → count_by (is_owned id) b.allocations ≤ held_count store id b.cidr) → OwesNothing after → CountsGrow store (written store (Put r (record_of.Block b))) label after
+block-keeps : (store : Datastore) (r : ℕ) (b : block.BlockValue) (label after : CallLabel) → ((id : List ℕ) → count_by (is_owned id) b.allocations ≤ held_count store id b.cidr) → OwesNothing after → CountsGrow store (written store (Put r (record_of.Block b))) label after
 block-keeps store r b label after less none =
     block-grow store r b label after
     (λ id. let k = less id in let e = none id b.cidr in omega arith)
     (λ id cidr differ. let e = none id cidr in omega arith)
 
--- ---- addresses that are freed or assigned
+-- ---- addresses that are block_without or block_with_ordinal
 
-free-does : (store : Datastore) (r : ℕ) (id : List ℕ) (cidr : CidrValue) (picks : Allocation → Bool) (more' : ℕ) (b : block.BlockValue) → ((a : Allocation) → picks a ≡ true → is_owned id a ≡ true) → count_by picks b.allocations ≡ suc more' → b.cidr ≡ cidr → ((other : List ℕ) → held_count store other cidr ≡ count_by (is_owned other) b.allocations) → CountsGrow store (written store (Put r (record_of.Block (freed picks (next_block b))))) idle (owing (credit_of id cidr (suc more')))
+free-does : (store : Datastore) (r : ℕ) (id : List ℕ) (cidr : CidrValue) (picks : Allocation → Bool) (more' : ℕ) (b : block.BlockValue) → ((a : Allocation) → picks a ≡ true → is_owned id a ≡ true) → count_by picks b.allocations ≡ suc more' → b.cidr ≡ cidr → ((other : List ℕ) → held_count store other cidr ≡ count_by (is_owned other) b.allocations) → CountsGrow store (written store (Put r (record_of.Block (block_without picks (next_block b))))) idle (owing (credit_of id cidr (suc more')))
 free-does store r id cidr picks more' b own amount same held =
-    block-grow store r (freed picks (next_block b)) idle (owing (credit_of id cidr (suc more'))) here
+    block-grow store r (block_without picks (next_block b)) idle (owing (credit_of id cidr (suc more'))) here
     (λ other c differ. let e = owed-other_block (credit_of id cidr (suc more')) other c (λ f. differ (same ∙ f)) in omega arith)
   where
-    there : (other : List ℕ) → count_by (is_owned other) (freed picks (next_block b)).allocations + owed other cidr (owing (credit_of id cidr (suc more'))) ≤ held_count store other cidr
+    there : (other : List ℕ) → count_by (is_owned other) (block_without picks (next_block b)).allocations + owed other cidr (owing (credit_of id cidr (suc more'))) ≤ held_count store other cidr
     there other = elim (text_cases id other) [
       | inl (t, is) ↦
-          let P : List ℕ → Type 0 = λ x. count_by (is_owned x) (freed picks (next_block b)).allocations + owed x cidr (owing (credit_of id cidr (suc more'))) ≤ held_count store x cidr in
+          let P : List ℕ → Type 0 = λ x. count_by (is_owned x) (block_without picks (next_block b)).allocations + owed x cidr (owing (credit_of id cidr (suc more'))) ≤ held_count store x cidr in
           let gone = held-filter id picks own b.allocations in
           let own' = owed-own (credit_of id cidr (suc more')) in
           let before = held id in
@@ -155,21 +155,21 @@ free-does store r id cidr picks more' b own amount same held =
           omega arith
     ]
 
-    here : (other : List ℕ) → count_by (is_owned other) (freed picks (next_block b)).allocations + owed other b.cidr (owing (credit_of id cidr (suc more'))) ≤ held_count store other b.cidr + owed other b.cidr idle
+    here : (other : List ℕ) → count_by (is_owned other) (block_without picks (next_block b)).allocations + owed other b.cidr (owing (credit_of id cidr (suc more'))) ≤ held_count store other b.cidr + owed other b.cidr idle
     here other =
-        let P : CidrValue → Type 0 = λ x. count_by (is_owned other) (freed picks (next_block b)).allocations + owed other x (owing (credit_of id cidr (suc more'))) ≤ held_count store other x + owed other x idle in
+        let P : CidrValue → Type 0 = λ x. count_by (is_owned other) (block_without picks (next_block b)).allocations + owed other x (owing (credit_of id cidr (suc more'))) ≤ held_count store other x + owed other x idle in
         let k = there other in
         let at_cidr : P cidr = omega arith in
         subst P (sym same) at_cidr
 
-assign-does : (store : Datastore) (r : ℕ) (attributes : Attributes) (b : block.BlockValue) (ordinal : ℕ) → ((id : List ℕ) → held_count store id b.cidr ≡ count_by (is_owned id) b.allocations) → CountsGrow store (written store (Put r (record_of.Block (assigned (next_block b) ordinal attributes)))) (owing (credit_of attributes.handle b.cidr 1)) idle
+assign-does : (store : Datastore) (r : ℕ) (attributes : Attributes) (b : block.BlockValue) (ordinal : ℕ) → ((id : List ℕ) → held_count store id b.cidr ≡ count_by (is_owned id) b.allocations) → CountsGrow store (written store (Put r (record_of.Block (block_with_ordinal (next_block b) ordinal attributes)))) (owing (credit_of attributes.handle b.cidr 1)) idle
 assign-does store r attributes b ordinal held =
-    block-grow store r (assigned (next_block b) ordinal attributes) (owing (credit_of attributes.handle b.cidr 1)) idle here (λ id c differ. omega arith)
+    block-grow store r (block_with_ordinal (next_block b) ordinal attributes) (owing (credit_of attributes.handle b.cidr 1)) idle here (λ id c differ. omega arith)
   where
-    here : (id : List ℕ) → count_by (is_owned id) (assigned (next_block b) ordinal attributes).allocations + owed id b.cidr idle ≤ held_count store id b.cidr + owed id b.cidr (owing (credit_of attributes.handle b.cidr 1))
+    here : (id : List ℕ) → count_by (is_owned id) (block_with_ordinal (next_block b) ordinal attributes).allocations + owed id b.cidr idle ≤ held_count store id b.cidr + owed id b.cidr (owing (credit_of attributes.handle b.cidr 1))
     here id = elim (text_cases attributes.handle id) [
       | inl (t, same) ↦
-          let P : List ℕ → Type 0 = λ x. count_by (is_owned x) (assigned (next_block b) ordinal attributes).allocations + owed x b.cidr idle ≤ held_count store x b.cidr + owed x b.cidr (owing (credit_of attributes.handle b.cidr 1)) in
+          let P : List ℕ → Type 0 = λ x. count_by (is_owned x) (block_with_ordinal (next_block b) ordinal attributes).allocations + owed x b.cidr idle ≤ held_count store x b.cidr + owed x b.cidr (owing (credit_of attributes.handle b.cidr 1)) in
           let before = held attributes.handle in
           let own = owed-own (credit_of attributes.handle b.cidr 1) in
           let now = held-assigned b ordinal attributes attributes.handle in
@@ -214,23 +214,23 @@ changed-apart (change_of.Reserve new) = tt
 changed-apart (change_of.Unreserve name) = tt
 changed-apart (change_of.Config config) = tt
 
-handle-raises : (store : Datastore) (r : ℕ) (id : List ℕ) (cidr : CidrValue) (h : handle.HandleValue) → IsHandle store id h → CountsGrow store (written store (Put r (record_of.Handle (raised h cidr 1)))) idle (owing (credit_of id cidr 1))
+handle-raises : (store : Datastore) (r : ℕ) (id : List ℕ) (cidr : CidrValue) (h : handle.HandleValue) → IsHandle store id h → CountsGrow store (written store (Put r (record_of.Handle (with_raised_count h cidr 1)))) idle (owing (credit_of id cidr 1))
 handle-raises store r id cidr h (inl (none, is)) =
-    subst (λ (x : handle.HandleValue). CountsGrow store (written store (Put r (record_of.Handle (raised x cidr 1)))) idle (owing (credit_of id cidr 1))) (sym is)
+    subst (λ (x : handle.HandleValue). CountsGrow store (written store (Put r (record_of.Handle (with_raised_count x cidr 1)))) idle (owing (credit_of id cidr 1))) (sym is)
     (raise-does store r (content id []) id cidr refl (λ c. ap (count_in_row id c) none))
 handle-raises store r id cidr h (inr (revision, there, same)) = raise-does store r h id cidr same (λ c. ap (count_in_row id c) there)
 
 -- from and to which store and labels
-as-is : (store next next' : Datastore) (label label' after after' : Label) → next ≡ next' → label ≡ label' → after ≡ after' → CountsGrow store next' label' after' → CountsGrow store next label after
+as-is : (store next next' : Datastore) (label label' after after' : CallLabel) → next ≡ next' → label ≡ label' → after ≡ after' → CountsGrow store next' label' after' → CountsGrow store next label after
 as-is store next next' label label' after after' a b c h =
     subst (λ (s : Datastore). CountsGrow store s label after) (sym a)
-    (subst (λ (l : Label). CountsGrow store next' l after) (sym b)
-    (subst (λ (l : Label). CountsGrow store next' label' l) (sym c) h))
+    (subst (λ (l : CallLabel). CountsGrow store next' l after) (sym b)
+    (subst (λ (l : CallLabel). CountsGrow store next' label' l) (sym c) h))
 
-none-less : (label after : Label) → OwesNothing after → OwesLess label after
+none-less : (label after : CallLabel) → OwesNothing after → OwesLess label after
 none-less label after none id cidr = let e = none id cidr in omega arith
 
-pub step-counts : (known : Known) (store next : Datastore) (label after : Label) → Step known store next label after → CountsGrow store next label after
+pub step-counts : (known : Known) (store next : Datastore) (label after : CallLabel) → Step known store next label after → CountsGrow store next label after
 step-counts known store next label after (Idles a b) = as-is store next store label label after idle a refl b (stays-grow store label idle (idle-less label))
 step-counts known store next label after (Owes credit a b c) = as-is store next store label (owing credit) after (owing credit) a b c (stays-grow store (owing credit) (owing credit) (itself-less (owing credit)))
 step-counts known store next label after (Finds tie read kept state a b c d e f) = as-is store next store label idle after _ a b c (nothing-stays store idle (at_claiming tie read kept) (λ id cidr. refl))

@@ -13,9 +13,9 @@ use Rattle.ipam_addr.specs.Shape.{CidrValue}
 use Rattle.ipam_block.specs.declared.allocation.Allocation.{Allocation}
 use Rattle.ipam_block.specs.declared.allocation.Attributes.{Attributes}
 use Rattle.ipam_block.specs.Shape as block
-use Rattle.ipam_block.specs.Operations.{is_owned, assigned, next_block}
+use Rattle.ipam_block.specs.Operations.{is_owned, block_with_ordinal, next_block}
 use Rattle.ipam_handle.specs.Shape as handle
-use Rattle.ipam_handle.specs.Operations.{count_in, count_of, counts_with, raised, lowered}
+use Rattle.ipam_handle.specs.Operations.{count_in, count_of, counts_with, with_raised_count, with_lowered_count}
 use Rattle.ipam_handle.specs.Order.{cidr_cmp}
 use Rattle.ipam_handle.proofs.Order.{cidr_cmp_total, cidr_cmp_exact}
 use Rattle.ipam_handle.proofs.Entries.{lookup-insert_entry}
@@ -90,13 +90,13 @@ count-here es block n =
     put = let t = same_itself block in rw t refl
 
 -- one more, and nothing else
-pub raised-here : (h : handle.HandleValue) (cidr : CidrValue) → count_of (raised h cidr 1) cidr ≡ count_of h cidr + 1
+pub raised-here : (h : handle.HandleValue) (cidr : CidrValue) → count_of (with_raised_count h cidr 1) cidr ≡ count_of h cidr + 1
 raised-here h cidr =
     let more : count_of h cidr + 1 ≡ suc (count_of h cidr) = omega arith in
     ap (λ n. count_in (counts_with h.counts cidr n) cidr) more ∙ (count-here h.counts cidr (count_of h cidr) ∙ sym more)
 
 -- at most so many fewer
-pub lowered-here : (h : handle.HandleValue) (cidr : CidrValue) (amount : ℕ) → count_of h cidr ≤ amount + count_of (lowered h cidr amount) cidr
+pub lowered-here : (h : handle.HandleValue) (cidr : CidrValue) (amount : ℕ) → count_of h cidr ≤ amount + count_of (with_lowered_count h cidr amount) cidr
 lowered-here h cidr amount = from (count_of h cidr - amount) refl
   where
     from : (n : ℕ) → count_of h cidr - amount ≡ n → count_of h cidr ≤ amount + count_in (counts_with h.counts cidr n) cidr
@@ -105,7 +105,7 @@ lowered-here h cidr amount = from (count_of h cidr - amount) refl
 
 -- ---- what is held
 
-pub held-assigned : (b : block.BlockValue) (ordinal : ℕ) (attributes : Attributes) (id : List ℕ) → count_by (is_owned id) (assigned (next_block b) ordinal attributes).allocations ≡ count_by (is_owned id) b.allocations + cond (bytes_eq attributes.handle id) 1 0
+pub held-assigned : (b : block.BlockValue) (ordinal : ℕ) (attributes : Attributes) (id : List ℕ) → count_by (is_owned id) (block_with_ordinal (next_block b) ordinal attributes).allocations ≡ count_by (is_owned id) b.allocations + cond (bytes_eq attributes.handle id) 1 0
 held-assigned b ordinal attributes id =
     sum_by-insert (λ a. cond (is_owned id a) 1 0) b.allocations (count_by (λ x. nat_lt x.ordinal ordinal) b.allocations)
     (record { ordinal = ordinal; attributes = attributes; stamp = b.sequence + 1 })

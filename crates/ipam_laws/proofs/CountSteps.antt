@@ -14,27 +14,27 @@ use Rattle.ipam_records.specs.declared.record.Record.TheVariants as record_of
 use Rattle.ipam_records.specs.declared.call.Write.TheVariants.{Put, Remove}
 use Rattle.ipam_records.specs.Datastore.{Datastore, row_of, written}
 use Rattle.ipam_records.specs.Key.{key_of}
-use Rattle.ipam_records.specs.Label.{Label, Credit, idle, owing}
+use Rattle.ipam_records.specs.Label.{CallLabel, Credit, idle, owing}
 use Rattle.ipam_records.proofs.DatastoreLemmas.{row_of-with_row, row_of-with_row-other, row_of-without_row-other}
 use Rattle.ipam_model.specs.CountLaw.{count_in_row, handle_count, held_in_row, held_count, amount_for}
 use Rattle.ipam_model.specs.Usable.{is_same_cidr}
 use Rattle.ipam_laws.proofs.CountLemmas.{cidr_cases, text_cases, same_text, same_itself}
 
 -- what a label owes
-abbrev pub owed : List ℕ → CidrValue → Label → ℕ
+abbrev pub owed : List ℕ → CidrValue → CallLabel → ℕ
 owed id cidr label = amount_for id cidr label.credit
 
 -- what is held, with what is owed, grows by no more than the count
-abbrev pub CountsGrow : Datastore → Datastore → Label → Label → Type 0
+abbrev pub CountsGrow : Datastore → Datastore → CallLabel → CallLabel → Type 0
 CountsGrow old new label after = (id : List ℕ) (cidr : CidrValue)
     → held_count new id cidr + owed id cidr after + handle_count old id cidr
     ≤ held_count old id cidr + owed id cidr label + handle_count new id cidr
 
 -- no more is owed
-abbrev pub OwesLess : Label → Label → Type 0
+abbrev pub OwesLess : CallLabel → CallLabel → Type 0
 OwesLess label after = (id : List ℕ) (cidr : CidrValue) → owed id cidr after ≤ owed id cidr label
 
-pub stays-grow : (store : Datastore) (label after : Label) → OwesLess label after → CountsGrow store store label after
+pub stays-grow : (store : Datastore) (label after : CallLabel) → OwesLess label after → CountsGrow store store label after
 stays-grow store label after less id cidr = let h = less id cidr in omega arith
 
 -- ---- rows of other keys
@@ -61,14 +61,14 @@ apart-block k cidr apart e = subst (λ (x : Key). IsApart x) e apart
 apart-handle : (k : Key) (id : List ℕ) → IsApart k → k ≢ key.Handle id
 apart-handle k id apart e = subst (λ (x : Key). IsApart x) e apart
 
-pub apart-grow : (store : Datastore) (r : ℕ) (new : Record) (label after : Label) → IsApart (key_of new) → OwesLess label after → CountsGrow store (written store (Put r new)) label after
+pub apart-grow : (store : Datastore) (r : ℕ) (new : Record) (label after : CallLabel) → IsApart (key_of new) → OwesLess label after → CountsGrow store (written store (Put r new)) label after
 apart-grow store r new label after apart less id cidr =
     let block_same = ap (held_in_row id) (put-other store r new (key.Block cidr) (apart-block (key_of new) cidr apart)) in
     let handle_same = ap (count_in_row id cidr) (put-other store r new (key.Handle id) (apart-handle (key_of new) id apart)) in
     let h = less id cidr in
     omega arith
 
-pub apart-remove : (store : Datastore) (r : ℕ) (gone : Key) (label after : Label) → IsApart gone → OwesLess label after → CountsGrow store (written store (Remove r gone)) label after
+pub apart-remove : (store : Datastore) (r : ℕ) (gone : Key) (label after : CallLabel) → IsApart gone → OwesLess label after → CountsGrow store (written store (Remove r gone)) label after
 apart-remove store r gone label after apart less id cidr =
     let block_same = ap (held_in_row id) (row_of-without_row-other (key.Block cidr) gone store.rows (apart-block gone cidr apart)) in
     let handle_same = ap (count_in_row id cidr) (row_of-without_row-other (key.Handle id) gone store.rows (apart-handle gone id apart)) in
@@ -77,7 +77,7 @@ apart-remove store r gone label after apart less id cidr =
 
 -- ---- a write of a block
 
-pub block-grow : (store : Datastore) (r : ℕ) (b : block.BlockValue) (label after : Label)
+pub block-grow : (store : Datastore) (r : ℕ) (b : block.BlockValue) (label after : CallLabel)
     → ((id : List ℕ) → count_by (is_owned id) b.allocations + owed id b.cidr after ≤ held_count store id b.cidr + owed id b.cidr label)
     → ((id : List ℕ) (cidr : CidrValue) → b.cidr ≢ cidr → owed id cidr after ≤ owed id cidr label)
     → CountsGrow store (written store (Put r (record_of.Block b))) label after
@@ -100,7 +100,7 @@ block-grow store r b label after here there id cidr = elim (cidr_cases b.cidr ci
 
 -- ---- a write of a handle
 
-pub handle-grow : (store : Datastore) (r : ℕ) (h : handle.HandleValue) (label after : Label)
+pub handle-grow : (store : Datastore) (r : ℕ) (h : handle.HandleValue) (label after : CallLabel)
     → ((cidr : CidrValue) → owed h.id cidr after + handle_count store h.id cidr ≤ owed h.id cidr label + count_of h cidr)
     → ((id : List ℕ) (cidr : CidrValue) → h.id ≢ id → owed id cidr after ≤ owed id cidr label)
     → CountsGrow store (written store (Put r (record_of.Handle h))) label after
@@ -122,7 +122,7 @@ handle-grow store r h label after here there id cidr = elim (text_cases h.id id)
         let less = here cidr in
         omega arith
 
-pub handle-remove : (store : Datastore) (r : ℕ) (gone : List ℕ) (label after : Label)
+pub handle-remove : (store : Datastore) (r : ℕ) (gone : List ℕ) (label after : CallLabel)
     → ((cidr : CidrValue) → owed gone cidr after + handle_count store gone cidr ≤ owed gone cidr label)
     → ((id : List ℕ) (cidr : CidrValue) → gone ≢ id → owed id cidr after ≤ owed id cidr label)
     → CountsGrow store (written store (Remove r (key.Handle gone))) label after
@@ -145,10 +145,10 @@ handle-remove store r gone label after here there id cidr = elim (text_cases gon
 
 -- ---- what is owed
 
-pub idle-less : (label : Label) → OwesLess label idle
+pub idle-less : (label : CallLabel) → OwesLess label idle
 idle-less label id cidr = omega arith
 
-pub itself-less : (label : Label) → OwesLess label label
+pub itself-less : (label : CallLabel) → OwesLess label label
 itself-less label id cidr = omega arith
 
 -- the credit's own handle and block are owed its amount, and others nothing

@@ -4,9 +4,9 @@ use Rattle.std.specs.Prelude.{not}
 use Rattle.std.specs.List.{count_by, filter}
 use Rattle.ipam_addr.specs.Shape.{CidrValue}
 use Rattle.ipam_block.specs.declared.allocation.Allocation.{Allocation}
-use Rattle.ipam_block.specs.Operations.{freed, is_owned, next_block}
+use Rattle.ipam_block.specs.Operations.{block_without, is_owned, next_block}
 use Rattle.ipam_block.specs.Shape.{BlockValue}
-use Rattle.ipam_handle.specs.Operations.{content, count_of, counts_with, lowered, raised}
+use Rattle.ipam_handle.specs.Operations.{content, count_of, counts_with, with_lowered_count, with_raised_count}
 use Rattle.ipam_handle.specs.Shape.{HandleValue}
 use Rattle.ipam_handle.specs.Sound.{AreCounts}
 use Rattle.ipam_handle.proofs.Reading.{count_in-here}
@@ -93,7 +93,7 @@ block-raises-none : (store : Datastore) (asked : Call) (b : BlockValue) → Puts
 block-raises-none store asked b puts id cidr raises =
     let same : Some (key.Block b.cidr) ≡ Some (key.Handle id) = sym puts.writes ∙ raises.done.writes in absurd (cc same)
 
--- the block that is freed from is the one that is put
+-- the block that is block_without from is the one that is put
 freed-there : (store : Datastore) (asked : Call) (b : BlockValue) → Puts asked (record_of.Block b) → (credit : Credit) → Frees store asked credit → (b.cidr ≡ credit.block) × (held_count store credit.handle b.cidr ≡ count_by (is_owned credit.handle) b.allocations + credit.amount)
 freed-there store asked b puts credit frees =
     let same : Some (key.Block b.cidr) ≡ Some (key.Block credit.block) = sym puts.writes ∙ frees.done.writes in
@@ -115,30 +115,30 @@ block-harmless store asked b puts holds = record {
       absurd (omega arith);
 }
 
--- ---- what is freed
+-- ---- what is block_without
 
 module _ (store : Datastore) (b : BlockValue) (old : ℕ) (id : List ℕ) (picks : Allocation → Bool) (own : (a : Allocation) → picks a ≡ true → is_owned id a ≡ true) (amount : ℕ) (count : count_by picks b.allocations ≡ suc amount) where
   abbrev freeing : Call
-  freeing = Update (record_of.Block (freed picks (next_block b))) old
+  freeing = Update (record_of.Block (block_without picks (next_block b))) old
 
   abbrev freed_credit : Credit
   freed_credit = credit_of id b.cidr (suc amount)
 
-  freeing-puts : Puts freeing (record_of.Block (freed picks (next_block b)))
-  freeing-puts = update-puts (record_of.Block (freed picks (next_block b))) old
+  freeing-puts : Puts freeing (record_of.Block (block_without picks (next_block b)))
+  freeing-puts = update-puts (record_of.Block (block_without picks (next_block b))) old
 
   pub free-frees : (revision : ℕ) → reply_of store freeing ≡ Can revision → HasAt store (key.Block b.cidr) old (record_of.Block b) → Frees store freeing freed_credit
   free-frees revision e there =
       let put = freeing-puts.puts store revision e in
       let now : held_count (behind store freeing) id b.cidr ≡ count_by (is_owned id) (filter (λ a. not (picks a)) b.allocations) =
-      ap (λ (s : Datastore). held_count s id b.cidr) put ∙ ap (held_in_row id) (put-own store revision (record_of.Block (freed picks (next_block b)))) in
+      ap (λ (s : Datastore). held_count s id b.cidr) put ∙ ap (held_in_row id) (put-own store revision (record_of.Block (block_without picks (next_block b)))) in
       let before : held_count store id b.cidr ≡ count_by (is_owned id) b.allocations = ap (held_in_row id) there in
       let sum = held-filter id picks own b.allocations in
       record { done = record { writes = refl; revision = revision; can = e }; some = omega arith; so_many = omega arith }
 
   pub free-only : HasAt store (key.Block b.cidr) old (record_of.Block b) → (other : Credit) → Frees store freeing other → freed_credit ≡ other
   free-only there other frees =
-      let (at, sum) = freed-there store freeing (freed picks (next_block b)) freeing-puts other frees in
+      let (at, sum) = freed-there store freeing (block_without picks (next_block b)) freeing-puts other frees in
       let before : held_count store other.handle b.cidr ≡ count_by (is_owned other.handle) b.allocations = ap (held_in_row other.handle) there in
       elim (text_cases id other.handle) [
         | inl (t, same) ↦
@@ -154,7 +154,7 @@ module _ (store : Datastore) (b : BlockValue) (old : ℕ) (id : List ℕ) (picks
       ]
 
   pub free-raises_none : (other : List ℕ) (cidr : CidrValue) → ¬ (Raises store freeing other cidr)
-  free-raises_none = block-raises-none store freeing (freed picks (next_block b)) freeing-puts
+  free-raises_none = block-raises-none store freeing (block_without picks (next_block b)) freeing-puts
 
 -- ---- a handle
 
@@ -162,7 +162,7 @@ handle-frees-none : (store : Datastore) (asked : Call) (h : HandleValue) → Put
 handle-frees-none store asked h puts credit frees =
     let same : Some (key.Handle h.id) ≡ Some (key.Block credit.block) = sym puts.writes ∙ frees.done.writes in absurd (cc same)
 
--- the count that is raised is the handle's
+-- the count that is with_raised_count is the handle's
 raised-there : (store : Datastore) (asked : Call) (h : HandleValue) → Puts asked (record_of.Handle h) → (id : List ℕ) (cidr : CidrValue) → Raises store asked id cidr → (h.id ≡ id) × (count_of h cidr ≡ handle_count store h.id cidr + 1)
 raised-there store asked h puts id cidr raises =
     let same : Some (key.Handle h.id) ≡ Some (key.Handle id) = sym puts.writes ∙ raises.done.writes in
@@ -173,19 +173,19 @@ raised-there store asked h puts id cidr raises =
     ap (λ (s : Datastore). handle_count s h.id cidr) put ∙ ap (count_in_row h.id cidr) (put-own store raises.done.revision (record_of.Handle h)) in
     (is, sym now ∙ more)
 
-module _ (store : Datastore) (h : HandleValue) (cidr : CidrValue) (asked : Call) (puts : Puts asked (record_of.Handle (raised h cidr 1))) (before : (c : CidrValue) → handle_count store h.id c ≡ count_of h c) where
+module _ (store : Datastore) (h : HandleValue) (cidr : CidrValue) (asked : Call) (puts : Puts asked (record_of.Handle (with_raised_count h cidr 1))) (before : (c : CidrValue) → handle_count store h.id c ≡ count_of h c) where
   pub raise-raises : (revision : ℕ) → reply_of store asked ≡ Can revision → Raises store asked h.id cidr
   raise-raises revision e =
       let put = puts.puts store revision e in
-      let now : handle_count (behind store asked) h.id cidr ≡ count_of (raised h cidr 1) cidr =
-      ap (λ (s : Datastore). handle_count s h.id cidr) put ∙ ap (count_in_row h.id cidr) (put-own store revision (record_of.Handle (raised h cidr 1))) in
+      let now : handle_count (behind store asked) h.id cidr ≡ count_of (with_raised_count h cidr 1) cidr =
+      ap (λ (s : Datastore). handle_count s h.id cidr) put ∙ ap (count_in_row h.id cidr) (put-own store revision (record_of.Handle (with_raised_count h cidr 1))) in
       let was = before cidr in
       let more = raised-here h cidr in
       record { done = record { writes = puts.writes; revision = revision; can = e }; by_one = omega arith }
 
   pub raise-only : (id : List ℕ) (other : CidrValue) → Raises store asked id other → (h.id ≡ id) × (cidr ≡ other)
   raise-only id other raises =
-      let (is, more) = raised-there store asked (raised h cidr 1) puts id other raises in
+      let (is, more) = raised-there store asked (with_raised_count h cidr 1) puts id other raises in
       elim (cidr_cases cidr other) [
         | inl (t, same) ↦ (is, same)
         | inr (f, differ) ↦
@@ -195,7 +195,7 @@ module _ (store : Datastore) (h : HandleValue) (cidr : CidrValue) (asked : Call)
       ]
 
   pub raise-frees_none : (credit : Credit) → ¬ (Frees store asked credit)
-  raise-frees_none = handle-frees-none store asked (raised h cidr 1) puts
+  raise-frees_none = handle-frees-none store asked (with_raised_count h cidr 1) puts
 
 -- a handle that is put with no more than it had
 pub handle-harmless : (store : Datastore) (asked : Call) (h : HandleValue) → Puts asked (record_of.Handle h) → ((revision : ℕ) → reply_of store asked ≡ Can revision → (c : CidrValue) → count_of h c ≤ handle_count store h.id c) → Harmless store asked
@@ -225,15 +225,15 @@ delete-harmless store id old = record {
 }
 
 -- fewer of one block, and as many of the others
-pub lowered-less : (h : HandleValue) → AreCounts h.counts → (cidr : CidrValue) (amount : ℕ) (c : CidrValue) → count_of (lowered h cidr amount) c ≤ count_of h c
+pub lowered-less : (h : HandleValue) → AreCounts h.counts → (cidr : CidrValue) (amount : ℕ) (c : CidrValue) → count_of (with_lowered_count h cidr amount) c ≤ count_of h c
 lowered-less h sound cidr amount c = elim (cidr_cases cidr c) [
   | inl (t, same) ↦
       let here = count_in-here h.counts sound cidr (count_of h cidr - amount) in
-      let less : count_of (lowered h cidr amount) cidr ≤ count_of h cidr = omega arith in
-      subst (λ (x : CidrValue). count_of (lowered h cidr amount) x ≤ count_of h x) same less
+      let less : count_of (with_lowered_count h cidr amount) cidr ≤ count_of h cidr = omega arith in
+      subst (λ (x : CidrValue). count_of (with_lowered_count h cidr amount) x ≤ count_of h x) same less
   | inr (f, differ) ↦ let kept = count-elsewhere h.counts cidr c (count_of h cidr - amount) differ in omega arith
 ]
 
 -- a handle without counts has none to lower
-pub lowered-nothing : (id : List ℕ) (cidr : CidrValue) (amount : ℕ) → (lowered (content id []) cidr amount).counts ≡ []
+pub lowered-nothing : (id : List ℕ) (cidr : CidrValue) (amount : ℕ) → (with_lowered_count (content id []) cidr amount).counts ≡ []
 lowered-nothing id cidr amount = let none : 0 - amount ≡ 0 = omega arith in ap (λ n. counts_with [] cidr n) none

@@ -9,7 +9,7 @@ use Rattle.ipam_model.specs.declared.entry.Called.{Called}
 use Rattle.ipam_model.specs.declared.entry.Entry.{Entry}
 use Rattle.ipam_model.specs.declared.entry.Entry.TheVariants as entry
 use Rattle.ipam_model.specs.declared.request.Request.{Request}
-use Rattle.ipam_model.specs.Cluster.{Running, after, begun, fed_with, goes_on}
+use Rattle.ipam_model.specs.Cluster.{Running, after, fresh_run, run_after_feed, goes_on}
 use Rattle.ipam_model.specs.History.{Base, InSpan, Span, before, begin_moment, begins, cluster_at, moment_of, now, since_begin, store_at}
 use Rattle.ipam_model.specs.Moments.{IsNext, request_in}
 use Rattle.ipam_laws.proofs.FamilyHistory.{fed-not-called, none-first, three}
@@ -67,7 +67,7 @@ trail-earlier span new (Got moment at live ∷ trail) upto not early h =
 abbrev request_at : Option Running → Option Request
 request_at o = option_map (λ (r : Running). r.request) o
 
-fed-request : (live : List (List ℕ)) (o : Option Running) (request : Request) → request_at (fed_with live o) ≡ Some request → request_at o ≡ Some request
+fed-request : (live : List (List ℕ)) (o : Option Running) (request : Request) → request_at (run_after_feed live o) ≡ Some request → request_at o ≡ Some request
 fed-request live None request e = e
 fed-request live (Some running) request e = e
 
@@ -79,10 +79,10 @@ goes-request store moment None (Some running) request e = e
 runs-earlier : (base : Base) (history : List Entry) (new : Entry) (slot : ℕ) (request : Request) → begins slot new ≡ false → request_in (cluster_at base (new ∷ history)) slot ≡ Some request → request_in (cluster_at base history) slot ≡ Some request
 unfolding cluster_at after
 runs-earlier base history (entry.Began other begun_there) slot request not =
-    slot-is (λ o. request_at o ≡ Some request → request_in (cluster_at base history) slot ≡ Some request) other slot (begun begun_there) (cluster_at base history).slots
+    slot-is (λ o. request_at o ≡ Some request → request_in (cluster_at base history) slot ≡ Some request) other slot (fresh_run begun_there) (cluster_at base history).slots
     (λ own e. absurd (eqb-false other slot not (sym own))) (λ differ e. e)
 runs-earlier base history (entry.Fed other at live) slot request not =
-    slot-is (λ o. request_at o ≡ Some request → request_in (cluster_at base history) slot ≡ Some request) other slot (fed_with live ((cluster_at base history).slots other)) (cluster_at base history).slots
+    slot-is (λ o. request_at o ≡ Some request → request_in (cluster_at base history) slot ≡ Some request) other slot (run_after_feed live ((cluster_at base history).slots other)) (cluster_at base history).slots
     (λ own e. subst (λ (s : ℕ). request_in (cluster_at base history) s ≡ Some request) (sym own) (fed-request live ((cluster_at base history).slots other) request e)) (λ differ e. e)
 runs-earlier base history (entry.Stopped other) slot request not =
     slot-is (λ o. request_at o ≡ Some request → request_in (cluster_at base history) slot ≡ Some request) other slot None (cluster_at base history).slots

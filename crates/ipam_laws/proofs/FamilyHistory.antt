@@ -31,7 +31,7 @@ use Rattle.ipam_model.specs.Answered.{Answered, history_of, span_of}
 use Rattle.ipam_model.specs.Choice.{IsChoice, Seen}
 use Rattle.ipam_model.specs.Credits.{key_written}
 use Rattle.ipam_model.specs.FamilyLaw.{AreFromRounds, FamilyLaw, IsOfRound}
-use Rattle.ipam_model.specs.History.{Heard, InSpan, Lawful, Span, begin_moment, now, seen_at}
+use Rattle.ipam_model.specs.History.{HeardCall, InSpan, Lawful, Span, begin_moment, now, seen_at}
 use Rattle.ipam_model.specs.Moments.{IsNext}
 use Rattle.ipam_model.specs.Named.{name_of, told_of}
 use Rattle.ipam_model.specs.Owners.{owned_in}
@@ -149,7 +149,7 @@ gift-given span moment family (Got m at live ∷ trail) upto h early gift =
 
 -- ---- what was read and chosen
 
-pub heard : (span : Span) (moment : ℕ) (store : Datastore) (asked : Call) → DidAt span moment store asked → Heard span moment asked (reply_of store asked)
+pub heard : (span : Span) (moment : ℕ) (store : Datastore) (asked : Call) → DidAt span moment store asked → HeardCall span moment asked (reply_of store asked)
 heard span moment store asked did = record {
   entry_of_call = did.c;
   in_span = did.in_span;
@@ -277,7 +277,7 @@ module _ (span : Span) (scan : Scan) (seen : Seen) (before five : Trail) (reads 
 
 -- the handle was read at the moment, over this store
 pub record IsReadThen (span : Span) (id : List ℕ) (moment : ℕ) (store : Datastore) : Type 0 where
-  pub read : Heard span moment (Get (key.Handle id)) (reply_of store (Get (key.Handle id)))
+  pub read : HeardCall span moment (Get (key.Handle id)) (reply_of store (Get (key.Handle id)))
   pub before_it : seen_at span moment ≡ store
 
 pub aimed-span : (a : Answered) (request : AddRequest) (moment : ℕ) (trail : Trail) (upto : ℕ) → a.request ≡ Add request → IsTrail (span_of a) upto trail → (aimed : IsAimed request moment trail)

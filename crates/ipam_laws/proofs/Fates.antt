@@ -1,9 +1,9 @@
--- A request is answered Fault exactly where its call failed, and a failed call may have been done.
+-- A request is word_after_reply Fault exactly where its call failed, and a failed call may have been done.
 use Rattle.std.proofs.Common.{◌≡◌, ◌≢◌, ℕ, ◌+◌, List, ◌∷◌, Option, Some, refl, sym, ap, ◌∙◌, subst}
 use Rattle.ipam_records.specs.declared.call.Call.{Call}
 use Rattle.ipam_records.specs.Datastore.{Datastore, reply_of, write_granted}
 use Rattle.ipam_records.specs.Said.{Said}
-use Rattle.ipam_records.specs.Word.{Word, Ends, Asks, Waits, ended, fed}
+use Rattle.ipam_records.specs.Word.{Word, Ends, Asks, Waits, answer_in, after_feed}
 use Rattle.ipam_model.specs.declared.answer.Answer.{Answer}
 use Rattle.ipam_model.specs.declared.answer.Answer.TheVariants.{Fault}
 use Rattle.ipam_model.specs.declared.entry.Called.{Called}
@@ -34,7 +34,7 @@ use Rattle.ipam_model.specs.Admin.{admin_word}
 use Rattle.ipam_model.specs.Affinities.{release as release_word}
 use Rattle.ipam_model.specs.Alone.{AloneFaultLaw, alone, live_of}
 use Rattle.ipam_model.specs.AnswerLaw.{FaultLaw}
-use Rattle.ipam_model.specs.Cluster.{Cluster, after, answered, call_entry, called, goes_on, store_with, with_slot}
+use Rattle.ipam_model.specs.Cluster.{Cluster, after, word_after_reply, call_entry, call_made, goes_on, store_with, with_slot}
 use Rattle.ipam_model.specs.FateLaw.{FateLaw, HasSameSlots, IsSameCall, MayHaveDoneLaw}
 use Rattle.ipam_model.specs.History.{Lawful, MayCall, cluster_at}
 use Rattle.ipam_model.specs.Look.{check_word, probe_word}
@@ -121,13 +121,13 @@ words-never (Collect request) = told-never of_collect of_collect-never (collect_
 words-never (Admin request) = told-never of_admin of_admin-never (admin_word request)
 words-never (Probe request) = told-never of_probe of_probe-never (probe_word request)
 
-answered-never : (store : Datastore) (moment : ℕ) (word : Word Answer) → NeverFaults word → NeverFaults (answered store moment word)
+answered-never : (store : Datastore) (moment : ℕ) (word : Word Answer) → NeverFaults word → NeverFaults (word_after_reply store moment word)
 unfolding NeverFaults
 answered-never store moment (Ends answer) h = h
 answered-never store moment (Asks label asked next) h = h moment (reply_of store asked)
 answered-never store moment (Waits next) h = h
 
-fed-never : (live : List (List ℕ)) (word : Word Answer) → NeverFaults word → NeverFaults (fed word live)
+fed-never : (live : List (List ℕ)) (word : Word Answer) → NeverFaults word → NeverFaults (after_feed word live)
 unfolding NeverFaults
 fed-never live (Ends answer) h = h
 fed-never live (Asks label asked next) h = h
@@ -136,19 +136,19 @@ fed-never live (Waits next) h = h live
 faults-kept : IsKept NeverFaults
 faults-kept = record { begins = words-never; hears = answered-never; is_fed = fed-never }
 
-ended-never : (word : Word Answer) → NeverFaults word → ended word ≢ Some Fault
+ended-never : (word : Word Answer) → NeverFaults word → answer_in word ≢ Some Fault
 unfolding NeverFaults
 ended-never (Ends answer) h e = h (cc e)
 ended-never (Asks label asked next) h e = cc
 ended-never (Waits next) h e = cc
 
--- a call that is done is not answered so
+-- a call that is done is not word_after_reply so
 well-answered : (slot : ℕ) (store : Datastore) (moment : ℕ) (word : Word Answer) (c : Called) → NeverFaults word → call_entry slot Well store moment word ≡ Some c → c.answer ≢ Some Fault
 unfolding NeverFaults
 well-answered slot store moment (Ends answer) c h e = λ f. cc
 well-answered slot store moment (Waits next) c h e = λ f. cc
 well-answered slot store moment (Asks label asked next) c h e = λ f.
-    let is : called slot Well asked (reply_of store asked) (ended (next moment (reply_of store asked))) ≡ c = cc e in
+    let is : call_made slot Well asked (reply_of store asked) (answer_in (next moment (reply_of store asked))) ≡ c = cc e in
     ended-never (next moment (reply_of store asked)) (h moment (reply_of store asked)) (ap (λ (x : Called). x.answer) is ∙ f)
 
 pub faults : FaultLaw
@@ -182,7 +182,7 @@ record OtherFate (cluster : Cluster) (c : Called) (fate : Fate) : Type 0 where
   same : IsSameCall c other fate
   may : MayCall cluster other
 
-called-is : (slot : ℕ) (fate : Fate) (asked : Call) (reply : Said) (answer : Option Answer) (c : Called) → called slot fate asked reply answer ≡ c → (c.slot ≡ slot) × (c.call ≡ name_of asked)
+called-is : (slot : ℕ) (fate : Fate) (asked : Call) (reply : Said) (answer : Option Answer) (c : Called) → call_made slot fate asked reply answer ≡ c → (c.slot ≡ slot) × (c.call ≡ name_of asked)
 called-is slot Well asked reply answer c e = (ap (λ (x : Called). x.slot) (sym e), ap (λ (x : Called). x.call) (sym e))
 called-is slot Before asked reply answer c e = (ap (λ (x : Called). x.slot) (sym e), ap (λ (x : Called). x.call) (sym e))
 called-is slot After asked reply answer c e = (ap (λ (x : Called). x.slot) (sym e), ap (λ (x : Called). x.call) (sym e))
@@ -199,30 +199,30 @@ with-fate cluster c fate h = by h.running.word refl h.is_called
         reply = reply_of cluster.store asked
 
         answer : Option Answer
-        answer = ended (next cluster.entries reply)
+        answer = answer_in (next cluster.entries reply)
 
-        is : called c.slot c.fate asked reply answer ≡ c
+        is : call_made c.slot c.fate asked reply answer ≡ c
         is = cc e
 
         call : c.call ≡ name_of asked
         call = (called-is c.slot c.fate asked reply answer c is).1
 
-        asks : (f : Fate) → call_entry c.slot f cluster.store cluster.entries h.running.word ≡ Some (called c.slot f asked reply answer)
+        asks : (f : Fate) → call_entry c.slot f cluster.store cluster.entries h.running.word ≡ Some (call_made c.slot f asked reply answer)
         asks f = ap (λ w. call_entry c.slot f cluster.store cluster.entries w) same
 
         made : (f : Fate) → OtherFate cluster c f
         made Well = record {
-          other = called c.slot Well asked reply answer;
+          other = call_made c.slot Well asked reply answer;
           same = record { same_slot = refl; same_call = sym call; has_fate = refl };
           may = record { turn = h.turn; running = h.running; runs = h.runs; is_called = asks Well };
         }
         made Before = record {
-          other = called c.slot Before asked reply answer;
+          other = call_made c.slot Before asked reply answer;
           same = record { same_slot = refl; same_call = sym call; has_fate = refl };
           may = record { turn = h.turn; running = h.running; runs = h.runs; is_called = asks Before };
         }
         made After = record {
-          other = called c.slot After asked reply answer;
+          other = call_made c.slot After asked reply answer;
           same = record { same_slot = refl; same_call = sym call; has_fate = refl };
           may = record { turn = h.turn; running = h.running; runs = h.runs; is_called = asks After };
         }

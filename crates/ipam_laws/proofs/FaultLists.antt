@@ -12,7 +12,7 @@ use Rattle.std.proofs.lemmas.Cmp.{nat_list_cmp_total}
 use Rattle.std.proofs.lemmas.List.Elements.{Contains-append_cases, Contains-append_left, Contains-append_right}
 use Rattle.ipam_records.specs.declared.call.Row.{Row as RowText}
 use Rattle.ipam_model.specs.Opened.{Texts, Breaks, readable}
-use Rattle.ipam_model.specs.Reads.{Row}
+use Rattle.ipam_model.specs.Reads.{StoredRecord}
 use Rattle.ipam_laws.proofs.Members.{in-cons, in-here, in-there, in-nothing, in-map, out-map, in-filter, filter-in}
 
 -- ---- faults, and which is first
@@ -131,22 +131,22 @@ module _ (texts : Texts) where
   one-faulty f broken g there = elim (in-cons g f [] there) [ inl is ↦ subst (λ (h : Fault). Breaks texts h.0 h.1) is broken | inr no_more ↦ absurd (in-nothing g no_more) ]
 
   -- those of each row that can be read
-  abbrev pub by_read : (Row → List Fault) → List Fault
+  abbrev pub by_read : (StoredRecord → List Fault) → List Fault
   by_read of_row = flat_map of_row (readable texts.rows)
 
-  pub read-faulty : (of_row : Row → List Fault) → ((row : Row) → Faulty (of_row row)) → Faulty (by_read of_row)
+  pub read-faulty : (of_row : StoredRecord → List Fault) → ((row : StoredRecord) → Faulty (of_row row)) → Faulty (by_read of_row)
   read-faulty of_row h = from (readable texts.rows)
     where
-      from : (rows : List Row) (f : Fault) → Contains (flat_map of_row rows) f → Breaks texts f.0 f.1
+      from : (rows : List StoredRecord) (f : Fault) → Contains (flat_map of_row rows) f → Breaks texts f.0 f.1
       from [] f there = absurd (in-nothing f there)
       from (row ∷ rows) f there = elim (Contains-append_cases (of_row row) (flat_map of_row rows) f there) [ inl own ↦ h row f own | inr other ↦ from rows f other ]
 
-  pub read-among : (of_row : Row → List Fault) (row : Row) (f : Fault) → Contains (readable texts.rows) row → Contains (of_row row) f → Contains (by_read of_row) f
+  pub read-among : (of_row : StoredRecord → List Fault) (row : StoredRecord) (f : Fault) → Contains (readable texts.rows) row → Contains (of_row row) f → Contains (by_read of_row) f
   read-among of_row row f own there = from (readable texts.rows) own
     where
-      from : (rows : List Row) → Contains rows row → Contains (flat_map of_row rows) f
+      from : (rows : List StoredRecord) → Contains rows row → Contains (flat_map of_row rows) f
       from [] h = absurd (in-nothing row h)
       from (first ∷ rows) h = elim (in-cons row first rows h) [
-        | inl is ↦ Contains-append_left (of_row first) (flat_map of_row rows) f (subst (λ (r : Row). Contains (of_row r) f) (sym is) there)
+        | inl is ↦ Contains-append_left (of_row first) (flat_map of_row rows) f (subst (λ (r : StoredRecord). Contains (of_row r) f) (sym is) there)
         | inr other ↦ Contains-append_right (of_row first) (flat_map of_row rows) f (from rows other)
       ]

@@ -7,7 +7,7 @@ use Rattle.ipam_model.specs.declared.entry.Called.{Called}
 use Rattle.ipam_model.specs.declared.entry.Entry.{Entry}
 use Rattle.ipam_model.specs.declared.entry.Entry.TheVariants as entry
 use Rattle.ipam_model.specs.declared.request.Request.{Request}
-use Rattle.ipam_model.specs.Cluster.{Running, after, begun, fed_with, goes_on}
+use Rattle.ipam_model.specs.Cluster.{Running, after, fresh_run, run_after_feed, goes_on}
 use Rattle.ipam_model.specs.Course.{is_due}
 use Rattle.ipam_model.specs.History.{Base, InSpan, Lawful, MayFeed, Span, begin_moment, begins, cluster_at, now, store_at}
 use Rattle.ipam_laws.proofs.KeptWords.{slot-is}
@@ -62,9 +62,9 @@ due-goes base history c o (Some told) h = tt
 due-goes base history c None None h = tt
 due-goes base history c (Some running) None h = due-skip base history (entry.Called c) c.slot (Some running) refl (λ at live e. cc e) h
 
-due-fed : (base : Base) (history : List Entry) (slot at : ℕ) (live : List (List ℕ)) → MayFeed (cluster_at base history) slot at live → DueIn base history slot ((cluster_at base history).slots slot) → DueIn base (entry.Fed slot at live ∷ history) slot (fed_with live ((cluster_at base history).slots slot))
+due-fed : (base : Base) (history : List Entry) (slot at : ℕ) (live : List (List ℕ)) → MayFeed (cluster_at base history) slot at live → DueIn base history slot ((cluster_at base history).slots slot) → DueIn base (entry.Fed slot at live ∷ history) slot (run_after_feed live ((cluster_at base history).slots slot))
 due-fed base history slot at live may h =
-    subst (λ (o : Option Running). DueIn base (entry.Fed slot at live ∷ history) slot (fed_with live o)) (sym may.runs) due
+    subst (λ (o : Option Running). DueIn base (entry.Fed slot at live ∷ history) slot (run_after_feed live o)) (sym may.runs) due
   where
     before : AreDue base history slot may.running.request
     before = subst (λ (o : Option Running). DueIn base history slot o) may.runs h
@@ -81,12 +81,12 @@ pub fed-due : (base : Base) (history : List Entry) → Lawful base history → (
 unfolding Lawful cluster_at after
 fed-due base [] h slot = tt
 fed-due base (entry.Began other request ∷ history) h slot =
-    slot-is (DueIn base (entry.Began other request ∷ history) slot) other slot (begun request) (cluster_at base history).slots
-    (λ own. subst (λ (s : ℕ). DueIn base (entry.Began other request ∷ history) s (begun request)) (sym own) (λ moment at live there. absurd (only-begun base history other request moment at live there)))
+    slot-is (DueIn base (entry.Began other request ∷ history) slot) other slot (fresh_run request) (cluster_at base history).slots
+    (λ own. subst (λ (s : ℕ). DueIn base (entry.Began other request ∷ history) s (fresh_run request)) (sym own) (λ moment at live there. absurd (only-begun base history other request moment at live there)))
     (λ differ. due-skip base history (entry.Began other request) slot ((cluster_at base history).slots slot) (begins-not other slot differ) (λ at live e. cc e) (fed-due base history h.0 slot))
 fed-due base (entry.Fed other at live ∷ history) h slot =
-    slot-is (DueIn base (entry.Fed other at live ∷ history) slot) other slot (fed_with live ((cluster_at base history).slots other)) (cluster_at base history).slots
-    (λ own. subst (λ (s : ℕ). DueIn base (entry.Fed other at live ∷ history) s (fed_with live ((cluster_at base history).slots other))) (sym own)
+    slot-is (DueIn base (entry.Fed other at live ∷ history) slot) other slot (run_after_feed live ((cluster_at base history).slots other)) (cluster_at base history).slots
+    (λ own. subst (λ (s : ℕ). DueIn base (entry.Fed other at live ∷ history) s (run_after_feed live ((cluster_at base history).slots other))) (sym own)
     (due-fed base history other at live h.1 (fed-due base history h.0 other)))
     (λ differ. due-skip base history (entry.Fed other at live) slot ((cluster_at base history).slots slot) refl (λ time handles e. differ (cc e)) (fed-due base history h.0 slot))
 fed-due base (entry.Stopped other ∷ history) h slot =

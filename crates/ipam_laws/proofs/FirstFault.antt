@@ -29,11 +29,10 @@ use Rattle.ipam_records.proofs.KeyTextLemmas.{IsTextOf-key_read}
 use Rattle.ipam_records.proofs.RecordTexts.{record_read}
 use Rattle.ipam_model.specs.Affinities.{affinity}
 use Rattle.ipam_model.specs.AffinityLaw.{HasAffinity, HasNode}
-use Rattle.ipam_model.specs.Choice.{is_node}
 use Rattle.ipam_model.specs.Consistent.{IsSlotOfSome, pools_in_row}
 use Rattle.ipam_model.specs.CountLaw.{handle_count, held_in_row, held_count}
 use Rattle.ipam_model.specs.Opened.{Texts, Breaks, NoText, AnotherKey, NoTable, NoSlot, NoBlock, CountTooLow, NoAffinityFor, NoNodeFor, TooManyRows, TooManyBlocks, NoRevision, AboveCounter, AboveLast, CounterAboveLast, IsRefusedBy, MayBeOpened, FirstFaultLaw, cidr_of_key, is_block_text, pools_read, read_store, readable, reading_of}
-use Rattle.ipam_model.specs.Reads.{Row}
+use Rattle.ipam_model.specs.Reads.{StoredRecord}
 use Rattle.ipam_laws.proofs.Calls.{found-block, found-key}
 use Rattle.ipam_laws.proofs.Members.{in-here, in-there, in-nothing, in-map, out-map, in-filter, filter-in}
 use Rattle.ipam_laws.proofs.OpenedRows.{out-readable}
@@ -42,6 +41,7 @@ use Rattle.ipam_laws.proofs.FaultLists.{Fault, first-of, Faulty, by_rows, by_rea
 use Rattle.ipam_laws.proofs.RowOrder.{found-member}
 use Rattle.ipam_laws.proofs.AffinityAt.{node_at, state_at}
 use Rattle.ipam_laws.proofs.AffinityHistory.{node-has, has-node, state-has, has-state}
+use Rattle.ipam_records.specs.BlockLists.{is_node}
 
 -- ---- tests
 
@@ -122,12 +122,12 @@ module _ (texts : Texts) where
         apart = λ i j d below within. absurd (omega arith);
       }
 
-      sound : (row : Row) → row_of key.Pools (readable texts.rows) ≡ Some row → IsRecord row.1
+      sound : (row : StoredRecord) → row_of key.Pools (readable texts.rows) ≡ Some row → IsRecord row.1
       sound row e =
           let (text, among, revision, reads) = out-readable texts.rows row (found-member key.Pools (readable texts.rows) row e) in
           (record_read text.key text.body row.1 reads).sound
 
-      from : (o : Option Row) → row_of key.Pools (readable texts.rows) ≡ o → IsPoolTable (pools_in_row o)
+      from : (o : Option StoredRecord) → row_of key.Pools (readable texts.rows) ≡ o → IsPoolTable (pools_in_row o)
       from None e = none
       from (Some (revision, record_of.Pools pools)) e = (sound (revision, record_of.Pools pools) e).table
       from (Some (revision, record_of.Config config)) e = none
@@ -180,11 +180,11 @@ module _ (texts : Texts) where
 
   -- ---- counts that are too low
 
-  low_in : Row → List Fault
+  low_in : StoredRecord → List Fault
   low_in (revision, record_of.Block b) = map (λ (a : Allocation). (6, key_bytes (key.Handle a.attributes.handle))) (filter (λ (a : Allocation). nat_lt (handle_count (read_store texts) a.attributes.handle b.cidr) (held_count (read_store texts) a.attributes.handle b.cidr)) b.allocations)
   low_in row = []
 
-  low-faulty : (row : Row) → Faulty texts (low_in row)
+  low-faulty : (row : StoredRecord) → Faulty texts (low_in row)
   unfolding low_in
   low-faulty (revision, record_of.Block b) f there =
       let (a, among, is) = out-map (λ (a : Allocation). (6, key_bytes (key.Handle a.attributes.handle))) f (filter (λ (a : Allocation). nat_lt (handle_count (read_store texts) a.attributes.handle b.cidr) (held_count (read_store texts) a.attributes.handle b.cidr)) b.allocations) there in
@@ -200,7 +200,7 @@ module _ (texts : Texts) where
   unfolding low_in
   low-among id cidr less = from (row_of (key.Block cidr) (readable texts.rows)) refl
     where
-      from : (o : Option Row) → row_of (key.Block cidr) (readable texts.rows) ≡ o → Contains (by_read texts low_in) (6, key_bytes (key.Handle id))
+      from : (o : Option StoredRecord) → row_of (key.Block cidr) (readable texts.rows) ≡ o → Contains (by_read texts low_in) (6, key_bytes (key.Handle id))
       from None e = let none : held_count (read_store texts) id cidr ≡ 0 = ap (held_in_row id) e in absurd (omega arith)
       from (Some (revision, found)) e =
           let (b, is, own) = found-block cidr found (found-key (read_store texts) (key.Block cidr) revision found e) in
@@ -222,7 +222,7 @@ module _ (texts : Texts) where
   orphan_at cidr None = []
   orphan_at cidr (Some node) = cond (is_none (state_at (read_store texts) node cidr)) ((7, key_bytes (key.Block cidr)) ∷ []) []
 
-  orphan_in : Row → List Fault
+  orphan_in : StoredRecord → List Fault
   orphan_in (revision, record_of.Block b) = orphan_at b.cidr (node_at (read_store texts) b.cidr)
   orphan_in row = []
 
@@ -235,7 +235,7 @@ module _ (texts : Texts) where
       by None g h = one-faulty texts (7, key_bytes (key.Block cidr)) (NoAffinityFor cidr node (has-node (read_store texts) cidr node e) (λ state has. let at = state-has (read_store texts) node cidr state has in cc (at, g))) f h
       by (Some state) g h = absurd (in-nothing f h)
 
-  orphan-faulty : (row : Row) → Faulty texts (orphan_in row)
+  orphan-faulty : (row : StoredRecord) → Faulty texts (orphan_in row)
   unfolding orphan_in
   orphan-faulty (revision, record_of.Block b) f there = orphan-at-faulty b.cidr (node_at (read_store texts) b.cidr) refl f there
   orphan-faulty (revision, record_of.Config config) f there = absurd (in-nothing f there)
@@ -254,11 +254,11 @@ module _ (texts : Texts) where
       read-among texts orphan_in (revision, record_of.Block b) (7, key_bytes (key.Block cidr)) (found-member (key.Block cidr) (readable texts.rows) (revision, record_of.Block b) there)
       (subst (λ (x : CidrValue). Contains (orphan_at x (node_at (read_store texts) x)) (7, key_bytes (key.Block cidr))) (sym own) here)
 
-  alone_in : Row → List Fault
+  alone_in : StoredRecord → List Fault
   alone_in (revision, record_of.Affinity a) = cond (is_confirmed (state_at (read_store texts) a.node a.cidr) && not (is_node a.node (node_at (read_store texts) a.cidr))) ((8, key_bytes (key.Affinity a.node a.cidr)) ∷ []) []
   alone_in row = []
 
-  alone-faulty : (row : Row) → Faulty texts (alone_in row)
+  alone-faulty : (row : StoredRecord) → Faulty texts (alone_in row)
   unfolding alone_in
   alone-faulty (revision, record_of.Affinity a) f there = by (is_confirmed (state_at (read_store texts) a.node a.cidr)) refl (is_node a.node (node_at (read_store texts) a.cidr)) refl there
     where

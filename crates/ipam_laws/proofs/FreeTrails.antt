@@ -1,12 +1,12 @@
--- What is freed is rid of: by the trail that led there.
+-- What is block_without is rid of: by the trail that led there.
 use Rattle.std.proofs.Common.{◌≡◌, ◌≢◌, ℕ, zero, suc, List, [], ◌∷◌, not, Some, None, refl, sym, ap, ◌∙◌}
 use Rattle.std.specs.List.{count_by}
 use Rattle.ipam_addr.specs.Shape.{CidrValue}
 use Rattle.ipam_block.specs.declared.allocation.Allocation.{Allocation}
-use Rattle.ipam_block.specs.Operations.{freed, next_block}
+use Rattle.ipam_block.specs.Operations.{block_without, next_block}
 use Rattle.ipam_block.specs.Shape.{BlockValue}
 use Rattle.ipam_handle.specs.Shape as handle
-use Rattle.ipam_handle.specs.Operations.{lowered}
+use Rattle.ipam_handle.specs.Operations.{with_lowered_count}
 use Rattle.ipam_records.specs.declared.call.Call.{Call}
 use Rattle.ipam_records.specs.declared.call.Call.TheVariants.{Delete, Get, Update}
 use Rattle.ipam_records.specs.declared.key.Key.TheVariants as key
@@ -26,7 +26,7 @@ use Rattle.ipam_model.specs.Counting.{Freeing, credit_of, free, free_found, free
 use Rattle.ipam_model.specs.Credits.{key_written}
 use Rattle.ipam_model.specs.Named.{name_of}
 use Rattle.ipam_model.specs.Reads.{block_said, handle_said}
-use Rattle.ipam_model.specs.Step.{Part, after_write, followed, goes, left_of, onward, stops, tries}
+use Rattle.ipam_model.specs.Step.{Part, after_write, part_then, goes, left_of, onward, stops, tries}
 use Rattle.ipam_laws.proofs.ActParts.{IsCurrent, freeing_call, read-current}
 use Rattle.ipam_laws.proofs.Acts.{Later, Same, Since, since-since}
 use Rattle.ipam_laws.proofs.AddTrails.{Calm, Keeps, NoBlock, Undone}
@@ -34,7 +34,7 @@ use Rattle.ipam_laws.proofs.Losses.{full-creates}
 use Rattle.ipam_laws.proofs.Members.{in-filter}
 use Rattle.ipam_laws.proofs.Trails.{Comes, Comes-bound, Did, Trail}
 
--- behind the origin, nothing that is picked was in the block when it was read, or it was freed then
+-- behind the origin, nothing that is picked was in the block when it was read, or it was block_without then
 pub data Rid (what : Freeing) (origin : Trail) (amount : ℕ) (trail : Trail) : Type 0 where
   NoneThere : (moment : ℕ) (store : Datastore) (before : Trail) → Since (Did moment store (Get (key.Block what.block)) ∷ before) trail → Since origin before → amount ≡ 0
       → ((found : ℕ × BlockValue) → block_said (reply_of store (Get (key.Block what.block))) ≡ Some found → count_by what.picks found.1.allocations ≡ 0) → Rid what origin amount trail
@@ -84,7 +84,7 @@ pub idler-calmer : (origin trail : Trail) → Idler origin trail → Calmer orig
 idler-calmer origin trail Stays = Still
 idler-calmer origin trail (Goes moment store asked longer idle before) = Then moment store asked longer (idle-calm store asked idle) (idler-calmer origin longer before)
 
--- behind the origin nothing was freed, or one call freed so many
+-- behind the origin nothing was block_without, or one call block_without so many
 pub data FreeSteps (what : Freeing) (origin : Trail) (amount : ℕ) (trail : Trail) : Type 0 where
   NoSteps : amount ≡ 0 → Idler origin trail → FreeSteps what origin amount trail
   OneStep : (moment : ℕ) (store : Datastore) (before : Trail) (b : BlockValue) (old revision more : ℕ) → Idler origin before → Idler (Did moment store (freeing_call what b old) ∷ before) trail → amount ≡ suc more
@@ -134,7 +134,7 @@ unfolding LowerEnds IsRaceOrSpent
 lower-once credit origin again left h trail calm = λ moment store agrees second other agrees_then.
     let read = Get (key.Handle credit.handle) in
     let said = reply_of store read in
-    let less = lowered (handle_said credit.handle said) credit.block credit.amount in
+    let less = with_lowered_count (handle_said credit.handle said) credit.block credit.amount in
     let asked = lowering less (revision_said said) in
     let behind = Goes second other asked (Did moment store read ∷ trail) (lowering-idle other less less.counts (revision_said said)) (Goes moment store read trail (Elsewhere (λ cidr e. cc e)) calm) in
     after-change (λ t o. LowerEnds origin o t) (Did second other asked ∷ Did moment store read ∷ trail) (reply_of other asked) (λ revision. goes left tt) again (stops left NoRoom) (stops left NoRevisions)
@@ -153,7 +153,7 @@ FreedEnds what origin trail (Went left amount) = Rid what origin amount trail ×
 FreedEnds what origin trail (Stops left why) = IsRaceOrSpent why
 
 freeing-calm : (store : Datastore) (what : Freeing) (b : BlockValue) (old : ℕ) → IsCurrent store old b → Calm store (freeing_call what b old)
-freeing-calm store what b old current = Keeps b (freed what.picks (next_block b)) old refl (λ found there. current found there) refl (λ a there. (in-filter (λ (x : Allocation). not (what.picks x)) a b.allocations there).0)
+freeing-calm store what b old current = Keeps b (block_without what.picks (next_block b)) old refl (λ found there. current found there) refl (λ a there. (in-filter (λ (x : Allocation). not (what.picks x)) a b.allocations there).0)
 
 AgainFreed : Freeing → Trail → Part ℕ → Type 0
 AgainFreed what origin again = (trail : Trail) → Idler origin trail → Comes (FreedEnds what origin) trail again
@@ -173,13 +173,13 @@ free-some what origin again left moment store trail found (suc more) h calm e co
     let longer : Trail = Did second other asked ∷ Did moment store read ∷ trail in
     let read_there : Idler origin (Did moment store read ∷ trail) = Goes moment store read trail (Elsewhere (λ cidr f. cc f)) calm in
     let behind : Calmer origin longer = Then second other asked (Did moment store read ∷ trail) (freeing-calm other what found.1 found.0 current) (idler-calmer origin (Did moment store read ∷ trail) read_there) in
-    after-change (FreedEnds what origin) longer (reply_of other asked) (λ taken. followed (lower (credit_of what.handle what.block (suc more)) left) (λ now done. goes now (suc more))) again (stops left NoRoom) (stops left NoRevisions)
-    (update-room other (record_of.Block (freed what.picks (next_block found.1))) found.0)
+    after-change (FreedEnds what origin) longer (reply_of other asked) (λ taken. part_then (lower (credit_of what.handle what.block (suc more)) left) (λ now done. goes now (suc more))) again (stops left NoRoom) (stops left NoRevisions)
+    (update-room other (record_of.Block (block_without what.picks (next_block found.1))) found.0)
     (λ revision done. lowers longer behind (Freed second other (Did moment store read ∷ trail) found.1 found.0 revision more Same (Later (Did moment store read) trail (calmer-since origin trail (idler-calmer origin trail calm))) refl done current same count)
     (λ further k. OneStep second other (Did moment store read ∷ trail) found.1 found.0 revision more read_there k refl done current same count))
     (λ not. h longer (Goes second other asked (Did moment store read ∷ trail) (NotDone not) read_there)) tt
   where
-    lowers : (longer : Trail) → Calmer origin longer → Rid what origin (suc more) longer → ((further : Trail) → Idler longer further → FreeSteps what origin (suc more) further) → Comes (FreedEnds what origin) longer (followed (lower (credit_of what.handle what.block (suc more)) left) (λ now done. goes now (suc more)))
+    lowers : (longer : Trail) → Calmer origin longer → Rid what origin (suc more) longer → ((further : Trail) → Idler longer further → FreeSteps what origin (suc more) further) → Comes (FreedEnds what origin) longer (part_then (lower (credit_of what.handle what.block (suc more)) left) (λ now done. goes now (suc more)))
     lowers longer behind rid steps =
         Comes-bound (λ t o. LowerEnds longer o t) (FreedEnds what origin) (onward (λ now done. goes now (suc more))) (lower (credit_of what.handle what.block (suc more)) left) longer
         (lower-tries (credit_of what.handle what.block (suc more)) longer left.races left.claims longer Stays) ends

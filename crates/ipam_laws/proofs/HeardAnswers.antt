@@ -40,7 +40,7 @@ pub record DidChange (request : Setting) (revision : ℕ) (trail : Trail) : Type
   pub before : Trail
   pub new : Record
   pub is : trail ≡ Did later other (write_back (reply_of store (Get (change.key_changed request))) new) ∷ Did moment store (Get (change.key_changed request)) ∷ before
-  pub becomes : change.changed request (reply_of store (Get (change.key_changed request))) ≡ change.Becomes new
+  pub becomes : change.admin_change request (reply_of store (Get (change.key_changed request))) ≡ change.Becomes new
   pub done : reply_of other (write_back (reply_of store (Get (change.key_changed request))) new) ≡ Can revision
 
 -- what was read last is refused
@@ -49,7 +49,7 @@ pub record DidRefuse (request : Setting) (number : ℕ) (name : List ℕ) (trail
   pub store : Datastore
   pub before : Trail
   pub is : trail ≡ Did moment store (Get (change.key_changed request)) ∷ before
-  pub refuses : change.changed request (reply_of store (Get (change.key_changed request))) ≡ change.Refuses number name
+  pub refuses : change.admin_change request (reply_of store (Get (change.key_changed request))) ≡ change.Refuses number name
 
 unfoldable pub IsChange : Setting → Trail → AdminAnswer → Type 0
 IsChange request trail (admin.Done revision) = DidChange request revision trail
@@ -64,9 +64,9 @@ ChangeEnds request trail (Stops left why) = Unit {0}
 
 change-once : (request : Setting) (again : Part AdminAnswer) (left : Left) → ((trail : Trail) → Comes (ChangeEnds request) trail again) → (trail : Trail) → Comes (ChangeEnds request) trail (change.admin_once request again left)
 unfolding ChangeEnds IsChange
-change-once request again left h trail = λ moment store agrees. by moment store (change.changed request (reply_of store (Get (change.key_changed request)))) refl
+change-once request again left h trail = λ moment store agrees. by moment store (change.admin_change request (reply_of store (Get (change.key_changed request)))) refl
   where
-    by : (moment : ℕ) (store : Datastore) (what : change.Changed) → change.changed request (reply_of store (Get (change.key_changed request))) ≡ what
+    by : (moment : ℕ) (store : Datastore) (what : change.Changed) → change.admin_change request (reply_of store (Get (change.key_changed request))) ≡ what
         → Comes (ChangeEnds request) (Did moment store (Get (change.key_changed request)) ∷ trail) (change.admin_write again left (reply_of store (Get (change.key_changed request))) what)
     by moment store (change.Refuses number name) e = record { moment = moment; store = store; before = trail; is = refl; refuses = e }
     by moment store (change.Becomes new) e = λ later other agrees.

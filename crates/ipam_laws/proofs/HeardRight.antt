@@ -25,7 +25,7 @@ use Rattle.ipam_model.specs.Affinities.{affinity, baring, release}
 use Rattle.ipam_model.specs.Answered.{Answered, earlier_calls, history_of, now_of, span_of}
 use Rattle.ipam_model.specs.Cluster.{record_written, store_with}
 use Rattle.ipam_model.specs.Consistent.{IsConsistent}
-use Rattle.ipam_model.specs.History.{Heard, InSpan, Lawful, now, seen_at, seen_now}
+use Rattle.ipam_model.specs.History.{HeardCall, InSpan, Lawful, now, seen_at, seen_now}
 use Rattle.ipam_model.specs.Moments.{IsNext}
 use Rattle.ipam_model.specs.Named.{told_of}
 use Rattle.ipam_model.specs.OtherLaws.{HasNoAffinity, IsDone, IsRefused, IsReleased}
@@ -91,7 +91,7 @@ change-refused a setting number name trail is d =
     let at = latest-now a d.moment d.store (Get (key_changed setting)) d.before there in
     record {
       found = reply_of d.store (Get (key_changed setting));
-      read = subst (λ (m : ℕ). Heard (span_of a) m (Get (key_changed setting)) (reply_of d.store (Get (key_changed setting)))) at (heard (span_of a) d.moment d.store (Get (key_changed setting)) there.0);
+      read = subst (λ (m : ℕ). HeardCall (span_of a) m (Get (key_changed setting)) (reply_of d.store (Get (key_changed setting)))) at (heard (span_of a) d.moment d.store (Get (key_changed setting)) there.0);
       refuses = d.refuses;
     }
 
@@ -171,7 +171,7 @@ release-missed : (a : Answered) (node : List ℕ) (cidr : CidrValue) (moment : �
 unfolding IsTrail
 release-missed a node cidr moment trail is d =
     let there = subst (λ (t : Trail). IsTrail (span_of a) (now (span_of a)) t) d.is is in
-    subst (λ (said : Said). Heard (span_of a) moment (Get (key.Affinity node cidr)) said) (by (row_of (key.Affinity node cidr) d.store.rows) refl d.none) (heard (span_of a) moment d.store (Get (key.Affinity node cidr)) there.0)
+    subst (λ (said : Said). HeardCall (span_of a) moment (Get (key.Affinity node cidr)) said) (by (row_of (key.Affinity node cidr) d.store.rows) refl d.none) (heard (span_of a) moment d.store (Get (key.Affinity node cidr)) there.0)
   where
     by : (o : Option (ℕ × Record)) → row_of (key.Affinity node cidr) d.store.rows ≡ o → affinity_said (reply_to_get o) ≡ None → reply_to_get o ≡ Missing
     by None e none = refl

@@ -1,27 +1,27 @@
 -- What holds of each request with its word, and with what is left of it, holds in each slot of a history.
 use Rattle.std.proofs.Common.{◌≡◌, ℕ, List, [], ◌∷◌, Option, Some, None, subst}
 use Rattle.ipam_records.specs.Datastore.{Datastore}
-use Rattle.ipam_records.specs.Word.{Word, fed}
+use Rattle.ipam_records.specs.Word.{Word, after_feed}
 use Rattle.ipam_model.specs.declared.answer.Answer.{Answer}
 use Rattle.ipam_model.specs.declared.entry.Entry.{Entry}
 use Rattle.ipam_model.specs.declared.entry.Entry.TheVariants as entry
 use Rattle.ipam_model.specs.declared.request.Request.{Request}
-use Rattle.ipam_model.specs.Cluster.{Running, after, answered, begun, fed_with, goes_on}
+use Rattle.ipam_model.specs.Cluster.{Running, after, word_after_reply, fresh_run, run_after_feed, goes_on}
 use Rattle.ipam_model.specs.History.{Base, cluster_at}
 use Rattle.ipam_model.specs.Requests.{word_of}
 use Rattle.ipam_laws.proofs.KeptWords.{slot-is}
 
 pub record IsKeptOf (P : Request → Word Answer → Type 0) : Type 0 where
   pub begins : (request : Request) → P request (word_of request)
-  pub hears : (request : Request) (store : Datastore) (moment : ℕ) (word : Word Answer) → P request word → P request (answered store moment word)
-  pub is_fed : (request : Request) (live : List (List ℕ)) (word : Word Answer) → P request word → P request (fed word live)
+  pub hears : (request : Request) (store : Datastore) (moment : ℕ) (word : Word Answer) → P request word → P request (word_after_reply store moment word)
+  pub is_fed : (request : Request) (live : List (List ℕ)) (word : Word Answer) → P request word → P request (after_feed word live)
 
 module _ (P : Request → Word Answer → Type 0) (kept : IsKeptOf P) where
   abbrev OfSlot : Option Running → Type 0
   OfSlot None = Unit {0}
   OfSlot (Some running) = P running.request running.word
 
-  fed-slot : (live : List (List ℕ)) (o : Option Running) → OfSlot o → OfSlot (fed_with live o)
+  fed-slot : (live : List (List ℕ)) (o : Option Running) → OfSlot o → OfSlot (run_after_feed live o)
   fed-slot live None h = tt
   fed-slot live (Some running) h = kept.is_fed running.request live running.word h
 
@@ -34,10 +34,10 @@ module _ (P : Request → Word Answer → Type 0) (kept : IsKeptOf P) where
   unfolding cluster_at after
   slots-kept base [] slot = tt
   slots-kept base (entry.Began other request ∷ history) slot =
-      slot-is OfSlot other slot (begun request) (cluster_at base history).slots
+      slot-is OfSlot other slot (fresh_run request) (cluster_at base history).slots
       (λ own. kept.begins request) (λ differ. slots-kept base history slot)
   slots-kept base (entry.Fed other at live ∷ history) slot =
-      slot-is OfSlot other slot (fed_with live ((cluster_at base history).slots other)) (cluster_at base history).slots
+      slot-is OfSlot other slot (run_after_feed live ((cluster_at base history).slots other)) (cluster_at base history).slots
       (λ own. fed-slot live ((cluster_at base history).slots other) (slots-kept base history other))
       (λ differ. slots-kept base history slot)
   slots-kept base (entry.Stopped other ∷ history) slot =

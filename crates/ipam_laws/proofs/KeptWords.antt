@@ -3,12 +3,12 @@ use Rattle.std.proofs.Common.{◌≡◌, ◌≢◌, ℕ, Bool, true, false, cond
 use Rattle.std.proofs.lemmas.Bool.{eqb-false}
 use Rattle.std.specs.Prelude.{◌==◌}
 use Rattle.ipam_records.specs.Datastore.{Datastore}
-use Rattle.ipam_records.specs.Word.{Word, fed}
+use Rattle.ipam_records.specs.Word.{Word, after_feed}
 use Rattle.ipam_model.specs.declared.answer.Answer.{Answer}
 use Rattle.ipam_model.specs.declared.entry.Entry.{Entry}
 use Rattle.ipam_model.specs.declared.entry.Entry.TheVariants as entry
 use Rattle.ipam_model.specs.declared.request.Request.{Request}
-use Rattle.ipam_model.specs.Cluster.{Running, Slots, after, answered, begun, fed_with, goes_on, with_slot}
+use Rattle.ipam_model.specs.Cluster.{Running, Slots, after, word_after_reply, fresh_run, run_after_feed, goes_on, with_slot}
 use Rattle.ipam_model.specs.History.{Base, cluster_at}
 use Rattle.ipam_model.specs.Requests.{word_of}
 
@@ -42,14 +42,14 @@ slot-is P changed slot running slots own other = from (slot == changed) refl
 
 pub record IsKept (P : Word Answer → Type 0) : Type 0 where
   pub begins : (request : Request) → P (word_of request)
-  pub hears : (store : Datastore) (moment : ℕ) (word : Word Answer) → P word → P (answered store moment word)
-  pub is_fed : (live : List (List ℕ)) (word : Word Answer) → P word → P (fed word live)
+  pub hears : (store : Datastore) (moment : ℕ) (word : Word Answer) → P word → P (word_after_reply store moment word)
+  pub is_fed : (live : List (List ℕ)) (word : Word Answer) → P word → P (after_feed word live)
 
 abbrev OfSlot : (Word Answer → Type 0) → Option Running → Type 0
 OfSlot P None = Unit {0}
 OfSlot P (Some running) = P running.word
 
-fed-slot : (P : Word Answer → Type 0) → IsKept P → (live : List (List ℕ)) (o : Option Running) → OfSlot P o → OfSlot P (fed_with live o)
+fed-slot : (P : Word Answer → Type 0) → IsKept P → (live : List (List ℕ)) (o : Option Running) → OfSlot P o → OfSlot P (run_after_feed live o)
 fed-slot P kept live None h = tt
 fed-slot P kept live (Some running) h = kept.is_fed live running.word h
 
@@ -62,10 +62,10 @@ slots-kept : (P : Word Answer → Type 0) → IsKept P → (base : Base) (histor
 unfolding cluster_at after
 slots-kept P kept base [] slot = tt
 slots-kept P kept base (entry.Began other request ∷ history) slot =
-    slot-is (OfSlot P) other slot (begun request) (cluster_at base history).slots
+    slot-is (OfSlot P) other slot (fresh_run request) (cluster_at base history).slots
     (λ own. kept.begins request) (λ differ. slots-kept P kept base history slot)
 slots-kept P kept base (entry.Fed other at live ∷ history) slot =
-    slot-is (OfSlot P) other slot (fed_with live ((cluster_at base history).slots other)) (cluster_at base history).slots
+    slot-is (OfSlot P) other slot (run_after_feed live ((cluster_at base history).slots other)) (cluster_at base history).slots
     (λ own. fed-slot P kept live ((cluster_at base history).slots other) (slots-kept P kept base history other))
     (λ differ. slots-kept P kept base history slot)
 slots-kept P kept base (entry.Stopped other ∷ history) slot =

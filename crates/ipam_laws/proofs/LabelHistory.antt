@@ -2,7 +2,7 @@
 use Rattle.std.proofs.Common.{◌≡◌, ℕ, ◌-◌, Bool, true, false, List, [], ◌∷◌, Option, Some, None, refl, sym, ap, ◌∙◌, subst}
 use Rattle.std.specs.Prelude.{◌||◌, IsTrue, option_map}
 use Rattle.ipam_records.specs.Sound.{IsDatastore}
-use Rattle.ipam_records.specs.Word.{Word, Ends, Asks, Waits, ended, fed, label_of, waits}
+use Rattle.ipam_records.specs.Word.{Word, Ends, Asks, Waits, answer_in, after_feed, label_of, waits}
 use Rattle.ipam_records.specs.Datastore.{reply_of}
 use Rattle.ipam_model.specs.declared.answer.Answer.{Answer}
 use Rattle.ipam_model.specs.declared.entry.Called.{Called}
@@ -14,10 +14,10 @@ use Rattle.ipam_model.specs.declared.request.Request.{Request}
 use Rattle.ipam_model.specs.declared.request.Request.TheVariants.{Add, AddThis, Del, Check, Release, Collect, Admin, Probe}
 use Rattle.ipam_model.specs.Add.{add_each, add_stops}
 use Rattle.ipam_model.specs.Look.{probe_each}
-use Rattle.ipam_model.specs.Step.{all_left, rounds, settled, tries}
+use Rattle.ipam_model.specs.Step.{all_left, rounds, as_word, tries}
 use Rattle.ipam_model.specs.Told.{of_add, of_probe}
 use Rattle.ipam_model.specs.Usable.{families_if}
-use Rattle.ipam_model.specs.Cluster.{Running, after, answered, begun, fed_with, goes_on}
+use Rattle.ipam_model.specs.Cluster.{Running, after, word_after_reply, fresh_run, run_after_feed, goes_on}
 use Rattle.ipam_model.specs.History.{Base, Lawful, MayCall, Span, before, cluster_at, moment_of, now, store_at}
 use Rattle.ipam_model.specs.LabelLaw.{LabelsLaw}
 use Rattle.ipam_model.specs.Moments.{request_in}
@@ -35,7 +35,7 @@ use Rattle.ipam_laws.proofs.KeptWords.{slot-is}
 -- ---- what runs has a call to make, or waits
 
 abbrev pub IsOn : Word Answer → Type 0
-IsOn word = ended word ≡ None
+IsOn word = answer_in word ≡ None
 
 -- ---- the stores of a trail are sound
 
@@ -68,13 +68,13 @@ word-tells request trail (Ends answer) on h = absurd (cc on)
 word-tells request trail (Asks label asked next) on h = h.0
 word-tells request trail (Waits next) on h = h.0
 
--- ---- nothing that has ended runs
+-- ---- nothing that has answer_in runs
 
 families-on : (request : AddRequest) → IsTrue (request.ipv4 || request.ipv6) → IsOn (word_of (Add request))
 unfolding word_of add_each rounds
 families-on request some = by request.ipv4 request.ipv6 some
   where
-    by : (four six : Bool) → IsTrue (four || six) → ended (told_as of_add (settled add_stops (add_each request [] (families_if four six) all_left))) ≡ None
+    by : (four six : Bool) → IsTrue (four || six) → answer_in (told_as of_add (as_word add_stops (add_each request [] (families_if four six) all_left))) ≡ None
     by true true t = refl
     by true false t = refl
     by false true t = refl
@@ -84,7 +84,7 @@ probe-on : (request : ProbeRequest) → IsTrue (request.ipv4 || request.ipv6) �
 unfolding word_of probe_each
 probe-on request some = by request.ipv4 request.ipv6 some
   where
-    by : (four six : Bool) → IsTrue (four || six) → ended (told_as of_probe (probe_each request [] (families_if four six))) ≡ None
+    by : (four six : Bool) → IsTrue (four || six) → answer_in (told_as of_probe (probe_each request [] (families_if four six))) ≡ None
     by true true t = refl
     by true false t = refl
     by false true t = refl
@@ -101,7 +101,7 @@ begun-on (Collect request) sound = refl
 begun-on (Admin setting) sound = refl
 begun-on (Probe request) sound = probe-on request sound.some_family
 
--- ---- what runs has not ended
+-- ---- what runs has not answer_in
 
 abbrev pub SlotIsOn : Option Running → Type 0
 SlotIsOn None = Unit {0}
@@ -120,7 +120,7 @@ run-says base history sound h slot running runs = subst (λ (o : Option Running)
 says-of : (base : Base) (history : List Entry) → IsDatastore base.store → Lawful base history → (slot : ℕ) (running : Running) → (run : RunComes LeftSays all-says base history slot running) → Says running.request Any run.trail running.word
 says-of base history sound h slot running run = run.comes (trail-sound (span_at base history slot) sound h run.trail (moment_of base history) run.is_trail)
 
-fed-on : (request : Request) (trail : Trail) (word : Word Answer) (live : List (List ℕ)) → IsTrue (waits word) → Says request Any trail word → IsOn (fed word live)
+fed-on : (request : Request) (trail : Trail) (word : Word Answer) (live : List (List ℕ)) → IsTrue (waits word) → Says request Any trail word → IsOn (after_feed word live)
 fed-on request trail (Ends answer) live t h = absurd (cc t)
 fed-on request trail (Asks label asked next) live t h = absurd (cc t)
 fed-on request trail (Waits next) live t h = (h.1 0 0 live).0
@@ -131,24 +131,24 @@ called-on base history c may None is =
     let store = store_at base history in
     let moment = (cluster_at base history).entries in
     let shape = made c store moment may.running.word may.is_called in
-    let answer = ended (shape.next moment (reply_of store shape.asked)) in
+    let answer = answer_in (shape.next moment (reply_of store shape.asked)) in
     let fate = goes-well c.fate c.slot shape.asked (reply_of store shape.asked) answer c shape.is_call is in
     let done = well c store shape.asked answer shape.is_call fate in
-    let word : answered store moment may.running.word ≡ shape.next moment (reply_of store shape.asked) = ap (λ (w : Word Answer). answered store moment w) shape.is_word in
-    let on : IsOn (answered store moment may.running.word) = ap ended word ∙ (sym done.answers ∙ is) in
+    let word : word_after_reply store moment may.running.word ≡ shape.next moment (reply_of store shape.asked) = ap (λ (w : Word Answer). word_after_reply store moment w) shape.is_word in
+    let on : IsOn (word_after_reply store moment may.running.word) = ap answer_in word ∙ (sym done.answers ∙ is) in
     subst (λ (o : Option Running). SlotIsOn (goes_on store moment None o)) (sym may.runs) on
 
 slots-on : (base : Base) (history : List Entry) → IsDatastore base.store → Lawful base history → (slot : ℕ) → SlotIsOn ((cluster_at base history).slots slot)
 unfolding Lawful cluster_at after
 slots-on base [] sound h slot = tt
 slots-on base (entry.Began other request ∷ history) sound h slot =
-    slot-is SlotIsOn other slot (begun request) (cluster_at base history).slots (λ own. begun-on request h.1.sound) (λ differ. slots-on base history sound h.0 slot)
+    slot-is SlotIsOn other slot (fresh_run request) (cluster_at base history).slots (λ own. begun-on request h.1.sound) (λ differ. slots-on base history sound h.0 slot)
 slots-on base (entry.Fed other at live ∷ history) sound h slot =
     let may = h.1 in
     let run = run-says base history sound h.0 other may.running may.runs in
     let on = fed-on may.running.request run.trail may.running.word live may.waiting (says-of base history sound h.0 other may.running run) in
-    slot-is SlotIsOn other slot (fed_with live ((cluster_at base history).slots other)) (cluster_at base history).slots
-    (λ own. subst (λ (o : Option Running). SlotIsOn (fed_with live o)) (sym may.runs) on) (λ differ. slots-on base history sound h.0 slot)
+    slot-is SlotIsOn other slot (run_after_feed live ((cluster_at base history).slots other)) (cluster_at base history).slots
+    (λ own. subst (λ (o : Option Running). SlotIsOn (run_after_feed live o)) (sym may.runs) on) (λ differ. slots-on base history sound h.0 slot)
 slots-on base (entry.Stopped other ∷ history) sound h slot =
     slot-is SlotIsOn other slot None (cluster_at base history).slots (λ own. tt) (λ differ. slots-on base history sound h.0 slot)
 slots-on base (entry.Called c ∷ history) sound h slot =

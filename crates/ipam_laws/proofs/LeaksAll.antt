@@ -13,12 +13,12 @@ use Rattle.ipam_block.specs.declared.allocation.Allocation.{Allocation}
 use Rattle.ipam_records.specs.declared.key.Kind.TheVariants as kind
 use Rattle.ipam_records.specs.declared.record.Record.{Record}
 use Rattle.ipam_records.specs.declared.record.Record.TheVariants as record_of
-use Rattle.ipam_records.specs.Datastore.{Datastore, listed, row_key}
+use Rattle.ipam_records.specs.Datastore.{Datastore, rows_of_kind, row_key}
 use Rattle.ipam_records.specs.KeyOrder.{is_of_kind}
 use Rattle.ipam_model.specs.declared.request.CollectRequest.{CollectRequest}
 use Rattle.ipam_model.specs.Moments.{Owns, Recorded}
 use Rattle.ipam_model.specs.Owners.{Owner, is_owner_in, owner_of, owners, owners_in, owners_in_row, same_owner}
-use Rattle.ipam_model.specs.Reads.{Row}
+use Rattle.ipam_model.specs.Reads.{StoredRecord}
 use Rattle.ipam_model.specs.Remove.{Leak, is_in_scope, is_live, leak_of, leaks, leaks_in_row, may_leak, suspects}
 use Rattle.ipam_laws.proofs.CollectTrails.{owner_at}
 use Rattle.ipam_laws.proofs.CountLemmas.{same_text}
@@ -52,14 +52,14 @@ own-family V6 = refl
 pub own-owner : (o : Owner) → same_owner o o ≡ true
 own-owner o = both-true (both-true (both-true (own-family o.address.family) (own-number o.address.number)) (same_text o.handle)) (own-number o.stamp)
 
--- ---- each owner is listed
+-- ---- each owner is rows_of_kind
 
--- who owns is an owner in the blocks that are listed
-owns-listed : (store : Datastore) (o : Owner) → Owns store o → is_owner_in (listed kind.Block store) o ≡ true
+-- who owns is an owner in the blocks that are rows_of_kind
+owns-listed : (store : Datastore) (o : Owner) → Owns store o → is_owner_in (rows_of_kind kind.Block store) o ≡ true
 owns-listed store o owns =
     let (row, among, own) = owner-row store.rows o owns in
-    any-from (same_owner o) (owners_in (listed kind.Block store)) o
-    (row-owner (listed kind.Block store) row o (filter-in (λ (r : Row). is_of_kind kind.Block (row_key r)) row store.rows among (of-block row.0 row.1 own)) own) (own-owner o)
+    any-from (same_owner o) (owners_in (rows_of_kind kind.Block store)) o
+    (row-owner (rows_of_kind kind.Block store) row o (filter-in (λ (r : StoredRecord). is_of_kind kind.Block (row_key r)) row store.rows among (of-block row.0 row.1 own)) own) (own-owner o)
   where
     of-block : (revision : ℕ) (found : Record) → Contains (owners_in_row (revision, found)) o → is_of_kind kind.Block (row_key (revision, found)) ≡ true
     of-block revision (record_of.Block b) own = refl
@@ -69,10 +69,10 @@ owns-listed store o owns =
     of-block revision (record_of.Affinity a) own = absurd (in-nothing o own)
     of-block revision (record_of.Handle handle) own = absurd (in-nothing o own)
 
-row-suspect : (collect : CollectRequest) (rows : List Row) (row : Row) (leak : Leak) → Contains rows row → Contains (leaks_in_row collect row) leak → Contains (suspects collect rows) leak
+row-suspect : (collect : CollectRequest) (rows : List StoredRecord) (row : StoredRecord) (leak : Leak) → Contains rows row → Contains (leaks_in_row collect row) leak → Contains (suspects collect rows) leak
 row-suspect collect [] row leak among own = absurd (in-nothing row among)
 row-suspect collect (first ∷ rows) row leak among own = elim (in-cons row first rows among) [
-  | inl same ↦ Contains-append_left (leaks_in_row collect first) (suspects collect rows) leak (subst (λ (r : Row). Contains (leaks_in_row collect r) leak) (sym same) own)
+  | inl same ↦ Contains-append_left (leaks_in_row collect first) (suspects collect rows) leak (subst (λ (r : StoredRecord). Contains (leaks_in_row collect r) leak) (sym same) own)
   | inr rest ↦ Contains-append_right (leaks_in_row collect first) (suspects collect rows) leak (row-suspect collect rows row leak rest own)
 ]
 
@@ -82,7 +82,7 @@ not-live false e = refl
 
 -- who was recorded in scope, owns still, and is in neither list of live handles is found
 pub leak-found : (first second : Datastore) (collect : CollectRequest) (live : List (List ℕ)) (o : Owner) (a : Allocation) → Recorded first o a → IsTrue (is_in_scope collect.scope a) → Owns second o → is_live collect.live o.handle ≡ false → is_live live o.handle ≡ false
-    → Contains (map owner_at (leaks (suspects collect (listed kind.Block first)) live (listed kind.Block second))) o
+    → Contains (map owner_at (leaks (suspects collect (rows_of_kind kind.Block first)) live (rows_of_kind kind.Block second))) o
 leak-found first second collect live o a recorded scope owns dead still =
     subst (λ (x : Owner). Contains (map owner_at whole) x) (sym recorded.is_owner) (in-map owner_at leak whole found)
   where
@@ -90,12 +90,12 @@ leak-found first second collect live o a recorded scope owns dead still =
     leak = leak_of recorded.holding.cidr a
 
     kept : List Leak
-    kept = suspects collect (listed kind.Block first)
+    kept = suspects collect (rows_of_kind kind.Block first)
 
     whole : List Leak
-    whole = leaks kept live (listed kind.Block second)
+    whole = leaks kept live (rows_of_kind kind.Block second)
 
-    row : Row
+    row : StoredRecord
     row = (recorded.revision, record_of.Block recorded.holding)
 
     dead-there : not (is_live collect.live a.attributes.handle) ≡ true
@@ -103,7 +103,7 @@ leak-found first second collect live o a recorded scope owns dead still =
 
     among : Contains kept leak
     among =
-        row-suspect collect (listed kind.Block first) row leak (filter-in (λ (r : Row). is_of_kind kind.Block (row_key r)) row first.rows recorded.in_rows refl)
+        row-suspect collect (rows_of_kind kind.Block first) row leak (filter-in (λ (r : StoredRecord). is_of_kind kind.Block (row_key r)) row first.rows recorded.in_rows refl)
         (in-map (leak_of recorded.holding.cidr) a (filter (may_leak collect) recorded.holding.allocations) (filter-in (may_leak collect) a recorded.holding.allocations recorded.held (both-true scope dead-there)))
 
     owns-there : Owns second leak.owner
@@ -113,7 +113,7 @@ leak-found first second collect live o a recorded scope owns dead still =
     still-there = not-live (is_live live leak.owner.handle) (ap (λ (x : Owner). is_live live x.handle) (sym recorded.is_owner) ∙ still)
 
     found : Contains whole leak
-    found = filter-in (λ (x : Leak). is_owner_in (listed kind.Block second) x.owner && not (is_live live x.owner.handle)) leak kept among (both-true (owns-listed second leak.owner owns-there) still-there)
+    found = filter-in (λ (x : Leak). is_owner_in (rows_of_kind kind.Block second) x.owner && not (is_live live x.owner.handle)) leak kept among (both-true (owns-listed second leak.owner owns-there) still-there)
 
 -- ---- the order
 
@@ -180,7 +180,7 @@ row-thins collect revision (record_of.Reservations reservations) = Nothing
 row-thins collect revision (record_of.Affinity a) = Nothing
 row-thins collect revision (record_of.Handle handle) = Nothing
 
-suspects-thin : (collect : CollectRequest) (rows : List Row) → Thins (map owner_at (suspects collect (filter (λ (r : Row). is_of_kind kind.Block (row_key r)) rows))) (owners_in rows)
+suspects-thin : (collect : CollectRequest) (rows : List StoredRecord) → Thins (map owner_at (suspects collect (filter (λ (r : StoredRecord). is_of_kind kind.Block (row_key r)) rows))) (owners_in rows)
 suspects-thin collect [] = Nothing
 suspects-thin collect (row ∷ rows) = elim (cases_Bool (is_of_kind kind.Block (row_key row))) [
   | inl is ↦ rw is (subst (λ (l : List Owner). Thins l (owners_in_row row ++ owners_in rows)) (sym (map-append (leaks_in_row collect row) rest))
@@ -189,12 +189,12 @@ suspects-thin collect (row ∷ rows) = elim (cases_Bool (is_of_kind kind.Block (
 ]
   where
     rest : List Leak
-    rest = suspects collect (filter (λ (r : Row). is_of_kind kind.Block (row_key r)) rows)
+    rest = suspects collect (filter (λ (r : StoredRecord). is_of_kind kind.Block (row_key r)) rows)
 
 -- what is found has the order of the owners
-pub leaks-order : (R : Owner → Owner → Type 0) (first second : Datastore) (collect : CollectRequest) (live : List (List ℕ)) → AllPairs R (owners first) → AllPairs R (map owner_at (leaks (suspects collect (listed kind.Block first)) live (listed kind.Block second)))
+pub leaks-order : (R : Owner → Owner → Type 0) (first second : Datastore) (collect : CollectRequest) (live : List (List ℕ)) → AllPairs R (owners first) → AllPairs R (map owner_at (leaks (suspects collect (rows_of_kind kind.Block first)) live (rows_of_kind kind.Block second)))
 leaks-order R first second collect live h =
-    let kept = suspects collect (listed kind.Block first) in
-    let whole = leaks kept live (listed kind.Block second) in
+    let kept = suspects collect (rows_of_kind kind.Block first) in
+    let whole = leaks kept live (rows_of_kind kind.Block second) in
     thins-pairs R (map owner_at whole) (owners first)
-    (thins-thins (map owner_at whole) (map owner_at kept) (owners first) (thins-filter owner_at (λ (x : Leak). is_owner_in (listed kind.Block second) x.owner && not (is_live live x.owner.handle)) kept) (suspects-thin collect first.rows)) h
+    (thins-thins (map owner_at whole) (map owner_at kept) (owners first) (thins-filter owner_at (λ (x : Leak). is_owner_in (rows_of_kind kind.Block second) x.owner && not (is_live live x.owner.handle)) kept) (suspects-thin collect first.rows)) h

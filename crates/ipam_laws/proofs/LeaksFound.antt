@@ -11,12 +11,12 @@ use Rattle.ipam_block.specs.Shape.{BlockValue}
 use Rattle.ipam_records.specs.declared.key.Kind.TheVariants as kind
 use Rattle.ipam_records.specs.declared.record.Record.{Record}
 use Rattle.ipam_records.specs.declared.record.Record.TheVariants as record_of
-use Rattle.ipam_records.specs.Datastore.{Datastore, listed, row_key}
+use Rattle.ipam_records.specs.Datastore.{Datastore, rows_of_kind, row_key}
 use Rattle.ipam_records.specs.KeyOrder.{is_of_kind}
 use Rattle.ipam_model.specs.declared.request.CollectRequest.{CollectRequest}
 use Rattle.ipam_model.specs.Moments.{Owns, Recorded}
 use Rattle.ipam_model.specs.Owners.{Owner, is_owner_in, owners_in, same_address, same_owner}
-use Rattle.ipam_model.specs.Reads.{Row}
+use Rattle.ipam_model.specs.Reads.{StoredRecord}
 use Rattle.ipam_model.specs.Remove.{Leak, is_in_scope, is_live, leak_of, leaks, leaks_in_row, may_leak, suspects}
 use Rattle.ipam_laws.proofs.CountLemmas.{text_cases}
 use Rattle.ipam_laws.proofs.Members.{in-filter, in-here, in-nothing, in-there, out-map}
@@ -60,14 +60,14 @@ any-in test (x ∷ list) e = elim (cases_Bool (test x)) [
       (y, in-there y x list among, is)
 ]
 
--- ---- owners that are listed
+-- ---- owners that are rows_of_kind
 
--- who is an owner in the blocks that are listed owns
-pub listed-owns : (store : Datastore) (owner : Owner) → is_owner_in (listed kind.Block store) owner ≡ true → Owns store owner
+-- who is an owner in the blocks that are rows_of_kind owns
+pub listed-owns : (store : Datastore) (owner : Owner) → is_owner_in (rows_of_kind kind.Block store) owner ≡ true → Owns store owner
 listed-owns store owner e =
-    let (found, among, same) = any-in (same_owner owner) (owners_in (listed kind.Block store)) e in
-    let (row, in_list, own) = owner-row (listed kind.Block store) found among in
-    let in_rows = (in-filter (λ (r : Row). is_of_kind kind.Block (row_key r)) row store.rows in_list).0 in
+    let (found, among, same) = any-in (same_owner owner) (owners_in (rows_of_kind kind.Block store)) e in
+    let (row, in_list, own) = owner-row (rows_of_kind kind.Block store) found among in
+    let in_rows = (in-filter (λ (r : StoredRecord). is_of_kind kind.Block (row_key r)) row store.rows in_list).0 in
     subst (λ (o : Owner). Owns store o) (sym (same-owner-is owner found same)) (row-owner store.rows row found in_rows own)
 
 -- ---- suspects
@@ -84,7 +84,7 @@ pub record IsSuspect (store : Datastore) (collect : CollectRequest) (leak : Leak
   pub not_live : is_live collect.live leak.owner.handle ≡ false
   pub is : leak ≡ leak_of holding.cidr a
 
-suspect-row : (collect : CollectRequest) (rows : List Row) (leak : Leak) → Contains (suspects collect rows) leak → (row : Row) × Contains rows row × Contains (leaks_in_row collect row) leak
+suspect-row : (collect : CollectRequest) (rows : List StoredRecord) (leak : Leak) → Contains (suspects collect rows) leak → (row : StoredRecord) × Contains rows row × Contains (leaks_in_row collect row) leak
 suspect-row collect [] leak h = absurd (in-nothing leak h)
 suspect-row collect (row ∷ rows) leak h = elim (Contains-append_cases (leaks_in_row collect row) (suspects collect rows) leak h) [
   | inl own ↦ (row, in-here row rows, own)
@@ -113,10 +113,10 @@ suspect-in store collect leak revision (record_of.Reservations reservations) amo
 suspect-in store collect leak revision (record_of.Affinity a) among own = absurd (in-nothing leak own)
 suspect-in store collect leak revision (record_of.Handle handle) among own = absurd (in-nothing leak own)
 
-pub suspect-is : (store : Datastore) (collect : CollectRequest) (leak : Leak) → Contains (suspects collect (listed kind.Block store)) leak → IsSuspect store collect leak
+pub suspect-is : (store : Datastore) (collect : CollectRequest) (leak : Leak) → Contains (suspects collect (rows_of_kind kind.Block store)) leak → IsSuspect store collect leak
 suspect-is store collect leak h =
-    let (row, in_list, own) = suspect-row collect (listed kind.Block store) leak h in
-    let in_rows = (in-filter (λ (r : Row). is_of_kind kind.Block (row_key r)) row store.rows in_list).0 in
+    let (row, in_list, own) = suspect-row collect (rows_of_kind kind.Block store) leak h in
+    let in_rows = (in-filter (λ (r : StoredRecord). is_of_kind kind.Block (row_key r)) row store.rows in_list).0 in
     suspect-in store collect leak row.0 row.1 in_rows own
 
 -- a suspect that owns still and isn't live
@@ -125,10 +125,10 @@ pub record IsFoundLeak (first second : Datastore) (collect : CollectRequest) (li
   pub owns : Owns second leak.owner
   pub not_live_still : is_live live leak.owner.handle ≡ false
 
-pub found-leak : (first second : Datastore) (collect : CollectRequest) (live : List (List ℕ)) (leak : Leak) → Contains (leaks (suspects collect (listed kind.Block first)) live (listed kind.Block second)) leak → IsFoundLeak first second collect live leak
+pub found-leak : (first second : Datastore) (collect : CollectRequest) (live : List (List ℕ)) (leak : Leak) → Contains (leaks (suspects collect (rows_of_kind kind.Block first)) live (rows_of_kind kind.Block second)) leak → IsFoundLeak first second collect live leak
 found-leak first second collect live leak h =
-    let (among, test) = in-filter (λ (x : Leak). is_owner_in (listed kind.Block second) x.owner && not (is_live live x.owner.handle)) leak (suspects collect (listed kind.Block first)) h in
-    let (owner, dead) = both (is_owner_in (listed kind.Block second) leak.owner) (not (is_live live leak.owner.handle)) test in
+    let (among, test) = in-filter (λ (x : Leak). is_owner_in (rows_of_kind kind.Block second) x.owner && not (is_live live x.owner.handle)) leak (suspects collect (rows_of_kind kind.Block first)) h in
+    let (owner, dead) = both (is_owner_in (rows_of_kind kind.Block second) leak.owner) (not (is_live live leak.owner.handle)) test in
     record {
       suspect = suspect-is first collect leak among;
       owns = listed-owns second leak.owner owner;

@@ -10,7 +10,7 @@ use Rattle.ipam_records.specs.declared.key.Key.TheVariants as key
 use Rattle.ipam_records.specs.declared.key.Kind.TheVariants as kind
 use Rattle.ipam_records.specs.declared.record.Record.{Record}
 use Rattle.ipam_records.specs.declared.record.Record.TheVariants as record_of
-use Rattle.ipam_records.specs.Datastore.{Datastore, listed, reply_of, reply_to_get, row_of}
+use Rattle.ipam_records.specs.Datastore.{Datastore, rows_of_kind, reply_of, reply_to_get, row_of}
 use Rattle.ipam_records.specs.Said.{Found}
 use Rattle.ipam_model.specs.Affinities.{BlockRead, revision_read}
 use Rattle.ipam_model.specs.AffinityLaw.{HasAt}
@@ -69,7 +69,7 @@ looked-revision store cidr = by (row_of (key.Block cidr) store.rows) refl
         ap (λ (x : Record). revision_read (block_said (Found there.0 x))) (sym is)
 
 -- what a list of blocks shows at the slot is what a read of the block would
-pub listed-read : (store : Datastore) (cidr : CidrValue) → block_in_found (find (is_block_at cidr) (listed kind.Block store)) ≡ block_said (reply_of store (Get (key.Block cidr)))
+pub listed-read : (store : Datastore) (cidr : CidrValue) → block_in_found (find (is_block_at cidr) (rows_of_kind kind.Block store)) ≡ block_said (reply_of store (Get (key.Block cidr)))
 listed-read store cidr = ap block_in_found (listed-block store.rows cidr) ∙ by (row_of (key.Block cidr) store.rows) refl
   where
     by : (o : Option (ℕ × Record)) → row_of (key.Block cidr) store.rows ≡ o → block_in_found o ≡ block_said (reply_to_get o)

@@ -14,7 +14,7 @@ use Rattle.ipam_model.specs.declared.part.Left.{Left}
 use Rattle.ipam_model.specs.declared.part.Stop.{Stop}
 use Rattle.ipam_model.specs.declared.part.Stop.TheVariants.{OutOfTries, OutOfClaims, NoRoom, CountAtLimit, NoRevisions}
 use Rattle.ipam_model.specs.declared.request.Request.{Request}
-use Rattle.ipam_model.specs.Cluster.{called, new_record, record_written}
+use Rattle.ipam_model.specs.Cluster.{call_made, new_record, record_written}
 use Rattle.ipam_model.specs.Named.{name_of, told_of}
 use Rattle.ipam_model.specs.Step.{after_write, write_back}
 use Rattle.ipam_model.specs.Tries.{claims_of, confirmed_claims, done_or, follows_block_read, is_add, is_at, is_confirmation_of, is_lost, is_race_lost, is_release, is_write, latest_done, lost_races, reads_affinity, reads_block}
@@ -24,7 +24,7 @@ use Rattle.ipam_laws.proofs.Trails.{AreCalls, Comes, Did, Got, Step, Trail}
 -- ---- the calls of a trail
 
 abbrev pub call_at : Datastore → Call → Called
-call_at store asked = called 0 Well asked (reply_of store asked) None
+call_at store asked = call_made 0 Well asked (reply_of store asked) None
 
 unfoldable pub told_calls : Trail → List Called
 told_calls [] = []

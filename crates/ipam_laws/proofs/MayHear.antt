@@ -8,18 +8,18 @@ use Rattle.ipam_records.specs.declared.key.Key.TheVariants as key
 use Rattle.ipam_records.specs.declared.record.Record.TheVariants as record_of
 use Rattle.ipam_records.specs.Datastore.{Datastore, reply_of, reply_to_get, row_of}
 use Rattle.ipam_records.specs.Hearing.{CoversCredit, Covers, MayHear}
-use Rattle.ipam_records.specs.Label.{Credit, Label, idle, owing}
+use Rattle.ipam_records.specs.Label.{Credit, CallLabel, idle, owing}
 use Rattle.ipam_records.specs.Sound.{IsDatastore}
-use Rattle.ipam_records.specs.Word.{Word, Ends, Asks, Waits, asked, label_of}
+use Rattle.ipam_records.specs.Word.{Word, Ends, Asks, Waits, next_call, label_of}
 use Rattle.ipam_model.specs.declared.answer.Answer.{Answer}
 use Rattle.ipam_model.specs.declared.entry.Entry.{Entry}
 use Rattle.ipam_model.specs.declared.entry.Entry.TheVariants as entry
-use Rattle.ipam_model.specs.Cluster.{Running, after, begun, fed_with, goes_on}
+use Rattle.ipam_model.specs.Cluster.{Running, after, fresh_run, run_after_feed, goes_on}
 use Rattle.ipam_model.specs.Counting.{credit_of}
 use Rattle.ipam_model.specs.CountLaw.{count_in_row, handle_count, credit_of_slot, amount_for}
 use Rattle.ipam_model.specs.Course.{slot_count}
 use Rattle.ipam_model.specs.History.{Base, Lawful, cluster_at, store_at, slot_of_entry}
-use Rattle.ipam_model.specs.Reads.{Row}
+use Rattle.ipam_model.specs.Reads.{StoredRecord}
 use Rattle.ipam_model.specs.ReplyLaw.{MayHearLaw}
 use Rattle.ipam_laws.proofs.KeptWords.{other-slot}
 use Rattle.ipam_laws.proofs.Lift.{Known}
@@ -38,15 +38,15 @@ IsSome None = Unit {0}
 IsSome (Some credit) = 0 < credit.amount
 
 -- what is owed is some, from step to step
-step-some : (known : Known) (store next : Datastore) (label after : Label) → Step known store next label after → IsSome label.credit → IsSome after.credit
+step-some : (known : Known) (store next : Datastore) (label after : CallLabel) → Step known store next label after → IsSome label.credit → IsSome after.credit
 step-some known store next label after step some = from step
   where
-    at : (l : Label) → after ≡ l → IsSome l.credit → IsSome after.credit
-    at l e h = subst (λ (x : Label). IsSome x.credit) (sym e) h
+    at : (l : CallLabel) → after ≡ l → IsSome l.credit → IsSome after.credit
+    at l e h = subst (λ (x : CallLabel). IsSome x.credit) (sym e) h
 
     from : Step known store next label after → IsSome after.credit
     from (Idles a b) = at idle b tt
-    from (Owes credit a b c) = at (owing credit) c (subst (λ (x : Label). IsSome x.credit) b some)
+    from (Owes credit a b c) = at (owing credit) c (subst (λ (x : CallLabel). IsSome x.credit) b some)
     from (Finds tie read kept state a b c d e f) = at (at_claiming tie read kept) c tt
     from (Starts tie read a b c d) = at (at_claiming tie read (store.counter + 1)) c tt
     from (Takes tie read kept a b c d e) = at (at_claimed tie kept) c tt
@@ -73,18 +73,18 @@ history-some base (new ∷ history) sound h slot =
     elim (number-cases (slot_of_entry new) slot) [
       | inl same ↦ subst (λ (s : ℕ). IsSome (label_at base (new ∷ history) s).credit) same
           (elim turn.now [
-            | inl reached ↦ subst (λ (l : Label). IsSome l.credit) (sym reached) step
-            | inr idles ↦ subst (λ (l : Label). IsSome l.credit) (sym idles) tt
+            | inl reached ↦ subst (λ (l : CallLabel). IsSome l.credit) (sym reached) step
+            | inr idles ↦ subst (λ (l : CallLabel). IsSome l.credit) (sym idles) tt
           ])
-      | inr differ ↦ subst (λ (l : Label). IsSome l.credit) (sym (turn.others slot differ)) (earlier slot)
+      | inr differ ↦ subst (λ (l : CallLabel). IsSome l.credit) (sym (turn.others slot differ)) (earlier slot)
     ]
 
 -- ---- slots that run are among the first
 
 same-beside : (base : Base) (history : List Entry) (new : Entry) (slot : ℕ) → slot_of_entry new ≢ slot → (cluster_at base (new ∷ history)).slots slot ≡ (cluster_at base history).slots slot
 unfolding cluster_at after
-same-beside base history (entry.Began other request) slot differ = other-slot other slot (begun request) (cluster_at base history).slots differ
-same-beside base history (entry.Fed other at live) slot differ = other-slot other slot (fed_with live ((cluster_at base history).slots other)) (cluster_at base history).slots differ
+same-beside base history (entry.Began other request) slot differ = other-slot other slot (fresh_run request) (cluster_at base history).slots differ
+same-beside base history (entry.Fed other at live) slot differ = other-slot other slot (run_after_feed live ((cluster_at base history).slots other)) (cluster_at base history).slots differ
 same-beside base history (entry.Stopped other) slot differ = other-slot other slot None (cluster_at base history).slots differ
 same-beside base history (entry.Called c) slot differ = other-slot c.slot slot (goes_on (store_at base history) (cluster_at base history).entries c.answer ((cluster_at base history).slots c.slot)) (cluster_at base history).slots differ
 
@@ -112,7 +112,7 @@ member-sum f (suc many) from slot above below =
 covers-there : (store : Datastore) (credit : Credit) → 0 < credit.amount → credit.amount ≤ handle_count store credit.handle credit.block → Covers credit (reply_to_get (row_of (key.Handle credit.handle) store.rows))
 covers-there store credit some covered = from (row_of (key.Handle credit.handle) store.rows) covered
   where
-    from : (o : Option Row) → credit.amount ≤ count_in_row credit.handle credit.block o → Covers credit (reply_to_get o)
+    from : (o : Option StoredRecord) → credit.amount ≤ count_in_row credit.handle credit.block o → Covers credit (reply_to_get o)
     from None h = absurd (omega arith)
     from (Some (revision, record_of.Handle handle)) h = h
     from (Some (revision, record_of.Config config)) h = absurd (omega arith)
@@ -122,8 +122,8 @@ covers-there store credit some covered = from (row_of (key.Handle credit.handle)
     from (Some (revision, record_of.Affinity a)) h = absurd (omega arith)
 
 -- each read of the handle finds the credit covered
-covers : (store : Datastore) (owes : Option Credit) (asked : Call) → IsSome owes → ((credit : Credit) → owes ≡ Some credit → credit.amount ≤ handle_count store credit.handle credit.block) → CoversCredit owes asked (reply_of store asked)
-covers store None asked some covered = tt
+covers : (store : Datastore) (owes : Option Credit) (next_call : Call) → IsSome owes → ((credit : Credit) → owes ≡ Some credit → credit.amount ≤ handle_count store credit.handle credit.block) → CoversCredit owes next_call (reply_of store next_call)
+covers store None next_call some covered = tt
 covers store (Some credit) (call.Get (key.Handle id)) some covered = λ own.
     subst (λ (x : List ℕ). Covers credit (reply_to_get (row_of (key.Handle x) store.rows))) (sym own) (covers-there store credit some (covered credit refl))
 covers store (Some credit) (call.Get key.Config) some covered = tt
@@ -154,12 +154,12 @@ may_hear base history slot running called sound covered h runs asks = from runni
         slot-owes credit None e = absurd (cc e)
         slot-owes credit (Some r) e = ap (amount_for credit.handle credit.block) e ∙ owed-own credit
 
-    from : (w : Word Answer) → asked w ≡ Some called → label_at base history slot ≡ label_of w → MayHear w (reply_of (store_at base history) called)
+    from : (w : Word Answer) → next_call w ≡ Some called → label_at base history slot ≡ label_of w → MayHear w (reply_of (store_at base history) called)
     from (Ends answer) e labelled = absurd (cc e)
     from (Waits next) e labelled = absurd (cc e)
     from (Asks label own next) e labelled =
         let same : own ≡ called = cc e in
-        let credit_is : (label_at base history slot).credit ≡ label.credit = ap (λ (l : Label). l.credit) labelled in (
+        let credit_is : (label_at base history slot).credit ≡ label.credit = ap (λ (l : CallLabel). l.credit) labelled in (
           record { store = store_at base history; sound = sound_law base history sound h; is_reply = ap (reply_of (store_at base history)) same },
           subst (λ (x : Call). CoversCredit label.credit own (reply_of (store_at base history) x)) same
               (covers (store_at base history) label.credit own (subst (λ (o : Option Credit). IsSome o) credit_is (history-some base history sound h slot)) (λ credit owes. within credit (credit_is ∙ owes))),

@@ -23,7 +23,7 @@ use Rattle.ipam_records.specs.declared.key.Key.TheVariants as key
 use Rattle.ipam_records.specs.declared.key.Kind.TheVariants as kind
 use Rattle.ipam_records.specs.declared.record.Record.{Record}
 use Rattle.ipam_records.specs.declared.record.Record.TheVariants as record_of
-use Rattle.ipam_records.specs.Datastore.{Datastore, listed, most_rows, most_blocks, row_key, row_of}
+use Rattle.ipam_records.specs.Datastore.{Datastore, rows_of_kind, most_rows, most_blocks, row_key, row_of}
 use Rattle.ipam_records.specs.Key.{key_of}
 use Rattle.ipam_records.specs.KeyOrder.{is_of_kind}
 use Rattle.ipam_records.specs.KeyText.{key_read}
@@ -34,7 +34,7 @@ use Rattle.ipam_model.specs.Consistent.{IsConsistent, IsSlotOfSome, cidr_named, 
 use Rattle.ipam_model.specs.CountLaw.{count_in_row, handle_count, held_in_row, held_count}
 use Rattle.ipam_model.specs.History.{Lawful, store_at}
 use Rattle.ipam_model.specs.Opened.{Texts, Breaks, NoText, AnotherKey, NoTable, NoSlot, NoBlock, CountTooLow, NoAffinityFor, NoNodeFor, TooManyRows, TooManyBlocks, NoRevision, AboveCounter, AboveLast, CounterAboveLast, IsBrokenBlock, IsCounterOf, IsTextOf, OpensAs, OpensAsItself, OpenedLaw, OpenedAgainLaw, InDoubtLaw, cidr_of_key, is_block_text, pools_read, read_store, readable, reading_of, text_of, texts_of}
-use Rattle.ipam_model.specs.Reads.{Row}
+use Rattle.ipam_model.specs.Reads.{StoredRecord}
 use Rattle.ipam_laws.proofs.Members.{all-of, in-here, in-there, in-map, out-map, in-filter, filter-in}
 use Rattle.ipam_laws.proofs.Openings.{reads-back}
 use Rattle.ipam_laws.proofs.OpenedRows.{AreRowsOf, in-readable, readable-fewer, key-is-read, read-found, fewer-members, rows-differ, few-places, places-few}
@@ -135,7 +135,7 @@ module _ (texts : Texts) (store : Datastore) (c : IsConsistent store) (rows : Ar
   may-open number about (CounterAboveLast above) = let last = counter.below_last in omega arith
 
 -- the texts of blocks, among texts that can be read
-block-texts : (rows : List Row) → ((row : Row) → Contains rows row → reading_of (text_of row) ≡ Ok row.1) → length (filter is_block_text (map text_of rows)) ≡ length (filter (λ row. is_of_kind kind.Block (row_key row)) rows)
+block-texts : (rows : List StoredRecord) → ((row : StoredRecord) → Contains rows row → reading_of (text_of row) ≡ Ok row.1) → length (filter is_block_text (map text_of rows)) ≡ length (filter (λ row. is_of_kind kind.Block (row_key row)) rows)
 block-texts [] reads = refl
 block-texts (row ∷ rows) reads = by (is_of_kind kind.Block (row_key row)) (rw (key-is-read (text_of row) row.1 (reads row (in-here row rows))) refl) (block-texts rows (λ r there. reads r (in-there r row rows there)))
   where
@@ -145,20 +145,20 @@ block-texts (row ∷ rows) reads = by (is_of_kind kind.Block (row_key row)) (rw 
     by false e rest = rw e rest
 
 -- a row that is read of one of the texts
-rows-read : (texts : List RowText) (row : Row) → (text : RowText) × Contains texts text × (text.revision ≡ row.0) × (reading_of text ≡ Ok row.1) → Contains (readable texts) row
+rows-read : (texts : List RowText) (row : StoredRecord) → (text : RowText) × Contains texts text × (text.revision ≡ row.0) × (reading_of text ≡ Ok row.1) → Contains (readable texts) row
 rows-read texts row (text, there, revision, reads) = subst (λ (n : ℕ). Contains (readable texts) (n, row.1)) revision (in-readable texts text row.1 there reads)
 
 -- ---- the rows of a store
 
 module _ (texts : Texts) (store : Datastore) (sound : IsDatastore store) (is : IsTextOf texts store) where
   -- each row's text is one of the store's
-  own-text : (text : RowText) → Contains texts.rows text → (row : Row) × Contains store.rows row × (text_of row ≡ text)
+  own-text : (text : RowText) → Contains texts.rows text → (row : StoredRecord) × Contains store.rows row × (text_of row ≡ text)
   own-text text among = out-map text_of text store.rows (Contains-permutation texts.rows (texts_of store) text (IsPermutation-sym (texts_of store) texts.rows is.same_rows) among)
 
-  text-there : (row : Row) → Contains store.rows row → Contains texts.rows (text_of row)
+  text-there : (row : StoredRecord) → Contains store.rows row → Contains texts.rows (text_of row)
   text-there row among = Contains-permutation (texts_of store) texts.rows (text_of row) is.same_rows (in-map text_of row store.rows among)
 
-  own-read : (text : RowText) → Contains texts.rows text → (row : Row) × Contains store.rows row × (row.0 ≡ text.revision) × (reading_of text ≡ Ok row.1)
+  own-read : (text : RowText) → Contains texts.rows text → (row : StoredRecord) × Contains store.rows row × (row.0 ≡ text.revision) × (reading_of text ≡ Ok row.1)
   own-read text among =
       let (row, own, e) = own-text text among in
       (row, own, ap (λ (t : RowText). t.revision) e, sym (ap reading_of e) ∙ reads-back store sound row own)
@@ -169,11 +169,11 @@ module _ (texts : Texts) (store : Datastore) (sound : IsDatastore store) (is : I
         let (row, own, revision, e) = own-read text among in
         let records : row.1 ≡ found = cc (e, reads) in
         let pair : row ≡ (text.revision, found) = λ i. (revision i, records i) in
-        subst (λ (r : Row). Contains store.rows r) pair own;
+        subst (λ (r : StoredRecord). Contains store.rows r) pair own;
     nothing_else = λ revision found among. (text_of (revision, found), text-there (revision, found) among, refl, reads-back store sound (revision, found) among);
   }
 
-  own-readable : length store.rows ≤ most_rows → length (listed kind.Block store) ≤ most_blocks → AreReadable texts
+  own-readable : length store.rows ≤ most_rows → length (rows_of_kind kind.Block store) ≤ most_blocks → AreReadable texts
   own-readable few_rows few_blocks = record {
     each = λ text among. let (row, own, revision, e) = own-read text among in (row.1, e);
     few_rows = let a = length_permutation (texts_of store) texts.rows is.same_rows in let b = length-map store.rows text_of in omega arith;
@@ -203,7 +203,7 @@ module _ (texts : Texts) (store : Datastore) (o : OpensAs texts store) where
   opened-same : (k : Key) → row_of k (readable texts.rows) ≡ row_of k store.rows
   opened-same = read-found texts store (record { all_read = o.all_read; nothing_else = o.nothing_else }) o.sound.ascending
 
-  opened-slot : (row : Row) (cidr : CidrValue) → Contains store.rows row → cidr_named (row_key row) ≡ Some cidr → IsSlotOfSome (pools_in store.rows) cidr
+  opened-slot : (row : StoredRecord) (cidr : CidrValue) → Contains store.rows row → cidr_named (row_key row) ≡ Some cidr → IsSlotOfSome (pools_in store.rows) cidr
   opened-slot row cidr among named =
       let (text, there, revision, reads) = o.nothing_else row.0 row.1 among in
       let sound = All-contains (IsRow store.counter) store.rows row o.sound.rows among in
@@ -257,13 +257,13 @@ module _ (texts : Texts) (store : Datastore) (o : OpensAs texts store) where
       let least = readable-fewer texts.rows in
       omega arith
 
-  opened-blocks : length (listed kind.Block store) ≤ most_blocks
+  opened-blocks : length (rows_of_kind kind.Block store) ≤ most_blocks
   opened-blocks =
       let blocks = filter is_block_text texts.rows in
       let few = few-places blocks most_blocks (λ row e. o.may_be_opened 9 row.key (TooManyBlocks row e)) in
-      let differ = AllPairs-filter (λ (r s : Row). r ≢ s) (λ row. is_of_kind kind.Block (row_key row)) store.rows (rows-differ store.rows o.sound.ascending) in
-      let fewer = fewer-members (listed kind.Block store) (readable blocks) differ (λ row among.
-      let (own, is_block) = in-filter (λ (r : Row). is_of_kind kind.Block (row_key r)) row store.rows among in
+      let differ = AllPairs-filter (λ (r s : StoredRecord). r ≢ s) (λ row. is_of_kind kind.Block (row_key row)) store.rows (rows-differ store.rows o.sound.ascending) in
+      let fewer = fewer-members (rows_of_kind kind.Block store) (readable blocks) differ (λ row among.
+      let (own, is_block) = in-filter (λ (r : StoredRecord). is_of_kind kind.Block (row_key r)) row store.rows among in
       let (text, there, revision, reads) = o.nothing_else row.0 row.1 own in
       let kept : is_block_text text ≡ true = rw (key-is-read text row.1 reads) is_block in
       rows-read blocks row (text, filter-in is_block_text text texts.rows there kept, revision, reads)) in

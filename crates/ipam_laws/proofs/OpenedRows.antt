@@ -21,7 +21,7 @@ use Rattle.ipam_records.proofs.DatastoreLemmas.{row_key-row_of}
 use Rattle.ipam_records.proofs.KeyTextLemmas.{key_read-key_bytes}
 use Rattle.ipam_records.proofs.RecordTexts.{IsKey-key_of, record_read}
 use Rattle.ipam_model.specs.Opened.{Texts, reading_of, row_read, readable}
-use Rattle.ipam_model.specs.Reads.{Row}
+use Rattle.ipam_model.specs.Reads.{StoredRecord}
 use Rattle.ipam_laws.proofs.Members.{all-of, in-cons, in-here, in-there, in-nothing}
 use Rattle.ipam_laws.proofs.Openings.{less-than, never-less}
 use Rattle.ipam_laws.proofs.RowOrder.{member-found, found-member}
@@ -49,11 +49,11 @@ in-readable (first ∷ texts) row found h e = elim (in-cons row first texts h) [
   | inr there ↦ option-in (row_read first.revision (reading_of first)) (row.revision, found) (readable texts) (inr (in-readable texts row found there e))
 ]
 
-row_read-some : (revision : ℕ) (r : Result Record TextFault) (row : Row) → row_read revision r ≡ Some row → (revision ≡ row.0) × (r ≡ Ok row.1)
-row_read-some revision (Ok found) row e = let same : (revision, found) ≡ row = cc e in (ap (λ (x : Row). x.0) same, ap (λ (x : Row). Ok x.1) same)
+row_read-some : (revision : ℕ) (r : Result Record TextFault) (row : StoredRecord) → row_read revision r ≡ Some row → (revision ≡ row.0) × (r ≡ Ok row.1)
+row_read-some revision (Ok found) row e = let same : (revision, found) ≡ row = cc e in (ap (λ (x : StoredRecord). x.0) same, ap (λ (x : StoredRecord). Ok x.1) same)
 row_read-some revision (Err broken) row e = absurd (cc e)
 
-pub out-readable : (texts : List RowText) (row : Row) → Contains (readable texts) row → (text : RowText) × Contains texts text × (text.revision ≡ row.0) × (reading_of text ≡ Ok row.1)
+pub out-readable : (texts : List RowText) (row : StoredRecord) → Contains (readable texts) row → (text : RowText) × Contains texts text × (text.revision ≡ row.0) × (reading_of text ≡ Ok row.1)
 out-readable [] row h = absurd (in-nothing row h)
 out-readable (first ∷ texts) row h = elim (in-option (row_read first.revision (reading_of first)) row (readable texts) h) [
   | inl e ↦ let (revision, reads) = row_read-some first.revision (reading_of first) row e in (first, in-here first texts, revision, reads)
@@ -64,7 +64,7 @@ pub readable-fewer : (texts : List RowText) → length (readable texts) ≤ leng
 readable-fewer [] = omega arith
 readable-fewer (first ∷ texts) = by (row_read first.revision (reading_of first)) (readable-fewer texts)
   where
-    by : (o : Option Row) → length (readable texts) ≤ length texts → length (cons_option o (readable texts)) ≤ suc (length texts)
+    by : (o : Option StoredRecord) → length (readable texts) ≤ length texts → length (cons_option o (readable texts)) ≤ suc (length texts)
     by None rest = omega arith
     by (Some row) rest = omega arith
 
@@ -83,7 +83,7 @@ pub record AreRowsOf (texts : Texts) (store : Datastore) : Type 0 where
       → (row : RowText) × Contains texts.rows row × (row.revision ≡ revision) × (reading_of row ≡ Ok found)
 
 -- a key that is not found is no member's
-absent-member : (k : Key) (rows : List Row) (row : Row) → row_of k rows ≡ None → Contains rows row → row_key row ≢ k
+absent-member : (k : Key) (rows : List StoredRecord) (row : StoredRecord) → row_of k rows ≡ None → Contains rows row → row_key row ≢ k
 absent-member k [] row e h same = absurd (in-nothing row h)
 absent-member k (first ∷ rows) row e h same = elim (cases_Bool (keys_equal (row_key first) k)) [
   | inl equal ↦ let f : Some first ≡ None = rw equal at e in absurd (cc f)
@@ -96,14 +96,14 @@ absent-member k (first ∷ rows) row e h same = elim (cases_Bool (keys_equal (ro
 ]
 
 -- rows with the same members are found alike by their keys
-same-found : (rows others : List Row) → IsStrictlySortedBy key_cmp (map row_key rows) → ((row : Row) → Contains rows row → Contains others row) → ((row : Row) → Contains others row → Contains rows row) → (k : Key) → row_of k others ≡ row_of k rows
+same-found : (rows others : List StoredRecord) → IsStrictlySortedBy key_cmp (map row_key rows) → ((row : StoredRecord) → Contains rows row → Contains others row) → ((row : StoredRecord) → Contains others row → Contains rows row) → (k : Key) → row_of k others ≡ row_of k rows
 same-found rows others sorted one other k = by (row_of k others) refl
   where
-    none : row_of k others ≡ None → (o : Option Row) → row_of k rows ≡ o → row_of k others ≡ o
+    none : row_of k others ≡ None → (o : Option StoredRecord) → row_of k rows ≡ o → row_of k others ≡ o
     none e None f = e
     none e (Some row) f = absurd (absent-member k others row e (one row (found-member k rows row f)) (row_key-row_of k rows row f))
 
-    by : (o : Option Row) → row_of k others ≡ o → row_of k others ≡ row_of k rows
+    by : (o : Option StoredRecord) → row_of k others ≡ o → row_of k others ≡ row_of k rows
     by (Some row) e =
         let there = member-found rows row sorted (other row (found-member k others row e)) in
         e ∙ sym (ap (λ (l : Key). row_of l rows) (sym (row_key-row_of k others row e)) ∙ there)
@@ -155,14 +155,14 @@ fewer-members {X} (x ∷ xs) ys differ within =
         ]
 
 -- rows by ascending keys differ
-pub rows-differ : (rows : List Row) → IsStrictlySortedBy key_cmp (map row_key rows) → AllPairs (λ (r s : Row). r ≢ s) rows
+pub rows-differ : (rows : List StoredRecord) → IsStrictlySortedBy key_cmp (map row_key rows) → AllPairs (λ (r s : StoredRecord). r ≢ s) rows
 unfolding IsStrictlySortedBy
 rows-differ [] sorted = λ i j d below within. absurd (omega arith)
 rows-differ (row ∷ rows) sorted =
-    AllPairs-cons (λ (r s : Row). r ≢ s) row rows
-    (all-of (λ (s : Row). row ≢ s) rows (λ s there same.
+    AllPairs-cons (λ (r s : StoredRecord). r ≢ s) row rows
+    (all-of (λ (s : StoredRecord). row ≢ s) rows (λ s there same.
     let less = less-than (row_key row) rows s sorted.0 there in
-    never-less (row_key row) (ap (λ (r : Row). key_cmp (row_key row) (row_key r)) same ∙ less)))
+    never-less (row_key row) (ap (λ (r : StoredRecord). key_cmp (row_key row) (row_key r)) same ∙ less)))
     (rows-differ rows sorted.1)
 
 -- a place behind the last has nothing

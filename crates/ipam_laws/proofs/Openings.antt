@@ -15,26 +15,26 @@ use Rattle.ipam_records.specs.KeyOrderLaws.{key_cmp_total}
 use Rattle.ipam_records.specs.Sound.{IsDatastore, IsRow}
 use Rattle.ipam_records.proofs.RecordTexts.{record_reads_back}
 use Rattle.ipam_model.specs.Opened.{IsTextOf, OneOpenedLaw, OpensAs, SameRecordsLaw, Texts, reading_of, text_of, texts_of}
-use Rattle.ipam_model.specs.Reads.{Row}
+use Rattle.ipam_model.specs.Reads.{StoredRecord}
 use Rattle.ipam_laws.proofs.Members.{in-cons, in-here, in-there, in-nothing, in-map, out-map}
 
 -- ---- rows by ascending keys with the same members are the same
 
-pub less-than : (k : Key) (rows : List Row) (row : Row) → AllByRecursion (λ other. key_cmp k other ≡ Less) (map row_key rows) → Contains rows row → key_cmp k (row_key row) ≡ Less
+pub less-than : (k : Key) (rows : List StoredRecord) (row : StoredRecord) → AllByRecursion (λ other. key_cmp k other ≡ Less) (map row_key rows) → Contains rows row → key_cmp k (row_key row) ≡ Less
 less-than k [] row all h = absurd (in-nothing row h)
 less-than k (first ∷ rest) row all h = elim (in-cons row first rest h) [
-  | inl is ↦ ap (λ (r : Row). key_cmp k (row_key r)) (sym is) ∙ all.0
+  | inl is ↦ ap (λ (r : StoredRecord). key_cmp k (row_key r)) (sym is) ∙ all.0
   | inr there ↦ less-than k rest row all.1 there
 ]
 
 pub never-less : (k : Key) → key_cmp k k ≢ Less
 never-less k e = let t = tied_itself key_cmp_total k in cc
 
-Within : List Row → List Row → Type 0
-Within xs ys = (row : Row) → Contains xs row → Contains ys row
+Within : List StoredRecord → List StoredRecord → Type 0
+Within xs ys = (row : StoredRecord) → Contains xs row → Contains ys row
 
 -- the heads are the same, and a member of one rest is one of the other
-same-heads : (x y : Row) (xs ys : List Row) → IsStrictlySortedBy key_cmp (map row_key (x ∷ xs)) → IsStrictlySortedBy key_cmp (map row_key (y ∷ ys)) → Within (x ∷ xs) (y ∷ ys) → Within (y ∷ ys) (x ∷ xs) → y ≡ x
+same-heads : (x y : StoredRecord) (xs ys : List StoredRecord) → IsStrictlySortedBy key_cmp (map row_key (x ∷ xs)) → IsStrictlySortedBy key_cmp (map row_key (y ∷ ys)) → Within (x ∷ xs) (y ∷ ys) → Within (y ∷ ys) (x ∷ xs) → y ≡ x
 unfolding Within IsStrictlySortedBy
 same-heads x y xs ys sx sy one other = elim (in-cons x y ys (one x (in-here x xs))) [
   | inl is ↦ is
@@ -47,25 +47,25 @@ same-heads x y xs ys sx sy one other = elim (in-cons x y ys (one x (in-here x xs
   ]
 ]
 
-rests : (x : Row) (xs ys : List Row) → IsStrictlySortedBy key_cmp (map row_key (x ∷ xs)) → Within (x ∷ xs) (x ∷ ys) → Within xs ys
+rests : (x : StoredRecord) (xs ys : List StoredRecord) → IsStrictlySortedBy key_cmp (map row_key (x ∷ xs)) → Within (x ∷ xs) (x ∷ ys) → Within xs ys
 unfolding Within IsStrictlySortedBy
 rests x xs ys sx within row h = elim (in-cons row x ys (within row (in-there row x xs h))) [
-  | inl is ↦ absurd (never-less (row_key x) (ap (λ (r : Row). key_cmp (row_key x) (row_key r)) is ∙ less-than (row_key x) xs row sx.0 h))
+  | inl is ↦ absurd (never-less (row_key x) (ap (λ (r : StoredRecord). key_cmp (row_key x) (row_key r)) is ∙ less-than (row_key x) xs row sx.0 h))
   | inr there ↦ there
 ]
 
-same-rows : (xs ys : List Row) → IsStrictlySortedBy key_cmp (map row_key xs) → IsStrictlySortedBy key_cmp (map row_key ys) → Within xs ys → Within ys xs → xs ≡ ys
+same-rows : (xs ys : List StoredRecord) → IsStrictlySortedBy key_cmp (map row_key xs) → IsStrictlySortedBy key_cmp (map row_key ys) → Within xs ys → Within ys xs → xs ≡ ys
 unfolding Within IsStrictlySortedBy
 same-rows [] [] sx sy one other = refl
 same-rows [] (y ∷ ys) sx sy one other = absurd (in-nothing y (other y (in-here y ys)))
 same-rows (x ∷ xs) [] sx sy one other = absurd (in-nothing x (one x (in-here x xs)))
 same-rows (x ∷ xs) (y ∷ ys) sx sy one other =
     let head = same-heads x y xs ys sx sy one other in
-    let sorted : IsStrictlySortedBy key_cmp (map row_key (x ∷ ys)) = subst (λ (r : Row). IsStrictlySortedBy key_cmp (map row_key (r ∷ ys))) head sy in
-    let forth : Within (x ∷ xs) (x ∷ ys) = subst (λ (r : Row). Within (x ∷ xs) (r ∷ ys)) head one in
-    let back : Within (x ∷ ys) (x ∷ xs) = subst (λ (r : Row). Within (r ∷ ys) (x ∷ xs)) head other in
+    let sorted : IsStrictlySortedBy key_cmp (map row_key (x ∷ ys)) = subst (λ (r : StoredRecord). IsStrictlySortedBy key_cmp (map row_key (r ∷ ys))) head sy in
+    let forth : Within (x ∷ xs) (x ∷ ys) = subst (λ (r : StoredRecord). Within (x ∷ xs) (r ∷ ys)) head one in
+    let back : Within (x ∷ ys) (x ∷ xs) = subst (λ (r : StoredRecord). Within (r ∷ ys) (x ∷ xs)) head other in
     let tails = same-rows xs ys sx.1 sy.1 (rests x xs ys sx forth) (rests x ys xs sorted back) in
-    ap (λ rows. x ∷ rows) tails ∙ ap (λ (r : Row). r ∷ ys) (sym head)
+    ap (λ rows. x ∷ rows) tails ∙ ap (λ (r : StoredRecord). r ∷ ys) (sym head)
 
 -- ---- one datastore
 
@@ -83,7 +83,7 @@ opens_as_one texts one other a b =
 
 -- ---- a datastore's own rows
 
-pub reads-back : (store : Datastore) → IsDatastore store → (row : Row) → Contains store.rows row → reading_of (text_of row) ≡ Ok row.1
+pub reads-back : (store : Datastore) → IsDatastore store → (row : StoredRecord) → Contains store.rows row → reading_of (text_of row) ≡ Ok row.1
 reads-back store sound row h = record_reads_back row.1 (All-contains (IsRow store.counter) store.rows row sound.rows h).is_record
 
 opened-own : (texts : Texts) (store opened : Datastore) → IsDatastore store → IsTextOf texts store → OpensAs texts opened → Within opened.rows store.rows
@@ -97,7 +97,7 @@ opened-own texts store opened sound is o row h =
     let records : found.1 ≡ row.1 = cc (back, read) in
     let revisions : found.0 ≡ row.0 = ap (λ (t : RowText). t.revision) same ∙ revision in
     let pair : found ≡ row = λ i. (revisions i, records i) in
-    subst (λ (r : Row). Contains store.rows r) pair among
+    subst (λ (r : StoredRecord). Contains store.rows r) pair among
 
 own-opened : (texts : Texts) (store opened : Datastore) → IsDatastore store → IsTextOf texts store → OpensAs texts opened → Within store.rows opened.rows
 unfolding Within

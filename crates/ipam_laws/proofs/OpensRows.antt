@@ -22,7 +22,7 @@ use Rattle.ipam_records.specs.KeyText.{key_bytes}
 use Rattle.ipam_records.specs.Sound.{IsCountedBelow, IsDatastore, IsRow}
 use Rattle.ipam_records.proofs.RecordTexts.{record_read}
 use Rattle.ipam_model.specs.Opened.{Texts, AreByKey, IsBrokenBlock, MayBeOpened, NoBlock, NoRevision, AboveCounter, CounterAboveLast, OpensLaw, readable, reading_of, row_read}
-use Rattle.ipam_model.specs.Reads.{Row}
+use Rattle.ipam_model.specs.Reads.{StoredRecord}
 use Rattle.ipam_laws.proofs.Members.{all-of, in-cons, in-here, in-there, in-nothing}
 use Rattle.ipam_laws.proofs.OpenedRows.{in-readable, out-readable}
 use Rattle.ipam_records.proofs.RowWrites.{sorted-with_row}
@@ -30,16 +30,16 @@ use Rattle.ipam_records.proofs.RowWrites.{sorted-with_row}
 -- ---- rows put in one after the other
 
 -- the rows by ascending keys
-unfoldable pub gathered : List Row → List Row
+unfoldable pub gathered : List StoredRecord → List StoredRecord
 gathered [] = []
 gathered (row ∷ rows) = with_row row (gathered rows)
 
-gathered-sorted : (rows : List Row) → IsStrictlySortedBy key_cmp (map row_key (gathered rows))
+gathered-sorted : (rows : List StoredRecord) → IsStrictlySortedBy key_cmp (map row_key (gathered rows))
 unfolding gathered IsStrictlySortedBy
 gathered-sorted [] = tt
 gathered-sorted (row ∷ rows) = sorted-with_row row (gathered rows) (gathered-sorted rows)
 
-in-with_row : (row : Row) (rows : List Row) (x : Row) → Contains (with_row row rows) x → (row ≡ x) ⊎ Contains rows x
+in-with_row : (row : StoredRecord) (rows : List StoredRecord) (x : StoredRecord) → Contains (with_row row rows) x → (row ≡ x) ⊎ Contains rows x
 in-with_row row [] x h = in-cons x row [] h
 in-with_row row (first ∷ rows) x h = by (key_cmp (row_key row) (row_key first)) h (in-with_row row rows x)
   where
@@ -47,11 +47,11 @@ in-with_row row (first ∷ rows) x h = by (key_cmp (row_key row) (row_key first)
     by Less there rest = in-cons x row (first ∷ rows) there
     by Equal there rest = elim (in-cons x row rows there) [ inl is ↦ inl is | inr more ↦ inr (in-there x first rows more) ]
     by Greater there rest = elim (in-cons x first (with_row row rows) there) [
-      | inl is ↦ inr (subst (λ (z : Row). Contains (first ∷ rows) z) is (in-here first rows))
+      | inl is ↦ inr (subst (λ (z : StoredRecord). Contains (first ∷ rows) z) is (in-here first rows))
       | inr more ↦ elim (rest more) [ inl is ↦ inl is | inr own ↦ inr (in-there x first rows own) ]
     ]
 
-own-with_row : (row : Row) (rows : List Row) → Contains (with_row row rows) row
+own-with_row : (row : StoredRecord) (rows : List StoredRecord) → Contains (with_row row rows) row
 own-with_row row [] = in-here row []
 own-with_row row (first ∷ rows) = by (key_cmp (row_key row) (row_key first)) (own-with_row row rows)
   where
@@ -60,7 +60,7 @@ own-with_row row (first ∷ rows) = by (key_cmp (row_key row) (row_key first)) (
     by Equal rest = in-here row rows
     by Greater rest = in-there row first (with_row row rows) rest
 
-other-with_row : (row : Row) (rows : List Row) (x : Row) → Contains rows x → row_key row ≢ row_key x → Contains (with_row row rows) x
+other-with_row : (row : StoredRecord) (rows : List StoredRecord) (x : StoredRecord) → Contains rows x → row_key row ≢ row_key x → Contains (with_row row rows) x
 other-with_row row [] x h differ = absurd (in-nothing x h)
 other-with_row row (first ∷ rows) x h differ = by (key_cmp (row_key row) (row_key first)) refl (in-cons x first rows h) (λ there. other-with_row row rows x there differ)
   where
@@ -68,22 +68,22 @@ other-with_row row (first ∷ rows) x h differ = by (key_cmp (row_key row) (row_
     by Less e where_is rest = in-there x row (first ∷ rows) h
     by Equal e (inl is) rest = absurd (differ (same-keys_equal (row_key row) (row_key first) (ap is_eq e) ∙ ap row_key is))
     by Equal e (inr there) rest = in-there x row rows there
-    by Greater e (inl is) rest = subst (λ (z : Row). Contains (first ∷ with_row row rows) z) is (in-here first (with_row row rows))
+    by Greater e (inl is) rest = subst (λ (z : StoredRecord). Contains (first ∷ with_row row rows) z) is (in-here first (with_row row rows))
     by Greater e (inr there) rest = in-there x first (with_row row rows) (rest there)
 
-pub gathered-in : (rows : List Row) (x : Row) → Contains (gathered rows) x → Contains rows x
+pub gathered-in : (rows : List StoredRecord) (x : StoredRecord) → Contains (gathered rows) x → Contains rows x
 unfolding gathered
 gathered-in [] x h = h
 gathered-in (row ∷ rows) x h = elim (in-with_row row (gathered rows) x h) [
-  | inl is ↦ subst (λ (z : Row). Contains (row ∷ rows) z) is (in-here row rows)
+  | inl is ↦ subst (λ (z : StoredRecord). Contains (row ∷ rows) z) is (in-here row rows)
   | inr there ↦ in-there x row rows (gathered-in rows x there)
 ]
 
-pub in-gathered : (rows : List Row) (x : Row) → AllPairs (λ (r s : Row). row_key r ≢ row_key s) rows → Contains rows x → Contains (gathered rows) x
+pub in-gathered : (rows : List StoredRecord) (x : StoredRecord) → AllPairs (λ (r s : StoredRecord). row_key r ≢ row_key s) rows → Contains rows x → Contains (gathered rows) x
 unfolding gathered
 in-gathered [] x differ h = h
 in-gathered (row ∷ rows) x differ h = elim (in-cons x row rows h) [
-  | inl is ↦ subst (λ (z : Row). Contains (with_row row (gathered rows)) z) is (own-with_row row (gathered rows))
+  | inl is ↦ subst (λ (z : StoredRecord). Contains (with_row row (gathered rows)) z) is (own-with_row row (gathered rows))
   | inr there ↦ other-with_row row (gathered rows) x (in-gathered rows x (λ i j d below within. differ (suc i) (suc j) d (omega arith) (omega arith)) there) (apart there)
 ]
   where
@@ -93,7 +93,7 @@ in-gathered (row ∷ rows) x differ h = elim (in-cons x row rows h) [
 -- ---- rows by the texts of their keys
 
 -- those that can be read have keys of their own
-pub readable-differ : (texts : List RowText) → AreByKey texts → AllPairs (λ (r s : Row). row_key r ≢ row_key s) (readable texts)
+pub readable-differ : (texts : List RowText) → AreByKey texts → AllPairs (λ (r s : StoredRecord). row_key r ≢ row_key s) (readable texts)
 unfolding IsStrictlySortedBy
 readable-differ [] sorted = λ i j d below within. absurd (omega arith)
 readable-differ (first ∷ texts) sorted = by (reading_of first) refl (readable-differ texts sorted.1)
@@ -105,7 +105,7 @@ readable-differ (first ∷ texts) sorted = by (reading_of first) refl (readable-
       | inr there ↦ later rest all.1 text there
     ]
 
-    other : (found : Record) → reading_of first ≡ Ok found → (s : Row) → Contains (readable texts) s → row_key (first.revision, found) ≢ row_key s
+    other : (found : Record) → reading_of first ≡ Ok found → (s : StoredRecord) → Contains (readable texts) s → row_key (first.revision, found) ≢ row_key s
     other found e s there same =
         let (text, among, revision, reads) = out-readable texts s there in
         let one = (record_read first.key first.body found e).own in
@@ -115,10 +115,10 @@ readable-differ (first ∷ texts) sorted = by (reading_of first) refl (readable-
         let itself = tied_itself nat_list_cmp_total first.key in
         cc (less, itself)
 
-    by : (r : Result Record TextFault) → reading_of first ≡ r → AllPairs (λ (r s : Row). row_key r ≢ row_key s) (readable texts) → AllPairs (λ (r s : Row). row_key r ≢ row_key s) (cons_option (row_read first.revision r) (readable texts))
+    by : (r : Result Record TextFault) → reading_of first ≡ r → AllPairs (λ (r s : StoredRecord). row_key r ≢ row_key s) (readable texts) → AllPairs (λ (r s : StoredRecord). row_key r ≢ row_key s) (cons_option (row_read first.revision r) (readable texts))
     by (Ok found) e rest =
-        AllPairs-cons (λ (r s : Row). row_key r ≢ row_key s) (first.revision, found) (readable texts)
-        (all-of (λ (s : Row). row_key (first.revision, found) ≢ row_key s) (readable texts) (λ s there. other found e s there)) rest
+        AllPairs-cons (λ (r s : StoredRecord). row_key r ≢ row_key s) (first.revision, found) (readable texts)
+        (all-of (λ (s : StoredRecord). row_key (first.revision, found) ≢ row_key s) (readable texts) (λ s there. other found e s there)) rest
     by (Err broken) e rest = rest
 
 -- ---- what opens

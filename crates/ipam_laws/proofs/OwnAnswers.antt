@@ -1,10 +1,10 @@
--- Each request is answered as its procedure can.
+-- Each request is word_after_reply as its procedure can.
 use Rattle.std.proofs.Common.{◌≡◌, ℕ, inl, inr, List, Option, Some, None, refl, sym, ap, ◌∙◌, subst}
 use Rattle.std.specs.Prelude.{option_map}
 use Rattle.ipam_records.specs.declared.call.Call.{Call}
 use Rattle.ipam_records.specs.Datastore.{Datastore, reply_of}
 use Rattle.ipam_records.specs.Said.{Said}
-use Rattle.ipam_records.specs.Word.{Word, Ends, Asks, Waits, ended, fed}
+use Rattle.ipam_records.specs.Word.{Word, Ends, Asks, Waits, answer_in, after_feed}
 use Rattle.ipam_model.specs.declared.answer.Answer.{Answer}
 use Rattle.ipam_model.specs.declared.answer.Answer.TheVariants.{Fault}
 use Rattle.ipam_model.specs.declared.entry.Called.{Called}
@@ -17,7 +17,7 @@ use Rattle.ipam_model.specs.AddThis.{add_this_word}
 use Rattle.ipam_model.specs.Admin.{admin_word}
 use Rattle.ipam_model.specs.Affinities.{release as release_word}
 use Rattle.ipam_model.specs.CanAnswer.{IsTold, IsOwnAnswer, CanAnswer, CanAnswerLaw}
-use Rattle.ipam_model.specs.Cluster.{Running, answered, call_entry, called}
+use Rattle.ipam_model.specs.Cluster.{Running, word_after_reply, call_entry, call_made}
 use Rattle.ipam_model.specs.History.{Lawful, cluster_at}
 use Rattle.ipam_model.specs.Look.{check_word, probe_word}
 use Rattle.ipam_model.specs.Remove.{del_word, collect_word}
@@ -48,13 +48,13 @@ words-end (Collect request) = told-ends of_collect (collect_word request)
 words-end (Admin request) = told-ends of_admin (admin_word request)
 words-end (Probe request) = told-ends of_probe (probe_word request)
 
-answered-ends : (P : Answer → Type 0) (store : Datastore) (moment : ℕ) (word : Word Answer) → EndsIn P word → EndsIn P (answered store moment word)
+answered-ends : (P : Answer → Type 0) (store : Datastore) (moment : ℕ) (word : Word Answer) → EndsIn P word → EndsIn P (word_after_reply store moment word)
 unfolding EndsIn
 answered-ends P store moment (Ends answer) h = h
 answered-ends P store moment (Asks label asked next) h = h moment (reply_of store asked)
 answered-ends P store moment (Waits next) h = h
 
-fed-ends : (P : Answer → Type 0) (live : List (List ℕ)) (word : Word Answer) → EndsIn P word → EndsIn P (fed word live)
+fed-ends : (P : Answer → Type 0) (live : List (List ℕ)) (word : Word Answer) → EndsIn P word → EndsIn P (after_feed word live)
 unfolding EndsIn
 fed-ends P live (Ends answer) h = h
 fed-ends P live (Asks label asked next) h = h
@@ -72,13 +72,13 @@ own-kept = record {
 }
 
 -- the answer of a word that ends
-ended-own : (P : Answer → Type 0) (word : Word Answer) (told : Answer) → EndsIn P word → ended word ≡ Some told → P told
+ended-own : (P : Answer → Type 0) (word : Word Answer) (told : Answer) → EndsIn P word → answer_in word ≡ Some told → P told
 unfolding EndsIn
 ended-own P (Ends answer) told h e = let is : answer ≡ told = cc e in subst P is h
 ended-own P (Asks label asked next) told h e = absurd (cc e)
 ended-own P (Waits next) told h e = absurd (cc e)
 
-called-own : (request : Request) (slot : ℕ) (fate : Fate) (asked : Call) (reply : Said) (word : Word Answer) (told : Answer) → OwnEnds request word → (called slot fate asked reply (ended word)).answer ≡ Some told → CanAnswer request told
+called-own : (request : Request) (slot : ℕ) (fate : Fate) (asked : Call) (reply : Said) (word : Word Answer) (told : Answer) → OwnEnds request word → (call_made slot fate asked reply (answer_in word)).answer ≡ Some told → CanAnswer request told
 unfolding OwnEnds
 called-own request slot Well asked reply word told h e = inl (ended-own (IsOwnAnswer request) word told h e)
 called-own request slot Before asked reply word told h e = let is : Fault ≡ told = cc e in inr (sym is)
@@ -89,7 +89,7 @@ unfolding OwnEnds EndsIn
 entry-own request slot fate store moment (Ends answer) c told h e f = absurd (cc e)
 entry-own request slot fate store moment (Waits next) c told h e f = absurd (cc e)
 entry-own request slot fate store moment (Asks label asked next) c told h e f =
-    let is : called slot fate asked (reply_of store asked) (ended (next moment (reply_of store asked))) ≡ c = cc e in
+    let is : call_made slot fate asked (reply_of store asked) (answer_in (next moment (reply_of store asked))) ≡ c = cc e in
     called-own request slot fate asked (reply_of store asked) (next moment (reply_of store asked)) told (h moment (reply_of store asked)) (ap (λ (x : Called). x.answer) is ∙ f)
 
 -- the request that runs

@@ -16,7 +16,7 @@ use Rattle.ipam_model.specs.BlockLaw.{BlockAt}
 use Rattle.ipam_model.specs.Consistent.{IsConsistent, IsSlotOfSome, pools_in}
 use Rattle.ipam_model.specs.Moments.{Owns}
 use Rattle.ipam_model.specs.Owners.{Owner, owner_of, owners_in, owners_in_row}
-use Rattle.ipam_model.specs.Reads.{Row}
+use Rattle.ipam_model.specs.Reads.{StoredRecord}
 use Rattle.ipam_laws.proofs.Calls.{found-block, found-key}
 use Rattle.ipam_laws.proofs.Members.{in-cons, in-here, in-map, in-nothing, in-there, out-map}
 use Rattle.ipam_laws.proofs.OwnersOrder.{owned-inside, pools-table, same-slot}
@@ -25,17 +25,17 @@ use Rattle.ipam_laws.proofs.SoundSteps.{row-there}
 
 -- ---- owners of rows
 
-pub owner-row : (rows : List Row) (o : Owner) → Contains (owners_in rows) o → (row : Row) × Contains rows row × Contains (owners_in_row row) o
+pub owner-row : (rows : List StoredRecord) (o : Owner) → Contains (owners_in rows) o → (row : StoredRecord) × Contains rows row × Contains (owners_in_row row) o
 owner-row [] o h = absurd (in-nothing o h)
 owner-row (row ∷ rows) o h = elim (Contains-append_cases (owners_in_row row) (owners_in rows) o h) [
   | inl own ↦ (row, in-here row rows, own)
   | inr other ↦ let (found, among, own) = owner-row rows o other in (found, in-there found row rows among, own)
 ]
 
-pub row-owner : (rows : List Row) (row : Row) (o : Owner) → Contains rows row → Contains (owners_in_row row) o → Contains (owners_in rows) o
+pub row-owner : (rows : List StoredRecord) (row : StoredRecord) (o : Owner) → Contains rows row → Contains (owners_in_row row) o → Contains (owners_in rows) o
 row-owner [] row o among own = absurd (in-nothing row among)
 row-owner (first ∷ rows) row o among own = elim (in-cons row first rows among) [
-  | inl same ↦ Contains-append_left (owners_in_row first) (owners_in rows) o (subst (λ (r : Row). Contains (owners_in_row r) o) (sym same) own)
+  | inl same ↦ Contains-append_left (owners_in_row first) (owners_in rows) o (subst (λ (r : StoredRecord). Contains (owners_in_row r) o) (sym same) own)
   | inr rest ↦ Contains-append_right (owners_in_row first) (owners_in rows) o (row-owner rows row o rest own)
 ]
 

@@ -6,7 +6,7 @@ use Rattle.std.proofs.lemmas.Bool.{cases_Bool}
 use Rattle.ipam_addr.specs.Shape.{CidrValue}
 use Rattle.ipam_block.specs.declared.allocation.Allocation.{Allocation}
 use Rattle.ipam_block.specs.declared.allocation.Attributes.{Attributes}
-use Rattle.ipam_block.specs.Operations.{assigned, freed, next_block}
+use Rattle.ipam_block.specs.Operations.{block_with_ordinal, block_without, next_block}
 use Rattle.ipam_block.specs.Shape.{BlockValue}
 use Rattle.ipam_records.specs.declared.key.Key.TheVariants as key
 use Rattle.ipam_records.specs.declared.record.Record.TheVariants as record_of
@@ -104,7 +104,7 @@ pub not-true : (b : Bool) → not b ≡ true → b ≡ true → ⊥
 not-true true e f = cc e
 not-true false e f = cc f
 
-pub freed-loses : (store next : Datastore) (b : BlockValue) (picks : Allocation → Bool) (amount : ℕ) → Rewrites store next b (freed picks (next_block b)) → IsByOwner b.cidr picks → count_by picks b.allocations ≡ suc amount → Loses store next (IsPickedIn b picks)
+pub freed-loses : (store next : Datastore) (b : BlockValue) (picks : Allocation → Bool) (amount : ℕ) → Rewrites store next b (block_without picks (next_block b)) → IsByOwner b.cidr picks → count_by picks b.allocations ≡ suc amount → Loses store next (IsPickedIn b picks)
 freed-loses store next b picks amount w by_owner count = record {
   some = owner_of b.cidr first.0;
   was_there = owns-by store b b.cidr w.revision w.there (owner_of b.cidr first.0) (first.0, first.1, refl);
@@ -116,7 +116,7 @@ freed-loses store next b picks amount w by_owner count = record {
     first = some-picked picks b.allocations amount count
 
     to : (o : Owner) → Owns next o → Owns store o × ¬ (IsPickedIn b picks o)
-    to o owns = elim (owns-cases next (freed picks (next_block b)) b.cidr w.next_revision w.then_consistent w.there_then o owns) [
+    to o owns = elim (owns-cases next (block_without picks (next_block b)) b.cidr w.next_revision w.then_consistent w.there_then o owns) [
       | inl (a, among, is) ↦
           let (was, kept) = in-filter (λ x. not (picks x)) a b.allocations among in (
             owns-by store b b.cidr w.revision w.there o (a, was, is),
@@ -133,7 +133,7 @@ freed-loses store next b picks amount w by_owner count = record {
     from o (owns, not_lost) = elim (owns-cases store b b.cidr w.revision w.consistent w.there o owns) [
       | inl (a, among, is) ↦ elim (cases_Bool (picks a)) [
         | inl chosen ↦ absurd (not_lost (a, among, chosen, is))
-        | inr other ↦ owns-by next (freed picks (next_block b)) b.cidr w.next_revision w.there_then o (a, filter-in (λ x. not (picks x)) a b.allocations among (ap not other), is)
+        | inr other ↦ owns-by next (block_without picks (next_block b)) b.cidr w.next_revision w.there_then o (a, filter-in (λ x. not (picks x)) a b.allocations among (ap not other), is)
       ]
       | inr (other, differ, held) ↦ held-owns next other o (moves store next other o (w.elsewhere other differ) held)
     ]
@@ -169,14 +169,14 @@ in-still (y ∷ ys) (suc place) x z h = elim (in-cons z y ys h) [
 abbrev pub new_owner : BlockValue → (ordinal : ℕ) → Attributes → Owner
 new_owner b ordinal attributes = owner_of b.cidr (record { ordinal = ordinal; attributes = attributes; stamp = b.sequence + 1 })
 
-pub assigned-gains : (store next : Datastore) (b : BlockValue) (ordinal : ℕ) (attributes : Attributes) → Rewrites store next b (assigned (next_block b) ordinal attributes) → Gains store next (new_owner b ordinal attributes)
+pub assigned-gains : (store next : Datastore) (b : BlockValue) (ordinal : ℕ) (attributes : Attributes) → Rewrites store next b (block_with_ordinal (next_block b) ordinal attributes) → Gains store next (new_owner b ordinal attributes)
 assigned-gains store next b ordinal attributes w = record {
   was_free = free;
   are = λ o. (to o, from o);
 }
   where
     new : BlockValue
-    new = assigned (next_block b) ordinal attributes
+    new = block_with_ordinal (next_block b) ordinal attributes
 
     a : Allocation
     a = record { ordinal = ordinal; attributes = attributes; stamp = b.sequence + 1 }

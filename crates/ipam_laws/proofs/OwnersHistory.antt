@@ -5,7 +5,7 @@ use Rattle.std.specs.List.{count_by}
 use Rattle.std.proofs.lemmas.Bool.{leb-true}
 use Rattle.ipam_addr.specs.Shape.{CidrValue}
 use Rattle.ipam_block.specs.declared.allocation.Attributes.{Attributes}
-use Rattle.ipam_block.specs.Operations.{assigned, freed, next_block}
+use Rattle.ipam_block.specs.Operations.{block_with_ordinal, block_without, next_block}
 use Rattle.ipam_block.specs.Shape.{BlockValue}
 use Rattle.ipam_records.specs.declared.call.Call.{Call}
 use Rattle.ipam_records.specs.declared.call.Call.TheVariants.{List as ListAll}
@@ -13,9 +13,9 @@ use Rattle.ipam_records.specs.declared.key.Key.TheVariants as key
 use Rattle.ipam_records.specs.declared.key.Kind.TheVariants as kind
 use Rattle.ipam_records.specs.declared.record.Record.TheVariants as record_of
 use Rattle.ipam_records.specs.Datastore.{Datastore, reply_of, row_of}
-use Rattle.ipam_records.specs.Label.{Label, Nowhere}
+use Rattle.ipam_records.specs.Label.{CallLabel, Nowhere}
 use Rattle.ipam_records.specs.Said.{Can}
-use Rattle.ipam_records.specs.Word.{Asks, ended, label_of}
+use Rattle.ipam_records.specs.Word.{Asks, answer_in, label_of}
 use Rattle.ipam_records.proofs.DatastoreLemmas.{row_of-with_row}
 use Rattle.ipam_model.specs.declared.answer.Answer.{Answer}
 use Rattle.ipam_model.specs.declared.entry.Called.{Called}
@@ -28,7 +28,7 @@ use Rattle.ipam_model.specs.declared.request.Request.{Request}
 use Rattle.ipam_model.specs.declared.request.Request.TheVariants.{Collect}
 use Rattle.ipam_model.specs.AffinityLaw.{HasAt}
 use Rattle.ipam_model.specs.Assigning.{Target}
-use Rattle.ipam_model.specs.Cluster.{Running, after, called, store_after}
+use Rattle.ipam_model.specs.Cluster.{Running, after, call_made, store_after}
 use Rattle.ipam_model.specs.Consistent.{IsConsistent}
 use Rattle.ipam_model.specs.Counting.{Freeing}
 use Rattle.ipam_model.specs.History.{Base, Lawful, Span, cluster_at, now, seen_at, seen_now, store_at}
@@ -63,7 +63,7 @@ part-of span earlier trail upto Same h = (upto, h)
 part-of span earlier trail upto (Later (Did moment store asked) rest since) h = part-of span earlier rest moment since h.2
 part-of span earlier trail upto (Later (Got moment at live) rest since) h = part-of span earlier rest moment since h.2
 
--- an address that was assigned was gained in the span
+-- an address that was block_with_ordinal was gained in the span
 gained : (span : Span) (attributes : Attributes) (target : Target) (trail : Trail) (upto : ℕ) → IsConsistent span.base.store → Lawful span.base span.history → IsTrail span upto trail → DidAssign attributes target trail → GainedInSpan span (new_owner target.block target.ordinal attributes)
 unfolding IsTrail
 gained span attributes target trail upto c h is did =
@@ -71,7 +71,7 @@ gained span attributes target trail upto c h is did =
     let there = earlier.0 in
     let old = consistent-before span.base span.history did.moment c h in
     let new = consistent-before span.base span.history (did.moment + 1) c h in
-    let new_block = assigned (next_block target.block) target.ordinal attributes in
+    let new_block = block_with_ordinal (next_block target.block) target.ordinal attributes in
     let done = subst (λ (s : Datastore). (reply_of s (assigning_call attributes target) ≡ reply_of did.store (assigning_call attributes target)) × IsCurrent s target.revision target.block × (behind s (assigning_call attributes target) ≡ behind did.store (assigning_call attributes target))) (sym there.before_it) (refl, did.current, refl) in
     let rewrite : Rewrites (seen_at span did.moment) (seen_at span (did.moment + 1)) target.block new_block =
     rewrites (seen_at span did.moment) (seen_at span (did.moment + 1)) target.block new_block target.revision did.revision old new refl (done.0 ∙ did.done) done.1 (there.behind_it ∙ sym done.2) in (
@@ -148,7 +148,7 @@ now-consistent span c h = consistent_law span.base span.history c h
 assign-moves : (span : Span) (request : Request) (trail : Trail) (next : Datastore) (attributes : Attributes) (target : Target) (revision : ℕ) → CallThere span request trail next → next ≡ behind (seen_now span) (assigning_call attributes target) → reply_of (seen_now span) (assigning_call attributes target) ≡ Can revision
     → IsCurrent (seen_now span) target.revision target.block → MayGain request (new_owner target.block target.ordinal attributes) → OwnersMove span next
 assign-moves span request trail next attributes target revision t is done current may =
-    let rewrite = rewrites (seen_now span) next target.block (assigned (next_block target.block) target.ordinal attributes) target.revision revision (now-consistent span t.consistent t.lawful) t.then_consistent refl done current is in
+    let rewrite = rewrites (seen_now span) next target.block (block_with_ordinal (next_block target.block) target.ordinal attributes) target.revision revision (now-consistent span t.consistent t.lawful) t.then_consistent refl done current is in
     inr (request, t.requested, Assigned (new_owner target.block target.ordinal attributes) may (assigned-gains (seen_now span) next target.block target.ordinal attributes rewrite))
 
 -- the owner in the words of the block
@@ -159,14 +159,14 @@ owner-at leak cidr number family is =
     ap (λ (c : CidrValue). stamped_owner c (leak.owner.address.number - leak.block.base) leak.owner.handle leak.owner.stamp) is
     ∙ (λ i. record { address = record { family = family i; number = sum i }; handle = leak.owner.handle; stamp = leak.owner.stamp })
 
-free-moves : (span : Span) (request : Request) (trail : Trail) (next : Datastore) (what : Freeing) (b : BlockValue) (amount : ℕ) → CallThere span request trail next → Rewrites (seen_now span) next b (freed what.picks (next_block b)) → b.cidr ≡ what.block → count_by what.picks b.allocations ≡ suc amount
+free-moves : (span : Span) (request : Request) (trail : Trail) (next : Datastore) (what : Freeing) (b : BlockValue) (amount : ℕ) → CallThere span request trail next → Rewrites (seen_now span) next b (block_without what.picks (next_block b)) → b.cidr ≡ what.block → count_by what.picks b.allocations ≡ suc amount
     → MayLose request trail what → OwnersMove span next
 free-moves span request trail next what b amount t w same count (OfDel id cidr is all) =
-    let rewrite = subst (λ (x : Freeing). Rewrites (seen_now span) next b (freed x.picks (next_block b))) all w in
+    let rewrite = subst (λ (x : Freeing). Rewrites (seen_now span) next b (block_without x.picks (next_block b))) all w in
     let some = subst (λ (x : Freeing). count_by x.picks b.allocations ≡ suc amount) all count in
     inr (request, t.requested, Deleted id b is (w.revision, w.there) (loses-all (seen_now span) next b id amount rewrite some))
 free-moves span request trail next what b amount t w same count (OfAdd add target is did one) =
-    let rewrite = subst (λ (x : Freeing). Rewrites (seen_now span) next b (freed x.picks (next_block b))) one w in
+    let rewrite = subst (λ (x : Freeing). Rewrites (seen_now span) next b (block_without x.picks (next_block b))) one w in
     let some = subst (λ (x : Freeing). count_by x.picks b.allocations ≡ suc amount) one count in
     let at : b.cidr ≡ target.block.cidr = same ∙ ap (λ (x : Freeing). x.block) one in
     let owner = new_owner target.block target.ordinal add.attributes in
@@ -179,7 +179,7 @@ free-moves span request trail next what b amount t w same count (OfAdd add targe
           (subst (λ (p : Owner). Loses (seen_now span) next (λ o. o ≡ p)) named lost),
     )
 free-moves span request trail next what b amount t w same count (OfCollect collect leak is listed_leak one) =
-    let rewrite = subst (λ (x : Freeing). Rewrites (seen_now span) next b (freed x.picks (next_block b))) one w in
+    let rewrite = subst (λ (x : Freeing). Rewrites (seen_now span) next b (block_without x.picks (next_block b))) one w in
     let some = subst (λ (x : Freeing). count_by x.picks b.allocations ≡ suc amount) one count in
     let at : b.cidr ≡ leak.block = same ∙ ap (λ (x : Freeing). x.block) one in
     let due = subst (λ (r : Request). AreDue span.base span.history span.slot r) is t.due in
@@ -201,7 +201,7 @@ put-apart store next asked new given put is apart =
     absurd (omega arith)
 
 -- a call that puts a block while its request stands nowhere assigns or frees
-put-moves : (span : Span) (request : Request) (trail : Trail) (next : Datastore) (label : Label) (asked : Call) (new : BlockValue) → CallThere span request trail next → next ≡ behind (seen_now span) asked → label.point ≡ Nowhere → IsPut (seen_now span) next (record_of.Block new)
+put-moves : (span : Span) (request : Request) (trail : Trail) (next : Datastore) (label : CallLabel) (asked : Call) (new : BlockValue) → CallThere span request trail next → next ≡ behind (seen_now span) asked → label.point ≡ Nowhere → IsPut (seen_now span) next (record_of.Block new)
     → Act request trail (seen_now span) label asked → OwnersMove span next
 put-moves span request trail next label asked new t is nowhere put (Apart apart) = absurd (put-apart (seen_now span) next asked new (history-given span.base span.history t.consistent.sound t.lawful) put is apart)
 put-moves span request trail next label asked new t is nowhere put (Stands stands) = absurd (stands nowhere)
@@ -217,14 +217,14 @@ put-moves span request trail next label asked new t is nowhere put (Frees what b
       | NotGiven stays ↦ inl (ap owners (same_call ∙ stays))
       | Given taken done ↦
           free-moves span request trail next what b amount t
-          (rewrites (seen_now span) next b (freed what.picks (next_block b)) revision taken (now-consistent span t.consistent t.lawful) t.then_consistent refl done current same_call)
+          (rewrites (seen_now span) next b (block_without what.picks (next_block b)) revision taken (now-consistent span t.consistent t.lawful) t.then_consistent refl done current same_call)
           same count may
     ]
 
-step-moves : (span : Span) (request : Request) (trail : Trail) (next : Datastore) (label : Label) (asked : Call) → CallThere span request trail next → next ≡ behind (seen_now span) asked → OwnersStep (seen_now span) next label → Act request trail (seen_now span) label asked → OwnersMove span next
+step-moves : (span : Span) (request : Request) (trail : Trail) (next : Datastore) (label : CallLabel) (asked : Call) → CallThere span request trail next → next ≡ behind (seen_now span) asked → OwnersStep (seen_now span) next label → Act request trail (seen_now span) label asked → OwnersMove span next
 step-moves span request trail next label asked t is (Stay same) act = inl same
-step-moves span request trail next label asked t is (ByIdle new idles put) act = put-moves span request trail next label asked new t is (ap (λ (l : Label). l.point) idles) put act
-step-moves span request trail next label asked t is (ByOwing new credit owes put) act = put-moves span request trail next label asked new t is (ap (λ (l : Label). l.point) owes) put act
+step-moves span request trail next label asked t is (ByIdle new idles put) act = put-moves span request trail next label asked new t is (ap (λ (l : CallLabel). l.point) idles) put act
+step-moves span request trail next label asked t is (ByOwing new credit owes put) act = put-moves span request trail next label asked new t is (ap (λ (l : CallLabel). l.point) owes) put act
 
 -- ---- every entry
 
@@ -236,15 +236,15 @@ all-act = record {
   feeds = λ request trail next h. h;
 }
 
-next-is : (base : Base) (history : List Entry) (c : Called) (asked : Call) (answer : Option Answer) → called c.slot c.fate asked (reply_of (store_at base history) asked) answer ≡ c → c.fate ≢ Before → store_at base (entry.Called c ∷ history) ≡ behind (store_at base history) asked
+next-is : (base : Base) (history : List Entry) (c : Called) (asked : Call) (answer : Option Answer) → call_made c.slot c.fate asked (reply_of (store_at base history) asked) answer ≡ c → c.fate ≢ Before → store_at base (entry.Called c ∷ history) ≡ behind (store_at base history) asked
 unfolding cluster_at after
 next-is base history c asked answer e not_before = ap (λ (x : Called). store_after x (store_at base history)) (sym e) ∙ done-store c.slot c.fate asked (store_at base history) answer not_before
 
 -- a call that failed before it was done leaves the store
-failed-before : (base : Base) (history : List Entry) (c : Called) (asked : Call) (answer : Option Answer) → called c.slot c.fate asked (reply_of (store_at base history) asked) answer ≡ c → c.fate ≡ Before → store_at base (entry.Called c ∷ history) ≡ store_at base history
+failed-before : (base : Base) (history : List Entry) (c : Called) (asked : Call) (answer : Option Answer) → call_made c.slot c.fate asked (reply_of (store_at base history) asked) answer ≡ c → c.fate ≡ Before → store_at base (entry.Called c ∷ history) ≡ store_at base history
 unfolding cluster_at after
 failed-before base history c asked answer e before =
-    let is : called c.slot Before asked (reply_of (store_at base history) asked) answer ≡ c = ap (λ (f : Fate). called c.slot f asked (reply_of (store_at base history) asked) answer) (sym before) ∙ e in
+    let is : call_made c.slot Before asked (reply_of (store_at base history) asked) answer ≡ c = ap (λ (f : Fate). call_made c.slot f asked (reply_of (store_at base history) asked) answer) (sym before) ∙ e in
     ap (λ (x : Called). store_after x (store_at base history)) (sym is)
 
 failed-moves : (base : Base) (history : List Entry) (c : Called) → Lawful base (entry.Called c ∷ history) → c.fate ≡ Before → OwnersMove (span_at base history c.slot) (store_at base (entry.Called c ∷ history))
@@ -252,7 +252,7 @@ unfolding Lawful
 failed-moves base history c h before =
     let may = h.1 in
     let is = made c (store_at base history) (cluster_at base history).entries may.running.word may.is_called in
-    inl (ap owners (failed-before base history c is.asked (ended (is.next (cluster_at base history).entries (reply_of (store_at base history) is.asked))) is.is_call before))
+    inl (ap owners (failed-before base history c is.asked (answer_in (is.next (cluster_at base history).entries (reply_of (store_at base history) is.asked))) is.is_call before))
 
 -- a call that was done
 done-moves : (base : Base) (history : List Entry) (c : Called) → IsConsistent base.store → Lawful base (entry.Called c ∷ history) → c.fate ≢ Before → OwnersMove (span_at base history c.slot) (store_at base (entry.Called c ∷ history))
@@ -269,7 +269,7 @@ done-moves base history c consistent h done =
     let act = (acts (cluster_at base history).entries store (trail-agrees span sound h.0 run.trail (now span) run.is_trail)).0 in
     let turn = turn-of base history (entry.Called c) sound h in
     let label : label_at base history c.slot ≡ is.label = ap label_in may.runs ∙ ap label_of is.is_word in
-    let made_it : next ≡ behind store is.asked = next-is base history c is.asked (ended (is.next (cluster_at base history).entries (reply_of store is.asked))) is.is_call done in
+    let made_it : next ≡ behind store is.asked = next-is base history c is.asked (answer_in (is.next (cluster_at base history).entries (reply_of store is.asked))) is.is_call done in
     let step = step-owners (known_at base history) store next (label_at base history c.slot) turn.reached (consistent_law base history consistent h.0).sound.ascending turn.step in
     step-moves span may.running.request run.trail next is.label is.asked
     (record {
@@ -280,7 +280,7 @@ done-moves base history c consistent h done =
       requested = ap (λ (o : Option Running). option_map (λ (r : Running). r.request) o) may.runs;
       then_consistent = consistent_law base (entry.Called c ∷ history) consistent h;
     })
-    made_it (subst (λ (l : Label). OwnersStep store next l) label step) act
+    made_it (subst (λ (l : CallLabel). OwnersStep store next l) label step) act
 
 pub owners_law : OwnersLaw
 unfolding cluster_at after

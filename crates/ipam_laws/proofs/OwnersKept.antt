@@ -6,7 +6,7 @@ use Rattle.std.specs.Ordering.{is_eq}
 use Rattle.std.specs.List.Sorted.{IsStrictlySortedBy}
 use Rattle.std.proofs.lemmas.Bool.{cases_Bool}
 use Rattle.ipam_addr.specs.Shape.{CidrValue}
-use Rattle.ipam_block.specs.Operations.{freed, assigned, next_block}
+use Rattle.ipam_block.specs.Operations.{block_without, block_with_ordinal, next_block}
 use Rattle.ipam_block.specs.Shape.{BlockValue}
 use Rattle.ipam_records.specs.declared.call.Write.TheVariants.{Remove}
 use Rattle.ipam_records.specs.declared.key.Key.{Key}
@@ -17,12 +17,12 @@ use Rattle.ipam_records.specs.Datastore.{Datastore, reply_to_get, row_at, row_ke
 use Rattle.ipam_records.specs.Key.{key_of}
 use Rattle.ipam_records.specs.KeyOrder.{key_cmp, keys_equal}
 use Rattle.ipam_records.specs.KeyOrderLaws.{keys_equal-itself, keys_equal-other, same-keys_equal}
-use Rattle.ipam_records.specs.Label.{Label, Credit, idle, owing}
+use Rattle.ipam_records.specs.Label.{CallLabel, Credit, idle, owing}
 use Rattle.ipam_model.specs.Admin.{key_changed}
 use Rattle.ipam_model.specs.Affinities.{BlockRead}
 use Rattle.ipam_model.specs.AffinityLaw.{HasAt}
 use Rattle.ipam_model.specs.Owners.{Owner, owners, owners_in, owners_in_row}
-use Rattle.ipam_model.specs.Reads.{Row}
+use Rattle.ipam_model.specs.Reads.{StoredRecord}
 use Rattle.ipam_laws.proofs.BlockSteps.{IsNoBlock, changed-no-block}
 use Rattle.ipam_laws.proofs.Calls.{found-key}
 use Rattle.ipam_laws.proofs.Lift.{Known}
@@ -33,11 +33,11 @@ use Rattle.ipam_laws.proofs.Steps.{IsAsRead, IsPut, taken, bared, Step, Idles, O
 
 -- ---- rows that record the same owners
 
-owners_at : Option Row → List Owner
+owners_at : Option StoredRecord → List Owner
 owners_at None = []
 owners_at (Some row) = owners_in_row row
 
-put-same : (new : Row) (rows : List Row) → IsStrictlySortedBy key_cmp (map row_key rows) → owners_in_row new ≡ owners_at (row_of (row_key new) rows) → owners_in (with_row new rows) ≡ owners_in rows
+put-same : (new : StoredRecord) (rows : List StoredRecord) → IsStrictlySortedBy key_cmp (map row_key rows) → owners_in_row new ≡ owners_at (row_of (row_key new) rows) → owners_in (with_row new rows) ≡ owners_in rows
 unfolding IsStrictlySortedBy owners_at
 put-same new [] s e = ap (λ (l : List Owner). l ++ []) e
 put-same new (r ∷ rs) s e = by (key_cmp (row_key new) (row_key r)) refl (put-same new rs s.1)
@@ -70,7 +70,7 @@ nobody revision (record_of.Reservations reservations) h = refl
 nobody revision (record_of.Affinity a) h = refl
 nobody revision (record_of.Handle handle) h = refl
 
-without-same : (k : Key) (rows : List Row) → IsNoBlock k → owners_in (without_row k rows) ≡ owners_in rows
+without-same : (k : Key) (rows : List StoredRecord) → IsNoBlock k → owners_in (without_row k rows) ≡ owners_in rows
 without-same k [] h = refl
 without-same k ((revision, found) ∷ rs) h = elim (cases_Bool (keys_equal (key_of found) k)) [
   | inl same ↦
@@ -96,7 +96,7 @@ unfolding owners_at
 puts store next new sorted e h =
     ap owners e ∙ put-same (store.counter + 1, new) store.rows sorted (nobody (store.counter + 1) new h ∙ sym (none (row_of (key_of new) store.rows) refl))
   where
-    none : (o : Option Row) → row_of (key_of new) store.rows ≡ o → owners_at o ≡ []
+    none : (o : Option StoredRecord) → row_of (key_of new) store.rows ≡ o → owners_at o ≡ []
     none None f = refl
     none (Some (revision, found)) f = nobody revision found (subst (λ (k : Key). IsNoBlock k) (sym (found-key store (key_of new) revision found f)) h)
 
@@ -120,12 +120,12 @@ bared-same store next node cidr (Some (revision, b)) sorted (same, there) e =
 -- ---- all kinds
 
 -- the owners stay, or a block is written by a request that stands nowhere or owes
-pub data OwnersStep (store next : Datastore) (label : Label) : Type 0 where
+pub data OwnersStep (store next : Datastore) (label : CallLabel) : Type 0 where
   Stay : owners next ≡ owners store → OwnersStep store next label
   ByIdle : (new : BlockValue) → label ≡ idle → IsPut store next (record_of.Block new) → OwnersStep store next label
   ByOwing : (new : BlockValue) (credit : Credit) → label ≡ owing credit → IsPut store next (record_of.Block new) → OwnersStep store next label
 
-pub step-owners : (known : Known) (store next : Datastore) (label after : Label) → IsSorted store → Step known store next label after → OwnersStep store next label
+pub step-owners : (known : Known) (store next : Datastore) (label after : CallLabel) → IsSorted store → Step known store next label after → OwnersStep store next label
 step-owners known store next label after sorted (Idles a b) = Stay (stays store next a)
 step-owners known store next label after sorted (Owes credit a b c) = Stay (stays store next a)
 step-owners known store next label after sorted (Finds tie read kept state a b c d e f) = Stay (stays store next a)
@@ -139,7 +139,7 @@ step-owners known store next label after sorted (Deletes tie mark found a b c d)
 step-owners known store next label after sorted (Raises id cidr h a b c d e f) = Stay (puts store next _ sorted a tt)
 step-owners known store next label after sorted (Lowers credit h revision first rest a b c d e f) = Stay (puts store next _ sorted a tt)
 step-owners known store next label after sorted (LowersOut credit h revision a b c d e f) = Stay (removes store next (key.Handle h.id) a tt)
-step-owners known store next label after sorted (Frees what amount revision b s t u v w x y) = ByIdle (freed what.picks (next_block b)) t s
-step-owners known store next label after sorted (Assigns attributes target a b c d e f) = ByOwing (assigned (next_block target.block) target.ordinal attributes) _ b a
+step-owners known store next label after sorted (Frees what amount revision b s t u v w x y) = ByIdle (block_without what.picks (next_block b)) t s
+step-owners known store next label after sorted (Assigns attributes target a b c d e f) = ByOwing (block_with_ordinal (next_block target.block) target.ordinal attributes) _ b a
 step-owners known store next label after sorted (Changes request new a b c d e) =
     Stay (puts store next new sorted a (subst (λ (k : Key). IsNoBlock k) (sym (key-changed request (reply_to_get (row_of (key_changed request) store.rows)) new d)) (changed-no-block request)))

@@ -4,7 +4,7 @@ use Rattle.std.specs.Prelude.{◌&&◌, ◌==◌}
 use Rattle.std.specs.List.{count_by}
 use Rattle.ipam_addr.specs.Shape.{CidrValue}
 use Rattle.ipam_block.specs.declared.allocation.Allocation.{Allocation}
-use Rattle.ipam_block.specs.Operations.{address_of, is_owned, is_stamped, freed, next_block}
+use Rattle.ipam_block.specs.Operations.{ordinal_address, is_owned, is_stamped, block_without, next_block}
 use Rattle.ipam_block.specs.Shape.{BlockValue}
 use Rattle.ipam_records.specs.declared.call.Call.{Call}
 use Rattle.ipam_records.specs.declared.call.Call.TheVariants.{Get, List as ListAll, Create, Update, Delete}
@@ -106,7 +106,7 @@ owned-by_owner cidr id a other same e =
     let handle : other.attributes.handle ≡ id = ap (λ (o : Owner). o.handle) (sym same) ∙ same-handle a id e in
     subst (λ (x : List ℕ). is_owned x other ≡ true) handle (same_text other.attributes.handle)
 
-pub loses-all : (store next : Datastore) (b : BlockValue) (id : List ℕ) (amount : ℕ) → Rewrites store next b (freed (is_owned id) (next_block b)) → count_by (is_owned id) b.allocations ≡ suc amount → Loses store next (IsHeldIn b.cidr id)
+pub loses-all : (store next : Datastore) (b : BlockValue) (id : List ℕ) (amount : ℕ) → Rewrites store next b (block_without (is_owned id) (next_block b)) → count_by (is_owned id) b.allocations ≡ suc amount → Loses store next (IsHeldIn b.cidr id)
 loses-all store next b id amount w count =
     loses-as store next (IsPickedIn b (is_owned id)) (IsHeldIn b.cidr id) (freed-loses store next b (is_owned id) amount w (owned-by_owner b.cidr id) count) to from
   where
@@ -141,7 +141,7 @@ and-three false b c e = absurd (cc e)
 
 -- the owner that the ordinal, the handle and the stamp say
 abbrev pub stamped_owner : CidrValue → (ordinal : ℕ) → List ℕ → (stamp : ℕ) → Owner
-stamped_owner cidr ordinal handle stamp = record { address = address_of cidr ordinal; handle = handle; stamp = stamp }
+stamped_owner cidr ordinal handle stamp = record { address = ordinal_address cidr ordinal; handle = handle; stamp = stamp }
 
 stamped-is : (cidr : CidrValue) (ordinal : ℕ) (handle : List ℕ) (stamp : ℕ) (a : Allocation) → is_stamped ordinal handle stamp a ≡ true → owner_of cidr a ≡ stamped_owner cidr ordinal handle stamp
 stamped-is cidr ordinal handle stamp a e =
@@ -149,7 +149,7 @@ stamped-is cidr ordinal handle stamp a e =
     let at = eqb-true a.ordinal ordinal first in
     let stamped = eqb-true a.stamp stamp second in
     let own = same-handle a handle third in
-    λ i. record { address = address_of cidr (at i); handle = own i; stamp = stamped i }
+    λ i. record { address = ordinal_address cidr (at i); handle = own i; stamp = stamped i }
 
 pub stamped-by_owner : (cidr : CidrValue) (ordinal : ℕ) (handle : List ℕ) (stamp : ℕ) → IsByOwner cidr (is_stamped ordinal handle stamp)
 stamped-by_owner cidr ordinal handle stamp a other same e =
@@ -161,7 +161,7 @@ stamped-by_owner cidr ordinal handle stamp a other same e =
     λ i. is_stamped ordinal handle stamp (record { ordinal = at i; attributes = record a.attributes { handle = handles i }; stamp = stamps i }) in
     sym moved ∙ e
 
-pub loses-one : (store next : Datastore) (b : BlockValue) (ordinal : ℕ) (handle : List ℕ) (stamp amount : ℕ) → Rewrites store next b (freed (is_stamped ordinal handle stamp) (next_block b)) → count_by (is_stamped ordinal handle stamp) b.allocations ≡ suc amount
+pub loses-one : (store next : Datastore) (b : BlockValue) (ordinal : ℕ) (handle : List ℕ) (stamp amount : ℕ) → Rewrites store next b (block_without (is_stamped ordinal handle stamp) (next_block b)) → count_by (is_stamped ordinal handle stamp) b.allocations ≡ suc amount
     → Loses store next (λ o. o ≡ stamped_owner b.cidr ordinal handle stamp)
 loses-one store next b ordinal handle stamp amount w count =
     let h = freed-loses store next b (is_stamped ordinal handle stamp) amount w (stamped-by_owner b.cidr ordinal handle stamp) count in

@@ -37,7 +37,7 @@ use Rattle.ipam_model.specs.History.{store_at}
 use Rattle.ipam_model.specs.Moments.{Owns}
 use Rattle.ipam_model.specs.OwnerLaw.{OwnersOrderLaw, OneOwnerLaw}
 use Rattle.ipam_model.specs.Owners.{Owner, owner_of, owners_in_row, owners_in, owners, IsBefore, AreInOrder}
-use Rattle.ipam_model.specs.Reads.{Row}
+use Rattle.ipam_model.specs.Reads.{StoredRecord}
 use Rattle.ipam_laws.proofs.Members.{all-of, in-cons, in-here, in-there, in-nothing, in-map, out-map}
 use Rattle.ipam_laws.proofs.SlotsHistory.{consistent_law}
 use Rattle.ipam_laws.proofs.SoundSteps.{row-there}
@@ -190,12 +190,12 @@ blocks-order pools b c o p table h k first second less one other =
 -- ---- owners of rows
 
 -- the rows are sound, and their blocks lie at slots
-record ArePlaced (pools : List Pool) (rows : List Row) : Type 0 where
-  sound : (row : Row) → Contains rows row → IsRecord row.1
-  slots : (row : Row) (cidr : CidrValue) → Contains rows row → cidr_named (row_key row) ≡ Some cidr → IsSlotOfSome pools cidr
+record ArePlaced (pools : List Pool) (rows : List StoredRecord) : Type 0 where
+  sound : (row : StoredRecord) → Contains rows row → IsRecord row.1
+  slots : (row : StoredRecord) (cidr : CidrValue) → Contains rows row → cidr_named (row_key row) ≡ Some cidr → IsSlotOfSome pools cidr
 
 -- the block of a later row whose owner it is
-later-owner : (k : CidrValue) (rows : List Row) (p : Owner) → AllByRecursion (λ z. key_cmp (key.Block k) z ≡ Less) (map row_key rows) → Contains (owners_in rows) p
+later-owner : (k : CidrValue) (rows : List StoredRecord) (p : Owner) → AllByRecursion (λ z. key_cmp (key.Block k) z ≡ Less) (map row_key rows) → Contains (owners_in rows) p
     → (revision : ℕ) × (c : block.BlockValue) × Contains rows (revision, record_of.Block c) × Contains (map (owner_of c.cidr) c.allocations) p × (cidr_cmp k c.cidr ≡ Less)
 later-owner k [] p less there = absurd (in-nothing p there)
 later-owner k ((revision, found) ∷ rows) p less there = by found less.0 (Contains-append_cases (owners_in_row (revision, found)) (owners_in rows) p there) (λ other. later-owner k rows p less.1 other)
@@ -213,7 +213,7 @@ later-owner k ((revision, found) ∷ rows) p less there = by found less.0 (Conta
         let (r, c, among, own, less') = rest other in
         (r, c, in-there (r, record_of.Block c) (revision, f) rows among, own, less')
 
-rows-order : (pools : List Pool) (rows : List Row) → IsPoolTable pools → IsStrictlySortedBy key_cmp (map row_key rows) → ArePlaced pools rows → AreInOrder (owners_in rows)
+rows-order : (pools : List Pool) (rows : List StoredRecord) → IsPoolTable pools → IsStrictlySortedBy key_cmp (map row_key rows) → ArePlaced pools rows → AreInOrder (owners_in rows)
 unfolding IsStrictlySortedBy
 rows-order pools [] table sorted placed = λ i j d below within. absurd (omega arith)
 rows-order pools ((revision, found) ∷ rows) table sorted placed =
@@ -250,7 +250,7 @@ pools-table store sound = from (row_of key.Pools store.rows) refl
       apart = λ i j d below within. absurd (omega arith);
     }
 
-    from : (o : Option Row) → row_of key.Pools store.rows ≡ o → IsPoolTable (pools_in_row o)
+    from : (o : Option StoredRecord) → row_of key.Pools store.rows ≡ o → IsPoolTable (pools_in_row o)
     from None e = none
     from (Some (revision, record_of.Pools pools)) e = (row-there store key.Pools revision (record_of.Pools pools) sound e).is_record.table
     from (Some (revision, record_of.Config config)) e = none

@@ -4,14 +4,14 @@ use Rattle.std.specs.Prelude.{nat_le}
 use Rattle.std.proofs.lemmas.Bool.{leb-false}
 use Rattle.ipam_addr.specs.Shape.{CidrValue}
 use Rattle.ipam_handle.specs.Shape as handle
-use Rattle.ipam_handle.specs.Operations.{content, count_of, raised, lowered}
+use Rattle.ipam_handle.specs.Operations.{content, count_of, with_raised_count, with_lowered_count}
 use Rattle.ipam_records.specs.declared.key.Key.TheVariants as key
 use Rattle.ipam_records.specs.declared.record.Record.{Record}
 use Rattle.ipam_records.specs.declared.record.Record.TheVariants as record_of
 use Rattle.ipam_records.specs.declared.call.Call.TheVariants as call
 use Rattle.ipam_records.specs.Datastore.{Datastore, reply_of, reply_to_get, row_of, write_of}
 use Rattle.ipam_model.specs.Cluster.{store_with}
-use Rattle.ipam_records.specs.Label.{Label, Credit, idle, owing}
+use Rattle.ipam_records.specs.Label.{CallLabel, Credit, idle, owing}
 use Rattle.ipam_records.specs.Said.{Said, Found, Missing, Can}
 use Rattle.ipam_records.specs.Word.{Word, Asks}
 use Rattle.ipam_model.specs.AffinityLaw.{HasAt}
@@ -21,7 +21,7 @@ use Rattle.ipam_model.specs.declared.part.Left.{Left}
 use Rattle.ipam_model.specs.declared.part.Outcome.{Outcome}
 use Rattle.ipam_model.specs.declared.part.Stop.TheVariants.{OutOfTries, CountAtLimit, NoRoom, NoRevisions}
 use Rattle.ipam_model.specs.declared.part.Outcome.TheVariants.{Went, Stops}
-use Rattle.ipam_model.specs.Step.{left_of, Part, goes, stops, onward, followed, tries, write_back, on_write}
+use Rattle.ipam_model.specs.Step.{left_of, Part, goes, stops, onward, part_then, tries, write_back, on_write}
 use Rattle.ipam_laws.proofs.Lift.{Known, more, Grows, Agrees, label_to, Meets, label_to-bound, Meets-bound}
 use Rattle.ipam_laws.proofs.Calls.{found-key, found-handle, create-can, update-can, delete-can, can-put, can-remove, get-meets, write-meets}
 use Rattle.ipam_laws.proofs.Steps.{IsCountable, countable-grows, Step, Idles, Owes, Raises, Lowers, LowersOut, step-grows}
@@ -30,10 +30,10 @@ use Rattle.ipam_laws.proofs.Steps.{IsCountable, countable-grows, Step, Idles, Ow
 abbrev pub Any : {A : Type 0} → Known → A → Type 0
 Any known answer = Unit {0}
 
-abbrev pub still : {A : Type 0} → A → Label
+abbrev pub still : {A : Type 0} → A → CallLabel
 still answer = idle
 
-abbrev pub Steps : {A : Type 0} → (A → Label) → Known → Word A → Type 0
+abbrev pub Steps : {A : Type 0} → (A → CallLabel) → Known → Word A → Type 0
 Steps {A} following known word = Meets Step following (Any {A = A}) known word
 
 pub any-lasts : {A : Type 0} → (one other : Known) (a : A) → Grows one other → Unit {0} → Unit {0}
@@ -41,7 +41,7 @@ any-lasts one other a grows t = tt
 
 -- ---- raising
 
-abbrev pub raised_label : List ℕ → CidrValue → Outcome (Unit {0}) → Label
+abbrev pub raised_label : List ℕ → CidrValue → Outcome (Unit {0}) → CallLabel
 raised_label id cidr (Went left done) = owing (credit_of id cidr 1)
 raised_label id cidr (Stops left why) = idle
 
@@ -69,16 +69,16 @@ known-handle known store id revision h old agrees k there =
 IsBelow : List ℕ → CidrValue → Said → Type 0
 IsBelow id cidr said = count_of (handle_said id said) cidr < most_count
 
-raise-done : (known : Known) (id : List ℕ) (cidr : CidrValue) (said : Said) → IsHandleRead known id said → IsCountable known id cidr → IsBelow id cidr said → (store : Datastore) → Agrees known store → (r : ℕ) → reply_of store (write_back said (record_of.Handle (raised (handle_said id said) cidr 1))) ≡ Can r → Step known store (store_with (write_of (write_back said (record_of.Handle (raised (handle_said id said) cidr 1))) r) store) idle (owing (credit_of id cidr 1))
+raise-done : (known : Known) (id : List ℕ) (cidr : CidrValue) (said : Said) → IsHandleRead known id said → IsCountable known id cidr → IsBelow id cidr said → (store : Datastore) → Agrees known store → (r : ℕ) → reply_of store (write_back said (record_of.Handle (with_raised_count (handle_said id said) cidr 1))) ≡ Can r → Step known store (store_with (write_of (write_back said (record_of.Handle (with_raised_count (handle_said id said) cidr 1))) r) store) idle (owing (credit_of id cidr 1))
 unfolding IsBelow
 raise-done known id cidr said (inl missing) countable below store agrees r e =
-    let P : Said → Type 0 = λ s. IsBelow id cidr s → reply_of store (write_back s (record_of.Handle (raised (handle_said id s) cidr 1))) ≡ Can r → Step known store (store_with (write_of (write_back s (record_of.Handle (raised (handle_said id s) cidr 1))) r) store) idle (owing (credit_of id cidr 1)) in
-    let new = record_of.Handle (raised (content id []) cidr 1) in
+    let P : Said → Type 0 = λ s. IsBelow id cidr s → reply_of store (write_back s (record_of.Handle (with_raised_count (handle_said id s) cidr 1))) ≡ Can r → Step known store (store_with (write_of (write_back s (record_of.Handle (with_raised_count (handle_said id s) cidr 1))) r) store) idle (owing (credit_of id cidr 1)) in
+    let new = record_of.Handle (with_raised_count (content id []) cidr 1) in
     let created : P Missing = λ l f. Raises id cidr (content id []) (can-put store new (call.Create new) r f) refl refl (inl (create-can store new r f, refl)) l countable in
     subst P (sym missing) created below e
 raise-done known id cidr said (inr (revision, h, is, same, k)) countable below store agrees r e =
-    let P : Said → Type 0 = λ s. IsBelow id cidr s → reply_of store (write_back s (record_of.Handle (raised (handle_said id s) cidr 1))) ≡ Can r → Step known store (store_with (write_of (write_back s (record_of.Handle (raised (handle_said id s) cidr 1))) r) store) idle (owing (credit_of id cidr 1)) in
-    let new = record_of.Handle (raised h cidr 1) in
+    let P : Said → Type 0 = λ s. IsBelow id cidr s → reply_of store (write_back s (record_of.Handle (with_raised_count (handle_said id s) cidr 1))) ≡ Can r → Step known store (store_with (write_of (write_back s (record_of.Handle (with_raised_count (handle_said id s) cidr 1))) r) store) idle (owing (credit_of id cidr 1)) in
+    let new = record_of.Handle (with_raised_count h cidr 1) in
     let updated : P (Found revision (record_of.Handle h)) = λ l f.
     let (old, there) = update-can store new revision r f in
     let there' = subst (λ (x : List ℕ). HasAt store (key.Handle x) revision old) same there in
@@ -87,7 +87,7 @@ raise-done known id cidr said (inr (revision, h, is, same, k)) countable below s
 
 raise_write-steps : (known : Known) (again : Part (Unit {0})) (left : Left) (id : List ℕ) (cidr : CidrValue) (said : Said) → IsHandleRead known id said → ((other : Known) → IsCountable other id cidr → Steps (raised_label id cidr) other again) → label_to (raised_label id cidr) again ≡ idle → IsCountable known id cidr → IsBelow id cidr said → Steps (raised_label id cidr) known (raise_write id cidr again left said)
 raise_write-steps known again left id cidr said read a l countable below =
-    write-meets Step step-grows (raised_label id cidr) Any known idle (write_back said (record_of.Handle (raised (handle_said id said) cidr 1))) (λ revision. goes left tt) again (stops left NoRoom) (stops left NoRevisions) any-lasts
+    write-meets Step step-grows (raised_label id cidr) Any known idle (write_back said (record_of.Handle (with_raised_count (handle_said id said) cidr 1))) (λ revision. goes left tt) again (stops left NoRoom) (stops left NoRevisions) any-lasts
     (raise-done known id cidr said read countable below) (λ other r grows w. tt)
     (λ store. Idles refl l) (a known countable)
     (λ store. Idles refl refl) tt (λ store. Idles refl refl) tt
@@ -125,15 +125,15 @@ raise-steps id cidr left known countable = raise_tries-steps id cidr left.races 
 -- ---- lowering
 
 -- what owes goes on owing, or owes nothing more
-abbrev pub GoesOn : Credit → Label → Type 0
+abbrev pub GoesOn : Credit → CallLabel → Type 0
 GoesOn credit after = (after ≡ idle) ⊎ (after ≡ owing credit)
 
-pub goes-on : (known : Known) (store : Datastore) (credit : Credit) (after : Label) → GoesOn credit after → Step known store store (owing credit) after
+pub goes-on : (known : Known) (store : Datastore) (credit : Credit) (after : CallLabel) → GoesOn credit after → Step known store store (owing credit) after
 goes-on known store credit after (inl ends) = Idles refl ends
 goes-on known store credit after (inr owes) = Owes credit refl refl owes
 
-lower_found-steps : (known : Known) (again : Part (Unit {0})) (left : Left) (credit : Credit) (revision : ℕ) (h : handle.HandleValue) → h.id ≡ credit.handle → known (key.Handle credit.handle) revision (record_of.Handle h) → ((other : Known) → Steps still other again) → GoesOn credit (label_to still again) → (counts : List (CidrValue × ℕ)) → (lowered h credit.block credit.amount).counts ≡ counts
-    → Steps still known (Asks (owing credit) (written_or_deleted (lowered h credit.block credit.amount) counts revision) (λ moment reply. on_write reply left (λ taken. goes left tt) again))
+lower_found-steps : (known : Known) (again : Part (Unit {0})) (left : Left) (credit : Credit) (revision : ℕ) (h : handle.HandleValue) → h.id ≡ credit.handle → known (key.Handle credit.handle) revision (record_of.Handle h) → ((other : Known) → Steps still other again) → GoesOn credit (label_to still again) → (counts : List (CidrValue × ℕ)) → (with_lowered_count h credit.block credit.amount).counts ≡ counts
+    → Steps still known (Asks (owing credit) (written_or_deleted (with_lowered_count h credit.block credit.amount) counts revision) (λ moment reply. on_write reply left (λ taken. goes left tt) again))
 lower_found-steps known again left credit revision h same k a l [] empty =
     write-meets Step step-grows still Any known (owing credit) (call.Delete (key.Handle h.id) revision) (λ taken. goes left tt) again (stops left NoRoom) (stops left NoRevisions) any-lasts
     (λ store agrees r e.
@@ -144,11 +144,11 @@ lower_found-steps known again left credit revision h same k a l [] empty =
     (λ store. goes-on known store credit (label_to still again) l) (a known)
     (λ store. Idles refl refl) tt (λ store. Idles refl refl) tt
 lower_found-steps known again left credit revision h same k a l (count ∷ counts) some =
-    write-meets Step step-grows still Any known (owing credit) (call.Update (record_of.Handle (lowered h credit.block credit.amount)) revision) (λ taken. goes left tt) again (stops left NoRoom) (stops left NoRevisions) any-lasts
+    write-meets Step step-grows still Any known (owing credit) (call.Update (record_of.Handle (with_lowered_count h credit.block credit.amount)) revision) (λ taken. goes left tt) again (stops left NoRoom) (stops left NoRevisions) any-lasts
     (λ store agrees r e.
-    let (old, there) = update-can store (record_of.Handle (lowered h credit.block credit.amount)) revision r e in
+    let (old, there) = update-can store (record_of.Handle (with_lowered_count h credit.block credit.amount)) revision r e in
     let there' = subst (λ (x : List ℕ). HasAt store (key.Handle x) revision old) same there in
-    Lowers credit h revision count counts (can-put store (record_of.Handle (lowered h credit.block credit.amount)) (call.Update (record_of.Handle (lowered h credit.block credit.amount)) revision) r e) refl refl (known-handle known store credit.handle revision h old agrees k there') same some)
+    Lowers credit h revision count counts (can-put store (record_of.Handle (with_lowered_count h credit.block credit.amount)) (call.Update (record_of.Handle (with_lowered_count h credit.block credit.amount)) revision) r e) refl refl (known-handle known store credit.handle revision h old agrees k there') same some)
     (λ other r grows w. tt)
     (λ store. goes-on known store credit (label_to still again) l) (a known)
     (λ store. Idles refl refl) tt (λ store. Idles refl refl) tt
@@ -172,10 +172,10 @@ lower_missing-steps known again left credit h (count ∷ counts) a l =
 lower_write-steps : (known : Known) (again : Part (Unit {0})) (left : Left) (credit : Credit) (said : Said) → IsHandleRead known credit.handle said → ((other : Known) → Steps still other again) → GoesOn credit (label_to still again) → Steps still known (lower_write credit again left said)
 lower_write-steps known again left credit said (inl missing) a l =
     subst (λ (s : Said). Steps still known (lower_write credit again left s)) (sym missing)
-    (lower_missing-steps known again left credit (lowered (content credit.handle []) credit.block credit.amount) (lowered (content credit.handle []) credit.block credit.amount).counts a l)
+    (lower_missing-steps known again left credit (with_lowered_count (content credit.handle []) credit.block credit.amount) (with_lowered_count (content credit.handle []) credit.block credit.amount).counts a l)
 lower_write-steps known again left credit said (inr (revision, h, is, same, k)) a l =
     subst (λ (s : Said). Steps still known (lower_write credit again left s)) (sym is)
-    (lower_found-steps known again left credit revision h same k a l (lowered h credit.block credit.amount).counts refl)
+    (lower_found-steps known again left credit revision h same k a l (with_lowered_count h credit.block credit.amount).counts refl)
 
 lower_once-steps : (known : Known) (again : Part (Unit {0})) (left : Left) (credit : Credit) → ((other : Known) → Steps still other again) → GoesOn credit (label_to still again) → Steps still known (lower_once credit again left)
 lower_once-steps known again left credit a l =
@@ -202,8 +202,8 @@ lower_tries-steps credit (suc races) claims known =
 pub lower-steps : (credit : Credit) (left : Left) (known : Known) → Steps still known (lower credit left)
 lower-steps credit left known = lower_tries-steps credit left.races left.claims known
 
--- what the count is lowered before, where that ends the part
-pub lowered-steps : {A : Type 0} → (credit : Credit) (left : Left) (value : A) (known : Known) → (label_to still (followed (lower credit left) (λ now done. goes now value)) ≡ owing credit) × Steps still known (followed (lower credit left) (λ now done. goes now value))
+-- what the count is with_lowered_count before, where that ends the part
+pub lowered-steps : {A : Type 0} → (credit : Credit) (left : Left) (value : A) (known : Known) → (label_to still (part_then (lower credit left) (λ now done. goes now value)) ≡ owing credit) × Steps still known (part_then (lower credit left) (λ now done. goes now value))
 lowered-steps {A} credit left value known = (
   sym (label_to-bound Step still still (onward (λ now done. goes now value)) labels (lower credit left)) ∙ lower-label credit left,
   Meets-bound Step still still Any Any (onward (λ now done. goes now value)) labels (lower credit left) known (lower-steps credit left known) (λ wider o grows t. steps o wider),

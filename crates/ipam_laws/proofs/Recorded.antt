@@ -1,4 +1,4 @@
--- An address that was assigned is recorded so, in the span.
+-- An address that was block_with_ordinal is recorded so, in the span.
 use Rattle.std.proofs.Common.{◌≡◌, ℕ, ◌+◌, ◌<◌, inl, inr, Bool, true, false, cond, List, [], ◌∷◌, Some, refl, sym, ap, ◌∙◌, subst, arith, eqb-true}
 use Rattle.std.specs.Prelude.{AllPairs, Contains, ◌==◌}
 use Rattle.std.specs.List.{count_by, find}
@@ -6,7 +6,7 @@ use Rattle.std.proofs.lemmas.Bool.{eqb-false}
 use Rattle.std.specs.Prelude.{nat_lt}
 use Rattle.ipam_block.specs.declared.allocation.Allocation.{Allocation}
 use Rattle.ipam_block.specs.declared.allocation.Attributes.{Attributes}
-use Rattle.ipam_block.specs.Operations.{assigned, next_block}
+use Rattle.ipam_block.specs.Operations.{block_with_ordinal, next_block}
 use Rattle.ipam_records.specs.declared.call.Call.{Call}
 use Rattle.ipam_records.specs.Datastore.{Datastore, reply_of}
 use Rattle.ipam_model.specs.AddLaw.{IsRecordedAt, Taking}
@@ -63,7 +63,7 @@ recorded span attributes target done origin trail upto c h is last =
     let did = (subst (λ (t : Trail). IsTrail span upto t) last.is is).0 in
     let old = consistent-before span.base span.history done.moment c h in
     let new = consistent-before span.base span.history (done.moment + 1) c h in
-    let new_block = assigned (next_block target.block) target.ordinal attributes in
+    let new_block = block_with_ordinal (next_block target.block) target.ordinal attributes in
     let moved = subst (λ (s : Datastore). (reply_of s asked ≡ reply_of last.store asked) × IsCurrent s target.revision target.block × (behind s asked ≡ behind last.store asked)) (sym did.before_it) (refl, (λ found there. last.current found there), refl) in
     let rewrite : Rewrites (seen_at span done.moment) (seen_at span (done.moment + 1)) target.block new_block =
     rewrites (seen_at span done.moment) (seen_at span (done.moment + 1)) target.block new_block target.revision last.revision old new refl (moved.0 ∙ last.granted) moved.1 (did.behind_it ∙ sym moved.2) in
@@ -96,7 +96,7 @@ pub quietly-since : (origin trail : Trail) → Quietly origin trail → Since or
 quietly-since origin trail Still = Same
 quietly-since origin trail (More moment store asked longer quiet before) = Later (Did moment store asked) longer (quietly-since origin longer before)
 
--- what was assigned was assigned behind what is earlier
+-- what was block_with_ordinal was block_with_ordinal behind what is earlier
 pub assigned-later : (span : Span) (attributes : Attributes) (target : Target) (done : Assigned) (moment : ℕ) (store : Datastore) (asked : Call) (before origin trail : Trail) (upto : ℕ) → IsTrail span upto trail → origin ≡ Did moment store asked ∷ before → AssignsLast origin attributes target done trail → moment < done.moment
 unfolding IsTrail
 assigned-later span attributes target done moment store asked before origin trail upto is head last =

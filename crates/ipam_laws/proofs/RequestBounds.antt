@@ -36,7 +36,7 @@ use Rattle.ipam_model.specs.Requests.{word_of, told_as}
 use Rattle.ipam_model.specs.Told.{of_add, of_add_this, of_del, of_check, of_release, of_collect, of_admin, of_probe}
 use Rattle.ipam_model.specs.declared.part.Left.{Left}
 use Rattle.ipam_model.specs.declared.part.Stop.TheVariants.{OutOfTries, NoRoom, NoRevisions}
-use Rattle.ipam_model.specs.Step.{left_of, all_left, Part, goes, stops, tries, retried}
+use Rattle.ipam_model.specs.Step.{left_of, all_left, Part, goes, stops, tries, with_retries}
 use Rattle.ipam_model.specs.Usable.{families_if, pool_of}
 use Rattle.ipam_laws.proofs.Within.{Within, Any, AtMost-Within, Within-bound, Within-followed, Within-settled, Within-after_write}
 use Rattle.ipam_laws.proofs.PartBounds.{Leaves, free-within, five_reads-within}
@@ -168,7 +168,7 @@ release_tries-within tie (suc races) claims count h =
 release-within : (node : List ℕ) (cidr : CidrValue) → Within Any (affinities.release node cidr) 400
 release-within node cidr =
     let tie : affinities.Tie = record { node = node; block = cidr } in
-    Within-settled Any affinities.release_stops (retried (affinities.release_once tie) all_left) 400 (release_tries-within tie 63 63 400 (omega arith))
+    Within-settled Any affinities.release_stops (with_retries (affinities.release_once tie) all_left) 400 (release_tries-within tie 63 63 400 (omega arith))
 
 -- ---- administration
 
@@ -181,7 +181,7 @@ admin_write-within again left said (change.Becomes new) count h a = (
 admin_write-within again left said (change.Refuses number name) count h a = tt
 
 admin_once-within : (request : Admin) (again : Part AdminAnswer) (left : Left) (count : ℕ) → 2 ≤ count → Within Any again (count - 1 - 1) → Within Any (change.admin_once request again left) count
-admin_once-within request again left count h a = (omega arith, λ moment said. admin_write-within again left said (change.changed request said) (count - 1) (omega arith) a)
+admin_once-within request again left count h a = (omega arith, λ moment said. admin_write-within again left said (change.admin_change request said) (count - 1) (omega arith) a)
 
 admin_tries-within : (request : Admin) (races claims count : ℕ) → 2 * races + 2 ≤ count → Within Any (tries (change.admin_once request) races claims) count
 unfolding tries
@@ -191,7 +191,7 @@ admin_tries-within request (suc races) claims count h =
 
 admin-within : (request : Admin) → Within Any (change.admin_word request) 200
 admin-within request =
-    Within-settled Any change.admin_stops (retried (change.admin_once request) all_left) 200 (admin_tries-within request 63 63 200 (omega arith))
+    Within-settled Any change.admin_stops (with_retries (change.admin_once request) all_left) 200 (admin_tries-within request 63 63 200 (omega arith))
 
 -- ---- the probe
 

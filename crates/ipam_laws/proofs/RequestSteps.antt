@@ -52,7 +52,7 @@ use Rattle.ipam_model.specs.Affinities as affinities
 use Rattle.ipam_model.specs.Affinities.{BlockRead}
 use Rattle.ipam_model.specs.Assigning.{target_in, assign, claim_for}
 use Rattle.ipam_model.specs.AffinityLaw.{HasAt}
-use Rattle.ipam_model.specs.Choice.{is_node, is_unowned_and_empty, Share, Takes, Claims, Leaves as Foreign, by_share, share_of, choice_of}
+use Rattle.ipam_model.specs.Choice.{is_unowned_and_empty, Share, Takes, Claims, Leaves as Foreign, by_share, share_of, choice_of}
 use Rattle.ipam_model.specs.Cluster.{store_with}
 use Rattle.ipam_model.specs.Counting.{Freeing, freeing_all, freeing_one, free}
 use Rattle.ipam_model.specs.Look as look
@@ -65,7 +65,7 @@ use Rattle.ipam_model.specs.declared.part.Left.{Left}
 use Rattle.ipam_model.specs.declared.part.Stop.{Stop}
 use Rattle.ipam_model.specs.declared.part.Stop.TheVariants.{OutOfTries, OutOfClaims, NoRoom, CountAtLimit, NoRevisions}
 use Rattle.ipam_model.specs.declared.part.Outcome.TheVariants.{Went, Stops}
-use Rattle.ipam_model.specs.Step.{left_of, all_left, Part, stop_answer, settled, goes, stops, tries, retried, in_rounds, write_back}
+use Rattle.ipam_model.specs.Step.{left_of, all_left, Part, stop_answer, as_word, goes, stops, tries, with_retries, in_rounds, write_back}
 use Rattle.ipam_model.specs.Usable.{is_usable, families_if, usable_pool_of, pool_of}
 use Rattle.ipam_laws.proofs.Lift.{Known, more, Agrees, label_to}
 use Rattle.ipam_laws.proofs.Calls.{create-can, update-can, can-put, get-meets, list-meets, write-meets}
@@ -74,6 +74,7 @@ use Rattle.ipam_laws.proofs.Steps.{IsKnownBlock, IsOwnOrNobodys, IsKnownPool, Is
 use Rattle.ipam_laws.proofs.PartSteps.{Any, still, Steps, any-lasts}
 use Rattle.ipam_laws.proofs.WriteSteps.{block-read, free-steps, free-label, release-steps}
 use Rattle.ipam_laws.proofs.WordSteps.{ArePoolsKnown, pools-read, Keeps, Lawful, LawfulAfter, LawfulOn, LawfulNext, unowned-nobodys, lawful-both, followed-keeps, followed-lawful, settled-lawful, rounds-lawful, own-known, assign-keeps, claim_for-keeps, serve-lawful, five_reads-steps}
+use Rattle.ipam_records.specs.BlockLists.{is_node}
 
 pub owned-picks : (id : List ℕ) (a : Allocation) → is_owned id a ≡ true → is_owned id a ≡ true
 owned-picks id a h = h
@@ -276,7 +277,7 @@ del-lawful : (id : List ℕ) → Lawful (remove.del_word id)
 unfolding blocks_said
 del-lawful id known = (
   refl,
-  get-meets Step still Any known idle (key.Handle id) (λ moment said. settled remove.del_stops (remove.del_blocks id moment (blocks_said id said) all_left)) (λ moment store agrees.
+  get-meets Step still Any known idle (key.Handle id) (λ moment said. as_word remove.del_stops (remove.del_blocks id moment (blocks_said id said) all_left)) (λ moment store agrees.
       let blocks = blocks_said id (reply_to_get (row_of (key.Handle id) store.rows)) in
       let (label, meets) = settled-lawful remove.del_stops (remove.del_blocks id moment blocks all_left) (del_blocks-lawful id moment blocks all_left) (more known store store) in
       (Idles refl label, meets)),
@@ -294,7 +295,7 @@ free_leaks-lawful done (leak ∷ rest) left known =
 
 -- what a collection does behind its second list
 abbrev collected : (b1 b2 : ℕ) → List remove.Leak → Word CollectAnswer
-collected b1 b2 leaks = settled remove.collect_stops (remove.free_leaks (record { b1 = b1; b2 = b2; items = [] }) leaks all_left)
+collected b1 b2 leaks = as_word remove.collect_stops (remove.free_leaks (record { b1 = b1; b2 = b2; items = [] }) leaks all_left)
 
 collected-lawful : (b1 b2 : ℕ) (leaks : List remove.Leak) → Lawful (collected b1 b2 leaks)
 collected-lawful b1 b2 leaks = settled-lawful remove.collect_stops _ (free_leaks-lawful (record { b1 = b1; b2 = b2; items = [] }) leaks all_left)
@@ -383,7 +384,7 @@ becomes-key : (one new : Record) → change.Becomes one ≡ change.Becomes new �
 becomes-key one new e = let same : one ≡ new = cc e in ap key_of (sym same)
 
 -- a change has the key that it is about
-pub key-changed : (request : Admin) (said : Said) (new : Record) → change.changed request said ≡ change.Becomes new → key_of new ≡ change.key_changed request
+pub key-changed : (request : Admin) (said : Said) (new : Record) → change.admin_change request said ≡ change.Becomes new → key_of new ≡ change.key_changed request
 key-changed (change_of.Pool pool) said new e = pools (list_any (change.is_same_pool pool) (pools_said said)) e
   where
     refused : (refusal : PoolRefusal) → change.pool_refused (pools_said said) pool refusal ≡ change.Becomes new → key_of new ≡ key.Pools
@@ -435,28 +436,28 @@ untied-changed (change_of.Reserve new) = tt
 untied-changed (change_of.Unreserve name) = tt
 untied-changed (change_of.Config config) = tt
 
-pub changed-untied : (request : Admin) (said : Said) (new : Record) → change.changed request said ≡ change.Becomes new → IsUntied (key_of new)
+pub changed-untied : (request : Admin) (said : Said) (new : Record) → change.admin_change request said ≡ change.Becomes new → IsUntied (key_of new)
 changed-untied request said new e = subst (λ (k : Key). IsUntied k) (sym (key-changed request said new e)) (untied-changed request)
 
 -- what was read is still there where the change is written
-admin-done : (known : Known) (request : Admin) → IsSoundChange request → (said : Said) (new : Record) → IsReadOf known (change.key_changed request) said → change.changed request said ≡ change.Becomes new → (store : Datastore) → Agrees known store → (r : ℕ) → reply_of store (write_back said new) ≡ Can r → Step known store (store_with (write_of (write_back said new) r) store) idle idle
+admin-done : (known : Known) (request : Admin) → IsSoundChange request → (said : Said) (new : Record) → IsReadOf known (change.key_changed request) said → change.admin_change request said ≡ change.Becomes new → (store : Datastore) → Agrees known store → (r : ℕ) → reply_of store (write_back said new) ≡ Can r → Step known store (store_with (write_of (write_back said new) r) store) idle idle
 admin-done known request sound said new (inl missing) becomes store agrees r e =
-    let P : Said → Type 0 = λ s. change.changed request s ≡ change.Becomes new → reply_of store (write_back s new) ≡ Can r → Step known store (store_with (write_of (write_back s new) r) store) idle idle in
+    let P : Said → Type 0 = λ s. change.admin_change request s ≡ change.Becomes new → reply_of store (write_back s new) ≡ Can r → Step known store (store_with (write_of (write_back s new) r) store) idle idle in
     let created : P Missing = λ b f.
     let none = subst (λ (x : Key). row_of x store.rows ≡ None) (key-changed request Missing new b) (create-can store new r f) in
-    Changes request new (can-put store new (call.Create new) r f) refl refl (ap (λ o. change.changed request (reply_to_get o)) none ∙ b) sound in
+    Changes request new (can-put store new (call.Create new) r f) refl refl (ap (λ o. change.admin_change request (reply_to_get o)) none ∙ b) sound in
     subst P (sym missing) created becomes e
 admin-done known request sound said new (inr (revision, found, is, k)) becomes store agrees r e =
-    let P : Said → Type 0 = λ s. change.changed request s ≡ change.Becomes new → reply_of store (write_back s new) ≡ Can r → Step known store (store_with (write_of (write_back s new) r) store) idle idle in
+    let P : Said → Type 0 = λ s. change.admin_change request s ≡ change.Becomes new → reply_of store (write_back s new) ≡ Can r → Step known store (store_with (write_of (write_back s new) r) store) idle idle in
     let updated : P (Found revision found) = λ b f.
     let (old, there) = update-can store new revision r f in
     let there' = subst (λ (x : Key). HasAt store x revision old) (key-changed request (Found revision found) new b) there in
     let same = agrees.same (change.key_changed request) revision found old k there' in
     let now : HasAt store (change.key_changed request) revision found = there' ∙ ap (λ (x : Record). Some (revision, x)) (sym same) in
-    Changes request new (can-put store new (call.Update new revision) r f) refl refl (ap (λ o. change.changed request (reply_to_get o)) now ∙ b) sound in
+    Changes request new (can-put store new (call.Update new revision) r f) refl refl (ap (λ o. change.admin_change request (reply_to_get o)) now ∙ b) sound in
     subst P (sym is) updated becomes e
 
-admin_write-keeps : (request : Admin) → IsSoundChange request → (again : Part AdminAnswer) (left : Left) (said : Said) (changed : change.Changed) → change.changed request said ≡ changed → Lawful again → (known : Known) → IsReadOf known (change.key_changed request) said → Keeps known (change.admin_write again left said changed)
+admin_write-keeps : (request : Admin) → IsSoundChange request → (again : Part AdminAnswer) (left : Left) (said : Said) (changed : change.Changed) → change.admin_change request said ≡ changed → Lawful again → (known : Known) → IsReadOf known (change.key_changed request) said → Keeps known (change.admin_write again left said changed)
 admin_write-keeps request sound again left said (change.Refuses number name) is a known read = (refl, tt)
 admin_write-keeps request sound again left said (change.Becomes new) is a known read = (
   refl,
@@ -469,9 +470,9 @@ admin_write-keeps request sound again left said (change.Becomes new) is a known 
 admin_once-lawful : (request : Admin) → IsSoundChange request → (again : Part AdminAnswer) (left : Left) → Lawful again → Lawful (change.admin_once request again left)
 admin_once-lawful request sound again left a known = (
   refl,
-  get-meets Step still Any known idle (change.key_changed request) (λ moment said. change.admin_write again left said (change.changed request said)) (λ moment store agrees.
+  get-meets Step still Any known idle (change.key_changed request) (λ moment said. change.admin_write again left said (change.admin_change request said)) (λ moment store agrees.
       let said = reply_to_get (row_of (change.key_changed request) store.rows) in
-      let (label, meets) = admin_write-keeps request sound again left said (change.changed request said) refl a (more known store store) (row-read known store (change.key_changed request)) in
+      let (label, meets) = admin_write-keeps request sound again left said (change.admin_change request said) refl a (more known store store) (row-read known store (change.key_changed request)) in
       (Idles refl label, meets)),
 )
 
@@ -481,14 +482,14 @@ admin_tries-lawful request sound zero claims = admin_once-lawful request sound (
 admin_tries-lawful request sound (suc races) claims = admin_once-lawful request sound (tries (change.admin_once request) races claims) (left_of (suc races) claims) (admin_tries-lawful request sound races claims)
 
 admin-lawful : (request : Admin) → IsSoundChange request → Lawful (change.admin_word request)
-admin-lawful request sound = settled-lawful change.admin_stops (retried (change.admin_once request) all_left) (admin_tries-lawful request sound 63 63)
+admin-lawful request sound = settled-lawful change.admin_stops (with_retries (change.admin_once request) all_left) (admin_tries-lawful request sound 63 63)
 
 -- ---- all of them
 
 release-lawful : (node : List ℕ) (cidr : CidrValue) → Lawful (affinities.release node cidr)
 release-lawful node cidr =
     let tie : affinities.Tie = record { node = node; block = cidr } in
-    settled-lawful affinities.release_stops (retried (affinities.release_once tie) all_left) (release-steps tie all_left)
+    settled-lawful affinities.release_stops (with_retries (affinities.release_once tie) all_left) (release-steps tie all_left)
 
 told-lawful : {A : Type 0} → (of_one : A → Answer) (w : Word A) → Lawful w → Lawful (told_as of_one w)
 told-lawful of_one w h = lawful-both w (λ one. Ends (of_one one)) h (λ one known. (refl, tt))

@@ -5,7 +5,7 @@ use Rattle.std.specs.List.{count_by, filter}
 use Rattle.std.proofs.lemmas.List.Sums.{length-filter}
 use Rattle.ipam_addr.specs.Shape.{CidrValue}
 use Rattle.ipam_block.specs.declared.allocation.Allocation.{Allocation}
-use Rattle.ipam_block.specs.Operations.{freed, next_block}
+use Rattle.ipam_block.specs.Operations.{block_without, next_block}
 use Rattle.ipam_block.specs.Shape.{BlockValue}
 use Rattle.ipam_records.specs.declared.call.Call.{Call}
 use Rattle.ipam_records.specs.declared.call.Call.TheVariants.{Get}
@@ -66,15 +66,15 @@ module _ (span : Span) (consistent : IsConsistent span.base.store) (lawful : Law
       let count = none (there.holding.revision, there.holding.b) (ap (λ r. block_said (reply_to_get r)) row) in
       none-counted what.picks there.holding.b.allocations there.a count there.among (picks there.a there.is_owner)
 
-  -- freed, and so not there
+  -- block_without, and so not there
   freed-there : (m : ℕ) (store : Datastore) (b : BlockValue) (old revision : ℕ) → first ≤ m → seen_at span m ≡ store → seen_at span (m + 1) ≡ behind store (freeing_call what b old) → reply_of store (freeing_call what b old) ≡ Can revision → IsCurrent store old b → b.cidr ≡ what.block → ¬ (Owns (seen_at span (m + 1)) o)
   freed-there m store b old revision later at left done current same owns =
       let next = seen_at span (m + 1) in
       let then = consistent-before span.base span.history (m + 1) consistent lawful in
       let before_it : IsConsistent store = subst (λ (s : Datastore). IsConsistent s) at (consistent-before span.base span.history m consistent lawful) in
-      let w : Rewrites store next b (freed what.picks (next_block b)) = rewrites store next b (freed what.picks (next_block b)) old revision before_it then refl done current left in
+      let w : Rewrites store next b (block_without what.picks (next_block b)) = rewrites store next b (block_without what.picks (next_block b)) old revision before_it then refl done current left in
       let there = held-later (m + 1) (omega arith) owns in
-      elim (owns-cases next (freed what.picks (next_block b)) b.cidr w.next_revision then w.there_then o owns) [
+      elim (owns-cases next (block_without what.picks (next_block b)) b.cidr w.next_revision then w.there_then o owns) [
         | inl (a, among, is) ↦
             let (was, kept) = in-filter (λ x. not (what.picks x)) a b.allocations among in
             not-true (what.picks a) kept (picks a (ap (λ (x : CidrValue). owner_of x a) (sym same) ∙ is))

@@ -48,18 +48,18 @@ use Rattle.ipam_laws.proofs.Trails.{AreCalls, Comes, Comes-both, IsTrail, Trail,
 
 -- ---- what requests say of their trails
 
-pub Heard : Request → Trail → Answer → Type 0
-Heard (Check id addresses) trail told = OfCheck id addresses trail told
-Heard (Release node cidr) trail told = OfRelease node cidr trail told
-Heard (Admin setting) trail told = OfChange setting trail told
-Heard (Probe request) trail told = OfProbe request trail told
-Heard (AddThis request address) trail told = OfThis request address trail told
-Heard (Del id) trail told = OfDel id trail told
-Heard (Add request) trail told = IsTold request told trail × LeavesNothing request told trail
-Heard (Collect request) trail told = OfCollect request trail told
+pub SaysOfTrail : Request → Trail → Answer → Type 0
+SaysOfTrail (Check id addresses) trail told = OfCheck id addresses trail told
+SaysOfTrail (Release node cidr) trail told = OfRelease node cidr trail told
+SaysOfTrail (Admin setting) trail told = OfChange setting trail told
+SaysOfTrail (Probe request) trail told = OfProbe request trail told
+SaysOfTrail (AddThis request address) trail told = OfThis request address trail told
+SaysOfTrail (Del id) trail told = OfDel id trail told
+SaysOfTrail (Add request) trail told = IsTold request told trail × LeavesNothing request told trail
+SaysOfTrail (Collect request) trail told = OfCollect request trail told
 
-hear : (request : Request) → Comes (Heard request) [] (word_of request)
-unfolding word_of Heard
+hear : (request : Request) → Comes (SaysOfTrail request) [] (word_of request)
+unfolding word_of SaysOfTrail
 hear (Check id addresses) = check-comes id addresses
 hear (Release node cidr) = told-release node cidr
 hear (Admin setting) = told-change setting
@@ -98,12 +98,12 @@ record IsHeard (a : Answered) (told : Answer) : Type 0 where
   trail : Trail
   is_trail : IsTrail (span_of a) (now (span_of a)) trail
   calls : AreCalls trail (a.call ∷ earlier_calls a)
-  heard : Heard a.request trail told
+  heard : SaysOfTrail a.request trail told
   stop : IsStopRight a told
 
 heard-of : (a : Answered) (told : Answer) → IsThere a told → told ≢ answer.Fault → a.call.fate ≡ Well → IsHeard a told
 heard-of a told t differ fate =
-    let comes = answer-comes Heard hear a told t.consistent.sound t.lawful t.requested t.given fate in
+    let comes = answer-comes SaysOfTrail hear a told t.consistent.sound t.lawful t.requested t.given fate in
     record {
       trail = comes.trail;
       is_trail = comes.is_trail;
@@ -115,20 +115,20 @@ heard-of a told t differ fate =
 -- ---- by the kind of the request
 
 pub check_answers : CheckAnswersLaw
-unfolding Heard
+unfolding SaysOfTrail
 check_answers a id addresses c h is told requested given =
     let t : IsThere a told = record { consistent = c; lawful = h; requested = requested; given = given } in
     right-if a told t (λ differ fate.
     let k = heard-of a told t differ fate in
-    check-right a id addresses k.trail c h is k.is_trail told (subst (λ (r : Request). Heard r k.trail told) is k.heard))
+    check-right a id addresses k.trail c h is k.is_trail told (subst (λ (r : Request). SaysOfTrail r k.trail told) is k.heard))
 
 pub whole_probe : WholeProbeLaw
-unfolding Heard
+unfolding SaysOfTrail
 whole_probe request a c h is told requested given =
     let t : IsThere a told = record { consistent = c; lawful = h; requested = requested; given = given } in
     right-if a told t (λ differ fate.
     let k = heard-of a told t differ fate in
-    probe-right a request k.trail is k.is_trail told (subst (λ (r : Request). Heard r k.trail told) is k.heard))
+    probe-right a request k.trail is k.is_trail told (subst (λ (r : Request). SaysOfTrail r k.trail told) is k.heard))
 
 pub probe_answers : ProbeAnswersLaw
 probe_answers a request c h is requested = (λ scans given. whole_probe request a c h is (answer.Ready scans) requested given, λ scan given. whole_probe request a c h is (answer.Exhausted scan) requested given)
@@ -163,12 +163,12 @@ change-right a setting trail is there calls answer.Fault h s = absurd h
 change-right a setting trail is there calls (answer.Ready scans) h s = absurd h
 
 pub change_answers : ChangeAnswersLaw
-unfolding Heard
+unfolding SaysOfTrail
 change_answers setting a c h is told requested given =
     let t : IsThere a told = record { consistent = c; lawful = h; requested = requested; given = given } in
     right-if a told t (λ differ fate.
     let k = heard-of a told t differ fate in
-    change-right a setting k.trail is k.is_trail k.calls told (subst (λ (r : Request). Heard r k.trail told) is k.heard) k.stop)
+    change-right a setting k.trail is k.is_trail k.calls told (subst (λ (r : Request). SaysOfTrail r k.trail told) is k.heard) k.stop)
 
 release-right : (a : Answered) (node : List ℕ) (cidr : CidrValue) (trail : Trail) → IsConsistent a.base.store → Lawful a.base (history_of a) → a.request ≡ Release node cidr → IsTrail (span_of a) (now (span_of a)) trail → AreCalls trail (a.call ∷ earlier_calls a) → (told : Answer) → OfRelease node cidr trail told → IsStopRight a told → IsRightAnswer a told
 unfolding OfRelease IsStopRight
@@ -195,12 +195,12 @@ release-right a node cidr trail c l is there calls answer.Fault h s = absurd h
 release-right a node cidr trail c l is there calls (answer.Ready scans) h s = absurd h
 
 pub release_answers : ReleaseAnswersLaw
-unfolding Heard
+unfolding SaysOfTrail
 release_answers node cidr a c h is told requested given =
     let t : IsThere a told = record { consistent = c; lawful = h; requested = requested; given = given } in
     right-if a told t (λ differ fate.
     let k = heard-of a told t differ fate in
-    release-right a node cidr k.trail c h is k.is_trail k.calls told (subst (λ (r : Request). Heard r k.trail told) is k.heard) k.stop)
+    release-right a node cidr k.trail c h is k.is_trail k.calls told (subst (λ (r : Request). SaysOfTrail r k.trail told) is k.heard) k.stop)
 
 this-right : (a : Answered) (request : AddRequest) (address : AddrValue) (trail : Trail) → IsConsistent a.base.store → Lawful a.base (history_of a) → a.request ≡ AddThis request address → IsTrail (span_of a) (now (span_of a)) trail → (told : Answer) → OfThis request address trail told → IsStopRight a told → IsRightAnswer a told
 unfolding OfThis IsStopRight
@@ -227,12 +227,12 @@ this-right a request address trail c l is there answer.Fault h s = absurd h
 this-right a request address trail c l is there (answer.Ready scans) h s = absurd h
 
 pub this_answers : ThisAnswersLaw
-unfolding Heard
+unfolding SaysOfTrail
 this_answers request address a c h is told requested given =
     let t : IsThere a told = record { consistent = c; lawful = h; requested = requested; given = given } in
     right-if a told t (λ differ fate.
     let k = heard-of a told t differ fate in
-    this-right a request address k.trail c h is k.is_trail told (subst (λ (r : Request). Heard r k.trail told) is k.heard) k.stop)
+    this-right a request address k.trail c h is k.is_trail told (subst (λ (r : Request). SaysOfTrail r k.trail told) is k.heard) k.stop)
 
 del-right : (a : Answered) (id : List ℕ) (trail : Trail) → IsConsistent a.base.store → Lawful a.base (history_of a) → a.request ≡ Del id → IsTrail (span_of a) (now (span_of a)) trail → (told : Answer) → OfDel id trail told → IsStopRight a told → IsRightAnswer a told
 unfolding OfDel IsStopRight
@@ -259,12 +259,12 @@ del-right a id trail c l is there answer.Fault h s = absurd h
 del-right a id trail c l is there (answer.Ready scans) h s = absurd h
 
 pub del_answers : DelAnswersLaw
-unfolding Heard
+unfolding SaysOfTrail
 del_answers id a c h is told requested given =
     let t : IsThere a told = record { consistent = c; lawful = h; requested = requested; given = given } in
     right-if a told t (λ differ fate.
     let k = heard-of a told t differ fate in
-    del-right a id k.trail c h is k.is_trail told (subst (λ (r : Request). Heard r k.trail told) is k.heard) k.stop)
+    del-right a id k.trail c h is k.is_trail told (subst (λ (r : Request). SaysOfTrail r k.trail told) is k.heard) k.stop)
 
 -- an address of a block was chosen in the round, and its count was at its limit
 add-limit : (a : Answered) (request : AddRequest) (moment : ℕ) (trail : Trail) → IsConsistent a.base.store → Lawful a.base (history_of a) → a.request ≡ Add request → IsTrail (span_of a) (now (span_of a)) trail → IsAimed request moment trail
@@ -323,12 +323,12 @@ add-right a request trail c l is there answer.Fault h k s = absurd k
 add-right a request trail c l is there (answer.Ready scans) h k s = absurd k
 
 pub add_answers : AddAnswersLaw
-unfolding Heard
+unfolding SaysOfTrail
 add_answers request a c h is told requested given =
     let t : IsThere a told = record { consistent = c; lawful = h; requested = requested; given = given } in
     right-if a told t (λ differ fate.
     let k = heard-of a told t differ fate in
-    let heard = subst (λ (r : Request). Heard r k.trail told) is k.heard in
+    let heard = subst (λ (r : Request). SaysOfTrail r k.trail told) is k.heard in
     add-right a request k.trail c h is k.is_trail told heard.0 heard.1 k.stop)
 
 -- over a consistent base, where the request runs
@@ -360,12 +360,12 @@ collect-right a request trail t is there answer.Fault h s = absurd h
 collect-right a request trail t is there (answer.Ready scans) h s = absurd h
 
 pub collect_answers : CollectAnswersLaw
-unfolding Heard
+unfolding SaysOfTrail
 collect_answers request a c h is told requested given =
     let t : IsThere a told = record { consistent = c; lawful = h; requested = requested; given = given } in
     right-if a told t (λ differ fate.
     let k = heard-of a told t differ fate in
-    collect-right a request k.trail (c, h, requested) is k.is_trail told (subst (λ (r : Request). Heard r k.trail told) is k.heard) k.stop)
+    collect-right a request k.trail (c, h, requested) is k.is_trail told (subst (λ (r : Request). SaysOfTrail r k.trail told) is k.heard) k.stop)
 
 pub stop_law : StopLaw
 unfolding IsStopRight

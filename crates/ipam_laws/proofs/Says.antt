@@ -12,10 +12,10 @@ use Rattle.ipam_records.specs.declared.record.Record.TheVariants as record_of
 use Rattle.std.specs.Prelude.{◌==◌, nat_lt}
 use Rattle.ipam_records.specs.Datastore.{Datastore, granted, last_revision, reply_of, reply_to_change, row_of}
 use Rattle.ipam_records.specs.Key.{key_of}
-use Rattle.ipam_records.specs.Label.{Label, Nowhere, idle}
+use Rattle.ipam_records.specs.Label.{CallLabel, Nowhere, idle}
 use Rattle.ipam_records.specs.Said.{Said, Found, Missing, Listed, Can, Exists, Conflict, Full, Spent}
 use Rattle.ipam_records.specs.Sound.{IsDatastore}
-use Rattle.ipam_records.specs.Word.{Word, Ends, Asks, Waits, bound, ended}
+use Rattle.ipam_records.specs.Word.{Word, Ends, Asks, Waits, bound, answer_in}
 use Rattle.ipam_model.specs.declared.part.Outcome.{Outcome}
 use Rattle.ipam_model.specs.declared.part.Outcome.TheVariants.{Went, Stops}
 use Rattle.ipam_model.specs.declared.part.Stop.{Stop}
@@ -30,7 +30,7 @@ use Rattle.ipam_laws.proofs.PointTrails.{IsAtPoint, IsPlain, plain-nowhere}
 use Rattle.ipam_laws.proofs.Trails.{AgreesAll, Did, Got, Trail}
 
 -- the label has the credit and the point that the calls of the trail have made
-pub record Tells (request : Request) (trail : Trail) (label : Label) : Type 0 where
+pub record Tells (request : Request) (trail : Trail) (label : CallLabel) : Type 0 where
   pub debt : Debt
   pub owes : Owes trail debt
   pub credit : label.credit ≡ credit_in debt
@@ -50,14 +50,14 @@ Any trail a = Unit {0}
 
 -- ---- words
 
-bound-on : {A B : Type 0} → (w : Word A) (follows : A → Word B) → ended w ≡ None → ended (bound w follows) ≡ None
+bound-on : {A B : Type 0} → (w : Word A) (follows : A → Word B) → answer_in w ≡ None → answer_in (bound w follows) ≡ None
 bound-on (Ends answer) follows e = absurd (cc e)
 bound-on (Asks label asked next) follows e = refl
 bound-on (Waits next) follows e = refl
 
 module _ (request : Request) where
   -- Whatever sound stores answer the calls, each label says what the calls before have made, and each
-  -- answer has this of the trail that led to it. What waits has not ended once it is fed.
+  -- answer has this of the trail that led to it. What waits has not answer_in once it is fed.
   abbrev pub Says : {A : Type 0} → (Trail → A → Type 0) → Trail → Word A → Type 0
   Says Q trail (Ends answer) = Q trail answer
   Says Q trail (Asks label asked next) =
@@ -66,7 +66,7 @@ module _ (request : Request) where
       → Says Q (Did moment store asked ∷ trail) (next moment (reply_of store asked)))
   Says Q trail (Waits next) =
       Tells request trail idle
-      × ((moment at : ℕ) (live : List (List ℕ)) → (ended (next live) ≡ None) × Says Q (Got moment at live ∷ trail) (next live))
+      × ((moment at : ℕ) (live : List (List ℕ)) → (answer_in (next live) ≡ None) × Says Q (Got moment at live ∷ trail) (next live))
 
   pub Says-bound : {A B : Type 0} → (R : Trail → A → Type 0) (Q : Trail → B → Type 0) (follows : A → Word B) (w : Word A) (trail : Trail) → Says R trail w → ((longer : Trail) (a : A) → Since trail longer → R longer a → Says Q longer (follows a)) → Says Q trail (bound w follows)
   Says-bound R Q follows (Ends answer) trail h k = k trail answer Same h

@@ -26,7 +26,7 @@ use Rattle.ipam_model.specs.Add.{add_word, NextRound, add_each, add_stops, after
 use Rattle.ipam_model.specs.Assigning.{assign, claim_for, target_in}
 use Rattle.ipam_model.specs.Choice.{Foreign, Lacks, Own, Pick, Picks, Rank, Seen, Unclaimed, Unconfirmed, Unknown, block_at, pick_of}
 use Rattle.ipam_model.specs.Counting.{freeing_one}
-use Rattle.ipam_model.specs.Step.{Part, StopAnswers, all_left, answer_of, followed, onward, rounds, settled, stop_answer, stops}
+use Rattle.ipam_model.specs.Step.{Part, StopAnswers, all_left, answer_of, part_then, onward, rounds, as_word, stop_answer, stops}
 use Rattle.ipam_model.specs.Usable.{families_if}
 use Rattle.ipam_laws.proofs.SeenReads.{seen_by_stores}
 use Rattle.ipam_laws.proofs.AddRounds.{HasRead, picked-read}
@@ -43,11 +43,11 @@ use Rattle.ipam_laws.proofs.Trails.{Did, Trail}
 
 module _ (request : Request) where
   -- a part that answers
-  pub settles : {A : Type 0} → (answers : StopAnswers A) (part : Part A) (trail : Trail) → Says request (Clean request) trail part → Says request Any trail (settled answers part)
+  pub settles : {A : Type 0} → (answers : StopAnswers A) (part : Part A) (trail : Trail) → Says request (Clean request) trail part → Says request Any trail (as_word answers part)
   settles answers part trail h = Says-bound request (Clean request) Any (λ outcome. Ends (answer_of answers outcome)) part trail h (λ longer a since k. tt)
 
   -- a part behind another
-  pub then-says : {A B : Type 0} → (part : Part A) (follows : Left → A → Part B) (trail : Trail) → Says request (Clean request) trail part → ((longer : Trail) (left : Left) (a : A) → Rests request longer → Says request (Clean request) longer (follows left a)) → Says request (Clean request) trail (followed part follows)
+  pub then-says : {A B : Type 0} → (part : Part A) (follows : Left → A → Part B) (trail : Trail) → Says request (Clean request) trail part → ((longer : Trail) (left : Left) (a : A) → Rests request longer → Says request (Clean request) longer (follows left a)) → Says request (Clean request) trail (part_then part follows)
   then-says {A} part follows trail h k = Says-bound request (Clean request) (Clean request) (onward follows) part trail h (λ longer outcome since clean. ends longer outcome clean)
     where
       ends : (longer : Trail) (outcome : Outcome A) → Clean request longer outcome → Says request (Clean request) longer (onward follows outcome)

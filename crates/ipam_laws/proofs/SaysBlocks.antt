@@ -4,7 +4,7 @@ use Rattle.std.specs.List.{count_by}
 use Rattle.ipam_addr.specs.Shape.{CidrValue}
 use Rattle.ipam_block.specs.declared.allocation.Attributes.{Attributes}
 use Rattle.ipam_block.specs.Shape.{BlockValue}
-use Rattle.ipam_block.specs.Operations.{assigned, freed, is_owned, next_block}
+use Rattle.ipam_block.specs.Operations.{block_with_ordinal, block_without, is_owned, next_block}
 use Rattle.ipam_records.specs.declared.call.Call.TheVariants.{Get, Update}
 use Rattle.ipam_records.specs.declared.key.Key.TheVariants as key
 use Rattle.ipam_records.specs.declared.record.Record.{Record}
@@ -22,7 +22,7 @@ use Rattle.ipam_model.specs.Assigning.{Target, assign, assign_block, assign_lost
 use Rattle.ipam_model.specs.CountLaw.{held_count, held_in_row}
 use Rattle.ipam_model.specs.Counting.{Freeing, credit_of, free, free_found, free_once, free_these, lower, raise}
 use Rattle.ipam_model.specs.Reads.{block_said}
-use Rattle.ipam_model.specs.Step.{Part, after_lost, followed, goes, left_of, onward, stops, tries}
+use Rattle.ipam_model.specs.Step.{Part, after_lost, part_then, goes, left_of, onward, stops, tries}
 use Rattle.ipam_laws.proofs.Acts.{Since, since-agrees}
 use Rattle.ipam_laws.proofs.ActParts.{IsCurrent, assigning_call, freeing_call}
 use Rattle.ipam_laws.proofs.AddTrails.{Knows}
@@ -58,12 +58,12 @@ module _ (request : Request) where
       → reply_of store (freeing_call what b old) ≡ Can r → Stays request (Freed (credit_of what.handle what.block (suc amount))) (Did moment store (freeing_call what b old) ∷ trail)
   free-done what moment store b old amount trail own same count current rests r e =
       let asked = freeing_call what b old in
-      let there = current-there store b (freed what.picks (next_block b)) old r refl current e in
+      let there = current-there store b (block_without what.picks (next_block b)) old r refl current e in
       let owes = owes-freed moment store asked trail (credit_of what.handle b.cidr (suc amount)) (free-frees store b old what.handle what.picks own amount count r e there) (free-only store b old what.handle what.picks own amount count there)
       (free-raises_none store b old what.handle what.picks own amount count) rests.owes in
       record {
         owes = subst (λ (c : CidrValue). Owes (Did moment store asked ∷ trail) (Freed (credit_of what.handle c (suc amount)))) same owes;
-        point = block-nowhere request moment store asked trail (freed what.picks (next_block b)) refl rests.point;
+        point = block-nowhere request moment store asked trail (block_without what.picks (next_block b)) refl rests.point;
       }
 
   free-these : (what : Freeing) (again : Part ℕ) (left : Left) → OwnPicks what → ((longer : Trail) → Rests request longer → Says request (Clean request) longer again) → (trail : Trail) (found : ℕ × BlockValue) → found.1.cidr ≡ what.block → Knows trail found.0 found.1
@@ -75,8 +75,8 @@ module _ (request : Request) where
         rests-tells request trail rests,
         λ moment store agrees sound.
             let longer : Trail = Did moment store asked ∷ trail in
-            let lost : ((r : ℕ) → reply_of store asked ≢ Can r) → Rests request longer = λ f. block-lost moment store (freed what.picks (next_block found.1)) found.0 trail Nothing rests f in
-            wrote request (Clean request) longer (reply_of store asked) (reply_of store asked) (λ taken. followed (lower credit left) (λ now done. goes now (suc more))) again (stops left NoRoom) (stops left NoRevisions) refl
+            let lost : ((r : ℕ) → reply_of store asked ≢ Can r) → Rests request longer = λ f. block-lost moment store (block_without what.picks (next_block found.1)) found.0 trail Nothing rests f in
+            wrote request (Clean request) longer (reply_of store asked) (reply_of store asked) (λ taken. part_then (lower credit left) (λ now done. goes now (suc more))) again (stops left NoRoom) (stops left NoRevisions) refl
             (λ r e. lower-says request credit (Freed credit) OfFreed left (suc more) longer (free-done what moment store found.1 found.0 more trail own same count (knows store agrees) rests r e))
             (λ f. a longer (lost f)) (λ full f. lost f) (λ f. tt),
       )
@@ -108,17 +108,17 @@ module _ (request : Request) where
     abbrev raised_debt : Debt
     raised_debt = Raised attributes.handle target.block.cidr
 
-    -- the block that is assigned holds no less than it did
+    -- the block that is block_with_ordinal holds no less than it did
     assign-harmless : (store : Datastore) → IsCurrent store target.revision target.block → (r : ℕ) → reply_of store (assigning_call attributes target) ≡ Can r → (id : List ℕ)
-        → held_count store id target.block.cidr ≤ count_by (is_owned id) (assigned (next_block target.block) target.ordinal attributes).allocations
+        → held_count store id target.block.cidr ≤ count_by (is_owned id) (block_with_ordinal (next_block target.block) target.ordinal attributes).allocations
     assign-harmless store current r e id =
-        let there = current-there store target.block (assigned (next_block target.block) target.ordinal attributes) target.revision r refl current e in
+        let there = current-there store target.block (block_with_ordinal (next_block target.block) target.ordinal attributes) target.revision r refl current e in
         let was : held_count store id target.block.cidr ≡ count_by (is_owned id) target.block.allocations = ap (held_in_row id) there in
         let more = held-assigned target.block target.ordinal attributes id in
         omega arith
 
     assign-lost : (races claims : ℕ) (trail : Trail) → Stays request raised_debt trail
-        → Says request (Clean request) trail (after_lost races claims (λ less. followed (lower (credit_of attributes.handle target.block.cidr 1) less) (λ now done. goes {A = Option Assigned} now None)))
+        → Says request (Clean request) trail (after_lost races claims (λ less. part_then (lower (credit_of attributes.handle target.block.cidr 1) less) (λ now done. goes {A = Option Assigned} now None)))
     assign-lost zero claims trail now = tt
     assign-lost (suc races) claims trail now =
         lower-says request (credit_of attributes.handle target.block.cidr 1) raised_debt (OfRaised attributes.handle target.block.cidr refl) (left_of races claims) None trail now
@@ -126,7 +126,7 @@ module _ (request : Request) where
     assign-block : (left : Left) (trail : Trail) → Knows trail target.revision target.block → Stays request raised_debt trail → Says request (Clean request) trail (assign_block attributes target left)
     assign-block left trail knows now =
         let asked = assigning_call attributes target in
-        let new = assigned (next_block target.block) target.ordinal attributes in (
+        let new = block_with_ordinal (next_block target.block) target.ordinal attributes in (
           record { debt = raised_debt; owes = now.owes; credit = refl; point = now.point },
           λ moment store agrees sound.
               let longer : Trail = Did moment store asked ∷ trail in

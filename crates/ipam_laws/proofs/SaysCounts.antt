@@ -3,7 +3,7 @@ use Rattle.std.proofs.Common.{◌≡◌, ◌≢◌, ℕ, zero, suc, ◌≤◌, i
 use Rattle.std.specs.Prelude.{nat_le}
 use Rattle.ipam_addr.specs.Shape.{CidrValue}
 use Rattle.ipam_handle.specs.Shape.{HandleValue}
-use Rattle.ipam_handle.specs.Operations.{content, count_in, count_of, lowered, raised}
+use Rattle.ipam_handle.specs.Operations.{content, count_in, count_of, with_lowered_count, with_raised_count}
 use Rattle.ipam_handle.specs.Sound.{AreCounts}
 use Rattle.ipam_records.specs.declared.call.Call.{Call}
 use Rattle.ipam_records.specs.declared.call.Call.TheVariants.{Get, Update, Delete}
@@ -25,7 +25,7 @@ use Rattle.ipam_model.specs.AffinityLaw.{HasAt}
 use Rattle.ipam_model.specs.CountLaw.{count_in_row, handle_count}
 use Rattle.ipam_model.specs.Counting.{credit_of, lower, lower_once, lowering, most_count, raise, raise_once, raise_write, revision_said, written_or_deleted}
 use Rattle.ipam_model.specs.Reads.{handle_said}
-use Rattle.ipam_model.specs.Step.{Part, followed, goes, left_of, on_write, onward, stops, tries, write_back}
+use Rattle.ipam_model.specs.Step.{Part, part_then, goes, left_of, on_write, onward, stops, tries, write_back}
 use Rattle.ipam_laws.proofs.Calls.{create-can, found-handle, found-key, update-can}
 use Rattle.ipam_laws.proofs.DebtCalls.{back-puts, delete-harmless, handle-harmless, lowered-less, lowered-nothing, raise-frees_none, raise-only, raise-raises, update-puts}
 use Rattle.ipam_laws.proofs.Debts.{Debt, Done, Freed, Harmless, Nothing, Owes, Raised, credit_in, owes-paid, owes-raised, owes-used}
@@ -75,25 +75,25 @@ said-id store id said (WasFound revision h e own there sound) = ap (λ (s : Said
 module _ (request : Request) where
   -- ---- raising
 
-  -- the count is raised, or nothing is owed
+  -- the count is with_raised_count, or nothing is owed
   unfoldable pub RaiseEnds : List ℕ → CidrValue → Trail → Outcome (Unit {0}) → Type 0
   RaiseEnds id cidr trail (Went left done) = Stays request (Raised id cidr) trail
   RaiseEnds id cidr trail (Stops left why) = StopsClean request trail why
 
   raise-done : (id : List ℕ) (cidr : CidrValue) (said : Said) (moment : ℕ) (store other : Datastore) (trail : Trail) → AgreesWith store other → HandleRead store id said → Rests request trail → (r : ℕ)
-      → reply_of other (write_back said (record_of.Handle (raised (handle_said id said) cidr 1))) ≡ Can r
-      → Stays request (Raised id cidr) (Did moment other (write_back said (record_of.Handle (raised (handle_said id said) cidr 1))) ∷ trail)
+      → reply_of other (write_back said (record_of.Handle (with_raised_count (handle_said id said) cidr 1))) ≡ Can r
+      → Stays request (Raised id cidr) (Did moment other (write_back said (record_of.Handle (with_raised_count (handle_said id said) cidr 1))) ∷ trail)
   raise-done id cidr said moment store other trail agrees read rests r e =
       let h = handle_said id said in
-      let new = record_of.Handle (raised h cidr 1) in
+      let new = record_of.Handle (with_raised_count h cidr 1) in
       let asked = write_back said new in
       let own = said-id store id said read in
       let puts = back-puts said new in
-      let before = written-back store other id said agrees read (raised h cidr 1) refl r e in
+      let before = written-back store other id said agrees read (with_raised_count h cidr 1) refl r e in
       let owes = owes-raised moment other asked trail h.id cidr (raise-raises other h cidr asked puts before r e) (raise-only other h cidr asked puts before) (raise-frees_none other h cidr asked puts before) rests.owes in
       record {
         owes = subst (λ (i : List ℕ). Owes (Did moment other asked ∷ trail) (Raised i cidr)) own owes;
-        point = plain-nowhere request moment other asked trail (handle-plain asked (raised h cidr 1) (back-new said new));
+        point = plain-nowhere request moment other asked trail (handle-plain asked (with_raised_count h cidr 1) (back-new said new));
       }
 
   raise-once : (id : List ℕ) (cidr : CidrValue) (again : Part (Unit {0})) (left : Left) → ((longer : Trail) → Rests request longer → Says request (RaiseEnds id cidr) longer again) → (trail : Trail) → Rests request trail → Says request (RaiseEnds id cidr) trail (raise_once id cidr again left)
@@ -109,13 +109,13 @@ module _ (request : Request) where
       by moment store now read true = now
       by moment store now read false =
           let said = reply_of store (Get (key.Handle id)) in
-          let new = record_of.Handle (raised (handle_said id said) cidr 1) in
+          let new = record_of.Handle (with_raised_count (handle_said id said) cidr 1) in
           let asked = write_back said new in
           let before : Trail = Did moment store (Get (key.Handle id)) ∷ trail in (
             rests-tells request before now,
             λ second other agrees sound.
                 let longer : Trail = Did second other asked ∷ before in
-                let lost : ((revision : ℕ) → reply_of other asked ≢ Can revision) → Rests request longer = λ f. stays-undone request second other before Nothing now asked (handle-plain asked (raised (handle_said id said) cidr 1) (back-new said new)) f in
+                let lost : ((revision : ℕ) → reply_of other asked ≢ Can revision) → Rests request longer = λ f. stays-undone request second other before Nothing now asked (handle-plain asked (with_raised_count (handle_said id said) cidr 1) (back-new said new)) f in
                 wrote request (RaiseEnds id cidr) longer (reply_of other asked) (reply_of other asked) (λ revision. goes left tt) again (stops left NoRoom) (stops left NoRevisions) refl
                 (λ r e. raise-done id cidr said second store other before agrees.0 read now r e)
                 (λ f. h longer (lost f)) (λ full f. lost f) (λ f. tt),
@@ -153,9 +153,9 @@ module _ (request : Request) where
 
   module _ (credit : Credit) (debt : Debt) (is : IsCreditOf credit debt) where
     lower-read : (again : Part (Unit {0})) (left : Left) → ((longer : Trail) → Stays request debt longer → Says request (Clean request) longer again) → (moment : ℕ) (store : Datastore) (trail : Trail) → (h : HandleValue) (revision : ℕ) → h.id ≡ credit.handle
-        → ((other : Datastore) (r : ℕ) → AgreesAll other (Did moment store (Get (key.Handle credit.handle)) ∷ trail) → reply_of other (Update (record_of.Handle (lowered h credit.block credit.amount)) revision) ≡ Can r → (c : CidrValue) → count_of (lowered h credit.block credit.amount) c ≤ handle_count other h.id c)
+        → ((other : Datastore) (r : ℕ) → AgreesAll other (Did moment store (Get (key.Handle credit.handle)) ∷ trail) → reply_of other (Update (record_of.Handle (with_lowered_count h credit.block credit.amount)) revision) ≡ Can r → (c : CidrValue) → count_of (with_lowered_count h credit.block credit.amount) c ≤ handle_count other h.id c)
         → Stays request debt (Did moment store (Get (key.Handle credit.handle)) ∷ trail) → (counts : List (CidrValue × ℕ))
-        → Says request (Clean request) (Did moment store (Get (key.Handle credit.handle)) ∷ trail) (Asks (owing credit) (written_or_deleted (lowered h credit.block credit.amount) counts revision) (λ second reply. on_write reply left (λ taken. goes left tt) again))
+        → Says request (Clean request) (Did moment store (Get (key.Handle credit.handle)) ∷ trail) (Asks (owing credit) (written_or_deleted (with_lowered_count h credit.block credit.amount) counts revision) (λ second reply. on_write reply left (λ taken. goes left tt) again))
     lower-read again left a moment store trail h revision own less now [] =
         let before : Trail = Did moment store (Get (key.Handle credit.handle)) ∷ trail in
         let asked = Delete (key.Handle h.id) revision in (
@@ -172,7 +172,7 @@ module _ (request : Request) where
         )
     lower-read again left a moment store trail h revision own less now (count ∷ counts) =
         let before : Trail = Did moment store (Get (key.Handle credit.handle)) ∷ trail in
-        let new = lowered h credit.block credit.amount in
+        let new = with_lowered_count h credit.block credit.amount in
         let asked = Update (record_of.Handle new) revision in (
           owing-tells credit debt before is now,
           λ second other agrees sound.
@@ -188,28 +188,28 @@ module _ (request : Request) where
 
     lower-said : (again : Part (Unit {0})) (left : Left) → ((longer : Trail) → Stays request debt longer → Says request (Clean request) longer again) → (moment : ℕ) (store : Datastore) (trail : Trail) → (said : Said) → HandleRead store credit.handle said
         → Stays request debt (Did moment store (Get (key.Handle credit.handle)) ∷ trail)
-        → Says request (Clean request) (Did moment store (Get (key.Handle credit.handle)) ∷ trail) (Asks (owing credit) (lowering (lowered (handle_said credit.handle said) credit.block credit.amount) (revision_said said)) (λ second reply. on_write reply left (λ taken. goes left tt) again))
+        → Says request (Clean request) (Did moment store (Get (key.Handle credit.handle)) ∷ trail) (Asks (owing credit) (lowering (with_lowered_count (handle_said credit.handle said) credit.block credit.amount) (revision_said said)) (λ second reply. on_write reply left (λ taken. goes left tt) again))
     unfolding AgreesAll
     lower-said again left a moment store trail said (WasMissing e) now =
-        let P : Said → Type 0 = λ s. Says request (Clean request) (Did moment store (Get (key.Handle credit.handle)) ∷ trail) (Asks (owing credit) (lowering (lowered (handle_said credit.handle s) credit.block credit.amount) (revision_said s)) (λ second reply. on_write reply left (λ taken. goes left tt) again)) in
+        let P : Said → Type 0 = λ s. Says request (Clean request) (Did moment store (Get (key.Handle credit.handle)) ∷ trail) (Asks (owing credit) (lowering (with_lowered_count (handle_said credit.handle s) credit.block credit.amount) (revision_said s)) (λ second reply. on_write reply left (λ taken. goes left tt) again)) in
         let h = content credit.handle [] in
         let empty = lowered-nothing credit.handle credit.block credit.amount in
-        let none : (other : Datastore) (c : CidrValue) → count_of (lowered h credit.block credit.amount) c ≤ handle_count other h.id c = λ other c.
-        let zero_is : count_of (lowered h credit.block credit.amount) c ≡ 0 = ap (λ (l : List (CidrValue × ℕ)). count_in l c) empty in omega arith in
-        let missing : P Missing = lower-read again left a moment store trail h 0 refl (λ other r agrees f c. none other c) now (lowered h credit.block credit.amount).counts in
+        let none : (other : Datastore) (c : CidrValue) → count_of (with_lowered_count h credit.block credit.amount) c ≤ handle_count other h.id c = λ other c.
+        let zero_is : count_of (with_lowered_count h credit.block credit.amount) c ≡ 0 = ap (λ (l : List (CidrValue × ℕ)). count_in l c) empty in omega arith in
+        let missing : P Missing = lower-read again left a moment store trail h 0 refl (λ other r agrees f c. none other c) now (with_lowered_count h credit.block credit.amount).counts in
         subst P (sym e) missing
     lower-said again left a moment store trail said (WasFound revision h e own there sound) now =
-        let P : Said → Type 0 = λ s. Says request (Clean request) (Did moment store (Get (key.Handle credit.handle)) ∷ trail) (Asks (owing credit) (lowering (lowered (handle_said credit.handle s) credit.block credit.amount) (revision_said s)) (λ second reply. on_write reply left (λ taken. goes left tt) again)) in
+        let P : Said → Type 0 = λ s. Says request (Clean request) (Did moment store (Get (key.Handle credit.handle)) ∷ trail) (Asks (owing credit) (lowering (with_lowered_count (handle_said credit.handle s) credit.block credit.amount) (revision_said s)) (λ second reply. on_write reply left (λ taken. goes left tt) again)) in
         let found : P (Found revision (record_of.Handle h)) =
         lower-read again left a moment store trail h revision own
         (λ other r agrees f c.
-        let (old, at) = update-can other (record_of.Handle (lowered h credit.block credit.amount)) revision r f in
+        let (old, at) = update-can other (record_of.Handle (with_lowered_count h credit.block credit.amount)) revision r f in
         let at_id = subst (λ (x : List ℕ). HasAt other (key.Handle x) revision old) own at in
         let same = agrees.0 (key.Handle credit.handle) revision (record_of.Handle h) old there at_id in
         let was : handle_count other h.id c ≡ count_of h c = ap (count_in_row h.id c) at ∙ ap (λ (x : Record). count_in_row h.id c (Some (revision, x))) (sym same) in
         let fewer = lowered-less h sound credit.block credit.amount c in
         omega arith)
-        now (lowered h credit.block credit.amount).counts in
+        now (with_lowered_count h credit.block credit.amount).counts in
         subst P (sym e) found
 
     lower-once : (again : Part (Unit {0})) (left : Left) → ((longer : Trail) → Stays request debt longer → Says request (Clean request) longer again) → (trail : Trail) → Stays request debt trail → Says request (Clean request) trail (lower_once credit again left)
@@ -225,7 +225,7 @@ module _ (request : Request) where
     lower-tries zero claims = lower-once (stops (left_of zero claims) OutOfTries) (left_of zero claims) (λ longer now. tt)
     lower-tries (suc races) claims = lower-once (tries (lower_once credit) races claims) (left_of (suc races) claims) (lower-tries races claims)
 
-    pub lower-says : {A : Type 0} → (left : Left) (value : A) (trail : Trail) → Stays request debt trail → Says request (Clean request) trail (followed (lower credit left) (λ now done. goes now value))
+    pub lower-says : {A : Type 0} → (left : Left) (value : A) (trail : Trail) → Stays request debt trail → Says request (Clean request) trail (part_then (lower credit left) (λ now done. goes now value))
     lower-says {A} left value trail now =
         Says-bound request (Clean request) (Clean request) (onward (λ later done. goes later value)) (lower credit left) trail (lower-tries left.races left.claims trail now) (λ longer outcome since k. ends longer outcome k)
       where

@@ -207,7 +207,7 @@ module _ (setting : Setting) where
   abbrev Again : Part AdminAnswer → Type 0
   Again again = (trail : Trail) → Rests changes trail → Says changes (Clean changes) trail again
 
-  admin-write : (again : Part AdminAnswer) (left : Left) (said : Said) (what : change.Changed) → change.changed setting said ≡ what → Again again → Again (change.admin_write again left said what)
+  admin-write : (again : Part AdminAnswer) (left : Left) (said : Said) (what : change.Changed) → change.admin_change setting said ≡ what → Again again → Again (change.admin_write again left said what)
   admin-write again left said (change.Refuses number name) e a trail rests = rests
   admin-write again left said (change.Becomes new) e a trail rests =
       let asked = write_back said new in
@@ -227,7 +227,7 @@ module _ (setting : Setting) where
     rests-tells changes trail rests,
     λ moment store agrees sound.
         let asked = Get (change.key_changed setting) in
-        admin-write again left (reply_of store asked) (change.changed setting (reply_of store asked)) refl a (Did moment store asked ∷ trail)
+        admin-write again left (reply_of store asked) (change.admin_change setting (reply_of store asked)) refl a (Did moment store asked ∷ trail)
         (stays-read changes moment store trail Nothing rests (change.key_changed setting) (λ n c e. absurd (subst (λ (k : Key). IsSetting k) e (changed-setting setting)))),
   )
 

@@ -6,10 +6,10 @@ use Rattle.ipam_records.specs.declared.key.Key.{Key}
 use Rattle.ipam_records.specs.declared.record.Record.{Record}
 use Rattle.ipam_records.specs.declared.call.Call.{Call}
 use Rattle.ipam_records.specs.Datastore.{Datastore, reply_of}
-use Rattle.ipam_records.specs.Label.{Label, idle}
+use Rattle.ipam_records.specs.Label.{CallLabel, idle}
 use Rattle.ipam_records.specs.Said.{Said}
 use Rattle.ipam_records.specs.Sound.{IsDatastore, IsRow}
-use Rattle.ipam_records.specs.Word.{Word, Ends, Asks, Waits, label_of, ended, fed, waits}
+use Rattle.ipam_records.specs.Word.{Word, Ends, Asks, Waits, label_of, answer_in, after_feed, waits}
 use Rattle.ipam_records.proofs.HearingLemmas.{All-row_of}
 use Rattle.ipam_model.specs.declared.answer.Answer.{Answer}
 use Rattle.ipam_model.specs.declared.answer.Answer.TheVariants.{Fault}
@@ -20,7 +20,7 @@ use Rattle.ipam_model.specs.declared.entry.Fate.{Fate}
 use Rattle.ipam_model.specs.declared.entry.Fate.TheVariants.{Well, Before, After}
 use Rattle.ipam_model.specs.declared.request.Request.{Request}
 use Rattle.ipam_model.specs.AffinityLaw.{HasAt}
-use Rattle.ipam_model.specs.Cluster.{Running, Slots, store_with, with_slot, called, call_entry, store_after, goes_on, begun, fed_with, after}
+use Rattle.ipam_model.specs.Cluster.{Running, Slots, store_with, with_slot, call_made, call_entry, store_after, goes_on, fresh_run, run_after_feed, after}
 use Rattle.ipam_model.specs.Course.{slot_count}
 use Rattle.ipam_model.specs.History.{Base, Lawful, cluster_at, store_at, slot_of_entry}
 use Rattle.ipam_model.specs.Requests.{word_of}
@@ -115,11 +115,11 @@ label-is (Asks label asked next) = refl
 label-is (Waits next) = refl
 
 -- where the slot stands
-abbrev pub label_in : Option Running → Label
+abbrev pub label_in : Option Running → CallLabel
 label_in None = idle
 label_in (Some running) = label_of running.word
 
-abbrev pub label_at : Base → List Entry → (slot : ℕ) → Label
+abbrev pub label_at : Base → List Entry → (slot : ℕ) → CallLabel
 label_at base history slot = label_in ((cluster_at base history).slots slot)
 
 -- ---- a call of a word
@@ -127,17 +127,17 @@ label_at base history slot = label_in ((cluster_at base history).slots slot)
 -- the call is a step to where the slot then stands, or it leaves the slot idle
 record CallTurn (store next : Datastore) (moment : ℕ) (c : Called) (running : Running) (known : Known) : Type 0 where
   keeps : (r : Running) → goes_on store moment c.answer (Some running) ≡ Some r → Steps still (more known store next) r.word
-  reached : Label
+  reached : CallLabel
   step : Step known store next (label_of running.word) reached
   now : (label_in (goes_on store moment c.answer (Some running)) ≡ reached) ⊎ (label_in (goes_on store moment c.answer (Some running)) ≡ idle)
 
 -- the store behind a call that was done
-pub done-store : (slot : ℕ) (fate : Fate) (asked : Call) (store : Datastore) (answer : Option Answer) → fate ≢ Before → store_after (called slot fate asked (reply_of store asked) answer) store ≡ behind store asked
+pub done-store : (slot : ℕ) (fate : Fate) (asked : Call) (store : Datastore) (answer : Option Answer) → fate ≢ Before → store_after (call_made slot fate asked (reply_of store asked) answer) store ≡ behind store asked
 done-store slot Well asked store answer done = ap (λ w. store_with w store) (write_told-granted asked (reply_of store asked))
 done-store slot After asked store answer done = ap (λ w. store_with w store) (write_told-granted asked (reply_of store asked))
 done-store slot Before asked store answer done = absurd (done refl)
 
-done-turn : (store : Datastore) (moment : ℕ) (c : Called) (request : Request) (known : Known) (label : Label) (asked : Call) (next : ℕ → Said → Word Answer) (answer : Option Answer) → c.answer ≡ answer
+done-turn : (store : Datastore) (moment : ℕ) (c : Called) (request : Request) (known : Known) (label : CallLabel) (asked : Call) (next : ℕ → Said → Word Answer) (answer : Option Answer) → c.answer ≡ answer
     → Step known store (behind store asked) label (label_to still (next moment (reply_of store asked))) → Steps still (more known store (behind store asked)) (next moment (reply_of store asked))
     → CallTurn store (behind store asked) moment c (record { request = request; word = Asks label asked next }) known
 done-turn store moment c request known label asked next (Some answer) e does meets = record {
@@ -157,16 +157,16 @@ done-turn store moment c request known label asked next None e does meets =
       now = inl (ap label_in goes ∙ sym (label-is (next moment (reply_of store asked))));
     }
 
-fate-turn : (store : Datastore) (moment slot : ℕ) (fate : Fate) (request : Request) (known : Known) (label : Label) (asked : Call) (next : ℕ → Said → Word Answer)
+fate-turn : (store : Datastore) (moment slot : ℕ) (fate : Fate) (request : Request) (known : Known) (label : CallLabel) (asked : Call) (next : ℕ → Said → Word Answer)
     → Step known store (behind store asked) label (label_to still (next moment (reply_of store asked))) → Steps still (more known store (behind store asked)) (next moment (reply_of store asked))
-    → CallTurn store (store_after (called slot fate asked (reply_of store asked) (ended (next moment (reply_of store asked)))) store) moment (called slot fate asked (reply_of store asked) (ended (next moment (reply_of store asked)))) (record { request = request; word = Asks label asked next }) known
+    → CallTurn store (store_after (call_made slot fate asked (reply_of store asked) (answer_in (next moment (reply_of store asked)))) store) moment (call_made slot fate asked (reply_of store asked) (answer_in (next moment (reply_of store asked)))) (record { request = request; word = Asks label asked next }) known
 fate-turn store moment slot Well request known label asked next does meets =
-    let c = called slot Well asked (reply_of store asked) (ended (next moment (reply_of store asked))) in
-    subst (λ (s : Datastore). CallTurn store s moment c (record { request = request; word = Asks label asked next }) known) (sym (done-store slot Well asked store (ended (next moment (reply_of store asked))) (λ e. cc e)))
-    (done-turn store moment c request known label asked next (ended (next moment (reply_of store asked))) refl does meets)
+    let c = call_made slot Well asked (reply_of store asked) (answer_in (next moment (reply_of store asked))) in
+    subst (λ (s : Datastore). CallTurn store s moment c (record { request = request; word = Asks label asked next }) known) (sym (done-store slot Well asked store (answer_in (next moment (reply_of store asked))) (λ e. cc e)))
+    (done-turn store moment c request known label asked next (answer_in (next moment (reply_of store asked))) refl does meets)
 fate-turn store moment slot After request known label asked next does meets =
-    let c = called slot After asked (reply_of store asked) (ended (next moment (reply_of store asked))) in
-    subst (λ (s : Datastore). CallTurn store s moment c (record { request = request; word = Asks label asked next }) known) (sym (done-store slot After asked store (ended (next moment (reply_of store asked))) (λ e. cc e)))
+    let c = call_made slot After asked (reply_of store asked) (answer_in (next moment (reply_of store asked))) in
+    subst (λ (s : Datastore). CallTurn store s moment c (record { request = request; word = Asks label asked next }) known) (sym (done-store slot After asked store (answer_in (next moment (reply_of store asked))) (λ e. cc e)))
     (done-turn store moment c request known label asked next (Some Fault) refl does meets)
 fate-turn store moment slot Before request known label asked next does meets = record {
   keeps = λ r f. absurd (cc f);
@@ -182,7 +182,7 @@ call-turn store moment slot fate running known c agrees steps e = from running.r
     from request (Ends answer) k f = absurd (cc f)
     from request (Waits next) k f = absurd (cc f)
     from request (Asks label asked next) k f =
-        let is : called slot fate asked (reply_of store asked) (ended (next moment (reply_of store asked))) ≡ c = cc f in
+        let is : call_made slot fate asked (reply_of store asked) (answer_in (next moment (reply_of store asked))) ≡ c = cc f in
         let here = k moment store agrees in
         subst (λ (x : Called). CallTurn store (store_after x store) moment x (record { request = request; word = Asks label asked next }) known) is
         (fate-turn store moment slot fate request known label asked next here.0 here.1)
@@ -190,18 +190,18 @@ call-turn store moment slot fate running known c agrees steps e = from running.r
 -- ---- every entry
 
 -- a word that waits goes on standing nowhere
-fed-keeps : (w : Word Answer) (live : List (List ℕ)) (known : Known) → waits w ≡ true → Steps still known w → (label_of (fed w live) ≡ idle) × Steps still known (fed w live)
+fed-keeps : (w : Word Answer) (live : List (List ℕ)) (known : Known) → waits w ≡ true → Steps still known w → (label_of (after_feed w live) ≡ idle) × Steps still known (after_feed w live)
 fed-keeps (Ends answer) live known e h = absurd (cc e)
 fed-keeps (Asks label asked next) live known e h = absurd (cc e)
 fed-keeps (Waits next) live known e h = (sym (label-is (next live)) ∙ (h live).0, (h live).1)
 
-begun-label : (request : Request) → IsSoundRequest request → label_in (begun request) ≡ idle
+begun-label : (request : Request) → IsSoundRequest request → label_in (fresh_run request) ≡ idle
 begun-label request sound = sym (label-is (word_of request)) ∙ (word-lawful request sound (λ k r f. ⊥)).0
 
 -- the entry is a step of its slot, and other slots stand where they stood
 pub record Turn (base : Base) (history : List Entry) (new : Entry) : Type 0 where
   pub below : slot_of_entry new < slot_count
-  pub reached : Label
+  pub reached : CallLabel
   pub step : Step (known_at base history) (store_at base history) (store_at base (new ∷ history)) (label_at base history (slot_of_entry new)) reached
   pub now : (label_at base (new ∷ history) (slot_of_entry new) ≡ reached) ⊎ (label_at base (new ∷ history) (slot_of_entry new) ≡ idle)
   pub others : (other : ℕ) → slot_of_entry new ≢ other → label_at base (new ∷ history) other ≡ label_at base history other
@@ -212,7 +212,7 @@ EntryKeeps base history new = SlotsKeep base (new ∷ history) × Turn base hist
 entry-keeps : (base : Base) (history : List Entry) (new : Entry) → IsDatastore base.store → Lawful base (new ∷ history) → SlotsKeep base history → EntryKeeps base history new
 unfolding EntryKeeps SlotsKeep Lawful cluster_at after known_at
 entry-keeps base history (entry.Began slot request) sound h i = (
-  λ other r e. elim (changed-slot (cluster_at base history).slots slot (begun request) other r e) [
+  λ other r e. elim (changed-slot (cluster_at base history).slots slot (fresh_run request) other r e) [
     | inl own ↦
         let same : record { request = request; word = word_of request } ≡ r = cc own.1 in
         subst (λ (x : Running). Steps still (known_at base (entry.Began slot request ∷ history)) x.word) same (word-lawful request h.1.sound (known_at base (entry.Began slot request ∷ history))).1
@@ -222,20 +222,20 @@ entry-keeps base history (entry.Began slot request) sound h i = (
     below = h.1.turn.slot_exists;
     reached = idle;
     step = Idles refl refl;
-    now = inl (ap label_in (own-slot slot (begun request) (cluster_at base history).slots) ∙ begun-label request h.1.sound);
-    others = λ other differ. ap label_in (other-slot slot other (begun request) (cluster_at base history).slots differ);
+    now = inl (ap label_in (own-slot slot (fresh_run request) (cluster_at base history).slots) ∙ begun-label request h.1.sound);
+    others = λ other differ. ap label_in (other-slot slot other (fresh_run request) (cluster_at base history).slots differ);
   },
 )
 entry-keeps base history (entry.Fed slot at live) sound h i =
     let may = h.1 in
     let word-keeps = i slot may.running may.runs in
     let (label, meets) = fed-keeps may.running.word live (known_at base history) may.waiting word-keeps in
-    let fed_slot = fed_with live ((cluster_at base history).slots slot) in
-    let is : fed_with live ((cluster_at base history).slots slot) ≡ Some (record may.running { word = fed may.running.word live }) = ap (fed_with live) may.runs in (
+    let fed_slot = run_after_feed live ((cluster_at base history).slots slot) in
+    let is : run_after_feed live ((cluster_at base history).slots slot) ≡ Some (record may.running { word = after_feed may.running.word live }) = ap (run_after_feed live) may.runs in (
       λ other r e. elim (changed-slot (cluster_at base history).slots slot fed_slot other r e) [
         | inl own ↦
-            let same : record may.running { word = fed may.running.word live } ≡ r = cc (is, own.1) in
-            let wider = Meets-grows Step step-grows still Any any-lasts (fed may.running.word live) (known_at base history) (known_at base (entry.Fed slot at live ∷ history)) (grows-next base history (entry.Fed slot at live)) meets in
+            let same : record may.running { word = after_feed may.running.word live } ≡ r = cc (is, own.1) in
+            let wider = Meets-grows Step step-grows still Any any-lasts (after_feed may.running.word live) (known_at base history) (known_at base (entry.Fed slot at live ∷ history)) (grows-next base history (entry.Fed slot at live)) meets in
             subst (λ (x : Running). Steps still (known_at base (entry.Fed slot at live ∷ history)) x.word) same wider
         | inr stays ↦ keep-others base history (entry.Fed slot at live) i other r stays
       ],
@@ -276,7 +276,7 @@ entry-keeps base history (entry.Called c) sound h i =
       record {
         below = may.turn.slot_exists;
         reached = turn.reached;
-        step = subst (λ (l : Label). Step (known_at base history) store (store_after c store) l turn.reached) (sym before) turn.step;
+        step = subst (λ (l : CallLabel). Step (known_at base history) store (store_after c store) l turn.reached) (sym before) turn.step;
         now = elim turn.now [ inl reached ↦ inl (then ∙ reached) | inr idles ↦ inr (then ∙ idles) ];
         others = λ other differ. ap label_in (other-slot c.slot other slot_then (cluster_at base history).slots differ);
       },

@@ -19,7 +19,7 @@ use Rattle.ipam_records.specs.declared.record.Record.{Record}
 use Rattle.ipam_records.specs.declared.record.Record.TheVariants as record_of
 use Rattle.ipam_records.specs.Datastore.{Datastore, reply_to_get, row_of, written}
 use Rattle.ipam_records.specs.Key.{key_of}
-use Rattle.ipam_records.specs.Label.{Label}
+use Rattle.ipam_records.specs.Label.{CallLabel}
 use Rattle.ipam_records.specs.Sound.{IsDatastore}
 use Rattle.ipam_records.proofs.RowKinds.{each-kind}
 use Rattle.ipam_model.specs.declared.entry.Entry.{Entry}
@@ -29,7 +29,7 @@ use Rattle.ipam_model.specs.Admin as change
 use Rattle.ipam_model.specs.AffinityLaw.{HasAt}
 use Rattle.ipam_model.specs.Consistent.{pools_in, pools_in_row, cidr_named, IsSlotOfSome, LiesAtSlots, SlotsLaw, ConsistentLaw}
 use Rattle.ipam_model.specs.History.{Base, Lawful, cluster_at, store_at, slot_of_entry}
-use Rattle.ipam_model.specs.Reads.{Row, pools_said}
+use Rattle.ipam_model.specs.Reads.{StoredRecord, pools_said}
 use Rattle.ipam_laws.proofs.Members.{in-map}
 use Rattle.ipam_laws.proofs.Lift.{Known}
 use Rattle.ipam_laws.proofs.Calls.{found-key}
@@ -75,7 +75,7 @@ pools-becomes pools others new covers e revision =
     subst (λ (r : Record). Covers pools (pools_in_row (Some (revision, r)))) same covers
 
 -- the pools that a change writes cover those that it read
-changed-covers : (request : Admin) (o : Option Row) (new : Record) → key_of new ≡ key.Pools → change.changed request (reply_to_get o) ≡ change.Becomes new → (revision : ℕ) → Covers (pools_said (reply_to_get o)) (pools_in_row (Some (revision, new)))
+changed-covers : (request : Admin) (o : Option StoredRecord) (new : Record) → key_of new ≡ key.Pools → change.admin_change request (reply_to_get o) ≡ change.Becomes new → (revision : ℕ) → Covers (pools_said (reply_to_get o)) (pools_in_row (Some (revision, new)))
 changed-covers (change_of.Pool pool) o new k e revision = by (list_any (change.is_same_pool pool) (pools_said (reply_to_get o))) e
   where
     refused : (refusal : PoolRefusal) → change.pool_refused (pools_said (reply_to_get o)) pool refusal ≡ change.Becomes new → Covers (pools_said (reply_to_get o)) (pools_in_row (Some (revision, new)))
@@ -103,7 +103,7 @@ changed-covers (change_of.Unreserve name) o new k e revision = absurd (cc (k, ke
 changed-covers (change_of.Config config) o new k e revision = absurd (cc (k, key-changed (change_of.Config config) (reply_to_get o) new e))
 
 -- what a request reads of the pools is what there is
-said-in : (o : Option Row) → pools_said (reply_to_get o) ≡ pools_in_row o
+said-in : (o : Option StoredRecord) → pools_said (reply_to_get o) ≡ pools_in_row o
 said-in = each-kind (λ o. pools_said (reply_to_get o) ≡ pools_in_row o) refl (λ r x. refl) (λ r x. refl) (λ r x. refl) (λ r x. refl) (λ r x. refl) (λ r x. refl)
 
 -- the slots of a store are slots of the next
@@ -112,7 +112,7 @@ SlotsGrow store next = Covers (pools_in store.rows) (pools_in next.rows)
 
 same-grow : (store next : Datastore) → row_of key.Pools next.rows ≡ row_of key.Pools store.rows → SlotsGrow store next
 unfolding SlotsGrow
-same-grow store next e = subst (λ (o : Option Row). Covers (pools_in store.rows) (pools_in_row o)) (sym e) (covers-itself (pools_in store.rows))
+same-grow store next e = subst (λ (o : Option StoredRecord). Covers (pools_in store.rows) (pools_in_row o)) (sym e) (covers-itself (pools_in store.rows))
 
 stays-grow : (store next : Datastore) → next ≡ store → SlotsGrow store next
 stays-grow store next e = same-grow store next (ap (λ (s : Datastore). row_of key.Pools s.rows) e)
@@ -120,7 +120,7 @@ stays-grow store next e = same-grow store next (ap (λ (s : Datastore). row_of k
 beside-grow : (store next : Datastore) (new : Record) → IsPut store next new → key_of new ≢ key.Pools → SlotsGrow store next
 beside-grow store next new e other = same-grow store next (put-beside store next new key.Pools e other)
 
-change-grow : (store next : Datastore) (request : Admin) (new : Record) → IsPut store next new → change.changed request (reply_to_get (row_of (change.key_changed request) store.rows)) ≡ change.Becomes new → SlotsGrow store next
+change-grow : (store next : Datastore) (request : Admin) (new : Record) → IsPut store next new → change.admin_change request (reply_to_get (row_of (change.key_changed request) store.rows)) ≡ change.Becomes new → SlotsGrow store next
 unfolding SlotsGrow
 change-grow store next request new put e = by (change.key_changed request) refl
   where
@@ -132,18 +132,18 @@ change-grow store next request new put e = by (change.key_changed request) refl
 
     by : (k : Key) → change.key_changed request ≡ k → Covers (pools_in store.rows) (pools_in next.rows)
     by key.Pools is =
-        let changed = subst (λ (k : Key). change.changed request (reply_to_get (row_of k store.rows)) ≡ change.Becomes new) is e in
+        let changed = subst (λ (k : Key). change.admin_change request (reply_to_get (row_of k store.rows)) ≡ change.Becomes new) is e in
         let covers = changed-covers request (row_of key.Pools store.rows) new (key_is ∙ is) changed (store.counter + 1) in
         let read = subst (λ (l : List Pool). Covers l (pools_in_row (Some (store.counter + 1, new)))) (said-in (row_of key.Pools store.rows)) covers in
         let at : row_of key.Pools next.rows ≡ Some (store.counter + 1, new) = ap (λ (k : Key). row_of k next.rows) (sym (key_is ∙ is)) ∙ put-at store next new put in
-        subst (λ (o : Option Row). Covers (pools_in store.rows) (pools_in_row o)) (sym at) read
+        subst (λ (o : Option StoredRecord). Covers (pools_in store.rows) (pools_in_row o)) (sym at) read
     by key.Config is = other key.Config is (λ f. cc f)
     by key.Reservations is = other key.Reservations is (λ f. cc f)
     by (key.Block cidr) is = other (key.Block cidr) is (λ f. cc f)
     by (key.Affinity node cidr) is = other (key.Affinity node cidr) is (λ f. cc f)
     by (key.Handle id) is = other (key.Handle id) is (λ f. cc f)
 
-step-grow : (known : Known) (store next : Datastore) (label after : Label) → Step known store next label after → SlotsGrow store next
+step-grow : (known : Known) (store next : Datastore) (label after : CallLabel) → Step known store next label after → SlotsGrow store next
 step-grow known store next label after (Idles a b) = stays-grow store next a
 step-grow known store next label after (Owes credit a b c) = stays-grow store next a
 step-grow known store next label after (Finds tie read kept state a b c d e f) = stays-grow store next a
@@ -204,7 +204,7 @@ change-unnamed (change_of.Reserve new) = refl
 change-unnamed (change_of.Unreserve name) = refl
 change-unnamed (change_of.Config config) = refl
 
-step-placed : (known : Known) (store next : Datastore) (label after : Label) → Step known store next label after → IsSoundKnown known → ((k : Key) (revision : ℕ) (found : Record) → HasAt store k revision found → known k revision found) → LieAtSlots known store → Placed store next
+step-placed : (known : Known) (store next : Datastore) (label after : CallLabel) → Step known store next label after → IsSoundKnown known → ((k : Key) (revision : ℕ) (found : Record) → HasAt store k revision found → known k revision found) → LieAtSlots known store → Placed store next
 step-placed known store next label after (Idles a b) sound seen h = nothing-placed store next a
 step-placed known store next label after (Owes credit a b c) sound seen h = nothing-placed store next a
 step-placed known store next label after (Finds tie read kept state a b c d e f) sound seen h = nothing-placed store next a

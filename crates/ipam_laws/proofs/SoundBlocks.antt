@@ -17,7 +17,7 @@ use Rattle.ipam_pool.specs.Slots.{IsSlotOf}
 use Rattle.ipam_block.specs.declared.allocation.Allocation.{Allocation}
 use Rattle.ipam_block.specs.declared.allocation.Attributes.{Attributes}
 use Rattle.ipam_block.specs.Shape.{BlockValue}
-use Rattle.ipam_block.specs.Operations.{fresh_block, next_block, affine_to, assigned, freed, holder, is_held}
+use Rattle.ipam_block.specs.Operations.{fresh_block, next_block, affine_to, block_with_ordinal, block_without, holder, is_held}
 use Rattle.ipam_block.specs.Sound.{IsBlock, IsBlockCidr, AreAttributes, IsNode, IsBlockRecord, ordinals_below}
 use Rattle.ipam_block.proofs.Assigning.{IsBlock-assigned}
 use Rattle.ipam_block.proofs.Freeing.{IsBlock-freed}
@@ -31,9 +31,9 @@ use Rattle.ipam_records.specs.Sound.{IsName, IsRecord, IsPoolsRecord}
 use Rattle.ipam_model.specs.AddThis.{slot_holding}
 use Rattle.ipam_model.specs.Affinities.{BlockRead, other_node}
 use Rattle.ipam_model.specs.Assigning.{Target}
-use Rattle.ipam_model.specs.Choice.{is_node}
 use Rattle.ipam_laws.proofs.Lift.{Known}
 use Rattle.ipam_laws.proofs.Steps.{IsKnownPool, IsSlotIn, IsKnownSlot, IsFree, taken, bared}
+use Rattle.ipam_records.specs.BlockLists.{is_node}
 
 -- ---- what is known is sound
 
@@ -148,7 +148,7 @@ pub bared-record : (node : List ℕ) (cidr : CidrValue) (read : BlockRead) → I
 bared-record node cidr None range h = fresh-record cidr None range tt
 bared-record node cidr (Some found) range h = affine-record found.1 (other_node node found.1.node) h.0 h.1 (other-named node found.1.node h.0.node)
 
-pub freed-record : (test : Allocation → Bool) (b : BlockValue) → IsBlockRecord b → b.sequence + 1 < 2 ^ 64 → IsBlockRecord (freed test (next_block b))
+pub freed-record : (test : Allocation → Bool) (b : BlockValue) → IsBlockRecord b → b.sequence + 1 < 2 ^ 64 → IsBlockRecord (block_without test (next_block b))
 freed-record test b h counted = record {
   block = IsBlock-freed test (next_block b) (next-sound b h.block);
   node = h.node;
@@ -156,7 +156,7 @@ freed-record test b h counted = record {
   counted = counted;
 }
 
-pub assigned-record : (b : BlockValue) (o : ℕ) (attributes : Attributes) → IsBlockRecord b → b.sequence + 1 < 2 ^ 64 → AreAttributes attributes → o < cidr_size b.cidr → is_held b o ≡ false → IsBlockRecord (assigned (next_block b) o attributes)
+pub assigned-record : (b : BlockValue) (o : ℕ) (attributes : Attributes) → IsBlockRecord b → b.sequence + 1 < 2 ^ 64 → AreAttributes attributes → o < cidr_size b.cidr → is_held b o ≡ false → IsBlockRecord (block_with_ordinal (next_block b) o attributes)
 assigned-record b o attributes h counted named below free =
     let a : Allocation = record { ordinal = o; attributes = attributes; stamp = b.sequence + 1 } in
     record {

@@ -10,7 +10,7 @@ use Rattle.std.proofs.lemmas.Map.Views.{Contains-from_lookup}
 use Rattle.ipam_addr.specs.Shape.{CidrValue}
 use Rattle.ipam_block.specs.Sound.{IsBlockCidr}
 use Rattle.ipam_handle.specs.Shape.{HandleValue}
-use Rattle.ipam_handle.specs.Operations.{content, count_in, count_of, counts_with, raised, lowered}
+use Rattle.ipam_handle.specs.Operations.{content, count_in, count_of, counts_with, with_raised_count, with_lowered_count}
 use Rattle.ipam_handle.specs.Order.{cidr_cmp}
 use Rattle.ipam_handle.specs.Sound.{IsCount, AreCounts, IsHandleRecord}
 use Rattle.ipam_handle.proofs.Entries.{All-insert_entry, All-remove_entry}
@@ -55,12 +55,12 @@ some-counts es block n h positive empty =
     let none = ap (λ l. count_in l block) empty in
     omega arith
 
-pub raised-record : (h : HandleValue) (block : CidrValue) → IsHandleId h.id → AreSoundCounts h.counts → IsBlockCidr block → count_of h block < 2 ^ 32 - 1 → IsHandleRecord (raised h block 1)
+pub raised-record : (h : HandleValue) (block : CidrValue) → IsHandleId h.id → AreSoundCounts h.counts → IsBlockCidr block → count_of h block < 2 ^ 32 - 1 → IsHandleRecord (with_raised_count h block 1)
 raised-record h block id sound range below =
     let whole = counts-written h.counts block (count_of h block + 1) sound (λ positive. (range, omega arith)) in
     record { id = id; counts = whole.counts; ranges = whole.ranges; some = some-counts h.counts block (count_of h block + 1) sound.counts (omega arith) }
 
-pub lowered-record : (h : HandleValue) (block : CidrValue) (by : ℕ) → IsHandleRecord h → (lowered h block by).counts ≢ [] → IsHandleRecord (lowered h block by)
+pub lowered-record : (h : HandleValue) (block : CidrValue) (by : ℕ) → IsHandleRecord h → (with_lowered_count h block by).counts ≢ [] → IsHandleRecord (with_lowered_count h block by)
 lowered-record h block by sound left =
     let whole = counts-written h.counts block (count_of h block - by) (record { counts = sound.counts; ranges = sound.ranges }) counted in
     record { id = sound.id; counts = whole.counts; ranges = whole.ranges; some = left }

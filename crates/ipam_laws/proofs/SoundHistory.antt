@@ -5,14 +5,14 @@ use Rattle.ipam_records.specs.declared.call.Write.TheVariants.{Put, Remove}
 use Rattle.ipam_records.specs.declared.key.Key.{Key}
 use Rattle.ipam_records.specs.declared.key.Kind.TheVariants as kind
 use Rattle.ipam_records.specs.declared.record.Record.{Record}
-use Rattle.ipam_records.specs.Datastore.{Datastore, has_room, last_revision, listed, most_rows, most_blocks, row_of, with_row, without_row, written}
+use Rattle.ipam_records.specs.Datastore.{Datastore, has_room, last_revision, rows_of_kind, most_rows, most_blocks, row_of, with_row, without_row, written}
 use Rattle.ipam_records.specs.Key.{key_of}
 use Rattle.ipam_records.specs.KeyOrder.{is_of_kind}
 use Rattle.ipam_records.specs.Sound.{IsDatastore, IsRecord, IsRow}
 use Rattle.ipam_model.specs.declared.entry.Entry.{Entry}
 use Rattle.ipam_model.specs.Consistent.{IsWithinLimits, SoundLaw, LimitsLaw}
 use Rattle.ipam_model.specs.History.{Base, Lawful, cluster_at, store_at, slot_of_entry}
-use Rattle.ipam_model.specs.Reads.{Row}
+use Rattle.ipam_model.specs.Reads.{StoredRecord}
 use Rattle.ipam_records.proofs.RowWrites.{All-with_row, All-without_row, sorted-with_row, sorted-without_row}
 use Rattle.ipam_laws.proofs.RowOrder.{length-row_count, filter-row_count, row_count, count-new, count-there, count-without}
 use Rattle.ipam_laws.proofs.StoreSteps.{StoreStep, Stays, Puts, Removes, store-step}
@@ -97,14 +97,14 @@ both-true false b e = absurd (cc e)
 
 limits-new : (store : Datastore) (new : Record) → IsWithinLimits store → row_of (key_of new) store.rows ≡ None → has_room store (key_of new) ≡ true → IsWithinLimits (written store (Put (store.counter + 1) new))
 limits-new store new h none room =
-    let (rows_left, blocks_left) = both-true (nat_lt (length store.rows) most_rows) (not (is_of_kind kind.Block (key_of new)) || nat_lt (length (listed kind.Block store)) most_blocks) room in
+    let (rows_left, blocks_left) = both-true (nat_lt (length store.rows) most_rows) (not (is_of_kind kind.Block (key_of new)) || nat_lt (length (rows_of_kind kind.Block store)) most_blocks) room in
     let below = ltb-true (length store.rows) most_rows rows_left in
     let one = length-row_count store.rows in
     let two = length-row_count (with_row (store.counter + 1, new) store.rows) in
     let more = count-new (λ k. true) (store.counter + 1, new) store.rows none in
     record { few_rows = omega arith; few_blocks = blocks (is_of_kind kind.Block (key_of new)) refl blocks_left }
   where
-    blocks : (b : Bool) → is_of_kind kind.Block (key_of new) ≡ b → not b || nat_lt (length (listed kind.Block store)) most_blocks ≡ true → length (listed kind.Block (written store (Put (store.counter + 1) new))) ≤ most_blocks
+    blocks : (b : Bool) → is_of_kind kind.Block (key_of new) ≡ b → not b || nat_lt (length (rows_of_kind kind.Block store)) most_blocks ≡ true → length (rows_of_kind kind.Block (written store (Put (store.counter + 1) new))) ≤ most_blocks
     blocks b is left =
         let one = filter-row_count (is_of_kind kind.Block) store.rows in
         let two = filter-row_count (is_of_kind kind.Block) (with_row (store.counter + 1, new) store.rows) in
@@ -113,15 +113,15 @@ limits-new store new h none room =
         let few = h.few_blocks in
         by b left added one two more few
       where
-        by : (b : Bool) → not b || nat_lt (length (listed kind.Block store)) most_blocks ≡ true → cond {A = ℕ} (is_of_kind kind.Block (key_of new)) 1 0 ≡ cond {A = ℕ} b 1 0
-            → length (listed kind.Block store) ≡ row_count (is_of_kind kind.Block) store.rows
-            → length (listed kind.Block (written store (Put (store.counter + 1) new))) ≡ row_count (is_of_kind kind.Block) (with_row (store.counter + 1, new) store.rows)
+        by : (b : Bool) → not b || nat_lt (length (rows_of_kind kind.Block store)) most_blocks ≡ true → cond {A = ℕ} (is_of_kind kind.Block (key_of new)) 1 0 ≡ cond {A = ℕ} b 1 0
+            → length (rows_of_kind kind.Block store) ≡ row_count (is_of_kind kind.Block) store.rows
+            → length (rows_of_kind kind.Block (written store (Put (store.counter + 1) new))) ≡ row_count (is_of_kind kind.Block) (with_row (store.counter + 1, new) store.rows)
             → row_count (is_of_kind kind.Block) (with_row (store.counter + 1, new) store.rows) ≡ row_count (is_of_kind kind.Block) store.rows + cond {A = ℕ} (is_of_kind kind.Block (key_of new)) 1 0
-            → length (listed kind.Block store) ≤ most_blocks → length (listed kind.Block (written store (Put (store.counter + 1) new))) ≤ most_blocks
-        by true left added one two more few = let below = ltb-true (length (listed kind.Block store)) most_blocks left in omega arith
+            → length (rows_of_kind kind.Block store) ≤ most_blocks → length (rows_of_kind kind.Block (written store (Put (store.counter + 1) new))) ≤ most_blocks
+        by true left added one two more few = let below = ltb-true (length (rows_of_kind kind.Block store)) most_blocks left in omega arith
         by false left added one two more few = omega arith
 
-limits-there : (store : Datastore) (new : Record) (old : Row) → IsDatastore store → IsWithinLimits store → row_of (key_of new) store.rows ≡ Some old → IsWithinLimits (written store (Put (store.counter + 1) new))
+limits-there : (store : Datastore) (new : Record) (old : StoredRecord) → IsDatastore store → IsWithinLimits store → row_of (key_of new) store.rows ≡ Some old → IsWithinLimits (written store (Put (store.counter + 1) new))
 limits-there store new old sound h there =
     let one = length-row_count store.rows in
     let two = length-row_count (with_row (store.counter + 1, new) store.rows) in

@@ -27,7 +27,7 @@ use Rattle.ipam_records.specs.Sound.{IsRecord, IsPoolsRecord, IsReservation, IsR
 use Rattle.ipam_model.specs.declared.request.Admin.{Admin}
 use Rattle.ipam_model.specs.declared.request.Admin.TheVariants as change_of
 use Rattle.ipam_model.specs.Admin as change
-use Rattle.ipam_model.specs.Reads.{Row, pools_said, reservations_said}
+use Rattle.ipam_model.specs.Reads.{StoredRecord, pools_said, reservations_said}
 use Rattle.ipam_model.specs.SoundRequest.{IsSoundChange}
 use Rattle.ipam_record_text.specs.Pools.{IsSoundPool}
 
@@ -154,11 +154,11 @@ removed-reservations name list h =
 -- ---- changes
 
 -- the row that was read, where there was one, is sound
-abbrev pub IsSoundRow : Option Row → Type 0
+abbrev pub IsSoundRow : Option StoredRecord → Type 0
 IsSoundRow None = Unit {0}
 IsSoundRow (Some row) = IsRecord row.1
 
-pools-sound : (o : Option Row) → IsSoundRow o → IsPoolsRecord (pools_said (reply_to_get o))
+pools-sound : (o : Option StoredRecord) → IsSoundRow o → IsPoolsRecord (pools_said (reply_to_get o))
 pools-sound None h = no-pools
 pools-sound (Some (revision, record_of.Pools pools)) h = h
 pools-sound (Some (revision, record_of.Config config)) h = no-pools
@@ -167,7 +167,7 @@ pools-sound (Some (revision, record_of.Block b)) h = no-pools
 pools-sound (Some (revision, record_of.Affinity a)) h = no-pools
 pools-sound (Some (revision, record_of.Handle handle)) h = no-pools
 
-reservations-sound : (o : Option Row) → IsSoundRow o → IsReservationsRecord (reservations_said (reply_to_get o))
+reservations-sound : (o : Option StoredRecord) → IsSoundRow o → IsReservationsRecord (reservations_said (reply_to_get o))
 reservations-sound None h = no-reservations
 reservations-sound (Some (revision, record_of.Reservations reservations)) h = h
 reservations-sound (Some (revision, record_of.Pools pools)) h = no-reservations
@@ -222,7 +222,7 @@ unreserve-change name list new h e = by (list_any (change.is_named name) list) e
     by true f = becomes-sound (record_of.Reservations (filter (λ r. not (change.is_named name r)) list)) new (removed-reservations name list h) f
     by false f = absurd (cc f)
 
-pub changed-sound : (request : Admin) (o : Option Row) (new : Record) → IsSoundChange request → IsSoundRow o → change.changed request (reply_to_get o) ≡ change.Becomes new → IsRecord new
+pub changed-sound : (request : Admin) (o : Option StoredRecord) (new : Record) → IsSoundChange request → IsSoundRow o → change.admin_change request (reply_to_get o) ≡ change.Becomes new → IsRecord new
 changed-sound (change_of.Pool pool) o new sound h e = pool-change pool (pools_said (reply_to_get o)) new sound (pools-sound o h) e
 changed-sound (change_of.Disable name disabled) o new sound h e = disable-change name disabled (pools_said (reply_to_get o)) new (pools-sound o h) e
 changed-sound (change_of.Reserve reserved) o new sound h e = reserve-change reserved (reservations_said (reply_to_get o)) new sound (reservations-sound o h) e

@@ -4,7 +4,7 @@ use Rattle.ipam_addr.specs.Shape.{CidrValue}
 use Rattle.ipam_affinity.specs.declared.state.State.{State}
 use Rattle.ipam_affinity.specs.declared.state.State.TheVariants.{Confirmed, PendingDeletion}
 use Rattle.ipam_block.specs.Shape as block
-use Rattle.ipam_handle.specs.Operations.{content, count_of, raised}
+use Rattle.ipam_handle.specs.Operations.{content, count_of, with_raised_count}
 use Rattle.ipam_handle.specs.Shape as handle
 use Rattle.ipam_records.specs.declared.call.Write.TheVariants.{Remove}
 use Rattle.ipam_records.specs.declared.key.Key.{Key}
@@ -13,14 +13,14 @@ use Rattle.ipam_records.specs.declared.record.Record.{Record}
 use Rattle.ipam_records.specs.declared.record.Record.TheVariants as record_of
 use Rattle.ipam_records.specs.Datastore.{Datastore, reply_to_get, row_of, written}
 use Rattle.ipam_records.specs.Key.{key_of}
-use Rattle.ipam_records.specs.Label.{Label}
+use Rattle.ipam_records.specs.Label.{CallLabel}
 use Rattle.ipam_records.specs.Sound.{IsBlockCidr, IsBlockRecord, IsCountedBelow, IsDatastore, IsRecord, IsRow}
 use Rattle.ipam_records.proofs.HearingLemmas.{All-row_of}
 use Rattle.ipam_model.specs.Admin.{key_changed}
 use Rattle.ipam_model.specs.Affinities.{BlockRead, Tie, affinity}
 use Rattle.ipam_model.specs.AffinityLaw.{HasAt}
 use Rattle.ipam_model.specs.Counting.{most_count}
-use Rattle.ipam_model.specs.Reads.{Row}
+use Rattle.ipam_model.specs.Reads.{StoredRecord}
 use Rattle.ipam_laws.proofs.Calls.{found-key}
 use Rattle.ipam_laws.proofs.WriteSteps.{found-affinity}
 use Rattle.ipam_laws.proofs.RequestSteps.{IsUntied, changed-untied}
@@ -33,7 +33,7 @@ use Rattle.ipam_laws.proofs.SoundSettings.{IsSoundRow, changed-sound}
 -- ---- what is there
 
 pub row-there : (store : Datastore) (k : Key) (revision : ℕ) (found : Record) → IsDatastore store → HasAt store k revision found → IsRow store.counter (revision, found)
-row-there store k revision found sound there = All-row_of (λ (row : Row). IsRow store.counter row) k store.rows (revision, found) sound.rows there
+row-there store k revision found sound there = All-row_of (λ (row : StoredRecord). IsRow store.counter row) k store.rows (revision, found) sound.rows there
 
 -- a block that is there is sound, and was written less often than the store
 block-there : (store : Datastore) (cidr : CidrValue) (revision : ℕ) (b : block.BlockValue) → IsDatastore store → HasAt store (key.Block cidr) revision (record_of.Block b) → IsBlockRecord b × (b.sequence + 1 ≤ store.counter) × (b.sequence + 1 < 2 ^ 64)
@@ -58,7 +58,7 @@ affinity-there tie found state e h =
 row-found : (store : Datastore) (k : Key) → IsDatastore store → IsSoundRow (row_of k store.rows)
 row-found store k sound = from (row_of k store.rows) refl
   where
-    from : (o : Option Row) → row_of k store.rows ≡ o → IsSoundRow o
+    from : (o : Option StoredRecord) → row_of k store.rows ≡ o → IsSoundRow o
     from None e = tt
     from (Some row) e = (row-there store k row.0 row.1 sound e).is_record
 
@@ -92,7 +92,7 @@ bared-counted : (store : Datastore) (node : List ℕ) (cidr : CidrValue) (read :
 bared-counted store node cidr None sound there = omega arith
 bared-counted store node cidr (Some found) sound there = let (is, below, small) = block-there store cidr found.0 found.1 sound there.1 in omega arith
 
-raises-sound : (known : Known) (store : Datastore) (id : List ℕ) (cidr : CidrValue) (h : handle.HandleValue) → IsSoundKnown known → IsDatastore store → IsHandle store id h → count_of h cidr < most_count → IsCountable known id cidr → IsRecord (record_of.Handle (raised h cidr 1))
+raises-sound : (known : Known) (store : Datastore) (id : List ℕ) (cidr : CidrValue) (h : handle.HandleValue) → IsSoundKnown known → IsDatastore store → IsHandle store id h → count_of h cidr < most_count → IsCountable known id cidr → IsRecord (record_of.Handle (with_raised_count h cidr 1))
 raises-sound known store id cidr h k sound there below countable = from there below
   where
     range : IsBlockCidr cidr
@@ -100,16 +100,16 @@ raises-sound known store id cidr h k sound there below countable = from there be
         let was : IsBlockRecord countable.b = k.sound (key.Block cidr) countable.revision (record_of.Block countable.b) countable.was_read in
         subst (λ (x : CidrValue). IsBlockCidr x) countable.is_of (record { range = was.block.range; small = was.block.small })
 
-    from : IsHandle store id h → count_of h cidr < most_count → IsRecord (record_of.Handle (raised h cidr 1))
+    from : IsHandle store id h → count_of h cidr < most_count → IsRecord (record_of.Handle (with_raised_count h cidr 1))
     from (inl (none, is)) l =
-        let P : handle.HandleValue → Type 0 = λ x. count_of x cidr < most_count → IsRecord (record_of.Handle (raised x cidr 1)) in
+        let P : handle.HandleValue → Type 0 = λ x. count_of x cidr < most_count → IsRecord (record_of.Handle (with_raised_count x cidr 1)) in
         let fresh : P (content id []) = λ m. raised-record (content id []) cidr countable.name (fresh-counts id) range m in
         subst P (sym is) fresh l
     from (inr (revision, at, same)) l =
         let old = (row-there store (key.Handle id) revision (record_of.Handle h) sound at).is_record in
         raised-record h cidr old.id (kept-counts h old) range l
 
-pub step-sound : (known : Known) (store next : Datastore) (label after : Label) → Step known store next label after → IsSoundKnown known → IsDatastore store → SoundStep store next
+pub step-sound : (known : Known) (store next : Datastore) (label after : CallLabel) → Step known store next label after → IsSoundKnown known → IsDatastore store → SoundStep store next
 step-sound known store next label after (Idles a b) k sound = Nothing a
 step-sound known store next label after (Owes credit a b c) k sound = Nothing a
 step-sound known store next label after (Finds tie read kept state a b c d e f) k sound = Nothing a

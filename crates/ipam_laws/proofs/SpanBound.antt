@@ -4,14 +4,14 @@ use Rattle.std.proofs.lemmas.Bool.{eqb-false}
 use Rattle.std.specs.Prelude.{◌==◌}
 use Rattle.ipam_records.specs.Bound.{AtMost}
 use Rattle.ipam_records.specs.Datastore.{Datastore, reply_of}
-use Rattle.ipam_records.specs.Word.{Word, Ends, Asks, Waits, fed}
+use Rattle.ipam_records.specs.Word.{Word, Ends, Asks, Waits, after_feed}
 use Rattle.ipam_model.specs.declared.answer.Answer.{Answer}
 use Rattle.ipam_model.specs.declared.entry.Called.{Called}
 use Rattle.ipam_model.specs.declared.entry.Entry.{Entry}
 use Rattle.ipam_model.specs.declared.entry.Entry.TheVariants as entry
 use Rattle.ipam_model.specs.declared.entry.Fate.{Fate}
 use Rattle.ipam_model.specs.BoundLaw.{SpanBoundLaw, RequestCallsLaw, NoneBegins}
-use Rattle.ipam_model.specs.Cluster.{Running, Slots, call_entry, answered, goes_on, begun, fed_with, with_slot, after}
+use Rattle.ipam_model.specs.Cluster.{Running, Slots, call_entry, word_after_reply, goes_on, fresh_run, run_after_feed, with_slot, after}
 use Rattle.ipam_model.specs.History.{Base, Lawful, cluster_at, MayCall}
 use Rattle.ipam_model.specs.Requests.{word_of}
 use Rattle.ipam_model.specs.Tries.{calls_of}
@@ -28,23 +28,23 @@ unfolding Left
 left-calls None calls count h = h
 left-calls (Some running) calls count (left, bound, below) = omega arith
 
-fed-bound : (word : Word Answer) (live : List (List ℕ)) (left : ℕ) → AtMost word left → AtMost (fed word live) left
+fed-bound : (word : Word Answer) (live : List (List ℕ)) (left : ℕ) → AtMost word left → AtMost (after_feed word live) left
 fed-bound (Ends answer) live left h = h
 fed-bound (Asks label asked next) live left h = h
 fed-bound (Waits next) live left h = h live
 
-left-fed : (running : Option Running) (live : List (List ℕ)) (calls count : ℕ) → Left running calls count → Left (fed_with live running) calls count
+left-fed : (running : Option Running) (live : List (List ℕ)) (calls count : ℕ) → Left running calls count → Left (run_after_feed live running) calls count
 unfolding Left
 left-fed None live calls count h = h
 left-fed (Some running) live calls count (left, bound, below) = (left, fed-bound running.word live left bound, below)
 
 -- a call takes one of those that are left
-call-bound : (slot : ℕ) (fate : Fate) (store : Datastore) (moment : ℕ) (word : Word Answer) (c : Called) (left : ℕ) → call_entry slot fate store moment word ≡ Some c → AtMost word left → (0 < left) × AtMost (answered store moment word) (left - 1)
+call-bound : (slot : ℕ) (fate : Fate) (store : Datastore) (moment : ℕ) (word : Word Answer) (c : Called) (left : ℕ) → call_entry slot fate store moment word ≡ Some c → AtMost word left → (0 < left) × AtMost (word_after_reply store moment word) (left - 1)
 call-bound slot fate store moment (Ends answer) c left e h = absurd (cc e)
 call-bound slot fate store moment (Waits next) c left e h = absurd (cc e)
 call-bound slot fate store moment (Asks label asked next) c left e h = (h.0, h.1 moment (reply_of store asked))
 
-goes-left : (store : Datastore) (moment : ℕ) (answer : Option Answer) (running : Running) (calls count left : ℕ) → 0 < left → AtMost (answered store moment running.word) (left - 1) → calls + left ≤ count → Left (goes_on store moment answer (Some running)) (suc calls) count
+goes-left : (store : Datastore) (moment : ℕ) (answer : Option Answer) (running : Running) (calls count left : ℕ) → 0 < left → AtMost (word_after_reply store moment running.word) (left - 1) → calls + left ≤ count → Left (goes_on store moment answer (Some running)) (suc calls) count
 unfolding Left
 goes-left store moment (Some answer) running calls count left some bound below = omega arith
 goes-left store moment None running calls count left some bound below = (left - 1, bound, omega arith)
@@ -92,12 +92,12 @@ keeps-left base history [] slot count h none first = first
 keeps-left base history (entry.Began other request ∷ later) slot count h none first =
     let rest = keeps-left base history later slot count h.0 (λ n d within. none (suc n) d (omega arith)) first in
     let apart : (other == slot) ≡ false = none zero (entry.Began other request) (omega arith) in
-    slot-left other slot (begun request) (cluster_at base (later ++ history)).slots (length (calls_of slot later)) count
+    slot-left other slot (fresh_run request) (cluster_at base (later ++ history)).slots (length (calls_of slot later)) count
     (λ own. absurd (eqb-false other slot apart (sym own)))
     (λ differs. rest)
 keeps-left base history (entry.Fed other at live ∷ later) slot count h none first =
     let rest = keeps-left base history later slot count h.0 (λ n d within. none (suc n) d (omega arith)) first in
-    slot-left other slot (fed_with live ((cluster_at base (later ++ history)).slots other)) (cluster_at base (later ++ history)).slots (length (calls_of slot later)) count
+    slot-left other slot (run_after_feed live ((cluster_at base (later ++ history)).slots other)) (cluster_at base (later ++ history)).slots (length (calls_of slot later)) count
     (λ own. left-fed ((cluster_at base (later ++ history)).slots other) live (length (calls_of slot later)) count (subst (λ (s : ℕ). Left ((cluster_at base (later ++ history)).slots s) (length (calls_of slot later)) count) own rest))
     (λ differs. rest)
 keeps-left base history (entry.Stopped other ∷ later) slot count h none first =
@@ -121,6 +121,6 @@ unfolding cluster_at after
 requests_are_bounded base earlier later slot request count h bound none =
     spans_are_bounded base (entry.Began slot request ∷ earlier) later slot (record { request = request; word = word_of request }) count h (runs (slot == slot) refl) bound none
   where
-    runs : (b : Bool) → (slot == slot) ≡ b → cond b (begun request) ((cluster_at base earlier).slots slot) ≡ begun request
+    runs : (b : Bool) → (slot == slot) ≡ b → cond b (fresh_run request) ((cluster_at base earlier).slots slot) ≡ fresh_run request
     runs true e = refl
     runs false e = absurd (eqb-false slot slot e refl)

@@ -14,7 +14,7 @@ use Rattle.ipam_model.specs.declared.entry.Called.{Called}
 use Rattle.ipam_model.specs.declared.entry.Entry.TheVariants as entry
 use Rattle.ipam_model.specs.declared.request.Request.{Request}
 use Rattle.ipam_model.specs.declared.request.Request.TheVariants.{Release}
-use Rattle.ipam_model.specs.History.{Heard, InSpan, Span, cluster_at, now, seen_at, span_before}
+use Rattle.ipam_model.specs.History.{HeardCall, InSpan, Span, cluster_at, now, seen_at, span_before}
 use Rattle.ipam_model.specs.Moments.{IsNext, request_in, revision_of}
 use Rattle.ipam_model.specs.Points.{AsFound as SpanFound, AsPut as SpanPut, HasKept, HasPut, HasPutBlock, HasSeen, IsClaiming, IsReleasing, Runs, SawLast, StandsAt}
 use Rattle.ipam_model.specs.Tries.{is_add}
@@ -133,7 +133,7 @@ module _ (request : Request) where
   keeps-kept : (span : Span) (moment : ℕ) (store : Datastore) (asked : Call) → DidAt span moment store asked → (node : List ℕ) (cidr : CidrValue) (kept : ℕ) → Keeps store asked node cidr kept → HasKept span moment node cidr kept
   keeps-kept span moment store asked did node cidr kept (AsFound found is reply state) =
       let h = heard span moment store asked did in
-      SpanFound found (subst (λ (p : Call × Said). Heard span moment p.0 p.1) (λ i. (is i, reply i)) h) state
+      SpanFound found (subst (λ (p : Call × Said). HeardCall span moment p.0 p.1) (λ i. (is i, reply i)) h) state
   keeps-kept span moment store asked did node cidr kept (AsPut w) = SpanPut (wrote-put span moment store asked did _ kept w)
 
   kept-keeps : (span : Span) (moment : ℕ) (store : Datastore) (asked : Call) → DidAt span moment store asked → (node : List ℕ) (cidr : CidrValue) (kept : ℕ) → HasKept span moment node cidr kept → Keeps store asked node cidr kept
@@ -193,7 +193,7 @@ module _ (request : Request) where
         was = ap (λ (s : Datastore). revision_of s (key.Block cidr)) second.did.before_it ∙ h.was;
         again = h.at_mark.moment;
         found = h.found;
-        at_mark = subst (λ (p : Call × Said). Heard span h.at_mark.moment p.0 p.1) (λ i. (finds i, found_at i)) heard_mark;
+        at_mark = subst (λ (p : Call × Said). HeardCall span h.at_mark.moment p.0 p.1) (λ i. (finds i, found_at i)) heard_mark;
         then_again = second.next;
         latest = third.next;
       }
@@ -211,8 +211,8 @@ module _ (request : Request) where
       let latest1 = latest-step span two.rest two.moment second.rest h.marked then_looked h.has_marked.c h.has_marked.in_span in
       let one = latest1.newest in
       let first = newest-at span two.moment two.rest one second.rest in
-      let found = read-heard span three.moment three.store three.asked third.did (key.Affinity node cidr) (Found mark (record_of.Affinity h.found)) (subst (λ (m : ℕ). Heard span m (Get (key.Affinity node cidr)) (Found mark (record_of.Affinity h.found))) (sym latest3.same) h.at_mark) in
-      let look = read-heard span two.moment two.store two.asked second.did (key.Block cidr) h.block_said (subst (λ (m : ℕ). Heard span m (Get (key.Block cidr)) h.block_said) (sym latest2.same) h.has_looked) in
+      let found = read-heard span three.moment three.store three.asked third.did (key.Affinity node cidr) (Found mark (record_of.Affinity h.found)) (subst (λ (m : ℕ). HeardCall span m (Get (key.Affinity node cidr)) (Found mark (record_of.Affinity h.found))) (sym latest3.same) h.at_mark) in
+      let look = read-heard span two.moment two.store two.asked second.did (key.Block cidr) h.block_said (subst (λ (m : ℕ). HeardCall span m (Get (key.Block cidr)) h.block_said) (sym latest2.same) h.has_looked) in
       let was = subst (λ (m : ℕ). revision_of (seen_at span m) (key.Block cidr) ≡ read) (sym latest2.same) h.was in
       record {
         releases = same-request span trail run (Release node cidr) h.runs;

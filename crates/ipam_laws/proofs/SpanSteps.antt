@@ -17,7 +17,7 @@ use Rattle.ipam_model.specs.declared.entry.Entry.TheVariants as entry
 use Rattle.ipam_model.specs.Cluster.{record_written}
 use Rattle.ipam_model.specs.CountLaw.{handle_count, held_count}
 use Rattle.ipam_model.specs.Credits.{HasCredit, HasFreed, HasRaised, HasWritten, OfFreed, OfRaised, key_written}
-use Rattle.ipam_model.specs.History.{Heard, InSpan, Span, now}
+use Rattle.ipam_model.specs.History.{HeardCall, InSpan, Span, now}
 use Rattle.ipam_model.specs.Named.{name_of, told_of}
 use Rattle.ipam_model.specs.Points.{HasPut}
 use Rattle.ipam_laws.proofs.Debts.{Debt, Done, Freed, Frees, Lasts, Nothing, Owes, Raised, Raises, UsesRaised, credit_in}
@@ -73,7 +73,7 @@ module _ (span : Span) (moment : ℕ) (store : Datastore) (asked : Call) (did : 
 
   -- ---- reads and written records
 
-  pub read-heard : (k : Key) (said : Said) → Heard span moment (Get k) said → (asked ≡ Get k) × (said ≡ reply_of store (Get k))
+  pub read-heard : (k : Key) (said : Said) → HeardCall span moment (Get k) said → (asked ≡ Get k) × (said ≡ reply_of store (Get k))
   read-heard k said h =
       let is = step-called h.entry_of_call h.in_span in
       (get-named asked k (sym is.0 ∙ h.is_call), h.is_reply ∙ ap (λ (s : Datastore). reply_of s (Get k)) did.before_it)
@@ -85,7 +85,7 @@ module _ (span : Span) (moment : ℕ) (store : Datastore) (asked : Call) (did : 
       get-named (Update new revision) k e = absurd (cc e)
       get-named (Delete other revision) k e = absurd (cc e)
 
-  pub list-heard : (kind : Kind) (said : Said) → Heard span moment (ListAll kind) said → asked ≡ ListAll kind
+  pub list-heard : (kind : Kind) (said : Said) → HeardCall span moment (ListAll kind) said → asked ≡ ListAll kind
   list-heard kind said h = let is = step-called h.entry_of_call h.in_span in list-named asked kind (sym is.0 ∙ h.is_call)
     where
       list-named : (c : Call) (kind : Kind) → name_of c ≡ name.List kind → c ≡ ListAll kind

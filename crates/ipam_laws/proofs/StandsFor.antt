@@ -1,11 +1,11 @@
--- A cluster stands for a history, and where nothing runs one is begun anew.
+-- A cluster stands for a history, and where nothing runs one is fresh_run anew.
 use Rattle.std.proofs.Common.{◌≡◌, ℕ, ◌+◌, ◌<◌, List, [], ◌∷◌, ◌++◌, None, refl, sym, ap, ◌∙◌, subst, arith, nat_lt, ltb-true, ltb-false, inl, inr}
 use Rattle.std.proofs.Math.Path.{fun_ext}
 use Rattle.std.proofs.lemmas.Bool.{cases_Bool}
 use Rattle.ipam_records.specs.Datastore.{Datastore}
 use Rattle.ipam_model.specs.declared.entry.Entry.{Entry}
 use Rattle.ipam_model.specs.declared.entry.Entry.TheVariants as entry
-use Rattle.ipam_model.specs.Cluster.{Cluster, after, begun, fed_with, goes_on}
+use Rattle.ipam_model.specs.Cluster.{Cluster, after, fresh_run, run_after_feed, goes_on}
 use Rattle.ipam_model.specs.Consistent.{IsConsistent}
 use Rattle.ipam_model.specs.Course.{slot_count}
 use Rattle.ipam_model.specs.History.{Base, Lawful, MayCome, cluster_at, moment_of, start}
@@ -42,9 +42,9 @@ entries-are base (new ∷ history) =
 after-no_more : (cluster : Cluster) (new : Entry) → MayCome cluster new → (slot : ℕ) → ¬ (slot < slot_count) → cluster.slots slot ≡ None → (after cluster new).slots slot ≡ None
 unfolding after
 after-no_more cluster (entry.Began other request) may slot over idle =
-    other-slot other slot (begun request) cluster.slots (λ e. over (subst (λ (s : ℕ). s < slot_count) e may.turn.slot_exists)) ∙ idle
+    other-slot other slot (fresh_run request) cluster.slots (λ e. over (subst (λ (s : ℕ). s < slot_count) e may.turn.slot_exists)) ∙ idle
 after-no_more cluster (entry.Fed other at live) may slot over idle =
-    other-slot other slot (fed_with live (cluster.slots other)) cluster.slots (λ e. over (subst (λ (s : ℕ). s < slot_count) e may.turn.slot_exists)) ∙ idle
+    other-slot other slot (run_after_feed live (cluster.slots other)) cluster.slots (λ e. over (subst (λ (s : ℕ). s < slot_count) e may.turn.slot_exists)) ∙ idle
 after-no_more cluster (entry.Called c) may slot over idle =
     other-slot c.slot slot (goes_on cluster.store cluster.entries c.answer (cluster.slots c.slot)) cluster.slots (λ e. over (subst (λ (s : ℕ). s < slot_count) e may.turn.slot_exists)) ∙ idle
 after-no_more cluster (entry.Stopped other) may slot over idle =

@@ -11,21 +11,21 @@ use Rattle.ipam_pool.specs.declared.pools.Pool.{Pool}
 use Rattle.ipam_pool.specs.Slots.{IsSlotOf}
 use Rattle.ipam_block.specs.declared.allocation.Allocation.{Allocation}
 use Rattle.ipam_block.specs.declared.allocation.Attributes.{Attributes}
-use Rattle.ipam_block.specs.Operations.{fresh_block, next_block, affine_to, assigned, freed, holder, is_owned}
+use Rattle.ipam_block.specs.Operations.{fresh_block, next_block, affine_to, block_with_ordinal, block_without, holder, is_owned}
 use Rattle.ipam_block.specs.Shape as block
-use Rattle.ipam_handle.specs.Operations.{content, count_of, raised, lowered}
+use Rattle.ipam_handle.specs.Operations.{content, count_of, with_raised_count, with_lowered_count}
 use Rattle.ipam_handle.specs.Shape as handle
 use Rattle.ipam_records.specs.declared.call.Write.TheVariants.{Put, Remove}
 use Rattle.ipam_records.specs.declared.key.Key.TheVariants as key
 use Rattle.ipam_records.specs.declared.record.Record.{Record}
 use Rattle.ipam_records.specs.declared.record.Record.TheVariants as record_of
 use Rattle.ipam_records.specs.Datastore.{Datastore, reply_to_get, row_of, written}
-use Rattle.ipam_records.specs.Label.{Label, Credit, idle, owing, standing, Claiming, Claimed, Releasing, Released}
+use Rattle.ipam_records.specs.Label.{CallLabel, Credit, idle, owing, standing, Claiming, Claimed, Releasing, Released}
 use Rattle.ipam_records.specs.Sound.{IsName, IsHandleId, AreAttributes}
 use Rattle.ipam_model.specs.declared.request.Admin.{Admin}
 use Rattle.ipam_model.specs.AddThis.{slot_holding}
 use Rattle.ipam_model.specs.SoundRequest.{IsSoundChange}
-use Rattle.ipam_model.specs.Admin.{Becomes, changed, key_changed}
+use Rattle.ipam_model.specs.Admin.{Becomes, admin_change, key_changed}
 use Rattle.ipam_model.specs.Affinities.{BlockRead, Tie, affinity, other_node, revision_read}
 use Rattle.ipam_model.specs.AffinityLaw.{HasAt}
 use Rattle.ipam_model.specs.Assigning.{Target}
@@ -116,21 +116,21 @@ abbrev pub bared : List ℕ → CidrValue → BlockRead → block.BlockValue
 bared node cidr None = fresh_block cidr None
 bared node cidr (Some found) = affine_to (other_node node found.1.node) (next_block found.1)
 
-abbrev pub at_claiming : Tie → BlockRead → (kept : ℕ) → Label
+abbrev pub at_claiming : Tie → BlockRead → (kept : ℕ) → CallLabel
 at_claiming tie read kept = standing (Claiming tie.node tie.block (revision_read read) kept)
 
-abbrev pub at_claimed : Tie → (kept : ℕ) → Label
+abbrev pub at_claimed : Tie → (kept : ℕ) → CallLabel
 at_claimed tie kept = standing (Claimed tie.node tie.block kept)
 
-abbrev pub at_releasing : Tie → BlockRead → (mark : ℕ) → Label
+abbrev pub at_releasing : Tie → BlockRead → (mark : ℕ) → CallLabel
 at_releasing tie read mark = standing (Releasing tie.node tie.block (revision_read read) mark)
 
-abbrev pub at_released : Tie → (mark : ℕ) → Label
+abbrev pub at_released : Tie → (mark : ℕ) → CallLabel
 at_released tie mark = standing (Released tie.node tie.block mark)
 
 -- ---- the kinds
 
-pub data Step (known : Known) (store next : Datastore) (label after : Label) : Type 0 where
+pub data Step (known : Known) (store next : Datastore) (label after : CallLabel) : Type 0 where
   -- nothing is written, and the request stands nowhere, or goes on owing
   Idles : next ≡ store → after ≡ idle → Step known store next label after
   Owes : (credit : Credit) → next ≡ store → label ≡ owing credit → after ≡ owing credit → Step known store next label after
@@ -155,21 +155,21 @@ pub data Step (known : Known) (store next : Datastore) (label after : Label) : T
       → IsAsRead store tie.block read → IsMarked known tie mark → Step known store next label after
   Deletes : (tie : Tie) (mark : ℕ) (found : Record) → next ≡ written store (Remove (store.counter + 1) (key.Affinity tie.node tie.block)) → label ≡ at_released tie mark → after ≡ idle
       → HasAt store (key.Affinity tie.node tie.block) mark found → Step known store next label after
-  -- a count is raised, or lowered
-  Raises : (id : List ℕ) (cidr : CidrValue) (h : handle.HandleValue) → IsPut store next (record_of.Handle (raised h cidr 1)) → label ≡ idle → after ≡ owing (credit_of id cidr 1)
+  -- a count is with_raised_count, or with_lowered_count
+  Raises : (id : List ℕ) (cidr : CidrValue) (h : handle.HandleValue) → IsPut store next (record_of.Handle (with_raised_count h cidr 1)) → label ≡ idle → after ≡ owing (credit_of id cidr 1)
       → IsHandle store id h → count_of h cidr < most_count → IsCountable known id cidr → Step known store next label after
-  Lowers : (credit : Credit) (h : handle.HandleValue) (revision : ℕ) (first : CidrValue × ℕ) (rest : List (CidrValue × ℕ)) → IsPut store next (record_of.Handle (lowered h credit.block credit.amount)) → label ≡ owing credit → after ≡ idle
-      → HasAt store (key.Handle credit.handle) revision (record_of.Handle h) → h.id ≡ credit.handle → (lowered h credit.block credit.amount).counts ≡ first ∷ rest → Step known store next label after
+  Lowers : (credit : Credit) (h : handle.HandleValue) (revision : ℕ) (first : CidrValue × ℕ) (rest : List (CidrValue × ℕ)) → IsPut store next (record_of.Handle (with_lowered_count h credit.block credit.amount)) → label ≡ owing credit → after ≡ idle
+      → HasAt store (key.Handle credit.handle) revision (record_of.Handle h) → h.id ≡ credit.handle → (with_lowered_count h credit.block credit.amount).counts ≡ first ∷ rest → Step known store next label after
   LowersOut : (credit : Credit) (h : handle.HandleValue) (revision : ℕ) → next ≡ written store (Remove (store.counter + 1) (key.Handle h.id)) → label ≡ owing credit → after ≡ idle
-      → HasAt store (key.Handle credit.handle) revision (record_of.Handle h) → h.id ≡ credit.handle → (lowered h credit.block credit.amount).counts ≡ [] → Step known store next label after
-  -- what a handle holds is freed in its block, or an address of a block assigned
-  Frees : (what : Freeing) (amount revision : ℕ) (b : block.BlockValue) → IsPut store next (record_of.Block (freed what.picks (next_block b))) → label ≡ idle → after ≡ owing (credit_of what.handle what.block (suc amount))
+      → HasAt store (key.Handle credit.handle) revision (record_of.Handle h) → h.id ≡ credit.handle → (with_lowered_count h credit.block credit.amount).counts ≡ [] → Step known store next label after
+  -- what a handle holds is block_without in its block, or an address of a block block_with_ordinal
+  Frees : (what : Freeing) (amount revision : ℕ) (b : block.BlockValue) → IsPut store next (record_of.Block (block_without what.picks (next_block b))) → label ≡ idle → after ≡ owing (credit_of what.handle what.block (suc amount))
       → HasAt store (key.Block what.block) revision (record_of.Block b) → b.cidr ≡ what.block → OwnPicks what → count_by what.picks b.allocations ≡ suc amount → Step known store next label after
-  Assigns : (attributes : Attributes) (target : Target) → IsPut store next (record_of.Block (assigned (next_block target.block) target.ordinal attributes)) → label ≡ owing (credit_of attributes.handle target.block.cidr 1) → after ≡ idle
+  Assigns : (attributes : Attributes) (target : Target) → IsPut store next (record_of.Block (block_with_ordinal (next_block target.block) target.ordinal attributes)) → label ≡ owing (credit_of attributes.handle target.block.cidr 1) → after ≡ idle
       → HasAt store (key.Block target.block.cidr) target.revision (record_of.Block target.block) → AreAttributes attributes → IsFree known target → Step known store next label after
   -- an operator's change, of what is there
   Changes : (request : Admin) (new : Record) → IsPut store next new → label ≡ idle → after ≡ idle
-      → changed request (reply_to_get (row_of (key_changed request) store.rows)) ≡ Becomes new → IsSoundChange request → Step known store next label after
+      → admin_change request (reply_to_get (row_of (key_changed request) store.rows)) ≡ Becomes new → IsSoundChange request → Step known store next label after
 
 -- ---- more may be known
 
@@ -204,7 +204,7 @@ countable-grows known other id cidr grows h = record {
   was_read = grows (key.Block cidr) h.revision (record_of.Block h.b) h.was_read;
 }
 
-pub step-grows : (known other : Known) (store next : Datastore) (label after : Label) → Grows known other → Step known store next label after → Step other store next label after
+pub step-grows : (known other : Known) (store next : Datastore) (label after : CallLabel) → Grows known other → Step known store next label after → Step other store next label after
 step-grows known other store next label after grows (Idles a b) = Idles a b
 step-grows known other store next label after grows (Owes credit a b c) = Owes credit a b c
 step-grows known other store next label after grows (Finds tie read kept state a b c d e f) = Finds tie read kept state a b c d e (claimable-grows known other tie.node tie.block read grows f)

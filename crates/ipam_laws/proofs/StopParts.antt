@@ -8,9 +8,9 @@ use Rattle.ipam_affinity.specs.declared.state.State.{State}
 use Rattle.ipam_affinity.specs.declared.state.State.TheVariants.{Pending, Confirmed, PendingDeletion}
 use Rattle.ipam_block.specs.declared.allocation.Attributes.{Attributes}
 use Rattle.ipam_block.specs.Shape as block
-use Rattle.ipam_block.specs.Operations.{assigned, freed, next_block}
+use Rattle.ipam_block.specs.Operations.{block_with_ordinal, block_without, next_block}
 use Rattle.ipam_handle.specs.Shape as handle
-use Rattle.ipam_handle.specs.Operations.{count_of, lowered, raised}
+use Rattle.ipam_handle.specs.Operations.{count_of, with_lowered_count, with_raised_count}
 use Rattle.ipam_records.specs.declared.call.Call.{Call}
 use Rattle.ipam_records.specs.declared.call.Call.TheVariants.{Get, Create, Update}
 use Rattle.ipam_records.specs.declared.key.Key.TheVariants as key
@@ -34,7 +34,7 @@ use Rattle.ipam_model.specs.Cluster.{new_record}
 use Rattle.ipam_model.specs.Counting.{Freeing, credit_of, free, free_found, free_once, free_these, lower, lower_once, lowering, most_count, raise, raise_once, raise_write, revision_said, written_or_deleted}
 use Rattle.ipam_model.specs.Named.{name_of, told_of}
 use Rattle.ipam_model.specs.Reads.{affinity_said, block_said, handle_said}
-use Rattle.ipam_model.specs.Step.{Part, after_lost, followed, goes, left_of, on_write, onward, stops, tries, write_back}
+use Rattle.ipam_model.specs.Step.{Part, after_lost, part_then, goes, left_of, on_write, onward, stops, tries, write_back}
 use Rattle.ipam_model.specs.Tries.{is_add, is_confirmation_of, is_race_lost, is_release, is_write}
 use Rattle.ipam_laws.proofs.Losses.{CreatesNone, HasConfirmed, HasFull, HasLost, IsLeft, LastSpent, NoClaim, Stopped, any-left, back-new, back-writes, claims_in, claims-one, costs-none, done-left, lost_in, read-left, wrote}
 use Rattle.ipam_laws.proofs.Trails.{Comes, Comes-bound, Did, Trail}
@@ -141,7 +141,7 @@ module _ (request : Request) (no_release : is_release request ≡ false) where
   -- ---- parts behind parts
 
   pub parts-follow : {A B : Type 0} → (Q : Trail → Outcome B → Type 0) → ((trail : Trail) (left : Left) (why : Stop) → Stopped request trail left why → Q trail (Stops left why)) → (bound : ℕ) (part : Part A) (follows : Left → A → Part B) (trail : Trail)
-      → Comes (PartEnds bound) trail part → ((longer : Trail) (left : Left) (a : A) → IsLeft request bound longer left → Comes Q longer (follows left a)) → Comes Q trail (followed part follows)
+      → Comes (PartEnds bound) trail part → ((longer : Trail) (left : Left) (a : A) → IsLeft request bound longer left → Comes Q longer (follows left a)) → Comes Q trail (part_then part follows)
   unfolding PartEnds
   parts-follow {A} Q stopped bound part follows trail h k = Comes-bound (PartEnds bound) Q (onward follows) part trail h ends
     where
@@ -150,7 +150,7 @@ module _ (request : Request) (no_release : is_release request ≡ false) where
       ends longer (Stops left why) e = stopped longer left why e
 
   pub frees-follow : {A B : Type 0} → (Q : Trail → Outcome B → Type 0) → ((trail : Trail) (left : Left) (why : Stop) → FreeEnds {A = A} 0 trail (Stops left why) → Q trail (Stops left why)) → (bound : ℕ) (part : Part A) (follows : Left → A → Part B) (trail : Trail)
-      → Comes (FreeEnds bound) trail part → ((longer : Trail) (left : Left) (a : A) → IsLeft request bound longer left → Comes Q longer (follows left a)) → Comes Q trail (followed part follows)
+      → Comes (FreeEnds bound) trail part → ((longer : Trail) (left : Left) (a : A) → IsLeft request bound longer left → Comes Q longer (follows left a)) → Comes Q trail (part_then part follows)
   unfolding FreeEnds
   frees-follow {A} Q stopped bound part follows trail h k = Comes-bound (FreeEnds bound) Q (onward follows) part trail h ends
     where
@@ -174,7 +174,7 @@ module _ (request : Request) (no_release : is_release request ≡ false) where
       by moment store true k = any-left request bound (Did moment store (Get (key.Handle id)) ∷ trail) left k
       by moment store false k = λ second other agrees.
           let said = reply_of store (Get (key.Handle id)) in
-          let new = record_of.Handle (raised (handle_said id said) cidr 1) in
+          let new = record_of.Handle (with_raised_count (handle_said id said) cidr 1) in
           part-wrote bound second other (write_back said new) (Did moment store (Get (key.Handle id)) ∷ trail) left (λ revision. goes left tt) again (back-writes said new) (inr (ap is_confirmation_of (back-new said new))) k
           (λ revision done m. m) h
 
@@ -190,7 +190,7 @@ module _ (request : Request) (no_release : is_release request ≡ false) where
   lower-once credit bound again left h trail l = λ moment store agrees second other agrees_then.
       let asked = Get (key.Handle credit.handle) in
       let said = reply_of store asked in
-      let less = lowered (handle_said credit.handle said) credit.block credit.amount in
+      let less = with_lowered_count (handle_said credit.handle said) credit.block credit.amount in
       let (w, none, creates) = lowering-shape less less.counts (revision_said said) in
       free-wrote bound second other (lowering less (revision_said said)) (Did moment store asked ∷ trail) left (λ revision. goes left tt) again w (inr none) creates
       (read-left request no_release bound moment store asked trail left refl (inr refl) l) (λ revision done m. m) h
@@ -204,8 +204,8 @@ module _ (request : Request) (no_release : is_release request ≡ false) where
   unfolding FreeEnds
   free-these what bound again left zero found h trail l = l
   free-these what bound again left (suc more) found h trail l = λ moment store agrees.
-      let asked = Update (record_of.Block (freed what.picks (next_block found.1))) found.0 in
-      free-wrote bound moment store asked trail left (λ taken. followed (lower (credit_of what.handle what.block (suc more)) left) (λ now done. goes now (suc more))) again refl (inr refl) (λ new e. cc e) l
+      let asked = Update (record_of.Block (block_without what.picks (next_block found.1))) found.0 in
+      free-wrote bound moment store asked trail left (λ taken. part_then (lower (credit_of what.handle what.block (suc more)) left) (λ now done. goes now (suc more))) again refl (inr refl) (λ new e. cc e) l
       (λ revision done m. frees-follow (FreeEnds bound) (λ longer now why e. stopped longer now why e) bound (lower (credit_of what.handle what.block (suc more)) left) (λ now tt. goes now (suc more)) (Did moment store asked ∷ trail)
       (lower-comes (credit_of what.handle what.block (suc more)) bound left (Did moment store asked ∷ trail) m) (λ longer now unit k. k)) h
     where
@@ -230,14 +230,14 @@ module _ (request : Request) (no_release : is_release request ≡ false) where
 
   -- ---- assigning
 
-  -- an address was assigned, or less is left
+  -- an address was block_with_ordinal, or less is left
   unfoldable pub AssignEnds : (bound : ℕ) → Trail → Outcome (Option Assigned) → Type 0
   AssignEnds bound trail (Went left (Some done)) = IsLeft request bound trail left
   AssignEnds bound trail (Went left None) = IsLeft request bound trail left × (left.races + left.claims < bound)
   AssignEnds bound trail (Stops left why) = Stopped request trail left why
 
   assign-lost : (attributes : Attributes) (target : Target) (bound races claims : ℕ) (trail : Trail) → HasLost request bound trail (left_of races claims)
-      → Comes (AssignEnds bound) trail (after_lost races claims (λ less. followed (lower (credit_of attributes.handle target.block.cidr 1) less) (λ now done. goes now None)))
+      → Comes (AssignEnds bound) trail (after_lost races claims (λ less. part_then (lower (credit_of attributes.handle target.block.cidr 1) less) (λ now done. goes now None)))
   unfolding AssignEnds Stopped
   assign-lost attributes target bound zero claims trail h = lost-out (AssignEnds bound) (record { tired = λ t left e. e; worn = λ t left e. e }) bound claims trail h
   assign-lost attributes target bound (suc races) claims trail h =
@@ -254,7 +254,7 @@ module _ (request : Request) (no_release : is_release request ≡ false) where
   assign-block : (attributes : Attributes) (target : Target) (bound : ℕ) (left : Left) (trail : Trail) → IsLeft request bound trail left → Comes (AssignEnds bound) trail (assign_block attributes target left)
   unfolding AssignEnds Stopped
   assign-block attributes target bound left trail h = λ moment store agrees.
-      let asked = Update (record_of.Block (assigned (next_block target.block) target.ordinal attributes)) target.revision in
+      let asked = Update (record_of.Block (block_with_ordinal (next_block target.block) target.ordinal attributes)) target.revision in
       wrote request (AssignEnds bound) bound moment store asked trail left (λ taken. goes left (Some (record { moment = moment; stamp = target.block.sequence + 1 }))) (assign_lost attributes target left) (stops left NoRoom) (stops left NoRevisions) refl h
       (λ revision done. done-left request bound moment store asked trail left revision refl done (inr refl) h)
       (λ lost. assign-lost attributes target bound left.races left.claims (Did moment store asked ∷ trail) lost)

@@ -48,7 +48,7 @@ use Rattle.ipam_model.specs.Counting.{free, freeing_all, freeing_one}
 use Rattle.ipam_model.specs.Reads.{block_said, config_said, handle_said, pools_said, rows_said}
 use Rattle.ipam_model.specs.Remove.{Leak, collect_stops, collect_word, del_blocks, del_stops, del_word, free_leaks, freeing_owner, item_of, leaks, suspects, with_item}
 use Rattle.ipam_model.specs.Requests.{told_as}
-use Rattle.ipam_model.specs.Step.{Part, StopAnswers, all_left, answer_of, confirmed_so_far, goes, lost_so_far, most_claims, most_lost, onward, rounds, settled, stop_answer, stops, without_count, write_back}
+use Rattle.ipam_model.specs.Step.{Part, StopAnswers, all_left, answer_of, confirmed_so_far, goes, lost_so_far, most_claims, most_lost, onward, rounds, as_word, stop_answer, stops, without_count, write_back}
 use Rattle.ipam_model.specs.Told.{of_add, of_add_this, of_admin, of_collect, of_del}
 use Rattle.ipam_model.specs.Tries.{confirmed_claims, is_add, is_release, lost_races}
 use Rattle.ipam_model.specs.Usable.{families_if, usable_pool_of}
@@ -76,7 +76,7 @@ ToldStop request trail _ = Unit {0}
 abbrev pub ToldOf : {A : Type 0} → Request → (A → Answer) → StopAnswers A → Trail → Outcome A → Type 0
 ToldOf request of_one answers trail outcome = ToldStop request trail (of_one (answer_of answers outcome))
 
-pub settle-told : {A : Type 0} → (request : Request) (of_one : A → Answer) (answers : StopAnswers A) (part : Part A) (trail : Trail) → Comes (ToldOf request of_one answers) trail part → Comes (λ t a. ToldStop request t (of_one a)) trail (settled answers part)
+pub settle-told : {A : Type 0} → (request : Request) (of_one : A → Answer) (answers : StopAnswers A) (part : Part A) (trail : Trail) → Comes (ToldOf request of_one answers) trail part → Comes (λ t a. ToldStop request t (of_one a)) trail (as_word answers part)
 settle-told request of_one answers part trail h = Comes-bound (ToldOf request of_one answers) (λ t a. ToldStop request t (of_one a)) (λ outcome. Ends (answer_of answers outcome)) part trail h (λ longer outcome k. k)
 
 pub tell : {A : Type 0} → (request : Request) (of_one : A → Answer) (w : Word A) (trail : Trail) → Comes (λ t a. ToldStop request t (of_one a)) trail w → Comes (ToldStop request) trail (told_as of_one w)
@@ -127,7 +127,7 @@ module _ (setting : Setting) where
   unfolding ToldStop
   change-once bound again left h trail l = λ moment store agrees.
       let asked = Get (change.key_changed setting) in
-      by (Did moment store asked ∷ trail) (reply_of store asked) (change.changed setting (reply_of store asked)) (read-left (Admin setting) refl bound moment store asked trail left refl (inl refl) l)
+      by (Did moment store asked ∷ trail) (reply_of store asked) (change.admin_change setting (reply_of store asked)) (read-left (Admin setting) refl bound moment store asked trail left refl (inl refl) l)
     where
       by : (longer : Trail) (said : Said) (what : change.Changed) → IsLeft (Admin setting) bound longer left → Comes ToldChange longer (change.admin_write again left said what)
       by longer said (change.Refuses number name) k = tt

@@ -9,7 +9,7 @@ use Rattle.ipam_records.specs.declared.call.Write.TheVariants.{Put, Remove}
 use Rattle.ipam_records.specs.Datastore.{Datastore, reply_of, reply_to_get, reply_to_create, reply_to_change, granted, has_room, row_of, last_revision, written, write_granted, write_of}
 use Rattle.ipam_records.specs.Key.{key_of}
 use Rattle.ipam_records.specs.Said.{Said, Found, Missing, Listed, Can, Exists, Conflict, Full, Spent}
-use Rattle.ipam_records.specs.Word.{Word, Ends, Asks, Waits, ended}
+use Rattle.ipam_records.specs.Word.{Word, Ends, Asks, Waits, answer_in}
 use Rattle.ipam_model.specs.declared.answer.Answer.{Answer}
 use Rattle.ipam_model.specs.declared.answer.Answer.TheVariants.{Fault}
 use Rattle.ipam_model.specs.declared.entry.Called.{Called}
@@ -17,7 +17,7 @@ use Rattle.ipam_model.specs.declared.entry.Entry.{Entry}
 use Rattle.ipam_model.specs.declared.entry.Entry.TheVariants as entry
 use Rattle.ipam_model.specs.declared.entry.Fate.{Fate}
 use Rattle.ipam_model.specs.declared.entry.Fate.TheVariants.{Well, Before, After}
-use Rattle.ipam_model.specs.Cluster.{new_record, record_written, write_told, write_at, call_told, store_with, store_after, called, call_entry, after}
+use Rattle.ipam_model.specs.Cluster.{new_record, record_written, write_told, write_at, call_told, store_with, store_after, call_made, call_entry, after}
 use Rattle.ipam_model.specs.Named.{name_of, told_of}
 use Rattle.ipam_model.specs.History.{Base, Lawful, cluster_at, store_at}
 use Rattle.ipam_model.specs.ReplyLaw.{IsAnsweredBy, RepliesLaw}
@@ -43,7 +43,7 @@ write_told-granted asked Spent = refl
 
 -- ---- each call is answered by the store
 
-called-answered : (slot : ℕ) (fate : Fate) (asked : Call) (store : Datastore) (answer : Option Answer) → IsAnsweredBy store (store_after (called slot fate asked (reply_of store asked) answer) store) asked (called slot fate asked (reply_of store asked) answer) fate
+called-answered : (slot : ℕ) (fate : Fate) (asked : Call) (store : Datastore) (answer : Option Answer) → IsAnsweredBy store (store_after (call_made slot fate asked (reply_of store asked) answer) store) asked (call_made slot fate asked (reply_of store asked) answer) fate
 called-answered slot Well asked store answer = record {
   is_reply = refl;
   is_written = refl;
@@ -56,7 +56,7 @@ called-answered slot After asked store answer = record {
 }
 called-answered slot Before asked store answer = record { no_reply = refl; nothing_written = refl; is_store = refl }
 
-called-name : (slot : ℕ) (fate : Fate) (asked : Call) (reply : Said) (answer : Option Answer) → (called slot fate asked reply answer).call ≡ name_of asked
+called-name : (slot : ℕ) (fate : Fate) (asked : Call) (reply : Said) (answer : Option Answer) → (call_made slot fate asked reply answer).call ≡ name_of asked
 called-name slot Well asked reply answer = refl
 called-name slot Before asked reply answer = refl
 called-name slot After asked reply answer = refl
@@ -69,9 +69,9 @@ unfolding Answered
 call_entry-answered slot fate store moment (Ends answer) c e = cc
 call_entry-answered slot fate store moment (Waits next) c e = cc
 call_entry-answered slot fate store moment (Asks label asked next) c e =
-    let is : called slot fate asked (reply_of store asked) (ended (next moment (reply_of store asked))) ≡ c = cc in
+    let is : call_made slot fate asked (reply_of store asked) (answer_in (next moment (reply_of store asked))) ≡ c = cc in
     subst (λ (x : Called). Answered store x fate) is
-    (asked, called-name slot fate asked (reply_of store asked) (ended (next moment (reply_of store asked))), called-answered slot fate asked store (ended (next moment (reply_of store asked))))
+    (asked, called-name slot fate asked (reply_of store asked) (answer_in (next moment (reply_of store asked))), called-answered slot fate asked store (answer_in (next moment (reply_of store asked))))
 
 pub replies : RepliesLaw
 unfolding Lawful cluster_at after
@@ -171,7 +171,7 @@ store-step base history (entry.Called c) h =
 
 -- ---- a call that fails is answered so
 
-called-fails : (slot : ℕ) (fate : Fate) (asked : Call) (reply : Said) (answer : Option Answer) → fate ≢ Well → (called slot fate asked reply answer).answer ≡ Some Fault
+called-fails : (slot : ℕ) (fate : Fate) (asked : Call) (reply : Said) (answer : Option Answer) → fate ≢ Well → (call_made slot fate asked reply answer).answer ≡ Some Fault
 called-fails slot Well asked reply answer failed = absurd (failed refl)
 called-fails slot Before asked reply answer failed = refl
 called-fails slot After asked reply answer failed = refl
@@ -180,8 +180,8 @@ call_entry-fails : (slot : ℕ) (fate : Fate) (store : Datastore) (moment : ℕ)
 call_entry-fails slot fate store moment (Ends answer) c failed e = cc
 call_entry-fails slot fate store moment (Waits next) c failed e = cc
 call_entry-fails slot fate store moment (Asks label asked next) c failed e =
-    let is : called slot fate asked (reply_of store asked) (ended (next moment (reply_of store asked))) ≡ c = cc in
-    ap (λ (x : Called). x.answer) (sym is) ∙ called-fails slot fate asked (reply_of store asked) (ended (next moment (reply_of store asked))) failed
+    let is : call_made slot fate asked (reply_of store asked) (answer_in (next moment (reply_of store asked))) ≡ c = cc in
+    ap (λ (x : Called). x.answer) (sym is) ∙ called-fails slot fate asked (reply_of store asked) (answer_in (next moment (reply_of store asked))) failed
 
 pub failed-answered : (base : Base) (history : List Entry) (c : Called) → Lawful base (entry.Called c ∷ history) → c.fate ≢ Well → c.answer ≡ Some Fault
 unfolding Lawful

@@ -8,7 +8,7 @@ use Rattle.ipam_addr.specs.Holding.{Holds, holds_address}
 use Rattle.ipam_addr.specs.Slots.{HasSlots}
 use Rattle.ipam_addr.proofs.HoldingLemmas.{holds_from}
 use Rattle.ipam_addr.proofs.SlotLemmas.{slot_number_holds}
-use Rattle.ipam_block.specs.Operations.{address_of, holder}
+use Rattle.ipam_block.specs.Operations.{ordinal_address, holder}
 use Rattle.ipam_block.specs.Shape as block
 use Rattle.ipam_pool.specs.declared.pools.Pool.{Pool}
 use Rattle.ipam_pool.specs.Slots.{IsSlotOf}
@@ -66,7 +66,7 @@ slot-there store sound asked address pool e = from (row_of key.Pools store.rows)
     from (Some (revision, record_of.Affinity affinity)) row f = absurd (cc f)
     from (Some (revision, record_of.Handle handle)) row f = absurd (cc f)
 
-own-ordinal : (cidr : CidrValue) (address : AddrValue) → Holds cidr address → address ≡ address_of cidr (address.number - cidr.base)
+own-ordinal : (cidr : CidrValue) (address : AddrValue) → Holds cidr address → address ≡ ordinal_address cidr (address.number - cidr.base)
 own-ordinal cidr address holds =
     let from = holds.from_base in
     let sum : address.number ≡ cidr.base + (address.number - cidr.base) = omega arith in

@@ -7,9 +7,9 @@ use Rattle.ipam_records.specs.declared.key.Key.{Key}
 use Rattle.ipam_records.specs.declared.record.Record.{Record}
 use Rattle.ipam_records.specs.Datastore.{Datastore, reply_of}
 use Rattle.ipam_records.specs.Sound.{IsDatastore}
-use Rattle.ipam_records.specs.Label.{Label}
+use Rattle.ipam_records.specs.Label.{CallLabel}
 use Rattle.ipam_records.specs.Said.{Said}
-use Rattle.ipam_records.specs.Word.{Word, Ends, Asks, Waits, bound, ended, fed, waits}
+use Rattle.ipam_records.specs.Word.{Word, Ends, Asks, Waits, bound, answer_in, after_feed, waits}
 use Rattle.ipam_model.specs.declared.answer.Answer.{Answer}
 use Rattle.ipam_model.specs.declared.entry.Called.{Called}
 use Rattle.ipam_model.specs.declared.entry.Entry.{Entry}
@@ -19,7 +19,7 @@ use Rattle.ipam_model.specs.declared.entry.Fate.TheVariants.{Well, Before, After
 use Rattle.ipam_model.specs.declared.request.Request.{Request}
 use Rattle.ipam_model.specs.AffinityLaw.{HasAt}
 use Rattle.ipam_model.specs.Answered.{Answered, earlier_calls, history_of, span_of}
-use Rattle.ipam_model.specs.Cluster.{Running, after, answered, begun, call_entry, called, fed_with, goes_on, record_written, store_after, store_with}
+use Rattle.ipam_model.specs.Cluster.{Running, after, word_after_reply, fresh_run, call_entry, call_made, run_after_feed, goes_on, record_written, store_after, store_with}
 use Rattle.ipam_model.specs.History.{Base, InSpan, Lawful, Span, before, begin_moment, begins, cluster_at, entry_at, moment_of, now, seen_at, since_begin, slot_of_entry, store_at}
 use Rattle.ipam_model.specs.Moments.{IsNext, request_in}
 use Rattle.ipam_model.specs.Named.{name_of, told_of}
@@ -33,7 +33,7 @@ use Rattle.ipam_laws.proofs.StoreSteps.{write_told-granted}
 
 -- ---- what a request did
 
--- a call at its moment, over the store that answered it; or a second list that was fed
+-- a call at its moment, over the store that word_after_reply it; or a second list that was after_feed
 pub data Step : Type 0 where
   Did : (moment : ℕ) (store : Datastore) (asked : Call) → Step
   Got : (moment at : ℕ) (live : List (List ℕ)) → Step
@@ -342,11 +342,11 @@ trail-agrees span sound h (Got moment at live ∷ trail) upto is = trail-agrees 
 
 -- the call that an entry tells of, where the word asked for one
 pub record IsMade (c : Called) (store : Datastore) (moment : ℕ) (word : Word Answer) : Type 0 where
-  pub label : Label
+  pub label : CallLabel
   pub asked : Call
   pub next : ℕ → Said → Word Answer
   pub is_word : word ≡ Asks label asked next
-  pub is_call : called c.slot c.fate asked (reply_of store asked) (ended (next moment (reply_of store asked))) ≡ c
+  pub is_call : call_made c.slot c.fate asked (reply_of store asked) (answer_in (next moment (reply_of store asked))) ≡ c
 
 pub made : (c : Called) (store : Datastore) (moment : ℕ) (word : Word Answer) → call_entry c.slot c.fate store moment word ≡ Some c → IsMade c store moment word
 made c store moment (Ends answer) e = absurd (cc e)
@@ -361,9 +361,9 @@ pub record IsWell (c : Called) (store : Datastore) (asked : Call) (answer : Opti
   pub answers : c.answer ≡ answer
   pub next : store_after c store ≡ behind store asked
 
-pub well : (c : Called) (store : Datastore) (asked : Call) (answer : Option Answer) → called c.slot c.fate asked (reply_of store asked) answer ≡ c → c.fate ≡ Well → IsWell c store asked answer
+pub well : (c : Called) (store : Datastore) (asked : Call) (answer : Option Answer) → call_made c.slot c.fate asked (reply_of store asked) answer ≡ c → c.fate ≡ Well → IsWell c store asked answer
 well c store asked answer e fate =
-    let is : called c.slot Well asked (reply_of store asked) answer ≡ c = ap (λ (f : Fate). called c.slot f asked (reply_of store asked) answer) (sym fate) ∙ e in
+    let is : call_made c.slot Well asked (reply_of store asked) answer ≡ c = ap (λ (f : Fate). call_made c.slot f asked (reply_of store asked) answer) (sym fate) ∙ e in
     subst (λ (x : Called). IsWell x store asked answer) is (record {
       call = refl;
       reply = refl;
@@ -373,7 +373,7 @@ well c store asked answer e fate =
     })
 
 -- a request that goes on was not failed
-pub goes-well : (fate : Fate) (slot : ℕ) (asked : Call) (reply : Said) (answer : Option Answer) (c : Called) → called slot fate asked reply answer ≡ c → c.answer ≡ None → fate ≡ Well
+pub goes-well : (fate : Fate) (slot : ℕ) (asked : Call) (reply : Said) (answer : Option Answer) (c : Called) → call_made slot fate asked reply answer ≡ c → c.answer ≡ None → fate ≡ Well
 goes-well Well slot asked reply answer c e none = refl
 goes-well Before slot asked reply answer c e none = let f = ap (λ (x : Called). x.answer) e ∙ none in absurd (cc f)
 goes-well After slot asked reply answer c e none = let f = ap (λ (x : Called). x.answer) e ∙ none in absurd (cc f)
@@ -438,7 +438,7 @@ IsLeft = Request → Trail → Word Answer → Type 0
 -- it holds at first, and goes on holding
 pub record Lasts (P : IsLeft) : Type 0 where
   pub starts : (request : Request) → P request [] (word_of request)
-  pub hears : (request : Request) (trail : Trail) (label : Label) (asked : Call) (next : ℕ → Said → Word Answer) → P request trail (Asks label asked next)
+  pub hears : (request : Request) (trail : Trail) (label : CallLabel) (asked : Call) (next : ℕ → Said → Word Answer) → P request trail (Asks label asked next)
       → (moment : ℕ) (store : Datastore) → AgreesAll store trail → P request (Did moment store asked ∷ trail) (next moment (reply_of store asked))
   pub feeds : (request : Request) (trail : Trail) (next : List (List ℕ) → Word Answer) → P request trail (Waits next)
       → (moment at : ℕ) (live : List (List ℕ)) → P request (Got moment at live ∷ trail) (next live)
@@ -469,8 +469,8 @@ module _ (P : IsLeft) (lasts : Lasts P) where
     trail : Trail
     is_trail : IsTrail (span_at base (entry.Called c ∷ history) c.slot) (moment_of base (entry.Called c ∷ history)) trail
     calls : AreCalls trail (c ∷ slot_calls c.slot history)
-    comes : P running.request trail (answered (store_at base history) (cluster_at base history).entries running.word)
-    answers : c.answer ≡ ended (answered (store_at base history) (cluster_at base history).entries running.word)
+    comes : P running.request trail (word_after_reply (store_at base history) (cluster_at base history).entries running.word)
+    answers : c.answer ≡ answer_in (word_after_reply (store_at base history) (cluster_at base history).entries running.word)
 
   call-comes : (base : Base) (history : List Entry) → IsDatastore base.store → Lawful base history → (c : Called) (running : Running) → c.fate ≡ Well
       → call_entry c.slot c.fate (store_at base history) (cluster_at base history).entries running.word ≡ Some c → RunComes base history c.slot running → CallComes base history c running
@@ -479,19 +479,19 @@ module _ (P : IsLeft) (lasts : Lasts P) where
       let store = store_at base history in
       let moment = (cluster_at base history).entries in
       let is = made c store moment running.word e in
-      let answer = ended (is.next moment (reply_of store is.asked)) in
+      let answer = answer_in (is.next moment (reply_of store is.asked)) in
       let done = well c store is.asked answer is.is_call fate in
       let span = span_at base history c.slot in
       let agrees = trail-agrees span sound h run.trail (moment_of base history) run.is_trail in
       let asks : P running.request run.trail (Asks is.label is.asked is.next) = subst (λ (w : Word Answer). P running.request run.trail w) is.is_word run.comes in
-      let word : answered store moment running.word ≡ is.next moment (reply_of store is.asked) = ap (λ (w : Word Answer). answered store moment w) is.is_word in
+      let word : word_after_reply store moment running.word ≡ is.next moment (reply_of store is.asked) = ap (λ (w : Word Answer). word_after_reply store moment w) is.is_word in
       let next = subst (λ (w : Word Answer). P running.request (Did moment store is.asked ∷ run.trail) w) (sym word) (lasts.hears running.request run.trail is.label is.asked is.next asks moment store agrees) in
       record {
         trail = Did (moment_of base history) store is.asked ∷ run.trail;
         is_trail = trail-did span c is.asked run.trail refl fate done.call done.reply done.is_written done.next run.is_trail;
         calls = (c, slot_calls c.slot history, refl, record { call = done.call; reply = done.reply; is_written = done.is_written }, run.calls);
-        comes = subst (λ (m : ℕ). P running.request (Did m store is.asked ∷ run.trail) (answered store moment running.word)) (entries-are base history) next;
-        answers = done.answers ∙ ap ended (sym word);
+        comes = subst (λ (m : ℕ). P running.request (Did m store is.asked ∷ run.trail) (word_after_reply store moment running.word)) (entries-are base history) next;
+        answers = done.answers ∙ ap answer_in (sym word);
       }
 
   goes-at : (base : Base) (history : List Entry) (c : Called) (answer : Option Answer) → c.answer ≡ answer → IsDatastore base.store → Lawful base (entry.Called c ∷ history)
@@ -504,9 +504,9 @@ module _ (P : IsLeft) (lasts : Lasts P) where
       let store = store_at base history in
       let moment = (cluster_at base history).entries in
       let shape = made c store moment may.running.word may.is_called in
-      let fate = goes-well c.fate c.slot shape.asked (reply_of store shape.asked) (ended (shape.next moment (reply_of store shape.asked))) c shape.is_call is in
+      let fate = goes-well c.fate c.slot shape.asked (reply_of store shape.asked) (answer_in (shape.next moment (reply_of store shape.asked))) c shape.is_call is in
       let step = call-comes base history sound h.0 c may.running fate may.is_called (here may.running may.runs) in
-      let run : RunComes base (entry.Called c ∷ history) c.slot (record may.running { word = answered store moment may.running.word }) =
+      let run : RunComes base (entry.Called c ∷ history) c.slot (record may.running { word = word_after_reply store moment may.running.word }) =
       record {
         trail = step.trail;
         is_trail = step.is_trail;
@@ -516,7 +516,7 @@ module _ (P : IsLeft) (lasts : Lasts P) where
       subst (λ (o : Option Running). SlotComes base (entry.Called c ∷ history) c.slot (goes_on store moment None o)) (sym may.runs) run
 
   fed-comes : (base : Base) (history : List Entry) (slot at : ℕ) (live : List (List ℕ)) (running : Running) → IsTrue (waits running.word) → RunComes base history slot running
-      → RunComes base (entry.Fed slot at live ∷ history) slot (record running { word = fed running.word live })
+      → RunComes base (entry.Fed slot at live ∷ history) slot (record running { word = after_feed running.word live })
   unfolding AreCalls since_begin
   fed-comes base history slot at live running waiting run = record {
     trail = Got (moment_of base history) at live ∷ run.trail;
@@ -525,7 +525,7 @@ module _ (P : IsLeft) (lasts : Lasts P) where
     comes = by running.word waiting run.comes;
   }
     where
-      by : (w : Word Answer) → IsTrue (waits w) → P running.request run.trail w → P running.request (Got (moment_of base history) at live ∷ run.trail) (fed w live)
+      by : (w : Word Answer) → IsTrue (waits w) → P running.request run.trail w → P running.request (Got (moment_of base history) at live ∷ run.trail) (after_feed w live)
       by (Ends answer) t h = absurd (cc t)
       by (Asks label asked next) t h = absurd (cc t)
       by (Waits next) t h = lasts.feeds running.request run.trail next h (moment_of base history) at live
@@ -534,8 +534,8 @@ module _ (P : IsLeft) (lasts : Lasts P) where
   unfolding Lawful cluster_at after AreCalls
   slot-comes base [] sound h slot = tt
   slot-comes base (entry.Began other request ∷ history) sound h slot =
-      slot-is (SlotComes base (entry.Began other request ∷ history) slot) other slot (begun request) (cluster_at base history).slots
-      (λ own. subst (λ (s : ℕ). SlotComes base (entry.Began other request ∷ history) s (begun request)) (sym own) (record {
+      slot-is (SlotComes base (entry.Began other request ∷ history) slot) other slot (fresh_run request) (cluster_at base history).slots
+      (λ own. subst (λ (s : ℕ). SlotComes base (entry.Began other request ∷ history) s (fresh_run request)) (sym own) (record {
         trail = [];
         is_trail = trail-begins base history other request;
         calls = calls-begun other request history;
@@ -543,10 +543,10 @@ module _ (P : IsLeft) (lasts : Lasts P) where
       }))
       (λ differ. skip base history (entry.Began other request) slot ((cluster_at base history).slots slot) (begins-not other slot differ) (λ e. differ (sym e)) (slot-comes base history sound h.0 slot))
   slot-comes base (entry.Fed other at live ∷ history) sound h slot =
-      slot-is (SlotComes base (entry.Fed other at live ∷ history) slot) other slot (fed_with live ((cluster_at base history).slots other)) (cluster_at base history).slots
-      (λ own. subst (λ (s : ℕ). SlotComes base (entry.Fed other at live ∷ history) s (fed_with live ((cluster_at base history).slots other))) (sym own)
+      slot-is (SlotComes base (entry.Fed other at live ∷ history) slot) other slot (run_after_feed live ((cluster_at base history).slots other)) (cluster_at base history).slots
+      (λ own. subst (λ (s : ℕ). SlotComes base (entry.Fed other at live ∷ history) s (run_after_feed live ((cluster_at base history).slots other))) (sym own)
       (let run = subst (λ (o : Option Running). SlotComes base history other o) h.1.runs (slot-comes base history sound h.0 other) in
-      subst (λ (o : Option Running). SlotComes base (entry.Fed other at live ∷ history) other (fed_with live o)) (sym h.1.runs) (fed-comes base history other at live h.1.running h.1.waiting run)))
+      subst (λ (o : Option Running). SlotComes base (entry.Fed other at live ∷ history) other (run_after_feed live o)) (sym h.1.runs) (fed-comes base history other at live h.1.running h.1.waiting run)))
       (λ differ. skip base history (entry.Fed other at live) slot ((cluster_at base history).slots slot) refl (λ e. differ (sym e)) (slot-comes base history sound h.0 slot))
   slot-comes base (entry.Stopped other ∷ history) sound h slot =
       slot-is (SlotComes base (entry.Stopped other ∷ history) slot) other slot None (cluster_at base history).slots
@@ -574,14 +574,14 @@ module _ (Q : Request → Trail → Answer → Type 0) (starts : (request : Requ
     feeds = λ request trail next h. h;
   }
 
-  -- the trail of a request that has answered, and what holds of its answer
+  -- the trail of a request that has word_after_reply, and what holds of its answer
   pub record AnswerComes (a : Answered) (told : Answer) : Type 0 where
     pub trail : Trail
     pub is_trail : IsTrail (span_of a) (now (span_of a)) trail
     pub calls : AreCalls trail (a.call ∷ earlier_calls a)
     pub comes : Q a.request trail told
 
-  ends-comes : (request : Request) (trail : Trail) (w : Word Answer) (told : Answer) → Comes (Q request) trail w → ended w ≡ Some told → Q request trail told
+  ends-comes : (request : Request) (trail : Trail) (w : Word Answer) (told : Answer) → Comes (Q request) trail w → answer_in w ≡ Some told → Q request trail told
   ends-comes request trail (Ends answer) told h e = let same : answer ≡ told = cc e in subst (λ (t : Answer). Q request trail t) same h
   ends-comes request trail (Asks label asked next) told h e = absurd (cc e)
   ends-comes request trail (Waits next) told h e = absurd (cc e)
@@ -600,5 +600,5 @@ module _ (Q : Request → Trail → Answer → Type 0) (starts : (request : Requ
         is_trail = step.is_trail;
         calls = step.calls;
         comes = subst (λ (r : Request). Q r step.trail told) same
-            (ends-comes may.running.request step.trail (answered (store_at a.base a.earlier) (cluster_at a.base a.earlier).entries may.running.word) told step.comes (sym step.answers ∙ answer));
+            (ends-comes may.running.request step.trail (word_after_reply (store_at a.base a.earlier) (cluster_at a.base a.earlier).entries may.running.word) told step.comes (sym step.answers ∙ answer));
       }

@@ -7,7 +7,7 @@ use Rattle.ipam_model.specs.declared.part.Left.{Left}
 use Rattle.ipam_model.specs.declared.part.Stop.{Stop}
 use Rattle.ipam_model.specs.declared.part.Outcome.{Outcome}
 use Rattle.ipam_model.specs.declared.part.Outcome.TheVariants.{Went, Stops}
-use Rattle.ipam_model.specs.Step.{Part, StopAnswers, answer_of, settled, after_write, onward, followed}
+use Rattle.ipam_model.specs.Step.{Part, StopAnswers, answer_of, as_word, after_write, onward, part_then}
 
 -- with so many calls left at first, it is true of the answer and of the calls that are left then
 abbrev pub Within : {A : Type 0} → (A → ℕ → Type 0) → Word A → ℕ → Type 0
@@ -26,7 +26,7 @@ Within-bound P Q (Asks label call next) follows count h k = (h.0, λ moment said
 Within-bound P Q (Waits next) follows count h k = λ live. Within-bound P Q (next live) follows count (h live) k
 
 -- a part behind another
-pub Within-followed : {A B : Type 0} → (P : Outcome A → ℕ → Type 0) (Q : Outcome B → ℕ → Type 0) (part : Part A) (follows : Left → A → Part B) (count : ℕ) → Within P part count → ((left : Left) (a : A) (rest : ℕ) → P (Went left a) rest → Within Q (follows left a) rest) → ((left : Left) (why : Stop) (rest : ℕ) → P (Stops left why) rest → Q (Stops left why) rest) → Within Q (followed part follows) count
+pub Within-followed : {A B : Type 0} → (P : Outcome A → ℕ → Type 0) (Q : Outcome B → ℕ → Type 0) (part : Part A) (follows : Left → A → Part B) (count : ℕ) → Within P part count → ((left : Left) (a : A) (rest : ℕ) → P (Went left a) rest → Within Q (follows left a) rest) → ((left : Left) (why : Stop) (rest : ℕ) → P (Stops left why) rest → Q (Stops left why) rest) → Within Q (part_then part follows) count
 Within-followed {A} P Q part follows count h goes stops = Within-bound P Q part (onward follows) count h after
   where
     after : (o : Outcome A) (rest : ℕ) → P o rest → Within Q (onward follows o) rest
@@ -37,7 +37,7 @@ Within-followed {A} P Q part follows count h goes stops = Within-bound P Q part 
 abbrev pub Any : {A : Type 0} → A → ℕ → Type 0
 Any answer count = Unit {0}
 
-pub Within-settled : {A : Type 0} → (P : Outcome A → ℕ → Type 0) (answers : StopAnswers A) (part : Part A) (count : ℕ) → Within P part count → Within Any (settled answers part) count
+pub Within-settled : {A : Type 0} → (P : Outcome A → ℕ → Type 0) (answers : StopAnswers A) (part : Part A) (count : ℕ) → Within P part count → Within Any (as_word answers part) count
 Within-settled P answers part count h = Within-bound P Any part (λ outcome. Ends (answer_of answers outcome)) count h (λ o rest k. tt)
 
 -- whatever a write is answered

@@ -7,7 +7,7 @@ use Rattle.ipam_addr.specs.declared.address.Family.{Family}
 use Rattle.ipam_addr.specs.Shape.{CidrValue}
 use Rattle.ipam_block.specs.declared.allocation.Attributes.{Attributes}
 use Rattle.ipam_block.specs.Shape as block
-use Rattle.ipam_block.specs.Operations.{address_of}
+use Rattle.ipam_block.specs.Operations.{ordinal_address}
 use Rattle.ipam_pool.specs.declared.pools.Pool.{Pool}
 use Rattle.ipam_pool.specs.Slots.{IsSlotOf}
 use Rattle.ipam_records.specs.declared.key.Key.TheVariants as key
@@ -15,7 +15,7 @@ use Rattle.ipam_records.specs.declared.key.Kind.TheVariants as kind
 use Rattle.ipam_records.specs.declared.record.Record.{Record}
 use Rattle.ipam_records.specs.declared.record.Record.TheVariants as record_of
 use Rattle.ipam_records.specs.declared.call.Call.TheVariants as call
-use Rattle.ipam_records.specs.Datastore.{Datastore, reply_of, reply_to_get, row_of, row_key, listed}
+use Rattle.ipam_records.specs.Datastore.{Datastore, reply_of, reply_to_get, row_of, row_key, rows_of_kind}
 use Rattle.ipam_records.specs.KeyOrder.{is_of_kind}
 use Rattle.ipam_records.specs.Label.{idle}
 use Rattle.ipam_records.specs.Said.{Said, Listed}
@@ -33,15 +33,15 @@ use Rattle.ipam_model.specs.Add.{five_reads, Round}
 use Rattle.ipam_model.specs.Affinities.{BlockRead, claim}
 use Rattle.ipam_model.specs.AffinityLaw.{HasAt}
 use Rattle.ipam_model.specs.Assigning.{Target, target_in, assign, assign_block, after_claim, claim_for}
-use Rattle.ipam_model.specs.Choice.{Ranked, IsBest, choice_in, choice_of, is_reserved, Seen, is_block_at, block_in_found, block_at, is_node, is_unowned_and_empty, is_confirmed_for, may_claim, room_of, has_free_address, Rank, Own, Unconfirmed, Unclaimed, Foreign, rank_of_block, rank_at, Pick, Unknown, Lacks, Picks, pick_of}
+use Rattle.ipam_model.specs.Choice.{Ranked, IsBest, choice_in, choice_of, is_reserved, Seen, is_block_at, block_in_found, block_at, is_unowned_and_empty, is_confirmed_for, may_claim, room_of, has_free_address, Rank, Own, Unconfirmed, Unclaimed, Foreign, rank_of_block, rank_at, Pick, Unknown, Lacks, Picks, pick_of}
 use Rattle.ipam_model.proofs.ChoiceLemmas.{choice_is, pick-ranked}
 use Rattle.ipam_model.specs.Counting.{raise}
-use Rattle.ipam_model.specs.Reads.{Row, pools_said, rows_said}
+use Rattle.ipam_model.specs.Reads.{StoredRecord, pools_said, rows_said}
 use Rattle.ipam_model.specs.declared.part.Left.{Left}
 use Rattle.ipam_model.specs.declared.part.Outcome.{Outcome}
 use Rattle.ipam_model.specs.declared.part.Stop.TheVariants.{OutOfTries}
 use Rattle.ipam_model.specs.declared.part.Outcome.TheVariants.{Went, Stops}
-use Rattle.ipam_model.specs.Step.{left_of, Part, StopAnswers, answer_of, settled, stops, onward, followed, rounds}
+use Rattle.ipam_model.specs.Step.{left_of, Part, StopAnswers, answer_of, as_word, stops, onward, part_then, rounds}
 use Rattle.ipam_model.specs.Usable.{Asked, unknown_name, is_same_cidr}
 use Rattle.ipam_laws.proofs.SeenReads.{seen_by_replies}
 use Rattle.ipam_laws.proofs.ChosenSlots.{chosen-slot, slot_in}
@@ -51,6 +51,7 @@ use Rattle.ipam_laws.proofs.Members.{in-find, in-nothing, in-place}
 use Rattle.ipam_laws.proofs.Steps.{IsKnownBlock, IsKnownPool, IsKnownSlot, IsClaimable, IsFree, IsCountable, known-pool-grows, free-grows, Step, Idles}
 use Rattle.ipam_laws.proofs.PartSteps.{Any, still, Steps, raised_label, raise-label, raise-steps}
 use Rattle.ipam_laws.proofs.WriteSteps.{claim-steps, claim-label, assign_block-steps}
+use Rattle.ipam_records.specs.BlockLists.{is_node}
 
 -- a word that stands nowhere at first, and takes its steps with this known
 abbrev pub Keeps : {A : Type 0} → Known → Word A → Type 0
@@ -97,13 +98,13 @@ lawful-behind w follows known h k =
 pub lawful-both : {A B : Type 0} → (w : Word A) (follows : A → Word B) → Lawful w → LawfulAfter follows → Lawful (bound w follows)
 lawful-both w follows h k known = lawful-behind w follows known (h known) k
 
-pub followed-keeps : {A B : Type 0} → (part : Part A) (follows : Left → A → Part B) (known : Known) → Keeps known part → LawfulOn follows → Keeps known (followed part follows)
+pub followed-keeps : {A B : Type 0} → (part : Part A) (follows : Left → A → Part B) (known : Known) → Keeps known part → LawfulOn follows → Keeps known (part_then part follows)
 followed-keeps part follows known h k = lawful-behind part (onward follows) known h (onward-lawful follows k)
 
-pub followed-lawful : {A B : Type 0} → (part : Part A) (follows : Left → A → Part B) → Lawful part → LawfulOn follows → Lawful (followed part follows)
+pub followed-lawful : {A B : Type 0} → (part : Part A) (follows : Left → A → Part B) → Lawful part → LawfulOn follows → Lawful (part_then part follows)
 followed-lawful part follows h k = lawful-both part (onward follows) h (onward-lawful follows k)
 
-pub settled-lawful : {A : Type 0} → (answers : StopAnswers A) (part : Part A) → Lawful part → Lawful (settled answers part)
+pub settled-lawful : {A : Type 0} → (answers : StopAnswers A) (part : Part A) → Lawful part → Lawful (as_word answers part)
 settled-lawful answers part h = lawful-both part (λ outcome. Ends (answer_of answers outcome)) h (λ outcome known. (refl, tt))
 
 pub rounds-lawful : {A : Type 0} → (round : (Left → Part A) → Left → Part A) → ((next : Left → Part A) → LawfulNext next → LawfulNext (round next)) → (many : ℕ) → LawfulNext (rounds round many)
@@ -111,9 +112,9 @@ unfolding rounds
 rounds-lawful round h zero left = h (λ now. stops now OutOfTries) (λ now known. (refl, tt)) left
 rounds-lawful round h (suc many) left = h (rounds round many) (rounds-lawful round h many) left
 
--- ---- blocks that were listed
+-- ---- blocks that were rows_of_kind
 
-pub listed-block : (rows : List Row) (cidr : CidrValue) → find (is_block_at cidr) (filter (λ row. is_of_kind kind.Block (row_key row)) rows) ≡ row_of (key.Block cidr) rows
+pub listed-block : (rows : List StoredRecord) (cidr : CidrValue) → find (is_block_at cidr) (filter (λ row. is_of_kind kind.Block (row_key row)) rows) ≡ row_of (key.Block cidr) rows
 listed-block [] cidr = refl
 listed-block ((revision, record_of.Block b) ∷ rows) cidr = ap (λ o. cond (is_same_cidr b.cidr cidr) (Some (revision, record_of.Block b)) o) (listed-block rows cidr)
 listed-block ((revision, record_of.Config config) ∷ rows) cidr = listed-block rows cidr
@@ -137,7 +138,7 @@ pools-known-grow known other said grows h pool there = known-pool-grows known ot
 pub pools-read : (known : Known) (store : Datastore) → ArePoolsKnown (more known store store) (reply_to_get (row_of key.Pools store.rows))
 pools-read known store = from (row_of key.Pools store.rows) refl
   where
-    from : (o : Option Row) → row_of key.Pools store.rows ≡ o → ArePoolsKnown (more known store store) (reply_to_get o)
+    from : (o : Option StoredRecord) → row_of key.Pools store.rows ≡ o → ArePoolsKnown (more known store store) (reply_to_get o)
     from None e pool there = absurd (in-nothing pool there)
     from (Some (revision, record_of.Pools pools)) e pool there = (revision, pools, inr (inl e), there)
     from (Some (revision, record_of.Config config)) e pool there = absurd (in-nothing pool there)
@@ -146,16 +147,16 @@ pools-read known store = from (row_of key.Pools store.rows) refl
     from (Some (revision, record_of.Affinity a)) e pool there = absurd (in-nothing pool there)
     from (Some (revision, record_of.Handle h)) e pool there = absurd (in-nothing pool there)
 
-found-known : (known : Known) (store : Datastore) (cidr : CidrValue) (o : Option Row) → row_of (key.Block cidr) store.rows ≡ o → IsKnownBlock (more known store store) cidr (block_in_found o)
+found-known : (known : Known) (store : Datastore) (cidr : CidrValue) (o : Option StoredRecord) → row_of (key.Block cidr) store.rows ≡ o → IsKnownBlock (more known store store) cidr (block_in_found o)
 found-known known store cidr None e = tt
 found-known known store cidr (Some row) e =
     let (b, is, same) = found-block cidr row.1 (row_key-row_of (key.Block cidr) store.rows row e) in
     let there : HasAt store (key.Block cidr) row.0 (record_of.Block b) = e ∙ ap (λ (x : Record). Some (row.0, x)) is in
     subst (λ (x : Record). IsKnownBlock (more known store store) cidr (block_in_found (Some (row.0, x)))) (sym is) (same, inr (inl there))
 
-listed-known : (known : Known) (store : Datastore) (cidr : CidrValue) → IsKnownBlock (more known store store) cidr (block_in_found (find (is_block_at cidr) (rows_said (Listed (listed kind.Block store)))))
+listed-known : (known : Known) (store : Datastore) (cidr : CidrValue) → IsKnownBlock (more known store store) cidr (block_in_found (find (is_block_at cidr) (rows_said (Listed (rows_of_kind kind.Block store)))))
 listed-known known store cidr =
-    subst (λ (o : Option Row). IsKnownBlock (more known store store) cidr (block_in_found o)) (sym (listed-block store.rows cidr))
+    subst (λ (o : Option StoredRecord). IsKnownBlock (more known store store) cidr (block_in_found o)) (sym (listed-block store.rows cidr))
     (found-known known store cidr (row_of (key.Block cidr) store.rows) refl)
 
 -- the word of a round behind each of its reads
@@ -193,7 +194,7 @@ steps_4 family follows k c p r f config pools reservations affinities known h =
     })))
   where
     seen_there : Datastore → Seen
-    seen_there store = seen_by_replies config pools reservations affinities (Listed (listed kind.Block store))
+    seen_there store = seen_by_replies config pools reservations affinities (Listed (rows_of_kind kind.Block store))
 
     turn : (b : ℕ) (store : Datastore) → Keeps (more known store store) (follows (record { family = family; c = c; p = p; r = r; f = f; b = b }) (seen_there store)) → Step known store store idle (label_to still (follows (record { family = family; c = c; p = p; r = r; f = f; b = b }) (seen_there store))) × Steps still (more known store store) (follows (record { family = family; c = c; p = p; r = r; f = f; b = b }) (seen_there store))
     turn b store h = (Idles refl h.0, h.1)
@@ -292,7 +293,7 @@ rank_of_block-known known asked seen slot found name at (Some ordinal) free rank
     by (is_node asked.node found.1.node) refl (list_any (is_confirmed_for asked.node found.1.cidr) seen.affinities) (is_unowned_and_empty found.1 && may_claim asked seen) refl seen.config.strict e
   where
     queued : IsQueued known slot found ordinal
-    queued = (h, (in-find (λ o. not (is_reserved seen (address_of found.1.cidr o))) ordinal found.1.queue free).0)
+    queued = (h, (in-find (λ o. not (is_reserved seen (ordinal_address found.1.cidr o))) ordinal found.1.queue free).0)
 
     is : (other : Rank) → IsKnownRank known asked.node slot other → Some other ≡ Some rank → IsKnownRank known asked.node slot rank
     is other k f = let same : other ≡ rank = cc f in subst (λ (x : Rank). IsKnownRank known asked.node slot x) same k

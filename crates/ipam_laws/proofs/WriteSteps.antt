@@ -4,7 +4,7 @@ use Rattle.std.specs.List.{count_by}
 use Rattle.ipam_addr.specs.Shape.{CidrValue}
 use Rattle.ipam_block.specs.declared.allocation.Attributes.{Attributes}
 use Rattle.ipam_block.specs.Shape as block
-use Rattle.ipam_block.specs.Operations.{next_block, fresh_block, affine_to, assigned, freed}
+use Rattle.ipam_block.specs.Operations.{next_block, fresh_block, affine_to, block_with_ordinal, block_without}
 use Rattle.ipam_affinity.specs.declared.record.Affinity.{Affinity}
 use Rattle.ipam_affinity.specs.declared.state.State.{State}
 use Rattle.ipam_affinity.specs.declared.state.State.TheVariants.{Pending, Confirmed, PendingDeletion}
@@ -33,7 +33,7 @@ use Rattle.ipam_model.specs.Counting.{lower, Freeing, free, free_once, free_foun
 use Rattle.ipam_model.specs.Reads.{affinity_said, block_said}
 use Rattle.ipam_model.specs.declared.part.Left.{Left}
 use Rattle.ipam_model.specs.declared.part.Stop.TheVariants.{OutOfTries, NoRoom, NoRevisions}
-use Rattle.ipam_model.specs.Step.{left_of, Part, goes, stops, followed, tries, retried}
+use Rattle.ipam_model.specs.Step.{left_of, Part, goes, stops, part_then, tries, with_retries}
 use Rattle.ipam_laws.proofs.Lift.{Known, more, Agrees, label_to}
 use Rattle.ipam_laws.proofs.StoreSteps.{can-next}
 use Rattle.ipam_laws.proofs.Calls.{found-key, found-block, create-can, update-can, delete-can, can-put, can-remove, get-meets, write-meets, write-meets-at}
@@ -268,7 +268,7 @@ unfolding tries
 release_tries-steps tie zero claims known = release_once-steps known tie (stops (left_of zero claims) OutOfTries) (left_of zero claims) (λ other. tt, refl)
 release_tries-steps tie (suc races) claims known = release_once-steps known tie (tries (affinities.release_once tie) races claims) (left_of (suc races) claims) (λ other. release_tries-steps tie races claims other, release_tries-label tie races claims)
 
-pub release-steps : (tie : Tie) (left : Left) (known : Known) → (label_to still (retried (affinities.release_once tie) left) ≡ idle) × Steps still known (retried (affinities.release_once tie) left)
+pub release-steps : (tie : Tie) (left : Left) (known : Known) → (label_to still (with_retries (affinities.release_once tie) left) ≡ idle) × Steps still known (with_retries (affinities.release_once tie) left)
 release-steps tie left known = (release_tries-label tie left.races left.claims, release_tries-steps tie left.races left.claims known)
 
 -- ---- freeing
@@ -278,9 +278,9 @@ free_these-steps : (known : Known) (what : Freeing) (again : Part ℕ) (left : L
 free_these-steps known what again left zero found own e h a = (refl, tt)
 free_these-steps known what again left (suc amount) (revision, b) own e h a =
     let credit = credit_of what.handle what.block (suc amount) in
-    let new = freed what.picks (next_block b) in (
+    let new = block_without what.picks (next_block b) in (
       refl,
-      write-meets Step step-grows still Any known idle (call.Update (record_of.Block new) revision) (λ taken. followed (lower credit left) (λ now done. goes now (suc amount))) again (stops left NoRoom) (stops left NoRevisions) any-lasts
+      write-meets Step step-grows still Any known idle (call.Update (record_of.Block new) revision) (λ taken. part_then (lower credit left) (λ now done. goes now (suc amount))) again (stops left NoRoom) (stops left NoRevisions) any-lasts
           (λ store agrees r f.
           let there = update-as_read known store what.block (revision, b) new r refl agrees h f in
           Frees what amount revision b (can-put store (record_of.Block new) (call.Update (record_of.Block new) revision) r f) refl (lowered-steps credit left (suc amount) known).0 there.1 h.0 own e)
@@ -328,7 +328,7 @@ assign_lost-steps attributes target (suc races) claims known =
 pub assign_block-steps : (known : Known) (attributes : Attributes) (target : Target) (left : Left) → known (key.Block target.block.cidr) target.revision (record_of.Block target.block) → AreAttributes attributes → IsFree known target → Steps still known (assign_block attributes target left)
 assign_block-steps known attributes target left k sound free =
     let credit = credit_of attributes.handle target.block.cidr 1 in
-    let new = assigned (next_block target.block) target.ordinal attributes in
+    let new = block_with_ordinal (next_block target.block) target.ordinal attributes in
     let (label, lost) = assign_lost-steps attributes target left.races left.claims known in
     write-meets-at Step step-grows still Any known (owing credit) (call.Update (record_of.Block new) target.revision) (λ moment taken. goes left (Some (record { moment = moment; stamp = target.block.sequence + 1 }))) (assign_lost attributes target left) (stops left NoRoom) (stops left NoRevisions) any-lasts
     (λ moment store agrees r f.

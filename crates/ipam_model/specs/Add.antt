@@ -2,7 +2,7 @@
 use Rattle.std.specs.Prelude.{ℕ, ◌-◌, Bool, true, false, List, [], ◌∷◌, ◌++◌, Option, Some, None, map, unwrap_or, slice_get, if◌then◌else◌}
 use Rattle.ipam_addr.specs.declared.address.Family.{Family}
 use Rattle.ipam_addr.specs.Shape.{CidrValue}
-use Rattle.ipam_block.specs.Operations.{address_of}
+use Rattle.ipam_block.specs.Operations.{ordinal_address}
 use Rattle.ipam_records.specs.declared.key.Key.TheVariants as key
 use Rattle.ipam_records.specs.declared.key.Kind.TheVariants as kind
 use Rattle.ipam_records.specs.declared.call.Call.TheVariants.{Get, List as ListAll}
@@ -27,7 +27,7 @@ use Rattle.ipam_model.specs.declared.part.Stop.{Stop}
 use Rattle.ipam_model.specs.declared.part.Outcome.{Outcome}
 use Rattle.ipam_model.specs.declared.part.Stop.TheVariants.{OutOfTries, OutOfClaims, NoRoom, CountAtLimit, NoRevisions}
 use Rattle.ipam_model.specs.declared.part.Outcome.TheVariants.{Went, Stops}
-use Rattle.ipam_model.specs.Step.{all_left, Part, StopAnswers, stop_answer, goes, stops, followed, in_rounds, settled}
+use Rattle.ipam_model.specs.Step.{all_left, Part, StopAnswers, stop_answer, goes, stops, part_then, in_rounds, as_word}
 use Rattle.ipam_model.specs.Usable.{Asked, families_if}
 
 -- The configuration, the pools and the reservations are read, and the affinities and the blocks are
@@ -66,7 +66,7 @@ NextRound = Left → Part Served
 abbrev pub gift_of : Scan → Target → Assigned → Gift
 gift_of scan target done = record {
   given = record {
-    address = address_of target.block.cidr target.ordinal;
+    address = ordinal_address target.block.cidr target.ordinal;
     c = scan.c;
     p = scan.p;
     r = scan.r;
@@ -90,14 +90,14 @@ after_assign round target left None = round.next left
 
 abbrev pub take_in : Round → Left → Target → Part Served
 take_in round left target =
-    followed (assign round.request.attributes target left) (after_assign round target)
+    part_then (assign round.request.attributes target left) (after_assign round target)
 
 abbrev pub name_at : List (List ℕ) → ℕ → List ℕ
 name_at names place = unwrap_or (slice_get names place) []
 
 abbrev pub claim_in : Round → Left → CidrValue → BlockRead → Part Served
 claim_in round left slot read =
-    followed (claim_for round.request.node slot read left) (λ now done. round.next now)
+    part_then (claim_for round.request.node slot read left) (λ now done. round.next now)
 
 -- what is done at a slot
 abbrev pub follow_rank : Round → Left → CidrValue → Rank → Part Served
@@ -141,7 +141,7 @@ free_gift request gift left =
 abbrev pub refuse : AddRequest → List Gift → AddAnswer → Left → Part AddAnswer
 refuse request [] answer left = goes left answer
 refuse request (gift ∷ gifts) answer left =
-    followed (free_gift request gift left) (λ now amount. refuse request gifts answer now)
+    part_then (free_gift request gift left) (λ now amount. refuse request gifts answer now)
 
 -- whether what was given is freed before the request ends so
 abbrev pub is_refusal : Stop → Bool
@@ -172,4 +172,4 @@ add_each request gifts (family ∷ families) left =
 -- freed.
 abbrev pub add_word : AddRequest → Word AddAnswer
 add_word request =
-    settled add_stops (add_each request [] (families_if request.ipv4 request.ipv6) all_left)
+    as_word add_stops (add_each request [] (families_if request.ipv4 request.ipv6) all_left)

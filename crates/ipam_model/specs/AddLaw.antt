@@ -6,7 +6,7 @@ use Rattle.ipam_addr.specs.Holding.{Holds}
 use Rattle.ipam_addr.specs.Shape.{AddrValue, CidrValue}
 use Rattle.ipam_pool.specs.Slots.{IsSlotOf}
 use Rattle.ipam_block.specs.Shape as block
-use Rattle.ipam_block.specs.Operations.{address_of, holder}
+use Rattle.ipam_block.specs.Operations.{ordinal_address, holder}
 use Rattle.ipam_block.specs.declared.allocation.Allocation.{Allocation}
 use Rattle.ipam_block.specs.declared.allocation.Attributes.{Attributes}
 use Rattle.ipam_records.specs.declared.call.Call.TheVariants.{Get}
@@ -29,7 +29,7 @@ use Rattle.ipam_model.specs.Answered.{Answered, span_of}
 use Rattle.ipam_model.specs.AddThis.{asked_of_this}
 use Rattle.ipam_model.specs.Assigning.{names_for}
 use Rattle.ipam_model.specs.Choice.{Seen, IsChoice, Takes, Leaves, share_of}
-use Rattle.ipam_model.specs.History.{Span, seen_at, seen_now, InSpan, Heard}
+use Rattle.ipam_model.specs.History.{Span, seen_at, seen_now, InSpan, HeardCall}
 use Rattle.ipam_model.specs.Credits.{HasWritten}
 use Rattle.ipam_model.specs.Moments.{IsNext, Owns, Gains, GainedInSpan}
 use Rattle.ipam_model.specs.Owners.{Owner, owned_in}
@@ -62,7 +62,7 @@ pub record IsRecordedAt (span : Span) (moment : ℕ) (taking : Taking) : Type 0 
   pub with_attributes : allocation.attributes ≡ taking.attributes
   pub with_stamp : allocation.stamp ≡ written.sequence
   pub gains : Gains (seen_at span moment) (seen_at span (moment + 1)) (record {
-    address = address_of taking.read.1.cidr taking.ordinal;
+    address = ordinal_address taking.read.1.cidr taking.ordinal;
     handle = taking.attributes.handle;
     stamp = written.sequence;
   })
@@ -119,7 +119,7 @@ pub record IsGivenRight (a : Answered) (request : AddRequest) (family : Family) 
   pub cidr : CidrValue
   pub ordinal : ℕ
   pub chosen : HasChosenOf (span_of a) request (scan_of family given) cidr ordinal
-  pub is_address : given.address ≡ address_of cidr ordinal
+  pub is_address : given.address ≡ ordinal_address cidr ordinal
   pub read : ℕ × block.BlockValue
   pub was_listed : row_of (key.Block cidr) (seen_at (span_of a) given.b).rows ≡ Some (read.0, record_of.Block read.1)
   pub later : given.b < given.w
@@ -168,9 +168,9 @@ pub record HasLooked (span : Span) (request : AddRequest) (address : AddrValue) 
   pub block : Said
   pub pool : Pool
   pub cidr : CidrValue
-  pub at_c : Heard span at.c (Get key.Config) config
-  pub at_p : Heard span at.p (Get key.Pools) pools
-  pub at_b : Heard span at.b (Get (key.Block cidr)) block
+  pub at_c : HeardCall span at.c (Get key.Config) config
+  pub at_p : HeardCall span at.p (Get key.Pools) pools
+  pub at_b : HeardCall span at.b (Get (key.Block cidr)) block
   pub then_p : IsNext span at.c at.p
   pub then_b : IsNext span at.p at.b
   pub is_usable : usable_pool_of (asked_of_this request address) address (pools_said pools) ≡ Some pool
@@ -183,7 +183,7 @@ pub record HasFound (a : Answered) (request : AddRequest) (address : AddrValue) 
   pub read : ℕ × block.BlockValue
   pub was_read : block_said looked.block ≡ Some read
   pub ordinal : ℕ
-  pub is_ordinal : address ≡ address_of looked.cidr ordinal
+  pub is_ordinal : address ≡ ordinal_address looked.cidr ordinal
 
 abbrev pub looks_of : GivenThis → Looks
 looks_of given = record { c = given.c; p = given.p; b = given.b }
@@ -199,7 +199,7 @@ pub record IsThisGivenRight (a : Answered) (request : AddRequest) (address : Add
 -- no usable pool holds the address
 pub record IsNotInPool (a : Answered) (request : AddRequest) (address : AddrValue) (moment : ℕ) : Type 0 where
   pub pools : Said
-  pub at_p : Heard (span_of a) moment (Get key.Pools) pools
+  pub at_p : HeardCall (span_of a) moment (Get key.Pools) pools
   pub unusable : usable_pool_of (asked_of_this request address) address (pools_said pools) ≡ None
 
 -- the handle of this id holds the address

@@ -21,7 +21,7 @@ use Rattle.ipam_model.specs.Assigning.{names_for, target_in, assign, claim_for}
 use Rattle.ipam_model.specs.Choice.{by_share, share_of}
 use Rattle.ipam_model.specs.Reads.{config_said, pools_said, block_said}
 use Rattle.ipam_model.specs.declared.part.Left.{Left}
-use Rattle.ipam_model.specs.Step.{all_left, Part, StopAnswers, goes, followed, in_rounds, settled}
+use Rattle.ipam_model.specs.Step.{all_left, Part, StopAnswers, goes, part_then, in_rounds, as_word}
 use Rattle.ipam_model.specs.Usable.{Asked, usable_pool_of}
 
 abbrev pub asked_of_this : AddRequest → AddrValue → Asked
@@ -68,13 +68,13 @@ this_assigned wanted next looked left None = next left
 
 abbrev pub this_take : Wanted → NextRound → Left → Looked → ℕ × block.BlockValue → Part AddThisAnswer
 this_take wanted next left looked found =
-    followed
+    part_then
     (assign wanted.request.attributes (target_in found (wanted.address.number - looked.cidr.base)) left)
     (this_assigned wanted next looked)
 
 abbrev pub this_claim : Wanted → NextRound → Left → Looked → BlockRead → Part AddThisAnswer
 this_claim wanted next left looked read =
-    followed (claim_for wanted.request.node looked.cidr read left) (λ now done. next now)
+    part_then (claim_for wanted.request.node looked.cidr read left) (λ now done. next now)
 
 -- the free address of a block is taken, or the block is claimed first
 abbrev pub this_free : Wanted → NextRound → Left → Looked → ℕ × block.BlockValue → Part AddThisAnswer
@@ -125,4 +125,4 @@ add_this_stops = record {
 -- The address that is wanted. Reservations are not read.
 abbrev pub add_this_word : AddRequest → AddrValue → Word AddThisAnswer
 add_this_word request address =
-    settled add_this_stops (in_rounds (this_round (record { request = request; address = address })) all_left)
+    as_word add_this_stops (in_rounds (this_round (record { request = request; address = address })) all_left)

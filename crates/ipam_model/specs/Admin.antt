@@ -21,7 +21,7 @@ use Rattle.ipam_model.specs.declared.request.Admin.{Admin}
 use Rattle.ipam_model.specs.declared.request.Admin.TheVariants as change
 use Rattle.ipam_model.specs.Reads.{pools_said, reservations_said}
 use Rattle.ipam_model.specs.declared.part.Left.{Left}
-use Rattle.ipam_model.specs.Step.{all_left, Part, StopAnswers, goes, write_back, on_write, retried, without_count, settled}
+use Rattle.ipam_model.specs.Step.{all_left, Part, StopAnswers, goes, write_back, on_write, with_retries, without_count, as_word}
 use Rattle.ipam_model.specs.Usable.{is_same_cidr}
 
 -- what a change makes of the record, or the number of the refusal and the name that it is about
@@ -97,12 +97,12 @@ key_changed (change.Unreserve name) = key.Reservations
 key_changed (change.Config config) = key.Config
 
 -- what the change makes of what was read
-abbrev pub changed : Admin → Said → Changed
-changed (change.Pool pool) said = pool_changed (pools_said said) pool
-changed (change.Disable name disabled) said = disable_changed (pools_said said) name disabled
-changed (change.Reserve reservation) said = reserve_changed (reservations_said said) reservation
-changed (change.Unreserve name) said = unreserve_changed (reservations_said said) name
-changed (change.Config config) said = Becomes (record_of.Config config)
+abbrev pub admin_change : Admin → Said → Changed
+admin_change (change.Pool pool) said = pool_changed (pools_said said) pool
+admin_change (change.Disable name disabled) said = disable_changed (pools_said said) name disabled
+admin_change (change.Reserve reservation) said = reserve_changed (reservations_said said) reservation
+admin_change (change.Unreserve name) said = unreserve_changed (reservations_said said) name
+admin_change (change.Config config) said = Becomes (record_of.Config config)
 
 abbrev pub admin_write : (again : Part AdminAnswer) → Left → Said → Changed → Part AdminAnswer
 admin_write again left said (Becomes new) =
@@ -112,11 +112,11 @@ admin_write again left said (Refuses number name) = goes left (admin.Refused num
 
 abbrev pub admin_once : Admin → (again : Part AdminAnswer) → Left → Part AdminAnswer
 admin_once request again left =
-    Asks idle (Get (key_changed request)) (λ moment said. admin_write again left said (changed request said))
+    Asks idle (Get (key_changed request)) (λ moment said. admin_write again left said (admin_change request said))
 
 abbrev pub admin_stops : StopAnswers AdminAnswer
 admin_stops = without_count admin.Again admin.Full admin.Spent
 
--- The record is read, changed and written, even if the change makes no difference.
+-- The record is read, admin_change and written, even if the change makes no difference.
 abbrev pub admin_word : Admin → Word AdminAnswer
-admin_word request = settled admin_stops (retried (admin_once request) all_left)
+admin_word request = as_word admin_stops (with_retries (admin_once request) all_left)

@@ -17,10 +17,10 @@ use Rattle.ipam_model.specs.declared.outcome.ClaimAnswer.{ClaimAnswer}
 use Rattle.ipam_model.specs.declared.outcome.ClaimAnswer.TheVariants as claimed
 use Rattle.ipam_model.specs.declared.outcome.ReleaseAnswer.{ReleaseAnswer}
 use Rattle.ipam_model.specs.declared.outcome.ReleaseAnswer.TheVariants as released
-use Rattle.ipam_model.specs.Choice.{is_node}
 use Rattle.ipam_model.specs.Reads.{affinity_said, block_said}
 use Rattle.ipam_model.specs.declared.part.Left.{Left}
-use Rattle.ipam_model.specs.Step.{all_left, Part, StopAnswers, goes, after_write, on_write, retried, without_count, settled}
+use Rattle.ipam_model.specs.Step.{all_left, Part, StopAnswers, goes, after_write, on_write, with_retries, without_count, as_word}
+use Rattle.ipam_records.specs.BlockLists.{is_node}
 
 abbrev pub affinity : List ℕ → CidrValue → State → Affinity
 affinity node cidr state = record { node = node; cidr = cidr; state = state }
@@ -132,4 +132,4 @@ release_stops = without_count released.Again released.Full released.Spent
 -- The affinity of the node to the block is released.
 abbrev pub release : List ℕ → CidrValue → Word ReleaseAnswer
 release node cidr =
-    settled release_stops (retried (release_once (record { node = node; block = cidr })) all_left)
+    as_word release_stops (with_retries (release_once (record { node = node; block = cidr })) all_left)

@@ -1,11 +1,11 @@
--- What both kinds of ADD do once they have chosen: an address is assigned, or a block is claimed.
+-- What both kinds of ADD do once they have chosen: an address is block_with_ordinal, or a block is claimed.
 use Rattle.std.specs.Prelude.{ℕ, zero, suc, ◌+◌, List, Option, Some, None}
 use Rattle.ipam_addr.specs.declared.address.Family.{Family}
 use Rattle.ipam_addr.specs.declared.address.Family.TheVariants.{V4, V6}
 use Rattle.ipam_addr.specs.Shape.{CidrValue}
 use Rattle.ipam_block.specs.declared.allocation.Attributes.{Attributes}
 use Rattle.ipam_block.specs.Shape as block
-use Rattle.ipam_block.specs.Operations.{next_block, assigned}
+use Rattle.ipam_block.specs.Operations.{next_block, block_with_ordinal}
 use Rattle.ipam_records.specs.declared.call.Call.TheVariants.{Update}
 use Rattle.ipam_records.specs.declared.record.Record.TheVariants as record_of
 use Rattle.ipam_records.specs.Label.{owing}
@@ -18,14 +18,14 @@ use Rattle.ipam_model.specs.Affinities.{BlockRead, claim}
 use Rattle.ipam_model.specs.Counting.{credit_of, raise, lower}
 use Rattle.ipam_model.specs.declared.part.Left.{Left}
 use Rattle.ipam_model.specs.declared.part.Stop.TheVariants.{OutOfClaims, NoRoom, NoRevisions}
-use Rattle.ipam_model.specs.Step.{left_of, Part, goes, stops, followed, after_lost, on_write}
+use Rattle.ipam_model.specs.Step.{left_of, Part, goes, stops, part_then, after_lost, on_write}
 
 -- the pools of the family that the request names
 abbrev pub names_for : Family → AddRequest → List (List ℕ)
 names_for V4 request = request.pools4
 names_for V6 request = request.pools6
 
--- ---- an address is assigned
+-- ---- an address is block_with_ordinal
 
 -- an ordinal of a block as it was read, with its revision
 pub record Target : Type 0 where
@@ -40,22 +40,22 @@ target_in found ordinal = record { revision = found.0; block = found.1; ordinal 
 abbrev pub assign_lost : Attributes → Target → Left → Part (Option Assigned)
 assign_lost attributes target left =
     after_lost left.races left.claims (λ less.
-    followed (lower (credit_of attributes.handle target.block.cidr 1) less) (λ now done. goes now None))
+    part_then (lower (credit_of attributes.handle target.block.cidr 1) less) (λ now done. goes now None))
 
 -- the block as it was read, with the ordinal held by the handle
 abbrev pub assign_block : Attributes → Target → Left → Part (Option Assigned)
 assign_block attributes target left =
     Asks (owing (credit_of attributes.handle target.block.cidr 1))
-    (Update (record_of.Block (assigned (next_block target.block) target.ordinal attributes)) target.revision)
+    (Update (record_of.Block (block_with_ordinal (next_block target.block) target.ordinal attributes)) target.revision)
     (λ moment said. on_write said left
     (λ taken. goes left (Some (record { moment = moment; stamp = target.block.sequence + 1 })))
     (assign_lost attributes target left))
 
 -- The count is raised and the block written at the revision at which it was read. Where that is
--- lost, nothing is assigned.
+-- lost, nothing is block_with_ordinal.
 abbrev pub assign : Attributes → Target → Left → Part (Option Assigned)
 assign attributes target left =
-    followed (raise attributes.handle target.block.cidr left) (λ now done. assign_block attributes target now)
+    part_then (raise attributes.handle target.block.cidr left) (λ now done. assign_block attributes target now)
 
 -- ---- a block is claimed
 

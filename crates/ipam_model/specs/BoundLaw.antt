@@ -8,7 +8,7 @@ use Rattle.ipam_records.specs.declared.key.Kind.TheVariants as kind
 use Rattle.ipam_records.specs.Bound.{AtMost}
 use Rattle.ipam_records.specs.Datastore.{reply_of}
 use Rattle.ipam_records.specs.Said.{Said}
-use Rattle.ipam_records.specs.Word.{heard, fed}
+use Rattle.ipam_records.specs.Word.{after_reply, after_feed}
 use Rattle.ipam_model.specs.declared.entry.Called.{Called}
 use Rattle.ipam_model.specs.declared.entry.Entry.{Entry}
 use Rattle.ipam_model.specs.declared.entry.Entry.TheVariants as entry
@@ -20,7 +20,7 @@ use Rattle.ipam_model.specs.declared.request.Request.{Request}
 use Rattle.ipam_model.specs.declared.request.Request.TheVariants.{Add, AddThis, Del, Check, Release, Collect, Admin as Change, Probe}
 use Rattle.ipam_model.specs.Cluster.{Running}
 use Rattle.ipam_model.specs.History.{Base, Lawful, cluster_at, store_at, begins, slot_of_entry}
-use Rattle.ipam_model.specs.Reads.{Row, handle_said, rows_said}
+use Rattle.ipam_model.specs.Reads.{StoredRecord, handle_said, rows_said}
 use Rattle.ipam_model.specs.Remove.{Leak, suspects, leaks}
 use Rattle.ipam_model.specs.Requests.{word_of}
 use Rattle.ipam_model.specs.Tries.{calls_of}
@@ -30,7 +30,7 @@ pub record BoundLaw : Type 0 where
   pub add : (request : AddRequest) → AtMost (word_of (Add request)) 2000
   pub add_this : (request : AddRequest) (address : AddrValue) → AtMost (word_of (AddThis request address)) 2000
   -- after the read of the handle, by the blocks that it has there
-  pub del : (id : List ℕ) (moment : ℕ) (said : Said) → AtMost (heard (word_of (Del id)) moment said) (199 + 4 * length (handle_said id said).counts)
+  pub del : (id : List ℕ) (moment : ℕ) (said : Said) → AtMost (after_reply (word_of (Del id)) moment said) (199 + 4 * length (handle_said id said).counts)
   pub check : (id : List ℕ) (addresses : List AddrValue) → AtMost (word_of (Check id addresses)) (1 + length addresses)
   pub release : (node : List ℕ) (cidr : CidrValue) → AtMost (word_of (Release node cidr)) 400
   pub admin : (request : Admin) → AtMost (word_of (Change request)) 200
@@ -40,7 +40,7 @@ pub record BoundLaw : Type 0 where
 abbrev pub CollectBoundLaw : Type 0
 CollectBoundLaw =
     (request : CollectRequest) (b1 b2 : ℕ) (first second : Said) (live : List (List ℕ))
-    → AtMost (heard (fed (heard (word_of (Collect request)) b1 first) live) b2 second)
+    → AtMost (after_reply (after_feed (after_reply (word_of (Collect request)) b1 first) live) b2 second)
     (198 + 4 * length (leaks (suspects request (rows_said first)) live (rows_said second)))
 
 -- ---- over histories
@@ -104,7 +104,7 @@ DelCallsLaw =
     (del : DelSpan) → Lawful del.base (whole_del del) → IsDelSpan del
     → 1 + length (calls_of del.first.slot del.later) ≤ 200 + 4 * length (counts_read del)
 
--- a collection began, listed the blocks, was fed, listed them again, and then freed what leaks
+-- a collection began, listed the blocks, was after_feed, listed them again, and then freed what leaks
 pub record CollectSpan : Type 0 where
   pub base : Base
   pub earlier : List Entry
@@ -131,7 +131,7 @@ abbrev pub whole_collect : CollectSpan → List Entry
 whole_collect c = c.later ++ entry.Called c.second ∷ before_second c
 
 -- the blocks as they are listed
-abbrev pub rows_listed : Base → List Entry → List Row
+abbrev pub rows_listed : Base → List Entry → List StoredRecord
 rows_listed base history = rows_said (reply_of (store_at base history) (ListAll kind.Block))
 
 -- what is kept at the second list, to be freed

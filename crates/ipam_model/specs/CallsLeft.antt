@@ -2,7 +2,7 @@
 use Rattle.std.specs.Prelude.{◌≡◌, ℕ, ◌+◌, ◌-◌, ◌*◌, ◌<◌, ◌⊎◌, List, length, IsTrue, Some}
 use Rattle.ipam_records.specs.declared.call.Call.{Call}
 use Rattle.ipam_records.specs.Said.{Said}
-use Rattle.ipam_records.specs.Word.{Word, Ends, Asks, Waits, asked, waits, heard, fed}
+use Rattle.ipam_records.specs.Word.{Word, Ends, Asks, Waits, next_call, waits, after_reply, after_feed}
 use Rattle.ipam_model.specs.declared.answer.Answer.{Answer}
 use Rattle.ipam_model.specs.declared.request.CollectRequest.{CollectRequest}
 use Rattle.ipam_model.specs.declared.request.Request.{Request}
@@ -26,7 +26,7 @@ pub record IsUnread (request : Request) (word : Word Answer) : Type 0 where
 
 -- so many calls are left at most of what is left of the request
 pub record CallsLeft (request : Request) (word : Word Answer) (count : ℕ) : Type 0 where
-  pub some_left : (call : Call) → asked word ≡ Some call → 0 < count
+  pub some_left : (call : Call) → next_call word ≡ Some call → 0 < count
   pub is_bound : IsUnread request word ⊎ Falls word count
 
 -- with how many a request begins: a DEL with the read of its handle, and a collection with its first list
@@ -44,15 +44,15 @@ pub record CallsLeftLaw : Type 0 where
   pub is_begun : (request : Request) → CallsLeft request (word_of request) (calls_at_first request)
   -- a call without an answer lowers the number, but for a DEL's first read
   pub is_called : (request : Request) (word : Word Answer) (count : ℕ) → CallsLeft request word count
-      → (moment : ℕ) (said : Said) (call : Call) → asked word ≡ Some call
-      → (0 < count) × (IsUnread request word ⊎ CallsLeft request (heard word moment said) (count - 1))
+      → (moment : ℕ) (said : Said) (call : Call) → next_call word ≡ Some call
+      → (0 < count) × (IsUnread request word ⊎ CallsLeft request (after_reply word moment said) (count - 1))
   -- which sets it by the blocks of the handle
   pub is_read : (id : List ℕ) (moment : ℕ) (said : Said)
-      → CallsLeft (Del id) (heard (word_of (Del id)) moment said) (199 + 4 * length (handle_said id said).counts)
+      → CallsLeft (Del id) (after_reply (word_of (Del id)) moment said) (199 + 4 * length (handle_said id said).counts)
   -- a second list of live handles sets it anew
   pub is_fed : (request : Request) (word : Word Answer) (count : ℕ) → CallsLeft request word count → IsTrue (waits word)
-      → (live : List (List ℕ)) → (more : ℕ) × CallsLeft request (fed word live) more
+      → (live : List (List ℕ)) → (more : ℕ) × CallsLeft request (after_feed word live) more
   -- by what may leak of what was listed first
   pub is_fed_first : (request : CollectRequest) (moment : ℕ) (first : Said) (live : List (List ℕ))
-      → CallsLeft (Collect request) (fed (heard (word_of (Collect request)) moment first) live)
+      → CallsLeft (Collect request) (after_feed (after_reply (word_of (Collect request)) moment first) live)
       (199 + 4 * length (suspects request (rows_said first)))

@@ -9,15 +9,16 @@ use Rattle.ipam_pool.specs.declared.pools.Pool.{Pool}
 use Rattle.ipam_reserve.specs.Shape.{ReservationValue}
 use Rattle.ipam_reserve.specs.Union.{is_in_union}
 use Rattle.ipam_block.specs.Shape as block
-use Rattle.ipam_block.specs.Operations.{address_of, room}
+use Rattle.ipam_block.specs.Operations.{ordinal_address, room}
 use Rattle.ipam_affinity.specs.declared.state.State.{State}
 use Rattle.ipam_affinity.specs.declared.state.State.TheVariants.{Confirmed}
 use Rattle.ipam_record_text.specs.declared.config.Config.{Config}
 use Rattle.ipam_records.specs.declared.record.Record.TheVariants as record_of
 use Rattle.ipam_model.specs.declared.choice.Choice.{Choice}
 use Rattle.ipam_model.specs.declared.choice.Choice.TheVariants.{Use, Claim, Borrow, Nothing, NoPool}
-use Rattle.ipam_model.specs.Reads.{Row}
+use Rattle.ipam_model.specs.Reads.{StoredRecord}
 use Rattle.ipam_model.specs.Usable.{Asked, is_same_cidr, is_usable, unknown_name}
+use Rattle.ipam_records.specs.BlockLists.{is_node}
 
 -- what was read: the configuration, the pools and the reservations, and the rows of the affinities
 -- and of the blocks
@@ -25,8 +26,8 @@ pub record Seen : Type 0 where
   pub config : Config
   pub pools : List Pool
   pub reservations : List ReservationValue
-  pub affinities : List Row
-  pub blocks : List Row
+  pub affinities : List StoredRecord
+  pub blocks : List StoredRecord
 
 -- ---- what the rows say
 
@@ -35,20 +36,20 @@ is_confirmed_state Confirmed = true
 is_confirmed_state _ = false
 
 -- whether the row is a confirmed affinity of the node for the block
-abbrev pub is_confirmed_for : List ℕ → CidrValue → Row → Bool
+abbrev pub is_confirmed_for : List ℕ → CidrValue → StoredRecord → Bool
 is_confirmed_for node cidr (revision, record_of.Affinity a) =
     bytes_eq a.node node && is_same_cidr a.cidr cidr && is_confirmed_state a.state
 is_confirmed_for node cidr _ = false
 
-abbrev pub is_block_at : CidrValue → Row → Bool
+abbrev pub is_block_at : CidrValue → StoredRecord → Bool
 is_block_at cidr (revision, record_of.Block b) = is_same_cidr b.cidr cidr
 is_block_at cidr _ = false
 
-abbrev pub block_in : Row → Option (ℕ × block.BlockValue)
+abbrev pub block_in : StoredRecord → Option (ℕ × block.BlockValue)
 block_in (revision, record_of.Block b) = Some (revision, b)
 block_in _ = None
 
-abbrev pub block_in_found : Option Row → Option (ℕ × block.BlockValue)
+abbrev pub block_in_found : Option StoredRecord → Option (ℕ × block.BlockValue)
 block_in_found None = None
 block_in_found (Some row) = block_in row
 
@@ -56,13 +57,8 @@ block_in_found (Some row) = block_in row
 abbrev pub block_at : Seen → CidrValue → Option (ℕ × block.BlockValue)
 block_at seen cidr = block_in_found (find (is_block_at cidr) seen.blocks)
 
--- whether the node is this one
-abbrev pub is_node : List ℕ → Option (List ℕ) → Bool
-is_node node None = false
-is_node node (Some other) = bytes_eq other node
-
 -- whether the row is a block of the node in the family
-abbrev pub is_block_of : Asked → Row → Bool
+abbrev pub is_block_of : Asked → StoredRecord → Bool
 is_block_of asked (revision, record_of.Block b) =
     is_node asked.node b.node && is_same_family asked.family b.cidr.family
 is_block_of asked _ = false
@@ -120,7 +116,7 @@ first_found finds (suc many) from =
 -- the address of this ordinal, where it is not reserved
 abbrev pub free_address : Seen → CidrValue → (ordinal : ℕ) → Option AddrValue
 free_address seen cidr ordinal =
-    if is_reserved seen (address_of cidr ordinal) then None else Some (address_of cidr ordinal)
+    if is_reserved seen (ordinal_address cidr ordinal) then None else Some (ordinal_address cidr ordinal)
 
 -- whether some address of the slot is not reserved
 abbrev pub has_free_address : Seen → CidrValue → Bool

@@ -6,7 +6,7 @@ use Rattle.ipam_records.specs.declared.call.Call.TheVariants as call
 use Rattle.ipam_records.specs.declared.call.Write.{Write}
 use Rattle.ipam_records.specs.Datastore.{Datastore, reply_of, write_of, written}
 use Rattle.ipam_records.specs.Said.{Said, Can}
-use Rattle.ipam_records.specs.Word.{Word, Ends, Asks, Waits, ended, fed, waits}
+use Rattle.ipam_records.specs.Word.{Word, Ends, Asks, Waits, answer_in, after_feed, waits}
 use Rattle.ipam_model.specs.declared.answer.Answer.{Answer}
 use Rattle.ipam_model.specs.declared.answer.Answer.TheVariants.{Fault}
 use Rattle.ipam_model.specs.declared.entry.CallName.{CallName}
@@ -61,10 +61,10 @@ abbrev pub record_written : Call → Said → Option Record
 record_written asked (Can revision) = new_record asked
 record_written asked _ = None
 
--- By its fate a call is done and answered, fails before it is done, or fails after. A request whose
--- call fails is answered so.
-abbrev pub called : (slot : ℕ) → Fate → Call → Said → Option Answer → Called
-called slot Well asked reply answer = record {
+-- By its fate a call is done and word_after_reply, fails before it is done, or fails after. A request whose
+-- call fails is word_after_reply so.
+abbrev pub call_made : (slot : ℕ) → Fate → Call → Said → Option Answer → Called
+call_made slot Well asked reply answer = record {
   slot = slot;
   call = name_of asked;
   fate = Well;
@@ -72,7 +72,7 @@ called slot Well asked reply answer = record {
   written = record_written asked reply;
   answer = answer;
 }
-called slot After asked reply answer = record {
+call_made slot After asked reply answer = record {
   slot = slot;
   call = name_of asked;
   fate = After;
@@ -80,7 +80,7 @@ called slot After asked reply answer = record {
   written = record_written asked reply;
   answer = Some Fault;
 }
-called slot Before asked reply answer = record {
+call_made slot Before asked reply answer = record {
   slot = slot;
   call = name_of asked;
   fate = Before;
@@ -94,7 +94,7 @@ abbrev pub call_entry : (slot : ℕ) → Fate → Datastore → (moment : ℕ) �
 call_entry slot fate store moment (Ends answer) = None
 call_entry slot fate store moment (Asks label asked next) =
     let reply = reply_of store asked in
-    Some (called slot fate asked reply (ended (next moment reply)))
+    Some (call_made slot fate asked reply (answer_in (next moment reply)))
 call_entry slot fate store moment (Waits next) = None
 
 -- ---- what an entry makes of the cluster
@@ -123,25 +123,25 @@ store_with (Some write) store = written store write
 abbrev pub store_after : Called → Datastore → Datastore
 store_after c store = store_with (write_told c.call c.reply c.written) store
 
--- what is left of the word once its call is answered
-abbrev pub answered : Datastore → (moment : ℕ) → Word Answer → Word Answer
-answered store moment (Ends answer) = Ends answer
-answered store moment (Asks label asked next) = next moment (reply_of store asked)
-answered store moment (Waits next) = Waits next
+-- what is left of the word once its call is word_after_reply
+abbrev pub word_after_reply : Datastore → (moment : ℕ) → Word Answer → Word Answer
+word_after_reply store moment (Ends answer) = Ends answer
+word_after_reply store moment (Asks label asked next) = next moment (reply_of store asked)
+word_after_reply store moment (Waits next) = Waits next
 
 -- an answer leaves the slot idle
 abbrev pub goes_on : Datastore → (moment : ℕ) → Option Answer → Option Running → Option Running
 goes_on store moment (Some answer) running = None
 goes_on store moment None None = None
 goes_on store moment None (Some running) =
-    Some (record running { word = answered store moment running.word })
+    Some (record running { word = word_after_reply store moment running.word })
 
-abbrev pub begun : Request → Option Running
-begun request = Some (record { request = request; word = word_of request })
+abbrev pub fresh_run : Request → Option Running
+fresh_run request = Some (record { request = request; word = word_of request })
 
-abbrev pub fed_with : List (List ℕ) → Option Running → Option Running
-fed_with live None = None
-fed_with live (Some running) = Some (record running { word = fed running.word live })
+abbrev pub run_after_feed : List (List ℕ) → Option Running → Option Running
+run_after_feed live None = None
+run_after_feed live (Some running) = Some (record running { word = after_feed running.word live })
 
 abbrev pub in_slot : (slot : ℕ) → Option Running → Cluster → Cluster
 in_slot slot running cluster = record {
@@ -151,8 +151,8 @@ in_slot slot running cluster = record {
 }
 
 unfoldable pub after : Cluster → Entry → Cluster
-after cluster (entry.Began slot request) = in_slot slot (begun request) cluster
-after cluster (entry.Fed slot at live) = in_slot slot (fed_with live (cluster.slots slot)) cluster
+after cluster (entry.Began slot request) = in_slot slot (fresh_run request) cluster
+after cluster (entry.Fed slot at live) = in_slot slot (run_after_feed live (cluster.slots slot)) cluster
 after cluster (entry.Stopped slot) = in_slot slot None cluster
 after cluster (entry.Called c) = record {
   store = store_after c cluster.store;

@@ -7,20 +7,20 @@ use Rattle.ipam_records.specs.declared.key.Key.{Key}
 use Rattle.ipam_records.specs.declared.key.Key.TheVariants as key
 use Rattle.ipam_records.specs.declared.key.Kind.TheVariants as kind
 use Rattle.ipam_records.specs.declared.record.Record.TheVariants as record_of
-use Rattle.ipam_records.specs.Datastore.{Datastore, most_rows, most_blocks, listed, row_key, row_of}
+use Rattle.ipam_records.specs.Datastore.{Datastore, most_rows, most_blocks, rows_of_kind, row_key, row_of}
 use Rattle.ipam_records.specs.Sound.{IsDatastore}
 use Rattle.ipam_model.specs.declared.entry.Entry.{Entry}
 use Rattle.ipam_model.specs.AffinityLaw.{AgreesWithAffinities}
 use Rattle.ipam_model.specs.CountLaw.{IsCovered}
 use Rattle.ipam_model.specs.History.{Base, Lawful, store_at}
-use Rattle.ipam_model.specs.Reads.{Row}
+use Rattle.ipam_model.specs.Reads.{StoredRecord}
 
-abbrev pub pools_in_row : Option Row → List Pool
+abbrev pub pools_in_row : Option StoredRecord → List Pool
 pools_in_row (Some (revision, record_of.Pools pools)) = pools
 pools_in_row _ = []
 
 -- the pools among the rows, none where their row is missing
-abbrev pub pools_in : List Row → List Pool
+abbrev pub pools_in : List StoredRecord → List Pool
 pools_in rows = pools_in_row (row_of key.Pools rows)
 
 -- the CIDR that a key names, where it is a block's or an affinity's
@@ -35,7 +35,7 @@ IsSlotOfSome pools cidr = (pool : Pool) × Contains pools pool × IsSlotOf pool 
 -- each block and each affinity lies at a slot of a pool, so no two blocks overlap
 abbrev pub LiesAtSlots : Datastore → Type 0
 LiesAtSlots store =
-    (row : Row) (cidr : CidrValue) → Contains store.rows row → cidr_named (row_key row) ≡ Some cidr
+    (row : StoredRecord) (cidr : CidrValue) → Contains store.rows row → cidr_named (row_key row) ≡ Some cidr
     → IsSlotOfSome (pools_in store.rows) cidr
 
 pub record IsConsistent (store : Datastore) : Type 0 where
@@ -44,12 +44,12 @@ pub record IsConsistent (store : Datastore) : Type 0 where
   pub covered : IsCovered store
   pub agrees : AgreesWithAffinities store
   pub few_rows : length store.rows ≤ most_rows
-  pub few_blocks : length (listed kind.Block store) ≤ most_blocks
+  pub few_blocks : length (rows_of_kind kind.Block store) ≤ most_blocks
 
 -- there are not too many rows, nor too many blocks
 pub record IsWithinLimits (store : Datastore) : Type 0 where
   pub few_rows : length store.rows ≤ most_rows
-  pub few_blocks : length (listed kind.Block store) ≤ most_blocks
+  pub few_blocks : length (rows_of_kind kind.Block store) ≤ most_blocks
 
 -- ---- the laws
 

@@ -14,10 +14,10 @@ use Rattle.ipam_model.specs.declared.entry.Entry.{Entry}
 use Rattle.ipam_model.specs.Cluster.{Running, Slots}
 use Rattle.ipam_model.specs.Course.{slot_count}
 use Rattle.ipam_model.specs.History.{Base, Lawful, cluster_at, store_at}
-use Rattle.ipam_model.specs.Reads.{Row}
+use Rattle.ipam_model.specs.Reads.{StoredRecord}
 use Rattle.ipam_model.specs.Usable.{is_same_cidr}
 
-abbrev pub count_in_row : List ℕ → CidrValue → Option Row → ℕ
+abbrev pub count_in_row : List ℕ → CidrValue → Option StoredRecord → ℕ
 count_in_row id cidr (Some (revision, record_of.Handle h)) = count_of h cidr
 count_in_row id cidr _ = 0
 
@@ -25,7 +25,7 @@ count_in_row id cidr _ = 0
 abbrev pub handle_count : Datastore → List ℕ → CidrValue → ℕ
 handle_count store id cidr = count_in_row id cidr (row_of (key.Handle id) store.rows)
 
-abbrev pub held_in_row : List ℕ → Option Row → ℕ
+abbrev pub held_in_row : List ℕ → Option StoredRecord → ℕ
 held_in_row id (Some (revision, record_of.Block b)) = count_by (is_owned id) b.allocations
 held_in_row id _ = 0
 

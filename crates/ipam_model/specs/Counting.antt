@@ -4,9 +4,9 @@ use Rattle.std.specs.List.{count_by}
 use Rattle.ipam_addr.specs.Shape.{CidrValue}
 use Rattle.ipam_block.specs.declared.allocation.Allocation.{Allocation}
 use Rattle.ipam_block.specs.Shape as block
-use Rattle.ipam_block.specs.Operations.{next_block, freed, is_owned, is_stamped}
+use Rattle.ipam_block.specs.Operations.{next_block, block_without, is_owned, is_stamped}
 use Rattle.ipam_handle.specs.Shape as handle
-use Rattle.ipam_handle.specs.Operations.{count_of, raised, lowered}
+use Rattle.ipam_handle.specs.Operations.{count_of, with_raised_count, with_lowered_count}
 use Rattle.ipam_records.specs.declared.key.Key.TheVariants as key
 use Rattle.ipam_records.specs.declared.call.Call.{Call}
 use Rattle.ipam_records.specs.declared.call.Call.TheVariants.{Get, Update, Delete}
@@ -17,7 +17,7 @@ use Rattle.ipam_records.specs.Word.{Asks}
 use Rattle.ipam_model.specs.Reads.{handle_said, block_said}
 use Rattle.ipam_model.specs.declared.part.Left.{Left}
 use Rattle.ipam_model.specs.declared.part.Stop.TheVariants.{CountAtLimit}
-use Rattle.ipam_model.specs.Step.{Part, goes, stops, followed, write_back, on_write, retried}
+use Rattle.ipam_model.specs.Step.{Part, goes, stops, part_then, write_back, on_write, with_retries}
 
 -- the highest count of a block in a handle
 abbrev pub most_count : ℕ
@@ -27,7 +27,7 @@ most_count = 2 ^ 32 - 1
 
 abbrev pub raise_write : (id : List ℕ) (cidr : CidrValue) → (again : Part (Unit {0})) → Left → Said → Part (Unit {0})
 raise_write id cidr again left said =
-    Asks idle (write_back said (record_of.Handle (raised (handle_said id said) cidr 1)))
+    Asks idle (write_back said (record_of.Handle (with_raised_count (handle_said id said) cidr 1)))
     (λ moment reply. on_write reply left (λ revision. goes left tt) again)
 
 abbrev pub raise_once : (id : List ℕ) (cidr : CidrValue) → (again : Part (Unit {0})) → Left → Part (Unit {0})
@@ -37,7 +37,7 @@ raise_once id cidr again left =
     else raise_write id cidr again left said)
 
 abbrev pub raise : (id : List ℕ) (cidr : CidrValue) → Left → Part (Unit {0})
-raise id cidr left = retried (raise_once id cidr) left
+raise id cidr left = with_retries (raise_once id cidr) left
 
 -- ---- lowering it by what there is a credit for
 
@@ -57,7 +57,7 @@ lowering h revision = written_or_deleted h h.counts revision
 abbrev pub lower_write : Credit → (again : Part (Unit {0})) → Left → Said → Part (Unit {0})
 lower_write credit again left said =
     Asks (owing credit)
-    (lowering (lowered (handle_said credit.handle said) credit.block credit.amount) (revision_said said))
+    (lowering (with_lowered_count (handle_said credit.handle said) credit.block credit.amount) (revision_said said))
     (λ moment reply. on_write reply left (λ revision. goes left tt) again)
 
 abbrev pub lower_once : Credit → (again : Part (Unit {0})) → Left → Part (Unit {0})
@@ -65,14 +65,14 @@ lower_once credit again left =
     Asks (owing credit) (Get (key.Handle credit.handle)) (λ moment said. lower_write credit again left said)
 
 abbrev pub lower : Credit → Left → Part (Unit {0})
-lower credit left = retried (lower_once credit) left
+lower credit left = with_retries (lower_once credit) left
 
 -- ---- freeing
 
 abbrev pub credit_of : List ℕ → CidrValue → ℕ → Credit
 credit_of id cidr amount = record { handle = id; block = cidr; amount = amount }
 
--- what is freed: the allocations of a block that are picked, which the handle of this id holds
+-- what is block_without: the allocations of a block that are picked, which the handle of this id holds
 pub record Freeing : Type 0 where
   pub handle : List ℕ
   pub block : CidrValue
@@ -86,13 +86,13 @@ freeing_all id cidr = record { handle = id; block = cidr; picks = is_owned id }
 abbrev pub freeing_one : List ℕ → CidrValue → (ordinal stamp : ℕ) → Freeing
 freeing_one id cidr ordinal stamp = record { handle = id; block = cidr; picks = is_stamped ordinal id stamp }
 
--- so many are freed: the block is written without them, and the count is lowered
+-- so many are block_without: the block is written without them, and the count is with_lowered_count
 abbrev pub free_these : Freeing → (again : Part ℕ) → Left → (amount : ℕ) → ℕ × block.BlockValue → Part ℕ
 free_these what again left zero found = goes left 0
 free_these what again left (suc more) (revision, b) =
-    Asks idle (Update (record_of.Block (freed what.picks (next_block b))) revision)
+    Asks idle (Update (record_of.Block (block_without what.picks (next_block b))) revision)
     (λ moment reply. on_write reply left
-    (λ taken. followed (lower (credit_of what.handle what.block (suc more)) left) (λ now done. goes now (suc more)))
+    (λ taken. part_then (lower (credit_of what.handle what.block (suc more)) left) (λ now done. goes now (suc more)))
     again)
 
 abbrev pub free_found : Freeing → (again : Part ℕ) → Left → Option (ℕ × block.BlockValue) → Part ℕ
@@ -104,6 +104,6 @@ abbrev pub free_once : Freeing → (again : Part ℕ) → Left → Part ℕ
 free_once what again left =
     Asks idle (Get (key.Block what.block)) (λ moment said. free_found what again left (block_said said))
 
--- It comes to how many were freed. Where there are none, nothing is written.
+-- It comes to how many were block_without. Where there are none, nothing is written.
 abbrev pub free : Freeing → Left → Part ℕ
-free what left = retried (free_once what) left
+free what left = with_retries (free_once what) left

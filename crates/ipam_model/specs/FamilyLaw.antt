@@ -2,7 +2,7 @@
 use Rattle.std.specs.Prelude.{◌≡◌, ℕ, List, [], ◌∷◌, Some}
 use Rattle.ipam_addr.specs.Shape.{CidrValue}
 use Rattle.ipam_addr.specs.declared.address.Family.{Family}
-use Rattle.ipam_block.specs.Operations.{address_of}
+use Rattle.ipam_block.specs.Operations.{ordinal_address}
 use Rattle.ipam_model.specs.declared.answer.Given.{Given}
 use Rattle.ipam_records.specs.Sound.{IsDatastore}
 use Rattle.ipam_model.specs.declared.answer.Answer.{Answer}
@@ -22,7 +22,7 @@ pub record IsFromRound (span : Span) (request : AddRequest) (family : Family) (g
   pub cidr : CidrValue
   pub ordinal : ℕ
   pub chosen : HasChosenOf span request (scan_of family given) cidr ordinal
-  pub is_address : given.address ≡ address_of cidr ordinal
+  pub is_address : given.address ≡ ordinal_address cidr ordinal
 
 -- one for each of the families, in their order
 abbrev pub AreFromRounds : Span → AddRequest → List Family → List Given → Type 0

@@ -156,7 +156,7 @@ pub record InSpan (span : Span) (moment : ℕ) (there : Entry) : Type 0 where
   pub own : slot_of_entry there ≡ span.slot
 
 -- a call of the slot's request that was answered this
-pub record Heard (span : Span) (moment : ℕ) (asked : Call) (reply : Said) : Type 0 where
+pub record HeardCall (span : Span) (moment : ℕ) (asked : Call) (reply : Said) : Type 0 where
   pub entry_of_call : Called
   pub in_span : InSpan span moment (entry.Called entry_of_call)
   pub well : entry_of_call.fate ≡ Well

@@ -1,6 +1,6 @@
 -- What the labels of a word say is what the calls before have made.
 use Rattle.std.specs.Prelude.{◌≡◌, ◌≢◌, ◌↔◌, ℕ, List, Some}
-use Rattle.ipam_records.specs.Label.{Credit, Label, Nowhere, Point}
+use Rattle.ipam_records.specs.Label.{Credit, CallLabel, Nowhere, Point}
 use Rattle.ipam_records.specs.Sound.{IsDatastore}
 use Rattle.ipam_records.specs.Word.{label_of}
 use Rattle.ipam_model.specs.declared.entry.Entry.{Entry}
@@ -10,7 +10,7 @@ use Rattle.ipam_model.specs.History.{Base, Lawful, Span, cluster_at}
 use Rattle.ipam_model.specs.Points.{StandsAt}
 
 -- the label has exactly the credit, and exactly the point, that the calls have made
-pub record IsLabelOf (span : Span) (label : Label) : Type 0 where
+pub record IsLabelOf (span : Span) (label : CallLabel) : Type 0 where
   pub credit : (credit : Credit) → (label.credit ≡ Some credit) ↔ HasCredit span credit
   pub point : (point : Point) → point ≢ Nowhere → (label.point ≡ point) ↔ StandsAt span point
 

@@ -32,7 +32,7 @@ use Rattle.ipam_model.specs.FateLaw.{IsSameCall}
 use Rattle.ipam_model.specs.History.{Base, Lawful, store_at}
 use Rattle.ipam_records.specs.Body.{body_of}
 use Rattle.ipam_model.specs.CountLaw.{handle_count, held_count}
-use Rattle.ipam_model.specs.Reads.{Row}
+use Rattle.ipam_model.specs.Reads.{StoredRecord}
 
 -- rows as texts, by ascending key, and the counter
 pub record Texts : Type 0 where
@@ -42,12 +42,12 @@ pub record Texts : Type 0 where
 abbrev pub reading_of : RowText → Result Record TextFault
 reading_of row = record_reading row.key row.body
 
-abbrev pub row_read : (revision : ℕ) → Result Record TextFault → Option Row
+abbrev pub row_read : (revision : ℕ) → Result Record TextFault → Option StoredRecord
 row_read revision (Ok found) = Some (revision, found)
 row_read revision (Err broken) = None
 
 -- the rows that can be read
-abbrev pub readable : List RowText → List Row
+abbrev pub readable : List RowText → List StoredRecord
 readable rows = filter_map (λ row. row_read row.revision (reading_of row)) rows
 
 abbrev pub read_store : Texts → Datastore
@@ -127,7 +127,7 @@ pub record OpensAs (texts : Texts) (store : Datastore) : Type 0 where
       → (row : RowText) × Contains texts.rows row × (row.revision ≡ revision) × (reading_of row ≡ Ok found)
 
 -- the texts of the datastore's rows, in the datastore's order
-abbrev pub text_of : Row → RowText
+abbrev pub text_of : StoredRecord → RowText
 text_of row = record { key = key_bytes (row_key row); body = body_of row.1; revision = row.0 }
 
 abbrev pub texts_of : Datastore → List RowText

@@ -27,12 +27,12 @@ use Rattle.ipam_model.specs.declared.entry.Told.TheVariants as told
 use Rattle.ipam_model.specs.declared.request.Admin.{Admin}
 use Rattle.ipam_model.specs.declared.request.CollectRequest.{CollectRequest}
 use Rattle.ipam_model.specs.declared.request.ProbeRequest.{ProbeRequest}
-use Rattle.ipam_model.specs.Admin.{Becomes, Refuses, changed, key_changed}
+use Rattle.ipam_model.specs.Admin.{Becomes, Refuses, admin_change, key_changed}
 use Rattle.ipam_model.specs.Affinities.{affinity}
 use Rattle.ipam_model.specs.Choice.{Seen, IsChoice}
 use Rattle.ipam_model.specs.Counting.{most_count}
 use Rattle.ipam_model.specs.Answered.{Answered, now_of, span_of}
-use Rattle.ipam_model.specs.History.{begin_moment, seen_at, seen_now, InSpan, Heard}
+use Rattle.ipam_model.specs.History.{begin_moment, seen_at, seen_now, InSpan, HeardCall}
 use Rattle.ipam_model.specs.Look.{asked_of_probe, holds_at}
 use Rattle.ipam_model.specs.Moments.{Has, Owns, LostInSpan, IsNext}
 use Rattle.ipam_model.specs.OwnerLaw.{Collecting, IsLeak}
@@ -46,7 +46,7 @@ use Rattle.ipam_model.specs.Usable.{families_if, pool_of}
 -- the handle was read at the moment, and of what it owned then it owns nothing now
 pub record IsDeleted (a : Answered) (id : List ℕ) (moment : ℕ) : Type 0 where
   pub found : Said
-  pub read : Heard (span_of a) moment (Get (key.Handle id)) found
+  pub read : HeardCall (span_of a) moment (Get (key.Handle id)) found
   pub gone : (o : Owner) → o.handle ≡ id → Owns (seen_at (span_of a) moment) o → ¬ (Owns (seen_now (span_of a)) o)
 
 -- ---- collection
@@ -72,7 +72,7 @@ pub record IsCollected (a : Answered) (request : CollectRequest) (collected : Co
 pub record HasChecked (a : Answered) (address : AddrValue) : Type 0 where
   pub p : ℕ
   pub pools : Said
-  pub read_pools : Heard (span_of a) p (Get key.Pools) pools
+  pub read_pools : HeardCall (span_of a) p (Get key.Pools) pools
   pub pool : Pool
   pub in_pool : pool_of address (pools_said pools) ≡ Some pool
   pub cidr : CidrValue
@@ -80,7 +80,7 @@ pub record HasChecked (a : Answered) (address : AddrValue) : Type 0 where
   pub holds : Holds cidr address
   pub moment : ℕ
   pub block : Said
-  pub read_block : Heard (span_of a) moment (Get (key.Block cidr)) block
+  pub read_block : HeardCall (span_of a) moment (Get (key.Block cidr)) block
 
 -- the handle held the address there
 pub record IsCheckedOf (a : Answered) (id : List ℕ) (address : AddrValue) : Type 0 where
@@ -92,7 +92,7 @@ IsChecked a id addresses = All (IsCheckedOf a id) addresses
 
 -- no pool held the address, or the handle did not hold it in the block that was read at the moment
 pub data IsNotHeld (a : Answered) (id : List ℕ) (address : AddrValue) (moment : ℕ) : Type 0 where
-  NoPoolHolds : (pools : Said) → Heard (span_of a) moment (Get key.Pools) pools → pool_of address (pools_said pools) ≡ None → IsNotHeld a id address moment
+  NoPoolHolds : (pools : Said) → HeardCall (span_of a) moment (Get key.Pools) pools → pool_of address (pools_said pools) ≡ None → IsNotHeld a id address moment
   NotHeldThere : (c : HasChecked a address) → c.moment ≡ moment → holds_at id address (block_said c.block) ≡ false → IsNotHeld a id address moment
 
 -- it is the first of the addresses that the handle did not hold
@@ -125,14 +125,14 @@ pub record IsReleased (a : Answered) (node : List ℕ) (cidr : CidrValue) : Type
   pub bare : (b : block.BlockValue) → Has (seen_now (span_of a)) (key.Block cidr) (record_of.Block b) → b.node ≢ Some node
 
 abbrev pub HasNoAffinity : Answered → List ℕ → CidrValue → (moment : ℕ) → Type 0
-HasNoAffinity a node cidr moment = Heard (span_of a) moment (Get (key.Affinity node cidr)) Missing
+HasNoAffinity a node cidr moment = HeardCall (span_of a) moment (Get (key.Affinity node cidr)) Missing
 
 -- ---- administration
 
 -- what the request read last before the call that answers is this
 pub record ReadLast (a : Answered) (request : Admin) (found : Said) : Type 0 where
   pub moment : ℕ
-  pub read : Heard (span_of a) moment (Get (key_changed request)) found
+  pub read : HeardCall (span_of a) moment (Get (key_changed request)) found
   pub then_now : IsNext (span_of a) moment (now_of a)
 
 -- the change of what was read last was written and took the revision
@@ -140,15 +140,15 @@ pub record IsDone (a : Answered) (request : Admin) (revision : ℕ) : Type 0 whe
   pub found : Said
   pub last : ReadLast a request found
   pub new : Record
-  pub becomes : changed request found ≡ Becomes new
+  pub becomes : admin_change request found ≡ Becomes new
   pub is_written : a.call.written ≡ Some new
   pub is_done : a.call.reply ≡ told.Done revision
 
 -- what the call that answers read is refused by the change
 pub record IsRefused (a : Answered) (request : Admin) (number : ℕ) (about : List ℕ) : Type 0 where
   pub found : Said
-  pub read : Heard (span_of a) (now_of a) (Get (key_changed request)) found
-  pub refuses : changed request found ≡ Refuses number about
+  pub read : HeardCall (span_of a) (now_of a) (Get (key_changed request)) found
+  pub refuses : admin_change request found ≡ Refuses number about
 
 -- ---- the probe
 
@@ -219,5 +219,5 @@ pub record IsFull (a : Answered) : Type 0 where
 -- the handle's count of the block was at its limit
 pub record IsCountFull (a : Answered) (id : List ℕ) (cidr : CidrValue) (moment : ℕ) : Type 0 where
   pub found : Said
-  pub read : Heard (span_of a) moment (Get (key.Handle id)) found
+  pub read : HeardCall (span_of a) moment (Get (key.Handle id)) found
   pub at_limit : count_of (handle_said id found) cidr ≡ most_count

@@ -17,7 +17,7 @@ use Rattle.ipam_model.specs.declared.request.CollectRequest.{CollectRequest}
 use Rattle.ipam_model.specs.declared.request.Request.{Request}
 use Rattle.ipam_model.specs.declared.request.Request.TheVariants.{Add, AddThis, Del, Collect}
 use Rattle.ipam_model.specs.Consistent.{IsConsistent}
-use Rattle.ipam_model.specs.History.{Base, Span, cluster_at, store_at, seen_at, seen_now, slot_of_entry, Lawful, InSpan, Heard}
+use Rattle.ipam_model.specs.History.{Base, Span, cluster_at, store_at, seen_at, seen_now, slot_of_entry, Lawful, InSpan, HeardCall}
 use Rattle.ipam_model.specs.Moments.{Has, request_in, Recorded, Owns, Gains, Loses, GainedInSpan}
 use Rattle.ipam_model.specs.Owners.{AreInOrder, Owner, owners}
 use Rattle.ipam_model.specs.Remove.{is_live, is_in_scope}
@@ -48,8 +48,8 @@ pub record Collecting (span : Span) (request : CollectRequest) : Type 0 where
   pub live : List (List ℕ)
   pub first : Said
   pub second : Said
-  pub first_list : Heard span b1 (ListAll kind.Block) first
-  pub second_list : Heard span b2 (ListAll kind.Block) second
+  pub first_list : HeardCall span b1 (ListAll kind.Block) first
+  pub second_list : HeardCall span b2 (ListAll kind.Block) second
   pub fed : InSpan span fed_at (entry.Fed span.slot time live)
   pub fed_behind : b1 < fed_at
   pub listed_behind : fed_at < b2

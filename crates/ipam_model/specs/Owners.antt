@@ -4,12 +4,12 @@ use Rattle.std.specs.List.{list_any, flat_map}
 use Rattle.ipam_addr.specs.Shape.{AddrValue, CidrValue}
 use Rattle.ipam_addr.specs.Holding.{is_same_family}
 use Rattle.ipam_block.specs.declared.allocation.Allocation.{Allocation}
-use Rattle.ipam_block.specs.Operations.{address_of}
+use Rattle.ipam_block.specs.Operations.{ordinal_address}
 use Rattle.ipam_handle.specs.Order.{family_rank}
 use Rattle.ipam_records.specs.declared.key.Key.TheVariants as key
 use Rattle.ipam_records.specs.declared.record.Record.TheVariants as record_of
 use Rattle.ipam_records.specs.Datastore.{Datastore, row_of}
-use Rattle.ipam_model.specs.Reads.{Row}
+use Rattle.ipam_model.specs.Reads.{StoredRecord}
 
 -- an address that is recorded to a handle, with the stamp of its assignment
 pub record Owner : Type 0 where
@@ -19,17 +19,17 @@ pub record Owner : Type 0 where
 
 abbrev pub owner_of : CidrValue → Allocation → Owner
 owner_of cidr a = record {
-  address = address_of cidr a.ordinal;
+  address = ordinal_address cidr a.ordinal;
   handle = a.attributes.handle;
   stamp = a.stamp;
 }
 
-abbrev pub owners_in_row : Row → List Owner
+abbrev pub owners_in_row : StoredRecord → List Owner
 owners_in_row (revision, record_of.Block b) = map (owner_of b.cidr) b.allocations
 owners_in_row _ = []
 
 -- the owners that the blocks among the rows record
-abbrev pub owners_in : List Row → List Owner
+abbrev pub owners_in : List StoredRecord → List Owner
 owners_in rows = flat_map owners_in_row rows
 
 -- all owners, by family and address
@@ -43,10 +43,10 @@ abbrev pub same_owner : Owner → Owner → Bool
 same_owner o p =
     same_address o.address p.address && bytes_eq o.handle p.handle && (o.stamp == p.stamp)
 
-abbrev pub is_owner_in : List Row → Owner → Bool
+abbrev pub is_owner_in : List StoredRecord → Owner → Bool
 is_owner_in rows owner = list_any (same_owner owner) (owners_in rows)
 
-abbrev pub owned_in_row : Option Row → ℕ
+abbrev pub owned_in_row : Option StoredRecord → ℕ
 owned_in_row (Some (revision, record_of.Block b)) = length b.allocations
 owned_in_row _ = 0
 

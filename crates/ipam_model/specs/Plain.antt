@@ -8,16 +8,16 @@ use Rattle.ipam_pool.specs.declared.pools.Pool.{Pool}
 use Rattle.ipam_block.specs.declared.allocation.Allocation.{Allocation}
 use Rattle.ipam_block.specs.declared.allocation.Attributes.{Attributes}
 use Rattle.ipam_block.specs.Shape as block
-use Rattle.ipam_block.specs.Operations.{address_of, fresh_block, next_block, affine_to, assigned, freed, holder}
+use Rattle.ipam_block.specs.Operations.{ordinal_address, fresh_block, next_block, affine_to, block_with_ordinal, block_without, holder}
 use Rattle.ipam_affinity.specs.declared.state.State.TheVariants.{Confirmed}
 use Rattle.ipam_handle.specs.Shape as handle
-use Rattle.ipam_handle.specs.Operations.{raised, lowered}
+use Rattle.ipam_handle.specs.Operations.{with_raised_count, with_lowered_count}
 use Rattle.ipam_records.specs.declared.key.Key.{Key}
 use Rattle.ipam_records.specs.declared.key.Key.TheVariants as key
 use Rattle.ipam_records.specs.declared.key.Kind.TheVariants as kind
 use Rattle.ipam_records.specs.declared.record.Record.{Record}
 use Rattle.ipam_records.specs.declared.record.Record.TheVariants as record_of
-use Rattle.ipam_records.specs.Datastore.{Datastore, row_key, row_of, with_row, without_row, reply_to_get, last_revision, most_rows, most_blocks, listed}
+use Rattle.ipam_records.specs.Datastore.{Datastore, row_key, row_of, with_row, without_row, reply_to_get, last_revision, most_rows, most_blocks, rows_of_kind}
 use Rattle.ipam_records.specs.KeyOrder.{is_of_kind}
 use Rattle.ipam_records.specs.Said.{Said}
 use Rattle.ipam_model.specs.declared.answer.Answer.{Answer}
@@ -42,13 +42,13 @@ use Rattle.ipam_model.specs.History.{Base}
 use Rattle.ipam_model.specs.Look.{asked_of_probe, holds_at}
 use Rattle.ipam_model.specs.OtherLaws.{owner_in}
 use Rattle.ipam_model.specs.Owners.{Owner}
-use Rattle.ipam_model.specs.Reads.{Row, config_said, pools_said, reservations_said, handle_said, block_said}
+use Rattle.ipam_model.specs.Reads.{StoredRecord, config_said, pools_said, reservations_said, handle_said, block_said}
 use Rattle.ipam_model.specs.Remove.{Leak, freeing_owner, suspects, leaks}
 use Rattle.ipam_model.specs.SoundRequest.{IsSoundRequest}
 use Rattle.ipam_model.specs.Usable.{Asked, families_if, usable_pool_of, pool_of}
 
 abbrev pub Rows : Type 0
-Rows = List Row
+Rows = List StoredRecord
 
 -- ---- changes of the records
 
@@ -58,8 +58,8 @@ put new rows = with_row (0, new) rows
 abbrev pub found_in : Key → Rows → Said
 found_in asked rows = reply_to_get (row_of asked rows)
 
-abbrev pub block_of : CidrValue → Rows → Option (ℕ × block.BlockValue)
-block_of cidr rows = block_said (found_in (key.Block cidr) rows)
+abbrev pub block_in_rows : CidrValue → Rows → Option (ℕ × block.BlockValue)
+block_in_rows cidr rows = block_said (found_in (key.Block cidr) rows)
 
 abbrev pub handle_of : List ℕ → Rows → handle.HandleValue
 handle_of id rows = handle_said id (found_in (key.Handle id) rows)
@@ -70,16 +70,16 @@ kept_or_gone h (count ∷ counts) rows = put (record_of.Handle h) rows
 
 -- the count is one higher, or lower by so many, and a handle without counts goes
 abbrev pub with_raised : List ℕ → CidrValue → Rows → Rows
-with_raised id cidr rows = put (record_of.Handle (raised (handle_of id rows) cidr 1)) rows
+with_raised id cidr rows = put (record_of.Handle (with_raised_count (handle_of id rows) cidr 1)) rows
 
 abbrev pub with_lowered : List ℕ → CidrValue → (amount : ℕ) → Rows → Rows
 with_lowered id cidr amount rows =
-    let h = lowered (handle_of id rows) cidr amount in kept_or_gone h h.counts rows
+    let h = with_lowered_count (handle_of id rows) cidr amount in kept_or_gone h h.counts rows
 
 -- the ordinal of the block is the handle's
 abbrev pub with_assigned : Attributes → block.BlockValue → (ordinal : ℕ) → Rows → Rows
 with_assigned attributes b ordinal rows =
-    put (record_of.Block (assigned (next_block b) ordinal attributes))
+    put (record_of.Block (block_with_ordinal (next_block b) ordinal attributes))
     (with_raised attributes.handle b.cidr rows)
 
 abbrev pub claimed_block : List ℕ → CidrValue → Option (ℕ × block.BlockValue) → block.BlockValue
@@ -89,13 +89,13 @@ claimed_block node cidr (Some found) = affine_to (Some node) (next_block found.1
 -- the block has the node and the affinity is confirmed
 abbrev pub with_claimed : List ℕ → CidrValue → Rows → Rows
 with_claimed node cidr rows =
-    put (record_of.Block (claimed_block node cidr (block_of cidr rows)))
+    put (record_of.Block (claimed_block node cidr (block_in_rows cidr rows)))
     (put (record_of.Affinity (affinity node cidr Confirmed)) rows)
 
 abbrev pub with_these_freed : Freeing → (amount : ℕ) → block.BlockValue → Rows → Rows
 with_these_freed what zero b rows = rows
 with_these_freed what (suc more) b rows =
-    with_lowered what.handle b.cidr (suc more) (put (record_of.Block (freed what.picks (next_block b))) rows)
+    with_lowered what.handle b.cidr (suc more) (put (record_of.Block (block_without what.picks (next_block b))) rows)
 
 abbrev pub with_freed_found : Freeing → Option (ℕ × block.BlockValue) → Rows → Rows
 with_freed_found what None rows = rows
@@ -104,7 +104,7 @@ with_freed_found what (Some found) rows =
 
 -- what is picked is free, and the handle's count is lower by as many
 abbrev pub with_freed : Freeing → Rows → Rows
-with_freed what rows = with_freed_found what (block_of what.block rows) rows
+with_freed what rows = with_freed_found what (block_in_rows what.block rows) rows
 
 -- ---- answers without moments
 
@@ -156,7 +156,7 @@ pub record PlainGift : Type 0 where
 
 abbrev pub plain_gift : ℕ × block.BlockValue → (ordinal : ℕ) → PlainGift
 plain_gift found ordinal = record {
-  address = address_of found.1.cidr ordinal;
+  address = ordinal_address found.1.cidr ordinal;
   block = found.1.cidr;
   ordinal = ordinal;
   stamp = found.1.sequence + 1;
@@ -183,7 +183,7 @@ plain_take_claimed request family _ _ rows = Unserved (Lacks family) rows
 abbrev pub plain_claim : AddRequest → Family → CidrValue → Rows → PlainServed
 plain_claim request family cidr rows =
     let claimed = with_claimed request.node cidr rows in
-    plain_take_claimed request family (room_in (seen_in claimed) (block_of cidr claimed)) (block_of cidr claimed) claimed
+    plain_take_claimed request family (room_in (seen_in claimed) (block_in_rows cidr claimed)) (block_in_rows cidr claimed) claimed
 
 abbrev pub plain_rank : AddRequest → Family → CidrValue → Rank → Rows → PlainServed
 plain_rank request family cidr (Own found ordinal) rows = plain_take request found ordinal rows
@@ -206,7 +206,7 @@ Result = PlainAnswer × Rows
 abbrev pub freeing_gift : AddRequest → PlainGift → Freeing
 freeing_gift request gift = freeing_one request.attributes.handle gift.block gift.ordinal gift.stamp
 
--- what was given is freed, and what was claimed stays claimed
+-- what was given is block_without, and what was claimed stays claimed
 abbrev pub with_gifts_freed : AddRequest → List PlainGift → Rows → Rows
 with_gifts_freed request [] rows = rows
 with_gifts_freed request (gift ∷ gifts) rows =
@@ -236,7 +236,7 @@ plain_this wanted cidr (Some found) rows =
 abbrev pub plain_this_claimed : Wanted → CidrValue → Rows → Result
 plain_this_claimed wanted cidr rows =
     let claimed = with_claimed wanted.request.node cidr rows in
-    plain_this wanted cidr (block_of cidr claimed) claimed
+    plain_this wanted cidr (block_in_rows cidr claimed) claimed
 
 abbrev pub plain_this_free : (strict : Bool) → Wanted → CidrValue → ℕ × block.BlockValue → Rows → Result
 plain_this_free strict wanted cidr found rows =
@@ -259,7 +259,7 @@ abbrev pub plain_this_pool : (strict : Bool) → Wanted → Option Pool → Rows
 plain_this_pool strict wanted None rows = (IsInNoPool, rows)
 plain_this_pool strict wanted (Some pool) rows =
     let cidr = slot_holding pool wanted.address in
-    plain_this_block strict wanted cidr (block_of cidr rows) rows
+    plain_this_block strict wanted cidr (block_in_rows cidr rows) rows
 
 abbrev pub plain_add_this : Wanted → Rows → Result
 plain_add_this wanted rows =
@@ -292,7 +292,7 @@ plain_check_next rest address false = HoldsNot address
 
 abbrev pub holds_in : List ℕ → AddrValue → Option Pool → Rows → Bool
 holds_in id address None rows = false
-holds_in id address (Some pool) rows = holds_at id address (block_of (slot_holding pool address) rows)
+holds_in id address (Some pool) rows = holds_at id address (block_in_rows (slot_holding pool address) rows)
 
 abbrev pub plain_check : List ℕ → List AddrValue → Rows → PlainAnswer
 plain_check id [] rows = Holds
@@ -349,7 +349,7 @@ pub record HasSpare (store : Datastore) (request : Request) : Type 0 where
   pub revisions : store.counter + 12 ≤ last_revision
   pub for_all_blocks : store.counter + needs request store.rows ≤ last_revision
   pub rows : length store.rows + 5 ≤ most_rows
-  pub blocks : length (listed kind.Block store) + 2 ≤ most_blocks
+  pub blocks : length (rows_of_kind kind.Block store) + 2 ≤ most_blocks
   pub counts : All (λ (entry : CidrValue × ℕ). entry.1 ≢ most_count) (handle_of (handle_in request) store.rows).counts
 
 -- a collection needs revisions alone

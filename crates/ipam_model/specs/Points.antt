@@ -17,7 +17,7 @@ use Rattle.ipam_model.specs.declared.entry.Told.TheVariants as told
 use Rattle.ipam_model.specs.declared.request.Request.{Request}
 use Rattle.ipam_model.specs.declared.request.Request.TheVariants.{Release}
 use Rattle.ipam_model.specs.Affinities.{affinity}
-use Rattle.ipam_model.specs.History.{Span, Heard, InSpan, cluster_at, now, seen_at, span_before}
+use Rattle.ipam_model.specs.History.{Span, HeardCall, InSpan, cluster_at, now, seen_at, span_before}
 use Rattle.ipam_model.specs.Moments.{IsNext, request_in, revision_of}
 use Rattle.ipam_model.specs.Tries.{is_add}
 
@@ -41,7 +41,7 @@ Runs span request = request_in (cluster_at span.base span.history) span.slot ≡
 -- the revision of the block was seen at the moment, or that there is none
 abbrev pub HasSeen : Span → (moment : ℕ) → CidrValue → Type 0
 HasSeen span moment cidr =
-    (said : Said) × (Heard span moment (ListAll kind.Block) said ⊎ Heard span moment (Get (key.Block cidr)) said)
+    (said : Said) × (HeardCall span moment (ListAll kind.Block) said ⊎ HeardCall span moment (Get (key.Block cidr)) said)
 
 -- where the span saw the block last, it had this revision, or was missing
 pub record SawLast (span : Span) (cidr : CidrValue) (read : Option ℕ) : Type 0 where
@@ -54,7 +54,7 @@ pub record SawLast (span : Span) (cidr : CidrValue) (read : Option ℕ) : Type 0
 
 -- the affinity that a claim keeps: as it was found, if it is not to be deleted, or as it was written
 pub data HasKept (span : Span) (moment : ℕ) (node : List ℕ) (cidr : CidrValue) (kept : ℕ) : Type 0 where
-  AsFound : (found : Affinity) → Heard span moment (Get (key.Affinity node cidr)) (Found kept (record_of.Affinity found))
+  AsFound : (found : Affinity) → HeardCall span moment (Get (key.Affinity node cidr)) (Found kept (record_of.Affinity found))
       → found.state ≢ PendingDeletion → HasKept span moment node cidr kept
   AsPut : HasPut span moment (record_of.Affinity (affinity node cidr Pending)) kept → HasKept span moment node cidr kept
 
@@ -93,12 +93,12 @@ pub record IsReleasing (span : Span) (node : List ℕ) (cidr : CidrValue) (read 
   pub has_marked : HasPut span marked (record_of.Affinity (affinity node cidr PendingDeletion)) mark
   pub looked : ℕ
   pub block_said : Said
-  pub has_looked : Heard span looked (Get (key.Block cidr)) block_said
+  pub has_looked : HeardCall span looked (Get (key.Block cidr)) block_said
   pub then_looked : IsNext span marked looked
   pub was : revision_of (seen_at span looked) (key.Block cidr) ≡ read
   pub again : ℕ
   pub found : Affinity
-  pub at_mark : Heard span again (Get (key.Affinity node cidr)) (Found mark (record_of.Affinity found))
+  pub at_mark : HeardCall span again (Get (key.Affinity node cidr)) (Found mark (record_of.Affinity found))
   pub then_again : IsNext span looked again
   pub latest : IsLatest span again
 

@@ -11,8 +11,8 @@ use Rattle.ipam_records.specs.declared.record.Record.{Record}
 use Rattle.ipam_records.specs.declared.record.Record.TheVariants as record_of
 use Rattle.ipam_records.specs.Said.{Said, Found, Listed}
 
-abbrev pub Row : Type 0
-Row = ℕ × Record
+abbrev pub StoredRecord : Type 0
+StoredRecord = ℕ × Record
 
 -- ---- a record that is missing stands for the defaults, for no pools, or for no reservations
 
@@ -46,6 +46,6 @@ abbrev pub affinity_said : Said → Option (ℕ × Affinity)
 affinity_said (Found revision (record_of.Affinity found)) = Some (revision, found)
 affinity_said _ = None
 
-abbrev pub rows_said : Said → List Row
+abbrev pub rows_said : Said → List StoredRecord
 rows_said (Listed rows) = rows
 rows_said _ = []

@@ -20,10 +20,10 @@ use Rattle.ipam_model.specs.declared.outcome.CollectAnswer.TheVariants as collec
 use Rattle.ipam_model.specs.declared.request.CollectRequest.{CollectRequest}
 use Rattle.ipam_model.specs.Counting.{Freeing, freeing_all, freeing_one, free}
 use Rattle.ipam_model.specs.Owners.{Owner, owner_of, is_owner_in}
-use Rattle.ipam_model.specs.Reads.{Row, handle_said, rows_said}
+use Rattle.ipam_model.specs.Reads.{StoredRecord, handle_said, rows_said}
 use Rattle.ipam_model.specs.Pairs.{has_value}
 use Rattle.ipam_model.specs.declared.part.Left.{Left}
-use Rattle.ipam_model.specs.Step.{all_left, Part, StopAnswers, goes, followed, without_count, settled}
+use Rattle.ipam_model.specs.Step.{all_left, Part, StopAnswers, goes, part_then, without_count, as_word}
 
 -- the owner's address in the block, with its stamp
 abbrev pub freeing_owner : Owner → CidrValue → Freeing
@@ -37,13 +37,13 @@ del_stops = without_count del.Again del.Spent del.Spent
 unfoldable pub del_blocks : (id : List ℕ) (moment : ℕ) → List CidrValue → Left → Part DelAnswer
 del_blocks id moment [] left = goes left (del.Deleted moment)
 del_blocks id moment (cidr ∷ rest) left =
-    followed (free (freeing_all id cidr) left) (λ now amount. del_blocks id moment rest now)
+    part_then (free (freeing_all id cidr) left) (λ now amount. del_blocks id moment rest now)
 
 -- Frees what the handle holds in each of its blocks, by family, base and prefix.
 abbrev pub del_word : List ℕ → Word DelAnswer
 del_word id =
     Asks idle (Get (key.Handle id)) (λ moment said.
-    settled del_stops (del_blocks id moment (map (λ count. count.0) (handle_said id said).counts) all_left))
+    as_word del_stops (del_blocks id moment (map (λ count. count.0) (handle_said id said).counts) all_left))
 
 -- ---- freeing one
 
@@ -58,7 +58,7 @@ free_stops = without_count one.Again one.Spent one.Spent
 -- Frees the owner's address in the block.
 abbrev pub free_word : Owner → CidrValue → Word FreeAnswer
 free_word owner cidr =
-    settled free_stops (followed (free (freeing_owner owner cidr) all_left) (λ left amount. goes left (freed_answer amount)))
+    as_word free_stops (part_then (free (freeing_owner owner cidr) all_left) (λ left amount. goes left (freed_answer amount)))
 
 -- ---- collection
 
@@ -83,16 +83,16 @@ may_leak request a = is_in_scope request.scope a && not (is_live request.live a.
 abbrev pub leak_of : CidrValue → Allocation → Leak
 leak_of cidr a = record { owner = owner_of cidr a; block = cidr }
 
-abbrev pub leaks_in_row : CollectRequest → Row → List Leak
+abbrev pub leaks_in_row : CollectRequest → StoredRecord → List Leak
 leaks_in_row request (revision, record_of.Block b) = map (leak_of b.cidr) (filter (may_leak request) b.allocations)
 leaks_in_row request _ = []
 
 -- the owners in scope whose handles are not in the first list, by family and address
-abbrev pub suspects : CollectRequest → List Row → List Leak
+abbrev pub suspects : CollectRequest → List StoredRecord → List Leak
 suspects request rows = flat_map (leaks_in_row request) rows
 
 -- those of them that own still, and whose handles are not in the second list either
-abbrev pub leaks : List Leak → (live : List (List ℕ)) → List Row → List Leak
+abbrev pub leaks : List Leak → (live : List (List ℕ)) → List StoredRecord → List Leak
 leaks kept live rows =
     filter (λ leak. is_owner_in rows leak.owner && not (is_live live leak.owner.handle)) kept
 
@@ -113,7 +113,7 @@ with_item done item = record { b1 = done.b1; b2 = done.b2; items = done.items ++
 unfoldable pub free_leaks : (done : Collected) → List Leak → Left → Part CollectAnswer
 free_leaks done [] left = goes left (collect.Collected done)
 free_leaks done (leak ∷ rest) left =
-    followed (free (freeing_owner leak.owner leak.block) left)
+    part_then (free (freeing_owner leak.owner leak.block) left)
     (λ now amount. free_leaks (with_item done (item_of leak amount)) rest now)
 
 -- Lists the blocks, waits for a second list of live handles, lists the blocks again, and frees what
@@ -123,6 +123,6 @@ collect_word request =
     Asks idle (ListAll kind.Block) (λ b1 first.
     Waits (λ live.
     Asks idle (ListAll kind.Block) (λ b2 second.
-    settled collect_stops
+    as_word collect_stops
     (free_leaks (record { b1 = b1; b2 = b2; items = [] })
     (leaks (suspects request (rows_said first)) live (rows_said second)) all_left))))

@@ -4,7 +4,7 @@ use Rattle.ipam_records.specs.declared.call.Call.{Call}
 use Rattle.ipam_records.specs.Datastore.{Datastore, reply_of, write_granted}
 use Rattle.ipam_records.specs.Hearing.{MayHear}
 use Rattle.ipam_records.specs.Sound.{IsDatastore}
-use Rattle.ipam_records.specs.Word.{asked}
+use Rattle.ipam_records.specs.Word.{next_call}
 use Rattle.ipam_model.specs.declared.entry.Called.{Called}
 use Rattle.ipam_model.specs.declared.entry.Entry.{Entry}
 use Rattle.ipam_model.specs.declared.entry.Entry.TheVariants as entry
@@ -17,10 +17,10 @@ use Rattle.ipam_model.specs.Named.{name_of, told_of}
 use Rattle.ipam_model.specs.History.{Base, Lawful, cluster_at, store_at}
 
 -- the reply and the written record are those of the datastore, and what it granted is done
-pub record IsDoneBy (store behind : Datastore) (asked : Call) (c : Called) : Type 0 where
-  pub is_reply : c.reply ≡ told_of (reply_of store asked)
-  pub is_written : c.written ≡ record_written asked (reply_of store asked)
-  pub is_store : behind ≡ store_with (write_granted asked (reply_of store asked)) store
+pub record IsDoneBy (store behind : Datastore) (next_call : Call) (c : Called) : Type 0 where
+  pub is_reply : c.reply ≡ told_of (reply_of store next_call)
+  pub is_written : c.written ≡ record_written next_call (reply_of store next_call)
+  pub is_store : behind ≡ store_with (write_granted next_call (reply_of store next_call)) store
 
 -- a call that failed before was not answered, and wrote nothing
 pub record IsNotDone (store behind : Datastore) (c : Called) : Type 0 where
@@ -29,15 +29,15 @@ pub record IsNotDone (store behind : Datastore) (c : Called) : Type 0 where
   pub is_store : behind ≡ store
 
 abbrev pub IsAnsweredBy : Datastore → Datastore → Call → Called → Fate → Type 0
-IsAnsweredBy store behind asked c Well = IsDoneBy store behind asked c
-IsAnsweredBy store behind asked c After = IsDoneBy store behind asked c
-IsAnsweredBy store behind asked c Before = IsNotDone store behind c
+IsAnsweredBy store behind next_call c Well = IsDoneBy store behind next_call c
+IsAnsweredBy store behind next_call c After = IsDoneBy store behind next_call c
+IsAnsweredBy store behind next_call c Before = IsNotDone store behind c
 
 abbrev pub RepliesLaw : Type 0
 RepliesLaw =
     (base : Base) (history : List Entry) (c : Called) → Lawful base (entry.Called c ∷ history)
-    → (asked : Call) × (c.call ≡ name_of asked)
-    × IsAnsweredBy (store_at base history) (store_at base (entry.Called c ∷ history)) asked c c.fate
+    → (next_call : Call) × (c.call ≡ name_of next_call)
+    × IsAnsweredBy (store_at base history) (store_at base (entry.Called c ∷ history)) next_call c c.fate
 
 -- What runs may be told the datastore's reply to its call: some sound datastore answers so, and a read
 -- of the handle that there is a credit for finds the credit covered.
@@ -45,5 +45,5 @@ abbrev pub MayHearLaw : Type 0
 MayHearLaw =
     (base : Base) (history : List Entry) (slot : ℕ) (running : Running) (call : Call)
     → IsDatastore base.store → IsCovered base.store → Lawful base history
-    → (cluster_at base history).slots slot ≡ Some running → asked running.word ≡ Some call
+    → (cluster_at base history).slots slot ≡ Some running → next_call running.word ≡ Some call
     → MayHear running.word (reply_of (store_at base history) call)

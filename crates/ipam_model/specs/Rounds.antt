@@ -6,7 +6,7 @@ use Rattle.ipam_records.specs.declared.key.Kind.TheVariants as kind
 use Rattle.ipam_records.specs.Said.{Said}
 use Rattle.ipam_model.specs.declared.answer.Scan.{Scan}
 use Rattle.ipam_model.specs.Choice.{Seen}
-use Rattle.ipam_model.specs.History.{Span, Heard}
+use Rattle.ipam_model.specs.History.{Span, HeardCall}
 use Rattle.ipam_model.specs.Moments.{IsNext}
 use Rattle.ipam_model.specs.Reads.{config_said, pools_said, reservations_said, rows_said}
 
@@ -18,11 +18,11 @@ pub record HasScanned (span : Span) (scan : Scan) (seen : Seen) : Type 0 where
   pub reservations : Said
   pub affinities : Said
   pub blocks : Said
-  pub at_c : Heard span scan.c (Get key.Config) config
-  pub at_p : Heard span scan.p (Get key.Pools) pools
-  pub at_r : Heard span scan.r (Get key.Reservations) reservations
-  pub at_f : Heard span scan.f (ListAll kind.Affinity) affinities
-  pub at_b : Heard span scan.b (ListAll kind.Block) blocks
+  pub at_c : HeardCall span scan.c (Get key.Config) config
+  pub at_p : HeardCall span scan.p (Get key.Pools) pools
+  pub at_r : HeardCall span scan.r (Get key.Reservations) reservations
+  pub at_f : HeardCall span scan.f (ListAll kind.Affinity) affinities
+  pub at_b : HeardCall span scan.b (ListAll kind.Block) blocks
   pub then_p : IsNext span scan.c scan.p
   pub then_r : IsNext span scan.p scan.r
   pub then_f : IsNext span scan.r scan.f

@@ -73,8 +73,8 @@ onward follows (Went left value) = follows left value
 onward follows (Stops left why) = stops left why
 
 -- one part behind another
-abbrev pub followed : {A B : Type 0} → Part A → (Left → A → Part B) → Part B
-followed part follows = bound part (onward follows)
+abbrev pub part_then : {A B : Type 0} → Part A → (Left → A → Part B) → Part B
+part_then part follows = bound part (onward follows)
 
 -- what follows a write in a part
 abbrev pub on_write : {A : Type 0} → Said → Left → (took : ℕ → Part A) → (lost : Part A) → Part A
@@ -92,8 +92,8 @@ unfoldable pub tries : {A : Type 0} → (try : Part A → Left → Part A) → (
 tries try zero claims = try (stops (left_of zero claims) OutOfTries) (left_of zero claims)
 tries try (suc races) claims = try (tries try races claims) (left_of (suc races) claims)
 
-abbrev pub retried : {A : Type 0} → (try : Part A → Left → Part A) → Left → Part A
-retried try left = tries try left.races left.claims
+abbrev pub with_retries : {A : Type 0} → (try : Part A → Left → Part A) → Left → Part A
+with_retries try left = tries try left.races left.claims
 
 -- Rounds, of which each but the first follows a lost race or a confirmed claim. So with this many more
 -- that may be lost or confirmed there are as many more rounds. Each is given the next, and what is left.
@@ -134,5 +134,5 @@ answer_of answers (Went left answer) = answer
 answer_of answers (Stops left why) = stop_answer answers left why
 
 -- a procedure that is one part
-abbrev pub settled : {A : Type 0} → StopAnswers A → Part A → Word A
-settled answers part = bound part (λ outcome. Ends (answer_of answers outcome))
+abbrev pub as_word : {A : Type 0} → StopAnswers A → Part A → Word A
+as_word answers part = bound part (λ outcome. Ends (answer_of answers outcome))

@@ -12,7 +12,7 @@ use Rattle.ipam_model.specs.declared.request.Admin.TheVariants as change
 use Rattle.ipam_model.specs.declared.request.Request.{Request}
 use Rattle.ipam_model.specs.declared.request.Request.TheVariants.{Admin}
 use Rattle.ipam_model.specs.Course.{Begin}
-use Rattle.ipam_model_runs.specs.Setting.{v4, v4_range, slot0, slot1, pool, ready_base, block_of, handle_of, held, add, turns, did, did_read, get_handle, created, updated, given, goes}
+use Rattle.ipam_model_runs.specs.Setting.{v4, v4_range, slot0, slot1, pool, ready_base, block_record, handle_of, held, add, turns, did, did_read, get_handle, created, updated, given, goes}
 
 abbrev pub two_reserved : ReservationValue
 two_reserved = record { name = codes "r"; cidrs = v4_range 0 31 ∷ [] }
@@ -34,7 +34,7 @@ ReservationMade = goes ready_base
     ∷ get_handle 0 (codes "n.c1") told.Missing
     ∷ created 0 (key.Handle (codes "n.c1")) 5 (handle_of (codes "n.c1") slot0 1) None
     ∷ updated 0 (key.Block slot0) 3 6
-    (block_of slot0 (Some (codes "a")) (held 2 (codes "n.c1") 1 ∷ []) (0 ∷ 1 ∷ 3 ∷ []) 1)
+    (block_record slot0 (Some (codes "a")) (held 2 (codes "n.c1") 1 ∷ []) (0 ∷ 1 ∷ 3 ∷ []) 1)
     (Some (given (v4 2) 4 11))
     ∷ [])
 

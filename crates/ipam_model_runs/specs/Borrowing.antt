@@ -13,7 +13,7 @@ use Rattle.ipam_model.specs.declared.entry.Entry.TheVariants as entry
 use Rattle.ipam_model.specs.declared.entry.Told.TheVariants as told
 use Rattle.ipam_model.specs.Course.{Begin}
 use Rattle.ipam_model.specs.History.{Base}
-use Rattle.ipam_model_runs.specs.Setting.{v4, v4_range, slot0, pool_row, pool, base_of, block_of, affinity_of, handle_of, held, queue4, add, add_this, turns, did, did_read, get_handle, created, updated, scan_from, given, goes, three_reads}
+use Rattle.ipam_model_runs.specs.Setting.{v4, v4_range, slot0, pool_row, pool, base_of, block_record, affinity_of, handle_of, held, queue4, add, add_this, turns, did, did_read, get_handle, created, updated, scan_from, given, goes, three_reads}
 
 -- the first of two blocks is a's and full, the second b's with its first address held
 abbrev pub full : CidrValue
@@ -26,8 +26,8 @@ abbrev pub two_blocks : (strict : Bool) → Base
 two_blocks strict = base_of
     ((2, record_of.Config (record { strict = strict; auto = true; max_blocks = 1 }))
     ∷ (1, record_of.Pools (pool (codes "p") (v4_range 0 30) 31 ∷ []))
-    ∷ (6, block_of full (Some (codes "a")) (held 0 (codes "n.x") 1 ∷ held 1 (codes "n.x") 2 ∷ []) [] 2)
-    ∷ (8, block_of with_room (Some (codes "b")) (held 0 (codes "n.y") 1 ∷ []) (1 ∷ []) 1)
+    ∷ (6, block_record full (Some (codes "a")) (held 0 (codes "n.x") 1 ∷ held 1 (codes "n.x") 2 ∷ []) [] 2)
+    ∷ (8, block_record with_room (Some (codes "b")) (held 0 (codes "n.y") 1 ∷ []) (1 ∷ []) 1)
     ∷ (3, affinity_of (codes "a") full Confirmed)
     ∷ (4, affinity_of (codes "b") with_room Confirmed)
     ∷ (5, handle_of (codes "n.x") full 2)
@@ -60,7 +60,7 @@ BorrowingAdd = goes (two_blocks false)
     ∷ get_handle 0 (codes "n.c1") told.Missing
     ∷ created 0 (key.Handle (codes "n.c1")) 9 (handle_of (codes "n.c1") with_room 1) None
     ∷ updated 0 (key.Block with_room) 8 10
-    (block_of with_room (Some (codes "b")) (held 0 (codes "n.y") 1 ∷ held 1 (codes "n.c1") 2 ∷ []) [] 2)
+    (block_record with_room (Some (codes "b")) (held 0 (codes "n.y") 1 ∷ held 1 (codes "n.c1") 2 ∷ []) [] 2)
     (Some (given (v4 3) 1 8))
     ∷ [])
 
@@ -75,7 +75,7 @@ abbrev pub bare_block : Base
 bare_block = base_of
     ((2, record_of.Config (record { strict = false; auto = false; max_blocks = 0 }))
     ∷ pool_row
-    ∷ (3, block_of slot0 None [] queue4 1)
+    ∷ (3, block_record slot0 None [] queue4 1)
     ∷ []) 3
 
 -- An address of it is borrowed, and it stays without affinity.
@@ -91,6 +91,6 @@ BorrowingFromNobody = goes bare_block
     ∷ get_handle 0 (codes "n.c1") told.Missing
     ∷ created 0 (key.Handle (codes "n.c1")) 4 (handle_of (codes "n.c1") slot0 1) None
     ∷ updated 0 (key.Block slot0) 3 5
-    (block_of slot0 None (held 0 (codes "n.c1") 2 ∷ []) (1 ∷ 2 ∷ 3 ∷ []) 2)
+    (block_record slot0 None (held 0 (codes "n.c1") 2 ∷ []) (1 ∷ 2 ∷ 3 ∷ []) 2)
     (Some (given (v4 0) 1 8))
     ∷ [])

@@ -13,7 +13,7 @@ use Rattle.ipam_model.specs.declared.entry.Told.TheVariants as told
 use Rattle.ipam_model.specs.declared.request.Request.TheVariants.{Check}
 use Rattle.ipam_model.specs.Course.{Begin}
 use Rattle.ipam_model.specs.History.{Base}
-use Rattle.ipam_model_runs.specs.Setting.{v4, v4_range, slot0, pool, held_base, base_of, block_of, handle_of, held, turns, did, did_read, get_block, goes}
+use Rattle.ipam_model_runs.specs.Setting.{v4, v4_range, slot0, pool, held_base, base_of, block_record, handle_of, held, turns, did, did_read, get_block, goes}
 
 abbrev pub get_pools : Entry
 get_pools = did_read 0 (name.Get key.Pools) (told.Found 1)
@@ -63,7 +63,7 @@ SecondInNoPool = goes held_base
 abbrev pub disabled_base : Base
 disabled_base = base_of
     ((1, record_of.Pools (record (pool (codes "p") (v4_range 0 29) 30) { disabled = true } ∷ []))
-    ∷ (3, block_of slot0 None (held 0 (codes "n.c1") 1 ∷ []) (1 ∷ 2 ∷ 3 ∷ []) 1)
+    ∷ (3, block_record slot0 None (held 0 (codes "n.c1") 1 ∷ []) (1 ∷ 2 ∷ 3 ∷ []) 1)
     ∷ (4, handle_of (codes "n.c1") slot0 1)
     ∷ []) 4
 

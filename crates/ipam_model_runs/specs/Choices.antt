@@ -11,9 +11,9 @@ use Rattle.ipam_record_text.specs.declared.config.Config.{Config}
 use Rattle.ipam_records.specs.declared.record.Record.TheVariants as record_of
 use Rattle.ipam_model.specs.declared.choice.Choice.TheVariants.{Use, Claim, Borrow, Nothing, NoPool}
 use Rattle.ipam_model.specs.Choice.{Seen, choice_of}
-use Rattle.ipam_model.specs.Reads.{Row}
+use Rattle.ipam_model.specs.Reads.{StoredRecord}
 use Rattle.ipam_model.specs.Usable.{Asked, usable_pool_of}
-use Rattle.ipam_model_runs.specs.Setting.{v4_range, v4, slot0, slot1, queue4, pool, held, block_of, affinity_of}
+use Rattle.ipam_model_runs.specs.Setting.{v4_range, v4, slot0, slot1, queue4, pool, held, block_record, affinity_of}
 
 -- ---- what is asked and seen
 
@@ -47,7 +47,7 @@ bounded = record defaults { max_blocks = 1 }
 abbrev pub not_allocating : Config
 not_allocating = record defaults { auto = false }
 
-abbrev pub seen_in : List Pool → Config → (affinities blocks : List Row) → Seen
+abbrev pub seen_in : List Pool → Config → (affinities blocks : List StoredRecord) → Seen
 seen_in pools config affinities blocks = record {
   config = config;
   pools = pools;
@@ -56,7 +56,7 @@ seen_in pools config affinities blocks = record {
   blocks = blocks;
 }
 
-abbrev pub seen : Config → (affinities blocks : List Row) → Seen
+abbrev pub seen : Config → (affinities blocks : List StoredRecord) → Seen
 seen = seen_in (two_slots ∷ [])
 
 abbrev pub reserving : List CidrValue → Seen → Seen
@@ -65,24 +65,24 @@ reserving cidrs all = record all { reservations = record { name = codes "r"; cid
 -- ---- rows
 
 -- an empty block of a node
-abbrev pub empty_of : CidrValue → List ℕ → Row
-empty_of cidr node = (3, block_of cidr (Some node) [] queue4 0)
+abbrev pub empty_of : CidrValue → List ℕ → StoredRecord
+empty_of cidr node = (3, block_record cidr (Some node) [] queue4 0)
 
-abbrev pub full_of : CidrValue → List ℕ → Row
+abbrev pub full_of : CidrValue → List ℕ → StoredRecord
 full_of cidr node = (
   3,
-  block_of cidr (Some node)
+  block_record cidr (Some node)
       (held 0 (codes "n.x") 1 ∷ held 1 (codes "n.x") 2 ∷ held 2 (codes "n.x") 3 ∷ held 3 (codes "n.x") 4 ∷ []) [] 4,
 )
 
 -- a block without affinity that is empty, or of which the first address is held
-abbrev pub empty_bare : CidrValue → Row
-empty_bare cidr = (3, block_of cidr None [] queue4 1)
+abbrev pub empty_bare : CidrValue → StoredRecord
+empty_bare cidr = (3, block_record cidr None [] queue4 1)
 
-abbrev pub held_bare : CidrValue → Row
-held_bare cidr = (3, block_of cidr None (held 0 (codes "n.x") 1 ∷ []) (1 ∷ 2 ∷ 3 ∷ []) 2)
+abbrev pub held_bare : CidrValue → StoredRecord
+held_bare cidr = (3, block_record cidr None (held 0 (codes "n.x") 1 ∷ []) (1 ∷ 2 ∷ 3 ∷ []) 2)
 
-abbrev pub confirmed : CidrValue → List ℕ → Row
+abbrev pub confirmed : CidrValue → List ℕ → StoredRecord
 confirmed cidr node = (2, affinity_of node cidr Confirmed)
 
 -- ---- by rank
@@ -94,7 +94,7 @@ OwnBlock = choice_of anything (seen defaults (confirmed slot0 a ∷ []) (empty_o
 abbrev pub FirstInQueue : Type 0
 FirstInQueue =
     choice_of anything (seen defaults (confirmed slot0 a ∷ [])
-    ((3, block_of slot0 (Some a) (held 0 (codes "n.x") 3 ∷ []) (2 ∷ 3 ∷ 1 ∷ []) 3) ∷ []))
+    ((3, block_record slot0 (Some a) (held 0 (codes "n.x") 3 ∷ []) (2 ∷ 3 ∷ 1 ∷ []) 3) ∷ []))
     ≡ Use slot0 2
 
 abbrev pub AffinityMissing : Type 0

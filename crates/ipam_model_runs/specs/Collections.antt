@@ -15,7 +15,7 @@ use Rattle.ipam_model.specs.declared.request.Request.{Request}
 use Rattle.ipam_model.specs.declared.request.Request.TheVariants.{Del, Collect}
 use Rattle.ipam_model.specs.Course.{Event, Begin, Feed, NotWaiting, TooSoon, Waiting}
 use Rattle.ipam_model.specs.History.{Base}
-use Rattle.ipam_model_runs.specs.Setting.{v4, slot0, pool_row, base_of, held_base, block_of, affinity_of, handle_of, held, add_this, turns, did, get_block, get_handle, created, updated, deleted, given_this, goes, stops, three_reads}
+use Rattle.ipam_model_runs.specs.Setting.{v4, slot0, pool_row, base_of, held_base, block_record, affinity_of, handle_of, held, add_this, turns, did, get_block, get_handle, created, updated, deleted, given_this, goes, stops, three_reads}
 
 abbrev pub collection : (at grace : ℕ) → (scope : Option (List ℕ × List ℕ)) → Request
 collection at grace scope = Collect (record { live = []; at = at; grace = grace; scope = scope })
@@ -41,7 +41,7 @@ abbrev pub freeing : List Entry
 freeing =
     list_blocks None
     ∷ get_block 0 slot0 (told.Found 3)
-    ∷ updated 0 (key.Block slot0) 3 5 (block_of slot0 (Some (codes "a")) [] (1 ∷ 2 ∷ 3 ∷ 0 ∷ []) 2) None
+    ∷ updated 0 (key.Block slot0) 3 5 (block_record slot0 (Some (codes "a")) [] (1 ∷ 2 ∷ 3 ∷ 0 ∷ []) 2) None
     ∷ get_handle 0 (codes "n.c1") (told.Found 4)
     ∷ deleted 0 (key.Handle (codes "n.c1")) 4 6 (Some (collected 1 3 (first_item true ∷ [])))
     ∷ []
@@ -97,7 +97,7 @@ given_again moment =
     entry.Began 1 (Del (codes "n.c1"))
     ∷ get_handle 1 (codes "n.c1") (told.Found 4)
     ∷ get_block 1 slot0 (told.Found 3)
-    ∷ updated 1 (key.Block slot0) 3 5 (block_of slot0 (Some (codes "a")) [] (1 ∷ 2 ∷ 3 ∷ 0 ∷ []) 2) None
+    ∷ updated 1 (key.Block slot0) 3 5 (block_record slot0 (Some (codes "a")) [] (1 ∷ 2 ∷ 3 ∷ 0 ∷ []) 2) None
     ∷ get_handle 1 (codes "n.c1") (told.Found 4)
     ∷ deleted 1 (key.Handle (codes "n.c1")) 4 6 (Some (answer.Deleted (moment + 1)))
     ∷ entry.Began 1 (add_this (codes "n.c1") (codes "a") (v4 0))
@@ -105,7 +105,7 @@ given_again moment =
     ++ get_handle 1 (codes "n.c1") told.Missing
     ∷ created 1 (key.Handle (codes "n.c1")) 7 (handle_of (codes "n.c1") slot0 1) None
     ∷ updated 1 (key.Block slot0) 5 8
-    (block_of slot0 (Some (codes "a")) (held 0 (codes "n.c1") 3 ∷ []) (1 ∷ 2 ∷ 3 ∷ []) 3)
+    (block_record slot0 (Some (codes "a")) (held 0 (codes "n.c1") 3 ∷ []) (1 ∷ 2 ∷ 3 ∷ []) 3)
     (Some (given_this (v4 0) (moment + 7) (moment + 12)))
     ∷ []
 
@@ -181,7 +181,7 @@ in_another = scoped 2 ((codes "network", codes "m") ∷ (codes "node", codes "a"
 abbrev pub scoped_base : Base
 scoped_base = base_of
     (pool_row
-    ∷ (3, block_of slot0 (Some (codes "a")) (elsewhere ∷ here ∷ in_another ∷ []) (3 ∷ []) 3)
+    ∷ (3, block_record slot0 (Some (codes "a")) (elsewhere ∷ here ∷ in_another ∷ []) (3 ∷ []) 3)
     ∷ (2, affinity_of (codes "a") slot0 Confirmed)
     ∷ (4, handle_of (codes "n.c1") slot0 3)
     ∷ []) 4
@@ -195,7 +195,7 @@ InsideTheScope = goes scoped_base
     ∷ list_blocks None
     ∷ get_block 0 slot0 (told.Found 3)
     ∷ updated 0 (key.Block slot0) 3 5
-    (block_of slot0 (Some (codes "a")) (elsewhere ∷ in_another ∷ []) (3 ∷ 1 ∷ []) 4) None
+    (block_record slot0 (Some (codes "a")) (elsewhere ∷ in_another ∷ []) (3 ∷ 1 ∷ []) 4) None
     ∷ get_handle 0 (codes "n.c1") (told.Found 4)
     ∷ updated 0 (key.Handle (codes "n.c1")) 4 6 (handle_of (codes "n.c1") slot0 2)
     (Some (collected 1 3 (record { address = v4 1; handle = codes "n.c1"; stamp = 2; freed = true } ∷ [])))
@@ -207,7 +207,7 @@ InsideTheScope = goes scoped_base
 abbrev pub two_held : Base
 two_held = base_of
     (pool_row
-    ∷ (3, block_of slot0 (Some (codes "a")) (held 0 (codes "n.c1") 1 ∷ held 1 (codes "n.c2") 2 ∷ []) (2 ∷ 3 ∷ []) 2)
+    ∷ (3, block_record slot0 (Some (codes "a")) (held 0 (codes "n.c1") 1 ∷ held 1 (codes "n.c2") 2 ∷ []) (2 ∷ 3 ∷ []) 2)
     ∷ (2, affinity_of (codes "a") slot0 Confirmed)
     ∷ (4, handle_of (codes "n.c1") slot0 1)
     ∷ (5, handle_of (codes "n.c2") slot0 1)
@@ -226,11 +226,11 @@ TwoLeaksFreed = goes two_held
     ∷ list_blocks None
     ∷ get_block 0 slot0 (told.Found 3)
     ∷ updated 0 (key.Block slot0) 3 6
-    (block_of slot0 (Some (codes "a")) (held 1 (codes "n.c2") 2 ∷ []) (2 ∷ 3 ∷ 0 ∷ []) 3) None
+    (block_record slot0 (Some (codes "a")) (held 1 (codes "n.c2") 2 ∷ []) (2 ∷ 3 ∷ 0 ∷ []) 3) None
     ∷ get_handle 0 (codes "n.c1") (told.Found 4)
     ∷ deleted 0 (key.Handle (codes "n.c1")) 4 7 None
     ∷ get_block 0 slot0 (told.Found 6)
-    ∷ updated 0 (key.Block slot0) 6 8 (block_of slot0 (Some (codes "a")) [] (2 ∷ 3 ∷ 0 ∷ 1 ∷ []) 4) None
+    ∷ updated 0 (key.Block slot0) 6 8 (block_record slot0 (Some (codes "a")) [] (2 ∷ 3 ∷ 0 ∷ 1 ∷ []) 4) None
     ∷ get_handle 0 (codes "n.c2") (told.Found 5)
     ∷ deleted 0 (key.Handle (codes "n.c2")) 5 9 (Some (collected 1 3 (first_item true ∷ second_item ∷ [])))
     ∷ [])

@@ -11,7 +11,7 @@ use Rattle.ipam_model.specs.declared.entry.Told.TheVariants as told
 use Rattle.ipam_model.specs.declared.request.Request.TheVariants.{Del}
 use Rattle.ipam_model.specs.Course.{Begin}
 use Rattle.ipam_model.specs.History.{Base}
-use Rattle.ipam_model_runs.specs.Setting.{slot0, slot1, pool_row, base_of, block_of, affinity_of, handle_of, held, turns, did, get_block, get_handle, updated, deleted, goes}
+use Rattle.ipam_model_runs.specs.Setting.{slot0, slot1, pool_row, base_of, block_record, affinity_of, handle_of, held, turns, did, get_block, get_handle, updated, deleted, goes}
 
 -- n.c1 holds two addresses of the first block, with one of n.c2 between them, and one of the second
 abbrev pub shared_base : Base
@@ -19,10 +19,10 @@ shared_base = base_of
     (pool_row
     ∷ (
       8,
-      block_of slot0 (Some (codes "a"))
+      block_record slot0 (Some (codes "a"))
           (held 0 (codes "n.c1") 1 ∷ held 1 (codes "n.c2") 2 ∷ held 2 (codes "n.c1") 3 ∷ []) (3 ∷ []) 3,
     )
-    ∷ (9, block_of slot1 (Some (codes "a")) (held 1 (codes "n.c1") 2 ∷ []) (2 ∷ 3 ∷ 0 ∷ []) 3)
+    ∷ (9, block_record slot1 (Some (codes "a")) (held 1 (codes "n.c1") 2 ∷ []) (2 ∷ 3 ∷ 0 ∷ []) 3)
     ∷ (2, affinity_of (codes "a") slot0 Confirmed)
     ∷ (3, affinity_of (codes "a") slot1 Confirmed)
     ∷ (6, record_of.Handle (content (codes "n.c1") ((slot0, 2) ∷ (slot1, 1) ∷ [])))
@@ -37,11 +37,11 @@ DelOfTwoBlocks = goes shared_base
     ∷ get_handle 0 (codes "n.c1") (told.Found 6)
     ∷ get_block 0 slot0 (told.Found 8)
     ∷ updated 0 (key.Block slot0) 8 10
-    (block_of slot0 (Some (codes "a")) (held 1 (codes "n.c2") 2 ∷ []) (3 ∷ 0 ∷ 2 ∷ []) 4) None
+    (block_record slot0 (Some (codes "a")) (held 1 (codes "n.c2") 2 ∷ []) (3 ∷ 0 ∷ 2 ∷ []) 4) None
     ∷ get_handle 0 (codes "n.c1") (told.Found 6)
     ∷ updated 0 (key.Handle (codes "n.c1")) 6 11 (handle_of (codes "n.c1") slot1 1) None
     ∷ get_block 0 slot1 (told.Found 9)
-    ∷ updated 0 (key.Block slot1) 9 12 (block_of slot1 (Some (codes "a")) [] (2 ∷ 3 ∷ 0 ∷ 1 ∷ []) 4) None
+    ∷ updated 0 (key.Block slot1) 9 12 (block_record slot1 (Some (codes "a")) [] (2 ∷ 3 ∷ 0 ∷ 1 ∷ []) 4) None
     ∷ get_handle 0 (codes "n.c1") (told.Found 11)
     ∷ deleted 0 (key.Handle (codes "n.c1")) 11 13 (Some (answer.Deleted 1))
     ∷ [])

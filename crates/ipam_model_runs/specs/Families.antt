@@ -15,8 +15,8 @@ use Rattle.ipam_model.specs.declared.request.Request.TheVariants.{Add, Del}
 use Rattle.ipam_model.specs.Course.{Event, Begin}
 use Rattle.ipam_model.specs.History.{Base}
 use Rattle.ipam_model.specs.Owners.{owners}
-use Rattle.ipam_model.specs.Reads.{Row}
-use Rattle.ipam_model_runs.specs.Setting.{v4, v4_range, slot0, pool, ready_base, base_of, block_of, affinity_of, handle_of, queue4, held, add_request, add_this, turns, did, get_block, get_handle, created, updated, five_reads, scan_from, given, given_this, goes, store_behind, first_given, first_freed, three_reads}
+use Rattle.ipam_model.specs.Reads.{StoredRecord}
+use Rattle.ipam_model_runs.specs.Setting.{v4, v4_range, slot0, pool, ready_base, base_of, block_record, affinity_of, handle_of, queue4, held, add_request, add_this, turns, did, get_block, get_handle, created, updated, five_reads, scan_from, given, given_this, goes, store_behind, first_given, first_freed, three_reads}
 
 abbrev pub add_both : Request
 add_both = Add (record (add_request (codes "n.c1") (codes "a")) { ipv6 = true })
@@ -55,7 +55,7 @@ GivenAgainBeforeTheSecond = goes ready_base
     ++ get_handle 1 (codes "n.c1") told.Missing
     ∷ created 1 (key.Handle (codes "n.c1")) 8 (handle_of (codes "n.c1") slot0 1) None
     ∷ updated 1 (key.Block slot0) 6 9
-    (block_of slot0 (Some (codes "a")) (held 0 (codes "n.c1") 3 ∷ []) (1 ∷ 2 ∷ 3 ∷ []) 3)
+    (block_record slot0 (Some (codes "a")) (held 0 (codes "n.c1") 3 ∷ []) (1 ∷ 2 ∷ 3 ∷ []) 3)
     (Some (given_this (v4 0) 16 21))
     ∷ five_reads 0 1 1
     ++ did 0 (name.Get (key.Block slot0)) (told.Found 9) None (Some (answer.Exhausted (scan_from V6 22)))
@@ -89,15 +89,15 @@ abbrev pub slot6 : CidrValue
 slot6 = v6_range 126
 
 -- a pool of each family
-abbrev pub both_pools : Row
+abbrev pub both_pools : StoredRecord
 both_pools = (1, record_of.Pools (pool (codes "p") (v4_range 0 29) 30 ∷ pool (codes "q") (v6_range 122) 126 ∷ []))
 
 -- the first block of each is confirmed to the node a and empty
-abbrev pub both_rows : List Row
+abbrev pub both_rows : List StoredRecord
 both_rows =
     both_pools
-    ∷ (3, block_of slot0 (Some (codes "a")) [] queue4 0)
-    ∷ (6, block_of slot6 (Some (codes "a")) [] queue4 0)
+    ∷ (3, block_record slot0 (Some (codes "a")) [] queue4 0)
+    ∷ (6, block_record slot6 (Some (codes "a")) [] queue4 0)
     ∷ (2, affinity_of (codes "a") slot0 Confirmed)
     ∷ (5, affinity_of (codes "a") slot6 Confirmed)
     ∷ []
@@ -116,7 +116,7 @@ Ipv6Given = goes both_base
     ++ get_handle 0 (codes "n.c1") told.Missing
     ∷ created 0 (key.Handle (codes "n.c1")) 7 (handle_of (codes "n.c1") slot6 1) None
     ∷ updated 0 (key.Block slot6) 6 8
-    (block_of slot6 (Some (codes "a")) (held 0 (codes "n.c1") 1 ∷ []) (1 ∷ 2 ∷ 3 ∷ []) 1)
+    (block_record slot6 (Some (codes "a")) (held 0 (codes "n.c1") 1 ∷ []) (1 ∷ 2 ∷ 3 ∷ []) 1)
     (Some (given v6_first 1 8))
     ∷ [])
 
@@ -133,12 +133,12 @@ BothGiven = goes both_base
     ++ get_handle 0 (codes "n.c1") told.Missing
     ∷ created 0 (key.Handle (codes "n.c1")) 7 (handle_of (codes "n.c1") slot0 1) None
     ∷ updated 0 (key.Block slot0) 3 8
-    (block_of slot0 (Some (codes "a")) (held 0 (codes "n.c1") 1 ∷ []) (1 ∷ 2 ∷ 3 ∷ []) 1) None
+    (block_record slot0 (Some (codes "a")) (held 0 (codes "n.c1") 1 ∷ []) (1 ∷ 2 ∷ 3 ∷ []) 1) None
     ∷ five_reads 0 2 2
     ++ get_handle 0 (codes "n.c1") (told.Found 7)
     ∷ updated 0 (key.Handle (codes "n.c1")) 7 9 (handle_of_both 1 1) None
     ∷ updated 0 (key.Block slot6) 6 10
-    (block_of slot6 (Some (codes "a")) (held 0 (codes "n.c1") 1 ∷ []) (1 ∷ 2 ∷ 3 ∷ []) 1)
+    (block_record slot6 (Some (codes "a")) (held 0 (codes "n.c1") 1 ∷ []) (1 ∷ 2 ∷ 3 ∷ []) 1)
     (Some (answer.Added
     (record { address = v4 0; c = 1; p = 2; r = 3; f = 4; b = 5; w = 8 }
     ∷ record { address = v6_first; c = 9; p = 10; r = 11; f = 12; b = 13; w = 16 }
@@ -156,11 +156,11 @@ SecondCountFull = goes
     ++ get_handle 0 (codes "n.c1") (told.Found 4)
     ∷ updated 0 (key.Handle (codes "n.c1")) 4 7 (handle_of_both 1 4294967295) None
     ∷ updated 0 (key.Block slot0) 3 8
-    (block_of slot0 (Some (codes "a")) (held 0 (codes "n.c1") 1 ∷ []) (1 ∷ 2 ∷ 3 ∷ []) 1) None
+    (block_record slot0 (Some (codes "a")) (held 0 (codes "n.c1") 1 ∷ []) (1 ∷ 2 ∷ 3 ∷ []) 1) None
     ∷ five_reads 0 2 2
     ++ get_handle 0 (codes "n.c1") (told.Found 7)
     ∷ get_block 0 slot0 (told.Found 8)
-    ∷ updated 0 (key.Block slot0) 8 9 (block_of slot0 (Some (codes "a")) [] (1 ∷ 2 ∷ 3 ∷ 0 ∷ []) 2) None
+    ∷ updated 0 (key.Block slot0) 8 9 (block_record slot0 (Some (codes "a")) [] (1 ∷ 2 ∷ 3 ∷ 0 ∷ []) 2) None
     ∷ get_handle 0 (codes "n.c1") (told.Found 7)
     ∷ updated 0 (key.Handle (codes "n.c1")) 7 10 (handle_of (codes "n.c1") slot6 4294967295)
     (Some (answer.CountFull 14))

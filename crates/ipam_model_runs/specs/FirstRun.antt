@@ -12,7 +12,7 @@ use Rattle.ipam_model.specs.declared.entry.Entry.TheVariants as entry
 use Rattle.ipam_model.specs.declared.entry.Told.TheVariants as told
 use Rattle.ipam_model.specs.Course.{Event, Begin, Idle}
 use Rattle.ipam_model.specs.History.{Base}
-use Rattle.ipam_model_runs.specs.Setting.{v4, slot0, ready_base, base_of, pool, block_of, affinity_of, held, queue4, add, turns, did, updated, five_reads, scan_from, given, goes, stops, run, excerpt, first_given}
+use Rattle.ipam_model_runs.specs.Setting.{v4, slot0, ready_base, base_of, pool, block_record, affinity_of, held, queue4, add, turns, did, updated, five_reads, scan_from, given, goes, stops, run, excerpt, first_given}
 
 abbrev pub first_entries : List Entry
 first_entries =
@@ -33,7 +33,7 @@ NinthCall = stops ready_base (Begin 0 (add (codes "n.c1") (codes "a")) ∷ turns
 abbrev pub small_base : Base
 small_base = base_of
     ((1, record_of.Pools (pool (codes "p") slot0 30 ∷ []))
-    ∷ (3, block_of slot0 (Some (codes "a")) [] queue4 0)
+    ∷ (3, block_record slot0 (Some (codes "a")) [] queue4 0)
     ∷ (2, affinity_of (codes "a") slot0 Confirmed)
     ∷ []) 3
 
@@ -50,18 +50,18 @@ FifthExhausted =
     ≡ record {
       entries =
           Some (updated 0 (key.Block slot0) 3 5
-          (block_of slot0 (Some (codes "a")) (held 0 (codes "n.c1") 1 ∷ []) (1 ∷ 2 ∷ 3 ∷ []) 1)
+          (block_record slot0 (Some (codes "a")) (held 0 (codes "n.c1") 1 ∷ []) (1 ∷ 2 ∷ 3 ∷ []) 1)
           (Some (given (v4 0) 1 8)))
           ∷ Some (updated 0 (key.Block slot0) 5 7
-          (block_of slot0 (Some (codes "a")) (held 0 (codes "n.c1") 1 ∷ held 1 (codes "n.c2") 2 ∷ [])
+          (block_record slot0 (Some (codes "a")) (held 0 (codes "n.c1") 1 ∷ held 1 (codes "n.c2") 2 ∷ [])
           (2 ∷ 3 ∷ []) 2)
           (Some (given (v4 1) 10 17)))
           ∷ Some (updated 0 (key.Block slot0) 7 9
-          (block_of slot0 (Some (codes "a"))
+          (block_record slot0 (Some (codes "a"))
           (held 0 (codes "n.c1") 1 ∷ held 1 (codes "n.c2") 2 ∷ held 2 (codes "n.c3") 3 ∷ []) (3 ∷ []) 3)
           (Some (given (v4 2) 19 26)))
           ∷ Some (updated 0 (key.Block slot0) 9 11
-          (block_of slot0 (Some (codes "a"))
+          (block_record slot0 (Some (codes "a"))
           (held 0 (codes "n.c1") 1 ∷ held 1 (codes "n.c2") 2 ∷ held 2 (codes "n.c3") 3
           ∷ held 3 (codes "n.c4") 4 ∷ []) [] 4)
           (Some (given (v4 3) 28 35)))

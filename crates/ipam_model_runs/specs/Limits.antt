@@ -12,7 +12,7 @@ use Rattle.ipam_model.specs.declared.request.Request.TheVariants.{Del, Release}
 use Rattle.ipam_model.specs.Course.{Event, Begin, Turn, Stop, Worn}
 use Rattle.ipam_model.specs.declared.entry.Fate.TheVariants.{Well}
 use Rattle.ipam_model.specs.History.{Base}
-use Rattle.ipam_model_runs.specs.Setting.{v4, slot0, pool_row, ready_rows, ready_base, bare_base, base_of, block_of, affinity_of, handle_of, queue4, add, add_this, turns, did, updated, get_handle, created, five_reads, goes, stops, run, excerpt}
+use Rattle.ipam_model_runs.specs.Setting.{v4, slot0, pool_row, ready_rows, ready_base, bare_base, base_of, block_record, affinity_of, handle_of, queue4, add, add_this, turns, did, updated, get_handle, created, five_reads, goes, stops, run, excerpt}
 
 -- ---- the last revision
 
@@ -116,7 +116,7 @@ ClaimAndLostRaces =
 abbrev pub highest_count : Base
 highest_count = base_of
     (pool_row
-    ∷ (3, block_of slot0 (Some (codes "a")) [] queue4 0)
+    ∷ (3, block_record slot0 (Some (codes "a")) [] queue4 0)
     ∷ (2, affinity_of (codes "a") slot0 Confirmed)
     ∷ (4, handle_of (codes "n.c1") slot0 4294967295)
     ∷ []) 4

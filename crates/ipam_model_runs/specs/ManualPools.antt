@@ -19,7 +19,7 @@ use Rattle.ipam_model.specs.declared.request.Request.{Request}
 use Rattle.ipam_model.specs.declared.request.Request.TheVariants.{Admin}
 use Rattle.ipam_model.specs.Course.{Begin}
 use Rattle.ipam_model.specs.History.{Base}
-use Rattle.ipam_model_runs.specs.Setting.{v4, v4_range, slot0, pool, ready_base, base_of, block_of, affinity_of, queue4, add, add_this, turns, did, did_read, updated, scan_from, given_this, goes, three_reads, second_given}
+use Rattle.ipam_model_runs.specs.Setting.{v4, v4_range, slot0, pool, ready_base, base_of, block_record, affinity_of, queue4, add, add_this, turns, did, did_read, updated, scan_from, given_this, goes, three_reads, second_given}
 use Rattle.ipam_model_runs.specs.Probes.{ProbedOver}
 
 abbrev pub manual : Pool
@@ -29,7 +29,7 @@ manual = record (pool (codes "p") (v4_range 0 29) 30) { mode = Manual }
 abbrev pub manual_base : Base
 manual_base = base_of
     ((1, record_of.Pools (manual ∷ []))
-    ∷ (3, block_of slot0 (Some (codes "a")) [] queue4 0)
+    ∷ (3, block_record slot0 (Some (codes "a")) [] queue4 0)
     ∷ (2, affinity_of (codes "a") slot0 Confirmed)
     ∷ []) 3
 

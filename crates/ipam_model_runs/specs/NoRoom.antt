@@ -10,18 +10,18 @@ use Rattle.ipam_model.specs.declared.entry.CallName.{CallName}
 use Rattle.ipam_model.specs.declared.entry.CallName.TheVariants as name
 use Rattle.ipam_model.specs.declared.request.Request.{Request}
 use Rattle.ipam_model.specs.declared.request.Request.TheVariants.{Release}
-use Rattle.ipam_model.specs.Reads.{Row}
+use Rattle.ipam_model.specs.Reads.{StoredRecord}
 use Rattle.ipam_model.specs.Requests.{word_of}
 use Rattle.ipam_model_runs.specs.Dialogue.{dialogue}
 use Rattle.ipam_model_runs.specs.Families.{add_both, both_pools, slot6}
-use Rattle.ipam_model_runs.specs.Setting.{v4, slot0, pool_row, block_of, affinity_of, handle_of, held, queue4, add, add_this}
+use Rattle.ipam_model_runs.specs.Setting.{v4, slot0, pool_row, block_record, affinity_of, handle_of, held, queue4, add, add_this}
 
 -- with these replies the request makes these calls, and is answered Full
 abbrev pub IsFull : Request → List Said → List CallName → Type 0
 IsFull request replies calls =
     dialogue 1 replies (word_of request) ≡ record { calls = calls; answer = Some answer.Full }
 
-abbrev pub found : Row → Said
+abbrev pub found : StoredRecord → Said
 found (revision, there) = Found revision there
 
 abbrev pub five_names : List CallName
@@ -30,7 +30,7 @@ five_names =
     ∷ name.List kind.Affinity ∷ name.List kind.Block ∷ []
 
 -- the five replies of a round, where nothing but the pools is configured
-abbrev pub five_replies : (pools : Row) (affinities blocks : List Row) → List Said
+abbrev pub five_replies : (pools : StoredRecord) (affinities blocks : List StoredRecord) → List Said
 five_replies pools affinities blocks =
     Missing ∷ found pools ∷ Missing ∷ Listed affinities ∷ Listed blocks ∷ []
 
@@ -41,7 +41,7 @@ abbrev pub FullInARaise : Type 0
 FullInARaise = IsFull (add (codes "n.c1") (codes "a"))
     (five_replies pool_row
     ((2, affinity_of (codes "a") slot0 Confirmed) ∷ [])
-    ((3, block_of slot0 (Some (codes "a")) [] queue4 0) ∷ [])
+    ((3, block_record slot0 (Some (codes "a")) [] queue4 0) ∷ [])
     ++ Missing ∷ Full ∷ [])
     (five_names ++ name.Get (key.Handle (codes "n.c1")) ∷ name.Create (key.Handle (codes "n.c1")) ∷ [])
 
@@ -63,9 +63,9 @@ FullOfBlocks = IsFull (add_this (codes "n.c1") (codes "a") (v4 0))
 abbrev pub FullInTheSecondFamily : Type 0
 FullInTheSecondFamily =
     let affinities = (2, affinity_of (codes "a") slot0 Confirmed) ∷ [] in
-    let taken = block_of slot0 (Some (codes "a")) (held 0 (codes "n.c1") 1 ∷ []) (1 ∷ 2 ∷ 3 ∷ []) 1 in
+    let taken = block_record slot0 (Some (codes "a")) (held 0 (codes "n.c1") 1 ∷ []) (1 ∷ 2 ∷ 3 ∷ []) 1 in
     IsFull add_both
-    (five_replies both_pools affinities ((3, block_of slot0 (Some (codes "a")) [] queue4 0) ∷ [])
+    (five_replies both_pools affinities ((3, block_record slot0 (Some (codes "a")) [] queue4 0) ∷ [])
     ++ Missing ∷ Can 4 ∷ Can 5
     ∷ five_replies both_pools affinities ((5, taken) ∷ [])
     ++ Missing ∷ Can 6 ∷ Full

@@ -9,8 +9,8 @@ use Rattle.ipam_model.specs.declared.entry.Entry.TheVariants as entry
 use Rattle.ipam_model.specs.declared.entry.Told.TheVariants as told
 use Rattle.ipam_model.specs.Course.{Begin}
 use Rattle.ipam_model.specs.History.{Base}
-use Rattle.ipam_model.specs.Reads.{Row}
-use Rattle.ipam_model_runs.specs.Setting.{v4, slot0, slot1, pool_row, held_base, base_of, block_of, affinity_of, handle_of, held, queue4, add_this, turns, did, did_read, get_affinity, get_handle, created, updated, given_this, goes, three_reads, second_given}
+use Rattle.ipam_model.specs.Reads.{StoredRecord}
+use Rattle.ipam_model_runs.specs.Setting.{v4, slot0, slot1, pool_row, held_base, base_of, block_record, affinity_of, handle_of, held, queue4, add_this, turns, did, did_read, get_affinity, get_handle, created, updated, given_this, goes, three_reads, second_given}
 
 -- the address is held, and the holder is told
 abbrev pub TakenAddress : Type 0
@@ -32,7 +32,7 @@ abbrev pub reserved_base : Base
 reserved_base = base_of
     (pool_row
     ∷ (4, record_of.Reservations (record { name = codes "r"; cidrs = slot0 ∷ [] } ∷ []))
-    ∷ (3, block_of slot0 (Some (codes "a")) [] queue4 0)
+    ∷ (3, block_record slot0 (Some (codes "a")) [] queue4 0)
     ∷ (2, affinity_of (codes "a") slot0 Confirmed)
     ∷ []) 4
 
@@ -49,7 +49,7 @@ abbrev pub bounded_base : Base
 bounded_base = base_of
     ((4, record_of.Config (record { strict = true; auto = false; max_blocks = 1 }))
     ∷ pool_row
-    ∷ (3, block_of slot0 (Some (codes "a")) [] queue4 0)
+    ∷ (3, block_record slot0 (Some (codes "a")) [] queue4 0)
     ∷ (2, affinity_of (codes "a") slot0 Confirmed)
     ∷ []) 4
 
@@ -61,22 +61,22 @@ ClaimedForOneAddress = goes bounded_base
     ∷ three_reads 0 (told.Found 4) slot1 told.Missing None
     ++ get_affinity 0 (codes "a") slot1 told.Missing
     ∷ created 0 (key.Affinity (codes "a") slot1) 5 (affinity_of (codes "a") slot1 Pending) None
-    ∷ created 0 (key.Block slot1) 6 (block_of slot1 (Some (codes "a")) [] queue4 0) None
+    ∷ created 0 (key.Block slot1) 6 (block_record slot1 (Some (codes "a")) [] queue4 0) None
     ∷ updated 0 (key.Affinity (codes "a") slot1) 5 7 (affinity_of (codes "a") slot1 Confirmed) None
     ∷ three_reads 0 (told.Found 4) slot1 (told.Found 6) None
     ++ get_handle 0 (codes "n.c1") told.Missing
     ∷ created 0 (key.Handle (codes "n.c1")) 8 (handle_of (codes "n.c1") slot1 1) None
     ∷ updated 0 (key.Block slot1) 6 9
-    (block_of slot1 (Some (codes "a")) (held 1 (codes "n.c1") 1 ∷ []) (0 ∷ 2 ∷ 3 ∷ []) 1)
+    (block_record slot1 (Some (codes "a")) (held 1 (codes "n.c1") 1 ∷ []) (0 ∷ 2 ∷ 3 ∷ []) 1)
     (Some (given_this (v4 5) 8 13))
     ∷ [])
 
 -- the first block is nobody's, and affinity is strict
-abbrev pub strict_config : Row
+abbrev pub strict_config : StoredRecord
 strict_config = (2, record_of.Config (record { strict = true; auto = true; max_blocks = 0 }))
 
 abbrev pub nobodys_base : Base
-nobodys_base = base_of (strict_config ∷ pool_row ∷ (3, block_of slot0 None [] queue4 1) ∷ []) 3
+nobodys_base = base_of (strict_config ∷ pool_row ∷ (3, block_record slot0 None [] queue4 1) ∷ []) 3
 
 -- where it is empty it is claimed
 abbrev pub ClaimedFromNobody : Type 0
@@ -86,13 +86,13 @@ ClaimedFromNobody = goes nobodys_base
     ∷ three_reads 0 (told.Found 2) slot0 (told.Found 3) None
     ++ get_affinity 0 (codes "a") slot0 told.Missing
     ∷ created 0 (key.Affinity (codes "a") slot0) 4 (affinity_of (codes "a") slot0 Pending) None
-    ∷ updated 0 (key.Block slot0) 3 5 (block_of slot0 (Some (codes "a")) [] queue4 2) None
+    ∷ updated 0 (key.Block slot0) 3 5 (block_record slot0 (Some (codes "a")) [] queue4 2) None
     ∷ updated 0 (key.Affinity (codes "a") slot0) 4 6 (affinity_of (codes "a") slot0 Confirmed) None
     ∷ three_reads 0 (told.Found 2) slot0 (told.Found 5) None
     ++ get_handle 0 (codes "n.c1") told.Missing
     ∷ created 0 (key.Handle (codes "n.c1")) 7 (handle_of (codes "n.c1") slot0 1) None
     ∷ updated 0 (key.Block slot0) 5 8
-    (block_of slot0 (Some (codes "a")) (held 1 (codes "n.c1") 3 ∷ []) (0 ∷ 2 ∷ 3 ∷ []) 3)
+    (block_record slot0 (Some (codes "a")) (held 1 (codes "n.c1") 3 ∷ []) (0 ∷ 2 ∷ 3 ∷ []) 3)
     (Some (given_this (v4 1) 8 13))
     ∷ [])
 
@@ -100,7 +100,7 @@ abbrev pub nobodys_held_base : Base
 nobodys_held_base = base_of
     (strict_config
     ∷ pool_row
-    ∷ (3, block_of slot0 None (held 0 (codes "n.x") 1 ∷ []) (1 ∷ 2 ∷ 3 ∷ []) 2)
+    ∷ (3, block_record slot0 None (held 0 (codes "n.x") 1 ∷ []) (1 ∷ 2 ∷ 3 ∷ []) 2)
     ∷ (4, handle_of (codes "n.x") slot0 1)
     ∷ []) 4
 

@@ -13,7 +13,7 @@ use Rattle.ipam_model.specs.Affinities.{claim}
 use Rattle.ipam_model.specs.Owners.{Owner}
 use Rattle.ipam_model.specs.Remove.{free_word}
 use Rattle.ipam_model_runs.specs.Dialogue.{dialogue}
-use Rattle.ipam_model_runs.specs.Setting.{v4, slot0, block_of, affinity_of, handle_of, held}
+use Rattle.ipam_model_runs.specs.Setting.{v4, slot0, block_record, affinity_of, handle_of, held}
 
 -- ---- freeing
 
@@ -22,7 +22,7 @@ owner stamp = record { address = v4 0; handle = codes "n.c1"; stamp = stamp }
 
 -- the block in which n.c1 holds the first address with the stamp 1
 abbrev pub read : (revision : ℕ) → Said
-read revision = Found revision (block_of slot0 (Some (codes "a")) (held 0 (codes "n.c1") 1 ∷ []) (1 ∷ 2 ∷ 3 ∷ []) 1)
+read revision = Found revision (block_record slot0 (Some (codes "a")) (held 0 (codes "n.c1") 1 ∷ []) (1 ∷ 2 ∷ 3 ∷ []) 1)
 
 abbrev pub Frees : (stamp : ℕ) → List Said → List CallName → FreeAnswer → Type 0
 Frees stamp replies calls told = dialogue 0 replies (free_word (owner stamp) slot0) ≡ record { calls = calls; answer = Some told }

@@ -8,7 +8,7 @@ use Rattle.ipam_model.specs.declared.entry.Entry.TheVariants as entry
 use Rattle.ipam_model.specs.declared.entry.Told.TheVariants as told
 use Rattle.ipam_model.specs.declared.request.Request.TheVariants.{Del}
 use Rattle.ipam_model.specs.Course.{Event, Begin}
-use Rattle.ipam_model_runs.specs.Setting.{v4, slot0, slot1, pool_row, ready_base, bare_base, block_of, affinity_of, handle_of, held_base, held, queue4, add, add_this, turns, did_read, get_block, get_affinity, get_handle, created, updated, deleted, five_reads, given, given_this, goes, store_behind, three_reads, second_given, first_given}
+use Rattle.ipam_model_runs.specs.Setting.{v4, slot0, slot1, pool_row, ready_base, bare_base, block_record, affinity_of, handle_of, held_base, held, queue4, add, add_this, turns, did_read, get_block, get_affinity, get_handle, created, updated, deleted, five_reads, given, given_this, goes, store_behind, three_reads, second_given, first_given}
 
 -- ---- two ADDs on one node
 
@@ -32,7 +32,7 @@ LostBlockWrite = goes ready_base
     ++ get_handle 1 (codes "n.c2") told.Missing
     ∷ created 1 (key.Handle (codes "n.c2")) 8 (handle_of (codes "n.c2") slot0 1) None
     ∷ updated 1 (key.Block slot0) 5 9
-    (block_of slot0 (Some (codes "a")) (held 0 (codes "n.c1") 1 ∷ held 1 (codes "n.c2") 2 ∷ []) (2 ∷ 3 ∷ []) 2)
+    (block_record slot0 (Some (codes "a")) (held 0 (codes "n.c1") 1 ∷ held 1 (codes "n.c2") 2 ∷ []) (2 ∷ 3 ∷ []) 2)
     (Some (given (v4 1) 20 27))
     ∷ [])
 
@@ -52,13 +52,13 @@ TwoNodesRace = goes bare_base two_nodes
     ++ five_reads 1 0 0
     ++ get_affinity 0 (codes "a") slot0 told.Missing
     ∷ created 0 (key.Affinity (codes "a") slot0) 2 (affinity_of (codes "a") slot0 Pending) None
-    ∷ created 0 (key.Block slot0) 3 (block_of slot0 (Some (codes "a")) [] queue4 0) None
+    ∷ created 0 (key.Block slot0) 3 (block_record slot0 (Some (codes "a")) [] queue4 0) None
     ∷ updated 0 (key.Affinity (codes "a") slot0) 2 4 (affinity_of (codes "a") slot0 Confirmed) None
     ∷ five_reads 0 1 1
     ++ get_handle 0 (codes "n.c1") told.Missing
     ∷ created 0 (key.Handle (codes "n.c1")) 5 (handle_of (codes "n.c1") slot0 1) None
     ∷ updated 0 (key.Block slot0) 3 6
-    (block_of slot0 (Some (codes "a")) (held 0 (codes "n.c1") 1 ∷ []) (1 ∷ 2 ∷ 3 ∷ []) 1)
+    (block_record slot0 (Some (codes "a")) (held 0 (codes "n.c1") 1 ∷ []) (1 ∷ 2 ∷ 3 ∷ []) 1)
     (Some (given (v4 0) 16 23))
     ∷ get_affinity 1 (codes "b") slot0 told.Missing
     ∷ created 1 (key.Affinity (codes "b") slot0) 7 (affinity_of (codes "b") slot0 Pending) None
@@ -66,13 +66,13 @@ TwoNodesRace = goes bare_base two_nodes
     ∷ five_reads 1 2 1
     ++ get_affinity 1 (codes "b") slot1 told.Missing
     ∷ created 1 (key.Affinity (codes "b") slot1) 8 (affinity_of (codes "b") slot1 Pending) None
-    ∷ created 1 (key.Block slot1) 9 (block_of slot1 (Some (codes "b")) [] queue4 0) None
+    ∷ created 1 (key.Block slot1) 9 (block_record slot1 (Some (codes "b")) [] queue4 0) None
     ∷ updated 1 (key.Affinity (codes "b") slot1) 8 10 (affinity_of (codes "b") slot1 Confirmed) None
     ∷ five_reads 1 3 2
     ++ get_handle 1 (codes "n.c2") told.Missing
     ∷ created 1 (key.Handle (codes "n.c2")) 11 (handle_of (codes "n.c2") slot1 1) None
     ∷ updated 1 (key.Block slot1) 9 12
-    (block_of slot1 (Some (codes "b")) (held 0 (codes "n.c2") 1 ∷ []) (1 ∷ 2 ∷ 3 ∷ []) 1)
+    (block_record slot1 (Some (codes "b")) (held 0 (codes "n.c2") 1 ∷ []) (1 ∷ 2 ∷ 3 ∷ []) 1)
     (Some (given (v4 4) 36 43))
     ∷ [])
 
@@ -81,8 +81,8 @@ abbrev pub TwoNodesRows : Type 0
 TwoNodesRows = store_behind bare_base two_nodes ≡ record {
   rows =
       pool_row
-      ∷ (6, block_of slot0 (Some (codes "a")) (held 0 (codes "n.c1") 1 ∷ []) (1 ∷ 2 ∷ 3 ∷ []) 1)
-      ∷ (12, block_of slot1 (Some (codes "b")) (held 0 (codes "n.c2") 1 ∷ []) (1 ∷ 2 ∷ 3 ∷ []) 1)
+      ∷ (6, block_record slot0 (Some (codes "a")) (held 0 (codes "n.c1") 1 ∷ []) (1 ∷ 2 ∷ 3 ∷ []) 1)
+      ∷ (12, block_record slot1 (Some (codes "b")) (held 0 (codes "n.c2") 1 ∷ []) (1 ∷ 2 ∷ 3 ∷ []) 1)
       ∷ (4, affinity_of (codes "a") slot0 Confirmed)
       ∷ (7, affinity_of (codes "b") slot0 Pending)
       ∷ (10, affinity_of (codes "b") slot1 Confirmed)
@@ -116,7 +116,7 @@ RaceForOneHandle = goes ready_base
     ++ get_handle 0 (codes "n.c1") (told.Found 7)
     ∷ updated 0 (key.Handle (codes "n.c1")) 7 8 (handle_of (codes "n.c1") slot0 2) None
     ∷ updated 0 (key.Block slot0) 5 9
-    (block_of slot0 (Some (codes "a")) (held 0 (codes "n.c1") 1 ∷ held 1 (codes "n.c1") 2 ∷ []) (2 ∷ 3 ∷ []) 2)
+    (block_record slot0 (Some (codes "a")) (held 0 (codes "n.c1") 1 ∷ held 1 (codes "n.c1") 2 ∷ []) (2 ∷ 3 ∷ []) 2)
     (Some (given (v4 1) 22 29))
     ∷ [])
 
@@ -154,12 +154,12 @@ DelLosesItsWrite = goes held_base
     ++ get_handle 1 (codes "n.c2") told.Missing
     ∷ created 1 (key.Handle (codes "n.c2")) 5 (handle_of (codes "n.c2") slot0 1) None
     ∷ updated 1 (key.Block slot0) 3 6
-    (block_of slot0 (Some (codes "a")) (held 0 (codes "n.c1") 1 ∷ held 1 (codes "n.c2") 2 ∷ []) (2 ∷ 3 ∷ []) 2)
+    (block_record slot0 (Some (codes "a")) (held 0 (codes "n.c1") 1 ∷ held 1 (codes "n.c2") 2 ∷ []) (2 ∷ 3 ∷ []) 2)
     (Some (given (v4 1) 4 11))
     ∷ did_read 0 (name.Update (key.Block slot0) 3) (told.Conflict 6)
     ∷ get_block 0 slot0 (told.Found 6)
     ∷ updated 0 (key.Block slot0) 6 7
-    (block_of slot0 (Some (codes "a")) (held 1 (codes "n.c2") 2 ∷ []) (2 ∷ 3 ∷ 0 ∷ []) 3) None
+    (block_record slot0 (Some (codes "a")) (held 1 (codes "n.c2") 2 ∷ []) (2 ∷ 3 ∷ 0 ∷ []) 3) None
     ∷ get_handle 0 (codes "n.c1") (told.Found 4)
     ∷ deleted 0 (key.Handle (codes "n.c1")) 4 8 (Some (answer.Deleted 1))
     ∷ [])
@@ -173,14 +173,14 @@ DelLosesItsLowering = goes held_base
     (entry.Began 0 (Del (codes "n.c1"))
     ∷ get_handle 0 (codes "n.c1") (told.Found 4)
     ∷ get_block 0 slot0 (told.Found 3)
-    ∷ updated 0 (key.Block slot0) 3 5 (block_of slot0 (Some (codes "a")) [] (1 ∷ 2 ∷ 3 ∷ 0 ∷ []) 2) None
+    ∷ updated 0 (key.Block slot0) 3 5 (block_record slot0 (Some (codes "a")) [] (1 ∷ 2 ∷ 3 ∷ 0 ∷ []) 2) None
     ∷ get_handle 0 (codes "n.c1") (told.Found 4)
     ∷ entry.Began 1 (add (codes "n.c1") (codes "a"))
     ∷ five_reads 1 1 1
     ++ get_handle 1 (codes "n.c1") (told.Found 4)
     ∷ updated 1 (key.Handle (codes "n.c1")) 4 6 (handle_of (codes "n.c1") slot0 2) None
     ∷ updated 1 (key.Block slot0) 5 7
-    (block_of slot0 (Some (codes "a")) (held 1 (codes "n.c1") 3 ∷ []) (2 ∷ 3 ∷ 0 ∷ []) 3)
+    (block_record slot0 (Some (codes "a")) (held 1 (codes "n.c1") 3 ∷ []) (2 ∷ 3 ∷ 0 ∷ []) 3)
     (Some (given (v4 1) 6 13))
     ∷ did_read 0 (name.Delete (key.Handle (codes "n.c1")) 4) (told.Conflict 6)
     ∷ get_handle 0 (codes "n.c1") (told.Found 6)

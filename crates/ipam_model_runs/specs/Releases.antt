@@ -11,7 +11,7 @@ use Rattle.ipam_model.specs.declared.request.Request.{Request}
 use Rattle.ipam_model.specs.declared.request.Request.TheVariants as request
 use Rattle.ipam_model.specs.Course.{Begin, Turn, Stop}
 use Rattle.ipam_model.specs.History.{Base}
-use Rattle.ipam_model_runs.specs.Setting.{v4, slot0, pool_row, base_of, ready_base, bare_base, held_base, block_of, affinity_of, handle_of, held, queue4, add, turns, did, did_read, get_block, get_affinity, get_handle, created, updated, deleted, five_reads, given, goes}
+use Rattle.ipam_model_runs.specs.Setting.{v4, slot0, pool_row, base_of, ready_base, bare_base, held_base, block_record, affinity_of, handle_of, held, queue4, add, turns, did, did_read, get_block, get_affinity, get_handle, created, updated, deleted, five_reads, given, goes}
 
 abbrev pub release_first : Request
 release_first = request.Release (codes "a") slot0
@@ -32,19 +32,19 @@ ReleasedBeforeTheClaim = goes bare_base
     ∷ updated 1 (key.Affinity (codes "a") slot0) 2 3 (affinity_of (codes "a") slot0 PendingDeletion) None
     ∷ get_block 1 slot0 told.Missing
     ∷ get_affinity 1 (codes "a") slot0 (told.Found 3)
-    ∷ created 1 (key.Block slot0) 4 (block_of slot0 None [] queue4 0) None
+    ∷ created 1 (key.Block slot0) 4 (block_record slot0 None [] queue4 0) None
     ∷ deleted 1 (key.Affinity (codes "a") slot0) 3 5 (Some answer.Released)
     ∷ did_read 0 (name.Create (key.Block slot0)) (told.Exists 4)
     ∷ five_reads 0 0 1
     ++ get_affinity 0 (codes "a") slot0 told.Missing
     ∷ created 0 (key.Affinity (codes "a") slot0) 6 (affinity_of (codes "a") slot0 Pending) None
-    ∷ updated 0 (key.Block slot0) 4 7 (block_of slot0 (Some (codes "a")) [] queue4 1) None
+    ∷ updated 0 (key.Block slot0) 4 7 (block_record slot0 (Some (codes "a")) [] queue4 1) None
     ∷ updated 0 (key.Affinity (codes "a") slot0) 6 8 (affinity_of (codes "a") slot0 Confirmed) None
     ∷ five_reads 0 1 1
     ++ get_handle 0 (codes "n.c1") told.Missing
     ∷ created 0 (key.Handle (codes "n.c1")) 9 (handle_of (codes "n.c1") slot0 1) None
     ∷ updated 0 (key.Block slot0) 7 10
-    (block_of slot0 (Some (codes "a")) (held 0 (codes "n.c1") 2 ∷ []) (1 ∷ 2 ∷ 3 ∷ []) 2)
+    (block_record slot0 (Some (codes "a")) (held 0 (codes "n.c1") 2 ∷ []) (1 ∷ 2 ∷ 3 ∷ []) 2)
     (Some (given (v4 0) 25 32))
     ∷ [])
 
@@ -64,7 +64,7 @@ AffinityTakenBack = goes ready_base
     ∷ five_reads 0 1 1
     ++ get_affinity 0 (codes "a") slot0 (told.Found 4)
     ∷ updated 0 (key.Affinity (codes "a") slot0) 4 5 (affinity_of (codes "a") slot0 Pending) None
-    ∷ updated 0 (key.Block slot0) 3 6 (block_of slot0 (Some (codes "a")) [] queue4 1) None
+    ∷ updated 0 (key.Block slot0) 3 6 (block_record slot0 (Some (codes "a")) [] queue4 1) None
     ∷ updated 0 (key.Affinity (codes "a") slot0) 5 7 (affinity_of (codes "a") slot0 Confirmed) None
     ∷ did_read 1 (name.Update (key.Block slot0) 3) (told.Conflict 6)
     ∷ entry.Stopped 1
@@ -72,7 +72,7 @@ AffinityTakenBack = goes ready_base
     ++ get_handle 0 (codes "n.c1") told.Missing
     ∷ created 0 (key.Handle (codes "n.c1")) 8 (handle_of (codes "n.c1") slot0 1) None
     ∷ updated 0 (key.Block slot0) 6 9
-    (block_of slot0 (Some (codes "a")) (held 0 (codes "n.c1") 2 ∷ []) (1 ∷ 2 ∷ 3 ∷ []) 2)
+    (block_record slot0 (Some (codes "a")) (held 0 (codes "n.c1") 2 ∷ []) (1 ∷ 2 ∷ 3 ∷ []) 2)
     (Some (given (v4 0) 17 24))
     ∷ [])
 
@@ -88,7 +88,7 @@ ReleasedTwice = goes held_base
     ∷ get_block 0 slot0 (told.Found 3)
     ∷ get_affinity 0 (codes "a") slot0 (told.Found 5)
     ∷ updated 0 (key.Block slot0) 3 6
-    (block_of slot0 None (held 0 (codes "n.c1") 1 ∷ []) (1 ∷ 2 ∷ 3 ∷ []) 2) None
+    (block_record slot0 None (held 0 (codes "n.c1") 1 ∷ []) (1 ∷ 2 ∷ 3 ∷ []) 2) None
     ∷ deleted 0 (key.Affinity (codes "a") slot0) 5 7 (Some answer.Released)
     ∷ entry.Began 0 release_first
     ∷ did 0 (name.Get (key.Affinity (codes "a") slot0)) told.Missing None (Some (answer.NoAffinity 8))
@@ -98,7 +98,7 @@ ReleasedTwice = goes held_base
 abbrev pub others_block : Base
 others_block = base_of
     (pool_row
-    ∷ (4, block_of slot0 (Some (codes "b")) [] queue4 0)
+    ∷ (4, block_record slot0 (Some (codes "b")) [] queue4 0)
     ∷ (2, affinity_of (codes "a") slot0 Pending)
     ∷ (3, affinity_of (codes "b") slot0 Confirmed)
     ∷ []) 4
@@ -112,7 +112,7 @@ ReleasedBesideAnother = goes others_block
     ∷ updated 0 (key.Affinity (codes "a") slot0) 2 5 (affinity_of (codes "a") slot0 PendingDeletion) None
     ∷ get_block 0 slot0 (told.Found 4)
     ∷ get_affinity 0 (codes "a") slot0 (told.Found 5)
-    ∷ updated 0 (key.Block slot0) 4 6 (block_of slot0 (Some (codes "b")) [] queue4 1) None
+    ∷ updated 0 (key.Block slot0) 4 6 (block_record slot0 (Some (codes "b")) [] queue4 1) None
     ∷ deleted 0 (key.Affinity (codes "a") slot0) 5 7 (Some answer.Released)
     ∷ [])
 
@@ -136,22 +136,22 @@ MarkTakenBack = goes ready_base
     ∷ get_affinity 1 (codes "a") slot0 (told.Found 5)
     ∷ get_affinity 1 (codes "a") slot0 (told.Found 5)
     ∷ updated 1 (key.Affinity (codes "a") slot0) 5 6 (affinity_of (codes "a") slot0 PendingDeletion) None
-    ∷ updated 0 (key.Block slot0) 3 7 (block_of slot0 (Some (codes "a")) [] queue4 1) None
+    ∷ updated 0 (key.Block slot0) 3 7 (block_record slot0 (Some (codes "a")) [] queue4 1) None
     ∷ did_read 0 (name.Update (key.Affinity (codes "a") slot0) 5) (told.Conflict 6)
     ∷ get_block 1 slot0 (told.Found 7)
     ∷ get_affinity 1 (codes "a") slot0 (told.Found 6)
-    ∷ updated 1 (key.Block slot0) 7 8 (block_of slot0 None [] queue4 2) None
+    ∷ updated 1 (key.Block slot0) 7 8 (block_record slot0 None [] queue4 2) None
     ∷ deleted 1 (key.Affinity (codes "a") slot0) 6 9 (Some answer.Released)
     ∷ five_reads 0 0 1
     ++ get_affinity 0 (codes "a") slot0 told.Missing
     ∷ created 0 (key.Affinity (codes "a") slot0) 10 (affinity_of (codes "a") slot0 Pending) None
-    ∷ updated 0 (key.Block slot0) 8 11 (block_of slot0 (Some (codes "a")) [] queue4 3) None
+    ∷ updated 0 (key.Block slot0) 8 11 (block_record slot0 (Some (codes "a")) [] queue4 3) None
     ∷ updated 0 (key.Affinity (codes "a") slot0) 10 12 (affinity_of (codes "a") slot0 Confirmed) None
     ∷ five_reads 0 1 1
     ++ get_handle 0 (codes "n.c1") told.Missing
     ∷ created 0 (key.Handle (codes "n.c1")) 13 (handle_of (codes "n.c1") slot0 1) None
     ∷ updated 0 (key.Block slot0) 11 14
-    (block_of slot0 (Some (codes "a")) (held 0 (codes "n.c1") 4 ∷ []) (1 ∷ 2 ∷ 3 ∷ []) 4)
+    (block_record slot0 (Some (codes "a")) (held 0 (codes "n.c1") 4 ∷ []) (1 ∷ 2 ∷ 3 ∷ []) 4)
     (Some (given (v4 0) 30 37))
     ∷ [])
 
@@ -167,7 +167,7 @@ DeletionLost = goes ready_base
     ∷ updated 1 (key.Affinity (codes "a") slot0) 2 4 (affinity_of (codes "a") slot0 PendingDeletion) None
     ∷ get_block 1 slot0 (told.Found 3)
     ∷ get_affinity 1 (codes "a") slot0 (told.Found 4)
-    ∷ updated 1 (key.Block slot0) 3 5 (block_of slot0 None [] queue4 1) None
+    ∷ updated 1 (key.Block slot0) 3 5 (block_record slot0 None [] queue4 1) None
     ∷ entry.Began 0 (add (codes "n.c1") (codes "a"))
     ∷ five_reads 0 1 1
     ++ get_affinity 0 (codes "a") slot0 (told.Found 4)
@@ -175,7 +175,7 @@ DeletionLost = goes ready_base
     ∷ did_read 1 (name.Delete (key.Affinity (codes "a") slot0) 4) (told.Conflict 6)
     ∷ get_affinity 1 (codes "a") slot0 (told.Found 6)
     ∷ entry.Stopped 1
-    ∷ updated 0 (key.Block slot0) 5 7 (block_of slot0 (Some (codes "a")) [] queue4 2) None
+    ∷ updated 0 (key.Block slot0) 5 7 (block_record slot0 (Some (codes "a")) [] queue4 2) None
     ∷ updated 0 (key.Affinity (codes "a") slot0) 6 8 (affinity_of (codes "a") slot0 Confirmed) None
     ∷ [])
 
@@ -192,7 +192,7 @@ MarkGone = goes ready_base
     ∷ updated 1 (key.Affinity (codes "a") slot0) 4 5 (affinity_of (codes "a") slot0 PendingDeletion) None
     ∷ get_block 1 slot0 (told.Found 3)
     ∷ get_affinity 1 (codes "a") slot0 (told.Found 5)
-    ∷ updated 1 (key.Block slot0) 3 6 (block_of slot0 None [] queue4 1) None
+    ∷ updated 1 (key.Block slot0) 3 6 (block_record slot0 None [] queue4 1) None
     ∷ deleted 1 (key.Affinity (codes "a") slot0) 5 7 (Some answer.Released)
     ∷ get_block 0 slot0 (told.Found 6)
     ∷ get_affinity 0 (codes "a") slot0 told.Missing

@@ -31,7 +31,7 @@ use Rattle.ipam_model.specs.declared.request.Request.{Request}
 use Rattle.ipam_model.specs.declared.request.Request.TheVariants as request
 use Rattle.ipam_model.specs.Course.{Event, Turn, Refusal, Refused, Course, course, after_all}
 use Rattle.ipam_model.specs.History.{Base, start}
-use Rattle.ipam_model.specs.Reads.{Row}
+use Rattle.ipam_model.specs.Reads.{StoredRecord}
 
 -- ---- addresses from 10.0.0.0 on
 
@@ -63,8 +63,8 @@ recorded_to id = record { handle = id; secondary = [] }
 abbrev pub held : (ordinal : ℕ) (id : List ℕ) (stamp : ℕ) → Allocation
 held ordinal id stamp = record { ordinal = ordinal; attributes = recorded_to id; stamp = stamp }
 
-abbrev pub block_of : CidrValue → (node : Option (List ℕ)) → List Allocation → (queue : List ℕ) → (sequence : ℕ) → Record
-block_of cidr node allocations queue sequence = record_of.Block (record {
+abbrev pub block_record : CidrValue → (node : Option (List ℕ)) → List Allocation → (queue : List ℕ) → (sequence : ℕ) → Record
+block_record cidr node allocations queue sequence = record_of.Block (record {
   cidr = cidr;
   node = node;
   allocations = allocations;
@@ -81,7 +81,7 @@ handle_of id cidr count = record_of.Handle (record { id = id; counts = (cidr, co
 
 -- ---- bases
 
-abbrev pub base_of : List Row → (counter : ℕ) → Base
+abbrev pub base_of : List StoredRecord → (counter : ℕ) → Base
 base_of rows counter = record { store = record { rows = rows; counter = counter }; first = 0 }
 
 -- the pool 10.0.0.0/29 in blocks of four
@@ -91,7 +91,7 @@ slot0 = v4_range 0 30
 abbrev pub slot1 : CidrValue
 slot1 = v4_range 4 30
 
-abbrev pub pool_row : Row
+abbrev pub pool_row : StoredRecord
 pool_row = (1, record_of.Pools (pool (codes "p") (v4_range 0 29) 30 ∷ []))
 
 -- the pool without a block
@@ -102,10 +102,10 @@ abbrev pub queue4 : List ℕ
 queue4 = 0 ∷ 1 ∷ 2 ∷ 3 ∷ []
 
 -- the pool whose first block is confirmed to the node a and empty
-abbrev pub ready_rows : List Row
+abbrev pub ready_rows : List StoredRecord
 ready_rows =
     pool_row
-    ∷ (3, block_of slot0 (Some (codes "a")) [] queue4 0)
+    ∷ (3, block_record slot0 (Some (codes "a")) [] queue4 0)
     ∷ (2, affinity_of (codes "a") slot0 Confirmed)
     ∷ []
 
@@ -116,7 +116,7 @@ ready_base = base_of ready_rows 3
 abbrev pub held_base : Base
 held_base = base_of
     (pool_row
-    ∷ (3, block_of slot0 (Some (codes "a")) (held 0 (codes "n.c1") 1 ∷ []) (1 ∷ 2 ∷ 3 ∷ []) 1)
+    ∷ (3, block_record slot0 (Some (codes "a")) (held 0 (codes "n.c1") 1 ∷ []) (1 ∷ 2 ∷ 3 ∷ []) 1)
     ∷ (2, affinity_of (codes "a") slot0 Confirmed)
     ∷ (4, handle_of (codes "n.c1") slot0 1)
     ∷ []) 4
@@ -213,14 +213,14 @@ first_given slot answer =
     get_handle slot (codes "n.c1") told.Missing
     ∷ created slot (key.Handle (codes "n.c1")) 4 (handle_of (codes "n.c1") slot0 1) None
     ∷ updated slot (key.Block slot0) 3 5
-    (block_of slot0 (Some (codes "a")) (held 0 (codes "n.c1") 1 ∷ []) (1 ∷ 2 ∷ 3 ∷ []) 1) answer
+    (block_record slot0 (Some (codes "a")) (held 0 (codes "n.c1") 1 ∷ []) (1 ∷ 2 ∷ 3 ∷ []) 1) answer
     ∷ []
 
 -- and freed again
 abbrev pub first_freed : (slot : ℕ) → Answer → List Entry
 first_freed slot answer =
     get_block slot slot0 (told.Found 5)
-    ∷ updated slot (key.Block slot0) 5 6 (block_of slot0 (Some (codes "a")) [] (1 ∷ 2 ∷ 3 ∷ 0 ∷ []) 2) None
+    ∷ updated slot (key.Block slot0) 5 6 (block_record slot0 (Some (codes "a")) [] (1 ∷ 2 ∷ 3 ∷ 0 ∷ []) 2) None
     ∷ get_handle slot (codes "n.c1") (told.Found 4)
     ∷ deleted slot (key.Handle (codes "n.c1")) 4 7 (Some answer)
     ∷ []
@@ -232,7 +232,7 @@ second_given slot id revision answer =
     get_handle slot id told.Missing
     ∷ created slot (key.Handle id) revision (handle_of id slot0 1) None
     ∷ updated slot (key.Block slot0) 3 (revision + 1)
-    (block_of slot0 (Some (codes "a")) (held 1 id 1 ∷ []) (0 ∷ 2 ∷ 3 ∷ []) 1) (Some answer)
+    (block_record slot0 (Some (codes "a")) (held 1 id 1 ∷ []) (0 ∷ 2 ∷ 3 ∷ []) 1) (Some answer)
     ∷ []
 
 -- ---- answers

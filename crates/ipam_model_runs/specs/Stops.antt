@@ -10,7 +10,7 @@ use Rattle.ipam_model.specs.declared.entry.Fate.TheVariants.{Before, After}
 use Rattle.ipam_model.specs.declared.entry.Told.TheVariants as told
 use Rattle.ipam_model.specs.declared.request.Request.TheVariants.{Del}
 use Rattle.ipam_model.specs.Course.{Event, Begin, Turn, Stop, Restart}
-use Rattle.ipam_model_runs.specs.Setting.{slot0, pool_row, ready_base, block_of, affinity_of, handle_of, held, add, turns, did, get_handle, created, five_reads, goes, store_behind, first_freed}
+use Rattle.ipam_model_runs.specs.Setting.{slot0, pool_row, ready_base, block_record, affinity_of, handle_of, held, add, turns, did, get_handle, created, five_reads, goes, store_behind, first_freed}
 
 -- an ADD up to its write of the block
 abbrev pub before_the_write : List Event
@@ -39,7 +39,7 @@ LostAnswer = goes ready_base lost_answer
       call = name.Update (key.Block slot0) 3;
       fate = After;
       reply = told.Done 5;
-      written = Some (block_of slot0 (Some (codes "a")) (held 0 (codes "n.c1") 1 ∷ []) (1 ∷ 2 ∷ 3 ∷ []) 1);
+      written = Some (block_record slot0 (Some (codes "a")) (held 0 (codes "n.c1") 1 ∷ []) (1 ∷ 2 ∷ 3 ∷ []) 1);
       answer = Some answer.Fault;
     })
     ∷ entry.Began 0 (Del (codes "n.c1"))
@@ -50,7 +50,7 @@ abbrev pub LostAnswerRows : Type 0
 LostAnswerRows = store_behind ready_base lost_answer ≡ record {
   rows =
       pool_row
-      ∷ (6, block_of slot0 (Some (codes "a")) [] (1 ∷ 2 ∷ 3 ∷ 0 ∷ []) 2)
+      ∷ (6, block_record slot0 (Some (codes "a")) [] (1 ∷ 2 ∷ 3 ∷ 0 ∷ []) 2)
       ∷ (2, affinity_of (codes "a") slot0 Confirmed)
       ∷ [];
   counter = 7;
@@ -80,7 +80,7 @@ abbrev pub RowsWithCount : List Event → Type 0
 RowsWithCount events = store_behind ready_base events ≡ record {
   rows =
       pool_row
-      ∷ (3, block_of slot0 (Some (codes "a")) [] (0 ∷ 1 ∷ 2 ∷ 3 ∷ []) 0)
+      ∷ (3, block_record slot0 (Some (codes "a")) [] (0 ∷ 1 ∷ 2 ∷ 3 ∷ []) 0)
       ∷ (2, affinity_of (codes "a") slot0 Confirmed)
       ∷ (4, handle_of (codes "n.c1") slot0 1)
       ∷ [];

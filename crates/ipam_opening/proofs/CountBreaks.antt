@@ -21,7 +21,7 @@ use Rattle.ipam_records.proofs.DatastoreLemmas.{row_key-row_of}
 use Rattle.ipam_records.proofs.RowKinds.{each-kind}
 use Rattle.ipam_model.specs.CountLaw.{count_in_row, handle_count, held_count, held_in_row}
 use Rattle.ipam_model.specs.Opened.{Texts, AreByKey, Breaks, CountTooLow, read_store, readable, reading_of}
-use Rattle.ipam_model.specs.Reads.{Row}
+use Rattle.ipam_model.specs.Reads.{StoredRecord}
 use Rattle.ipam_laws.proofs.FirstFault.{owned-member}
 use Rattle.ipam_laws.proofs.Members.{in-cons, in-here, in-there, in-nothing, in-map, out-map}
 use Rattle.ipam_laws.proofs.OpenedRows.{out-readable}
@@ -36,14 +36,14 @@ use Rattle.ipam_opening.proofs.Found.{found-own}
 -- ---- the first of the keys
 
 -- the key of a handle of these allocations that is short
-pub record IsShortOf (rows : List Row) (b : BlockValue) (allocations : List Allocation) (about : List ℕ) : Type 0 where
+pub record IsShortOf (rows : List StoredRecord) (b : BlockValue) (allocations : List Allocation) (about : List ℕ) : Type 0 where
   pub allocation : Allocation
   pub among : Contains allocations allocation
   pub short : is_short rows b allocation.attributes.handle ≡ true
   pub own : key_bytes (key.Handle allocation.attributes.handle) ≡ about
 
 -- the same of the blocks that were read
-pub record IsShortIn (rows : List Row) (readings : List (Result Record TextFault)) (about : List ℕ) : Type 0 where
+pub record IsShortIn (rows : List StoredRecord) (readings : List (Result Record TextFault)) (about : List ℕ) : Type 0 where
   pub block : BlockValue
   pub there : Contains readings (Ok (record_of.Block block))
   pub of_block : IsShortOf rows block block.allocations about
@@ -54,7 +54,7 @@ alone P text o h = first-earlier P (λ t. text ≡ t) o (Some text) h own
     own : IsFirst (λ t. text ≡ t) text
     own = record { is = refl; first = λ t e. subst (λ (z : List ℕ). slice_cmp nat_cmp text z ≢ Greater) e (itself-not text) }
 
-module _ (rows : List Row) (b : BlockValue) where
+module _ (rows : List StoredRecord) (b : BlockValue) where
   one-first : (P : List ℕ → Type 0) (a : Allocation) (o : Option (List ℕ)) → IsFirstOf P o
       → IsFirstOf (λ t. P t ⊎ ((is_short rows b a.attributes.handle ≡ true) × (key_bytes (key.Handle a.attributes.handle) ≡ t))) (with_short rows b a.attributes.handle o)
   one-first P a o h = by (is_short rows b a.attributes.handle) refl
@@ -86,7 +86,7 @@ module _ (rows : List Row) (b : BlockValue) where
       back t s (inl is) = inl (inr (ap (λ (x : Allocation). is_short rows b x.attributes.handle) is ∙ s.short, ap (λ (x : Allocation). key_bytes (key.Handle x.attributes.handle)) is ∙ s.own))
       back t s (inr there) = inr (record { allocation = s.allocation; among = there; short = s.short; own = s.own })
 
-module _ (rows : List Row) where
+module _ (rows : List StoredRecord) where
   of-reading : (P : List ℕ → Type 0) (o : Option (List ℕ)) (reading : Result Record TextFault) → IsFirstOf P o
       → IsFirstOf (λ t. P t ⊎ ((b : BlockValue) × (reading ≡ Ok (record_of.Block b)) × IsShortOf rows b b.allocations t)) (with_shorts_in rows o reading)
   of-reading P o reading h = by reading refl
@@ -127,8 +127,8 @@ module _ (rows : List Row) where
 
 -- ---- what breaks the rule
 
-count-same : (rows : List Row) (id : List ℕ) (cidr : CidrValue) → count_found cidr (found_in (key.Handle id) rows) ≡ count_in_row id cidr (row_of (key.Handle id) rows)
-count-same rows id cidr = each-kind (λ o. count_found cidr (option_map (λ (row : Row). row.1) o) ≡ count_in_row id cidr o) refl (λ r x. refl) (λ r x. refl) (λ r x. refl) (λ r x. refl) (λ r x. refl) (λ r x. refl) (row_of (key.Handle id) rows)
+count-same : (rows : List StoredRecord) (id : List ℕ) (cidr : CidrValue) → count_found cidr (found_in (key.Handle id) rows) ≡ count_in_row id cidr (row_of (key.Handle id) rows)
+count-same rows id cidr = each-kind (λ o. count_found cidr (option_map (λ (row : StoredRecord). row.1) o) ≡ count_in_row id cidr o) refl (λ r x. refl) (λ r x. refl) (λ r x. refl) (λ r x. refl) (λ r x. refl) (λ r x. refl) (row_of (key.Handle id) rows)
 
 module _ (texts : Texts) (by_key : AreByKey texts.rows) where
   forth : (about : List ℕ) → IsShortIn (readable texts.rows) (map reading_of texts.rows) about → Breaks texts 6 about
@@ -148,7 +148,7 @@ module _ (texts : Texts) (by_key : AreByKey texts.rows) where
       nothing : handle_count (read_store texts) id cidr < 0 → IsShortIn (readable texts.rows) (map reading_of texts.rows) (key_bytes (key.Handle id))
       nothing low = absurd (omega arith)
 
-      by : (o : Option Row) → row_of (key.Block cidr) (readable texts.rows) ≡ o → handle_count (read_store texts) id cidr < held_in_row id o → IsShortIn (readable texts.rows) (map reading_of texts.rows) (key_bytes (key.Handle id))
+      by : (o : Option StoredRecord) → row_of (key.Block cidr) (readable texts.rows) ≡ o → handle_count (read_store texts) id cidr < held_in_row id o → IsShortIn (readable texts.rows) (map reading_of texts.rows) (key_bytes (key.Handle id))
       by None e low = nothing low
       by (Some (revision, record_of.Config config)) e low = nothing low
       by (Some (revision, record_of.Pools pools)) e low = nothing low

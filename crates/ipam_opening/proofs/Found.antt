@@ -25,7 +25,7 @@ use Rattle.ipam_records.specs.Places.{IsFoundAt, IsGapAt}
 use Rattle.ipam_records.proofs.DatastoreLemmas.{row_key-row_of}
 use Rattle.ipam_records.proofs.RecordTexts.{record_read}
 use Rattle.ipam_model.specs.Opened.{AreByKey, readable, reading_of, row_read}
-use Rattle.ipam_model.specs.Reads.{Row}
+use Rattle.ipam_model.specs.Reads.{StoredRecord}
 use Rattle.ipam_laws.proofs.Members.{in-cons, in-nothing}
 use Rattle.ipam_laws.proofs.OpenedRows.{out-readable}
 use Rattle.ipam_laws.proofs.RowOrder.{found-member}
@@ -101,7 +101,7 @@ found-own (first ∷ rows) by_key row found h e = elim (in-cons row first rows h
 pub found-none : (rows : List RowText) (k : Key) → ((row : RowText) (found : Record) → Contains rows row → reading_of row ≡ Ok found → key_of found ≢ k) → found_in k (readable rows) ≡ None
 found-none rows k none = by (row_of k (readable rows)) refl
   where
-    by : (o : Option Row) → row_of k (readable rows) ≡ o → option_map (λ (row : Row). row.1) o ≡ None
+    by : (o : Option StoredRecord) → row_of k (readable rows) ≡ o → option_map (λ (row : StoredRecord). row.1) o ≡ None
     by None e = refl
     by (Some row) e =
         let (text, among, revision, reads) = out-readable rows row (found-member k (readable rows) row e) in
@@ -125,7 +125,7 @@ found-at rows by_key k row among text = by (reading_of row) refl
     by (Ok own_record) e = elim (cases_Bool (keys_equal (key_of own_record) k)) [
       | inl same ↦
           let is = same-keys_equal (key_of own_record) k same in
-          ap (λ b. cond b (Some own_record) None) same ∙ sym (ap (option_map (λ (r : Row). r.1)) (ap (λ l. row_of l (readable rows)) (sym is) ∙ found-own rows by_key row own_record among e))
+          ap (λ b. cond b (Some own_record) None) same ∙ sym (ap (option_map (λ (r : StoredRecord). r.1)) (ap (λ l. row_of l (readable rows)) (sym is) ∙ found-own rows by_key row own_record among e))
       | inr differ ↦
           ap (λ b. cond b (Some own_record) None) differ
           ∙ sym (found-none rows k (λ other found there reads is.

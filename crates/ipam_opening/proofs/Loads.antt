@@ -21,7 +21,7 @@ use Rattle.ipam_records.specs.Sound.{IsRow}
 use Rattle.ipam_records.proofs.DatastoreLemmas.{row_key-row_of}
 use Rattle.ipam_store.specs.Granted.{HasRoomFor}
 use Rattle.ipam_model.specs.Opened.{AreByKey, MayBeOpened, OpensAs, CounterAboveLast, TooManyBlocks, TooManyRows, is_block_text, readable, reading_of, row_read}
-use Rattle.ipam_model.specs.Reads.{Row}
+use Rattle.ipam_model.specs.Reads.{StoredRecord}
 use Rattle.ipam_laws.proofs.Members.{in-place}
 use Rattle.ipam_laws.proofs.OpenedRows.{few-places, key-is-read, out-readable, readable-fewer}
 use Rattle.ipam_laws.proofs.OpensRows.{gathered, gathered-in, read-sound}
@@ -86,20 +86,20 @@ filter-back p (x ∷ front) back = by (p x) (filter-back p front back)
 -- ---- how many rows there are
 
 -- how many rows have such a key
-key_count : (Key → Bool) → List Row → ℕ
+key_count : (Key → Bool) → List StoredRecord → ℕ
 key_count p [] = 0
 key_count p (row ∷ rows) = cond (p (row_key row)) 1 0 + key_count p rows
 
-filter-key_count : (p : Key → Bool) (rows : List Row) → length (filter (λ (row : Row). p (row_key row)) rows) ≡ key_count p rows
+filter-key_count : (p : Key → Bool) (rows : List StoredRecord) → length (filter (λ (row : StoredRecord). p (row_key row)) rows) ≡ key_count p rows
 unfolding key_count
 filter-key_count p [] = refl
 filter-key_count p (r ∷ rs) = by (p (row_key r)) (filter-key_count p rs)
   where
-    by : (b : Bool) → length (filter (λ (row : Row). p (row_key row)) rs) ≡ key_count p rs → length (cond b (r ∷ filter (λ (row : Row). p (row_key row)) rs) (filter (λ (row : Row). p (row_key row)) rs)) ≡ cond b 1 0 + key_count p rs
+    by : (b : Bool) → length (filter (λ (row : StoredRecord). p (row_key row)) rs) ≡ key_count p rs → length (cond b (r ∷ filter (λ (row : StoredRecord). p (row_key row)) rs) (filter (λ (row : StoredRecord). p (row_key row)) rs)) ≡ cond b 1 0 + key_count p rs
     by true rest = omega arith
     by false rest = omega arith
 
-with_row-count : (p : Key → Bool) (row : Row) (rows : List Row) → key_count p (with_row row rows) ≤ cond (p (row_key row)) 1 0 + key_count p rows
+with_row-count : (p : Key → Bool) (row : StoredRecord) (rows : List StoredRecord) → key_count p (with_row row rows) ≤ cond (p (row_key row)) 1 0 + key_count p rows
 unfolding key_count
 with_row-count p row [] = omega arith
 with_row-count p row (first ∷ rows) = by (key_cmp (row_key row) (row_key first)) (with_row-count p row rows)
@@ -109,12 +109,12 @@ with_row-count p row (first ∷ rows) = by (key_cmp (row_key row) (row_key first
     by Equal h = omega arith
     by Greater h = omega arith
 
-gathered-count : (p : Key → Bool) (rows : List Row) → key_count p (gathered rows) ≤ key_count p rows
+gathered-count : (p : Key → Bool) (rows : List StoredRecord) → key_count p (gathered rows) ≤ key_count p rows
 unfolding gathered key_count
 gathered-count p [] = omega arith
 gathered-count p (row ∷ rows) = let one = with_row-count p row (gathered rows) in let more = gathered-count p rows in omega arith
 
-with_row-length : (row : Row) (rows : List Row) → length (with_row row rows) ≤ suc (length rows)
+with_row-length : (row : StoredRecord) (rows : List StoredRecord) → length (with_row row rows) ≤ suc (length rows)
 with_row-length row [] = omega arith
 with_row-length row (first ∷ rows) = by (key_cmp (row_key row) (row_key first)) (with_row-length row rows)
   where
@@ -123,7 +123,7 @@ with_row-length row (first ∷ rows) = by (key_cmp (row_key row) (row_key first)
     by Equal h = omega arith
     by Greater h = omega arith
 
-gathered-length : (rows : List Row) → length (gathered rows) ≤ length rows
+gathered-length : (rows : List StoredRecord) → length (gathered rows) ≤ length rows
 unfolding gathered
 gathered-length [] = omega arith
 gathered-length (row ∷ rows) = let one = with_row-length row (gathered rows) in let more = gathered-length rows in omega arith
@@ -173,7 +173,7 @@ module _ (rows : List RowText) (counter : ℕ) (by_key : AreByKey rows) (may : M
         let two = readable-fewer back in
         omega arith
 
-    few-blocks : IsTrue (is_of_kind kind.Block (key_of found)) → length (filter (λ (r : Row). is_of_kind kind.Block (row_key r)) (gathered (readable back))) < most_blocks
+    few-blocks : IsTrue (is_of_kind kind.Block (key_of found)) → length (filter (λ (r : StoredRecord). is_of_kind kind.Block (row_key r)) (gathered (readable back))) < most_blocks
     few-blocks block =
         let all = few-places (filter is_block_text rows) most_blocks (λ r e. may 9 r.key (TooManyBlocks r e)) in
         let own : is_block_text row ≡ true = text-kind row found reads ∙ block in
@@ -189,7 +189,7 @@ module _ (rows : List RowText) (counter : ℕ) (by_key : AreByKey rows) (may : M
     unfolding IsStrictlySortedBy
     fresh-next = by (row_of (key_of found) (gathered (readable back))) refl
       where
-        by : (o : Option Row) → row_of (key_of found) (gathered (readable back)) ≡ o → o ≡ None
+        by : (o : Option StoredRecord) → row_of (key_of found) (gathered (readable back)) ≡ o → o ≡ None
         by None e = refl
         by (Some other) e =
             let (text, there, at, other_reads) = out-readable back other (gathered-in (readable back) other (found-member (key_of found) (gathered (readable back)) other e)) in
@@ -221,7 +221,7 @@ module _ (rows : List RowText) (counter : ℕ) (by_key : AreByKey rows) (may : M
               loaded =
                   ap (with_reading revision reading) l.loaded
                   ∙ (with-next l.back counter revision reading
-                  ∙ ap (λ (o : Option Row). record { rows = gathered (cons_option o (readable l.back)); counter = counter }) (ap (λ (r : ℕ). row_read r reading) same ∙ ap (row_read last.row.revision) last.own));
+                  ∙ ap (λ (o : Option StoredRecord). record { rows = gathered (cons_option o (readable l.back)); counter = counter }) (ap (λ (r : ℕ). row_read r reading) same ∙ ap (row_read last.row.revision) last.own));
             };
           }
 

@@ -23,14 +23,13 @@ use Rattle.ipam_records.specs.Key.{key_of}
 use Rattle.ipam_records.specs.KeyText.{key_bytes, key_read}
 use Rattle.ipam_model.specs.Consistent.{IsSlotOfSome, pools_in, pools_in_row}
 use Rattle.ipam_model.specs.Opened.{Texts, Breaks, NoText, AnotherKey, NoTable, NoSlot, NoBlock, NoAffinityFor, NoNodeFor, AreByKey, IsBrokenBlock, cidr_of_key, pools_read, read_store, readable, reading_of}
-use Rattle.ipam_model.specs.Reads.{Row}
+use Rattle.ipam_model.specs.Reads.{StoredRecord}
 use Rattle.ipam_records.proofs.DatastoreLemmas.{row_key-row_of}
 use Rattle.ipam_records.proofs.RowKinds.{each-kind}
 use Rattle.ipam_affinity.specs.declared.record.Affinity.{Affinity}
 use Rattle.ipam_block.specs.Shape as block
 use Rattle.ipam_model.specs.Affinities.{affinity}
 use Rattle.ipam_model.specs.AffinityLaw.{HasAffinity, HasNode}
-use Rattle.ipam_model.specs.Choice.{is_node}
 use Rattle.ipam_laws.proofs.FirstFault.{key-range, read-table}
 use Rattle.ipam_laws.proofs.TextFaults.{broken-is as broken_block, fault-told as reads-told, is-broken as block_broken, is_broken, is_same_fault, reads_fault, told-fault as told-reads}
 use Rattle.ipam_laws.proofs.OpenedRows.{out-readable}
@@ -41,6 +40,7 @@ use Rattle.ipam_opening.specs.declared.rule.Rule.{Rule}
 use Rattle.ipam_opening.specs.declared.rule.Rule.TheVariants as rule
 use Rattle.ipam_opening.proofs.Firsts.{IsKeyOf, first-found, first-same}
 use Rattle.ipam_opening.proofs.Found.{found-own, own-text}
+use Rattle.ipam_records.specs.BlockLists.{is_node}
 
 -- ---- faults of texts
 
@@ -65,8 +65,8 @@ is-broken revision r h = block_broken revision r h
 -- ---- slots
 
 -- the pools that are found are those of the rows
-pools-same : (rows : List Row) → pools_found (found_in key.Pools rows) ≡ pools_in rows
-pools-same rows = each-kind (λ o. pools_found (option_map (λ (row : Row). row.1) o) ≡ pools_in_row o) refl (λ r x. refl) (λ r x. refl) (λ r x. refl) (λ r x. refl) (λ r x. refl) (λ r x. refl) (row_of key.Pools rows)
+pools-same : (rows : List StoredRecord) → pools_found (found_in key.Pools rows) ≡ pools_in rows
+pools-same rows = each-kind (λ o. pools_found (option_map (λ (row : StoredRecord). row.1) o) ≡ pools_in_row o) refl (λ r x. refl) (λ r x. refl) (λ r x. refl) (λ r x. refl) (λ r x. refl) (λ r x. refl) (row_of key.Pools rows)
 
 module _ (texts : Texts) where
   outside-is : (cidr : CidrValue) → IsCidr cidr → is_outside (pools_read texts) (Some cidr) ≡ true → ¬ (IsSlotOfSome (pools_read texts) cidr)
@@ -186,7 +186,7 @@ module _ (texts : Texts) (by_key : AreByKey texts.rows) where
       lacking row b among reads (Some node) eo e =
           subst (Breaks texts 7) (own-text row (record_of.Block b) reads)
           (NoAffinityFor b.cidr node (b, (row.revision, found-own texts.rows by_key row (record_of.Block b) among reads), eo)
-          (λ state has. let f : is_none (found_in (key.Affinity node b.cidr) (readable texts.rows)) ≡ false = ap (λ (o : Option Row). is_none (option_map (λ (r : Row). r.1) o)) has.1 in cc (e, f)))
+          (λ state has. let f : is_none (found_in (key.Affinity node b.cidr) (readable texts.rows)) ≡ false = ap (λ (o : Option StoredRecord). is_none (option_map (λ (r : StoredRecord). r.1) o)) has.1 in cc (e, f)))
 
       forth : (row : RowText) → Contains texts.rows row → (r : Result Record TextFault) → reading_of row ≡ r → is_block_alone (readable texts.rows) r ≡ true → Breaks texts 7 row.key
       forth row among (Ok (record_of.Block b)) reads e = lacking row b among reads b.node refl e
@@ -197,7 +197,7 @@ module _ (texts : Texts) (by_key : AreByKey texts.rows) where
       forth row among (Ok (record_of.Handle handle)) reads e = absurd (cc e)
       forth row among (Err broken) reads e = absurd (cc e)
 
-      absent : (cidr : CidrValue) (node : List ℕ) → ((state : State) → ¬ (HasAffinity (read_store texts) node cidr state)) → (o : Option Row) → row_of (key.Affinity node cidr) (readable texts.rows) ≡ o → is_none (option_map (λ (r : Row). r.1) o) ≡ true
+      absent : (cidr : CidrValue) (node : List ℕ) → ((state : State) → ¬ (HasAffinity (read_store texts) node cidr state)) → (o : Option StoredRecord) → row_of (key.Affinity node cidr) (readable texts.rows) ≡ o → is_none (option_map (λ (r : StoredRecord). r.1) o) ≡ true
       absent cidr node none None e = refl
       absent cidr node none (Some row) e =
           let (state, is) = affinity-found node cidr row.1 (row_key-row_of (key.Affinity node cidr) (readable texts.rows) row e) in
@@ -229,7 +229,7 @@ module _ (texts : Texts) (by_key : AreByKey texts.rows) where
           subst (Breaks texts 8) (own-text row (record_of.Affinity a) reads)
           (NoNodeFor a.cidr a.node (row.revision, found ∙ same) (λ has.
           let (b, (revision, is), held) = has in
-          let f : is_block_with a.node (found_in (key.Block a.cidr) (readable texts.rows)) ≡ true = ap (λ (o : Option Row). is_block_with a.node (option_map (λ (r : Row). r.1) o)) is ∙ node-itself a.node b.node held in
+          let f : is_block_with a.node (found_in (key.Block a.cidr) (readable texts.rows)) ≡ true = ap (λ (o : Option StoredRecord). is_block_with a.node (option_map (λ (r : StoredRecord). r.1) o)) is ∙ node-itself a.node b.node held in
           let g : not true ≡ true = sym (ap not f) ∙ alone in
           cc g))
 
@@ -242,7 +242,7 @@ module _ (texts : Texts) (by_key : AreByKey texts.rows) where
       forth row among (Ok (record_of.Handle handle)) reads e = absurd (cc e)
       forth row among (Err broken) reads e = absurd (cc e)
 
-      absent : (cidr : CidrValue) (node : List ℕ) → ¬ (HasNode (read_store texts) cidr node) → (o : Option Row) → row_of (key.Block cidr) (readable texts.rows) ≡ o → is_block_with node (option_map (λ (r : Row). r.1) o) ≡ false
+      absent : (cidr : CidrValue) (node : List ℕ) → ¬ (HasNode (read_store texts) cidr node) → (o : Option StoredRecord) → row_of (key.Block cidr) (readable texts.rows) ≡ o → is_block_with node (option_map (λ (r : StoredRecord). r.1) o) ≡ false
       absent cidr node none None e = refl
       absent cidr node none (Some (revision, record_of.Block b)) e = elim (cases_Bool (is_node node b.node)) [
         | inl own ↦ absurd (none (b, (revision, e), node-is node b.node own))

@@ -16,7 +16,7 @@ use Rattle.ipam_records.specs.declared.key.Key.TheVariants as key
 use Rattle.ipam_records.specs.declared.record.Record.{Record}
 use Rattle.ipam_records.specs.declared.record.Record.TheVariants as record_of
 use Rattle.ipam_records.specs.KeyText.{key_bytes}
-use Rattle.ipam_model.specs.Reads.{Row}
+use Rattle.ipam_model.specs.Reads.{StoredRecord}
 use Rattle.ipam_opening.specs.Earlier.{earlier}
 use Rattle.ipam_opening.specs.Rules.{found_in}
 
@@ -30,25 +30,25 @@ abbrev pub held_in : BTreeMap (Bor (List ℕ)) ℕ → List ℕ → ℕ
 held_in counts id = unwrap_or (get_by (λ k. slice_cmp nat_cmp id k.now) counts) 0
 
 -- whether the handle of this id counts fewer addresses of the block than it owns there
-abbrev pub is_short : List Row → BlockValue → List ℕ → Bool
+abbrev pub is_short : List StoredRecord → BlockValue → List ℕ → Bool
 is_short rows b id = nat_lt (count_found b.cidr (found_in (key.Handle id) rows)) (count_by (is_owned id) b.allocations)
 
 -- the first of the keys, where the handle of this id is among them if it is short
-abbrev pub with_short : List Row → BlockValue → List ℕ → Option (List ℕ) → Option (List ℕ)
+abbrev pub with_short : List StoredRecord → BlockValue → List ℕ → Option (List ℕ) → Option (List ℕ)
 with_short rows b id first =
     if is_short rows b id then earlier first (Some (key_bytes (key.Handle id))) else first
 
 -- the same of the handles of these allocations
-abbrev pub with_shorts : List Row → BlockValue → Option (List ℕ) → List Allocation → Option (List ℕ)
+abbrev pub with_shorts : List StoredRecord → BlockValue → Option (List ℕ) → List Allocation → Option (List ℕ)
 with_shorts rows b first [] = first
 with_shorts rows b first (a ∷ rest) = with_shorts rows b (with_short rows b a.attributes.handle first) rest
 
 -- of what was read of one row
-abbrev pub with_shorts_in : List Row → Option (List ℕ) → Result Record TextFault → Option (List ℕ)
+abbrev pub with_shorts_in : List StoredRecord → Option (List ℕ) → Result Record TextFault → Option (List ℕ)
 with_shorts_in rows first (Ok (record_of.Block b)) = with_shorts rows b first b.allocations
 with_shorts_in rows first _ = first
 
 -- of what was read of these rows
-abbrev pub first_short : List Row → Option (List ℕ) → List (Result Record TextFault) → Option (List ℕ)
+abbrev pub first_short : List StoredRecord → Option (List ℕ) → List (Result Record TextFault) → Option (List ℕ)
 first_short rows first [] = first
 first_short rows first (reading ∷ rest) = first_short rows (with_shorts_in rows first reading) rest

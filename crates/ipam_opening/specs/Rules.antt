@@ -17,11 +17,11 @@ use Rattle.ipam_records.specs.Datastore.{last_revision, row_of}
 use Rattle.ipam_records.specs.Key.{key_of}
 use Rattle.ipam_records.specs.KeyOrder.{keys_equal}
 use Rattle.ipam_records.specs.KeyText.{key_read}
-use Rattle.ipam_model.specs.Choice.{is_node}
 use Rattle.ipam_model.specs.Opened.{Texts, cidr_of_key, readable, reading_of}
-use Rattle.ipam_model.specs.Reads.{Row}
+use Rattle.ipam_model.specs.Reads.{StoredRecord}
 use Rattle.ipam_opening.specs.declared.rule.Rule.{Rule}
 use Rattle.ipam_opening.specs.declared.rule.Rule.TheVariants as rule
+use Rattle.ipam_records.specs.BlockLists.{is_node}
 
 abbrev pub number_of : Rule → ℕ
 number_of rule.Form = 1
@@ -61,7 +61,7 @@ is_outside pools None = false
 is_outside pools (Some cidr) = not (list_any (λ p. is_slot_of p cidr) pools)
 
 -- the record of the key among the rows
-abbrev pub found_in : Key → List Row → Option Record
+abbrev pub found_in : Key → List StoredRecord → Option Record
 found_in key rows = option_map (λ row. row.1) (row_of key rows)
 
 -- the record that was read, if it has the key
@@ -75,11 +75,11 @@ pools_found (Some (record_of.Pools pools)) = pools
 pools_found _ = []
 
 -- a node whose affinity for the block has no row
-abbrev pub lacks_affinity : List Row → CidrValue → Option (List ℕ) → Bool
+abbrev pub lacks_affinity : List StoredRecord → CidrValue → Option (List ℕ) → Bool
 lacks_affinity rows cidr None = false
 lacks_affinity rows cidr (Some node) = is_none (found_in (key.Affinity node cidr) rows)
 
-abbrev pub is_block_alone : List Row → Result Record TextFault → Bool
+abbrev pub is_block_alone : List StoredRecord → Result Record TextFault → Bool
 is_block_alone rows (Ok (record_of.Block b)) = lacks_affinity rows b.cidr b.node
 is_block_alone rows _ = false
 
@@ -92,7 +92,7 @@ abbrev pub is_block_with : List ℕ → Option Record → Bool
 is_block_with node (Some (record_of.Block b)) = is_node node b.node
 is_block_with node _ = false
 
-abbrev pub is_affinity_alone : List Row → Result Record TextFault → Bool
+abbrev pub is_affinity_alone : List StoredRecord → Result Record TextFault → Bool
 is_affinity_alone rows (Ok (record_of.Affinity a)) =
     is_confirmed a.state && not (is_block_with a.node (found_in (key.Block a.cidr) rows))
 is_affinity_alone rows _ = false

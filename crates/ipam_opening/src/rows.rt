@@ -2,7 +2,6 @@ ghost use Rattle.std.specs.Prelude.{◌≡◌, ◌<◌, ◌&&◌, length, slice_
 ghost use Rattle.std.specs.Option.{option_copied};
 ghost use Rattle.ipam_pool.specs.Slots.{is_slot_of};
 ghost use Rattle.ipam_block.specs.Operations.{node_bytes};
-ghost use Rattle.ipam_model.specs.Choice.{is_node};
 ghost use Rattle.std.specs.List.{list_any};
 ghost use Rattle.ipam_records.specs.declared.call.Row.{Row as RowText};
 ghost use Rattle.ipam_records.specs.declared.key.Key.TheVariants as key;
@@ -11,6 +10,7 @@ ghost use Rattle.ipam_model.specs.Consistent.{cidr_named};
 ghost use Rattle.ipam_model.specs.Opened.{cidr_of_key, readable};
 ghost use Rattle.ipam_opening.specs.Given.{IsRead, texts_given};
 ghost use Rattle.ipam_opening.specs.Rules.{breaks, found_in, has_fault, is_fault, is_broken_block, is_outside, pools_found, lacks_affinity, is_block_alone, is_confirmed, is_block_with, is_affinity_alone, is_no_revision};
+ghost use Rattle.ipam_records.specs.BlockLists.{is_node};
 
 use crate::given::{Given, Reading};
 use crate::rule::Rule;

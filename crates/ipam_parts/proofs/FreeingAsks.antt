@@ -3,9 +3,9 @@ use Rattle.std.proofs.Common.{◌≡◌, refl, ◌∙◌, ap, ℕ, List, IsSome}
 use Rattle.ipam_addr.specs.Shape.{CidrValue}
 use Rattle.ipam_records.specs.Hearing.{MayHear}
 use Rattle.ipam_records.specs.Said.{Said}
-use Rattle.ipam_records.specs.Word.{asked, heard}
+use Rattle.ipam_records.specs.Word.{next_call, after_reply}
 use Rattle.ipam_model.specs.declared.part.Left.{Left}
-use Rattle.ipam_model.specs.Step.{Part, StopAnswers, settled, followed}
+use Rattle.ipam_model.specs.Step.{Part, StopAnswers, as_word, part_then}
 use Rattle.ipam_parts.specs.declared.freeing.Freeing.{Freeing}
 use Rattle.ipam_parts.specs.declared.freeing.FreeingTurned.{FreeingTurned}
 use Rattle.ipam_parts.specs.declared.freeing.Picks.{Picks}
@@ -16,7 +16,7 @@ use Rattle.ipam_parts.proofs.FreeingLemmas.{asks_lowering, lowering_asks}
 use Rattle.ipam_parts.proofs.SettledLaws.{asked_settled, heard_settled, may_hear_settled}
 
 asks_at : (id : List ℕ) (cidr : CidrValue) (picks : Picks) (left : Left) (stage : Stage)
-    → IsSome (asked (freeing_at id cidr picks left stage))
+    → IsSome (next_call (freeing_at id cidr picks left stage))
 asks_at id cidr picks left Reads = refl
 asks_at id cidr picks left (Writes freed) = refl
 asks_at id cidr picks left (Lowers amount lowering) =
@@ -24,25 +24,25 @@ asks_at id cidr picks left (Lowers amount lowering) =
     let part = lowering_asks id lowering in
     cc (whole, part)
 
-pub freeing_asks : (id : List ℕ) (f : Freeing) → IsSome (asked (freeing_rest id f))
+pub freeing_asks : (id : List ℕ) (f : Freeing) → IsSome (next_call (freeing_rest id f))
 freeing_asks id f = asks_at id f.cidr f.picks f.left f.stage
 
 -- ---- a freeing with others behind it that ends in an answer
 
 pub asks_freeing : {B : Type 0} (answers : StopAnswers B) (follows : Left → ℕ → Part B) (id : List ℕ) (f : Freeing)
-    → asked (settled answers (followed (freeing_rest id f) follows)) ≡ asked (freeing_rest id f)
+    → next_call (as_word answers (part_then (freeing_rest id f) follows)) ≡ next_call (freeing_rest id f)
 asks_freeing answers follows id f = asked_settled answers (freeing_rest id f) follows (freeing_asks id f)
 
 pub hears_freeing : {B : Type 0} (answers : StopAnswers B) (follows : Left → ℕ → Part B) (id : List ℕ) (f : Freeing)
     (turned : FreeingTurned) (moment : ℕ) (said : Said)
-    → freeing_leaves id f turned ≡ heard (freeing_rest id f) moment said
-    → settled answers (followed (freeing_leaves id f turned) follows)
-    ≡ heard (settled answers (followed (freeing_rest id f) follows)) moment said
+    → freeing_leaves id f turned ≡ after_reply (freeing_rest id f) moment said
+    → as_word answers (part_then (freeing_leaves id f turned) follows)
+    ≡ after_reply (as_word answers (part_then (freeing_rest id f) follows)) moment said
 hears_freeing answers follows id f turned moment said is =
-    ap (λ part. settled answers (followed part follows)) is
+    ap (λ part. as_word answers (part_then part follows)) is
     ∙ heard_settled answers (freeing_rest id f) follows moment said (freeing_asks id f)
 
 pub may_hear_freeing : {B : Type 0} (answers : StopAnswers B) (follows : Left → ℕ → Part B) (id : List ℕ) (f : Freeing)
-    (said : Said) → MayHear (settled answers (followed (freeing_rest id f) follows)) said → MayHear (freeing_rest id f) said
+    (said : Said) → MayHear (as_word answers (part_then (freeing_rest id f) follows)) said → MayHear (freeing_rest id f) said
 may_hear_freeing answers follows id f said may =
     may_hear_settled answers (freeing_rest id f) follows said (freeing_asks id f) may

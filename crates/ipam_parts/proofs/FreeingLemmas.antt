@@ -2,7 +2,7 @@
 use native.Mathlib.Omega.{arith}
 use Rattle.std.proofs.Common.{◌≡◌, ◌<◌, ◌^◌, refl, sym, ap, ◌∙◌, ℕ, zero, suc, List, Option, Some, None, IsSome, IfSome}
 use Rattle.std.specs.List.{count_by}
-use Rattle.ipam_block.specs.Operations.{freed, next_block}
+use Rattle.ipam_block.specs.Operations.{block_without, next_block}
 use Rattle.ipam_addr.specs.Shape.{CidrValue}
 use Rattle.ipam_block.specs.Shape.{BlockValue}
 use Rattle.ipam_records.specs.declared.key.Key.TheVariants as key
@@ -11,12 +11,12 @@ use Rattle.ipam_records.specs.Hearing.{MayHear}
 use Rattle.ipam_records.specs.Said.{Said, Found, Missing, Listed, Can, Exists, Conflict, Full, Spent}
 use Rattle.ipam_records.specs.declared.call.Call.TheVariants.{Update}
 use Rattle.ipam_records.specs.Label.{idle}
-use Rattle.ipam_records.specs.Word.{Asks, Ends, asked, heard, ended}
+use Rattle.ipam_records.specs.Word.{Asks, Ends, next_call, after_reply, answer_in}
 use Rattle.ipam_model.specs.declared.part.Left.{Left}
 use Rattle.ipam_model.specs.declared.part.Outcome.{Outcome}
 use Rattle.ipam_model.specs.declared.part.Outcome.TheVariants.{Went, Stops}
 use Rattle.ipam_model.specs.Counting.{credit_of, free, free_once, free_these, lower}
-use Rattle.ipam_model.specs.Step.{Part, followed, onward}
+use Rattle.ipam_model.specs.Step.{Part, part_then, onward}
 use Rattle.ipam_parts.specs.declared.freeing.Picks.{Picks}
 use Rattle.ipam_parts.specs.declared.freeing.Stage.TheVariants.{Reads, Writes}
 use Rattle.ipam_parts.specs.declared.lowering.Lowering.{Lowering}
@@ -37,58 +37,58 @@ pub begins : (id : List ℕ) (cidr : CidrValue) (picks : Picks) (left : Left)
 begins id cidr picks left = sym (retried_once (free_once (what_of id cidr picks)) left)
 
 lowering_asks_at : (id : List ℕ) (cidr : CidrValue) (amount : ℕ) (left : Left) (stage : LowerStage)
-    → IsSome (asked (lowering_at id cidr amount left stage))
+    → IsSome (next_call (lowering_at id cidr amount left stage))
 lowering_asks_at id cidr amount left lower.Reads = refl
 lowering_asks_at id cidr amount left (lower.Writes lowered) = refl
 
 -- a lowering has a call to make
-pub lowering_asks : (id : List ℕ) (l : Lowering) → IsSome (asked (lowering_rest id l))
+pub lowering_asks : (id : List ℕ) (l : Lowering) → IsSome (next_call (lowering_rest id l))
 lowering_asks id l = lowering_asks_at id l.cidr l.amount l.left l.stage
 
 -- while the count is lowered, the call is the lowering's
 pub asks_lowering : (id : List ℕ) (l : Lowering) (amount : ℕ)
-    → asked (followed (lowering_rest id l) (with_amount amount)) ≡ asked (lowering_rest id l)
+    → next_call (part_then (lowering_rest id l) (with_amount amount)) ≡ next_call (lowering_rest id l)
 asks_lowering id l amount = asked_bound (lowering_rest id l) (onward (with_amount amount)) (lowering_asks id l)
 
 pub hears_lowering : (id : List ℕ) (l : Lowering) (amount moment : ℕ) (said : Said)
-    → heard (followed (lowering_rest id l) (with_amount amount)) moment said
-    ≡ followed (heard (lowering_rest id l) moment said) (with_amount amount)
+    → after_reply (part_then (lowering_rest id l) (with_amount amount)) moment said
+    ≡ part_then (after_reply (lowering_rest id l) moment said) (with_amount amount)
 hears_lowering id l amount moment said =
     heard_bound (lowering_rest id l) (onward (with_amount amount)) moment said (lowering_asks id l)
 
 pub may_hear_lowering : (id : List ℕ) (l : Lowering) (amount : ℕ) (said : Said)
-    → MayHear (followed (lowering_rest id l) (with_amount amount)) said → MayHear (lowering_rest id l) said
+    → MayHear (part_then (lowering_rest id l) (with_amount amount)) said → MayHear (lowering_rest id l) said
 may_hear_lowering id l amount said may =
     may_hear_bound (lowering_rest id l) (onward (with_amount amount)) said (lowering_asks id l) may
 
 onward_amount : (amount : ℕ) (outcome : Outcome (Unit {0}))
-    → ended (onward (with_amount amount) outcome) ≡ Some (amount_in amount outcome)
+    → answer_in (onward (with_amount amount) outcome) ≡ Some (amount_in amount outcome)
 onward_amount amount (Went left done) = refl
 onward_amount amount (Stops left why) = refl
 
 -- once the lowering has come to an end, so has the whole
-pub lowering_ends : (part : Part (Unit {0})) (amount : ℕ) (outcome : Outcome (Unit {0})) → Some outcome ≡ ended part
-    → Some (amount_in amount outcome) ≡ ended (followed part (with_amount amount))
+pub lowering_ends : (part : Part (Unit {0})) (amount : ℕ) (outcome : Outcome (Unit {0})) → Some outcome ≡ answer_in part
+    → Some (amount_in amount outcome) ≡ answer_in (part_then part (with_amount amount))
 lowering_ends part amount outcome is =
-    sym (ap ended (ended_bound part (onward (with_amount amount)) outcome is) ∙ onward_amount amount outcome)
+    sym (ap answer_in (ended_bound part (onward (with_amount amount)) outcome is) ∙ onward_amount amount outcome)
 
-pub lowering_goes_on : (part : Part (Unit {0})) (amount : ℕ) → None ≡ ended part
-    → None ≡ ended (followed part (with_amount amount))
+pub lowering_goes_on : (part : Part (Unit {0})) (amount : ℕ) → None ≡ answer_in part
+    → None ≡ answer_in (part_then part (with_amount amount))
 lowering_goes_on part amount none = goes_on_bound part (onward (with_amount amount)) none
 
 lowers : (id : List ℕ) (cidr : CidrValue) (amount count lowered : ℕ) (left : Left) (l : Lowering)
     → lowering_rest id l ≡ lower (credit_of id cidr lowered) left → lowered ≡ amount → count ≡ amount
-    → followed (lowering_rest id l) (with_amount count) ≡ followed (lower (credit_of id cidr amount) left) (with_amount amount)
+    → part_then (lowering_rest id l) (with_amount count) ≡ part_then (lower (credit_of id cidr amount) left) (with_amount amount)
 lowers id cidr amount count lowered left l is same counted =
-    ap (λ part. followed part (with_amount count)) is
-    ∙ ap (λ n. followed (lower (credit_of id cidr n) left) (with_amount count)) same
-    ∙ ap (λ n. followed (lower (credit_of id cidr amount) left) (with_amount n)) counted
+    ap (λ part. part_then part (with_amount count)) is
+    ∙ ap (λ n. part_then (lower (credit_of id cidr n) left) (with_amount count)) same
+    ∙ ap (λ n. part_then (lower (credit_of id cidr amount) left) (with_amount n)) counted
 
 -- once the block is written, the count is lowered by as much
 pub took_written : (id : List ℕ) (cidr : CidrValue) (picks : Picks) (left : Left) (amount count lowered revision : ℕ) (reply : Said) (l : Lowering)
     → write_end reply ≡ Took revision → lowering_rest id l ≡ lower (credit_of id cidr lowered) left
     → lowered ≡ amount → count ≡ amount
-    → followed (lowering_rest id l) (with_amount count) ≡ freeing_written id cidr picks left amount reply
+    → part_then (lowering_rest id l) (with_amount count) ≡ freeing_written id cidr picks left amount reply
 took_written id cidr picks left amount count lowered revision (Can given) l took is same counted =
     lowers id cidr amount count lowered left l is same counted
 took_written id cidr picks left amount count lowered revision (Found at found) l took is same counted = absurd (cc took)
@@ -118,7 +118,7 @@ positive (suc n) none = omega arith
 
 frees_amount : (id : List ℕ) (cidr : CidrValue) (picks : Picks) (left : Left) (found : ℕ × BlockValue) (amount : ℕ)
     → 0 < amount
-    → Asks idle (Update (record_of.Block (freed (picked id picks) (next_block found.1))) found.0)
+    → Asks idle (Update (record_of.Block (block_without (picked id picks) (next_block found.1))) found.0)
     (λ moment reply. freeing_written id cidr picks left amount reply)
     ≡ free_these (what_of id cidr picks) (again id cidr picks left) left amount found
 frees_amount id cidr picks left found zero some = absurd (omega arith)
@@ -133,7 +133,7 @@ freed_same f block revision amount id cidr picks left = grind arith
 -- a block with something that is picked is written without it
 pub frees_some : (id : List ℕ) (cidr : CidrValue) (picks : Picks) (left : Left) (revision : ℕ) (b : BlockValue) (f : Freed) (amount : ℕ)
     → amount ≡ count_by (picked id picks) b.allocations → (amount ≡ 0 → ⊥)
-    → f.block ≡ freed (picked id picks) (next_block b) → f.revision ≡ revision → f.amount ≡ amount
+    → f.block ≡ block_without (picked id picks) (next_block b) → f.revision ≡ revision → f.amount ≡ amount
     → freeing_at id cidr picks left (Writes f) ≡ freeing_found id cidr picks left (Some (revision, b))
 frees_some id cidr picks left revision b f amount is some made at same =
     freed_same f made at same id cidr picks left

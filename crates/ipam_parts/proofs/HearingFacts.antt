@@ -10,19 +10,16 @@ use Rattle.ipam_records.specs.Datastore.{reply_to_get, row_of, last_revision}
 use Rattle.ipam_records.specs.Hearing.{CanBeSaid}
 use Rattle.ipam_records.specs.Said.{Said, Found}
 use Rattle.ipam_records.specs.Sound.{IsRow}
-use Rattle.ipam_model.specs.Reads.{block_said}
+use Rattle.ipam_model.specs.Reads.{block_said, StoredRecord}
 
-abbrev Row : Type 0
-Row = ℕ × Record
-
-holds_of_found : (P : Row → Type 0) (test : Row → Bool) (rows : List Row) → All P rows → IfSome (find test rows) P
+holds_of_found : (P : StoredRecord → Type 0) (test : StoredRecord → Bool) (rows : List StoredRecord) → All P rows → IfSome (find test rows) P
 holds_of_found P test [] all = tt
 holds_of_found P test (row ∷ rows) all = elim (test row) as (λ b. IfSome (cond b (Some row) (find test rows)) P) [
   | true ↦ All-head P row rows all
   | false ↦ holds_of_found P test rows (All-tail P row rows all)
 ]
 
-row_told : (P : Row → Type 0) (found : Option Row) (revision : ℕ) (r : Record)
+row_told : (P : StoredRecord → Type 0) (found : Option StoredRecord) (revision : ℕ) (r : Record)
     → IfSome found P → reply_to_get found ≡ Found revision r → P (revision, r)
 row_told P None revision r holds told = grind arith
 row_told P (Some row) revision r holds told = grind arith

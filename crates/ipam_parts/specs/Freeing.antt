@@ -13,7 +13,7 @@ use Rattle.ipam_model.specs.declared.part.Left.{Left}
 use Rattle.ipam_model.specs.declared.part.Outcome.{Outcome}
 use Rattle.ipam_model.specs.declared.part.Outcome.TheVariants.{Went, Stops}
 use Rattle.ipam_model.specs.Counting.{Freeing as What, free_found, free_once, lower, credit_of}
-use Rattle.ipam_model.specs.Step.{Part, goes as went, followed, on_write}
+use Rattle.ipam_model.specs.Step.{Part, goes as went, part_then, on_write}
 use Rattle.ipam_parts.specs.Tries.{again_of}
 use Rattle.ipam_parts.specs.Lowering.{lowering_rest, lowering_leaves}
 use Rattle.ipam_parts.specs.declared.lowering.LoweringTurned.{LoweringTurned}
@@ -44,7 +44,7 @@ with_amount amount now done = went now amount
 abbrev pub freeing_written : List ℕ → CidrValue → Picks → Left → (amount : ℕ) → Said → Part ℕ
 freeing_written id cidr picks left amount reply =
     on_write reply left
-    (λ taken. followed (lower (credit_of id cidr amount) left) (with_amount amount))
+    (λ taken. part_then (lower (credit_of id cidr amount) left) (with_amount amount))
     (again id cidr picks left)
 
 -- what follows the read
@@ -57,7 +57,7 @@ freeing_at id cidr picks left Reads = free_once (what_of id cidr picks) (again i
 freeing_at id cidr picks left (Writes freed) =
     Asks idle (Update (record_of.Block freed.block) freed.revision)
     (λ moment reply. freeing_written id cidr picks left freed.amount reply)
-freeing_at id cidr picks left (Lowers amount lowering) = followed (lowering_rest id lowering) (with_amount amount)
+freeing_at id cidr picks left (Lowers amount lowering) = part_then (lowering_rest id lowering) (with_amount amount)
 
 abbrev pub freeing_rest : List ℕ → Freeing → Part ℕ
 freeing_rest id f = freeing_at id f.cidr f.picks f.left f.stage
@@ -65,7 +65,7 @@ freeing_rest id f = freeing_at id f.cidr f.picks f.left f.stage
 -- what is left once the lowering goes where a reply led it; no other stage has one
 abbrev pub lowers_leaves : List ℕ → CidrValue → Picks → Left → Stage → LoweringTurned → Part ℕ
 lowers_leaves id cidr picks left (Lowers amount lowering) turned =
-    followed (lowering_leaves id lowering turned) (with_amount amount)
+    part_then (lowering_leaves id lowering turned) (with_amount amount)
 lowers_leaves id cidr picks left stage turned = freeing_at id cidr picks left stage
 
 -- what is left once it goes there

@@ -4,7 +4,7 @@ use Rattle.ipam_model.specs.declared.part.Left.{Left}
 use Rattle.ipam_model.specs.declared.part.Stop.{Stop}
 use Rattle.ipam_model.specs.declared.part.Stop.TheVariants.{OutOfTries, OutOfClaims}
 use Rattle.ipam_records.specs.Word.{Word, Ends}
-use Rattle.ipam_model.specs.Step.{left_of, Part, StopAnswers, stops, stop_answer, settled, after_lost, retried}
+use Rattle.ipam_model.specs.Step.{left_of, Part, StopAnswers, stops, stop_answer, as_word, after_lost, with_retries}
 
 abbrev pub less_races : (races claims : ℕ) → Result Left Stop
 less_races zero claims = Err OutOfTries
@@ -29,11 +29,11 @@ on_left left (Err why) on = stops left why
 
 -- what follows where a try loses a race
 abbrev pub again_of : {A : Type 0} → (try : Part A → Left → Part A) → Left → Part A
-again_of try left = after_lost left.races left.claims (retried try)
+again_of try left = after_lost left.races left.claims (with_retries try)
 
 -- what is left where the part is a whole request: its next try, or the answer that it stops with
 abbrev pub settled_try : {A : Type 0} → StopAnswers A → (try : Part A → Left → Part A) → Left → Result Left Stop → Word A
-settled_try answers try left (Ok now) = settled answers (try (again_of try now) now)
+settled_try answers try left (Ok now) = as_word answers (try (again_of try now) now)
 settled_try answers try left (Err why) = Ends (stop_answer answers left why)
 
 -- what is left of a part: its next try, or that it stopped

@@ -1,9 +1,9 @@
 ghost use Rattle.std.specs.Prelude.{◌≡◌, ◌<◌, ◌^◌, ℕ, List, Some, IfOk, IfNone};
 ghost use Rattle.std.specs.List.{count_by};
-ghost use Rattle.ipam_block.specs.Operations.{freed, next_block};
+ghost use Rattle.ipam_block.specs.Operations.{block_without, next_block};
 ghost use Rattle.ipam_records.specs.Hearing.{MayHear};
 ghost use Rattle.ipam_records.specs.Said.{said};
-ghost use Rattle.ipam_records.specs.Word.{asked, heard, ended};
+ghost use Rattle.ipam_records.specs.Word.{next_call, after_reply, answer_in};
 ghost use Rattle.ipam_model.specs.Counting.{free};
 ghost use Rattle.ipam_parts.specs.Freeing.{what_of, picked, amount_in, freeing_at, freeing_found, freeing_written, freeing_rest, freeing_goes, lowers_leaves, freeing_leaves};
 ghost use Rattle.ipam_addr.specs.Shape.{CidrValue};
@@ -90,7 +90,7 @@ impl Freeing {
     /// The next call.
     #[tactic(auto, using(crate::proofs::FreeingLemmas::asks_lowering))]
     pub fn call(&self, alloc: Global, id: &str) -> Result<Call, AllocError>
-        ensures { IfOk result (λ call. asked (freeing_rest id.now self.now) ≡ Some call) }
+        ensures { IfOk result (λ call. next_call (freeing_rest id.now self.now) ≡ Some call) }
     {
         match &self.stage {
             Stage::Reads => Ok(Call::Get(Key::Block(self.cidr))),
@@ -111,7 +111,7 @@ impl Freeing {
     ) -> Result<FreeingTurned, AllocError>
         requires { MayHear (freeing_rest id.now self.now) (said hearing.now.reply) }
         ensures { IfOk result (λ turned. freeing_leaves id.now self.now turned
-            ≡ heard (freeing_rest id.now self.now) hearing.now.moment (said hearing.now.reply)) }
+            ≡ after_reply (freeing_rest id.now self.now) hearing.now.moment (said hearing.now.reply)) }
     {
         match &self.stage {
             Stage::Reads => {
@@ -132,7 +132,7 @@ impl Freeing {
     fn read(&self, id: &str, hearing: &Heard) -> Result<Goes, AllocError>
         requires { MayHear (freeing_at id.now self.now.cidr self.now.picks self.now.left Reads) (said hearing.now.reply) }
         ensures { IfOk result (λ goes. freeing_goes id.now self.now goes
-            ≡ heard (freeing_at id.now self.now.cidr self.now.picks self.now.left Reads) hearing.now.moment (said hearing.now.reply)) }
+            ≡ after_reply (freeing_at id.now self.now.cidr self.now.picks self.now.left Reads) hearing.now.moment (said hearing.now.reply)) }
     {
         match block_in(&hearing.reply) {
             None => Ok(Goes::Ends(Outcome::Went(self.left, 0))),
@@ -176,7 +176,7 @@ impl Freeing {
 
     /// Goes where a reply led. Takes no memory.
     pub fn go(&mut self, turned: FreeingTurned) -> Option<Outcome<u32>>
-        ensures answer { (id : List ℕ) → result ≡ ended (freeing_leaves id self.old turned) }
+        ensures answer { (id : List ℕ) → result ≡ answer_in (freeing_leaves id self.old turned) }
         ensures on { IfNone result ((id : List ℕ) → freeing_rest id self.new ≡ freeing_leaves id self.old turned) }
     {
         match turned.goes {
@@ -212,7 +212,7 @@ impl Freed {
 
 /// The lowering goes where a reply led it.
 fn lowered(stage: &mut Stage, turned: LoweringTurned) -> Option<Outcome<u32>>
-    ensures answer { (id : List ℕ) (cidr : CidrValue) (picks : Picking) (left : Left) → result ≡ ended (lowers_leaves id cidr picks left stage.old turned) }
+    ensures answer { (id : List ℕ) (cidr : CidrValue) (picks : Picking) (left : Left) → result ≡ answer_in (lowers_leaves id cidr picks left stage.old turned) }
     ensures on { IfNone result ((id : List ℕ) (cidr : CidrValue) (picks : Picking) (left : Left) → freeing_at id cidr picks left stage.new ≡ lowers_leaves id cidr picks left stage.old turned) }
 {
     match stage {
@@ -236,7 +236,7 @@ fn with_amount(outcome: Outcome<()>, amount: u32) -> Outcome<u32>
 
 /// Frees what is picked of the handle's, and answers how many ordinals that were.
 fn freed_in(block: &mut Block, id: &str, picks: Picks) -> u32
-    ensures freed { block.new ≡ freed (picked id.now picks) block.old }
+    ensures freed { block.new ≡ block_without (picked id.now picks) block.old }
     ensures count { result ≡ count_by (picked id.now picks) block.old.allocations }
 {
     let which = match picks {

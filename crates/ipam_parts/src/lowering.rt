@@ -1,7 +1,7 @@
 ghost use Rattle.std.specs.Prelude.{◌≡◌, ◌<◌, ℕ, List, Some, IfOk, IfNone};
 ghost use Rattle.ipam_records.specs.Hearing.{MayHear};
 ghost use Rattle.ipam_records.specs.Said.{said};
-ghost use Rattle.ipam_records.specs.Word.{asked, heard, ended};
+ghost use Rattle.ipam_records.specs.Word.{next_call, after_reply, answer_in};
 ghost use Rattle.ipam_model.specs.Counting.{credit_of, lower, lowering};
 ghost use Rattle.ipam_parts.specs.Lowering.{lowering_at, lowering_written, lowering_rest, lowering_goes, lowering_leaves};
 ghost use Rattle.ipam_parts.specs.declared.lowering.Stage.TheVariants.{Reads, Writes};
@@ -72,7 +72,7 @@ impl Lowering {
 
     /// The next call.
     pub fn call(&self, alloc: Global, id: &str) -> Result<Call, AllocError>
-        ensures { IfOk result (λ call. asked (lowering_rest id.now self.now) ≡ Some call) }
+        ensures { IfOk result (λ call. next_call (lowering_rest id.now self.now) ≡ Some call) }
     {
         match &self.stage {
             Stage::Reads => Ok(Call::Get(Key::Handle(Text::copied(alloc, id)?))),
@@ -89,7 +89,7 @@ impl Lowering {
     ) -> Result<LoweringTurned, AllocError>
         requires { MayHear (lowering_rest id.now self.now) (said hearing.now.reply) }
         ensures { IfOk result (λ turned. lowering_leaves id.now self.now turned
-            ≡ heard (lowering_rest id.now self.now) hearing.now.moment (said hearing.now.reply)) }
+            ≡ after_reply (lowering_rest id.now self.now) hearing.now.moment (said hearing.now.reply)) }
     {
         match &self.stage {
             Stage::Reads => {
@@ -107,7 +107,7 @@ impl Lowering {
     fn read(&self, alloc: Global, id: &str, hearing: &Heard) -> Result<Lowered, AllocError>
         requires { MayHear (lowering_at id.now self.now.cidr self.now.amount self.now.left Reads) (said hearing.now.reply) }
         ensures { IfOk result (λ lowered. lowering_at id.now self.now.cidr self.now.amount self.now.left (Writes lowered)
-            ≡ heard (lowering_at id.now self.now.cidr self.now.amount self.now.left Reads) hearing.now.moment (said hearing.now.reply)) }
+            ≡ after_reply (lowering_at id.now self.now.cidr self.now.amount self.now.left Reads) hearing.now.moment (said hearing.now.reply)) }
     {
         let mut handle = handle_in(alloc, id, &hearing.reply)?;
         let revision = revision_in(&hearing.reply).unwrap_or(0);
@@ -133,7 +133,7 @@ impl Lowering {
 
     /// Goes where a reply led. Takes no memory.
     pub fn go(&mut self, turned: LoweringTurned) -> Option<Outcome<()>>
-        ensures answer { (id : List ℕ) → result ≡ ended (lowering_leaves id self.old turned) }
+        ensures answer { (id : List ℕ) → result ≡ answer_in (lowering_leaves id self.old turned) }
         ensures on { IfNone result ((id : List ℕ) → lowering_rest id self.new ≡ lowering_leaves id self.old turned) }
     {
         match turned.goes {

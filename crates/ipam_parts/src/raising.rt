@@ -1,7 +1,7 @@
 ghost use Rattle.std.specs.Prelude.{◌≡◌, ℕ, List, Some, IfOk, IfNone};
 ghost use Rattle.ipam_records.specs.Hearing.{MayHear};
 ghost use Rattle.ipam_records.specs.Said.{said};
-ghost use Rattle.ipam_records.specs.Word.{asked, heard, ended};
+ghost use Rattle.ipam_records.specs.Word.{next_call, after_reply, answer_in};
 ghost use Rattle.ipam_model.specs.Counting.{raise};
 ghost use Rattle.ipam_parts.specs.Raising.{raising_at, raising_written, raising_rest, raising_goes, raising_leaves};
 ghost use Rattle.ipam_parts.specs.declared.raising.Stage.TheVariants.{Reads};
@@ -68,7 +68,7 @@ impl Raising {
 
     /// The next call.
     pub fn call(&self, alloc: Global, id: &str) -> Result<Call, AllocError>
-        ensures { IfOk result (λ call. asked (raising_rest id.now self.now) ≡ Some call) }
+        ensures { IfOk result (λ call. next_call (raising_rest id.now self.now) ≡ Some call) }
     {
         match &self.stage {
             Stage::Reads => Ok(Call::Get(Key::Handle(Text::copied(alloc, id)?))),
@@ -90,7 +90,7 @@ impl Raising {
         hearing: &Heard,
     ) -> Result<RaisingTurned, AllocError>
         ensures { IfOk result (λ turned. raising_leaves id.now self.now turned
-            ≡ heard (raising_rest id.now self.now) hearing.now.moment (said hearing.now.reply)) }
+            ≡ after_reply (raising_rest id.now self.now) hearing.now.moment (said hearing.now.reply)) }
     {
         match &self.stage {
             Stage::Reads => {
@@ -106,7 +106,7 @@ impl Raising {
 
     fn read(&self, alloc: Global, id: &str, hearing: &Heard) -> Result<Goes, AllocError>
         ensures { IfOk result (λ goes. raising_goes id.now self.now goes
-            ≡ heard (raising_at id.now self.now.cidr self.now.left Reads) hearing.now.moment (said hearing.now.reply)) }
+            ≡ after_reply (raising_at id.now self.now.cidr self.now.left Reads) hearing.now.moment (said hearing.now.reply)) }
     {
         let mut handle = handle_in(alloc, id, &hearing.reply)?;
         let revision = revision_in(&hearing.reply);
@@ -138,7 +138,7 @@ impl Raising {
 
     /// Goes where a reply led. Takes no memory.
     pub fn go(&mut self, turned: RaisingTurned) -> Option<Outcome<()>>
-        ensures answer { (id : List ℕ) → result ≡ ended (raising_leaves id self.old turned) }
+        ensures answer { (id : List ℕ) → result ≡ answer_in (raising_leaves id self.old turned) }
         ensures on { IfNone result ((id : List ℕ) → raising_rest id self.new ≡ raising_leaves id self.old turned) }
     {
         match turned.goes {

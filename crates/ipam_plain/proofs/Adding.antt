@@ -16,7 +16,7 @@ use Rattle.ipam_model.specs.declared.request.AddRequest.{AddRequest}
 use Rattle.ipam_model.specs.Add.{add_each, add_stops, add_word, after_family, asked_of, refuse, serve}
 use Rattle.ipam_model.specs.Counting.{Freeing, free, freeing_one, most_count}
 use Rattle.ipam_model.specs.Plain.{Gives, PlainAnswer, PlainGift, PlainServed, Result, Rows, Served, Unserved, freeing_gift, plain_add, plain_after, plain_each, plain_family, plain_of, seen_in, with_freed, with_gifts_freed}
-use Rattle.ipam_model.specs.Step.{all_left, followed, left_of}
+use Rattle.ipam_model.specs.Step.{all_left, part_then, left_of}
 use Rattle.ipam_model.specs.Told.{of_add}
 use Rattle.ipam_model.specs.Usable.{families_if}
 use Rattle.ipam_laws.proofs.AloneCalls.{Runs, Runs-bound}
@@ -73,7 +73,7 @@ module _ (request : AddRequest) where
       let stamps = own.stamp in
       let what : freeing_one id g.block (g.given.address.number - g.block.base) g.stamp ≡ freeing_gift request p = λ i. freeing_one id (blocks i) (ordinals i) (stamps i) in
       let Q : Datastore → AddAnswer → Type 0 = IsPlainAdd (why, with_gifts_freed request ps (with_freed (freeing_gift request p) rows)) in
-      subst (λ (f : Freeing). Runs [] (Finishes Q) store moment (followed (free f left) (λ now amount. refuse request gs told now))) (sym what)
+      subst (λ (f : Freeing). Runs [] (Finishes Q) store moment (part_then (free f left) (λ now amount. refuse request gs told now))) (sym what)
       (comes-followed [] left (λ then (many : ℕ). Became (with_freed (freeing_gift request p) rows) (store.counter + 2) then) (Finishes Q) (λ now amount. refuse request gs told now) (free (freeing_gift request p) left) store moment
       (free-comes [] (freeing_gift request p) left store moment rows is (omega arith))
       (λ then later many b. let most = b.taken in refuse-comes gs ps told why left then later (with_freed (freeing_gift request p) rows) h.1 says b.is_as (omega arith)))

@@ -24,11 +24,11 @@ use Rattle.ipam_model.specs.AddThis.{Looked, NextRound, Rules, Wanted, add_this_
 use Rattle.ipam_model.specs.Affinities.{BlockRead}
 use Rattle.ipam_model.specs.AffinityLaw.{HasAt}
 use Rattle.ipam_model.specs.Assigning.{assign, claim_for, target_in}
-use Rattle.ipam_model.specs.Choice.{Claims, Leaves, Share, Takes, by_share, is_node, share_of}
+use Rattle.ipam_model.specs.Choice.{Claims, Leaves, Share, Takes, by_share, share_of}
 use Rattle.ipam_model.specs.Counting.{most_count}
-use Rattle.ipam_model.specs.Plain.{Gives, IsAnothers, Result, Rows, block_of, found_in, handle_of, plain_add_this, plain_of, plain_this, plain_this_block, plain_this_claimed, plain_this_free, plain_this_held, plain_this_pool, with_assigned, with_claimed}
+use Rattle.ipam_model.specs.Plain.{Gives, IsAnothers, Result, Rows, block_in_rows, found_in, handle_of, plain_add_this, plain_of, plain_this, plain_this_block, plain_this_claimed, plain_this_free, plain_this_held, plain_this_pool, with_assigned, with_claimed}
 use Rattle.ipam_model.specs.Reads.{block_said, config_said, pools_said}
-use Rattle.ipam_model.specs.Step.{all_left, followed, goes, left_of, rounds, stops}
+use Rattle.ipam_model.specs.Step.{all_left, part_then, goes, left_of, rounds, stops}
 use Rattle.ipam_model.specs.Told.{of_add_this}
 use Rattle.ipam_model.specs.Usable.{usable_pool_of}
 use Rattle.ipam_laws.proofs.AloneCalls.{Runs, runs-get}
@@ -40,6 +40,7 @@ use Rattle.ipam_plain.proofs.Budget.{Enough, enough-less}
 use Rattle.ipam_plain.proofs.Claiming.{IsClaimed, claim_for-comes, claimed-as, claimed-taken}
 use Rattle.ipam_plain.proofs.Taking.{IsAssigned, IsBelow, as-assigned, assign-comes}
 use Rattle.ipam_plain.proofs.Writes.{Finishes, IsAs, comes-followed, finishes-settled}
+use Rattle.ipam_records.specs.BlockLists.{is_node}
 
 -- answered so, and the store stands for the rows
 pub record IsPlainThis (result : Result) (then : Datastore) (told : AddThisAnswer) : Type 0 where
@@ -136,13 +137,13 @@ module _ (request : AddRequest) (address : AddrValue) where
     left = left_of races (suc claims)
 
     -- behind the claim there is one round more
-    behind-claim : (pool : Pool) (then : Datastore) (later : ℕ) → pool_in store.rows ≡ Some pool → IsAsRead store (slot_holding pool address) (block_of (slot_holding pool address) store.rows)
-        → holder (taken request.node (slot_holding pool address) (block_of (slot_holding pool address) store.rows)) (address.number - (slot_holding pool address).base) ≡ None
-        → IsClaimed store.rows request.node (slot_holding pool address) (block_of (slot_holding pool address) store.rows) 2 1 0 then
+    behind-claim : (pool : Pool) (then : Datastore) (later : ℕ) → pool_in store.rows ≡ Some pool → IsAsRead store (slot_holding pool address) (block_in_rows (slot_holding pool address) store.rows)
+        → holder (taken request.node (slot_holding pool address) (block_in_rows (slot_holding pool address) store.rows)) (address.number - (slot_holding pool address).base) ≡ None
+        → IsClaimed store.rows request.node (slot_holding pool address) (block_in_rows (slot_holding pool address) store.rows) 2 1 0 then
         → Runs [] (Finishes (IsPlainThis (plain_this_claimed wanted (slot_holding pool address) store.rows))) then later (next (left_of races claims))
     behind-claim pool then later in_pool as_read none h =
         let cidr = slot_holding pool address in
-        let read = block_of cidr store.rows in
+        let read = block_in_rows cidr store.rows in
         let b = taken request.node cidr read in
         let own = taken-cidr [] request.node cidr read store as_read in
         let after = with_claimed request.node cidr store.rows in
@@ -150,19 +151,19 @@ module _ (request : AddRequest) (address : AddrValue) where
         let (revision, there) = record-row (key.Block cidr) then.rows (record_of.Block b) h.is_in.has_block in
         let handles : handle_of id then.rows ≡ handle_of id store.rows = same-handle id then.rows store.rows (h.is_in.others (key.Handle id) (λ e. cc e) (λ e. cc e)) in
         let pools : pool_in then.rows ≡ pool_in store.rows = ap (λ (l : List Pool). usable_pool_of (asked_of_this request address) address l) (same-pools then.rows store.rows (h.is_in.others key.Pools (λ e. cc e) (λ e. cc e))) in
-        let shown : value_in (block_of cidr after) ≡ Some b = block_of-record cidr after ∙ ap block_from (sym (is_then.alike (key.Block cidr)) ∙ h.is_in.has_block) in
-        subst (λ (r : Result). Runs [] (Finishes (IsPlainThis r)) then later (next (left_of races claims))) (sym (plain-gives cidr (block_of cidr after) b after shown))
+        let shown : value_in (block_in_rows cidr after) ≡ Some b = block_of-record cidr after ∙ ap block_from (sym (is_then.alike (key.Block cidr)) ∙ h.is_in.has_block) in
+        subst (λ (r : Result). Runs [] (Finishes (IsPlainThis r)) then later (next (left_of races claims))) (sym (plain-gives cidr (block_in_rows cidr after) b after shown))
         (on pool b then later after (pools ∙ in_pool) (record { revision = revision; there = there; is_of = own; own = own-node cidr read; none = none }) is_then
         (λ c. subst (λ (g : HandleValue). count_of g c < most_count) (sym handles) (below c)) h.enough)
 
-    claim-comes : (looked : Looked) (pool : Pool) (moment : ℕ) → pool_in store.rows ≡ Some pool → looked.cidr ≡ slot_holding pool address → IsAsRead store (slot_holding pool address) (block_of (slot_holding pool address) store.rows)
-        → holder (taken request.node (slot_holding pool address) (block_of (slot_holding pool address) store.rows)) (address.number - (slot_holding pool address).base) ≡ None
-        → Runs [] (Finishes (IsPlainThis (plain_this_claimed wanted (slot_holding pool address) store.rows))) store moment (this_claim wanted next left looked (block_of (slot_holding pool address) store.rows))
+    claim-comes : (looked : Looked) (pool : Pool) (moment : ℕ) → pool_in store.rows ≡ Some pool → looked.cidr ≡ slot_holding pool address → IsAsRead store (slot_holding pool address) (block_in_rows (slot_holding pool address) store.rows)
+        → holder (taken request.node (slot_holding pool address) (block_in_rows (slot_holding pool address) store.rows)) (address.number - (slot_holding pool address).base) ≡ None
+        → Runs [] (Finishes (IsPlainThis (plain_this_claimed wanted (slot_holding pool address) store.rows))) store moment (this_claim wanted next left looked (block_in_rows (slot_holding pool address) store.rows))
     claim-comes looked pool moment in_pool slot as_read none =
         let cidr = slot_holding pool address in
-        let read = block_of cidr store.rows in
+        let read = block_in_rows cidr store.rows in
         let Q = IsPlainThis (plain_this_claimed wanted cidr store.rows) in
-        subst (λ (c : CidrValue). Runs [] (Finishes Q) store moment (followed (claim_for request.node c read left) (λ now done. next now))) (sym slot)
+        subst (λ (c : CidrValue). Runs [] (Finishes Q) store moment (part_then (claim_for request.node c read left) (λ now done. next now))) (sym slot)
         (comes-followed [] (left_of races claims) (λ then (done : Unit {0}). IsClaimed store.rows request.node cidr read 2 1 0 then) (Finishes Q) (λ now done. next now) (claim_for request.node cidr read left) store moment
         (claim_for-comes [] request.node cidr read (taken-cidr [] request.node cidr read store as_read) store.rows 2 1 0 races claims store moment as_read (λ k a b. refl) is.sorted_store enough)
         (λ then later done h. behind-claim pool then later in_pool as_read none h))
@@ -174,7 +175,7 @@ module _ (request : AddRequest) (address : AddrValue) where
     abbrev strict : Bool
     strict = (config_said (found_in key.Config store.rows)).strict
 
-    claims-block : (pool : Pool) (c p b moment : ℕ) (read : BlockRead) → pool_in store.rows ≡ Some pool → block_of (slot_holding pool address) store.rows ≡ read → IsAsRead store (slot_holding pool address) read
+    claims-block : (pool : Pool) (c p b moment : ℕ) (read : BlockRead) → pool_in store.rows ≡ Some pool → block_in_rows (slot_holding pool address) store.rows ≡ read → IsAsRead store (slot_holding pool address) read
         → holder (taken request.node (slot_holding pool address) read) (address.number - (slot_holding pool address).base) ≡ None
         → Runs [] (Finishes (IsPlainThis (plain_this_claimed wanted (slot_holding pool address) store.rows))) store moment (this_claim wanted next left (looks pool c p b) read)
     claims-block pool c p b moment read in_pool e as_read none =
@@ -184,7 +185,7 @@ module _ (request : AddRequest) (address : AddrValue) where
         (claim-comes (looks pool c p b) pool moment in_pool refl (subst (λ (r : BlockRead). IsAsRead store cidr r) (sym e) as_read)
         (subst (λ (r : BlockRead). holder (taken request.node cidr r) (address.number - cidr.base) ≡ None) (sym e) none))
 
-    block-comes : (pool : Pool) (c p b moment : ℕ) (read : BlockRead) → pool_in store.rows ≡ Some pool → block_of (slot_holding pool address) store.rows ≡ read → IsAsRead store (slot_holding pool address) read
+    block-comes : (pool : Pool) (c p b moment : ℕ) (read : BlockRead) → pool_in store.rows ≡ Some pool → block_in_rows (slot_holding pool address) store.rows ≡ read → IsAsRead store (slot_holding pool address) read
         → Runs [] (Finishes (IsPlainThis (plain_this_block strict wanted (slot_holding pool address) read store.rows))) store moment (this_block wanted next left (looks pool c p b) read)
     block-comes pool c p b moment None in_pool e as_read = claims-block pool c p b moment None in_pool e as_read refl
     block-comes pool c p b moment (Some found) in_pool e as_read = held (holder found.1 (address.number - (slot_holding pool address).base)) refl
@@ -206,7 +207,7 @@ module _ (request : AddRequest) (address : AddrValue) where
     pool-comes c p moment None e = record { says = refl; is_as = is }
     pool-comes c p moment (Some pool) e =
         let cidr = slot_holding pool address in
-        let read = block_of cidr store.rows in
+        let read = block_in_rows cidr store.rows in
         let Q = IsPlainThis (plain_this_block strict wanted cidr read store.rows) in
         runs-get [] (Finishes Q) store moment idle (key.Block cidr) (λ b said. this_block wanted next left (looks pool c p b) (block_said said))
         (λ good. block-comes pool c p moment (moment + 1) read e refl (found-as_read store cidr))

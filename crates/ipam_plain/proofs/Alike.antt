@@ -19,8 +19,8 @@ use Rattle.ipam_records.specs.Key.{key_of}
 use Rattle.ipam_records.specs.KeyOrder.{key_cmp}
 use Rattle.ipam_records.specs.KeyOrderLaws.{key_cmp_total, keys_equal-itself, keys_equal-other, same-keys_equal}
 use Rattle.ipam_records.proofs.DatastoreLemmas.{row_of-with_row, row_of-with_row-other, row_of-without_row, row_of-without_row-other}
-use Rattle.ipam_model.specs.Plain.{Rows, block_of, found_in, handle_of, records}
-use Rattle.ipam_model.specs.Reads.{Row, block_said, handle_said, pools_said}
+use Rattle.ipam_model.specs.Plain.{Rows, block_in_rows, found_in, handle_of, records}
+use Rattle.ipam_model.specs.Reads.{StoredRecord, block_said, handle_said, pools_said}
 use Rattle.ipam_laws.proofs.OneRecord.{key_cases}
 use Rattle.ipam_records.proofs.RowWrites.{later}
 use Rattle.ipam_records.proofs.RowKinds.{each-kind}
@@ -28,8 +28,8 @@ use Rattle.ipam_laws.proofs.RowOrder.{below-absent}
 
 -- ---- the record of a key
 
-abbrev pub record_in : Option Row → Option Record
-record_in o = option_map (λ (row : Row). row.1) o
+abbrev pub record_in : Option StoredRecord → Option Record
+record_in o = option_map (λ (row : StoredRecord). row.1) o
 
 abbrev pub record_at : Key → Rows → Option Record
 record_at k rows = record_in (row_of k rows)
@@ -42,10 +42,10 @@ Alike one other = (k : Key) → record_at k one ≡ record_at k other
 abbrev pub IsSorted : Rows → Type 0
 IsSorted rows = IsStrictlySortedBy key_cmp (map row_key rows)
 
-pub record_at-put : (row : Row) (rows : Rows) → record_at (row_key row) (with_row row rows) ≡ Some row.1
+pub record_at-put : (row : StoredRecord) (rows : Rows) → record_at (row_key row) (with_row row rows) ≡ Some row.1
 record_at-put row rows = ap record_in (row_of-with_row row rows)
 
-pub record_at-other : (k : Key) (row : Row) (rows : Rows) → row_key row ≢ k → record_at k (with_row row rows) ≡ record_at k rows
+pub record_at-other : (k : Key) (row : StoredRecord) (rows : Rows) → row_key row ≢ k → record_at k (with_row row rows) ≡ record_at k rows
 record_at-other k row rows other = ap record_in (row_of-with_row-other k row rows other)
 
 pub record_at-cut : (k : Key) (rows : Rows) → record_at k (without_row k rows) ≡ None
@@ -68,17 +68,17 @@ alike-cut gone one other h k = elim (key_cases gone k) [
 
 -- ---- sorted rows that are alike have the same records
 
-head-record : (x : Row) (xs : Rows) → record_at (row_key x) (x ∷ xs) ≡ Some x.1
+head-record : (x : StoredRecord) (xs : Rows) → record_at (row_key x) (x ∷ xs) ≡ Some x.1
 head-record x xs = let t = keys_equal-itself (row_key x) in rw t refl
 
-tail-record : (k : Key) (x : Row) (xs : Rows) → row_key x ≢ k → record_at k (x ∷ xs) ≡ record_at k xs
+tail-record : (k : Key) (x : StoredRecord) (xs : Rows) → row_key x ≢ k → record_at k (x ∷ xs) ≡ record_at k xs
 tail-record k x xs other = let f = keys_equal-other (row_key x) k other in rw f refl
 
 -- a key below all others has no record
-none-below : (k : Key) (y : Row) (ys : Rows) → key_cmp k (row_key y) ≡ Less → AllByRecursion (λ z. key_cmp (row_key y) z ≡ Less) (map row_key ys) → record_at k (y ∷ ys) ≡ None
+none-below : (k : Key) (y : StoredRecord) (ys : Rows) → key_cmp k (row_key y) ≡ Less → AllByRecursion (λ z. key_cmp (row_key y) z ≡ Less) (map row_key ys) → record_at k (y ∷ ys) ≡ None
 none-below k y ys less all = ap record_in (below-absent k (y ∷ ys) (less, later k (row_key y) less ys all))
 
-tails : (x y : Row) (xs ys : Rows) → row_key x ≡ row_key y → AllByRecursion (λ z. key_cmp (row_key x) z ≡ Less) (map row_key xs) → AllByRecursion (λ z. key_cmp (row_key y) z ≡ Less) (map row_key ys) → Alike (x ∷ xs) (y ∷ ys) → Alike xs ys
+tails : (x y : StoredRecord) (xs ys : Rows) → row_key x ≡ row_key y → AllByRecursion (λ z. key_cmp (row_key x) z ≡ Less) (map row_key xs) → AllByRecursion (λ z. key_cmp (row_key y) z ≡ Less) (map row_key ys) → Alike (x ∷ xs) (y ∷ ys) → Alike xs ys
 tails x y xs ys same sx sy h k = elim (key_cases (row_key x) k) [
   | inl is ↦
       let none : record_at (row_key x) xs ≡ None = ap record_in (below-absent (row_key x) xs sx) in
@@ -127,10 +127,10 @@ block_from _ = None
 abbrev pub value_in : Option (ℕ × BlockValue) → Option BlockValue
 value_in o = option_map (λ (found : ℕ × BlockValue). found.1) o
 
-pub block_of-record : (cidr : CidrValue) (rows : Rows) → value_in (block_of cidr rows) ≡ block_from (record_at (key.Block cidr) rows)
+pub block_of-record : (cidr : CidrValue) (rows : Rows) → value_in (block_in_rows cidr rows) ≡ block_from (record_at (key.Block cidr) rows)
 block_of-record cidr rows = each-kind (λ o. value_in (block_said (reply_to_get o)) ≡ block_from (record_in o)) refl (λ r x. refl) (λ r x. refl) (λ r x. refl) (λ r x. refl) (λ r x. refl) (λ r x. refl) (row_of (key.Block cidr) rows)
 
-pub alike-block : (cidr : CidrValue) (one other : Rows) → Alike one other → value_in (block_of cidr one) ≡ value_in (block_of cidr other)
+pub alike-block : (cidr : CidrValue) (one other : Rows) → Alike one other → value_in (block_in_rows cidr one) ≡ value_in (block_in_rows cidr other)
 alike-block cidr one other h = block_of-record cidr one ∙ (ap block_from (h (key.Block cidr)) ∙ sym (block_of-record cidr other))
 
 pub same-handle : (id : List ℕ) (one other : Rows) → record_at (key.Handle id) one ≡ record_at (key.Handle id) other → handle_of id one ≡ handle_of id other
@@ -150,6 +150,6 @@ same-pools one other e = pools-record one ∙ (ap pools_from e ∙ sym (pools-re
 pub record-row : (k : Key) (rows : Rows) (there : Record) → record_at k rows ≡ Some there → (revision : ℕ) × (row_of k rows ≡ Some (revision, there))
 record-row k rows there e = by (row_of k rows) refl e
   where
-    by : (o : Option Row) → row_of k rows ≡ o → record_in o ≡ Some there → (revision : ℕ) × (row_of k rows ≡ Some (revision, there))
+    by : (o : Option StoredRecord) → row_of k rows ≡ o → record_in o ≡ Some there → (revision : ℕ) × (row_of k rows ≡ Some (revision, there))
     by None is f = absurd (cc f)
     by (Some row) is f = let same : row.1 ≡ there = cc f in (row.0, is ∙ ap (λ (x : Record). Some (row.0, x)) same)

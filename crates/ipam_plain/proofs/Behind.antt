@@ -7,7 +7,7 @@ use Rattle.ipam_block.specs.Shape.{BlockValue}
 use Rattle.ipam_records.specs.declared.key.Key.TheVariants as key
 use Rattle.ipam_records.specs.declared.record.Record.TheVariants as record_of
 use Rattle.ipam_model.specs.Affinities.{BlockRead}
-use Rattle.ipam_model.specs.Choice.{Candidate, FirstCandidate, Foreign, IsBest, IsCandidate, Lacks, Own, Pick, Picks, Rank, Ranked, Seen, Unclaimed, Unconfirmed, Unknown, block_at, choice_in, choice_of, has_free_address, is_confirmed_for, is_node, is_unowned_and_empty, may_claim, pick_of, rank_at, rank_in, rank_number, rank_of, rank_of_block, room_of}
+use Rattle.ipam_model.specs.Choice.{Candidate, FirstCandidate, Foreign, IsBest, IsCandidate, Lacks, Own, Pick, Picks, Rank, Ranked, Seen, Unclaimed, Unconfirmed, Unknown, block_at, choice_in, choice_of, has_free_address, is_confirmed_for, is_unowned_and_empty, may_claim, pick_of, rank_at, rank_in, rank_number, rank_of, rank_of_block, room_of}
 use Rattle.ipam_model.specs.Plain.{Rows, seen_in}
 use Rattle.ipam_model.specs.Usable.{Asked, unknown_name}
 use Rattle.ipam_model.proofs.ChoiceLemmas.{pick-ranked}
@@ -20,6 +20,7 @@ use Rattle.ipam_plain.proofs.Claiming.{IsClaimedIn}
 use Rattle.ipam_laws.proofs.AddRounds.{usable-family}
 use Rattle.ipam_plain.proofs.Ranks.{same-room}
 use Rattle.ipam_plain.proofs.Seeing.{block-listed, block-named, confirmed-record, confirmed_from, same-block, same-confirmed, same-reservations}
+use Rattle.ipam_records.specs.BlockLists.{is_node}
 
 -- ---- the node's own confirmed block
 

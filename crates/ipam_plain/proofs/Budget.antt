@@ -5,10 +5,10 @@ use Rattle.std.proofs.lemmas.Bool.{lt-ltb}
 use Rattle.ipam_records.specs.declared.key.Key.{Key}
 use Rattle.ipam_records.specs.declared.key.Kind.TheVariants as kind
 use Rattle.ipam_records.specs.declared.record.Record.{Record}
-use Rattle.ipam_records.specs.Datastore.{Datastore, has_room, last_revision, listed, most_blocks, most_rows, row_of, with_row}
+use Rattle.ipam_records.specs.Datastore.{Datastore, has_room, last_revision, rows_of_kind, most_blocks, most_rows, row_of, with_row}
 use Rattle.ipam_records.specs.Key.{key_of}
 use Rattle.ipam_records.specs.KeyOrder.{is_of_kind}
-use Rattle.ipam_model.specs.Reads.{Row}
+use Rattle.ipam_model.specs.Reads.{StoredRecord}
 use Rattle.ipam_laws.proofs.RowOrder.{count-new, count-there, filter-row_count, length-row_count}
 use Rattle.ipam_plain.proofs.Alike.{IsSorted}
 use Rattle.ipam_plain.proofs.Writes.{put_in}
@@ -17,7 +17,7 @@ use Rattle.ipam_plain.proofs.Writes.{put_in}
 pub record Enough (revisions rows blocks : ℕ) (store : Datastore) : Type 0 where
   pub revisions_left : store.counter + revisions ≤ last_revision
   pub rows_left : length store.rows + rows ≤ most_rows
-  pub blocks_left : length (listed kind.Block store) + blocks ≤ most_blocks
+  pub blocks_left : length (rows_of_kind kind.Block store) + blocks ≤ most_blocks
 
 pub enough-less : (revisions rows blocks more_revisions more_rows more_blocks : ℕ) (store : Datastore) → revisions ≤ more_revisions → rows ≤ more_rows → blocks ≤ more_blocks → Enough more_revisions more_rows more_blocks store → Enough revisions rows blocks store
 enough-less revisions rows blocks more_revisions more_rows more_blocks store one two three h =
@@ -39,18 +39,18 @@ room-block revisions rows blocks store k h =
     let left = h.rows_left in
     let also = h.blocks_left in
     let one = lt-ltb (length store.rows) most_rows (omega arith) in
-    let two = lt-ltb (length (listed kind.Block store)) most_blocks (omega arith) in
+    let two = lt-ltb (length (rows_of_kind kind.Block store)) most_blocks (omega arith) in
     by (is_of_kind kind.Block k) one two
   where
-    by : (b : Bool) → nat_lt (length store.rows) most_rows ≡ true → nat_lt (length (listed kind.Block store)) most_blocks ≡ true
-        → nat_lt (length store.rows) most_rows && (not b || nat_lt (length (listed kind.Block store)) most_blocks) ≡ true
+    by : (b : Bool) → nat_lt (length store.rows) most_rows ≡ true → nat_lt (length (rows_of_kind kind.Block store)) most_blocks ≡ true
+        → nat_lt (length store.rows) most_rows && (not b || nat_lt (length (rows_of_kind kind.Block store)) most_blocks) ≡ true
     by true one two = rw (one, two) refl
     by false one two = rw one refl
 
 -- ---- what a write takes
 
 -- in place of a record that is there
-pub enough-there : (revisions rows blocks : ℕ) (store : Datastore) (new : Record) (old : Row) → Enough (suc revisions) rows blocks store → IsSorted store.rows → row_of (key_of new) store.rows ≡ Some old → Enough revisions rows blocks (put_in store new)
+pub enough-there : (revisions rows blocks : ℕ) (store : Datastore) (new : Record) (old : StoredRecord) → Enough (suc revisions) rows blocks store → IsSorted store.rows → row_of (key_of new) store.rows ≡ Some old → Enough revisions rows blocks (put_in store new)
 enough-there revisions rows blocks store new old h sorted there =
     let one = length-row_count store.rows in
     let two = length-row_count (with_row (store.counter + 1, new) store.rows) in
@@ -101,6 +101,6 @@ enough-block revisions rows blocks store new h none =
 pub enough-other : (revisions rows blocks : ℕ) (store : Datastore) (new : Record) → Enough (suc revisions) (suc rows) blocks store → IsSorted store.rows → is_of_kind kind.Block (key_of new) ≡ false → Enough revisions rows blocks (put_in store new)
 enough-other revisions rows blocks store new h sorted other = by (row_of (key_of new) store.rows) refl
   where
-    by : (o : Option Row) → row_of (key_of new) store.rows ≡ o → Enough revisions rows blocks (put_in store new)
+    by : (o : Option StoredRecord) → row_of (key_of new) store.rows ≡ o → Enough revisions rows blocks (put_in store new)
     by None e = enough-new revisions rows blocks store new h e other
     by (Some old) e = enough-less revisions rows blocks revisions (suc rows) blocks (put_in store new) (omega arith) (omega arith) (omega arith) (enough-there revisions (suc rows) blocks store new old h sorted e)

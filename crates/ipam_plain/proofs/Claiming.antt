@@ -17,7 +17,7 @@ use Rattle.ipam_model.specs.declared.outcome.ClaimAnswer.TheVariants as claimed
 use Rattle.ipam_model.specs.Affinities.{BlockRead, affinity, claim, claim_block, claim_confirm, claim_found, claim_kept}
 use Rattle.ipam_model.specs.AffinityLaw.{HasAt}
 use Rattle.ipam_model.specs.Assigning.{after_claim, claim_for}
-use Rattle.ipam_model.specs.Plain.{Rows, block_of, claimed_block, put, with_claimed}
+use Rattle.ipam_model.specs.Plain.{Rows, block_in_rows, claimed_block, put, with_claimed}
 use Rattle.ipam_model.specs.Reads.{affinity_said}
 use Rattle.ipam_model.specs.Step.{left_of}
 use Rattle.ipam_laws.proofs.AloneCalls.{Runs, Runs-bound, runs-get}
@@ -64,9 +64,9 @@ taken-same node cidr (Some found) (Some there) e =
     ap (λ (b : BlockValue). taken node cidr (Some (0, b))) same
 
 -- what the records say of a claim
-pub plain-claimed : (node : List ℕ) (cidr : CidrValue) (rows : Rows) → (claimed_block node cidr (block_of cidr rows)).cidr ≡ cidr → IsClaimedIn rows (with_claimed node cidr rows) node cidr (claimed_block node cidr (block_of cidr rows))
+pub plain-claimed : (node : List ℕ) (cidr : CidrValue) (rows : Rows) → (claimed_block node cidr (block_in_rows cidr rows)).cidr ≡ cidr → IsClaimedIn rows (with_claimed node cidr rows) node cidr (claimed_block node cidr (block_in_rows cidr rows))
 plain-claimed node cidr rows same =
-    let b = claimed_block node cidr (block_of cidr rows) in
+    let b = claimed_block node cidr (block_in_rows cidr rows) in
     let confirmed = record_of.Affinity (affinity node cidr Confirmed) in
     let first = put confirmed rows in
     record {
@@ -207,10 +207,10 @@ module _ (live : List (List ℕ)) (node : List ℕ) (cidr : CidrValue) (read : B
 -- ---- a store in which a block was claimed
 
 -- it stands for what the records say of the claim
-pub claimed-as : (store then : Datastore) (rows : Rows) (node : List ℕ) (cidr : CidrValue) (read : BlockRead) (b : BlockValue) → IsAs store rows → b ≡ claimed_block node cidr (block_of cidr rows) → b.cidr ≡ cidr → IsClaimedIn store.rows then.rows node cidr b → IsSorted then.rows
+pub claimed-as : (store then : Datastore) (rows : Rows) (node : List ℕ) (cidr : CidrValue) (read : BlockRead) (b : BlockValue) → IsAs store rows → b ≡ claimed_block node cidr (block_in_rows cidr rows) → b.cidr ≡ cidr → IsClaimedIn store.rows then.rows node cidr b → IsSorted then.rows
     → IsAs then (with_claimed node cidr rows)
 claimed-as store then rows node cidr read b is same own h sorted =
-    let c = claimed_block node cidr (block_of cidr rows) in
+    let c = claimed_block node cidr (block_in_rows cidr rows) in
     let says = plain-claimed node cidr rows (ap (λ (x : BlockValue). x.cidr) (sym same) ∙ own) in
     let confirmed = record_of.Affinity (affinity node cidr Confirmed) in
     record {

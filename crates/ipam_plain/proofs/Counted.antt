@@ -11,12 +11,12 @@ use Rattle.std.proofs.lemmas.Map.Keys.{IsDistinct-from_sorted}
 use Rattle.ipam_addr.specs.Shape.{CidrValue}
 use Rattle.ipam_block.specs.declared.allocation.Allocation.{Allocation}
 use Rattle.ipam_block.specs.declared.allocation.Attributes.{Attributes}
-use Rattle.ipam_block.specs.Operations.{assigned, freed, is_owned, next_block}
+use Rattle.ipam_block.specs.Operations.{block_with_ordinal, block_without, is_owned, next_block}
 use Rattle.ipam_block.specs.Shape.{BlockValue}
 use Rattle.ipam_handle.proofs.Entries.{sorted-insert_entry, sorted-remove_entry}
 use Rattle.ipam_handle.proofs.Order.{cidr_cmp_total}
 use Rattle.ipam_handle.proofs.Reading.{counts_with-some}
-use Rattle.ipam_handle.specs.Operations.{count_in, count_of, counts_with, lowered, raised}
+use Rattle.ipam_handle.specs.Operations.{count_in, count_of, counts_with, with_lowered_count, with_raised_count}
 use Rattle.ipam_handle.specs.Order.{cidr_cmp}
 use Rattle.ipam_handle.specs.Shape.{HandleValue}
 use Rattle.ipam_records.specs.declared.key.Key.TheVariants as key
@@ -28,7 +28,7 @@ use Rattle.ipam_records.proofs.RowKinds.{each-kind}
 use Rattle.ipam_model.specs.Affinities.{BlockRead}
 use Rattle.ipam_model.specs.CountLaw.{count_in_row, handle_count, held_count, held_in_row}
 use Rattle.ipam_model.specs.Counting.{Freeing}
-use Rattle.ipam_model.specs.Plain.{Rows, block_of, claimed_block, handle_of, kept_or_gone, put, with_assigned, with_freed, with_freed_found, with_these_freed}
+use Rattle.ipam_model.specs.Plain.{Rows, block_in_rows, claimed_block, handle_of, kept_or_gone, put, with_assigned, with_freed, with_freed_found, with_these_freed}
 use Rattle.ipam_laws.proofs.Calls.{found-handle}
 use Rattle.ipam_model.specs.Usable.{is_same_cidr}
 use Rattle.ipam_laws.proofs.CountLemmas.{cidr_cases, count-elsewhere, count-here, held-assigned, held-filter, kept-others, raised-here, same_text, text_cases}
@@ -147,31 +147,31 @@ module _ (attributes : Attributes) (rows : Rows) (b : BlockValue) (ordinal : ℕ
   owner_id = attributes.handle
 
   abbrev more : HandleValue
-  more = raised (handle_of owner_id rows) b.cidr 1
+  more = with_raised_count (handle_of owner_id rows) b.cidr 1
 
   abbrev after : Rows
   after = with_assigned attributes b ordinal rows
 
-  more-id : (raised (handle_of attributes.handle rows) b.cidr 1).id ≡ attributes.handle
+  more-id : (with_raised_count (handle_of attributes.handle rows) b.cidr 1).id ≡ attributes.handle
   more-id = handle-named attributes.handle rows
 
   assigned-own : handle_of owner_id after ≡ more
   assigned-own =
-      put-block-handle (put (record_of.Handle more) rows) (assigned (next_block b) ordinal attributes) owner_id
+      put-block-handle (put (record_of.Handle more) rows) (block_with_ordinal (next_block b) ordinal attributes) owner_id
       ∙ subst (λ (i : List ℕ). handle_of i (put (record_of.Handle more) rows) ≡ more) more-id (put-handle-own rows more)
 
   assigned-other : (id : List ℕ) → owner_id ≢ id → handle_of id after ≡ handle_of id rows
   assigned-other id differ =
-      put-block-handle (put (record_of.Handle more) rows) (assigned (next_block b) ordinal attributes) id ∙ put-handle-other rows more id (λ e. differ (sym more-id ∙ e))
+      put-block-handle (put (record_of.Handle more) rows) (block_with_ordinal (next_block b) ordinal attributes) id ∙ put-handle-other rows more id (λ e. differ (sym more-id ∙ e))
 
   held-here : (id : List ℕ) → held_at after id b.cidr ≡ held_at rows id b.cidr + cond (bytes_eq owner_id id) 1 0
   held-here id =
-      ap (held_from id) (record_at-put (0, record_of.Block (assigned (next_block b) ordinal attributes)) (put (record_of.Handle more) rows))
+      ap (held_from id) (record_at-put (0, record_of.Block (block_with_ordinal (next_block b) ordinal attributes)) (put (record_of.Handle more) rows))
       ∙ (held-assigned b ordinal attributes id ∙ ap (λ (n : ℕ). n + cond (bytes_eq owner_id id) 1 0) (sym (ap (held_from id) there)))
 
   held-elsewhere : (id : List ℕ) (cidr : CidrValue) → b.cidr ≢ cidr → held_at after id cidr ≡ held_at rows id cidr
   held-elsewhere id cidr differ =
-      ap (held_from id) (record_at-other (key.Block cidr) (0, record_of.Block (assigned (next_block b) ordinal attributes)) (put (record_of.Handle more) rows) (λ e. differ (cc e)) ∙ record_at-other (key.Block cidr) (0, record_of.Handle more) rows (λ e. cc e))
+      ap (held_from id) (record_at-other (key.Block cidr) (0, record_of.Block (block_with_ordinal (next_block b) ordinal attributes)) (put (record_of.Handle more) rows) (λ e. differ (cc e)) ∙ record_at-other (key.Block cidr) (0, record_of.Handle more) rows (λ e. cc e))
 
   assigned-even : Evens rows after
   assigned-even id cidr = elim (text_cases owner_id id) [
@@ -214,14 +214,14 @@ module _ (attributes : Attributes) (rows : Rows) (b : BlockValue) (ordinal : ℕ
 
 -- ---- a claim
 
-module _ (node : List ℕ) (slot : CidrValue) (rows then : Rows) (h : IsClaimedIn rows then node slot (claimed_block node slot (block_of slot rows))) where
+module _ (node : List ℕ) (slot : CidrValue) (rows then : Rows) (h : IsClaimedIn rows then node slot (claimed_block node slot (block_in_rows slot rows))) where
   claimed-handle : (id : List ℕ) → handle_of id then ≡ handle_of id rows
   claimed-handle id = same-handle id then rows (h.others (key.Handle id) (λ e. cc e) (λ e. cc e))
 
   claimed-held : (id : List ℕ) (cidr : CidrValue) → held_at then id cidr ≡ held_at rows id cidr
   claimed-held id cidr = elim (cidr_cases slot cidr) [
     | inr (f, differ) ↦ ap (held_from id) (h.others (key.Block cidr) (λ e. differ (cc e)) (λ e. cc e))
-    | inl (t, same) ↦ subst (λ (c : CidrValue). held_at then id c ≡ held_at rows id c) same (ap (held_from id) h.has_block ∙ by (block_of slot rows) refl)
+    | inl (t, same) ↦ subst (λ (c : CidrValue). held_at then id c ≡ held_at rows id c) same (ap (held_from id) h.has_block ∙ by (block_in_rows slot rows) refl)
   ]
     where
       none-held : (o : Option Record) → record_at (key.Block slot) rows ≡ o → block_from o ≡ None → 0 ≡ held_from id o
@@ -233,7 +233,7 @@ module _ (node : List ℕ) (slot : CidrValue) (rows then : Rows) (h : IsClaimedI
       none-held (Some (record_of.Pools pools)) e f = refl
       none-held (Some (record_of.Reservations reservations)) e f = refl
 
-      by : (o : BlockRead) → block_of slot rows ≡ o → held_from id (Some (record_of.Block (claimed_block node slot o))) ≡ held_at rows id slot
+      by : (o : BlockRead) → block_in_rows slot rows ≡ o → held_from id (Some (record_of.Block (claimed_block node slot o))) ≡ held_at rows id slot
       by None e = none-held (record_at (key.Block slot) rows) refl (sym (block_of-record slot rows) ∙ ap value_in e)
       by (Some found) e = sym (ap (held_from id) (found-record rows slot found.1 (ap value_in e)))
 
@@ -249,13 +249,13 @@ module _ (what : Freeing) (own : (a : Allocation) → what.picks a ≡ true → 
   -- so many of a block
   module _ (b : BlockValue) (there : record_at (key.Block b.cidr) rows ≡ Some (record_of.Block b)) (amount : ℕ) (picked : count_by what.picks b.allocations ≡ amount) where
     abbrev left : BlockValue
-    left = freed what.picks (next_block b)
+    left = block_without what.picks (next_block b)
 
     abbrev written : Rows
     written = put (record_of.Block left) rows
 
     abbrev low : HandleValue
-    low = lowered (handle_of what.handle written) b.cidr amount
+    low = with_lowered_count (handle_of what.handle written) b.cidr amount
 
     abbrev then : Rows
     then = kept_or_gone low low.counts written
@@ -333,13 +333,13 @@ module _ (what : Freeing) (own : (a : Allocation) → what.picks a ≡ true → 
         ]
 
   pub freed-follows : Follows rows (with_freed what rows)
-  freed-follows = by (block_of what.block rows) refl
+  freed-follows = by (block_in_rows what.block rows) refl
     where
       these : (b : BlockValue) → record_at (key.Block b.cidr) rows ≡ Some (record_of.Block b) → (amount : ℕ) → count_by what.picks b.allocations ≡ amount → Follows rows (with_these_freed what amount b rows)
       these b there zero picked = follows-itself rows sound
       these b there (suc more) picked = these-follow b there (suc more) picked
 
-      by : (o : Option (ℕ × BlockValue)) → block_of what.block rows ≡ o → Follows rows (with_freed_found what o rows)
+      by : (o : Option (ℕ × BlockValue)) → block_in_rows what.block rows ≡ o → Follows rows (with_freed_found what o rows)
       by None e = follows-itself rows sound
       by (Some found) e =
           let at = found-record rows what.block found.1 (ap value_in e) in

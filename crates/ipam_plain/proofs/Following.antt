@@ -33,8 +33,8 @@ use Rattle.ipam_model.specs.Choice.{Claims, Lacks as NoneLeft, Leaves, Pick, Pic
 use Rattle.ipam_model.specs.Consistent.{IsConsistent}
 use Rattle.ipam_model.specs.Counting.{freeing_all}
 use Rattle.ipam_model.specs.CountLaw.{handle_count, held_count}
-use Rattle.ipam_model.specs.Plain.{IsAnothers, PlainGift, PlainServed, Result, Rows, block_of, claimed_block, freeing_gift, handle_of, plain, plain_add_this, plain_after, plain_check, plain_collect, plain_del, plain_each, plain_pick, plain_probe, plain_this, plain_this_block, plain_this_claimed, plain_this_free, plain_this_held, plain_this_pool, records, seen_in, with_all_freed, with_claimed, with_freed, with_gifts_freed, with_leaks_freed}
-use Rattle.ipam_model.specs.Reads.{Row, handle_said}
+use Rattle.ipam_model.specs.Plain.{IsAnothers, PlainGift, PlainServed, Result, Rows, block_in_rows, claimed_block, freeing_gift, handle_of, plain, plain_add_this, plain_after, plain_check, plain_collect, plain_del, plain_each, plain_pick, plain_probe, plain_this, plain_this_block, plain_this_claimed, plain_this_free, plain_this_held, plain_this_pool, records, seen_in, with_all_freed, with_claimed, with_freed, with_gifts_freed, with_leaks_freed}
+use Rattle.ipam_model.specs.Reads.{StoredRecord, handle_said}
 use Rattle.ipam_model.specs.Remove.{Leak, freeing_owner, leaks, suspects}
 use Rattle.ipam_model.specs.Usable.{families_if, usable_pool_of}
 use Rattle.ipam_laws.proofs.Calls.{found-handle, found-key}
@@ -53,7 +53,7 @@ base-ascending : (store : Datastore) (id : List ℕ) → IsConsistent store → 
 unfolding IsStrictlySortedBy
 base-ascending store id c = by (row_of (key.Handle id) store.rows) refl
   where
-    by : (o : Option Row) → row_of (key.Handle id) store.rows ≡ o → IsStrictlySortedBy cidr_cmp (keys_of (handle_said id (reply_to_get o)).counts)
+    by : (o : Option StoredRecord) → row_of (key.Handle id) store.rows ≡ o → IsStrictlySortedBy cidr_cmp (keys_of (handle_said id (reply_to_get o)).counts)
     by None e = tt
     by (Some row) e =
         let (h, is, same) = found-handle id row.1 (found-key store (key.Handle id) row.0 row.1 e) in
@@ -144,24 +144,24 @@ module _ (request : AddRequest) (address : AddrValue) (rows : Rows) (sound : Are
   claimed-this cidr =
       let own = claimed-cidr request V4 cidr rows in
       let after = with_claimed request.node cidr rows in
-      let b = claimed_block request.node cidr (block_of cidr rows) in
+      let b = claimed_block request.node cidr (block_in_rows cidr rows) in
       let h = plain-claimed request.node cidr rows own in
       let first = claimed-follows request.node cidr rows after h sound in
-      by (block_of cidr after) (block_of-record cidr after ∙ ap block_from h.has_block) first (subst (λ (c : CidrValue). record_at (key.Block c) after ≡ Some (record_of.Block b)) (sym own) h.has_block)
+      by (block_in_rows cidr after) (block_of-record cidr after ∙ ap block_from h.has_block) first (subst (λ (c : CidrValue). record_at (key.Block c) after ≡ Some (record_of.Block b)) (sym own) h.has_block)
     where
-      by : (o : BlockRead) → value_in o ≡ Some (claimed_block request.node cidr (block_of cidr rows)) → Follows rows (with_claimed request.node cidr rows)
-          → record_at (key.Block (claimed_block request.node cidr (block_of cidr rows)).cidr) (with_claimed request.node cidr rows) ≡ Some (record_of.Block (claimed_block request.node cidr (block_of cidr rows)))
+      by : (o : BlockRead) → value_in o ≡ Some (claimed_block request.node cidr (block_in_rows cidr rows)) → Follows rows (with_claimed request.node cidr rows)
+          → record_at (key.Block (claimed_block request.node cidr (block_in_rows cidr rows)).cidr) (with_claimed request.node cidr rows) ≡ Some (record_of.Block (claimed_block request.node cidr (block_in_rows cidr rows)))
           → Follows rows (plain_this wanted cidr o (with_claimed request.node cidr rows)).1
       by None e first there = absurd (cc e)
       by (Some found) e first there =
-          let same : found.1 ≡ claimed_block request.node cidr (block_of cidr rows) = cc e in
+          let same : found.1 ≡ claimed_block request.node cidr (block_in_rows cidr rows) = cc e in
           let at = subst (λ (x : BlockValue). record_at (key.Block x.cidr) (with_claimed request.node cidr rows) ≡ Some (record_of.Block x)) (sym same) there in
           let after = with_claimed request.node cidr rows in
           follows-trans rows after (plain_this wanted cidr (Some found) after).1 first (taken-follows cidr found after first.sound at)
 
   this-follows : (strict : Bool) (o : Option Pool) → Follows rows (plain_this_pool strict wanted o rows).1
   this-follows strict None = follows-itself rows sound
-  this-follows strict (Some pool) = by (block_of (slot_holding pool address) rows) refl
+  this-follows strict (Some pool) = by (block_in_rows (slot_holding pool address) rows) refl
     where
       shared : (found : ℕ × BlockValue) → record_at (key.Block found.1.cidr) rows ≡ Some (record_of.Block found.1) → (share : Share)
           → Follows rows (by_share share (plain_this wanted (slot_holding pool address) (Some found) rows) (plain_this_claimed wanted (slot_holding pool address) rows) (IsAnothers (slot_holding pool address), rows)).1
@@ -174,7 +174,7 @@ module _ (request : AddRequest) (address : AddrValue) (rows : Rows) (sound : Are
       held found there (Some holds) = follows-itself rows sound
       held found there None = shared found there (share_of strict request.node found.1)
 
-      by : (o : BlockRead) → block_of (slot_holding pool address) rows ≡ o → Follows rows (plain_this_block strict wanted (slot_holding pool address) o rows).1
+      by : (o : BlockRead) → block_in_rows (slot_holding pool address) rows ≡ o → Follows rows (plain_this_block strict wanted (slot_holding pool address) o rows).1
       by None e = claimed-this (slot_holding pool address)
       by (Some found) e =
           let at = found-record rows (slot_holding pool address) found.1 (ap value_in e) in

@@ -2,9 +2,9 @@
 use Rattle.std.proofs.Common.{◌≡◌, ℕ, zero, suc, ◌+◌, ◌<◌, ◌≤◌, List, [], ◌∷◌, Option, Some, None, refl, sym, ap, ◌∙◌, subst, arith}
 use Rattle.std.specs.List.{count_by}
 use Rattle.ipam_addr.specs.Shape.{CidrValue}
-use Rattle.ipam_block.specs.Operations.{freed, next_block}
+use Rattle.ipam_block.specs.Operations.{block_without, next_block}
 use Rattle.ipam_block.specs.Shape.{BlockValue}
-use Rattle.ipam_handle.specs.Operations.{lowered}
+use Rattle.ipam_handle.specs.Operations.{with_lowered_count}
 use Rattle.ipam_handle.specs.Shape.{HandleValue}
 use Rattle.ipam_records.specs.declared.call.Call.TheVariants.{Get}
 use Rattle.ipam_records.specs.declared.key.Key.TheVariants as key
@@ -18,16 +18,16 @@ use Rattle.ipam_model.specs.declared.part.Left.{Left}
 use Rattle.ipam_model.specs.declared.part.Stop.TheVariants.{OutOfTries, NoRoom, NoRevisions}
 use Rattle.ipam_model.specs.AffinityLaw.{HasAt}
 use Rattle.ipam_model.specs.Counting.{Freeing, credit_of, free, free_found, free_once, free_these, lower, lower_once, lower_write, written_or_deleted}
-use Rattle.ipam_model.specs.Plain.{Rows, block_of, handle_of, kept_or_gone, put, with_freed, with_freed_found, with_lowered, with_these_freed}
+use Rattle.ipam_model.specs.Plain.{Rows, block_in_rows, handle_of, kept_or_gone, put, with_freed, with_freed_found, with_lowered, with_these_freed}
 use Rattle.ipam_model.specs.Reads.{block_said, handle_said}
-use Rattle.ipam_model.specs.Step.{Part, followed, goes, left_of, on_write, stops, tries}
+use Rattle.ipam_model.specs.Step.{Part, part_then, goes, left_of, on_write, stops, tries}
 use Rattle.ipam_laws.proofs.AloneCalls.{Runs, runs-get}
 use Rattle.ipam_laws.proofs.AloneParts.{handle-there}
 use Rattle.ipam_laws.proofs.Calls.{found-block, found-key}
 use Rattle.ipam_plain.proofs.Alike.{alike-block, alike-handle, value_in}
 use Rattle.ipam_plain.proofs.Writes.{Comes, IsAs, as-cut, as-put, comes-followed, delete-runs, put_in, update-runs}
 
--- ---- what is freed of a block, by what the block is
+-- ---- what is block_without of a block, by what the block is
 
 pub freed-same : (what : Freeing) (one other : Option (ℕ × BlockValue)) (rows : Rows) → value_in one ≡ value_in other → with_freed_found what one rows ≡ with_freed_found what other rows
 freed-same what None None rows e = refl
@@ -47,16 +47,16 @@ module _ (live : List (List ℕ)) where
 
   lower-write : (credit : Credit) (again : Part (Unit {0})) (left : Left) (store : Datastore) (moment : ℕ) (rows : Rows) (revision : ℕ) (h : HandleValue) → HasAt store (key.Handle credit.handle) revision (record_of.Handle h) → h.id ≡ credit.handle
       → IsAs store rows → store.counter < last_revision → (counts : List (CidrValue × ℕ))
-      → Runs live (Comes left (λ then (done : Unit {0}). Became (kept_or_gone (lowered h credit.block credit.amount) counts rows) (store.counter + 1) then)) store moment
-      (Asks (owing credit) (written_or_deleted (lowered h credit.block credit.amount) counts revision) (λ at reply. on_write reply left (λ taken. goes left tt) again))
+      → Runs live (Comes left (λ then (done : Unit {0}). Became (kept_or_gone (with_lowered_count h credit.block credit.amount) counts rows) (store.counter + 1) then)) store moment
+      (Asks (owing credit) (written_or_deleted (with_lowered_count h credit.block credit.amount) counts revision) (λ at reply. on_write reply left (λ taken. goes left tt) again))
   lower-write credit again left store moment rows revision h there own is spare [] = λ good.
-      delete-runs live (Comes left (λ then (done : Unit {0}). Became (kept_or_gone (lowered h credit.block credit.amount) [] rows) (store.counter + 1) then)) store moment
+      delete-runs live (Comes left (λ then (done : Unit {0}). Became (kept_or_gone (with_lowered_count h credit.block credit.amount) [] rows) (store.counter + 1) then)) store moment
       (key.Handle h.id) (record_of.Handle h) revision (λ taken. goes left tt) again (stops left NoRoom) (stops left NoRevisions)
       (subst (λ (i : List ℕ). HasAt store (key.Handle i) revision (record_of.Handle h)) (sym own) there) spare
       (refl, record { is_as = as-cut store rows (key.Handle h.id) is; taken = omega arith })
   lower-write credit again left store moment rows revision h there own is spare (count ∷ counts) = λ good.
-      let new = record_of.Handle (lowered h credit.block credit.amount) in
-      update-runs live (Comes left (λ then (done : Unit {0}). Became (kept_or_gone (lowered h credit.block credit.amount) (count ∷ counts) rows) (store.counter + 1) then)) store moment
+      let new = record_of.Handle (with_lowered_count h credit.block credit.amount) in
+      update-runs live (Comes left (λ then (done : Unit {0}). Became (kept_or_gone (with_lowered_count h credit.block credit.amount) (count ∷ counts) rows) (store.counter + 1) then)) store moment
       new (record_of.Handle h) revision (λ taken. goes left tt) again (stops left NoRoom) (stops left NoRevisions)
       (subst (λ (i : List ℕ). HasAt store (key.Handle i) revision (record_of.Handle h)) (sym own) there) spare
       (refl, record { is_as = as-put store rows new is; taken = omega arith })
@@ -68,10 +68,10 @@ module _ (live : List (List ℕ)) where
       (λ good.
       let (revision, h, there, own) = handle-there credit store some good in
       let same : h ≡ handle_of credit.handle rows = ap (λ (o : Option (ℕ × Record)). handle_said credit.handle (reply_to_get o)) (sym there) ∙ alike-handle credit.handle store.rows rows is.alike in
-      let low = lowered h credit.block credit.amount in
+      let low = with_lowered_count h credit.block credit.amount in
       let runs = lower-write credit again left store (moment + 1) rows revision h there own is spare low.counts in
       subst (λ (said : Said). Runs live (Comes left (λ then (done : Unit {0}). Became (with_lowered credit.handle credit.block credit.amount rows) (store.counter + 1) then)) store (moment + 1) (lower_write credit again left said)) (sym (ap reply_to_get there))
-      (subst (λ (g : HandleValue). Runs live (Comes left (λ then (done : Unit {0}). Became (kept_or_gone (lowered g credit.block credit.amount) (lowered g credit.block credit.amount).counts rows) (store.counter + 1) then)) store (moment + 1) (lower_write credit again left (Found revision (record_of.Handle h)))) same runs))
+      (subst (λ (g : HandleValue). Runs live (Comes left (λ then (done : Unit {0}). Became (kept_or_gone (with_lowered_count g credit.block credit.amount) (with_lowered_count g credit.block credit.amount).counts rows) (store.counter + 1) then)) store (moment + 1) (lower_write credit again left (Found revision (record_of.Handle h)))) same runs))
 
   lower-tries : (credit : Credit) (races claims : ℕ) (store : Datastore) (moment : ℕ) (rows : Rows) → 0 < credit.amount → IsAs store rows → store.counter < last_revision
       → Runs live (Comes (left_of races claims) (λ then (done : Unit {0}). Became (with_lowered credit.handle credit.block credit.amount rows) (store.counter + 1) then)) store moment (tries (lower_once credit) races claims)
@@ -90,10 +90,10 @@ module _ (live : List (List ℕ)) where
       → Runs live (Comes left (λ then (many : ℕ). Became (with_these_freed what amount found.1 rows) (store.counter + 2) then)) store moment (free_these what again left amount found)
   free-these what again left store moment rows zero found there same is spare = (refl, record { is_as = is; taken = omega arith })
   free-these what again left store moment rows (suc more) found there same is spare = λ good.
-      let new = record_of.Block (freed what.picks (next_block found.1)) in
+      let new = record_of.Block (block_without what.picks (next_block found.1)) in
       let credit = credit_of what.handle what.block (suc more) in
       let Q : Datastore → ℕ → Type 0 = λ then many. Became (with_lowered what.handle found.1.cidr (suc more) (put new rows)) (store.counter + 2) then in
-      update-runs live (Comes left Q) store moment new (record_of.Block found.1) found.0 (λ taken. followed (lower credit left) (λ now done. goes now (suc more))) again (stops left NoRoom) (stops left NoRevisions) there (omega arith)
+      update-runs live (Comes left Q) store moment new (record_of.Block found.1) found.0 (λ taken. part_then (lower credit left) (λ now done. goes now (suc more))) again (stops left NoRoom) (stops left NoRevisions) there (omega arith)
       (comes-followed live left (λ then (done : Unit {0}). Became (with_lowered what.handle what.block (suc more) (put new rows)) (store.counter + 1 + 1) then) (Comes left Q) (λ now done. goes now (suc more)) (lower credit left) (put_in store new) (moment + 1)
       (lower-comes credit left (put_in store new) (moment + 1) (put new rows) (omega arith) (as-put store rows new is) (omega arith))
       (λ then later done b.
@@ -105,7 +105,7 @@ module _ (live : List (List ℕ)) where
   free-once what again left store moment rows is spare =
       runs-get live (Comes left (λ then (many : ℕ). Became (with_freed what rows) (store.counter + 2) then)) store moment idle (key.Block what.block) (λ at said. free_found what again left (block_said said))
       (λ good. subst (λ (after : Rows). Runs live (Comes left (λ then (many : ℕ). Became after (store.counter + 2) then)) store (moment + 1) (free_found what again left (block_said (reply_of store (Get (key.Block what.block))))))
-      (freed-same what (block_of what.block store.rows) (block_of what.block rows) rows (alike-block what.block store.rows rows is.alike))
+      (freed-same what (block_in_rows what.block store.rows) (block_in_rows what.block rows) rows (alike-block what.block store.rows rows is.alike))
       (by (row_of (key.Block what.block) store.rows) refl))
     where
       by : (o : Option (ℕ × Record)) → row_of (key.Block what.block) store.rows ≡ o

@@ -7,7 +7,7 @@ use Rattle.ipam_addr.specs.declared.address.Family.{Family}
 use Rattle.ipam_addr.specs.Shape.{AddrValue, CidrValue}
 use Rattle.ipam_block.specs.declared.allocation.Allocation.{Allocation}
 use Rattle.ipam_block.specs.declared.allocation.Attributes.{Attributes}
-use Rattle.ipam_block.specs.Operations.{address_of}
+use Rattle.ipam_block.specs.Operations.{ordinal_address}
 use Rattle.ipam_block.specs.Shape.{BlockValue}
 use Rattle.ipam_records.specs.declared.key.Key.TheVariants as key
 use Rattle.ipam_records.specs.declared.record.Record.TheVariants as record_of
@@ -41,7 +41,7 @@ pub record GainsRows (attributes : Attributes) (old now : Rows) (gifts : List Pl
   pub stays : (c : CidrValue) (a : Allocation) → HeldAt old c a → HeldAt now c a
   pub came : (c : CidrValue) (a : Allocation) → HeldAt now c a → HeldAt old c a ⊎ ((g : PlainGift) × Contains gifts g × (c ≡ g.block) × (a ≡ allocation_of attributes g))
   pub has : (g : PlainGift) → Contains gifts g → HeldAt now g.block (allocation_of attributes g)
-  pub address : (g : PlainGift) → Contains gifts g → g.address ≡ address_of g.block g.ordinal
+  pub address : (g : PlainGift) → Contains gifts g → g.address ≡ ordinal_address g.block g.ordinal
   pub later : (g : PlainGift) → Contains gifts g → (b : BlockValue) → record_at (key.Block g.block) old ≡ Some (record_of.Block b) → b.sequence < g.stamp
   pub grows : Grows old now
 
@@ -60,7 +60,7 @@ gains-more attributes old now after gifts gift h one = record {
   stays = λ c a held. one.stays c a (h.stays c a held);
   came = came;
   has = λ g among. each (λ x. HeldAt after x.block (allocation_of attributes x)) (λ x was. one.stays x.block (allocation_of attributes x) (h.has x was)) one.new g among;
-  address = λ g among. each (λ x. x.address ≡ address_of x.block x.ordinal) h.address one.address g among;
+  address = λ g among. each (λ x. x.address ≡ ordinal_address x.block x.ordinal) h.address one.address g among;
   later = λ g among. each (λ x. (b : BlockValue) → record_at (key.Block x.block) old ≡ Some (record_of.Block b) → b.sequence < x.stamp) h.later newest g among;
   grows = grows-trans old now after h.grows one.grows;
 }

@@ -10,7 +10,7 @@ use Rattle.ipam_addr.proofs.SlotLemmas.{slot_number_holds}
 use Rattle.ipam_pool.specs.declared.pools.Pool.{Pool}
 use Rattle.ipam_affinity.specs.declared.state.State.TheVariants.{Confirmed}
 use Rattle.ipam_block.specs.declared.allocation.Allocation.{Allocation}
-use Rattle.ipam_block.specs.Operations.{address_of, holder}
+use Rattle.ipam_block.specs.Operations.{ordinal_address, holder}
 use Rattle.ipam_block.specs.Shape.{BlockValue}
 use Rattle.ipam_records.specs.declared.key.Key.TheVariants as key
 use Rattle.ipam_records.specs.declared.record.Record.TheVariants as record_of
@@ -30,7 +30,7 @@ use Rattle.ipam_model.specs.Alone.{alone_over}
 use Rattle.ipam_model.specs.Choice.{Claims, Leaves, Share, Takes, by_share, share_of}
 use Rattle.ipam_model.specs.Consistent.{IsConsistent}
 use Rattle.ipam_model.specs.History.{Base}
-use Rattle.ipam_model.specs.Plain.{Gives, HasSpare, IsAnothers, PlainAnswer, PlainGift, Result, Rows, block_of, claimed_block, plain_add_this, plain_gift, plain_of, plain_this, plain_this_block, plain_this_claimed, plain_this_free, plain_this_held, plain_this_pool, put, records, seen_in, with_assigned, with_claimed}
+use Rattle.ipam_model.specs.Plain.{Gives, HasSpare, IsAnothers, PlainAnswer, PlainGift, Result, Rows, block_in_rows, claimed_block, plain_add_this, plain_gift, plain_of, plain_this, plain_this_block, plain_this_claimed, plain_this_free, plain_this_held, plain_this_pool, put, records, seen_in, with_assigned, with_claimed}
 use Rattle.ipam_model.specs.Requests.{word_of}
 use Rattle.ipam_model.specs.SoundRequest.{IsSoundRequest}
 use Rattle.ipam_model.specs.Told.{of_add_this}
@@ -72,15 +72,15 @@ module _ (request : AddRequest) (address : AddrValue) (rows : Rows) (sorted : Is
   Comes result = GivesThis result ⊎ LeavesAll result
 
   -- the address of the slot that holds it
-  own-address : (pool : Pool) → holds_address pool.cidr address ≡ true → address_of (slot_holding pool address) (address.number - (slot_holding pool address).base) ≡ address
+  own-address : (pool : Pool) → holds_address pool.cidr address ≡ true → ordinal_address (slot_holding pool address) (address.number - (slot_holding pool address).base) ≡ address
   own-address pool holds =
       let number = holding-number pool address holds in
       let inside = slot_number_holds pool.cidr pool.size address (holds_from pool.cidr address holds) in
       let slot = slot_of pool.cidr pool.size ((address.number - pool.cidr.base) / size_of pool.cidr.family pool.size) in
       let from = inside.from_base in
       let sum : slot.base + (address.number - slot.base) ≡ address.number = omega arith in
-      let there : address_of slot (address.number - slot.base) ≡ address = λ i. record { family = sym inside.same_family i; number = sum i } in
-      subst (λ (c : CidrValue). address_of c (address.number - c.base) ≡ address) (sym number) there
+      let there : ordinal_address slot (address.number - slot.base) ≡ address = λ i. record { family = sym inside.same_family i; number = sum i } in
+      subst (λ (c : CidrValue). ordinal_address c (address.number - c.base) ≡ address) (sym number) there
 
   module _ (pool : Pool) (holds : holds_address pool.cidr address ≡ true) where
     abbrev cidr : CidrValue
@@ -93,7 +93,7 @@ module _ (request : AddRequest) (address : AddrValue) (rows : Rows) (sorted : Is
         inl (record {
           is = refl;
           gift = plain_gift found (address.number - cidr.base);
-          is_address = ap (λ (c : CidrValue). address_of c (address.number - cidr.base)) own ∙ own-address pool holds;
+          is_address = ap (λ (c : CidrValue). ordinal_address c (address.number - cidr.base)) own ∙ own-address pool holds;
           gives = assigned-gives request.attributes rows found.0 found.1 (address.number - cidr.base) there;
           ordered = assigned-sorted request V4 rows found.1 (address.number - cidr.base) sorted;
         })
@@ -102,7 +102,7 @@ module _ (request : AddRequest) (address : AddrValue) (rows : Rows) (sorted : Is
     claimed-ends =
         let own = claimed-cidr request V4 cidr rows in
         let after = with_claimed request.node cidr rows in
-        let b = claimed_block request.node cidr (block_of cidr rows) in
+        let b = claimed_block request.node cidr (block_in_rows cidr rows) in
         let h = plain-claimed request.node cidr rows own in
         let confirmed = record_of.Affinity (affinity request.node cidr Confirmed) in
         let ordered = sorted-with_row (0, record_of.Block b) (put confirmed rows) (sorted-with_row (0, confirmed) rows sorted) in
@@ -112,17 +112,17 @@ module _ (request : AddRequest) (address : AddrValue) (rows : Rows) (sorted : Is
         let ends : Comes (plain_this wanted cidr (Some (0, b)) after) = inl (record {
           is = refl;
           gift = plain_gift (0, b) (address.number - cidr.base);
-          is_address = ap (λ (c : CidrValue). address_of c (address.number - cidr.base)) own ∙ own-address pool holds;
+          is_address = ap (λ (c : CidrValue). ordinal_address c (address.number - cidr.base)) own ∙ own-address pool holds;
           gives = gives;
           ordered = assigned-sorted request V4 after b (address.number - cidr.base) ordered;
         }) in
-        by (block_of cidr after) (block_of-record cidr after ∙ ap block_from h.has_block) ends
+        by (block_in_rows cidr after) (block_of-record cidr after ∙ ap block_from h.has_block) ends
       where
-        by : (o : BlockRead) → value_in o ≡ Some (claimed_block request.node cidr (block_of cidr rows)) → Comes (plain_this wanted cidr (Some (0, claimed_block request.node cidr (block_of cidr rows))) (with_claimed request.node cidr rows))
+        by : (o : BlockRead) → value_in o ≡ Some (claimed_block request.node cidr (block_in_rows cidr rows)) → Comes (plain_this wanted cidr (Some (0, claimed_block request.node cidr (block_in_rows cidr rows))) (with_claimed request.node cidr rows))
             → Comes (plain_this wanted cidr o (with_claimed request.node cidr rows))
         by None e ends = absurd (cc e)
         by (Some found) e ends =
-            let same : found.1 ≡ claimed_block request.node cidr (block_of cidr rows) = cc e in
+            let same : found.1 ≡ claimed_block request.node cidr (block_in_rows cidr rows) = cc e in
             subst (λ (x : BlockValue). Comes (plain_this wanted cidr (Some (0, x)) (with_claimed request.node cidr rows))) (sym same) ends
 
     free-ends : (strict : Bool) (found : ℕ × BlockValue) → record_at (key.Block cidr) rows ≡ Some (record_of.Block found.1) → Comes (plain_this_free strict wanted cidr found rows)
@@ -133,7 +133,7 @@ module _ (request : AddRequest) (address : AddrValue) (rows : Rows) (sorted : Is
         by Claims = claimed-ends
         by Leaves = inr (record { none = λ addresses e. cc e; same = refl })
 
-    block-ends : (strict : Bool) (o : BlockRead) → block_of cidr rows ≡ o → Comes (plain_this_block strict wanted cidr o rows)
+    block-ends : (strict : Bool) (o : BlockRead) → block_in_rows cidr rows ≡ o → Comes (plain_this_block strict wanted cidr o rows)
     block-ends strict None e = claimed-ends
     block-ends strict (Some found) e = by (holder found.1 (address.number - cidr.base))
       where
@@ -145,7 +145,7 @@ module _ (request : AddRequest) (address : AddrValue) (rows : Rows) (sorted : Is
   pool-ends strict None e = inr (record { none = λ addresses f. cc f; same = refl })
   pool-ends strict (Some pool) e =
       let (among, test) = in-find (λ (p : Pool). is_usable (asked_of_this request address) p && holds_address p.cidr address) pool (seen_in rows).pools e in
-      block-ends pool (second (is_usable (asked_of_this request address) pool) (holds_address pool.cidr address) test) strict (block_of (slot_holding pool address) rows) refl
+      block-ends pool (second (is_usable (asked_of_this request address) pool) (holds_address pool.cidr address) test) strict (block_in_rows (slot_holding pool address) rows) refl
     where
       second : (one two : Bool) → one && two ≡ true → two ≡ true
       second true two f = f

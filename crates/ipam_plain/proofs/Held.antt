@@ -5,9 +5,9 @@ use Rattle.std.specs.List.{count_by}
 use Rattle.std.proofs.lemmas.List.Sums.{sum_by-cons}
 use Rattle.ipam_addr.specs.Shape.{CidrValue}
 use Rattle.ipam_block.specs.declared.allocation.Allocation.{Allocation}
-use Rattle.ipam_block.specs.Operations.{freed, next_block}
+use Rattle.ipam_block.specs.Operations.{block_without, next_block}
 use Rattle.ipam_block.specs.Shape.{BlockValue}
-use Rattle.ipam_handle.specs.Operations.{lowered}
+use Rattle.ipam_handle.specs.Operations.{with_lowered_count}
 use Rattle.ipam_handle.specs.Shape.{HandleValue}
 use Rattle.ipam_records.specs.declared.key.Key.TheVariants as key
 use Rattle.ipam_records.specs.declared.record.Record.{Record}
@@ -15,8 +15,8 @@ use Rattle.ipam_records.specs.declared.record.Record.TheVariants as record_of
 use Rattle.ipam_records.proofs.DatastoreLemmas.{row_key-row_of}
 use Rattle.ipam_model.specs.Counting.{Freeing}
 use Rattle.ipam_model.specs.Owners.{Owner, owner_of, owners_in, owners_in_row}
-use Rattle.ipam_model.specs.Plain.{Rows, block_of, handle_of, kept_or_gone, put, records, with_freed, with_freed_found, with_these_freed}
-use Rattle.ipam_model.specs.Reads.{Row}
+use Rattle.ipam_model.specs.Plain.{Rows, block_in_rows, handle_of, kept_or_gone, put, records, with_freed, with_freed_found, with_these_freed}
+use Rattle.ipam_model.specs.Reads.{StoredRecord}
 use Rattle.ipam_laws.proofs.Calls.{found-block}
 use Rattle.ipam_laws.proofs.CountLemmas.{cidr_cases}
 use Rattle.ipam_laws.proofs.Members.{filter-in, in-cons, in-filter, in-map, in-nothing, out-map}
@@ -58,7 +58,7 @@ owner-held rows o sorted owns = let (row, among, own) = owner-row rows o owns in
     by revision (record_of.Block b) among own =
         let (a, there, is) = out-map (owner_of b.cidr) o b.allocations own in
         let row = member-found rows (revision, record_of.Block b) sorted among in
-        record { cidr = b.cidr; a = a; held = (b, ap (λ (x : Option Row). option_map (λ (r : Row). r.1) x) row, there); is_owner = is }
+        record { cidr = b.cidr; a = a; held = (b, ap (λ (x : Option StoredRecord). option_map (λ (r : StoredRecord). r.1) x) row, there); is_owner = is }
     by revision (record_of.Config config) among own = absurd (in-nothing o own)
     by revision (record_of.Pools pools) among own = absurd (in-nothing o own)
     by revision (record_of.Reservations reservations) among own = absurd (in-nothing o own)
@@ -70,7 +70,7 @@ owners_from : List Record → List Owner
 owners_from [] = []
 owners_from (r ∷ rest) = owners_in_row (0, r) ++ owners_from rest
 
-row-owners : (row : Row) → owners_in_row row ≡ owners_in_row (0, row.1)
+row-owners : (row : StoredRecord) → owners_in_row row ≡ owners_in_row (0, row.1)
 row-owners (revision, record_of.Block b) = refl
 row-owners (revision, record_of.Config config) = refl
 row-owners (revision, record_of.Pools pools) = refl
@@ -89,10 +89,10 @@ same-owners one other e = owners-records one ∙ (ap owners_from e ∙ sym (owne
 -- ---- freeing
 
 -- the block's record and what is read of it
-pub block-found : (rows : Rows) (cidr : CidrValue) (b : BlockValue) → record_at (key.Block cidr) rows ≡ Some (record_of.Block b) → value_in (block_of cidr rows) ≡ Some b
+pub block-found : (rows : Rows) (cidr : CidrValue) (b : BlockValue) → record_at (key.Block cidr) rows ≡ Some (record_of.Block b) → value_in (block_in_rows cidr rows) ≡ Some b
 block-found rows cidr b e = block_of-record cidr rows ∙ ap block_from e
 
-pub found-record : (rows : Rows) (cidr : CidrValue) (b : BlockValue) → value_in (block_of cidr rows) ≡ Some b → record_at (key.Block cidr) rows ≡ Some (record_of.Block b)
+pub found-record : (rows : Rows) (cidr : CidrValue) (b : BlockValue) → value_in (block_in_rows cidr rows) ≡ Some b → record_at (key.Block cidr) rows ≡ Some (record_of.Block b)
 found-record rows cidr b e = by (record_at (key.Block cidr) rows) refl (sym (block_of-record cidr rows) ∙ e)
   where
     by : (o : Option Record) → record_at (key.Block cidr) rows ≡ o → block_from o ≡ Some b → record_at (key.Block cidr) rows ≡ Some (record_of.Block b)
@@ -131,16 +131,16 @@ not-false false e = refl
 module _ (what : Freeing) (rows : Rows) where
   -- other blocks stay
   freed-elsewhere : (cidr : CidrValue) → cidr ≢ what.block → record_at (key.Block cidr) (with_freed what rows) ≡ record_at (key.Block cidr) rows
-  freed-elsewhere cidr other = by (block_of what.block rows) refl
+  freed-elsewhere cidr other = by (block_in_rows what.block rows) refl
     where
       these : (b : BlockValue) → b.cidr ≡ what.block → (amount : ℕ) → record_at (key.Block cidr) (with_these_freed what amount b rows) ≡ record_at (key.Block cidr) rows
       these b same zero = refl
       these b same (suc more) =
-          let next = put (record_of.Block (freed what.picks (next_block b))) rows in
-          let low = lowered (handle_of what.handle next) b.cidr (suc more) in
-          lowered-keeps low low.counts next cidr ∙ record_at-other (key.Block cidr) (0, record_of.Block (freed what.picks (next_block b))) rows (λ e. other (sym (cc e) ∙ same))
+          let next = put (record_of.Block (block_without what.picks (next_block b))) rows in
+          let low = with_lowered_count (handle_of what.handle next) b.cidr (suc more) in
+          lowered-keeps low low.counts next cidr ∙ record_at-other (key.Block cidr) (0, record_of.Block (block_without what.picks (next_block b))) rows (λ e. other (sym (cc e) ∙ same))
 
-      by : (o : Option (ℕ × BlockValue)) → block_of what.block rows ≡ o → record_at (key.Block cidr) (with_freed_found what o rows) ≡ record_at (key.Block cidr) rows
+      by : (o : Option (ℕ × BlockValue)) → block_in_rows what.block rows ≡ o → record_at (key.Block cidr) (with_freed_found what o rows) ≡ record_at (key.Block cidr) rows
       by None e = refl
       by (Some found) e =
           let there = found-record rows what.block found.1 (ap value_in e) in
@@ -148,7 +148,7 @@ module _ (what : Freeing) (rows : Rows) where
 
   -- the block is left without what is picked
   freed-here : (b : BlockValue) → record_at (key.Block what.block) rows ≡ Some (record_of.Block b) → IsLeft (with_freed what rows) what.block what.picks b
-  freed-here b there = by (block_of what.block rows) (block-found rows what.block b there)
+  freed-here b there = by (block_in_rows what.block rows) (block-found rows what.block b there)
     where
       these : (amount : ℕ) → count_by what.picks b.allocations ≡ amount → IsLeft (with_these_freed what amount b rows) what.block what.picks b
       these zero e = record {
@@ -158,9 +158,9 @@ module _ (what : Freeing) (rows : Rows) where
         stays = λ a among kept. among;
       }
       these (suc more) e =
-          let new = freed what.picks (next_block b) in
+          let new = block_without what.picks (next_block b) in
           let next = put (record_of.Block new) rows in
-          let low = lowered (handle_of what.handle next) b.cidr (suc more) in
+          let low = with_lowered_count (handle_of what.handle next) b.cidr (suc more) in
           let own = named rows what.block b there in
           record {
             new = new;
@@ -175,11 +175,11 @@ module _ (what : Freeing) (rows : Rows) where
           let same : found.1 ≡ b = cc e in
           subst (λ (x : BlockValue). IsLeft (with_these_freed what (count_by what.picks x.allocations) x rows) what.block what.picks b) (sym same) (these (count_by what.picks b.allocations) refl)
 
-  -- where there is no block nothing is freed
+  -- where there is no block nothing is block_without
   freed-nowhere : (found : Record) → record_at (key.Block what.block) (with_freed what rows) ≡ Some found → ((b : BlockValue) × (record_at (key.Block what.block) rows ≡ Some (record_of.Block b))) ⊎ (record_at (key.Block what.block) rows ≡ Some found)
-  freed-nowhere found e = by (block_of what.block rows) refl e
+  freed-nowhere found e = by (block_in_rows what.block rows) refl e
     where
-      by : (o : Option (ℕ × BlockValue)) → block_of what.block rows ≡ o → record_at (key.Block what.block) (with_freed_found what o rows) ≡ Some found → ((b : BlockValue) × (record_at (key.Block what.block) rows ≡ Some (record_of.Block b))) ⊎ (record_at (key.Block what.block) rows ≡ Some found)
+      by : (o : Option (ℕ × BlockValue)) → block_in_rows what.block rows ≡ o → record_at (key.Block what.block) (with_freed_found what o rows) ≡ Some found → ((b : BlockValue) × (record_at (key.Block what.block) rows ≡ Some (record_of.Block b))) ⊎ (record_at (key.Block what.block) rows ≡ Some found)
       by None is f = inr f
       by (Some there) is f = inl (there.1, found-record rows what.block there.1 (ap value_in is))
 

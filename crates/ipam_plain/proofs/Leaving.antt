@@ -7,10 +7,10 @@ use Rattle.std.proofs.lemmas.List.Elements.{Contains-append_cases, Contains-appe
 use Rattle.std.proofs.lemmas.List.Sums.{sum_by-cons}
 use Rattle.ipam_addr.specs.Shape.{CidrValue}
 use Rattle.ipam_block.specs.declared.allocation.Allocation.{Allocation}
-use Rattle.ipam_block.specs.Operations.{freed, is_owned, next_block}
+use Rattle.ipam_block.specs.Operations.{block_without, is_owned, next_block}
 use Rattle.ipam_block.specs.Shape.{BlockValue}
 use Rattle.ipam_handle.proofs.Reading.{listed}
-use Rattle.ipam_handle.specs.Operations.{count_of, lowered}
+use Rattle.ipam_handle.specs.Operations.{count_of, with_lowered_count}
 use Rattle.ipam_handle.specs.Shape.{HandleValue}
 use Rattle.ipam_records.specs.declared.key.Key.TheVariants as key
 use Rattle.ipam_records.specs.declared.record.Record.{Record}
@@ -26,8 +26,8 @@ use Rattle.ipam_model.specs.Counting.{Freeing, freeing_all}
 use Rattle.ipam_model.specs.CountLaw.{count_in_row, handle_count, held_count, held_in_row}
 use Rattle.ipam_model.specs.Moments.{Owns, Recorded}
 use Rattle.ipam_model.specs.Owners.{Owner, is_owner_in, owner_of, owners_in, same_owner}
-use Rattle.ipam_model.specs.Plain.{Rows, block_of, handle_of, kept_or_gone, plain_collect, plain_del, put, with_all_freed, with_freed, with_freed_found, with_leaks_freed, with_these_freed}
-use Rattle.ipam_model.specs.Reads.{Row, handle_said}
+use Rattle.ipam_model.specs.Plain.{Rows, block_in_rows, handle_of, kept_or_gone, plain_collect, plain_del, put, with_all_freed, with_freed, with_freed_found, with_leaks_freed, with_these_freed}
+use Rattle.ipam_model.specs.Reads.{StoredRecord, handle_said}
 use Rattle.ipam_model.specs.Remove.{Leak, freeing_owner, is_in_scope, is_live, leak_of, leaks, leaks_in_row, may_leak, suspects}
 use Rattle.ipam_laws.proofs.Calls.{found-handle, found-key}
 use Rattle.ipam_laws.proofs.CountLemmas.{same_text, text_cases}
@@ -42,10 +42,10 @@ use Rattle.ipam_plain.proofs.Alike.{IsSorted, record-row, record_at, record_in}
 use Rattle.ipam_plain.proofs.Held.{HeldAt, freed-stays, freed-was, held-owner, named, owner-held, same-owners}
 use Rattle.ipam_plain.proofs.Whole.{collect_alone, del_alone}
 
--- ---- what was freed stays in order
+-- ---- what was block_without stays in order
 
 pub sorted-freed : (what : Freeing) (rows : Rows) → IsSorted rows → IsSorted (with_freed what rows)
-sorted-freed what rows sorted = by (block_of what.block rows)
+sorted-freed what rows sorted = by (block_in_rows what.block rows)
   where
     kept : (h : HandleValue) (counts : List (CidrValue × ℕ)) (next : Rows) → IsSorted next → IsSorted (kept_or_gone h counts next)
     kept h [] next s = sorted-without_row (key.Handle h.id) next s
@@ -54,9 +54,9 @@ sorted-freed what rows sorted = by (block_of what.block rows)
     these : (amount : ℕ) (b : BlockValue) → IsSorted (with_these_freed what amount b rows)
     these zero b = sorted
     these (suc more) b =
-        let next = put (record_of.Block (freed what.picks (next_block b))) rows in
-        let low = lowered (handle_of what.handle next) b.cidr (suc more) in
-        kept low low.counts next (sorted-with_row (0, record_of.Block (freed what.picks (next_block b))) rows sorted)
+        let next = put (record_of.Block (block_without what.picks (next_block b))) rows in
+        let low = with_lowered_count (handle_of what.handle next) b.cidr (suc more) in
+        kept low low.counts next (sorted-with_row (0, record_of.Block (block_without what.picks (next_block b))) rows sorted)
 
     by : (o : Option (ℕ × BlockValue)) → IsSorted (with_freed_found what o rows)
     by None = sorted
@@ -101,7 +101,7 @@ counted-block store id c a consistent (b, there, among) own = by (row_of (key.Ha
         let covers = consistent.covered id c in
         omega arith
 
-    by : (o : Option Row) → row_of (key.Handle id) store.rows ≡ o → Contains (map (λ (count : CidrValue × ℕ). count.0) (handle_said id (reply_to_get o)).counts) c
+    by : (o : Option StoredRecord) → row_of (key.Handle id) store.rows ≡ o → Contains (map (λ (count : CidrValue × ℕ). count.0) (handle_said id (reply_to_get o)).counts) c
     by None e = let none : handle_count store id c ≡ 0 = ap (count_in_row id c) e in let more = some in absurd (omega arith)
     by (Some row) e =
         let (h, is, same) = found-handle id row.1 (found-key store (key.Handle id) row.0 row.1 e) in

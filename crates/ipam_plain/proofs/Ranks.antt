@@ -5,19 +5,20 @@ use Rattle.std.specs.List.{count_by, list_any}
 use Rattle.ipam_addr.specs.Shape.{CidrValue}
 use Rattle.ipam_addr.specs.Slots.{last_slot_of, slot_of}
 use Rattle.ipam_addr.specs.Width.{cidr_size}
-use Rattle.ipam_block.specs.Operations.{address_of, room}
+use Rattle.ipam_block.specs.Operations.{ordinal_address, room}
 use Rattle.ipam_block.specs.Shape.{BlockValue}
 use Rattle.ipam_pool.specs.declared.pools.Pool.{Pool}
 use Rattle.ipam_record_text.specs.declared.config.Config.{Config}
 use Rattle.ipam_reserve.specs.Shape.{ReservationValue}
 use Rattle.ipam_reserve.specs.Union.{is_in_union}
 use Rattle.ipam_records.specs.declared.key.Key.TheVariants as key
-use Rattle.ipam_model.specs.Choice.{Foreign, Lacks, Own, Pick, Picks, Rank, Ranked, Seen, Unclaimed, Unconfirmed, Unknown, best_of_ranks, block_at, first_found, first_slot, first_slot_in, has_free_address, if_rank, is_block_of, is_confirmed_for, is_node, is_unowned_and_empty, may_claim, pick_of, pick_unless, rank_at, rank_number, rank_of, rank_of_block, ranked_at, room_of}
+use Rattle.ipam_model.specs.Choice.{Foreign, Lacks, Own, Pick, Picks, Rank, Ranked, Seen, Unclaimed, Unconfirmed, Unknown, best_of_ranks, block_at, first_found, first_slot, first_slot_in, has_free_address, if_rank, is_block_of, is_confirmed_for, is_unowned_and_empty, may_claim, pick_of, pick_unless, rank_at, rank_number, rank_of, rank_of_block, ranked_at, room_of}
 use Rattle.ipam_model.specs.Plain.{Rows, seen_in}
 use Rattle.ipam_model.specs.Usable.{Asked, is_usable, unknown_name}
 use Rattle.ipam_plain.proofs.Alike.{Alike, IsSorted, alike-records, same-pools, value_in}
 use Rattle.ipam_plain.proofs.Seeing.{block-named, same-block, same-config, same-confirmed, same-count, same-reservations}
 use Rattle.ipam_laws.proofs.AddRounds.{usable-family}
+use Rattle.ipam_records.specs.BlockLists.{is_node}
 
 -- ---- the same but for revisions
 
@@ -96,7 +97,7 @@ module _ (asked : Asked) (one other : Seen) (same : SeesSame asked one other) wh
       λ i. (configs i).auto && (((configs i).max_blocks == 0) || nat_lt (counts i) (configs i).max_blocks)
 
   same-free : (slot : CidrValue) → has_free_address one slot ≡ has_free_address other slot
-  same-free slot = ap (λ (r : List ReservationValue). is_some (first_found (λ o. cond (is_in_union r (address_of slot o)) None (Some (address_of slot o))) (cidr_size slot) 0)) same.reservations
+  same-free slot = ap (λ (r : List ReservationValue). is_some (first_found (λ o. cond (is_in_union r (ordinal_address slot o)) None (Some (ordinal_address slot o))) (cidr_size slot) 0)) same.reservations
 
   same-of_block : (found there : ℕ × BlockValue) → found.1 ≡ there.1 → found.1.cidr.family ≡ asked.family → (o : Option ℕ) → Both SameRank (rank_of_block asked one found o) (rank_of_block asked other there o)
   same-of_block found there is own None = tt

@@ -6,9 +6,9 @@ use Rattle.ipam_addr.specs.declared.address.Family.TheVariants.{V4, V6}
 use Rattle.ipam_addr.specs.Holding.{is_same_family}
 use Rattle.ipam_addr.specs.Shape.{AddrValue, CidrValue}
 use Rattle.ipam_affinity.specs.declared.state.State.TheVariants.{Confirmed}
-use Rattle.ipam_block.specs.Operations.{assigned, next_block}
+use Rattle.ipam_block.specs.Operations.{block_with_ordinal, next_block}
 use Rattle.ipam_block.specs.Shape.{BlockValue}
-use Rattle.ipam_handle.specs.Operations.{raised}
+use Rattle.ipam_handle.specs.Operations.{with_raised_count}
 use Rattle.ipam_records.specs.declared.key.Key.{Key}
 use Rattle.ipam_records.specs.declared.key.Key.TheVariants as key
 use Rattle.ipam_records.specs.declared.record.Record.{Record}
@@ -28,11 +28,11 @@ use Rattle.ipam_model.specs.Add.{add_word, asked_of}
 use Rattle.ipam_model.specs.Affinities.{BlockRead, affinity}
 use Rattle.ipam_model.specs.AffinityLaw.{HasAt}
 use Rattle.ipam_model.specs.Alone.{alone_over}
-use Rattle.ipam_model.specs.Choice.{Foreign, Lacks as NoneLeft, Own, Pick, Picks, Rank, Ranked, Unclaimed, Unconfirmed, Unknown, block_at, choice_in, choice_of, chosen, is_block_of, is_node, pick_of, rank_at, room_of}
+use Rattle.ipam_model.specs.Choice.{Foreign, Lacks as NoneLeft, Own, Pick, Picks, Rank, Ranked, Unclaimed, Unconfirmed, Unknown, block_at, choice_in, choice_of, chosen, is_block_of, pick_of, rank_at, room_of}
 use Rattle.ipam_model.specs.Consistent.{IsConsistent}
 use Rattle.ipam_model.specs.History.{Base}
-use Rattle.ipam_model.specs.Plain.{CanGive, Gives, PlainAnswer, PlainGift, PlainServed, Rows, Served, block_of, claimed_block, handle_of, plain_add, plain_after, plain_claim, plain_each, plain_family, plain_gift, plain_of, plain_pick, plain_probe, plain_probe_next, put, seen_in, with_assigned, with_claimed}
-use Rattle.ipam_model.specs.Reads.{Row}
+use Rattle.ipam_model.specs.Plain.{CanGive, Gives, PlainAnswer, PlainGift, PlainServed, Rows, Served, block_in_rows, claimed_block, handle_of, plain_add, plain_after, plain_claim, plain_each, plain_family, plain_gift, plain_of, plain_pick, plain_probe, plain_probe_next, put, seen_in, with_assigned, with_claimed}
+use Rattle.ipam_model.specs.Reads.{StoredRecord}
 use Rattle.ipam_model.specs.Requests.{word_of}
 use Rattle.ipam_model.specs.SoundRequest.{IsSoundRequest}
 use Rattle.ipam_model.specs.Told.{of_add}
@@ -59,6 +59,7 @@ use Rattle.ipam_plain.proofs.Ranks.{SamePick, SeesSame, pick-itself, same-pick, 
 use Rattle.ipam_plain.proofs.Seeing.{block-named, block_at-record, count-put, same-block, same-config, same-confirmed, same-reservations}
 use Rattle.ipam_plain.proofs.Serving.{Keeps, plain-claimed-take}
 use Rattle.ipam_plain.proofs.Whole.{add_alone}
+use Rattle.ipam_records.specs.BlockLists.{is_node}
 
 -- ---- records that a choice in a family does not see
 
@@ -86,7 +87,7 @@ apart-key : (family : Family) (r : Record) (k : Key) → IsApart family r → Is
 apart-key family r k apart seen e = apart-not family r apart (subst (λ (x : Key). IsSeenKey family x) (sym e) seen)
 
 -- a row with the key of such a record is no block of the node in the family
-apart-count : (asked : Asked) (r : Record) → IsApart asked.family r → (row : Row) → row_key row ≡ key_of r → is_block_of asked (0, row.1) ≡ false
+apart-count : (asked : Asked) (r : Record) → IsApart asked.family r → (row : StoredRecord) → row_key row ≡ key_of r → is_block_of asked (0, row.1) ≡ false
 apart-count asked r apart row same = by row.1 (subst (λ (k : Key). ¬ (IsSeenKey asked.family k)) (sym same) (apart-not asked.family r apart))
   where
     other-family : (one two : Bool) → ¬ (IsTrue two) → one && two ≡ false
@@ -144,15 +145,15 @@ module _ (request : AddRequest) (family : Family) where
   -- what an assignment leaves
   assigned-sees : (rows : Rows) (b : BlockValue) (ordinal : ℕ) (asked : Asked) → IsSorted rows → b.cidr.family ≡ family → asked.family ≢ family → SeesSame asked (seen_in rows) (seen_in (with_assigned request.attributes b ordinal rows))
   assigned-sees rows b ordinal asked sorted own other =
-      let handle = record_of.Handle (raised (handle_of request.attributes.handle rows) b.cidr 1) in
-      let block = record_of.Block (assigned (next_block b) ordinal request.attributes) in
+      let handle = record_of.Handle (with_raised_count (handle_of request.attributes.handle rows) b.cidr 1) in
+      let block = record_of.Block (block_with_ordinal (next_block b) ordinal request.attributes) in
       sees-trans asked rows (put handle rows) (put block (put handle rows)) (put-sees asked rows handle sorted tt)
       (put-sees asked (put handle rows) block (sorted-with_row (0, handle) rows sorted) (λ e. other (sym e ∙ own)))
 
   pub assigned-sorted : (rows : Rows) (b : BlockValue) (ordinal : ℕ) → IsSorted rows → IsSorted (with_assigned request.attributes b ordinal rows)
   assigned-sorted rows b ordinal sorted =
-      let handle = record_of.Handle (raised (handle_of request.attributes.handle rows) b.cidr 1) in
-      let block = record_of.Block (assigned (next_block b) ordinal request.attributes) in
+      let handle = record_of.Handle (with_raised_count (handle_of request.attributes.handle rows) b.cidr 1) in
+      let block = record_of.Block (block_with_ordinal (next_block b) ordinal request.attributes) in
       sorted-with_row (0, block) (put handle rows) (sorted-with_row (0, handle) rows sorted)
 
   taken-plain : (rows : Rows) (found : ℕ × BlockValue) (ordinal : ℕ) → plain_family request family rows ≡ Served (plain_gift found ordinal) (with_assigned request.attributes found.1 ordinal rows) → found.1.cidr.family ≡ family → record_at (key.Block found.1.cidr) rows ≡ Some (record_of.Block found.1) → IsSorted rows → IsServedPlain request family rows
@@ -166,10 +167,10 @@ module _ (request : AddRequest) (family : Family) where
     sees = λ asked other. assigned-sees rows found.1 ordinal asked sorted own other;
   }
 
-  pub claimed-cidr : (slot : CidrValue) (rows : Rows) → (claimed_block request.node slot (block_of slot rows)).cidr ≡ slot
-  claimed-cidr slot rows = by (block_of slot rows) refl
+  pub claimed-cidr : (slot : CidrValue) (rows : Rows) → (claimed_block request.node slot (block_in_rows slot rows)).cidr ≡ slot
+  claimed-cidr slot rows = by (block_in_rows slot rows) refl
     where
-      by : (o : BlockRead) → block_of slot rows ≡ o → (claimed_block request.node slot o).cidr ≡ slot
+      by : (o : BlockRead) → block_in_rows slot rows ≡ o → (claimed_block request.node slot o).cidr ≡ slot
       by None e = refl
       by (Some found) e = named rows slot found.1 (found-record rows slot found.1 (ap value_in e))
 
@@ -181,18 +182,18 @@ module _ (request : AddRequest) (family : Family) where
       let asked = asked_of request family in
       let node = request.node in
       let read = block_at (seen_in rows) slot in
-      let b = claimed_block node slot (block_of slot rows) in
+      let b = claimed_block node slot (block_in_rows slot rows) in
       let cidr = claimed-cidr slot rows in
       let after = with_claimed node slot rows in
       let confirmed = record_of.Affinity (affinity node slot Confirmed) in
       let claims = plain-claimed node slot rows cidr in
-      let values : value_in read ≡ value_in (block_of slot rows) = block_at-record rows slot ∙ sym (block_of-record slot rows) in
-      let same : taken node slot read ≡ b = taken-same node slot read (block_of slot rows) values ∙ sym (claimed-taken node slot (block_of slot rows)) in
+      let values : value_in read ≡ value_in (block_in_rows slot rows) = block_at-record rows slot ∙ sym (block_of-record slot rows) in
+      let same : taken node slot read ≡ b = taken-same node slot read (block_in_rows slot rows) values ∙ sym (claimed-taken node slot (block_in_rows slot rows)) in
       let (ordinal, room) = claim-room asked (seen_in rows) slot read rank ranks in
       let kept = same-reservations after rows (claims.others key.Reservations (λ e. cc e) (λ e. cc e)) in
       let rooms : room_of (seen_in after) b ≡ Some ordinal = same-room (seen_in after) (seen_in rows) b kept ∙ (ap (room_of (seen_in rows)) (sym same) ∙ room) in
-      let shown : value_in (block_of slot after) ≡ Some b = block_of-record slot after ∙ ap block_from claims.has_block in
-      let says = is ∙ plain-claimed-take request family no_keeps (block_of slot after) b ordinal after shown rooms in
+      let shown : value_in (block_in_rows slot after) ≡ Some b = block_of-record slot after ∙ ap block_from claims.has_block in
+      let says = is ∙ plain-claimed-take request family no_keeps (block_in_rows slot after) b ordinal after shown rooms in
       let first = sorted-with_row (0, confirmed) rows sorted in
       let ordered = sorted-with_row (0, record_of.Block b) (put confirmed rows) first in
       record {

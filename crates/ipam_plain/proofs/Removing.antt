@@ -8,7 +8,7 @@ use Rattle.ipam_records.specs.declared.call.Call.TheVariants.{List as ListAll}
 use Rattle.ipam_records.specs.declared.key.Key.TheVariants as key
 use Rattle.ipam_records.specs.declared.key.Kind.TheVariants as kind
 use Rattle.ipam_records.specs.declared.record.Record.TheVariants as record_of
-use Rattle.ipam_records.specs.Datastore.{Datastore, last_revision, listed, row_key}
+use Rattle.ipam_records.specs.Datastore.{Datastore, last_revision, rows_of_kind, row_key}
 use Rattle.ipam_records.specs.KeyOrder.{is_of_kind}
 use Rattle.ipam_records.specs.Label.{idle}
 use Rattle.ipam_records.specs.Word.{Asks, Waits}
@@ -22,9 +22,9 @@ use Rattle.ipam_model.specs.Counting.{free, freeing_all}
 use Rattle.ipam_model.specs.OtherLaws.{owner_in}
 use Rattle.ipam_model.specs.Owners.{Owner, is_owner_in, owners_in, owners_in_row, same_owner}
 use Rattle.ipam_model.specs.Plain.{Collects, Deletes, Rows, handle_of, plain_collect, plain_del, plain_of, with_all_freed, with_freed, with_leaks_freed}
-use Rattle.ipam_model.specs.Reads.{Row, handle_said, rows_said}
+use Rattle.ipam_model.specs.Reads.{StoredRecord, handle_said, rows_said}
 use Rattle.ipam_model.specs.Remove.{Leak, collect_stops, collect_word, del_blocks, del_stops, del_word, free_leaks, freeing_owner, is_live, item_of, leaks, leaks_in_row, suspects, with_item}
-use Rattle.ipam_model.specs.Step.{all_left, settled}
+use Rattle.ipam_model.specs.Step.{all_left, as_word}
 use Rattle.ipam_model.specs.Told.{of_collect, of_del}
 use Rattle.ipam_laws.proofs.AloneCalls.{Runs, runs-get, runs-list}
 use Rattle.ipam_plain.proofs.Freeing.{Became, free-comes}
@@ -51,14 +51,14 @@ pub del-comes : (id : List ℕ) (store : Datastore) (moment : ℕ) → IsAs stor
 del-comes id store moment is spare =
     let Q = IsDeleted (plain_del id store.rows).1 in
     let cidrs = map (λ (count : CidrValue × ℕ). count.0) (handle_of id store.rows).counts in
-    runs-get [] Q store moment idle (key.Handle id) (λ at said. settled del_stops (del_blocks id at (map (λ count. count.0) (handle_said id said).counts) all_left))
+    runs-get [] Q store moment idle (key.Handle id) (λ at said. as_word del_stops (del_blocks id at (map (λ count. count.0) (handle_said id said).counts) all_left))
     (λ good. comes-settled [] all_left Q del_stops (del_blocks id moment cidrs all_left) store (moment + 1)
     (del-blocks id moment cidrs all_left store (moment + 1) store.rows is (subst (λ (n : ℕ). store.counter + 2 * n ≤ last_revision) (sym (length-map (handle_of id store.rows).counts (λ (count : CidrValue × ℕ). count.0))) spare)))
 
 -- ---- what a collection finds
 
--- what only blocks have is had by the blocks that are listed
-listed-all : {X : Type 0} → (f : Row → List X) → ((row : Row) → is_of_kind kind.Block (row_key row) ≡ false → f row ≡ []) → (rows : Rows) → flat_map f (filter (λ row. is_of_kind kind.Block (row_key row)) rows) ≡ flat_map f rows
+-- what only blocks have is had by the blocks that are rows_of_kind
+listed-all : {X : Type 0} → (f : StoredRecord → List X) → ((row : StoredRecord) → is_of_kind kind.Block (row_key row) ≡ false → f row ≡ []) → (rows : Rows) → flat_map f (filter (λ row. is_of_kind kind.Block (row_key row)) rows) ≡ flat_map f rows
 listed-all f none [] = refl
 listed-all {X} f none (row ∷ rows) = by (is_of_kind kind.Block (row_key row)) refl (listed-all f none rows)
   where
@@ -67,7 +67,7 @@ listed-all {X} f none (row ∷ rows) = by (is_of_kind kind.Block (row_key row)) 
     by true e rest = ap (λ (l : List X). f row ++ l) rest
     by false e rest = rest ∙ ap (λ (l : List X). l ++ flat_map f rows) (sym (none row e))
 
-no-owners : (row : Row) → is_of_kind kind.Block (row_key row) ≡ false → owners_in_row row ≡ []
+no-owners : (row : StoredRecord) → is_of_kind kind.Block (row_key row) ≡ false → owners_in_row row ≡ []
 no-owners (revision, record_of.Block b) e = absurd (cc e)
 no-owners (revision, record_of.Config config) e = refl
 no-owners (revision, record_of.Pools pools) e = refl
@@ -75,7 +75,7 @@ no-owners (revision, record_of.Reservations reservations) e = refl
 no-owners (revision, record_of.Affinity a) e = refl
 no-owners (revision, record_of.Handle h) e = refl
 
-no-leaks : (request : CollectRequest) (row : Row) → is_of_kind kind.Block (row_key row) ≡ false → leaks_in_row request row ≡ []
+no-leaks : (request : CollectRequest) (row : StoredRecord) → is_of_kind kind.Block (row_key row) ≡ false → leaks_in_row request row ≡ []
 no-leaks request (revision, record_of.Block b) e = absurd (cc e)
 no-leaks request (revision, record_of.Config config) e = refl
 no-leaks request (revision, record_of.Pools pools) e = refl
@@ -91,12 +91,12 @@ abbrev found_in_rows : CollectRequest → Rows → List Leak
 found_in_rows request rows = leaks (suspects request rows) request.live rows
 
 -- what is found in the lists of blocks is what is found in the rows
-found-same : (request : CollectRequest) (store : Datastore) → leaks (suspects request (listed kind.Block store)) request.live (listed kind.Block store) ≡ found_in_rows request store.rows
+found-same : (request : CollectRequest) (store : Datastore) → leaks (suspects request (rows_of_kind kind.Block store)) request.live (rows_of_kind kind.Block store) ≡ found_in_rows request store.rows
 found-same request store =
-    let kept : suspects request (listed kind.Block store) ≡ suspects request store.rows = listed-all (leaks_in_row request) (no-leaks request) store.rows in
-    let owned : owners_in (listed kind.Block store) ≡ owners_in store.rows = listed-all owners_in_row no-owners store.rows in
-    ap (λ (l : List Leak). leaks l request.live (listed kind.Block store)) kept
-    ∙ filter-same (λ (leak : Leak). is_owner_in (listed kind.Block store) leak.owner && not (is_live request.live leak.owner.handle)) (λ (leak : Leak). is_owner_in store.rows leak.owner && not (is_live request.live leak.owner.handle))
+    let kept : suspects request (rows_of_kind kind.Block store) ≡ suspects request store.rows = listed-all (leaks_in_row request) (no-leaks request) store.rows in
+    let owned : owners_in (rows_of_kind kind.Block store) ≡ owners_in store.rows = listed-all owners_in_row no-owners store.rows in
+    ap (λ (l : List Leak). leaks l request.live (rows_of_kind kind.Block store)) kept
+    ∙ filter-same (λ (leak : Leak). is_owner_in (rows_of_kind kind.Block store) leak.owner && not (is_live request.live leak.owner.handle)) (λ (leak : Leak). is_owner_in store.rows leak.owner && not (is_live request.live leak.owner.handle))
     (λ leak. ap (λ (l : List Owner). list_any (same_owner leak.owner) l && not (is_live request.live leak.owner.handle)) owned) (suspects request store.rows)
 
 -- ---- a collection
@@ -136,12 +136,12 @@ pub collect-comes : (request : CollectRequest) (store : Datastore) (moment : ℕ
 collect-comes request store moment is spare =
     let live = request.live in
     let Q = IsCollectedOf (owners_of (found_in_rows request store.rows)) (plain_collect request store.rows).1 in
-    let blocks = listed kind.Block store in
+    let blocks = rows_of_kind kind.Block store in
     let done : Collected = record { b1 = moment; b2 = moment + 1 + 1; items = [] } in
     runs-list live Q store moment idle kind.Block
-    (λ b1 first. Waits (λ list. Asks idle (ListAll kind.Block) (λ b2 said. settled collect_stops (free_leaks (record { b1 = b1; b2 = b2; items = [] }) (leaks (suspects request (rows_said first)) list (rows_said said)) all_left))))
+    (λ b1 first. Waits (λ list. Asks idle (ListAll kind.Block) (λ b2 said. as_word collect_stops (free_leaks (record { b1 = b1; b2 = b2; items = [] }) (leaks (suspects request (rows_said first)) list (rows_said said)) all_left))))
     (λ g1. runs-list live Q store (moment + 1 + 1) idle kind.Block
-    (λ b2 said. settled collect_stops (free_leaks (record { b1 = moment; b2 = b2; items = [] }) (leaks (suspects request blocks) live (rows_said said)) all_left))
+    (λ b2 said. as_word collect_stops (free_leaks (record { b1 = moment; b2 = b2; items = [] }) (leaks (suspects request blocks) live (rows_said said)) all_left))
     (λ g2. comes-settled live all_left Q collect_stops (free_leaks done (leaks (suspects request blocks) live blocks) all_left) store (moment + 1 + 1 + 1)
     (subst (λ (l : List Leak). Runs live (Comes all_left Q) store (moment + 1 + 1 + 1) (free_leaks done l all_left)) (sym (found-same request store))
     (free-leaks live done (found_in_rows request store.rows) all_left store (moment + 1 + 1 + 1) store.rows is spare))))

@@ -22,7 +22,7 @@ use Rattle.ipam_records.specs.KeyOrderLaws.{keys_equal-itself, same-keys_equal}
 use Rattle.std.proofs.lemmas.Bool.{cases_Bool}
 use Rattle.ipam_model.specs.Choice.{block_at, block_in_found, is_block_of, is_confirmed_for, is_confirmed_state}
 use Rattle.ipam_model.specs.Plain.{Rows, found_in, records, seen_in}
-use Rattle.ipam_model.specs.Reads.{Row, config_said, default_config, reservations_said}
+use Rattle.ipam_model.specs.Reads.{StoredRecord, config_said, default_config, reservations_said}
 use Rattle.ipam_model.specs.Usable.{Asked, is_same_cidr}
 use Rattle.ipam_records.proofs.DatastoreLemmas.{row_key-row_of}
 use Rattle.ipam_records.proofs.RowKinds.{each-kind}
@@ -58,7 +58,7 @@ same-reservations one other e = reservations-record one ∙ (ap reservations_fro
 
 -- the block that is listed at a slot
 pub block_at-record : (rows : Rows) (cidr : CidrValue) → value_in (block_at (seen_in rows) cidr) ≡ block_from (record_at (key.Block cidr) rows)
-block_at-record rows cidr = ap (λ (o : Option Row). value_in (block_in_found o)) (listed-block rows cidr) ∙ each-kind (λ o. value_in (block_in_found o) ≡ block_from (record_in o)) refl (λ r x. refl) (λ r x. refl) (λ r x. refl) (λ r x. refl) (λ r x. refl) (λ r x. refl) (row_of (key.Block cidr) rows)
+block_at-record rows cidr = ap (λ (o : Option StoredRecord). value_in (block_in_found o)) (listed-block rows cidr) ∙ each-kind (λ o. value_in (block_in_found o) ≡ block_from (record_in o)) refl (λ r x. refl) (λ r x. refl) (λ r x. refl) (λ r x. refl) (λ r x. refl) (λ r x. refl) (row_of (key.Block cidr) rows)
 
 pub same-block : (one other : Rows) (cidr : CidrValue) → record_at (key.Block cidr) one ≡ record_at (key.Block cidr) other → value_in (block_at (seen_in one) cidr) ≡ value_in (block_at (seen_in other) cidr)
 same-block one other cidr e = block_at-record one cidr ∙ (ap block_from e ∙ sym (block_at-record other cidr))
@@ -71,7 +71,7 @@ block-listed rows cidr revision b e = ap block_in_found (listed-block rows cidr 
 pub block-named : (rows : Rows) (cidr : CidrValue) (found : ℕ × BlockValue) → block_at (seen_in rows) cidr ≡ Some found → found.1.cidr ≡ cidr
 block-named rows cidr found e = by (row_of (key.Block cidr) rows) refl (sym (ap block_in_found (listed-block rows cidr)) ∙ e)
   where
-    by : (o : Option Row) → row_of (key.Block cidr) rows ≡ o → block_in_found o ≡ Some found → found.1.cidr ≡ cidr
+    by : (o : Option StoredRecord) → row_of (key.Block cidr) rows ≡ o → block_in_found o ≡ Some found → found.1.cidr ≡ cidr
     by None is f = absurd (cc f)
     by (Some row) is f =
         let (b, at, same) = found-block cidr row.1 (row_key-row_of (key.Block cidr) rows row is) in
@@ -84,7 +84,7 @@ counted : Asked → List Record → ℕ
 counted asked [] = 0
 counted asked (r ∷ rest) = cond (is_block_of asked (0, r)) 1 0 + counted asked rest
 
-revision-none : (asked : Asked) (row : Row) → is_block_of asked row ≡ is_block_of asked (0, row.1)
+revision-none : (asked : Asked) (row : StoredRecord) → is_block_of asked row ≡ is_block_of asked (0, row.1)
 revision-none asked (revision, record_of.Block b) = refl
 revision-none asked (revision, record_of.Config config) = refl
 revision-none asked (revision, record_of.Pools pools) = refl
@@ -92,7 +92,7 @@ revision-none asked (revision, record_of.Reservations reservations) = refl
 revision-none asked (revision, record_of.Affinity a) = refl
 revision-none asked (revision, record_of.Handle h) = refl
 
-no-block : (asked : Asked) (row : Row) → is_of_kind kind.Block (row_key row) ≡ false → is_block_of asked (0, row.1) ≡ false
+no-block : (asked : Asked) (row : StoredRecord) → is_of_kind kind.Block (row_key row) ≡ false → is_block_of asked (0, row.1) ≡ false
 no-block asked (revision, record_of.Block b) e = absurd (cc e)
 no-block asked (revision, record_of.Config config) e = refl
 no-block asked (revision, record_of.Pools pools) e = refl
@@ -112,10 +112,10 @@ count-records asked (row ∷ rows) = by (is_of_kind kind.Block (row_key row)) re
         sum_by-cons (λ x. cond (is_block_of asked x) 1 0) row (filter (λ r. is_of_kind kind.Block (row_key r)) rows) ∙ (λ i. cond (same i) 1 0 + rest i)
     by false e rest = let none : cond {A = ℕ} (is_block_of asked (0, row.1)) 1 0 ≡ 0 = ap (λ (b : Bool). cond {A = ℕ} b 1 0) (no-block asked row e) in omega arith
 
-zero-of : (asked : Asked) (new row : Row) → ((r : Row) → row_key r ≡ row_key new → is_block_of asked (0, r.1) ≡ false) → row_key row ≡ row_key new → cond {A = ℕ} (is_block_of asked (0, row.1)) 1 0 ≡ 0
+zero-of : (asked : Asked) (new row : StoredRecord) → ((r : StoredRecord) → row_key r ≡ row_key new → is_block_of asked (0, r.1) ≡ false) → row_key row ≡ row_key new → cond {A = ℕ} (is_block_of asked (0, row.1)) 1 0 ≡ 0
 zero-of asked new row none same = ap (λ (b : Bool). cond {A = ℕ} b 1 0) (none row same)
 
-counted-put : (asked : Asked) (new : Row) (rows : Rows) → ((row : Row) → row_key row ≡ row_key new → is_block_of asked (0, row.1) ≡ false) → counted asked (records (with_row new rows)) ≡ counted asked (records rows)
+counted-put : (asked : Asked) (new : StoredRecord) (rows : Rows) → ((row : StoredRecord) → row_key row ≡ row_key new → is_block_of asked (0, row.1) ≡ false) → counted asked (records (with_row new rows)) ≡ counted asked (records rows)
 unfolding counted
 counted-put asked new [] none = let nothing = zero-of asked new new none refl in omega arith
 counted-put asked new (first ∷ rest) none = by (key_cmp (row_key new) (row_key first)) refl (counted-put asked new rest none)
@@ -131,7 +131,7 @@ counted-put asked new (first ∷ rest) none = by (key_cmp (row_key new) (row_key
     by Greater e more = omega arith
 
 -- a row that is no such block, put where there was none, changes nothing
-pub count-put : (asked : Asked) (new : Row) (rows : Rows) → ((row : Row) → row_key row ≡ row_key new → is_block_of asked (0, row.1) ≡ false) → count_by (is_block_of asked) (seen_in (with_row new rows)).blocks ≡ count_by (is_block_of asked) (seen_in rows).blocks
+pub count-put : (asked : Asked) (new : StoredRecord) (rows : Rows) → ((row : StoredRecord) → row_key row ≡ row_key new → is_block_of asked (0, row.1) ≡ false) → count_by (is_block_of asked) (seen_in (with_row new rows)).blocks ≡ count_by (is_block_of asked) (seen_in rows).blocks
 count-put asked new rows none = count-records asked (with_row new rows) ∙ (counted-put asked new rows none ∙ sym (count-records asked rows))
 
 pub same-count : (asked : Asked) (one other : Rows) → records one ≡ records other → count_by (is_block_of asked) (seen_in one).blocks ≡ count_by (is_block_of asked) (seen_in other).blocks
@@ -145,7 +145,7 @@ confirmed_from _ = false
 
 module _ (node : List ℕ) (cidr : CidrValue) where
   -- a row of another key is none of the node's for the block
-  other-not : (row : Row) → row_key row ≢ key.Affinity node cidr → is_confirmed_for node cidr row ≡ false
+  other-not : (row : StoredRecord) → row_key row ≢ key.Affinity node cidr → is_confirmed_for node cidr row ≡ false
   other-not (revision, record_of.Affinity a) other = elim (text_cases a.node node) [
     | inr (f, differ) ↦ rw f refl
     | inl (t, same) ↦ elim (cidr_cases a.cidr cidr) [
@@ -159,7 +159,7 @@ module _ (node : List ℕ) (cidr : CidrValue) where
   other-not (revision, record_of.Reservations reservations) other = refl
   other-not (revision, record_of.Handle h) other = refl
 
-  own-is : (row : Row) → row_key row ≡ key.Affinity node cidr → is_confirmed_for node cidr row ≡ confirmed_from (Some row.1)
+  own-is : (row : StoredRecord) → row_key row ≡ key.Affinity node cidr → is_confirmed_for node cidr row ≡ confirmed_from (Some row.1)
   own-is (revision, record_of.Affinity a) e =
       let names : a.node ≡ node = cc e in
       let cidrs : a.cidr ≡ cidr = cc e in
@@ -173,7 +173,7 @@ module _ (node : List ℕ) (cidr : CidrValue) where
   own-is (revision, record_of.Handle h) e = absurd (cc e)
 
   -- those of another kind are not, so it is among the affinities or nowhere
-  kind-not : (row : Row) → is_of_kind kind.Affinity (row_key row) ≡ false → is_confirmed_for node cidr row ≡ false
+  kind-not : (row : StoredRecord) → is_of_kind kind.Affinity (row_key row) ≡ false → is_confirmed_for node cidr row ≡ false
   kind-not (revision, record_of.Affinity a) e = absurd (cc e)
   kind-not (revision, record_of.Block b) e = refl
   kind-not (revision, record_of.Config config) e = refl

@@ -3,7 +3,7 @@ use Rattle.std.proofs.Common.{◌≡◌, ◌≢◌, ℕ, zero, suc, ◌+◌, ◌
 use Rattle.ipam_addr.specs.declared.address.Family.{Family}
 use Rattle.ipam_addr.specs.Shape.{CidrValue}
 use Rattle.ipam_block.specs.Shape.{BlockValue}
-use Rattle.ipam_handle.specs.Operations.{count_of, raised}
+use Rattle.ipam_handle.specs.Operations.{count_of, with_raised_count}
 use Rattle.ipam_handle.specs.Shape.{HandleValue}
 use Rattle.ipam_records.specs.declared.call.Call.TheVariants.{Get, List as ListAll}
 use Rattle.ipam_records.specs.declared.key.Key.TheVariants as key
@@ -29,7 +29,7 @@ use Rattle.ipam_model.specs.Affinities.{BlockRead}
 use Rattle.ipam_model.specs.AffinityLaw.{HasAt}
 use Rattle.ipam_model.specs.Assigning.{assign, claim_for, names_for, target_in}
 use Rattle.ipam_model.specs.Choice.{Foreign, Lacks as NoneLeft, Own, Pick, Picks, Rank, Ranked, Seen, Unclaimed, Unconfirmed, Unknown, block_at, choice_in, choice_of, pick_of, rank_number, room_of}
-use Rattle.ipam_model.specs.Plain.{KnowsNoPool, Lacks, PlainAnswer, PlainGift, PlainServed, Rows, Served, Unserved, block_of, claimed_block, handle_of, plain_claim, plain_family, plain_gift, plain_of, plain_pick, plain_rank, plain_take, plain_take_claimed, room_in, seen_in, with_assigned, with_claimed}
+use Rattle.ipam_model.specs.Plain.{KnowsNoPool, Lacks, PlainAnswer, PlainGift, PlainServed, Rows, Served, Unserved, block_in_rows, claimed_block, handle_of, plain_claim, plain_family, plain_gift, plain_of, plain_pick, plain_rank, plain_take, plain_take_claimed, room_in, seen_in, with_assigned, with_claimed}
 use Rattle.ipam_model.specs.Step.{left_of, rounds, stops}
 use Rattle.ipam_model.specs.Told.{of_add}
 use Rattle.ipam_model.specs.Usable.{Asked}
@@ -122,13 +122,13 @@ module _ (request : AddRequest) (family : Family) (keeps : Keeps) where
       let h = handle_of id store.rows in
       let then = assigned_in store request.attributes b ordinal in
       let has = handle-there store request.attributes b ordinal in
-      let now : handle_of id then.rows ≡ raised h b.cidr 1 = handle_of-record id then.rows ∙ ap (handle_from id) has in
+      let now : handle_of id then.rows ≡ with_raised_count h b.cidr 1 = handle_of-record id then.rows ∙ ap (handle_from id) has in
       record {
         is_gift = record { address = refl; block = refl; ordinal = omega arith; stamp = refl };
         is_as = as-assigned store rows request.attributes b ordinal may.is_as;
         spends = spends;
         enough = enough-assigned missing store request.attributes b found.0 ordinal keeps.revisions keeps.rows keeps.blocks may.is_as.sorted_store there may.room may.enough;
-        handle = (record_of.Handle (raised h b.cidr 1), has);
+        handle = (record_of.Handle (with_raised_count h b.cidr 1), has);
         counts = λ c other.
             ap (λ (g : HandleValue). count_of g c) now
             ∙ (count-elsewhere h.counts b.cidr c (count_of h b.cidr + 1) (λ e. other (ap (λ (r : CidrValue). r.family) (sym e) ∙ of)) ∙ ap (λ (g : HandleValue). count_of g c) may.same);
@@ -216,14 +216,14 @@ module _ (request : AddRequest) (family : Family) (keeps : Keeps) where
         let b = taken node slot read in
         let own = taken-cidr [] node slot read base as_read in
         let after = with_claimed node slot rows in
-        let values : value_in read ≡ value_in (block_of slot rows) = block_at-record base.rows slot ∙ (ap block_from (is.alike (key.Block slot)) ∙ sym (block_of-record slot rows)) in
-        let same : b ≡ claimed_block node slot (block_of slot rows) = taken-same node slot read (block_of slot rows) values ∙ sym (claimed-taken node slot (block_of slot rows)) in
+        let values : value_in read ≡ value_in (block_in_rows slot rows) = block_at-record base.rows slot ∙ (ap block_from (is.alike (key.Block slot)) ∙ sym (block_of-record slot rows)) in
+        let same : b ≡ claimed_block node slot (block_in_rows slot rows) = taken-same node slot read (block_in_rows slot rows) values ∙ sym (claimed-taken node slot (block_in_rows slot rows)) in
         let is_then = claimed-as base then rows node slot read b is same own h.is_in h.sorted in
         let handle_row = h.is_in.others (key.Handle id) (λ e. cc e) (λ e. cc e) in
         let picks = picks-claimed asked base.rows then.rows ranked read is.sorted_store h.sorted picked some refl h.is_in own in
-        let shown : value_in (block_of slot after) ≡ Some b = block_of-record slot after ∙ ap block_from (sym (is_then.alike (key.Block slot)) ∙ h.is_in.has_block) in
+        let shown : value_in (block_in_rows slot after) ≡ Some b = block_of-record slot after ∙ ap block_from (sym (is_then.alike (key.Block slot)) ∙ h.is_in.has_block) in
         let rooms : room_of (seen_in after) b ≡ Some picks.ordinal = same-room (seen_in after) (seen_in then.rows) b (same-reservations after then.rows (sym (is_then.alike key.Reservations))) ∙ picks.room in
-        let says : plain_claim request family slot rows ≡ plain_take request (0, b) picks.ordinal after = plain-claimed-take (block_of slot after) b picks.ordinal after shown rooms in
+        let says : plain_claim request family slot rows ≡ plain_take request (0, b) picks.ordinal after = plain-claimed-take (block_in_rows slot after) b picks.ordinal after shown rooms in
         let runs = on slot (picks.revision, b) (0, b) picks.ordinal then later after picks.picked refl (record {
           is_as = is_then;
           room = kept-room missing base then handle_row room;

@@ -4,9 +4,9 @@ use Rattle.std.specs.Prelude.{nat_le}
 use Rattle.std.proofs.lemmas.Bool.{leb-true}
 use Rattle.ipam_addr.specs.Shape.{CidrValue}
 use Rattle.ipam_block.specs.declared.allocation.Attributes.{Attributes}
-use Rattle.ipam_block.specs.Operations.{assigned, next_block}
+use Rattle.ipam_block.specs.Operations.{block_with_ordinal, next_block}
 use Rattle.ipam_block.specs.Shape.{BlockValue}
-use Rattle.ipam_handle.specs.Operations.{count_of, raised}
+use Rattle.ipam_handle.specs.Operations.{count_of, with_raised_count}
 use Rattle.ipam_handle.specs.Shape.{HandleValue}
 use Rattle.ipam_records.specs.declared.call.Call.TheVariants.{Get}
 use Rattle.ipam_records.specs.declared.key.Key.{Key}
@@ -82,18 +82,18 @@ abbrev pub IsBelow : Datastore → List ℕ → CidrValue → Type 0
 IsBelow store id cidr = count_of (handle_of id store.rows) cidr < most_count
 
 abbrev pub raised_in : Datastore → List ℕ → CidrValue → Datastore
-raised_in store id cidr = put_in store (record_of.Handle (raised (handle_of id store.rows) cidr 1))
+raised_in store id cidr = put_in store (record_of.Handle (with_raised_count (handle_of id store.rows) cidr 1))
 
 abbrev pub assigned_in : Datastore → Attributes → BlockValue → (ordinal : ℕ) → Datastore
-assigned_in store attributes b ordinal = put_in (raised_in store attributes.handle b.cidr) (record_of.Block (assigned (next_block b) ordinal attributes))
+assigned_in store attributes b ordinal = put_in (raised_in store attributes.handle b.cidr) (record_of.Block (block_with_ordinal (next_block b) ordinal attributes))
 
 pub as-assigned : (store : Datastore) (rows : Rows) (attributes : Attributes) (b : BlockValue) (ordinal : ℕ) → IsAs store rows → IsAs (assigned_in store attributes b ordinal) (with_assigned attributes b ordinal rows)
 as-assigned store rows attributes b ordinal is =
     let id = attributes.handle in
     let same = alike-handle id store.rows rows is.alike in
-    let first = as-put store rows (record_of.Handle (raised (handle_of id store.rows) b.cidr 1)) is in
-    let then = subst (λ (h : HandleValue). IsAs (raised_in store id b.cidr) (put (record_of.Handle (raised h b.cidr 1)) rows)) same first in
-    as-put (raised_in store id b.cidr) (put (record_of.Handle (raised (handle_of id rows) b.cidr 1)) rows) (record_of.Block (assigned (next_block b) ordinal attributes)) then
+    let first = as-put store rows (record_of.Handle (with_raised_count (handle_of id store.rows) b.cidr 1)) is in
+    let then = subst (λ (h : HandleValue). IsAs (raised_in store id b.cidr) (put (record_of.Handle (with_raised_count h b.cidr 1)) rows)) same first in
+    as-put (raised_in store id b.cidr) (put (record_of.Handle (with_raised_count (handle_of id rows) b.cidr 1)) rows) (record_of.Block (block_with_ordinal (next_block b) ordinal attributes)) then
 
 module _ (live : List (List ℕ)) where
   raise-once : (id : List ℕ) (cidr : CidrValue) (again : Part (Unit {0})) (left : Left) (store : Datastore) (moment : ℕ) → IsBelow store id cidr → HasPlace store id → store.counter < last_revision
@@ -107,7 +107,7 @@ module _ (live : List (List ℕ)) where
           → Runs live (Comes left (λ then (done : Unit {0}). then ≡ raised_in store id cidr)) store (moment + 1) (cond b (stops left (CountAtLimit moment)) (raise_write id cidr again left (reply_of store (Get (key.Handle id)))))
       by true e = let most = leb-true most_count (count_of (handle_of id store.rows) cidr) e in absurd (omega arith)
       by false e = λ good.
-          let new = record_of.Handle (raised (handle_of id store.rows) cidr 1) in
+          let new = record_of.Handle (with_raised_count (handle_of id store.rows) cidr 1) in
           back-runs live (Comes left (λ then (done : Unit {0}). then ≡ raised_in store id cidr)) store (moment + 1) (key.Handle id) new (λ revision. goes left tt) again (stops left NoRoom) (stops left NoRevisions)
           (ap key.Handle (handle-id id store)) room spare (refl, refl)
 
@@ -117,7 +117,7 @@ module _ (live : List (List ℕ)) where
   raise-tries id cidr zero claims store moment below room spare = raise-once id cidr (stops (left_of zero claims) OutOfTries) (left_of zero claims) store moment below room spare
   raise-tries id cidr (suc races) claims store moment below room spare = raise-once id cidr (tries (raise_once id cidr) races claims) (left_of (suc races) claims) store moment below room spare
 
-  -- the address is assigned
+  -- the address is block_with_ordinal
   pub record IsAssigned (store : Datastore) (attributes : Attributes) (target : Target) (then : Datastore) (done : Option Assigned) : Type 0 where
     pub at : ℕ
     pub is_done : done ≡ Some (record { moment = at; stamp = target.block.sequence + 1 })
@@ -139,8 +139,8 @@ module _ (live : List (List ℕ)) where
       writes later = λ good.
           let spare = enough.revisions_left in
           let then = raised_in store attributes.handle target.block.cidr in
-          let new = record_of.Block (assigned (next_block target.block) target.ordinal attributes) in
-          let handle = record_of.Handle (raised (handle_of attributes.handle store.rows) target.block.cidr 1) in
+          let new = record_of.Block (block_with_ordinal (next_block target.block) target.ordinal attributes) in
+          let handle = record_of.Handle (with_raised_count (handle_of attributes.handle store.rows) target.block.cidr 1) in
           let kept = put-other store (store.counter + 1) handle (key.Block target.block.cidr) (λ f. cc f) in
           update-runs live (Comes left (IsAssigned store attributes target)) then later new (record_of.Block target.block) target.revision
           (λ taken. goes left (Some (record { moment = later; stamp = target.block.sequence + 1 }))) (assign_lost attributes target left) (stops left NoRoom) (stops left NoRevisions)
@@ -149,13 +149,13 @@ module _ (live : List (List ℕ)) where
 -- ---- what is left behind it
 
 -- the handle is there
-pub handle-there : (store : Datastore) (attributes : Attributes) (b : BlockValue) (ordinal : ℕ) → record_at (key.Handle attributes.handle) (assigned_in store attributes b ordinal).rows ≡ Some (record_of.Handle (raised (handle_of attributes.handle store.rows) b.cidr 1))
+pub handle-there : (store : Datastore) (attributes : Attributes) (b : BlockValue) (ordinal : ℕ) → record_at (key.Handle attributes.handle) (assigned_in store attributes b ordinal).rows ≡ Some (record_of.Handle (with_raised_count (handle_of attributes.handle store.rows) b.cidr 1))
 handle-there store attributes b ordinal =
     let id = attributes.handle in
-    let h = raised (handle_of id store.rows) b.cidr 1 in
+    let h = with_raised_count (handle_of id store.rows) b.cidr 1 in
     let then = raised_in store id b.cidr in
     let put_there = subst (λ (i : List ℕ). record_at (key.Handle i) then.rows ≡ Some (record_of.Handle h)) (handle-id id store) (record_at-put (store.counter + 1, record_of.Handle h) store.rows) in
-    record_at-other (key.Handle id) (then.counter + 1, record_of.Block (assigned (next_block b) ordinal attributes)) then.rows (λ e. cc e) ∙ put_there
+    record_at-other (key.Handle id) (then.counter + 1, record_of.Block (block_with_ordinal (next_block b) ordinal attributes)) then.rows (λ e. cc e) ∙ put_there
 
 enough-raised : (missing : Bool) (revisions rows blocks : ℕ) (store : Datastore) (id : List ℕ) (h : HandleValue) → h.id ≡ id → RoomFor missing store id → IsSorted store.rows → Enough (suc revisions) (with_handle missing rows) blocks store → Enough revisions rows blocks (put_in store (record_of.Handle h))
 enough-raised true revisions rows blocks store id h own room sorted enough = enough-other revisions rows blocks store (record_of.Handle h) enough sorted refl
@@ -167,7 +167,7 @@ pub enough-assigned : (missing : Bool) (store : Datastore) (attributes : Attribu
     → Enough revisions rows blocks (assigned_in store attributes b ordinal)
 enough-assigned missing store attributes b revision ordinal revisions rows blocks sorted there room enough =
     let id = attributes.handle in
-    let h = raised (handle_of id store.rows) b.cidr 1 in
+    let h = with_raised_count (handle_of id store.rows) b.cidr 1 in
     let raised_one = enough-raised missing (suc revisions) rows blocks store id h (handle-id id store) room sorted enough in
     let kept = put-other store (store.counter + 1) (record_of.Handle h) (key.Block b.cidr) (λ f. cc f) in
-    enough-there revisions rows blocks (raised_in store id b.cidr) (record_of.Block (assigned (next_block b) ordinal attributes)) (revision, record_of.Block b) raised_one (sorted-with_row (store.counter + 1, record_of.Handle h) store.rows sorted) (kept ∙ there)
+    enough-there revisions rows blocks (raised_in store id b.cidr) (record_of.Block (block_with_ordinal (next_block b) ordinal attributes)) (revision, record_of.Block b) raised_one (sorted-with_row (store.counter + 1, record_of.Handle h) store.rows sorted) (kept ∙ there)

@@ -26,7 +26,7 @@ use Rattle.ipam_model.specs.Consistent.{IsConsistent}
 use Rattle.ipam_model.specs.Counting.{most_count}
 use Rattle.ipam_model.specs.History.{Base}
 use Rattle.ipam_model.specs.Plain.{AloneLaw, Result, Rows, handle_of, plain_add, plain_add_this, plain_check, plain_collect, plain_del, plain_of, plain_probe, records}
-use Rattle.ipam_model.specs.Reads.{Row, handle_said}
+use Rattle.ipam_model.specs.Reads.{StoredRecord, handle_said}
 use Rattle.ipam_model.specs.Remove.{collect_word, del_word}
 use Rattle.ipam_model.specs.Requests.{told_as, word_of}
 use Rattle.ipam_model.specs.SoundRequest.{IsSoundRequest}
@@ -95,7 +95,7 @@ collect_alone request base result consistent sound spare is = by (request.grace 
 count-below : (id : List ℕ) (store : Datastore) → IsDatastore store → All (λ (entry : CidrValue × ℕ). entry.1 ≢ most_count) (handle_of id store.rows).counts → (c : CidrValue) → IsBelow store id c
 count-below id store sound other c = by (row_of (key.Handle id) store.rows) refl other
   where
-    by : (o : Option Row) → row_of (key.Handle id) store.rows ≡ o → All (λ (entry : CidrValue × ℕ). entry.1 ≢ most_count) (handle_said id (reply_to_get o)).counts → count_of (handle_said id (reply_to_get o)) c < most_count
+    by : (o : Option StoredRecord) → row_of (key.Handle id) store.rows ≡ o → All (λ (entry : CidrValue × ℕ). entry.1 ≢ most_count) (handle_said id (reply_to_get o)).counts → count_of (handle_said id (reply_to_get o)) c < most_count
     by None e differ = omega arith
     by (Some row) e differ =
         let (h, is, same) = found-handle id row.1 (found-key store (key.Handle id) row.0 row.1 e) in

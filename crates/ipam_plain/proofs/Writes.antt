@@ -16,7 +16,7 @@ use Rattle.ipam_model.specs.declared.part.Outcome.TheVariants.{Went, Stops}
 use Rattle.ipam_model.specs.AffinityLaw.{HasAt}
 use Rattle.ipam_model.specs.Cluster.{store_with}
 use Rattle.ipam_model.specs.Plain.{Rows, put}
-use Rattle.ipam_model.specs.Step.{Part, StopAnswers, after_write, answer_of, followed, onward, settled}
+use Rattle.ipam_model.specs.Step.{Part, StopAnswers, after_write, answer_of, part_then, onward, as_word}
 use Rattle.ipam_laws.proofs.AloneCalls.{Runs, Runs-bound}
 use Rattle.ipam_laws.proofs.DebtCalls.{create-puts, update-puts}
 use Rattle.ipam_laws.proofs.Lift.{behind}
@@ -109,7 +109,7 @@ module _ {A B : Type 0} (live : List (List ℕ)) (left : Left) (R : Datastore �
   -- what follows such a part
   pub comes-followed : (part : Part A) (store : Datastore) (moment : ℕ) → Runs live (Comes left R) store moment part
       → ((then : Datastore) (later : ℕ) (value : A) → R then value → Runs live S then later (follows left value))
-      → Runs live S store moment (followed part follows)
+      → Runs live S store moment (part_then part follows)
   comes-followed part store moment h k = Runs-bound live (Comes left R) S (onward follows) part store moment h ends
     where
       ends : (then : Datastore) (later : ℕ) (outcome : Outcome A) → Comes left R then outcome → Runs live S then later (onward follows outcome)
@@ -117,7 +117,7 @@ module _ {A B : Type 0} (live : List (List ℕ)) (left : Left) (R : Datastore �
       ends then later (Stops now why) c = absurd c
 
 -- a procedure that is one part
-pub comes-settled : {A : Type 0} → (live : List (List ℕ)) (left : Left) (Q : Datastore → A → Type 0) (answers : StopAnswers A) (part : Part A) (store : Datastore) (moment : ℕ) → Runs live (Comes left Q) store moment part → Runs live Q store moment (settled answers part)
+pub comes-settled : {A : Type 0} → (live : List (List ℕ)) (left : Left) (Q : Datastore → A → Type 0) (answers : StopAnswers A) (part : Part A) (store : Datastore) (moment : ℕ) → Runs live (Comes left Q) store moment part → Runs live Q store moment (as_word answers part)
 comes-settled {A} live left Q answers part store moment h = Runs-bound live (Comes left Q) Q (λ outcome. Ends (answer_of answers outcome)) part store moment h ends
   where
     ends : (then : Datastore) (later : ℕ) (outcome : Outcome A) → Comes left Q then outcome → Q then (answer_of answers outcome)
@@ -129,7 +129,7 @@ abbrev pub Finishes : {A : Type 0} → (Datastore → A → Type 0) → Datastor
 Finishes Q then (Went now value) = Q then value
 Finishes Q then (Stops now why) = ⊥
 
-pub finishes-settled : {A : Type 0} → (live : List (List ℕ)) (Q : Datastore → A → Type 0) (answers : StopAnswers A) (part : Part A) (store : Datastore) (moment : ℕ) → Runs live (Finishes Q) store moment part → Runs live Q store moment (settled answers part)
+pub finishes-settled : {A : Type 0} → (live : List (List ℕ)) (Q : Datastore → A → Type 0) (answers : StopAnswers A) (part : Part A) (store : Datastore) (moment : ℕ) → Runs live (Finishes Q) store moment part → Runs live Q store moment (as_word answers part)
 finishes-settled {A} live Q answers part store moment h = Runs-bound live (Finishes Q) Q (λ outcome. Ends (answer_of answers outcome)) part store moment h ends
   where
     ends : (then : Datastore) (later : ℕ) (outcome : Outcome A) → Finishes Q then outcome → Q then (answer_of answers outcome)

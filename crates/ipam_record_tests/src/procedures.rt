@@ -1,6 +1,6 @@
 ghost use Rattle.std.specs.Prelude.{◌≡◌, IfOk, IfNone, OnErr};
 ghost use Rattle.ipam_records.specs.Said.{said};
-ghost use Rattle.ipam_records.specs.Word.{heard, ended};
+ghost use Rattle.ipam_records.specs.Word.{after_reply, answer_in};
 ghost use Rattle.ipam_records.specs.Hearing.{MayHear};
 ghost use Rattle.ipam_record_tests.specs.Example.{example_rest, example_leaves};
 
@@ -62,9 +62,9 @@ fn turn<P: Procedure>(
 ) -> Result<Option<P::Answer>, AllocError>
     requires { MayHear (P.rest procedure.old) (said hearing.now.reply) }
     ensures answer { IfOk result (λ answer. answer
-        ≡ ended (heard (P.rest procedure.old) hearing.now.moment (said hearing.now.reply))) }
+        ≡ answer_in (after_reply (P.rest procedure.old) hearing.now.moment (said hearing.now.reply))) }
     ensures on { IfOk result (λ answer. IfNone answer (P.rest procedure.new
-        ≡ heard (P.rest procedure.old) hearing.now.moment (said hearing.now.reply))) }
+        ≡ after_reply (P.rest procedure.old) hearing.now.moment (said hearing.now.reply))) }
     ensures err { OnErr result (procedure.new ≡ procedure.old) }
 {
     let turned = procedure.took(alloc, hearing)?;

@@ -38,7 +38,7 @@ use Rattle.ipam_record_text.specs.declared.fault.BodyFault.{BodyFault}
 use Rattle.ipam_record_text.specs.declared.fault.BodyFault.TheVariants.{Form, Table, Memory}
 use Rattle.ipam_json.specs.Held.{held}
 use Rattle.ipam_json.specs.Members.{◌>>=◌, only_if, in_32_bits, members_at}
-use Rattle.ipam_record_text.specs.Blocks.{block_of, id_at}
+use Rattle.ipam_record_text.specs.Blocks.{block_cidr_of, id_at}
 use Rattle.ipam_record_text.specs.Handle.{with_counts, handle_data, handle_body, count_of_json, counted, with_new, AddsCount, counts_after, handle_of_counts, handle_in, handle_reading}
 use Rattle.ipam_record_text.proofs.Held.{reading-held, unheld-text, reading-told}
 use Rattle.ipam_json.proofs.Held.{held-was, held-text}
@@ -56,7 +56,7 @@ ins cs r n = insert_entry cidr_cmp cs r n
 
 -- a member's block and count are sound
 record IsCounted (name : List ℕ) (d : Data) (c : CidrValue × ℕ) : Type 0 where
-  pub block : block_of name ≡ Some c.0
+  pub block : block_cidr_of name ≡ Some c.0
   pub count : count_of_json d ≡ Some c.1
   pub small : IsBlockCidr c.0
   pub some : 0 < c.1
@@ -79,9 +79,9 @@ count_of_json-is d n e = whole (as_whole d) e
 
 counted-is : (name : List ℕ) (d : Data) (c : CidrValue × ℕ) → counted name d ≡ Some c → IsCounted name d c
 unfolding counted
-counted-is name d c e = parts (block_of name) (count_of_json d) refl refl e
+counted-is name d c e = parts (block_cidr_of name) (count_of_json d) refl refl e
   where
-    parts : (b : Option CidrValue) (n : Option ℕ) → block_of name ≡ b → count_of_json d ≡ n → (b >>= λ block. n >>= λ k. Some (block, k)) ≡ Some c → IsCounted name d c
+    parts : (b : Option CidrValue) (n : Option ℕ) → block_cidr_of name ≡ b → count_of_json d ≡ n → (b >>= λ block. n >>= λ k. Some (block, k)) ≡ Some c → IsCounted name d c
     parts (Some block) (Some k) is_block is_count e' =
         let same : (block, k) ≡ c = cc in
         subst (IsCounted name d) same (record {
@@ -199,7 +199,7 @@ put_among (member l f ms) cs all k d c e is none =
         rw x (with_first cs k d (member l f ms) c is (absent_first (member l f ms) cs all c.0 e none) ∙ put_before (member l f ms) cs all c.0 c.1 e none)
     at_place Equal x h later =
         let same : k ≡ l = exact_bytes k l x in
-        let blocks : Some c.0 ≡ Some h.block = sym (counted-is k d c is).block ∙ ap block_of same ∙ h.is.block in
+        let blocks : Some c.0 ≡ Some h.block = sym (counted-is k d c is).block ∙ ap block_cidr_of same ∙ h.is.block in
         let block : c.0 ≡ h.block = cc in
         let gone = (absent_before cs c.0 h.block h.count h.is.some (absent_first ms (ins cs h.block h.count) all c.0 h.rest none)).0 in
         absurd (not_equal c.0 h.block gone (ap (cidr_cmp c.0) (sym block) ∙ tied_itself cidr_cmp_total c.0))

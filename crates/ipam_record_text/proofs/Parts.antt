@@ -10,7 +10,7 @@ use Rattle.ipam_addr.specs.Width.{IsCidr}
 use Rattle.ipam_addr.specs.Names.{is_name_text, is_handle_text}
 use Rattle.ipam_addr.proofs.CidrTextLemmas.{cidr_reading-cidr_text_of, spelled-cidr_reading}
 use Rattle.ipam_block.specs.Sound.{IsBlockCidr}
-use Rattle.ipam_record_text.specs.Blocks.{value_of, cidr_of, block_of, name_of, id_of, cidr_at, block_at, name_at, id_at}
+use Rattle.ipam_record_text.specs.Blocks.{value_of, cidr_of, block_cidr_of, name_of, id_of, cidr_at, block_at, name_at, id_at}
 use Rattle.ipam_json.specs.Members.{text_at}
 use Rattle.ipam_json.proofs.MemberLemmas.{then-is}
 
@@ -26,8 +26,8 @@ pub cidr_of-text : (r : CidrValue) → IsCidr r → cidr_of (cidr_text_of r) ≡
 unfolding cidr_of
 cidr_of-text r h = ap value_of (cidr_reading-cidr_text_of r h)
 
-pub block_of-is : (text : List ℕ) (r : CidrValue) → block_of text ≡ Some r → IsBlockCidr r
-unfolding block_of
+pub block_of-is : (text : List ℕ) (r : CidrValue) → block_cidr_of text ≡ Some r → IsBlockCidr r
+unfolding block_cidr_of
 block_of-is text r e =
     option_and_then_some _ _ r e (λ c is_cidr e'.
     let (small, same) = cond_some _ c r e' in
@@ -36,8 +36,8 @@ block_of-is text r e =
       small = rw (← same) (leb-true _ _ small);
     })
 
-pub block_of-text : (r : CidrValue) → IsBlockCidr r → block_of (cidr_text_of r) ≡ Some r
-unfolding block_of
+pub block_of-text : (r : CidrValue) → IsBlockCidr r → block_cidr_of (cidr_text_of r) ≡ Some r
+unfolding block_cidr_of
 block_of-text r h = rw (cidr_of-text r h.range, le-leb _ _ h.small) refl
 
 pub name_of-is : (text name : List ℕ) → name_of text ≡ Some name → is_name_text name ≡ true
@@ -62,7 +62,7 @@ pub cidr_at-is : (name : List ℕ) (d : Data) (r : CidrValue) → cidr_at name d
 cidr_at-is name d r e = then-is cidr_of IsCidr cidr_of-is (text_at name d) r e
 
 pub block_at-is : (name : List ℕ) (d : Data) (r : CidrValue) → block_at name d ≡ Some r → IsBlockCidr r
-block_at-is name d r e = then-is block_of IsBlockCidr block_of-is (text_at name d) r e
+block_at-is name d r e = then-is block_cidr_of IsBlockCidr block_of-is (text_at name d) r e
 
 pub name_at-is : (name : List ℕ) (d : Data) (found : List ℕ) → name_at name d ≡ Some found → is_name_text found ≡ true
 name_at-is name d found e = then-is name_of (λ t. is_name_text t ≡ true) name_of-is (text_at name d) found e

@@ -18,8 +18,8 @@ unfoldable pub cidr_of : List ℕ → Option CidrValue
 cidr_of text = value_of (cidr_reading text)
 
 -- the CIDR that a text writes, where a block may have it
-unfoldable pub block_of : List ℕ → Option CidrValue
-block_of text = do
+unfoldable pub block_cidr_of : List ℕ → Option CidrValue
+block_cidr_of text = do
   r ← cidr_of text
   only_if (nat_le (cidr_size r) ADDRESSES_MAX) r
 
@@ -37,7 +37,7 @@ cidr_at name d = option_and_then cidr_of (text_at name d)
 
 -- the same, where a block may have it
 abbrev pub block_at : List ℕ → Data → Option CidrValue
-block_at name d = option_and_then block_of (text_at name d)
+block_at name d = option_and_then block_cidr_of (text_at name d)
 
 -- the name that has this name
 abbrev pub name_at : List ℕ → Data → Option (List ℕ)

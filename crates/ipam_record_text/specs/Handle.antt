@@ -13,7 +13,7 @@ use Rattle.ipam_json.specs.Path.{as_whole}
 use Rattle.ipam_record_text.specs.declared.fault.BodyFault.{BodyFault}
 use Rattle.ipam_json.specs.Members.{◌>>=◌, only_if, in_32_bits, members_at}
 use Rattle.ipam_record_text.specs.Reading.{reading}
-use Rattle.ipam_record_text.specs.Blocks.{block_of, id_at}
+use Rattle.ipam_record_text.specs.Blocks.{block_cidr_of, id_at}
 
 -- the members, and each block's text with its count at its place among them
 abbrev pub with_counts : Members → List (CidrValue × ℕ) → Members
@@ -40,7 +40,7 @@ count_of_json d = do
 -- the block and the count that a member is
 unfoldable pub counted : List ℕ → Data → Option (CidrValue × ℕ)
 counted name d = do
-  block ← block_of name
+  block ← block_cidr_of name
   n ← count_of_json d
   Some (block, n)
 

@@ -3,7 +3,7 @@ ghost use Rattle.std.specs.Prelude.{◌≡◌, ◌≤◌, ◌<◌, IfOk, IsTrue,
 ghost use Rattle.serde_json.specs.View.{view};
 ghost use Rattle.ipam_addr.specs.Text.{cidr_text_of};
 ghost use Rattle.ipam_addr.specs.Width.{cidr_size};
-ghost use Rattle.ipam_record_text.specs.Blocks.{cidr_of, block_of, name_of, id_of, cidr_at, block_at, name_at, id_at};
+ghost use Rattle.ipam_record_text.specs.Blocks.{cidr_of, block_cidr_of, name_of, id_of, cidr_at, block_at, name_at, id_at};
 
 use ipam_addr::{Cidr, is_handle_id, is_name, push_cidr, read_cidr};
 use ipam_block::ADDRESSES_MAX;
@@ -23,9 +23,9 @@ pub fn cidr_of(text: &str) -> Option<Cidr>
 }
 
 /// The CIDR that the text writes, where a block may have it.
-#[tactic(auto, unfolding(crate::specs::Blocks::block_of))]
+#[tactic(auto, unfolding(crate::specs::Blocks::block_cidr_of))]
 pub(crate) fn block_of(text: &str) -> Option<Cidr>
-    ensures { result ≡ block_of text.now }
+    ensures { result ≡ block_cidr_of text.now }
 {
     let cidr = cidr_of(text)?;
     if is_small(cidr) { Some(cidr) } else { None }

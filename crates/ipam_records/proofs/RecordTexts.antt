@@ -182,39 +182,39 @@ if_key_fault key body r e h is refused = go (bytes_eq (key_bytes (key_of r)) key
     go false test k = (sym (same fault.Key e k), record { own = key_of r; said = inl (r, h, is, refl); other = differs _ _ test })
 
 -- what a fault tells
-abbrev pub Told : (key body : List ℕ) → TextFault → Type 0
-Told key body fault.Form = Unit {0}
-Told key body fault.Key = SaysAnotherKey key body
-Told key body fault.Table = HasRefusedPool body
-Told key body fault.Unsound = SaysBlock key body
-Told key body fault.Memory = Unit {0}
+abbrev pub FaultMeans : (key body : List ℕ) → TextFault → Type 0
+FaultMeans key body fault.Form = Unit {0}
+FaultMeans key body fault.Key = SaysAnotherKey key body
+FaultMeans key body fault.Table = HasRefusedPool body
+FaultMeans key body fault.Unsound = SaysBlock key body
+FaultMeans key body fault.Memory = Unit {0}
 
-told_key : (key body : List ℕ) (r : Record) (e : TextFault) → IsRecord r → body ≡ body_of r → if_key key r ≡ Err e → Told key body e
+told_key : (key body : List ℕ) (r : Record) (e : TextFault) → IsRecord r → body ≡ body_of r → if_key key r ≡ Err e → FaultMeans key body e
 told_key key body r e h is refused =
     let found = if_key_fault key body r e h is refused in
-    subst (Told key body) (sym found.0) found.1
+    subst (FaultMeans key body) (sym found.0) found.1
 
 fault_same : (x y : TextFault) → ◌≡◌ {A = Result Record TextFault} (Err x) (Err y) → x ≡ y
 fault_same x y k = cc
 
-keyed_told : {A : Type 0} (make : A → Record) (key body : List ℕ) (o : Result A BodyFault) (e : TextFault) → ((v : A) → o ≡ Ok v → IsRecord (make v) × (body ≡ body_of (make v))) → (o ≡ Err in_body.Table → HasRefusedPool body) → keyed make key o ≡ Err e → Told key body e
+keyed_told : {A : Type 0} (make : A → Record) (key body : List ℕ) (o : Result A BodyFault) (e : TextFault) → ((v : A) → o ≡ Ok v → IsRecord (make v) × (body ≡ body_of (make v))) → (o ≡ Err in_body.Table → HasRefusedPool body) → keyed make key o ≡ Err e → FaultMeans key body e
 keyed_told make key body (Ok v) e sound table k = let is = sound v refl in told_key key body (make v) e is.0 is.1 k
-keyed_told make key body (Err in_body.Form) e sound table k = subst (Told key body) (fault_same fault.Form e k) tt
-keyed_told make key body (Err in_body.Table) e sound table k = subst (Told key body) (fault_same fault.Table e k) (table refl)
-keyed_told make key body (Err in_body.Memory) e sound table k = subst (Told key body) (fault_same fault.Memory e k) tt
+keyed_told make key body (Err in_body.Form) e sound table k = subst (FaultMeans key body) (fault_same fault.Form e k) tt
+keyed_told make key body (Err in_body.Table) e sound table k = subst (FaultMeans key body) (fault_same fault.Table e k) (table refl)
+keyed_told make key body (Err in_body.Memory) e sound table k = subst (FaultMeans key body) (fault_same fault.Memory e k) tt
 
-unsound_told : (key body : List ℕ) (cidr : CidrValue) → cidr_said body ≡ Some cidr → Told key body (unsound_fault key cidr)
+unsound_told : (key body : List ℕ) (cidr : CidrValue) → cidr_said body ≡ Some cidr → FaultMeans key body (unsound_fault key cidr)
 unsound_told key body cidr said = go (bytes_eq (key_bytes (key_of_kind.Block cidr)) key) refl
   where
-    go : (t : Bool) → bytes_eq (key_bytes (key_of_kind.Block cidr)) key ≡ t → Told key body (cond t fault.Unsound fault.Key)
+    go : (t : Bool) → bytes_eq (key_bytes (key_of_kind.Block cidr)) key ≡ t → FaultMeans key body (cond t fault.Unsound fault.Key)
     go true test = record { cidr = cidr; said = said; own = text_is _ _ test }
     go false test = record { own = key_of_kind.Block cidr; said = inr (cidr, said, refl); other = differs _ _ test }
 
-block_told : (key body : List ℕ) (o : Result block.BlockValue block_fault.BodyFault) (e : TextFault) → block_reading body ≡ o → keyed_block key o ≡ Err e → Told key body e
+block_told : (key body : List ℕ) (o : Result block.BlockValue block_fault.BodyFault) (e : TextFault) → block_reading body ≡ o → keyed_block key o ≡ Err e → FaultMeans key body e
 block_told key body (Ok v) e is k = let found = block_found body v is in told_key key body (Block v) e found.0 found.1 k
-block_told key body (Err in_block.Form) e is k = subst (Told key body) (fault_same fault.Form e k) tt
-block_told key body (Err (in_block.Unsound cidr)) e is k = subst (Told key body) (fault_same (unsound_fault key cidr) e k) (unsound_told key body cidr (unsound_said body cidr is))
-block_told key body (Err in_block.Memory) e is k = subst (Told key body) (fault_same fault.Memory e k) tt
+block_told key body (Err in_block.Form) e is k = subst (FaultMeans key body) (fault_same fault.Form e k) tt
+block_told key body (Err (in_block.Unsound cidr)) e is k = subst (FaultMeans key body) (fault_same (unsound_fault key cidr) e k) (unsound_told key body cidr (unsound_said body cidr is))
+block_told key body (Err in_block.Memory) e is k = subst (FaultMeans key body) (fault_same fault.Memory e k) tt
 
 no_table : {A : Type 0} (o : Option A) → ok_or o in_body.Form ≢ Err in_body.Table
 no_table None e = cc
@@ -236,7 +236,7 @@ handle_table : (body : List ℕ) → handle_reading body ≡ Err in_body.Table �
 unfolding handle_reading
 handle_table body e = absurd (no_table _ e)
 
-kind_told : (named : Key) (key body : List ℕ) (e : TextFault) → reading_of_kind named key body ≡ Err e → Told key body e
+kind_told : (named : Key) (key body : List ℕ) (e : TextFault) → reading_of_kind named key body ≡ Err e → FaultMeans key body e
 kind_told key_of_kind.Config key body e k = keyed_told Config key body (config_reading body) e (config_found body) (config_table body) k
 kind_told key_of_kind.Pools key body e k = keyed_told Pools key body (pools_reading body) e (pools_found body) (table_unread body) k
 kind_told key_of_kind.Reservations key body e k = keyed_told Reservations key body (reservations_reading body) e (reservations_found body) (reservations_table body) k
@@ -244,12 +244,12 @@ kind_told (key_of_kind.Block cidr) key body e k = block_told key body (block_rea
 kind_told (key_of_kind.Affinity node cidr) key body e k = keyed_told Affinity key body (affinity_reading body) e (affinity_found body) (affinity_table body) k
 kind_told (key_of_kind.Handle id) key body e k = keyed_told Handle key body (handle_reading body) e (handle_found body) (handle_table body) k
 
-pub fault_told : (key body : List ℕ) (e : TextFault) → record_reading key body ≡ Err e → Told key body e
+pub fault_told : (key body : List ℕ) (e : TextFault) → record_reading key body ≡ Err e → FaultMeans key body e
 unfolding record_reading
 fault_told key body e refused = go (key_read key) refused
   where
-    go : (o : Option Key) → reading_at o key body ≡ Err e → Told key body e
-    go None k = subst (Told key body) (fault_same fault.Form e k) tt
+    go : (o : Option Key) → reading_at o key body ≡ Err e → FaultMeans key body e
+    go None k = subst (FaultMeans key body) (fault_same fault.Form e k) tt
     go (Some named) k = kind_told named key body e k
 
 -- ---- what the readers of bodies tell

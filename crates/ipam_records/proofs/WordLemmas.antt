@@ -2,7 +2,7 @@
 use Rattle.std.proofs.Common.{◌≡◌, ℕ, ◌+◌, ◌-◌, ◌<◌, ◌≤◌, Some, refl, subst, arith}
 use Rattle.ipam_records.specs.declared.call.Call.{Call}
 use Rattle.ipam_records.specs.Said.{Said}
-use Rattle.ipam_records.specs.Word.{Word, Ends, Asks, Waits, asked, heard, bound}
+use Rattle.ipam_records.specs.Word.{Word, Ends, Asks, Waits, next_call, after_reply, bound}
 use Rattle.ipam_records.specs.Bound.{AtMost}
 
 pub bound-Ends : {A : Type 0} (word : Word A) → bound word (λ answer. Ends answer) ≡ word
@@ -15,13 +15,13 @@ bound-bound (Ends answer) f g = refl
 bound-bound (Asks label call next) f g = λ i. Asks label call (λ moment said. bound-bound (next moment said) f g i)
 bound-bound (Waits next) f g = λ i. Waits (λ live. bound-bound (next live) f g i)
 
--- while the first word asks, it is heard alone
-pub asked-bound : {A B : Type 0} (word : Word A) (f : A → Word B) (call : Call) → asked word ≡ Some call → asked (bound word f) ≡ Some call
+-- while the first word asks, it is after_reply alone
+pub asked-bound : {A B : Type 0} (word : Word A) (f : A → Word B) (call : Call) → next_call word ≡ Some call → next_call (bound word f) ≡ Some call
 asked-bound (Ends answer) f call e = cc
 asked-bound (Asks label other next) f call e = e
 asked-bound (Waits next) f call e = cc
 
-pub heard-bound : {A B : Type 0} (word : Word A) (f : A → Word B) (call : Call) (moment : ℕ) (said : Said) → asked word ≡ Some call → heard (bound word f) moment said ≡ bound (heard word moment said) f
+pub heard-bound : {A B : Type 0} (word : Word A) (f : A → Word B) (call : Call) (moment : ℕ) (said : Said) → next_call word ≡ Some call → after_reply (bound word f) moment said ≡ bound (after_reply word moment said) f
 heard-bound (Ends answer) f call moment said e = cc
 heard-bound (Asks label other next) f call moment said e = refl
 heard-bound (Waits next) f call moment said e = cc
@@ -35,7 +35,7 @@ AtMost-more (Asks label call next) m n le h =
 AtMost-more (Waits next) m n le h = λ live. AtMost-more (next live) m n le (h live)
 
 -- a reply leaves one call less
-pub AtMost-heard : {A : Type 0} (word : Word A) (n : ℕ) (call : Call) (moment : ℕ) (said : Said) → asked word ≡ Some call → AtMost word n → AtMost (heard word moment said) (n - 1)
+pub AtMost-heard : {A : Type 0} (word : Word A) (n : ℕ) (call : Call) (moment : ℕ) (said : Said) → next_call word ≡ Some call → AtMost word n → AtMost (after_reply word moment said) (n - 1)
 AtMost-heard (Ends answer) n call moment said e h = cc
 AtMost-heard (Asks label other next) n call moment said e h = h.1 moment said
 AtMost-heard (Waits next) n call moment said e h = cc

@@ -39,14 +39,14 @@ abbrev pub row_of : Key → List (ℕ × Record) → Option (ℕ × Record)
 row_of key = find (λ row. keys_equal (row_key row) key)
 
 -- the rows of a kind: blocks by family, base and prefix, affinities by node and then block, handles by id
-abbrev pub listed : Kind → Datastore → List (ℕ × Record)
-listed kind store = filter (λ row. is_of_kind kind (row_key row)) store.rows
+abbrev pub rows_of_kind : Kind → Datastore → List (ℕ × Record)
+rows_of_kind kind store = filter (λ row. is_of_kind kind (row_key row)) store.rows
 
 -- whether one more row with this key is allowed
 abbrev pub has_room : Datastore → Key → Bool
 has_room store key =
     nat_lt (length store.rows) most_rows
-    && (not (is_of_kind kind.Block key) || nat_lt (length (listed kind.Block store)) most_blocks)
+    && (not (is_of_kind kind.Block key) || nat_lt (length (rows_of_kind kind.Block store)) most_blocks)
 
 -- a write that nothing else refuses may be applied while there are revisions
 abbrev pub granted : Datastore → Said
@@ -69,7 +69,7 @@ reply_to_change store revision (Some row) = if row.0 == revision then granted st
 -- what is answered to each call
 abbrev pub reply_of : Datastore → Call → Said
 reply_of store (Get key) = reply_to_get (row_of key store.rows)
-reply_of store (ListAll kind) = Listed (listed kind store)
+reply_of store (ListAll kind) = Listed (rows_of_kind kind store)
 reply_of store (Create new) = reply_to_create store (key_of new) (row_of (key_of new) store.rows)
 reply_of store (Update new revision) = reply_to_change store revision (row_of (key_of new) store.rows)
 reply_of store (Delete key revision) = reply_to_change store revision (row_of key store.rows)

@@ -5,10 +5,10 @@ use Rattle.ipam_records.specs.declared.key_ref.KeyRef.{KeyRef}
 use Rattle.ipam_records.specs.declared.key_ref.KeyRef.TheVariants.{Config, Pools, Reservations, Block, Affinity, Handle}
 
 -- the key that is borrowed
-abbrev pub named : KeyRef → Key
-named Config = key.Config
-named Pools = key.Pools
-named Reservations = key.Reservations
-named (Block cidr) = key.Block cidr
-named (Affinity node cidr) = key.Affinity node.now cidr
-named (Handle id) = key.Handle id.now
+abbrev pub owned_key : KeyRef → Key
+owned_key Config = key.Config
+owned_key Pools = key.Pools
+owned_key Reservations = key.Reservations
+owned_key (Block cidr) = key.Block cidr
+owned_key (Affinity node cidr) = key.Affinity node.now cidr
+owned_key (Handle id) = key.Handle id.now

@@ -22,18 +22,18 @@ pub data Point : Type 0 where
   -- the block was written, and the affinity is to be deleted
   Released : (node : List ℕ) (block : CidrValue) (mark : ℕ) → Point
 
-pub record Label : Type 0 where
+pub record CallLabel : Type 0 where
   pub credit : Option Credit
   pub point : Point
 
 -- no credit, and at no point
-abbrev pub idle : Label
+abbrev pub idle : CallLabel
 idle = record { credit = None; point = Nowhere }
 
 -- the credit alone
-abbrev pub owing : Credit → Label
+abbrev pub owing : Credit → CallLabel
 owing credit = record { credit = Some credit; point = Nowhere }
 
 -- the point alone
-abbrev pub standing : Point → Label
+abbrev pub standing : Point → CallLabel
 standing point = record { credit = None; point = point }

@@ -2,32 +2,32 @@
 use Rattle.std.specs.Prelude.{ℕ, Bool, true, false, List, Option, Some, None}
 use Rattle.ipam_records.specs.declared.call.Call.{Call}
 use Rattle.ipam_records.specs.Said.{Said}
-use Rattle.ipam_records.specs.Label.{Label, idle}
+use Rattle.ipam_records.specs.Label.{CallLabel, idle}
 
 -- an answer; or a call, with where the procedure stands before it and what follows its moment and
 -- what is said to it; or a wait for a list of handle ids
 pub data Word (A : Type 0) : Type 0 where
   Ends : A → Word A
-  Asks : Label → Call → (ℕ → Said → Word A) → Word A
+  Asks : CallLabel → Call → (ℕ → Said → Word A) → Word A
   Waits : (List (List ℕ) → Word A) → Word A
 
 -- the call that comes next
-abbrev pub asked : {A : Type 0} → Word A → Option Call
-asked (Ends answer) = None
-asked (Asks label call next) = Some call
-asked (Waits next) = None
+abbrev pub next_call : {A : Type 0} → Word A → Option Call
+next_call (Ends answer) = None
+next_call (Asks label call next) = Some call
+next_call (Waits next) = None
 
 -- where the procedure stands
-abbrev pub label_of : {A : Type 0} → Word A → Label
+abbrev pub label_of : {A : Type 0} → Word A → CallLabel
 label_of (Ends answer) = idle
 label_of (Asks label call next) = label
 label_of (Waits next) = idle
 
 -- the answer, once there is one
-abbrev pub ended : {A : Type 0} → Word A → Option A
-ended (Ends answer) = Some answer
-ended (Asks label call next) = None
-ended (Waits next) = None
+abbrev pub answer_in : {A : Type 0} → Word A → Option A
+answer_in (Ends answer) = Some answer
+answer_in (Asks label call next) = None
+answer_in (Waits next) = None
 
 abbrev pub waits : {A : Type 0} → Word A → Bool
 waits (Ends answer) = false
@@ -35,16 +35,16 @@ waits (Asks label call next) = false
 waits (Waits next) = true
 
 -- what is left once this was said to the call at this moment
-abbrev pub heard : {A : Type 0} → Word A → ℕ → Said → Word A
-heard (Ends answer) moment said = Ends answer
-heard (Asks label call next) moment said = next moment said
-heard (Waits next) moment said = Waits next
+abbrev pub after_reply : {A : Type 0} → Word A → ℕ → Said → Word A
+after_reply (Ends answer) moment said = Ends answer
+after_reply (Asks label call next) moment said = next moment said
+after_reply (Waits next) moment said = Waits next
 
 -- what is left once these ids were handed in
-abbrev pub fed : {A : Type 0} → Word A → List (List ℕ) → Word A
-fed (Ends answer) live = Ends answer
-fed (Asks label call next) live = Asks label call next
-fed (Waits next) live = next live
+abbrev pub after_feed : {A : Type 0} → Word A → List (List ℕ) → Word A
+after_feed (Ends answer) live = Ends answer
+after_feed (Asks label call next) live = Asks label call next
+after_feed (Waits next) live = next live
 
 -- the word, and at its end another that may depend on the answer
 abbrev pub bound : {A B : Type 0} → Word A → (A → Word B) → Word B

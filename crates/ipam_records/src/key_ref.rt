@@ -1,7 +1,7 @@
 ghost use Rattle.std.specs.Prelude.{◌≡◌, ◌↔◌, IsTrue};
 ghost use Rattle.ipam_records.specs.Key.{key_of};
 ghost use Rattle.ipam_records.specs.KeyOrder.{key_cmp, key_rank, key_name, key_block};
-ghost use Rattle.ipam_records.specs.KeyRef.{named};
+ghost use Rattle.ipam_records.specs.KeyRef.{owned_key};
 
 use crate::key::Key;
 use crate::record::Record;
@@ -25,7 +25,7 @@ pub enum KeyRef<'a> {
 impl<'a> KeyRef<'a> {
     /// The key, borrowed.
     pub fn of(key: &'a Key) -> KeyRef<'a>
-        ensures { named result ≡ key.now }
+        ensures { owned_key result ≡ key.now }
     {
         match key {
             Key::Config => KeyRef::Config,
@@ -39,7 +39,7 @@ impl<'a> KeyRef<'a> {
 
     /// The key that the record is found by.
     pub fn of_record(value: &'a Record) -> KeyRef<'a>
-        ensures { named result ≡ key_of value.now }
+        ensures { owned_key result ≡ key_of value.now }
     {
         match value {
             Record::Config(_) => KeyRef::Config,
@@ -54,7 +54,7 @@ impl<'a> KeyRef<'a> {
     /// How the keys stand to each other: by kind, then by the bytes of the node or the id, then
     /// by the block.
     pub fn compare(&self, other: &KeyRef<'_>) -> Ordering
-        ensures { result ≡ key_cmp (named self.now) (named other.now) }
+        ensures { result ≡ key_cmp (owned_key self.now) (owned_key other.now) }
     {
         let names = self.name().cmp(&other.name());
         let blocks = self.block().cmp(&other.block());
@@ -63,14 +63,14 @@ impl<'a> KeyRef<'a> {
 
     /// Whether they are one key.
     pub fn is_same(&self, other: &KeyRef<'_>) -> bool
-        ensures { IsTrue result ↔ (named self.now ≡ named other.now) }
+        ensures { IsTrue result ↔ (owned_key self.now ≡ owned_key other.now) }
     {
         self.compare(other).is_eq()
     }
 
     /// Where the keys of its kind stand.
     fn rank(&self) -> u8
-        ensures { result ≡ key_rank (named self.now) }
+        ensures { result ≡ key_rank (owned_key self.now) }
     {
         match self {
             KeyRef::Config => 0,
@@ -84,7 +84,7 @@ impl<'a> KeyRef<'a> {
 
     /// The node or the id in it.
     fn name(&self) -> &'a str
-        ensures { result.now ≡ key_name (named self.now) }
+        ensures { result.now ≡ key_name (owned_key self.now) }
     {
         match self {
             KeyRef::Affinity(name, _) | KeyRef::Handle(name) => name,
@@ -94,7 +94,7 @@ impl<'a> KeyRef<'a> {
 
     /// The block in it.
     fn block(&self) -> Option<Cidr>
-        ensures { result ≡ key_block (named self.now) }
+        ensures { result ≡ key_block (owned_key self.now) }
     {
         match self {
             KeyRef::Block(cidr) | KeyRef::Affinity(_, cidr) => Some(*cidr),

@@ -1,6 +1,6 @@
 ghost use Rattle.std.specs.Prelude.{◌≡◌, IsSome, IfOk, IfNone};
 ghost use Rattle.ipam_records.specs.Said.{said};
-ghost use Rattle.ipam_records.specs.Word.{Word, asked, heard, ended};
+ghost use Rattle.ipam_records.specs.Word.{Word, next_call, after_reply, answer_in};
 ghost use Rattle.ipam_records.specs.Hearing.{MayHear};
 
 use crate::call::{Call, Heard};
@@ -27,19 +27,19 @@ pub trait Procedure {
 
     /// The next call.
     fn call(&self, alloc: Global) -> Result<Call, AllocError>
-        requires { IsSome (asked (rest self.now)) }
-        ensures { IfOk result (λ call. asked (rest self.now) ≡ Some call) };
+        requires { IsSome (next_call (rest self.now)) }
+        ensures { IfOk result (λ call. next_call (rest self.now) ≡ Some call) };
 
     /// Where the reply leads.
     fn took(&self, alloc: Global, hearing: &Heard) -> Result<Self::Turned, AllocError>
         requires { MayHear (rest self.now) (said hearing.now.reply) }
         ensures leaves { IfOk result (λ turned. leaves self.now turned
-            ≡ heard (rest self.now) hearing.now.moment (said hearing.now.reply)) }
+            ≡ after_reply (rest self.now) hearing.now.moment (said hearing.now.reply)) }
         ensures fits { IfOk result (fits self.now) };
 
     /// Goes where a reply led, and answers once no call is left. Takes no memory.
     fn go(&mut self, turned: Self::Turned) -> Option<Self::Answer>
         requires { fits self.old turned }
-        ensures answer { result ≡ ended (leaves self.old turned) }
+        ensures answer { result ≡ answer_in (leaves self.old turned) }
         ensures on { IfNone result (rest self.new ≡ leaves self.old turned) };
 }

@@ -4,7 +4,7 @@ ghost use Rattle.std.specs.List.Sorted.{IsStrictlySortedBy};
 ghost use Rattle.ipam_records.specs.Pages.{rows_of_pages};
 ghost use Rattle.ipam_records.specs.Places.{begins_by};
 ghost use Rattle.ipam_records.specs.KeyOrder.{key_cmp};
-ghost use Rattle.ipam_records.specs.KeyRef.{named};
+ghost use Rattle.ipam_records.specs.KeyRef.{owned_key};
 ghost use Rattle.ipam_records.specs.Datastore.{row_key, row_of};
 ghost use Rattle.ipam_records.specs.BlockLists.{list_under, named_lists, AreNamedLists};
 
@@ -29,7 +29,7 @@ pub(crate) fn row_in<'a>(
     key: &KeyRef<'_>,
 ) -> Option<&'a (u64, Record)>
     requires { IsStrictlySortedBy key_cmp (map row_key (rows_of_pages pages.now)) }
-    ensures { option_copied result ≡ row_of (named key.now) (rows_of_pages pages.now) }
+    ensures { option_copied result ≡ row_of (owned_key key.now) (rows_of_pages pages.now) }
 {
     let mut left = pages;
     while left.len() > 1 {
@@ -41,7 +41,7 @@ pub(crate) fn row_in<'a>(
 
 /// Whether the first row stands before the key or has it.
 fn begin_by(pages: &[Vec<(u64, Record)>], key: &KeyRef<'_>) -> bool
-    ensures { result ≡ begins_by (named key.now) (rows_of_pages pages.now) }
+    ensures { result ≡ begins_by (owned_key key.now) (rows_of_pages pages.now) }
 {
     for page in pages {
         if let Some(row) = page.first() {
@@ -54,7 +54,7 @@ fn begin_by(pages: &[Vec<(u64, Record)>], key: &KeyRef<'_>) -> bool
 /// The row of the key in this page.
 fn row_of_page<'a>(page: &'a [(u64, Record)], key: &KeyRef<'_>) -> Option<&'a (u64, Record)>
     requires { IsStrictlySortedBy key_cmp (map row_key page.now) }
-    ensures { option_copied result ≡ row_of (named key.now) page.now }
+    ensures { option_copied result ≡ row_of (owned_key key.now) page.now }
 {
     match page.binary_search_by(|row| KeyRef::of_record(&row.1).compare(key)) {
         Ok(place) => Some(&page[place]),

@@ -16,7 +16,7 @@ use Rattle.ipam_block.specs.declared.allocation.Allocation.{Allocation}
 use Rattle.ipam_parts.proofs.HeldFacts.{held_below}
 use Rattle.ipam_parts.proofs.PlaceFacts.{find_placed, find_nowhere}
 use Rattle.ipam_pool.specs.declared.pools.Pool.{Pool}
-use Rattle.ipam_records.specs.Word.{Word, heard}
+use Rattle.ipam_records.specs.Word.{Word, after_reply}
 use Rattle.ipam_records.specs.Said.{Said}
 use Rattle.ipam_model.specs.declared.outcome.CheckAnswer.{CheckAnswer}
 use Rattle.ipam_model.specs.AddThis.{slot_holding}

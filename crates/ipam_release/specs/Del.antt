@@ -5,7 +5,7 @@ use Rattle.ipam_records.specs.Word.{Word, Ends}
 use Rattle.ipam_model.specs.declared.outcome.DelAnswer.{DelAnswer}
 use Rattle.ipam_model.specs.declared.part.Left.{Left}
 use Rattle.ipam_model.specs.Remove.{del_word, del_stops, del_blocks}
-use Rattle.ipam_model.specs.Step.{Part, followed, settled}
+use Rattle.ipam_model.specs.Step.{Part, part_then, as_word}
 use Rattle.ipam_parts.specs.declared.freeing.FreeingTurned.{FreeingTurned}
 use Rattle.ipam_parts.specs.Freeing.{freeing_rest, freeing_leaves}
 use Rattle.ipam_release.specs.declared.del.DelProc.{DelProc}
@@ -18,7 +18,7 @@ use Rattle.ipam_release.specs.declared.del.Goes.TheVariants as goes
 
 -- what is left while these blocks are
 abbrev pub blocks_left : (id : List ℕ) (moment : ℕ) → List CidrValue → Left → Word DelAnswer
-blocks_left id moment blocks left = settled del_stops (del_blocks id moment blocks left)
+blocks_left id moment blocks left = as_word del_stops (del_blocks id moment blocks left)
 
 -- what follows the freeing in a block, with these blocks left
 abbrev pub then_blocks : (id : List ℕ) (moment : ℕ) → List CidrValue → Left → (amount : ℕ) → Part DelAnswer
@@ -26,11 +26,11 @@ then_blocks id moment blocks left amount = del_blocks id moment blocks left
 
 abbrev pub parts_at : List ℕ → Freed → Word DelAnswer
 parts_at id f =
-    settled del_stops (followed (freeing_rest id f.freeing) (then_blocks id f.moment f.blocks.items))
+    as_word del_stops (part_then (freeing_rest id f.freeing) (then_blocks id f.moment f.blocks.items))
 
 abbrev pub parts_leaves : List ℕ → Freed → FreeingTurned → Word DelAnswer
 parts_leaves id f turned =
-    settled del_stops (followed (freeing_leaves id f.freeing turned) (then_blocks id f.moment f.blocks.items))
+    as_word del_stops (part_then (freeing_leaves id f.freeing turned) (then_blocks id f.moment f.blocks.items))
 
 abbrev pub frees_at : List ℕ → Stage → Word DelAnswer
 frees_at id Reads = del_word id

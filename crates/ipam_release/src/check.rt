@@ -4,7 +4,7 @@ ghost use Rattle.ipam_addr.specs.Slots.{HasSlots};
 ghost use Rattle.ipam_block.specs.Operations.{holder};
 ghost use Rattle.ipam_records.specs.Hearing.{MayHear};
 ghost use Rattle.ipam_records.specs.Said.{said};
-ghost use Rattle.ipam_records.specs.Word.{asked, heard, ended};
+ghost use Rattle.ipam_records.specs.Word.{next_call, after_reply, answer_in};
 ghost use Rattle.ipam_model.specs.AddThis.{slot_holding};
 ghost use Rattle.ipam_model.specs.Look.{check_word, holds_at, is_recorded_to};
 ghost use Rattle.ipam_model.specs.Reads.{pools_said, block_said};
@@ -144,7 +144,7 @@ impl CheckProc {
 impl Looks {
     /// Goes to the next address, or answers where there is none.
     fn next(&mut self) -> Option<CheckAnswer>
-        ensures answer { (id : List ℕ) → result ≡ ended (visit_each id self.old.moment self.old.others.items) }
+        ensures answer { (id : List ℕ) → result ≡ answer_in (visit_each id self.old.moment self.old.others.items) }
         ensures on { IfNone result ((id : List ℕ) → looks_at id self.new ≡ visit_each id self.old.moment self.old.others.items) }
     {
         match first_of(&mut self.others) {
@@ -154,7 +154,7 @@ impl Looks {
     }
 
     fn go(&mut self, visit: Visit) -> Option<CheckAnswer>
-        ensures answer { (id : List ℕ) → result ≡ ended (visit_one (visit_each id self.old.moment self.old.others.items) id self.old.moment visit) }
+        ensures answer { (id : List ℕ) → result ≡ answer_in (visit_one (visit_each id self.old.moment self.old.others.items) id self.old.moment visit) }
         ensures on { IfNone result ((id : List ℕ) → looks_at id self.new
             ≡ visit_one (visit_each id self.old.moment self.old.others.items) id self.old.moment visit) }
     {
@@ -171,7 +171,7 @@ impl Looks {
 
 /// Goes to the next address.
 fn next(stage: &mut Stage) -> Option<CheckAnswer>
-    ensures answer { (id : List ℕ) → result ≡ ended (next_at id stage.old) }
+    ensures answer { (id : List ℕ) → result ≡ answer_in (next_at id stage.old) }
     ensures on { IfNone result ((id : List ℕ) → check_at id stage.new ≡ next_at id stage.old) }
 {
     match stage {

@@ -1,10 +1,10 @@
 ghost use Rattle.std.specs.Prelude.{◌≡◌, ◌∷◌, ℕ, List, map, IfOk, IfNone};
 ghost use Rattle.ipam_records.specs.Hearing.{MayHear};
 ghost use Rattle.ipam_records.specs.Said.{said};
-ghost use Rattle.ipam_records.specs.Word.{asked, heard, ended};
+ghost use Rattle.ipam_records.specs.Word.{next_call, after_reply, answer_in};
 ghost use Rattle.ipam_model.specs.Reads.{handle_said};
 ghost use Rattle.ipam_model.specs.Remove.{del_word, del_stops, del_blocks};
-ghost use Rattle.ipam_model.specs.Step.{all_left as every_try, settled, stop_answer};
+ghost use Rattle.ipam_model.specs.Step.{all_left as every_try, as_word, stop_answer};
 ghost use Rattle.ipam_release.specs.Del.{blocks_left, del_rest, del_leaves, del_goes, frees_at, frees_leaves, parts_at, parts_leaves};
 
 use ipam_addr::Cidr;
@@ -126,7 +126,7 @@ impl Frees {
     fn took(&self, alloc: Global, id: &str, hearing: &Heard) -> Result<FreeingTurned, AllocError>
         requires { MayHear (parts_at id.now self.now) (said hearing.now.reply) }
         ensures { IfOk result (λ turned. parts_leaves id.now self.now turned
-            ≡ heard (parts_at id.now self.now) hearing.now.moment (said hearing.now.reply)) }
+            ≡ after_reply (parts_at id.now self.now) hearing.now.moment (said hearing.now.reply)) }
     {
         let turned = self.freeing.took(alloc, id, hearing)?;
         Ok(turned)
@@ -135,7 +135,7 @@ impl Frees {
     /// The freeing goes where a reply led it, and once it has come to an end, to the next block.
     #[tactic(auto, using(crate::proofs::DelLemmas::stops, crate::proofs::DelLemmas::goes_on))]
     fn go(&mut self, turned: FreeingTurned) -> Option<DelAnswer>
-        ensures answer { (id : List ℕ) → result ≡ ended (parts_leaves id self.old turned) }
+        ensures answer { (id : List ℕ) → result ≡ answer_in (parts_leaves id self.old turned) }
         ensures on { IfNone result ((id : List ℕ) → parts_at id self.new ≡ parts_leaves id self.old turned) }
     {
         match self.freeing.go(turned) {
@@ -148,7 +148,7 @@ impl Frees {
     /// Goes to the next block, or answers where there is none.
     #[tactic(auto, using(crate::proofs::DelLemmas::begins, crate::proofs::DelLemmas::none_left))]
     fn next(&mut self, left: Left) -> Option<DelAnswer>
-        ensures answer { (id : List ℕ) → result ≡ ended (blocks_left id self.old.moment self.old.blocks.items left) }
+        ensures answer { (id : List ℕ) → result ≡ answer_in (blocks_left id self.old.moment self.old.blocks.items left) }
         ensures on { IfNone result ((id : List ℕ) → parts_at id self.new ≡ blocks_left id self.old.moment self.old.blocks.items left) }
     {
         match first_of(&mut self.blocks) {
@@ -163,7 +163,7 @@ impl Frees {
 
 /// The freeing goes where a reply led it.
 fn freed(stage: &mut Stage, turned: FreeingTurned) -> Option<DelAnswer>
-    ensures answer { (id : List ℕ) → result ≡ ended (frees_leaves id stage.old turned) }
+    ensures answer { (id : List ℕ) → result ≡ answer_in (frees_leaves id stage.old turned) }
     ensures on { IfNone result ((id : List ℕ) → frees_at id stage.new ≡ frees_leaves id stage.old turned) }
 {
     match stage {

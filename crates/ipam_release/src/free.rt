@@ -4,7 +4,7 @@ ghost use Rattle.ipam_addr.specs.Width.{cidr_size};
 ghost use Rattle.ipam_block.specs.declared.limits.TheConstants.{ADDRESSES_MAX};
 ghost use Rattle.ipam_records.specs.Hearing.{MayHear};
 ghost use Rattle.ipam_records.specs.Said.{said};
-ghost use Rattle.ipam_records.specs.Word.{asked, heard, ended};
+ghost use Rattle.ipam_records.specs.Word.{next_call, after_reply, answer_in};
 ghost use Rattle.ipam_model.specs.Remove.{free_word, free_stops, freed_answer};
 ghost use Rattle.ipam_model.specs.Step.{stop_answer};
 ghost use Rattle.ipam_release.specs.Free.{free_rest, free_leaves, free_answer_of};

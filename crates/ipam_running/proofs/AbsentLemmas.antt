@@ -16,12 +16,12 @@ use Rattle.ipam_records.specs.Key.{key_of}
 use Rattle.ipam_records.specs.Said.{Said, Found, Missing, Listed, Can, Exists, Conflict, Full, Spent}
 use Rattle.ipam_records.specs.Hearing.{CanBeSaid, MayHear}
 use Rattle.ipam_records.specs.Sound.{IsRecord}
-use Rattle.ipam_records.specs.Word.{Word, Ends, asked, heard}
+use Rattle.ipam_records.specs.Word.{Word, Ends, next_call, after_reply}
 use Rattle.ipam_records.proofs.HearingLemmas.{CanBeSaid-found}
 use Rattle.ipam_model.specs.declared.outcome.ReleaseAnswer.TheVariants.{NoAffinity}
 use Rattle.ipam_model.specs.declared.outcome.ReleaseAnswer.{ReleaseAnswer}
 use Rattle.ipam_model.specs.Affinities.{release, release_found, release_once, release_stops}
-use Rattle.ipam_model.specs.Step.{all_left, settled}
+use Rattle.ipam_model.specs.Step.{all_left, as_word}
 use Rattle.ipam_claim.specs.declared.release.Stage.TheVariants.{Reads}
 use Rattle.ipam_claim.specs.declared.release.Reading.TheVariants as reading
 use Rattle.ipam_claim.specs.Release.{release_at, again}
@@ -32,11 +32,11 @@ use Rattle.ipam_model.specs.Reads.{affinity_said}
 begins : (node : List ℕ) (cidr : CidrValue)
     → release_at (record { node = node; block = cidr }) all_left (Reads reading.Affinity) ≡ release node cidr
 begins node cidr =
-    ap (settled release_stops) (sym (retried_once (release_once (record { node = node; block = cidr })) all_left))
+    ap (as_word release_stops) (sym (retried_once (release_once (record { node = node; block = cidr })) all_left))
 
 -- the first call reads the affinity
-pub absent_asks : (node : List ℕ) (cidr : CidrValue) → asked (release node cidr) ≡ Some (Get (key.Affinity node cidr))
-absent_asks node cidr = ap asked (sym (begins node cidr))
+pub absent_asks : (node : List ℕ) (cidr : CidrValue) → next_call (release node cidr) ≡ Some (Get (key.Affinity node cidr))
+absent_asks node cidr = ap next_call (sym (begins node cidr))
 
 abbrev cidr_in : Key → CidrValue → CidrValue
 cidr_in (key.Affinity node cidr) other = cidr
@@ -68,19 +68,19 @@ nothing_said node cidr Full large can = refl
 nothing_said node cidr Spent large can = refl
 
 at_none : (node : List ℕ) (cidr : CidrValue) (moment : ℕ) (said : Said) → affinity_said said ≡ None
-    → heard (release_at (record { node = node; block = cidr }) all_left (Reads reading.Affinity)) moment said ≡ Ends (NoAffinity moment)
-at_none node cidr moment said none = ap (λ found. settled release_stops (release_found (record { node = node; block = cidr })
+    → after_reply (release_at (record { node = node; block = cidr }) all_left (Reads reading.Affinity)) moment said ≡ Ends (NoAffinity moment)
+at_none node cidr moment said none = ap (λ found. as_word release_stops (release_found (record { node = node; block = cidr })
     (again (record { node = node; block = cidr }) all_left) all_left moment found)) none
 
 -- the read decides
 pub absent_hears : (node : List ℕ) (cidr : CidrValue) (moment : ℕ) (said : Said) → ADDRESSES_MAX < cidr_size cidr
-    → MayHear (release node cidr) said → Ends (NoAffinity moment) ≡ heard (release node cidr) moment said
+    → MayHear (release node cidr) said → Ends (NoAffinity moment) ≡ after_reply (release node cidr) moment said
 absent_hears node cidr moment said large may =
     let whole = begins node cidr in
     let can : MayHear (release_at (record { node = node; block = cidr }) all_left (Reads reading.Affinity)) said =
     subst (λ (w : Word ReleaseAnswer). MayHear w said) (sym whole) may in
     sym (at_none node cidr moment said (nothing_said node cidr said large can.0))
-    ∙ ap (λ (w : Word ReleaseAnswer). heard w moment said) whole
+    ∙ ap (λ (w : Word ReleaseAnswer). after_reply w moment said) whole
 
 compare_le : (m n : ℕ) → (m ≤ n) ⊎ (n < m)
 compare_le m n = grind arith

@@ -1,7 +1,7 @@
--- What runs has not ended, and nothing but a collection waits.
+-- What runs has not answer_in, and nothing but a collection waits.
 use Rattle.std.proofs.Common.{◌≡◌, ℕ, true, false, List, Some, None, IsSome, refl, ap, subst, sym, ◌∙◌}
 use Rattle.std.specs.Prelude.{option_map}
-use Rattle.ipam_records.specs.Word.{Word, Ends, Asks, Waits, asked, ended, waits, bound}
+use Rattle.ipam_records.specs.Word.{Word, Ends, Asks, Waits, next_call, answer_in, waits, bound}
 use Rattle.ipam_model.specs.declared.answer.Answer.{Answer}
 use Rattle.ipam_model.specs.declared.request.CollectRequest.{CollectRequest}
 use Rattle.ipam_model.specs.Told.{of_collect}
@@ -71,29 +71,29 @@ use Rattle.ipam_running.specs.Running.{rest_of, grace_kept, running_rest, runnin
 use Rattle.ipam_running.proofs.AbsentLemmas.{absent_asks}
 use Rattle.ipam_running.proofs.TellingLemmas.{asked_telling, ended_telling}
 
-still : {A : Type 0} (word : Word A) → IsSome (asked word) → waits word ≡ false
+still : {A : Type 0} (word : Word A) → IsSome (next_call word) → waits word ≡ false
 still (Ends answer) some = refl
 still (Asks label call next) some = refl
 still (Waits next) some = absurd (cc some)
 
-not_ended : {A : Type 0} (word : Word A) → IsSome (asked word) → ended word ≡ None
+not_ended : {A : Type 0} (word : Word A) → IsSome (next_call word) → answer_in word ≡ None
 not_ended (Ends answer) some = absurd (cc some)
 not_ended (Asks label call next) some = refl
 not_ended (Waits next) some = refl
 
-told_asks : {A : Type 0} (tell : A → Answer) (word : Word A) → IsSome (asked word) → IsSome (asked (telling tell word))
+told_asks : {A : Type 0} (tell : A → Answer) (word : Word A) → IsSome (next_call word) → IsSome (next_call (telling tell word))
 told_asks tell word some = subst (λ call. IsSome call) (sym (asked_telling tell word)) some
 
-del_asks : (id : List ℕ) (stage : DelStage) → IsSome (asked (frees_at id stage))
+del_asks : (id : List ℕ) (stage : DelStage) → IsSome (next_call (frees_at id stage))
 del_asks id del.Reads = refl
 del_asks id (del.Frees f) =
     subst (λ call. IsSome call) (sym (asks_freeing del_stops (then_blocks id f.moment f.blocks.items) id f.freeing)) (freeing_asks id f.freeing)
 
-check_asks : (id : List ℕ) (stage : CheckStage) → IsSome (asked (check_at id stage))
+check_asks : (id : List ℕ) (stage : CheckStage) → IsSome (next_call (check_at id stage))
 check_asks id (check.Reads addresses) = refl
 check_asks id (check.Looks l) = refl
 
-release_asks : (tie : Tie) (left : Left) (stage : ReleaseStage) → IsSome (asked (release_at tie left stage))
+release_asks : (tie : Tie) (left : Left) (stage : ReleaseStage) → IsSome (next_call (release_at tie left stage))
 release_asks tie left (release_stage.Reads reading.Affinity) = refl
 release_asks tie left (release_stage.Reads (reading.Block mark)) = refl
 release_asks tie left (release_stage.Reads (reading.Again seen)) = refl
@@ -101,11 +101,11 @@ release_asks tie left (release_stage.Writes (writing.Marks revision)) = refl
 release_asks tie left (release_stage.Writes (writing.Bares seen)) = refl
 release_asks tie left (release_stage.Writes (writing.Deletes mark)) = refl
 
-admin_asks : (request : Admin) (left : Left) (stage : AdminStage) → IsSome (asked (admin_at request left stage))
+admin_asks : (request : Admin) (left : Left) (stage : AdminStage) → IsSome (next_call (admin_at request left stage))
 admin_asks request left admin.Reads = refl
 admin_asks request left (admin.Writes w) = refl
 
-probe_asks : (request : ProbeRequest) (turn : Turn) (stage : ScanStage) → IsSome (asked (probe_at request turn stage))
+probe_asks : (request : ProbeRequest) (turn : Turn) (stage : ScanStage) → IsSome (next_call (probe_at request turn stage))
 probe_asks request turn ReadsConfig = refl
 probe_asks request turn (ReadsPools configured) = refl
 probe_asks request turn (ReadsReservations pooled) = refl
@@ -114,10 +114,10 @@ probe_asks request turn (ListsBlocks gathered) = refl
 
 -- ---- an ADD of one address
 
-asks_on : {A B : Type 0} (word : Word A) (follows : A → Word B) → IsSome (asked word) → IsSome (asked (bound word follows))
+asks_on : {A B : Type 0} (word : Word A) (follows : A → Word B) → IsSome (next_call word) → IsSome (next_call (bound word follows))
 asks_on word follows some = subst (λ call. IsSome call) (sym (asked_bound word follows some)) some
 
-claim_asks : (node : List ℕ) (cidr : CidrValue) (read : BlockRead) (stage : ClaimStage) → IsSome (asked (claim_at node cidr read stage))
+claim_asks : (node : List ℕ) (cidr : CidrValue) (read : BlockRead) (stage : ClaimStage) → IsSome (next_call (claim_at node cidr read stage))
 unfolding claim_word
 claim_asks node cidr read claim.Looks = refl
 claim_asks node cidr read (claim.Writes claim_writing.Creates) = refl
@@ -125,22 +125,22 @@ claim_asks node cidr read (claim.Writes (claim_writing.TakesBack revision)) = re
 claim_asks node cidr read (claim.Writes (claim_writing.Claims kept)) = refl
 claim_asks node cidr read (claim.Writes (claim_writing.Confirms kept)) = refl
 
-raising_asks : (id : List ℕ) (cidr : CidrValue) (left : Left) (stage : RaiseStage) → IsSome (asked (raising_at id cidr left stage))
+raising_asks : (id : List ℕ) (cidr : CidrValue) (left : Left) (stage : RaiseStage) → IsSome (next_call (raising_at id cidr left stage))
 raising_asks id cidr left raise.Reads = refl
 raising_asks id cidr left (raise.Writes raised) = refl
 
-lowering_asks : (id : List ℕ) (cidr : CidrValue) (amount : ℕ) (left : Left) (stage : LowerStage) → IsSome (asked (lowering_at id cidr amount left stage))
+lowering_asks : (id : List ℕ) (cidr : CidrValue) (amount : ℕ) (left : Left) (stage : LowerStage) → IsSome (next_call (lowering_at id cidr amount left stage))
 lowering_asks id cidr amount left lower.Reads = refl
 lowering_asks id cidr amount left (lower.Writes lowered) = refl
 
-assigning_asks : (id : List ℕ) (b : BlockValue) (revision : ℕ) (stage : AssignStage) → IsSome (asked (assigning_at id b revision stage))
+assigning_asks : (id : List ℕ) (b : BlockValue) (revision : ℕ) (stage : AssignStage) → IsSome (next_call (assigning_at id b revision stage))
 assigning_asks id b revision (assign.Raises raising) =
     asks_on (raising_rest id raising) (onward (write_behind id b revision)) (raising_asks id raising.cidr raising.left raising.stage)
 assigning_asks id b revision (assign.Writes left) = refl
 assigning_asks id b revision (assign.Lowers lowering) =
     asks_on (lowering_rest id lowering) (onward nothing) (lowering_asks id lowering.cidr lowering.amount lowering.left lowering.stage)
 
-part_asks : (g : Going) (left : Left) (stage : ThisStage) → IsSome (asked (this_part g left stage))
+part_asks : (g : Going) (left : Left) (stage : ThisStage) → IsSome (next_call (this_part g left stage))
 part_asks g left this.ReadsConfig = refl
 part_asks g left (this.ReadsPools configured) = refl
 part_asks g left (this.ReadsBlock ruled) = refl
@@ -152,7 +152,7 @@ part_asks g left (this.Assigns looked a) =
     (onward (model.this_assigned (wanted_at g.request looked.address) (next_for g) (looked_of looked)))
     (assigning_asks g.request.attributes.handle a.block a.revision a.stage)
 
-stage_asks : (g : Going) (left : Left) (stage : ThisStage) → IsSome (asked (this_at (this_part g left stage)))
+stage_asks : (g : Going) (left : Left) (stage : ThisStage) → IsSome (next_call (this_at (this_part g left stage)))
 stage_asks g left stage = asks_on (this_part g left stage) _ (part_asks g left stage)
 
 -- ---- whichever it is
@@ -161,7 +161,7 @@ abbrev IsCollection : Kept → Type 0
 IsCollection k = (p : CollectProc) × (k ≡ kept.Collect p)
 
 -- everything but a collection has a next call
-asks : (k : Kept) → (IsCollection k → ⊥) → IsSome (asked (rest_of k))
+asks : (k : Kept) → (IsCollection k → ⊥) → IsSome (next_call (rest_of k))
 asks (kept.Add p) other = told_asks _ (add_rest p) (stage_asks_add p.request p.turn p.stage)
 asks (kept.AddThis p) other = told_asks _ (this_rest p) (stage_asks (going p) p.left p.stage)
 asks (kept.Del p) other = told_asks _ (del_rest p) (del_asks p.id p.stage)
@@ -175,19 +175,19 @@ asks (kept.Probe p) other = told_asks _ (probe_rest p) (probe_asks p.request p.t
 pub never_waits : (k : Kept) → ((p : CollectProc) → k ≡ kept.Collect p → ⊥) → waits (rest_of k) ≡ false
 never_waits k other = still (rest_of k) (asks k (λ it. other it.0 it.1))
 
-collect_frees : (f : Frees) → IsSome (asked (collect_frees_at f))
+collect_frees : (f : Frees) → IsSome (next_call (collect_frees_at f))
 collect_frees f =
     subst (λ call. IsSome call) (sym (asks_freeing collect_stops (then_left f.b1 f.b2 f.tally) (id_in f.tally.1) f.freeing))
     (freeing_asks (id_in f.tally.1) f.freeing)
 
-collect_runs_on : (request : CollectRequest) (stage : CollectStage) → ended (collect_at request stage) ≡ None
+collect_runs_on : (request : CollectRequest) (stage : CollectStage) → answer_in (collect_at request stage) ≡ None
 collect_runs_on request collect.Lists = refl
 collect_runs_on request (collect.Waits found) = refl
 collect_runs_on request (collect.ListsAgain found) = refl
 collect_runs_on request (collect.Frees f) = not_ended (collect_frees_at f) (collect_frees f)
 
--- what is kept has not ended
-runs_on_kept : (k : Kept) → ended (rest_of k) ≡ None
+-- what is kept has not answer_in
+runs_on_kept : (k : Kept) → answer_in (rest_of k) ≡ None
 runs_on_kept (kept.Collect p) = ended_telling _ (collect_rest p) ∙ ap (option_map of_collect) (collect_runs_on p.request p.stage)
 runs_on_kept (kept.Add p) = not_ended _ (asks (kept.Add p) (λ it. cc (it.1)))
 runs_on_kept (kept.AddThis p) = not_ended _ (asks (kept.AddThis p) (λ it. cc (it.1)))
@@ -198,7 +198,7 @@ runs_on_kept (kept.Absent p) = not_ended _ (asks (kept.Absent p) (λ it. cc (it.
 runs_on_kept (kept.Admin p) = not_ended _ (asks (kept.Admin p) (λ it. cc (it.1)))
 runs_on_kept (kept.Probe p) = not_ended _ (asks (kept.Probe p) (λ it. cc (it.1)))
 
-pub runs_on : (r : Running) → ended (running_rest r) ≡ None
+pub runs_on : (r : Running) → answer_in (running_rest r) ≡ None
 unfolding running_rest
 runs_on r = runs_on_kept r.kept
 

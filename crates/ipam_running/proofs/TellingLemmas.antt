@@ -3,7 +3,7 @@ use Rattle.std.proofs.Common.{◌≡◌, ℕ, ◌≤◌, List, Some, None, true,
 use Rattle.std.specs.Prelude.{option_map}
 use Rattle.ipam_records.specs.Said.{Said}
 use Rattle.ipam_records.specs.Hearing.{MayHear}
-use Rattle.ipam_records.specs.Word.{Word, Ends, Asks, Waits, asked, heard, ended, waits, fed}
+use Rattle.ipam_records.specs.Word.{Word, Ends, Asks, Waits, next_call, after_reply, answer_in, waits, after_feed}
 use Rattle.ipam_model.specs.declared.answer.Answer.{Answer}
 use Rattle.ipam_model.specs.declared.outcome.ReleaseAnswer.{ReleaseAnswer}
 use Rattle.ipam_model.specs.declared.outcome.ReleaseAnswer.TheVariants.{NoAffinity}
@@ -13,7 +13,7 @@ use Rattle.ipam_collect.specs.Collect.{due_from, grace_in}
 use Rattle.ipam_running.specs.Running.{telling, is_over}
 use Rattle.std.proofs.lemmas.Bool.Decides.{nat_tests}
 
-pub asked_telling : {A : Type 0} (tell : A → Answer) (word : Word A) → asked (telling tell word) ≡ asked word
+pub asked_telling : {A : Type 0} (tell : A → Answer) (word : Word A) → next_call (telling tell word) ≡ next_call word
 unfolding telling
 asked_telling tell (Ends answer) = refl
 asked_telling tell (Asks label call next) = refl
@@ -25,21 +25,21 @@ waits_telling tell (Ends answer) = refl
 waits_telling tell (Asks label call next) = refl
 waits_telling tell (Waits next) = refl
 
-pub ended_telling : {A : Type 0} (tell : A → Answer) (word : Word A) → ended (telling tell word) ≡ option_map tell (ended word)
+pub ended_telling : {A : Type 0} (tell : A → Answer) (word : Word A) → answer_in (telling tell word) ≡ option_map tell (answer_in word)
 unfolding telling
 ended_telling tell (Ends answer) = refl
 ended_telling tell (Asks label call next) = refl
 ended_telling tell (Waits next) = refl
 
 pub heard_telling : {A : Type 0} (tell : A → Answer) (word : Word A) (moment : ℕ) (said : Said)
-    → heard (telling tell word) moment said ≡ telling tell (heard word moment said)
+    → after_reply (telling tell word) moment said ≡ telling tell (after_reply word moment said)
 unfolding telling
 heard_telling tell (Ends answer) moment said = refl
 heard_telling tell (Asks label call next) moment said = refl
 heard_telling tell (Waits next) moment said = refl
 
 pub fed_telling : {A : Type 0} (tell : A → Answer) (word : Word A) (live : List (List ℕ))
-    → fed (telling tell word) live ≡ telling tell (fed word live)
+    → after_feed (telling tell word) live ≡ telling tell (after_feed word live)
 unfolding telling
 fed_telling tell (Ends answer) live = refl
 fed_telling tell (Asks label call next) live = refl
@@ -54,24 +54,24 @@ may_hear_telling tell (Waits next) said may = may
 
 -- ---- for one arm each
 
-pub arm_asks : {A : Type 0} (tell : A → Answer) (word : Word A) → IsSome (asked (telling tell word)) → IsSome (asked word)
+pub arm_asks : {A : Type 0} (tell : A → Answer) (word : Word A) → IsSome (next_call (telling tell word)) → IsSome (next_call word)
 arm_asks tell word some = subst (λ call. IsSome call) (asked_telling tell word) some
 
 pub arm_took : {A : Type 0} (tell : A → Answer) (word leaves : Word A) (moment : ℕ) (said : Said)
-    → leaves ≡ heard word moment said → telling tell leaves ≡ heard (telling tell word) moment said
+    → leaves ≡ after_reply word moment said → telling tell leaves ≡ after_reply (telling tell word) moment said
 arm_took tell word leaves moment said is = ap (telling tell) is ∙ sym (heard_telling tell word moment said)
 
 pub arm_ends : {A : Type 0} (tell : A → Answer) (leaves : Word A) (answer : A)
-    → Some answer ≡ ended leaves → Some (tell answer) ≡ ended (telling tell leaves)
+    → Some answer ≡ answer_in leaves → Some (tell answer) ≡ answer_in (telling tell leaves)
 arm_ends tell leaves answer is = ap (option_map tell) is ∙ sym (ended_telling tell leaves)
 
 pub arm_goes_on : {A : Type 0} (tell : A → Answer) (leaves : Word A)
-    → None ≡ ended leaves → None ≡ ended (telling tell leaves)
+    → None ≡ answer_in leaves → None ≡ answer_in (telling tell leaves)
 arm_goes_on tell leaves is = ap (option_map tell) is ∙ sym (ended_telling tell leaves)
 
 -- a release that finds nothing is answered so
-pub absent_ends : (moment : ℕ) (answer : ReleaseAnswer) → Some answer ≡ ended (Ends (NoAffinity moment))
-    → Some (of_release answer) ≡ ended (telling of_release (Ends (NoAffinity moment)))
+pub absent_ends : (moment : ℕ) (answer : ReleaseAnswer) → Some answer ≡ answer_in (Ends (NoAffinity moment))
+    → Some (of_release answer) ≡ answer_in (telling of_release (Ends (NoAffinity moment)))
 absent_ends moment answer is = arm_ends of_release (Ends (NoAffinity moment)) answer is
 
 -- what is over is late enough

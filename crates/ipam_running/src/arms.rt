@@ -1,5 +1,5 @@
 ghost use Rattle.std.specs.Prelude.{◌≡◌, IfNone};
-ghost use Rattle.ipam_records.specs.Word.{ended};
+ghost use Rattle.ipam_records.specs.Word.{answer_in};
 ghost use Rattle.ipam_running.specs.Running.{rest_of, leaves_of, grace_kept, Fits};
 ghost use Rattle.ipam_running.specs.declared.running.Turned.TheVariants as turned_of;
 
@@ -18,7 +18,7 @@ use ipam_release::{CheckTurned, DelTurned};
 #[tactic(auto, using(crate::proofs::TellingLemmas::arm_ends, crate::proofs::TellingLemmas::arm_goes_on))]
 pub(crate) fn add_goes(kept: &mut Kept, turned: AddTurned) -> Option<Answer>
     requires { Fits kept.old (turned_of.Add turned) }
-    ensures answer { result ≡ ended (leaves_of kept.old (turned_of.Add turned)) }
+    ensures answer { result ≡ answer_in (leaves_of kept.old (turned_of.Add turned)) }
     ensures on { IfNone result (rest_of kept.new ≡ leaves_of kept.old (turned_of.Add turned)) }
     ensures grace { grace_kept kept.new ≡ grace_kept kept.old }
 {
@@ -35,7 +35,7 @@ pub(crate) fn add_goes(kept: &mut Kept, turned: AddTurned) -> Option<Answer>
 #[tactic(auto, using(crate::proofs::TellingLemmas::arm_ends, crate::proofs::TellingLemmas::arm_goes_on))]
 pub(crate) fn add_this_goes(kept: &mut Kept, turned: AddThisTurned) -> Option<Answer>
     requires { Fits kept.old (turned_of.AddThis turned) }
-    ensures answer { result ≡ ended (leaves_of kept.old (turned_of.AddThis turned)) }
+    ensures answer { result ≡ answer_in (leaves_of kept.old (turned_of.AddThis turned)) }
     ensures on { IfNone result (rest_of kept.new ≡ leaves_of kept.old (turned_of.AddThis turned)) }
     ensures grace { grace_kept kept.new ≡ grace_kept kept.old }
 {
@@ -52,7 +52,7 @@ pub(crate) fn add_this_goes(kept: &mut Kept, turned: AddThisTurned) -> Option<An
 #[tactic(auto, using(crate::proofs::TellingLemmas::arm_ends, crate::proofs::TellingLemmas::arm_goes_on))]
 pub(crate) fn del_goes(kept: &mut Kept, turned: DelTurned) -> Option<Answer>
     requires { Fits kept.old (turned_of.Del turned) }
-    ensures answer { result ≡ ended (leaves_of kept.old (turned_of.Del turned)) }
+    ensures answer { result ≡ answer_in (leaves_of kept.old (turned_of.Del turned)) }
     ensures on { IfNone result (rest_of kept.new ≡ leaves_of kept.old (turned_of.Del turned)) }
     ensures grace { grace_kept kept.new ≡ grace_kept kept.old }
 {
@@ -69,7 +69,7 @@ pub(crate) fn del_goes(kept: &mut Kept, turned: DelTurned) -> Option<Answer>
 #[tactic(auto, using(crate::proofs::TellingLemmas::arm_ends, crate::proofs::TellingLemmas::arm_goes_on))]
 pub(crate) fn check_goes(kept: &mut Kept, turned: CheckTurned) -> Option<Answer>
     requires { Fits kept.old (turned_of.Check turned) }
-    ensures answer { result ≡ ended (leaves_of kept.old (turned_of.Check turned)) }
+    ensures answer { result ≡ answer_in (leaves_of kept.old (turned_of.Check turned)) }
     ensures on { IfNone result (rest_of kept.new ≡ leaves_of kept.old (turned_of.Check turned)) }
     ensures grace { grace_kept kept.new ≡ grace_kept kept.old }
 {
@@ -86,7 +86,7 @@ pub(crate) fn check_goes(kept: &mut Kept, turned: CheckTurned) -> Option<Answer>
 #[tactic(auto, using(crate::proofs::TellingLemmas::arm_ends, crate::proofs::TellingLemmas::arm_goes_on))]
 pub(crate) fn release_goes(kept: &mut Kept, turned: ReleaseTurned) -> Option<Answer>
     requires { Fits kept.old (turned_of.Release turned) }
-    ensures answer { result ≡ ended (leaves_of kept.old (turned_of.Release turned)) }
+    ensures answer { result ≡ answer_in (leaves_of kept.old (turned_of.Release turned)) }
     ensures on { IfNone result (rest_of kept.new ≡ leaves_of kept.old (turned_of.Release turned)) }
     ensures grace { grace_kept kept.new ≡ grace_kept kept.old }
 {
@@ -103,7 +103,7 @@ pub(crate) fn release_goes(kept: &mut Kept, turned: ReleaseTurned) -> Option<Ans
 #[tactic(auto, using(crate::proofs::TellingLemmas::arm_ends, crate::proofs::TellingLemmas::absent_ends))]
 pub(crate) fn absent_goes(kept: &mut Kept, turned: AbsentTurned) -> Option<Answer>
     requires { Fits kept.old (turned_of.Absent turned) }
-    ensures answer { result ≡ ended (leaves_of kept.old (turned_of.Absent turned)) }
+    ensures answer { result ≡ answer_in (leaves_of kept.old (turned_of.Absent turned)) }
     ensures on { IfNone result (rest_of kept.new ≡ leaves_of kept.old (turned_of.Absent turned)) }
     ensures grace { grace_kept kept.new ≡ grace_kept kept.old }
 {
@@ -120,7 +120,7 @@ pub(crate) fn absent_goes(kept: &mut Kept, turned: AbsentTurned) -> Option<Answe
 #[tactic(auto, using(crate::proofs::TellingLemmas::arm_ends, crate::proofs::TellingLemmas::arm_goes_on))]
 pub(crate) fn collect_goes(kept: &mut Kept, turned: CollectTurned) -> Option<Answer>
     requires { Fits kept.old (turned_of.Collect turned) }
-    ensures answer { result ≡ ended (leaves_of kept.old (turned_of.Collect turned)) }
+    ensures answer { result ≡ answer_in (leaves_of kept.old (turned_of.Collect turned)) }
     ensures on { IfNone result (rest_of kept.new ≡ leaves_of kept.old (turned_of.Collect turned)) }
     ensures grace { grace_kept kept.new ≡ grace_kept kept.old }
 {
@@ -137,7 +137,7 @@ pub(crate) fn collect_goes(kept: &mut Kept, turned: CollectTurned) -> Option<Ans
 #[tactic(auto, using(crate::proofs::TellingLemmas::arm_ends, crate::proofs::TellingLemmas::arm_goes_on))]
 pub(crate) fn admin_goes(kept: &mut Kept, turned: AdminTurned) -> Option<Answer>
     requires { Fits kept.old (turned_of.Admin turned) }
-    ensures answer { result ≡ ended (leaves_of kept.old (turned_of.Admin turned)) }
+    ensures answer { result ≡ answer_in (leaves_of kept.old (turned_of.Admin turned)) }
     ensures on { IfNone result (rest_of kept.new ≡ leaves_of kept.old (turned_of.Admin turned)) }
     ensures grace { grace_kept kept.new ≡ grace_kept kept.old }
 {
@@ -154,7 +154,7 @@ pub(crate) fn admin_goes(kept: &mut Kept, turned: AdminTurned) -> Option<Answer>
 #[tactic(auto, using(crate::proofs::TellingLemmas::arm_ends, crate::proofs::TellingLemmas::arm_goes_on))]
 pub(crate) fn probe_goes(kept: &mut Kept, turned: ProbeTurned) -> Option<Answer>
     requires { Fits kept.old (turned_of.Probe turned) }
-    ensures answer { result ≡ ended (leaves_of kept.old (turned_of.Probe turned)) }
+    ensures answer { result ≡ answer_in (leaves_of kept.old (turned_of.Probe turned)) }
     ensures on { IfNone result (rest_of kept.new ≡ leaves_of kept.old (turned_of.Probe turned)) }
     ensures grace { grace_kept kept.new ≡ grace_kept kept.old }
 {

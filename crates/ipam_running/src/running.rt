@@ -1,5 +1,5 @@
 ghost use Rattle.std.specs.Prelude.{◌≡◌, true, Some, IsSome, IfOk, IfNone, OnOk, OnErr};
-ghost use Rattle.ipam_records.specs.Word.{asked, heard, ended, waits, fed};
+ghost use Rattle.ipam_records.specs.Word.{next_call, after_reply, answer_in, waits, after_feed};
 ghost use Rattle.ipam_model.specs.Requests.{word_of};
 ghost use Rattle.ipam_model.specs.SoundRequest.{IsSoundRequest};
 ghost use Rattle.ipam_running.specs.Running.{running_rest, running_leaves, running_grace, FitsRunning, grace_of, is_over, rest_of, leaves_of, grace_kept, Fits};
@@ -99,7 +99,7 @@ impl Running {
     pub fn feed(&mut self, alloc: Global, live: &[Text], at: u64) -> Result<(), AllocError>
         requires waits { waits (running_rest self.old) ≡ true }
         requires due { is_over (running_grace self.old) at ≡ true }
-        ensures ok { OnOk result (running_rest self.new ≡ fed (running_rest self.old) live.now) }
+        ensures ok { OnOk result (running_rest self.new ≡ after_feed (running_rest self.old) live.now) }
         ensures err { OnErr result (self.new ≡ self.old) }
         ensures grace { running_grace self.new ≡ running_grace self.old }
     {
@@ -132,7 +132,7 @@ impl Procedure for Running {
     #[tactic(auto, unfolding(crate::specs::Running::running_rest, crate::specs::Running::running_leaves, crate::specs::Running::FitsRunning, crate::specs::Running::running_grace))]
     fn go(&mut self, turned: RunningTurned) -> Option<Answer>
         requires { FitsRunning self.old turned }
-        ensures answer { result ≡ ended (running_leaves self.old turned) }
+        ensures answer { result ≡ answer_in (running_leaves self.old turned) }
         ensures on { IfNone result (running_rest self.new ≡ running_leaves self.old turned) }
         ensures grace { running_grace self.new ≡ running_grace self.old }
     {
@@ -142,7 +142,7 @@ impl Procedure for Running {
 
 fn goes(kept: &mut Kept, turned: Turned) -> Option<Answer>
     requires { Fits kept.old turned }
-    ensures answer { result ≡ ended (leaves_of kept.old turned) }
+    ensures answer { result ≡ answer_in (leaves_of kept.old turned) }
     ensures on { IfNone result (rest_of kept.new ≡ leaves_of kept.old turned) }
     ensures grace { grace_kept kept.new ≡ grace_kept kept.old }
 {
@@ -161,8 +161,8 @@ fn goes(kept: &mut Kept, turned: Turned) -> Option<Answer>
 
 #[tactic(auto, using(crate::proofs::TellingLemmas::asked_telling, crate::proofs::TellingLemmas::arm_asks))]
 fn call_of(alloc: Global, kept: &Kept) -> Result<Call, AllocError>
-    requires { IsSome (asked (rest_of kept.now)) }
-    ensures { IfOk result (λ call. asked (rest_of kept.now) ≡ Some call) }
+    requires { IsSome (next_call (rest_of kept.now)) }
+    ensures { IfOk result (λ call. next_call (rest_of kept.now) ≡ Some call) }
 {
     match kept {
         Kept::Add(p) => p.call(alloc),
@@ -193,7 +193,7 @@ fn kept_waits(kept: &Kept) -> bool
 fn feed_kept(alloc: Global, kept: &mut Kept, live: &[Text], at: u64) -> Result<(), AllocError>
     requires waits { waits (rest_of kept.old) ≡ true }
     requires due { is_over (grace_kept kept.old) at ≡ true }
-    ensures ok { OnOk result (rest_of kept.new ≡ fed (rest_of kept.old) live.now) }
+    ensures ok { OnOk result (rest_of kept.new ≡ after_feed (rest_of kept.old) live.now) }
     ensures err { OnErr result (kept.new ≡ kept.old) }
     ensures grace { grace_kept kept.new ≡ grace_kept kept.old }
 {

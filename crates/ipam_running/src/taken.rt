@@ -1,7 +1,7 @@
 ghost use Rattle.std.specs.Prelude.{◌≡◌, IfOk};
 ghost use Rattle.ipam_records.specs.Hearing.{MayHear};
 ghost use Rattle.ipam_records.specs.Said.{said};
-ghost use Rattle.ipam_records.specs.Word.{heard};
+ghost use Rattle.ipam_records.specs.Word.{after_reply};
 ghost use Rattle.ipam_running.specs.Running.{rest_of, leaves_of, Fits};
 
 use crate::running::{Kept, Turned};
@@ -12,7 +12,7 @@ use std::alloc::{AllocError, Global};
 #[tactic(auto, using(crate::proofs::TellingLemmas::arm_took, crate::proofs::TellingLemmas::may_hear_telling))]
 pub(crate) fn turned_of(alloc: Global, kept: &Kept, hearing: &Heard) -> Result<Turned, AllocError>
     requires { MayHear (rest_of kept.now) (said hearing.now.reply) }
-    ensures leaves { IfOk result (λ t. leaves_of kept.now t ≡ heard (rest_of kept.now) hearing.now.moment (said hearing.now.reply)) }
+    ensures leaves { IfOk result (λ t. leaves_of kept.now t ≡ after_reply (rest_of kept.now) hearing.now.moment (said hearing.now.reply)) }
     ensures fits { IfOk result (Fits kept.now) }
 {
     match kept {

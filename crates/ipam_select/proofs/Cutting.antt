@@ -6,7 +6,7 @@ use Rattle.std.proofs.lemmas.Str.{is_utf8-from_IsUtf8, IsUtf8-from_ascii}
 use Rattle.std.proofs.lemmas.List.{length-take-le, take_all, take-append-drop, drop_more}
 use Rattle.std.proofs.lemmas.Bool.Decides.{nat_tests}
 use Rattle.ipam_select.specs.Words.{is_blank, is_key_byte, is_key, is_value, begins}
-use Rattle.ipam_select.specs.Lexing.{run_len, after_blanks, is_at, is_quote, word, quoted, bang, single, double, second, marked, first_token, tokens_step, tokens_within, tokens}
+use Rattle.ipam_select.specs.Lexing.{run_len, after_blanks, is_at, is_quote, identifier, quoted, bang, single, double, second, marked, first_token, tokens_step, tokens_within, tokens}
 use Rattle.ipam_select.specs.Grammar.{mark_spelling, IsSpelling, EndsAt}
 use Rattle.ipam_select.specs.declared.token.Token.{Token}
 use Rattle.ipam_select.specs.declared.token.Token.TheVariants.{Word, Quoted, Mark}
@@ -114,7 +114,7 @@ at_first : (b : ℕ) (text : List ℕ) → is_at b text ≡ true → text ≡ b 
 at_first b [] e = absurd (cc)
 at_first b (c ∷ text) e = ap (λ x. x ∷ text) (eqb-true c b e)
 
-cut_word : (b : ℕ) (text : List ℕ) (found : Token × List ℕ) → is_key_byte b ≡ true → word (run_len is_key_byte (b ∷ text)) (b ∷ text) ≡ Some found → IsCut (b ∷ text) found
+cut_word : (b : ℕ) (text : List ℕ) (found : Token × List ℕ) → is_key_byte b ≡ true → identifier (run_len is_key_byte (b ∷ text)) (b ∷ text) ≡ Some found → IsCut (b ∷ text) found
 cut_word b text found k e =
     let whole = b ∷ text in
     let n = run_len is_key_byte whole in

@@ -4,7 +4,7 @@ use Rattle.std.specs.List.{list_all}
 use Rattle.std.proofs.lemmas.List.{take-append-drop}
 use Rattle.std.proofs.lemmas.Bool.Decides.{nat_tests}
 use Rattle.ipam_select.specs.Words.{is_blank, is_key_byte, is_key, is_value, lacks, begins}
-use Rattle.ipam_select.specs.Lexing.{run_len, after_blanks, word, quoted, first_token, token_then, tokens_step, tokens_within, tokens}
+use Rattle.ipam_select.specs.Lexing.{run_len, after_blanks, identifier, quoted, first_token, token_then, tokens_step, tokens_within, tokens}
 use Rattle.ipam_select.specs.Grammar.{mark_spelling, IsSpelling, EndsAt, is_blank_text, Spells}
 use Rattle.ipam_select.specs.declared.token.Token.{Token}
 use Rattle.ipam_select.specs.declared.token.Token.TheVariants.{Word, Quoted, Mark}
@@ -59,9 +59,9 @@ word_found (b ∷ w) rest k e =
     let key = key_is (b ∷ w) k in
     let first = and_true (is_key_byte b) (list_all is_key_byte w) key.2 in
     let n : run_len is_key_byte ((b ∷ w) ++ rest) ≡ length (b ∷ w) = run_found is_key_byte (b ∷ w) rest key.2 e in
-    let cut : word (length (b ∷ w)) ((b ∷ w) ++ rest) ≡ Some (Word (b ∷ w), rest) =
+    let cut : identifier (length (b ∷ w)) ((b ∷ w) ++ rest) ≡ Some (Word (b ∷ w), rest) =
     rw (le-leb (length (b ∷ w)) 317 key.1) (ap₂ (λ (x y : List ℕ). Some (Word x, y)) (take_front (b ∷ w) rest) (drop_front (b ∷ w) rest)) in
-    if_true (is_key_byte b) (word (run_len is_key_byte ((b ∷ w) ++ rest)) ((b ∷ w) ++ rest)) _ first.0 ∙ ap (λ k. word k ((b ∷ w) ++ rest)) n ∙ cut
+    if_true (is_key_byte b) (identifier (run_len is_key_byte ((b ∷ w) ++ rest)) ((b ∷ w) ++ rest)) _ first.0 ∙ ap (λ k. identifier k ((b ∷ w) ++ rest)) n ∙ cut
 
 quoted_found : (q : ℕ) (v rest : List ℕ) → is_value v ≡ true → lacks q v ≡ true → quoted (run_len (λ c. not (c == q)) ((v ++ q ∷ []) ++ rest)) ((v ++ q ∷ []) ++ rest) ≡ Some (Quoted v, rest)
 quoted_found q v rest k l =

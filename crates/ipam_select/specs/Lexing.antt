@@ -30,9 +30,9 @@ is_at byte (b ∷ text) = b == byte
 abbrev pub is_quote : ℕ → Bool
 is_quote b = b == 39 || b == 34
 
--- the word of so many bytes
-abbrev pub word : ℕ → List ℕ → Option (Token × List ℕ)
-word n text = if nat_le n LABEL_KEY_BYTES_MAX then Some (Word (take n text), drop n text) else None
+-- the name or keyword of so many bytes
+abbrev pub identifier : ℕ → List ℕ → Option (Token × List ℕ)
+identifier n text = if nat_le n LABEL_KEY_BYTES_MAX then Some (Word (take n text), drop n text) else None
 
 -- a value of so many bytes and the quote after it
 abbrev pub quoted : ℕ → List ℕ → Option (Token × List ℕ)
@@ -69,7 +69,7 @@ marked b text None = option_and_then (second b text) (double b)
 abbrev pub first_token : List ℕ → Option (Token × List ℕ)
 first_token [] = None
 first_token (b ∷ text) =
-    if is_key_byte b then word (run_len is_key_byte (b ∷ text)) (b ∷ text)
+    if is_key_byte b then identifier (run_len is_key_byte (b ∷ text)) (b ∷ text)
     else if is_quote b then quoted (run_len (λ c. not (c == b)) text) text
     else if b == 33 then Some (bang text)
     else marked b text (single b)

@@ -1,7 +1,7 @@
 ghost use Rattle.std.specs.Prelude.{◌≡◌, ◌<◌, ◌≤◌, ◌∷◌, IfOk, option_map, length, Some, None, if◌then◌else◌};
 ghost use Rattle.std.specs.Str.{is_utf8};
 ghost use Rattle.ipam_select.specs.Words.{is_key_byte, is_blank, is_value};
-ghost use Rattle.ipam_select.specs.Lexing.{in_class, run_len, after_blanks, is_at, is_quote, word, quoted, bang, single, double, marked, first_token, tokens};
+ghost use Rattle.ipam_select.specs.Lexing.{in_class, run_len, after_blanks, is_at, is_quote, identifier, quoted, bang, single, double, marked, first_token, tokens};
 
 use crate::limits::{LABEL_KEY_BYTES_MAX, LABEL_VALUE_BYTES_MAX};
 use crate::token::{Mark, Token};
@@ -84,7 +84,7 @@ fn first_token(alloc: Global, text: &[u8]) -> Result<Option<(Token, &[u8])>, All
     };
     let rest = &text[1..];
     if is_key_byte(*first) {
-        word(alloc, text)
+        identifier(alloc, text)
     } else if is_quote(*first) {
         quoted(alloc, rest, *first)
     } else if *first == b'!' {
@@ -100,9 +100,9 @@ fn is_quote(byte: u8) -> bool
     byte == b'\'' || byte == b'"'
 }
 
-fn word(alloc: Global, text: &[u8]) -> Result<Option<(Token, &[u8])>, AllocError>
+fn identifier(alloc: Global, text: &[u8]) -> Result<Option<(Token, &[u8])>, AllocError>
     ensures { IfOk result (λ found. option_map (λ f. (f.0, f.1.now)) found
-        ≡ word (run_len is_key_byte text.now) text.now) }
+        ≡ identifier (run_len is_key_byte text.now) text.now) }
 {
     let count = run_len(text, Class::Key);
     if count > LABEL_KEY_BYTES_MAX {

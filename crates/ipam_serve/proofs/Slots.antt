@@ -11,7 +11,7 @@ use Rattle.ipam_model.specs.declared.entry.Entry.TheVariants as entry
 use Rattle.ipam_model.specs.declared.entry.SlotState.TheVariants as state
 use Rattle.ipam_model.specs.declared.request.Request.{Request}
 use Rattle.ipam_model.specs.declared.request.Request.TheVariants.{Add, AddThis, Del, Check, Release, Collect, Admin, Probe}
-use Rattle.ipam_model.specs.Cluster.{Cluster, Running, Slots, after, begun, fed_with, goes_on, state_of, with_slot}
+use Rattle.ipam_model.specs.Cluster.{Cluster, Running, Slots, after, fresh_run, run_after_feed, goes_on, state_of, with_slot}
 use Rattle.ipam_model.specs.Course.{is_due}
 use Rattle.ipam_model.specs.History.{Lawful, MayFeed, cluster_at, slot_of_entry}
 use Rattle.ipam_running.specs.Running.{grace_of}
@@ -24,7 +24,7 @@ use Rattle.ipam_serve.specs.Gains.{asked_after, asked_in, is_early, is_waiting, 
 
 -- ---- an entry of the slot
 
-fed-asked : (live : List (List ℕ)) (o : Option Running) → asked_in (fed_with live o) ≡ asked_in o
+fed-asked : (live : List (List ℕ)) (o : Option Running) → asked_in (run_after_feed live o) ≡ asked_in o
 fed-asked live None = refl
 fed-asked live (Some running) = refl
 
@@ -39,9 +39,9 @@ given changed slot o slots e = subst (λ (s : ℕ). with_slot s o slots slot ≡
 
 own-asked : (cluster : Cluster) (new : Entry) (slot : ℕ) → slot_of_entry new ≡ slot → asked_in ((after cluster new).slots slot) ≡ asked_after (asked_in (cluster.slots slot)) (new ∷ [])
 unfolding after asked_after
-own-asked cluster (entry.Began other request) slot own = ap asked_in (given other slot (begun request) cluster.slots own)
+own-asked cluster (entry.Began other request) slot own = ap asked_in (given other slot (fresh_run request) cluster.slots own)
 own-asked cluster (entry.Fed other at live) slot own =
-    ap asked_in (given other slot (fed_with live (cluster.slots other)) cluster.slots own)
+    ap asked_in (given other slot (run_after_feed live (cluster.slots other)) cluster.slots own)
     ∙ fed-asked live (cluster.slots other) ∙ ap (λ (s : ℕ). asked_in (cluster.slots s)) own
 own-asked cluster (entry.Called c) slot own =
     ap asked_in (given c.slot slot (goes_on cluster.store cluster.entries c.answer (cluster.slots c.slot)) cluster.slots own)

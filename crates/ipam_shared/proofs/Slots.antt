@@ -3,7 +3,7 @@ use Rattle.std.proofs.Common.{◌≡◌, ◌≢◌, ◌↔◌, ℕ, List, [], �
 use Rattle.turn_lock.specs.Histories.{NoneBy}
 use Rattle.ipam_model.specs.declared.entry.Entry.{Entry}
 use Rattle.ipam_model.specs.declared.entry.Entry.TheVariants as entry
-use Rattle.ipam_model.specs.Cluster.{Cluster, after, begun, fed_with, goes_on, state_of}
+use Rattle.ipam_model.specs.Cluster.{Cluster, after, fresh_run, run_after_feed, goes_on, state_of}
 use Rattle.ipam_model.specs.Cluster as model
 use Rattle.ipam_model.specs.History.{Base, cluster_at, slot_of_entry}
 use Rattle.ipam_laws.proofs.KeptWords.{other-slot}
@@ -16,8 +16,8 @@ use Rattle.ipam_shared.specs.Turning.{times_of}
 
 slot-after : (cluster : Cluster) (new : Entry) (slot : ℕ) → slot_of_entry new ≢ slot → (after cluster new).slots slot ≡ cluster.slots slot
 unfolding after
-slot-after cluster (entry.Began other request) slot apart = other-slot other slot (begun request) cluster.slots apart
-slot-after cluster (entry.Fed other at live) slot apart = other-slot other slot (fed_with live (cluster.slots other)) cluster.slots apart
+slot-after cluster (entry.Began other request) slot apart = other-slot other slot (fresh_run request) cluster.slots apart
+slot-after cluster (entry.Fed other at live) slot apart = other-slot other slot (run_after_feed live (cluster.slots other)) cluster.slots apart
 slot-after cluster (entry.Called c) slot apart = other-slot c.slot slot (goes_on cluster.store cluster.entries c.answer (cluster.slots c.slot)) cluster.slots apart
 slot-after cluster (entry.Stopped other) slot apart = other-slot other slot None cluster.slots apart
 

@@ -8,7 +8,7 @@ use Rattle.ipam_model.specs.declared.entry.Entry.{Entry}
 use Rattle.ipam_model.specs.declared.entry.Entry.TheVariants as entry
 use Rattle.ipam_model.specs.declared.request.Request.{Request}
 use Rattle.ipam_model.specs.Alone.{IsAlone}
-use Rattle.ipam_model.specs.Cluster.{Running, Slots, after, begun, fed_with, goes_on, with_slot}
+use Rattle.ipam_model.specs.Cluster.{Running, Slots, after, fresh_run, run_after_feed, goes_on, with_slot}
 use Rattle.ipam_model.specs.History.{Base, cluster_at}
 use Rattle.ipam_model.specs.Moments.{request_in}
 use Rattle.ipam_laws.proofs.KeptWords.{other-slot, own-slot}
@@ -19,7 +19,7 @@ use Rattle.ipam_solo.specs.Steps.{GoesOn}
 abbrev asked_in : Option Running → Option Request
 asked_in = option_map (λ (running : Running). running.request)
 
-fed-asked : (live : List (List ℕ)) (o : Option Running) → asked_in (fed_with live o) ≡ asked_in o
+fed-asked : (live : List (List ℕ)) (o : Option Running) → asked_in (run_after_feed live o) ≡ asked_in o
 fed-asked live None = refl
 fed-asked live (Some running) = refl
 
@@ -33,7 +33,7 @@ given changed o slots e = subst (λ (s : ℕ). asked_in (with_slot s o slots 0) 
 
 pub begun-runs : (base : Base) (history : List Entry) (request : Request) → request_in (cluster_at base (entry.Began 0 request ∷ history)) 0 ≡ Some request
 unfolding cluster_at after
-begun-runs base history request = given 0 (begun request) (cluster_at base history).slots refl
+begun-runs base history request = given 0 (fresh_run request) (cluster_at base history).slots refl
 
 -- it goes on in slot 0
 pub still-runs : (base : Base) (history : List Entry) (request : Request) (steps : List Entry) → GoesOn request steps → request_in (cluster_at base history) 0 ≡ Some request → request_in (cluster_at base (steps ++ history)) 0 ≡ Some request
@@ -46,8 +46,8 @@ still-runs base history request (entry.Called c ∷ steps) h runs =
     subst P (sym h.0) (given 0 (goes_on one.store one.entries c.answer (one.slots 0)) one.slots refl ∙ none ∙ still-runs base history request steps h.3 runs)
 still-runs base history request (entry.Fed slot at live ∷ steps) h runs =
     let one = cluster_at base (steps ++ history) in
-    let P : ℕ → Type 0 = λ s. asked_in (with_slot s (fed_with live (one.slots s)) one.slots 0) ≡ Some request in
-    subst P (sym h.0) (given 0 (fed_with live (one.slots 0)) one.slots refl ∙ fed-asked live (one.slots 0) ∙ still-runs base history request steps h.2 runs)
+    let P : ℕ → Type 0 = λ s. asked_in (with_slot s (run_after_feed live (one.slots s)) one.slots 0) ≡ Some request in
+    subst P (sym h.0) (given 0 (run_after_feed live (one.slots 0)) one.slots refl ∙ fed-asked live (one.slots 0) ∙ still-runs base history request steps h.2 runs)
 still-runs base history request (entry.Began slot other ∷ steps) h runs = absurd h
 still-runs base history request (entry.Stopped slot ∷ steps) h runs = absurd h
 
@@ -70,7 +70,7 @@ others-stay base history request (entry.Stopped changed ∷ steps) slot h differ
 -- so does the beginning
 pub begun-leaves : (base : Base) (history : List Entry) (request : Request) (slot : ℕ) → slot ≢ 0 → (cluster_at base (entry.Began 0 request ∷ history)).slots slot ≡ (cluster_at base history).slots slot
 unfolding cluster_at after
-begun-leaves base history request slot differ = other-given 0 slot (begun request) (cluster_at base history).slots refl differ
+begun-leaves base history request slot differ = other-given 0 slot (fresh_run request) (cluster_at base history).slots refl differ
 
 -- and a call
 pub called-leaves : (base : Base) (history : List Entry) (c : Called) (slot : ℕ) → c.slot ≡ 0 → slot ≢ 0 → (cluster_at base (entry.Called c ∷ history)).slots slot ≡ (cluster_at base history).slots slot

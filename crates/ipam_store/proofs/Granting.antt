@@ -11,7 +11,7 @@ use Rattle.ipam_records.specs.declared.call.Write.TheVariants.{Put, Remove}
 use Rattle.ipam_records.specs.Key.{key_of}
 use Rattle.ipam_records.specs.KeyOrder.{is_of_kind}
 use Rattle.ipam_records.specs.Said.{Can, Conflict, Full, Spent}
-use Rattle.ipam_records.specs.Datastore.{Datastore, row_of, listed, has_room, granted, last_revision, most_rows, most_blocks, reply_of, reply_to_get, reply_to_create, reply_to_change, write_granted, write_of}
+use Rattle.ipam_records.specs.Datastore.{Datastore, row_of, rows_of_kind, has_room, granted, last_revision, most_rows, most_blocks, reply_of, reply_to_get, reply_to_create, reply_to_change, write_granted, write_of}
 use Rattle.ipam_store.specs.Granted.{IsGranted, HasRoomFor}
 
 -- what is known of a write by its revision, and of the row that it puts in
@@ -44,10 +44,10 @@ then_true false b h e = cc e
 
 room_told : (store : Datastore) (new : Record) → has_room store (key_of new) ≡ true → HasRoomFor store new
 room_told store new h =
-    let parts = both_true (nat_lt (length store.rows) most_rows) (not (is_of_kind kind.Block (key_of new)) || nat_lt (length (listed kind.Block store)) most_blocks) h in
+    let parts = both_true (nat_lt (length store.rows) most_rows) (not (is_of_kind kind.Block (key_of new)) || nat_lt (length (rows_of_kind kind.Block store)) most_blocks) h in
     record {
       few = less_told (length store.rows) most_rows parts.0;
-      few_blocks = λ is. less_told (length (listed kind.Block store)) most_blocks (then_true (is_of_kind kind.Block (key_of new)) (nat_lt (length (listed kind.Block store)) most_blocks) parts.1 is);
+      few_blocks = λ is. less_told (length (rows_of_kind kind.Block store)) most_blocks (then_true (is_of_kind kind.Block (key_of new)) (nat_lt (length (rows_of_kind kind.Block store)) most_blocks) parts.1 is);
     }
 
 -- a write that nothing else refuses

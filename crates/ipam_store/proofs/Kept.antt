@@ -12,7 +12,7 @@ use Rattle.ipam_records.specs.declared.key.Kind.TheVariants as kind
 use Rattle.ipam_records.specs.declared.call.Write.TheVariants.{Put, Remove}
 use Rattle.ipam_records.specs.Key.{key_of}
 use Rattle.ipam_records.specs.KeyOrder.{is_of_kind}
-use Rattle.ipam_records.specs.Datastore.{Datastore, row_key, row_of, with_row, without_row, listed, granted, last_revision, most_rows, most_blocks}
+use Rattle.ipam_records.specs.Datastore.{Datastore, row_key, row_of, with_row, without_row, rows_of_kind, granted, last_revision, most_rows, most_blocks}
 use Rattle.ipam_records.specs.Sound.{IsRow}
 use Rattle.ipam_store.specs.Shelf.{shelf_of}
 use Rattle.ipam_store.specs.Granted.{IsGranted, IsSoundWrite, HasRoomFor}
@@ -119,7 +119,7 @@ Fits lists counter s rows value = HasRoomFor (store_of lists counter) value ⊎ 
 fits_blocks : (lists : Lists) (counter : ℕ) → IsKept lists counter → (value : Record) (s : Shelf) → shelf_of (key_of value) ≡ s → (rows : List (ℕ × Record)) → length rows ≤ length (list_on s lists) + 1 → Fits lists counter s rows value → s ≡ Blocks → length rows ≤ most_blocks
 fits_blocks lists counter kept value s on rows grown (inl room) is =
     let few = room.few_blocks (block_is (key_of value) (on ∙ is)) in
-    let same : length (listed kind.Block (store_of lists counter)) ≡ length lists.blocks = ap length (listed-shelved kind.Block lists kept.shelved) in
+    let same : length (rows_of_kind kind.Block (store_of lists counter)) ≡ length lists.blocks = ap length (listed-shelved kind.Block lists kept.shelved) in
     let here : length (list_on s lists) ≡ length lists.blocks = ap (λ t. length (list_on t lists)) is in
     omega (arith, few, same, here)
 fits_blocks lists counter kept value s on rows grown (inr e) is =

@@ -2,7 +2,7 @@ ghost use Rattle.std.specs.Prelude.{◌≡◌, ◌⊎◌, ℕ, ◌+◌, ◌<◌,
 ghost use Rattle.std.specs.Option.{option_copied};
 ghost use Rattle.ipam_records.specs.Key.{key_of};
 ghost use Rattle.ipam_records.specs.Datastore.{row_key, row_of, with_row, without_row};
-ghost use Rattle.ipam_records.specs.KeyRef.{named};
+ghost use Rattle.ipam_records.specs.KeyRef.{owned_key};
 ghost use Rattle.ipam_records.specs.BlockLists.{AreBlocks};
 ghost use Rattle.ipam_records.specs.Listing.{rows_of};
 ghost use Rattle.ipam_records.specs.Pages.{rows_of_pages};
@@ -83,7 +83,7 @@ impl Blocks {
 
     /// The row of the key, if there is one.
     pub(crate) fn find(&self, key: &KeyRef<'_>) -> Option<&(u64, Record)>
-        ensures { option_copied result ≡ row_of (named key.now) self.now.rows }
+        ensures { option_copied result ≡ row_of (owned_key key.now) self.now.rows }
     {
         let _ = &self.index;
         self.rows.find(key)
@@ -137,7 +137,7 @@ impl Blocks {
 
     /// Takes out the row of the key, if there is one.
     pub(crate) fn remove(&mut self, key: &KeyRef<'_>)
-        ensures rows { self.new.rows ≡ without_row (named key.now) self.old.rows }
+        ensures rows { self.new.rows ≡ without_row (owned_key key.now) self.old.rows }
         ensures fewer { length self.new.rows ≤ length self.old.rows }
         ensures spare { self.old.spare ≤ self.new.spare }
     {
@@ -150,7 +150,7 @@ impl Blocks {
 fn forget(index: &mut BlockIndex, rows: &Pages, key: &KeyRef<'_>)
     requires blocks { AreBlocks rows.now.rows }
     requires index { IsIndexOf index.old rows.now.rows }
-    ensures index { IsIndexOf index.new (without_row (named key.now) rows.now.rows) }
+    ensures index { IsIndexOf index.new (without_row (owned_key key.now) rows.now.rows) }
     ensures spare { index.old.spare ≤ index.new.spare }
 {
     let Some(row) = rows.find(key) else {

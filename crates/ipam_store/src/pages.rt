@@ -3,7 +3,7 @@ ghost use Rattle.std.specs.Global.{Vec};
 ghost use Rattle.std.specs.Option.{option_copied};
 ghost use Rattle.std.specs.Vec.{vec_len, vec_capacity};
 ghost use Rattle.ipam_records.specs.Datastore.{row_key, row_of, with_row, without_row};
-ghost use Rattle.ipam_records.specs.KeyRef.{named};
+ghost use Rattle.ipam_records.specs.KeyRef.{owned_key};
 ghost use Rattle.ipam_records.specs.Pages.{rows_of_pages};
 ghost use Rattle.ipam_records.specs.declared.record.Record.{Record};
 ghost use Rattle.ipam_store.specs.Places.{Ascend, AllBefore, AllBehind, begins_by};
@@ -76,7 +76,7 @@ impl Pages {
     /// The row of the key, if there is one.
     pub(crate) fn find(&self, key: &KeyRef<'_>) -> Option<&(u64, Record)>
         requires { Ascend self.now.rows }
-        ensures { option_copied result ≡ row_of (named key.now) self.now.rows }
+        ensures { option_copied result ≡ row_of (owned_key key.now) self.now.rows }
     {
         if self.pages.is_empty() {
             return None;
@@ -140,7 +140,7 @@ impl Pages {
     /// Takes out the row of the key, if there is one.
     pub(crate) fn remove(&mut self, key: &KeyRef<'_>)
         requires { Ascend self.old.rows }
-        ensures rows { self.new.rows ≡ without_row (named key.now) self.old.rows }
+        ensures rows { self.new.rows ≡ without_row (owned_key key.now) self.old.rows }
         ensures fewer { length self.new.rows ≤ length self.old.rows }
         ensures spare { self.old.spare ≤ self.new.spare }
     {
@@ -162,7 +162,7 @@ fn page_for(pages: &[Vec<(u64, Record)>], key: &KeyRef<'_>) -> usize
     requires some { 0 < length pages.now }
     requires ascend { Ascend (rows_of_pages pages.now) }
     requires filled { All IsPage pages.now }
-    ensures { IsPageFor pages.now (named key.now) result }
+    ensures { IsPageFor pages.now (owned_key key.now) result }
 {
     let after = pages.partition_point(|page| begins_by_key(page, key));
     if after == 0 {
@@ -173,7 +173,7 @@ fn page_for(pages: &[Vec<(u64, Record)>], key: &KeyRef<'_>) -> usize
 
 /// Whether the first row stands before the key or has it.
 fn begins_by_key(page: &Vec<(u64, Record)>, key: &KeyRef<'_>) -> bool
-    ensures { result ≡ begins_by (named key.now) page.now.items }
+    ensures { result ≡ begins_by (owned_key key.now) page.now.items }
 {
     match page.first() {
         Some(row) => KeyRef::of_record(&row.1).compare(key).is_le(),
@@ -198,8 +198,8 @@ fn page_to_put(
     ensures filled { AreFilledBut pages.new.items result }
     ensures roomy { All IsRoomy pages.new.items }
     ensures ready { IsReady ready.new }
-    ensures page { IsPageFor pages.new.items (named key.now) result }
-    ensures has_room { (page : Vec (ℕ × Record)) → row_of (named key.now) (slice_index_or pages.new.items result page).items ≡ None → length (slice_index_or pages.new.items result page).items < PAGE_ROWS }
+    ensures page { IsPageFor pages.new.items (owned_key key.now) result }
+    ensures has_room { (page : Vec (ℕ × Record)) → row_of (owned_key key.now) (slice_index_or pages.new.items result page).items ≡ None → length (slice_index_or pages.new.items result page).items < PAGE_ROWS }
     ensures few { (page : Vec (ℕ × Record)) → length (slice_index_or pages.new.items result page).items ≤ PAGE_ROWS }
 {
     if pages.is_empty() {
@@ -219,9 +219,9 @@ fn half_for(pages: &[Vec<(u64, Record)>], at: usize, key: &KeyRef<'_>) -> usize
     requires within { at + 1 < length pages.now }
     requires ascend { Ascend (rows_of_pages pages.now) }
     requires filled { All IsPage pages.now }
-    requires before { AllBefore (named key.now) (rows_of_pages (take at pages.now)) }
-    requires behind { AllBehind (named key.now) (rows_of_pages (drop (at + 2) pages.now)) }
-    ensures page { IsPageFor pages.now (named key.now) result }
+    requires before { AllBefore (owned_key key.now) (rows_of_pages (take at pages.now)) }
+    requires behind { AllBehind (owned_key key.now) (rows_of_pages (drop (at + 2) pages.now)) }
+    ensures page { IsPageFor pages.now (owned_key key.now) result }
     ensures one { (result ≡ at) ⊎ (result ≡ at + 1) }
 {
     if begins_by_key(&pages[at + 1], key) {

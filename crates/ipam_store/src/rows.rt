@@ -2,7 +2,7 @@ ghost use Rattle.std.specs.Prelude.{◌≡◌, ◌+◌, ◌<◌, ◌≤◌, leng
 ghost use Rattle.std.specs.Option.{option_copied};
 ghost use Rattle.std.specs.Vec.{vec_len, vec_capacity};
 ghost use Rattle.ipam_records.specs.Datastore.{row_key, row_of, with_row, without_row};
-ghost use Rattle.ipam_records.specs.KeyRef.{named};
+ghost use Rattle.ipam_records.specs.KeyRef.{owned_key};
 ghost use Rattle.ipam_store.specs.Places.{Ascend, IsPlace, IsGap};
 
 use ipam_records::{KeyRef, Record};
@@ -10,8 +10,8 @@ use ipam_records::{KeyRef, Record};
 /// Where the row of the key is, or where it would go.
 fn place(rows: &[(u64, Record)], key: &KeyRef<'_>) -> Result<usize, usize>
     requires { Ascend rows.now }
-    ensures found { IfOk result (IsPlace rows.now (named key.now)) }
-    ensures absent { IfErr result (IsGap rows.now (named key.now)) }
+    ensures found { IfOk result (IsPlace rows.now (owned_key key.now)) }
+    ensures absent { IfErr result (IsGap rows.now (owned_key key.now)) }
 {
     rows.binary_search_by(|row| KeyRef::of_record(&row.1).compare(key))
 }
@@ -19,7 +19,7 @@ fn place(rows: &[(u64, Record)], key: &KeyRef<'_>) -> Result<usize, usize>
 /// The row of the key, if there is one.
 pub(crate) fn find<'a>(rows: &'a [(u64, Record)], key: &KeyRef<'_>) -> Option<&'a (u64, Record)>
     requires { Ascend rows.now }
-    ensures { option_copied result ≡ row_of (named key.now) rows.now }
+    ensures { option_copied result ≡ row_of (owned_key key.now) rows.now }
 {
     match place(rows, key) {
         Ok(place) => Some(&rows[place]),
@@ -50,7 +50,7 @@ pub(crate) fn put(rows: &mut Vec<(u64, Record)>, row: (u64, Record))
 /// Takes out the row of the key, if there is one.
 pub(crate) fn remove(rows: &mut Vec<(u64, Record)>, key: &KeyRef<'_>)
     requires { Ascend rows.old.items }
-    ensures rows { rows.new.items ≡ without_row (named key.now) rows.old.items }
+    ensures rows { rows.new.items ≡ without_row (owned_key key.now) rows.old.items }
     ensures fewer { length rows.new.items ≤ length rows.old.items }
     ensures capacity { vec_capacity rows.new ≡ vec_capacity rows.old }
 {

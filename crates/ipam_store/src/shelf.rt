@@ -1,6 +1,6 @@
 ghost use Rattle.std.specs.Prelude.{◌≡◌};
 ghost use Rattle.ipam_records.specs.KeyOrder.{is_of_kind};
-ghost use Rattle.ipam_records.specs.KeyRef.{named};
+ghost use Rattle.ipam_records.specs.KeyRef.{owned_key};
 ghost use Rattle.ipam_records.specs.declared.key.Kind.TheVariants as kind;
 ghost use Rattle.ipam_store.specs.Shelf.{shelf_of};
 
@@ -18,7 +18,7 @@ pub(crate) enum Shelf {
 
 impl Shelf {
     pub(crate) fn of(key: &KeyRef<'_>) -> Shelf
-        ensures { result ≡ shelf_of (named key.now) }
+        ensures { result ≡ shelf_of (owned_key key.now) }
     {
         match key {
             KeyRef::Config | KeyRef::Pools | KeyRef::Reservations => Shelf::Singles,
@@ -31,7 +31,7 @@ impl Shelf {
 
 /// Whether it is the key of a block.
 pub(crate) fn is_block(key: &KeyRef<'_>) -> bool
-    ensures { result ≡ is_of_kind kind.Block (named key.now) }
+    ensures { result ≡ is_of_kind kind.Block (owned_key key.now) }
 {
     matches!(key, KeyRef::Block(_))
 }

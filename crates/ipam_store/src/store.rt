@@ -64,8 +64,8 @@ impl Store {
     ghost use Rattle.ipam_store.specs.Page.{IsPage};
     ghost use Rattle.ipam_records.specs.Said.{said};
     ghost use Rattle.ipam_records.specs.Sound.{IsDatastore, IsRow};
-    ghost use Rattle.ipam_records.specs.Datastore.{reply_of, reply_to_get, reply_to_create, reply_to_change, granted, has_room, row_of, listed, with_row, without_row, written};
-    ghost use Rattle.ipam_records.specs.KeyRef.{named};
+    ghost use Rattle.ipam_records.specs.Datastore.{reply_of, reply_to_get, reply_to_create, reply_to_change, granted, has_room, row_of, rows_of_kind, with_row, without_row, written};
+    ghost use Rattle.ipam_records.specs.KeyRef.{owned_key};
     ghost use Rattle.ipam_records.specs.declared.call.Write.TheVariants.{Put, Remove};
     ghost use Rattle.ipam_store.specs.Granted.{IsGranted, IsSoundWrite, HasRoomFor};
 
@@ -101,7 +101,7 @@ impl Store {
 
     /// The row of the key, if there is one.
     fn find(&self, key: &KeyRef<'_>) -> Option<&(u64, Record)>
-        ensures { option_copied result ≡ row_of (named key.now) self.now.store.rows }
+        ensures { option_copied result ≡ row_of (owned_key key.now) self.now.store.rows }
     {
         match Shelf::of(key) {
             Shelf::Singles => self.singles.find(key),
@@ -129,7 +129,7 @@ impl Store {
     }
 
     fn reply_to_get(&self, key: &KeyRef<'_>) -> Reply<'_>
-        ensures { said result ≡ reply_to_get (row_of (named key.now) self.now.store.rows) }
+        ensures { said result ≡ reply_to_get (row_of (owned_key key.now) self.now.store.rows) }
     {
         match self.find(key) {
             Some(row) => Reply::Found(row.0, &row.1),
@@ -138,7 +138,7 @@ impl Store {
     }
 
     fn reply_to_create(&self, key: &KeyRef<'_>) -> Reply<'_>
-        ensures { said result ≡ reply_to_create self.now.store (named key.now) (row_of (named key.now) self.now.store.rows) }
+        ensures { said result ≡ reply_to_create self.now.store (owned_key key.now) (row_of (owned_key key.now) self.now.store.rows) }
     {
         match self.find(key) {
             Some(row) => Reply::Exists(row.0),
@@ -153,7 +153,7 @@ impl Store {
     }
 
     fn reply_to_change(&self, key: &KeyRef<'_>, revision: u64) -> Reply<'_>
-        ensures { said result ≡ reply_to_change self.now.store revision (row_of (named key.now) self.now.store.rows) }
+        ensures { said result ≡ reply_to_change self.now.store revision (row_of (owned_key key.now) self.now.store.rows) }
     {
         match self.find(key) {
             Some(row) => {
@@ -180,7 +180,7 @@ impl Store {
 
     /// Whether one more row with this key is allowed.
     fn has_room(&self, key: &KeyRef<'_>) -> bool
-        ensures { result ≡ has_room self.now.store (named key.now) }
+        ensures { result ≡ has_room self.now.store (owned_key key.now) }
     {
         self.rows() < MOST_ROWS && (!is_block(key) || self.blocks.len() < MOST_BLOCKS)
     }
@@ -188,7 +188,7 @@ impl Store {
     /// The rows of the kind in the order of their keys, as they are kept: page after page, each of
     /// them with 1 to `PAGE_ROWS` rows.
     pub fn pages(&self, kind: Kind) -> &[Vec<(u64, Record)>]
-        ensures rows { rows_of_pages result.now ≡ listed kind self.now.store }
+        ensures rows { rows_of_pages result.now ≡ rows_of_kind kind self.now.store }
         ensures filled { All IsPage result.now }
     {
         match kind {
@@ -200,7 +200,7 @@ impl Store {
 
     /// The rows of the kind, in the order of their keys.
     fn listed(&self, kind: Kind) -> Listing<'_>
-        ensures { rows_of result ≡ listed kind self.now.store }
+        ensures { rows_of result ≡ rows_of_kind kind self.now.store }
     {
         match kind {
             Kind::Block => self.blocks.listing(),
@@ -273,8 +273,8 @@ impl Store {
     }
 
     fn remove(&mut self, revision: u64, key: &KeyRef<'_>)
-        requires granted { IsGranted self.old.store (Remove revision (named key.now)) }
-        ensures store { self.new.store ≡ written self.old.store (Remove revision (named key.now)) }
+        requires granted { IsGranted self.old.store (Remove revision (owned_key key.now)) }
+        ensures store { self.new.store ≡ written self.old.store (Remove revision (owned_key key.now)) }
         ensures spare { self.old.spare ≤ self.new.spare }
     {
         self.counter = revision;

@@ -3,7 +3,7 @@ ghost use Rattle.std.specs.Prelude.{◌≡◌, length, IsTrue, IfOk};
 ghost use Rattle.ipam_records.specs.declared.key.Kind.TheVariants as kind;
 ghost use Rattle.ipam_records.specs.KeyText.{IsKey};
 ghost use Rattle.ipam_records.specs.Sound.{IsBlockCidr, IsName, IsHandleId, IsRecord, IsCountedBelow, IsRow};
-ghost use Rattle.ipam_records.specs.Datastore.{listed};
+ghost use Rattle.ipam_records.specs.Datastore.{rows_of_kind};
 ghost use Rattle.ipam_store.specs.Granted.{HasRoomFor};
 
 use ipam_addr::{Addr, Cidr, Family, cidr, is_name, read_cidr};
@@ -109,7 +109,7 @@ pub fn is_counted(revision: u64, new: &Record) -> bool
 }
 
 fn blocks(store: &Store) -> usize
-    ensures { result ≡ length (listed kind.Block store.now.store) }
+    ensures { result ≡ length (rows_of_kind kind.Block store.now.store) }
 {
     match store.reply(&Call::List(Kind::Block)) {
         Reply::Listed(listing) => listing.len(),

@@ -16,7 +16,7 @@ pub enum RowKind {
 impl RowKind {
     /// The word for the kind.
     #[tactic(auto, unfolding(crate::specs::Kinds::kind_named))]
-    pub fn word(self) -> &'static str
+    pub fn name(self) -> &'static str
         ensures text { result.now ≡ kind_word self }
         ensures reads_back { kind_named (kind_word self) ≡ Some self }
     {
@@ -51,7 +51,7 @@ impl RowKind {
     pub fn has(self, key: &str) -> bool
         ensures { result ≡ is_of_kind self key.now }
     {
-        word_before_slash(key.as_bytes()) == self.word().as_bytes()
+        word_before_slash(key.as_bytes()) == self.name().as_bytes()
     }
 }
 

@@ -1,5 +1,5 @@
 use Rattle.std.proofs.Common.{◌≡◌, ◌∙◌, sym, ap, subst}
-use Rattle.ipam_records.specs.Word.{ended}
+use Rattle.ipam_records.specs.Word.{answer_in}
 use Rattle.ipam_model.specs.declared.outcome.Served.{Served}
 use Rattle.ipam_model.specs.Step.{Part}
 use Rattle.ipam_add.specs.declared.serving.Step.{Step}
@@ -19,5 +19,5 @@ returns-in_default c = record {
   on = λ g left. sym (other_assign g left c.args.step.now c.args.turned c.in_default.not-Assigns);
   asks = λ g left.
       step_goes_on g left c.args.step.now
-      ∙ ap (λ (p : Part Served). ended p) (sym (other_assign g left c.args.step.now c.args.turned c.in_default.not-Assigns));
+      ∙ ap (λ (p : Part Served). answer_in p) (sym (other_assign g left c.args.step.now c.args.turned c.in_default.not-Assigns));
 }

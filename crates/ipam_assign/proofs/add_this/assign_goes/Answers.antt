@@ -1,5 +1,5 @@
 use Rattle.std.proofs.Common.{◌≡◌, ◌∙◌, sym, ap, subst}
-use Rattle.ipam_records.specs.Word.{ended}
+use Rattle.ipam_records.specs.Word.{answer_in}
 use Rattle.ipam_model.specs.declared.outcome.AddThisAnswer.{AddThisAnswer}
 use Rattle.ipam_model.specs.Step.{Part}
 use Rattle.ipam_assign.specs.declared.add_this.Stage.{Stage}
@@ -19,5 +19,5 @@ returns-in_default c = record {
   on = λ g left. sym (other_stage g left c.args.stage.now c.args.turned c.in_default.not-Assigns);
   asks = λ g left.
       stage_goes_on g left c.args.stage.now
-      ∙ ap (λ (p : Part AddThisAnswer). ended (this_at p)) (sym (other_stage g left c.args.stage.now c.args.turned c.in_default.not-Assigns));
+      ∙ ap (λ (p : Part AddThisAnswer). answer_in (this_at p)) (sym (other_stage g left c.args.stage.now c.args.turned c.in_default.not-Assigns));
 }

@@ -3,7 +3,7 @@ use Rattle.ipam_records.specs.declared.key.Key.{Key}
 use Rattle.ipam_records.specs.declared.key.Key.TheVariants as key
 use Rattle.ipam_records.specs.declared.record.Record.TheVariants as record_of
 use Rattle.ipam_records.specs.Key.{key_of}
-use Rattle.ipam_records.specs.KeyRef.{named}
+use Rattle.ipam_records.specs.KeyRef.{owned_key}
 use Rattle.ipam_records.specs.Datastore.{row_of, without_row}
 use Rattle.ipam_records.proofs.DatastoreLemmas.{row_key-row_of}
 use Rattle.ipam_records.proofs.BlockMembers.{IsBlockRow}
@@ -14,12 +14,12 @@ use Rattle.ipam_store.proofs.blocks.forget.Goals as goal
 
 pub returns-in_default-clause-index : goal.returns-in_default-clause-index
 returns-in_default-clause-index c =
-    let k = named c.args.key.now in
+    let k = owned_key c.args.key.now in
     subst (IsIndexOf c.args.index.now) (sym (without_row-none k c.args.rows.now.rows (sym c.in_default.ensures))) c.requires.index
 
 pub returns-in-Block-clause-index : goal.returns-in-Block-clause-index
 returns-in-Block-clause-index c =
-    let k = named c.args.key.now in
+    let k = owned_key c.args.key.now in
     let rows = c.args.rows.now.rows in
     let row = c.in-Some.row.now in
     let block = c.in-Block.block in
@@ -33,6 +33,6 @@ returns-in-Block-clause-index c =
 
 pub returns-in_default-1₀ : goal.returns-in_default-1₀
 returns-in_default-1₀ c =
-    let k = named c.args.key.now in
+    let k = owned_key c.args.key.now in
     let is = All-row_of IsBlockRow k c.args.rows.now.rows c.in-Some.row.now c.requires.blocks.blocks (sym c.in-Some.ensures) in
     absurd (not_block c.in-Some.row.now.1 is c.in_default-1₀.not-Block)

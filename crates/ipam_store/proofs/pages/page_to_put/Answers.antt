@@ -1,6 +1,6 @@
 use Rattle.std.proofs.Common.{◌≡◌, subst, sym, ap, ◌∙◌, length, rules}
 use Rattle.std.specs.Vec.{vec_len}
-use Rattle.ipam_records.specs.KeyRef.{named}
+use Rattle.ipam_records.specs.KeyRef.{owned_key}
 use Rattle.ipam_records.specs.Pages.{rows_of_pages}
 use Rattle.std.proofs.lemmas.List.{nil_from_length}
 use Rattle.ipam_store.specs.Page.{IsPageFor}
@@ -16,6 +16,6 @@ returns-then-is_empty-clause-rows c =
 
 pub find-requires : goal.find-requires
 find-requires c =
-    let page = subst (λ pages. IsPageFor pages (named c.args.key.now) c.page_for-at.result) c.deref.ensures.value c.page_for-at.ensures in
+    let page = subst (λ pages. IsPageFor pages (owned_key c.args.key.now) c.page_for-at.result) c.deref.ensures.value c.page_for-at.ensures in
     let here = Ascend-page c.args.pages.now.items c.requires.ascend c.page_for-at.result c.index-else-len-lt-PAGE_ROWS.result.now page.within in
     rw (c.deref-else-len-lt-PAGE_ROWS.ensures.value, c.index-else-len-lt-PAGE_ROWS.ensures) here

@@ -1,7 +1,7 @@
 use Rattle.std.proofs.Common.{◌≡◌, ◌∙◌, sym, ap, subst, ℕ, List}
 use Rattle.ipam_records.specs.Hearing.{MayHear}
 use Rattle.ipam_records.specs.Said.{said}
-use Rattle.ipam_records.specs.Word.{Ends, heard}
+use Rattle.ipam_records.specs.Word.{Ends, after_reply}
 use Rattle.ipam_choice.specs.Picked.{pick_as}
 use Rattle.ipam_choice.specs.Viewed.{asked_of as viewed}
 use Rattle.ipam_assign.specs.Assigning.{assigning_leaves, assigning_rest}
@@ -25,13 +25,13 @@ returns-in_ok-goes-in-Chosen c =
     ∙ hears_scan g left c.in-Scans.scanning.stage (viewed c.wanted_of-wanted.result) (Ends (c.in-Chosen.scan, pick_as c.in-Chosen.picked))
     c.args.hearing.now.moment (said c.args.hearing.now.reply) c.wanted_of-wanted.ensures
     (ap (scanned_as (viewed c.wanted_of-wanted.result) c.in-Scans.scanning.stage) (sym c.in-Chosen.is) ∙ c.in_ok-learned-in-Scans.ensures.leads)
-    ∙ ap (λ (step : Step). heard (serving_at g left step) c.args.hearing.now.moment (said c.args.hearing.now.reply)) (sym c.in-Scans.is)
+    ∙ ap (λ (step : Step). after_reply (serving_at g left step) c.args.hearing.now.moment (said c.args.hearing.now.reply)) (sym c.in-Scans.is)
 
 pub returns-in_ok-took-in-Claims : goal.returns-in_ok-took-in-Claims
 returns-in_ok-took-in-Claims c =
     let g = going c.args.request.now c.args.self.now in
     subst (λ (step : Step). claims_leaves g c.args.self.now.left step c.in_ok-took-in-Claims.field-0
-    ≡ heard (serving_at g c.args.self.now.left step) c.args.hearing.now.moment (said c.args.hearing.now.reply))
+    ≡ after_reply (serving_at g c.args.self.now.left step) c.args.hearing.now.moment (said c.args.hearing.now.reply))
     (sym c.in-Claims.is)
     (hears_claim g c.args.self.now.left c.in-Claims.claim c.in_ok-took-in-Claims.field-0
     c.args.hearing.now.moment (said c.args.hearing.now.reply) c.in_ok-took-in-Claims.ensures.leaves)
@@ -40,10 +40,10 @@ pub returns-in_ok-took-in-Assigns : goal.returns-in_ok-took-in-Assigns
 returns-in_ok-took-in-Assigns c =
     let g = going c.args.request.now c.args.self.now in
     subst (λ (step : Step). assigns_leaves g c.args.self.now.left step c.in_ok-took-in-Assigns.field-0
-    ≡ heard (serving_at g c.args.self.now.left step) c.args.hearing.now.moment (said c.args.hearing.now.reply))
+    ≡ after_reply (serving_at g c.args.self.now.left step) c.args.hearing.now.moment (said c.args.hearing.now.reply))
     (sym c.in-Assigns.is)
     (hears_assign g c.args.self.now.left c.in-Assigns.field-0 c.in-Assigns.assigning c.in_ok-took-in-Assigns.field-0
     c.args.hearing.now.moment (said c.args.hearing.now.reply)
     (subst (λ (id : List ℕ). assigning_leaves id c.in-Assigns.assigning c.in_ok-took-in-Assigns.field-0
-    ≡ heard (assigning_rest id c.in-Assigns.assigning) c.args.hearing.now.moment (said c.args.hearing.now.reply))
+    ≡ after_reply (assigning_rest id c.in-Assigns.assigning) c.args.hearing.now.moment (said c.args.hearing.now.reply))
     c.as_str-id.ensures c.in_ok-took-in-Assigns.ensures))

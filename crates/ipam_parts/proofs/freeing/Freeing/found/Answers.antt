@@ -1,4 +1,4 @@
-use Rattle.ipam_block.specs.Operations.{freed}
+use Rattle.ipam_block.specs.Operations.{block_without}
 use Rattle.ipam_block.specs.Shape.{BlockValue}
 use Rattle.ipam_parts.proofs.FreeingLemmas.{frees_some}
 use Rattle.ipam_parts.specs.Freeing.{picked}
@@ -14,5 +14,5 @@ returns c =
     ∙ ap (λ (b : BlockValue). count_by (picked c.args.id.now c.args.self.now.picks) b.allocations) c.in_ok-block.ensures)
     c.if-count-eq0.false
     (c.of-freed.ensures.block ∙ c.freed_in-count.ensures.freed
-    ∙ ap (freed (picked c.args.id.now c.args.self.now.picks)) c.in_ok-block.ensures)
+    ∙ ap (block_without (picked c.args.id.now c.args.self.now.picks)) c.in_ok-block.ensures)
     c.of-freed.ensures.revision c.of-freed.ensures.amount
