@@ -4,8 +4,8 @@
 mod running;
 mod statuses;
 
-pub use running::run_command;
-pub use statuses::{
+pub use ipam_commands::{
     BROKEN_ROWS, DONE, KEEPER_FAULT, LINE_REFUSED, NO_MEMORY, READ_FAULT, REFUSED, UNKNOWN_WORDS,
     WRITE_FAULT,
 };
+pub use running::run_command;

@@ -3,10 +3,10 @@ ghost use Rattle.std.specs.Prelude.{◌≡◌, Some, map, string_bytes};
 ghost use Rattle.ipam_words.specs.Words.{asked_by, command_named};
 ghost use Rattle.ipam_command.specs.Commands.{Does, IsSound, TellsUnknown};
 
-use crate::statuses::{UNKNOWN_WORDS, WRITE_FAULT, code_of_gen, code_of_play};
+use crate::statuses::{code_of_gen, code_of_play};
 use ipam_apply::apply;
 use ipam_cni::cni;
-use ipam_commands::{get, release, routes};
+use ipam_commands::{UNKNOWN_WORDS, WRITE_FAULT, get, release, routes};
 use ipam_gen::generate;
 use ipam_io::{Sink, Source};
 use ipam_keeper::Keeper;

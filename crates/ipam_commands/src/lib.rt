@@ -13,5 +13,8 @@ pub use getting::get;
 pub use outcome::ReleaseOutcome;
 pub use releasing::release;
 pub use routing::routes;
-pub use status::Status;
+pub use status::{
+    BROKEN_ROWS, DONE, KEEPER_FAULT, LINE_REFUSED, NO_MEMORY, READ_FAULT, REFUSED, Status,
+    UNKNOWN_WORDS, WRITE_FAULT,
+};
 pub use telling::{tell, tell_fault, tell_made};

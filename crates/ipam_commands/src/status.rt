@@ -1,6 +1,25 @@
 //! How commands end.
 ghost use Rattle.std.specs.Prelude.{◌≡◌};
 
+/// All was done, and the source was read to its end where the command reads it.
+pub const DONE: u8 = 0;
+/// What was asked was refused.
+pub const REFUSED: u8 = 1;
+/// The words name no command.
+pub const UNKNOWN_WORDS: u8 = 2;
+/// The source failed.
+pub const READ_FAULT: u8 = 3;
+/// The sink failed.
+pub const WRITE_FAULT: u8 = 4;
+/// The keeper failed.
+pub const KEEPER_FAULT: u8 = 5;
+/// There was no memory.
+pub const NO_MEMORY: u8 = 6;
+/// The rows break a rule for rows that are opened.
+pub const BROKEN_ROWS: u8 = 7;
+/// A line of the script is refused.
+pub const LINE_REFUSED: u8 = 8;
+
 /// How a command ended.
 #[derive(Clone, Copy, Debug, PartialEq, Eq)]
 pub enum Status {
@@ -32,15 +51,15 @@ impl Status {
         ensures { result ≡ code_of self }
     {
         match self {
-            Status::Done => 0,
-            Status::Refused => 1,
-            Status::UnknownWords => 2,
-            Status::ReadFault => 3,
-            Status::WriteFault => 4,
-            Status::KeeperFault => 5,
-            Status::NoMemory => 6,
-            Status::BrokenRows => 7,
-            Status::LineRefused => 8,
+            Status::Done => DONE,
+            Status::Refused => REFUSED,
+            Status::UnknownWords => UNKNOWN_WORDS,
+            Status::ReadFault => READ_FAULT,
+            Status::WriteFault => WRITE_FAULT,
+            Status::KeeperFault => KEEPER_FAULT,
+            Status::NoMemory => NO_MEMORY,
+            Status::BrokenRows => BROKEN_ROWS,
+            Status::LineRefused => LINE_REFUSED,
         }
     }
 }
