@@ -6,7 +6,7 @@ use Rattle.serde_json.specs.Read.{read}
 use Rattle.std.specs.Str.{is_utf8}
 use Rattle.ipam_pool.specs.declared.pools.Pool.{Pool as OnePool}
 use Rattle.ipam_record_text.specs.declared.config.Config.{Config as Settings}
-use Rattle.ipam_json.specs.Members.{◌>>=◌, only_if, truth_at, text_at, items_at}
+use Rattle.ipam_json.specs.Members.{◌>>=◌, only_if, only_member, truth_at, text_at, items_at}
 use Rattle.ipam_record_text.specs.Reservations.{cidrs_after, named_cidrs}
 use Rattle.ipam_model.specs.declared.request.AddRequest.{AddRequest}
 use Rattle.ipam_model.specs.declared.request.Admin.TheVariants as change

@@ -50,7 +50,7 @@ pub(crate) fn required_name(json: &Value, member: Member) -> Result<&str, Member
 pub(crate) fn required_cidr(json: &Value, member: Member) -> Result<Cidr, Member>
     ensures { result ≡ required cidr_in member (view json.now) }
 {
-    match found_at(json, member).and_then(cidr_in) {
+    match found_at(json, member).and_then(|value| cidr_in(value)) {
         Some(cidr) => Ok(cidr),
         None => Err(member),
     }
