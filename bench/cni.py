@@ -1,13 +1,15 @@
 #!/usr/bin/env python3
-"""Times ADD and DEL as processes, beside host-local's on the same disk, with so many addresses held.
+"""Times ADD and DEL as processes, by the plugin and by the client of a daemon, beside host-local's on the same
+disk, with so many addresses held.
 
     bench/cni.py PROGRAM HOST_LOCAL [HELD..]
 
-Both keep their state in a temporary folder. Prints medians in milliseconds over 40 calls of each.
+All keep their state in a temporary folder. Prints medians in milliseconds over 40 calls of each.
 """
 import json
 import os
 import shutil
+import socket
 import sqlite3
 import statistics
 import subprocess
@@ -17,6 +19,8 @@ import time
 
 CALLS = 40
 NETWORK, NODE = "bench", "node-a"
+DAEMON = "127.0.0.1:9435"
+PATIENCE = 30
 
 
 def text(value):
@@ -61,7 +65,7 @@ def fill_files(folder, held):
 
 def timed(command, configuration, environment):
     start = time.perf_counter()
-    ran = subprocess.run([command], input=configuration, env=environment, capture_output=True)
+    ran = subprocess.run(command, input=configuration, env=environment, capture_output=True)
     if ran.returncode:
         sys.exit(f"{command}: {ran.stdout.decode()} {ran.stderr.decode()}")
     return (time.perf_counter() - start) * 1000
@@ -77,9 +81,35 @@ def medians(command, configuration, environment):
     return told
 
 
+def wait_for(daemon):
+    """Waits until the daemon listens."""
+    end = time.monotonic() + PATIENCE
+    host, port = DAEMON.split(":")
+    while True:
+        try:
+            socket.create_connection((host, int(port))).close()
+            return
+        except ConnectionRefusedError:
+            if daemon.poll() is not None or time.monotonic() > end:
+                sys.exit("the daemon does not listen")
+            time.sleep(0.05)
+
+
+def by_daemon(program, configuration, environment):
+    """The medians by the client of a daemon that has the file."""
+    quiet = {"stdout": subprocess.DEVNULL, "stderr": subprocess.DEVNULL}
+    daemon = subprocess.Popen([program, "serve", DAEMON, "4"], env=environment, **quiet)
+    try:
+        wait_for(daemon)
+        return medians([program, "call", DAEMON], configuration, environment)
+    finally:
+        daemon.kill()
+        daemon.wait()
+
+
 def main():
     program, local = sys.argv[1:3]
-    print(f"{'held':>8}{'ADD ms':>10}{'host-local':>12}{'DEL ms':>10}{'host-local':>12}")
+    print(f"{'held':>8}{'ADD ms':>10}{'call':>8}{'host-local':>12}{'DEL ms':>10}{'call':>8}{'host-local':>12}")
     for held in [int(one) for one in sys.argv[3:]] or [0, 1000, 10000]:
         folder = tempfile.mkdtemp()
         try:
@@ -89,9 +119,13 @@ def main():
             own = {"cniVersion": "1.0.0", "name": NETWORK, "type": "calico", "nodename": NODE, "ipam": {"type": "calico-ipam"}}
             other = {"cniVersion": "1.0.0", "name": NETWORK, "type": "ptp", "ipam": {
                 "type": "host-local", "dataDir": f"{folder}/files", "ranges": [[{"subnet": "10.1.0.0/16"}]]}}
-            ours = medians(program, json.dumps(own).encode(), environment)
-            theirs = medians(local, json.dumps(other).encode(), environment)
-            print(f"{held:>8}{ours['ADD']:>10.1f}{theirs['ADD']:>12.1f}{ours['DEL']:>10.1f}{theirs['DEL']:>12.1f}", flush=True)
+            ours = medians([program], json.dumps(own).encode(), environment)
+            called = by_daemon(program, json.dumps(own).encode(), environment)
+            theirs = medians([local], json.dumps(other).encode(), environment)
+            print(f"{held:>8}", end="")
+            for word in ("ADD", "DEL"):
+                print(f"{ours[word]:>10.1f}{called[word]:>8.1f}{theirs[word]:>12.1f}", end="")
+            print(flush=True)
         finally:
             shutil.rmtree(folder)
 

@@ -1,5 +1,6 @@
 #!/usr/bin/env bash
-# Times CNI ADD and DEL as processes beside host-local's, of Debian's package containernetworking-plugins.
+# Times CNI ADD and DEL as processes, by the plugin and by a daemon's client, beside host-local's, of Debian's
+# package containernetworking-plugins.
 set -eu
 top=$(cd "$(dirname "$0")/.." && pwd)
 local=${HOST_LOCAL:-/usr/lib/cni/host-local}
