@@ -9,7 +9,6 @@ All keep their state in a temporary folder. Prints medians in milliseconds over 
 import json
 import os
 import shutil
-import socket
 import sqlite3
 import statistics
 import subprocess
@@ -17,10 +16,11 @@ import sys
 import tempfile
 import time
 
+from daemon_client import connect
+
 CALLS = 40
 NETWORK, NODE = "bench", "node-a"
 DAEMON = "127.0.0.1:9435"
-PATIENCE = 30
 
 
 def text(value):
@@ -81,26 +81,12 @@ def medians(command, configuration, environment):
     return told
 
 
-def wait_for(daemon):
-    """Waits until the daemon listens."""
-    end = time.monotonic() + PATIENCE
-    host, port = DAEMON.split(":")
-    while True:
-        try:
-            socket.create_connection((host, int(port))).close()
-            return
-        except ConnectionRefusedError:
-            if daemon.poll() is not None or time.monotonic() > end:
-                sys.exit("the daemon does not listen")
-            time.sleep(0.05)
-
-
 def by_daemon(program, configuration, environment):
     """The medians by the client of a daemon that has the file."""
     quiet = {"stdout": subprocess.DEVNULL, "stderr": subprocess.DEVNULL}
     daemon = subprocess.Popen([program, "serve", DAEMON, "4"], env=environment, **quiet)
     try:
-        wait_for(daemon)
+        connect(int(DAEMON.split(":")[1])).close()
         return medians([program, "call", DAEMON], configuration, environment)
     finally:
         daemon.kill()
