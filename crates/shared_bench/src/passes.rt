@@ -4,7 +4,6 @@ ghost use Rattle.ipam_model.specs.SoundRequest.{IsSoundRequest};
 
 use crate::asks;
 use crate::threads::{Taken, Takes, spread};
-use ipam_keeper::MemoryKeeper;
 use ipam_model::Request;
 use ipam_shared::{Keeper, Pass, Shared};
 use std::alloc::Global;
@@ -39,10 +38,12 @@ fn share<D: Keeper + Drop>(alloc: Global, keeper: D) -> Option<(Shared<D>, Pass)
     }
 }
 
-fn take_all<R: Threads + Wait + Sync>(
+// Over any keeper that may cross threads: of the one in memory this would be searched for through all of
+// its parts.
+fn take_all<R: Threads + Wait + Sync, D: Keeper + Send>(
     rt: &R,
     alloc: Global,
-    shared: &Shared<MemoryKeeper>,
+    shared: &Shared<D>,
     pass: Pass,
     others: u32,
     turns: u32,
@@ -52,7 +53,7 @@ fn take_all<R: Threads + Wait + Sync>(
     spread(rt, alloc, shared, pass, others, turns)
 }
 
-impl Takes for Shared<MemoryKeeper> {
+impl<D: Keeper> Takes for Shared<D> {
     ghost id = { λ shared. shared };
 
     fn split_off(&self, pass: &mut Pass) -> Option<Pass> {
@@ -68,10 +69,10 @@ impl Takes for Shared<MemoryKeeper> {
     }
 }
 
-fn take<R: Wait>(
+fn take<R: Wait, D: Keeper>(
     rt: &R,
     alloc: Global,
-    shared: &Shared<MemoryKeeper>,
+    shared: &Shared<D>,
     mut pass: Pass,
     add: &Request,
     del: &Request,
@@ -94,10 +95,10 @@ fn take<R: Wait>(
 
 /// Takes the next turn of what runs in the pass's slot, or begins one of the two requests where nothing
 /// does, and says whether it could.
-fn go_on<R: Wait>(
+fn go_on<R: Wait, D: Keeper>(
     rt: &R,
     alloc: Global,
-    shared: &Shared<MemoryKeeper>,
+    shared: &Shared<D>,
     pass: &mut Pass,
     add: &Request,
     del: &Request,
