@@ -55,14 +55,14 @@ small_some text (Ok q) r e h =
     let P : CidrValue → Type 0 = λ x. IsCidr x × (cidr_size x ≤ ADDRESSES_MAX) in
     subst P parts.1 (spelled.sound, leb-true _ _ parts.0)
 
-pub cidr_said : (d : Data) (r : CidrValue) → cidr_in d ≡ Some r → IsCidr r × (cidr_size r ≤ ADDRESSES_MAX)
+pub cidr_sound : (d : Data) (r : CidrValue) → cidr_in d ≡ Some r → IsCidr r × (cidr_size r ≤ ADDRESSES_MAX)
 unfolding cidr_in
-cidr_said d r e =
+cidr_sound d r e =
     let read = and_then_some (λ text. small_cidr (cidr_reading text)) (text_at (codes "cidr") d) r e in
     small_some read.0 (cidr_reading read.0) r refl read.2
 
 pub small_said : (d : Data) (p : Parts) → parts_in d ≡ Some p → cidr_size p.cidr ≤ ADDRESSES_MAX
-small_said d p e = (cidr_said d p.cidr (parts_said d p e).cidr).1
+small_said d p e = (cidr_sound d p.cidr (parts_said d p e).cidr).1
 
 -- ---- the stamps
 

@@ -7,6 +7,7 @@ use Rattle.std.proofs.lemmas.Slice.Eq.{bytes_eq-Decides}
 use Rattle.serde_json.specs.Data.{Data, null, boolean, number, string, array, object}
 use Rattle.serde_json.specs.Find.{get}
 use Rattle.ipam_addr.specs.Shape.{CidrValue}
+use Rattle.ipam_addr.specs.Width.{IsCidr}
 use Rattle.ipam_addr.specs.Names.{is_name_text, is_handle_text}
 use Rattle.ipam_json.proofs.Held.{held-was}
 use Rattle.ipam_json.specs.Path.{as_whole}
@@ -21,11 +22,11 @@ use Rattle.ipam_block_text.specs.declared.fault.BodyFault.TheVariants.{Unsound}
 use Rattle.ipam_block_text.specs.declared.parts.Parts.{Parts}
 use Rattle.ipam_block_text.specs.Limits.{is_node_or_none, are_pairs, are_attributes}
 use Rattle.ipam_block_text.specs.Body.{block_body}
-use Rattle.ipam_block_text.specs.Reading.{each, only_if, pair_in, node_in, affinity_in, node_named, after_host, all_attributes_in, attributes_in, handle_in, secondary_in, sequence_in, stamp_of, allocation_at, held_from, block_in, checked, reading_from, form_in, form_text, block_form, block_reading, parts_in, stamps_in}
+use Rattle.ipam_block_text.specs.Reading.{each, only_if, pair_in, node_in, affinity_in, node_named, after_host, all_attributes_in, attributes_in, handle_in, secondary_in, sequence_in, stamp_of, allocation_at, held_from, block_in, checked, reading_from, form_in, form_text, block_form, cidr_said, block_reading, parts_in, stamps_in}
 use Rattle.ipam_json.specs.Members.{text_at, list_at, fields_at}
 use Rattle.ipam_block_text.proofs.Limited.{IsLimited, kept}
 use Rattle.ipam_block_text.proofs.Options.{some_same, and_then_some, map_some, passed_some}
-use Rattle.ipam_block_text.proofs.Said.{Says, parts_said, cidr_said}
+use Rattle.ipam_block_text.proofs.Said.{Says, parts_said, cidr_sound}
 
 -- ---- the texts
 
@@ -137,7 +138,7 @@ block_sound d p stamps b says e =
     let inner = if_some _ _ b e in
     let tested = passed_some is_block (option_map (λ held. content_of p.cidr p.node held p.queue p.sequence) (held_from p.attributes stamps 0 p.places)) b inner in
     let made = map_some (λ held. content_of p.cidr p.node held p.queue p.sequence) (held_from p.attributes stamps 0 p.places) b tested.0 in
-    let range = cidr_said d p.cidr says.cidr in
+    let range = cidr_sound d p.cidr says.cidr in
     let content = content_of p.cidr p.node made.0 p.queue p.sequence in
     let passed : is_block content ≡ true = ap is_block made.2 ∙ tested.1 in
     subst IsLimited made.2 (record {
@@ -155,6 +156,13 @@ form_said body f e =
     let parts = and_then_some (λ parts. option_map (λ stamps. (parts, stamps)) (stamps_in was.json)) (parts_in was.json) f was.was_found in
     let stamps = map_some (λ stamps. (parts.0, stamps)) (stamps_in was.json) f parts.2 in
     (was.json, subst (λ (x : Parts × Data). Says was.json x.0) stamps.2 (parts_said was.json parts.0 parts.1))
+
+-- the CIDR that a text says is one
+pub cidr_said-sound : (body : List ℕ) (cidr : CidrValue) → cidr_said body ≡ Some cidr → IsCidr cidr
+cidr_said-sound body cidr e =
+    let (form, found, same) = map_some (λ f. f.0.cidr) (block_form body) cidr e in
+    let (d, says) = form_said body form found in
+    subst IsCidr same (cidr_sound d form.0.cidr says.cidr).0
 
 ok_same : (x y : BlockValue) → ◌≡◌ {A = Result BlockValue BodyFault} (Ok x) (Ok y) → x ≡ y
 ok_same x y e = cc

@@ -155,13 +155,12 @@ IsTextOf-key_read text key e = elim (cases_Bool (bytes_eq text (codes "config"))
   ]
 ]
 
-pub IsTextOf-when : {E : Type 0} (text : List ℕ) (r : Result (Option Key) E) → IfOk r (λ found. found ≡ key_read text) → IfOk r (λ found. (key : Key) → (found ≡ Some key) ↔ IsTextOf text key)
-IsTextOf-when text (Ok found) same =
-    λ key. (λ e. IsTextOf-key_read text key (sym same ∙ e), λ h. same ∙ (ap key_read (sym h.spelled) ∙ key_read-key_bytes key h.sound))
-IsTextOf-when text (Err e) same = tt
+pub IsTextOf-when : (text : List ℕ) (found : Option Key) → found ≡ key_read text → (key : Key) → (found ≡ Some key) ↔ IsTextOf text key
+IsTextOf-when text found same key =
+    (λ e. IsTextOf-key_read text key (sym same ∙ e), λ h. same ∙ (ap key_read (sym h.spelled) ∙ key_read-key_bytes key h.sound))
 
-pub IfOk-along : {E : Type 0} (r : Result (Option Key) E) (x y : Option Key) → x ≡ y → IfOk r (λ found. found ≡ x) → IfOk r (λ found. found ≡ y)
-IfOk-along r x y same h = subst (λ (z : Option Key). IfOk r (λ found. found ≡ z)) same h
+pub IfOk-along : {A E : Type 0} (f : A → Option Key) (r : Result A E) (x y : Option Key) → x ≡ y → IfOk r (λ found. f found ≡ x) → IfOk r (λ found. f found ≡ y)
+IfOk-along f r x y same h = subst (λ (z : Option Key). IfOk r (λ found. f found ≡ z)) same h
 
 pub affinity_read-at : (text : List ℕ) (i : ℕ) → position is_slash text ≡ Some i → affinity_read text ≡ affinity_of_parts (take i text) (drop (i + 1) text)
 affinity_read-at text i e =

@@ -1,8 +1,10 @@
 -- Records and their texts.
-use Rattle.std.proofs.Common.{◌≡◌, ◌≢◌, ℕ, Bool, true, false, List, Option, Some, None, Result, Ok, Err, IfOk, IfErr, bytes_eq, cond, inl, inr, refl, sym, ap, ◌∙◌, subst, arith}
+use Rattle.std.proofs.Common.{◌≡◌, ◌≢◌, ℕ, Bool, true, false, List, Option, Some, None, option_map, Result, Ok, Err, IfOk, IfErr, bytes_eq, cond, inl, inr, refl, sym, ap, ◌∙◌, subst, arith}
 use Rattle.std.specs.Option.{ok_or}
+use Rattle.std.proofs.lemmas.Bool.{cases_Bool}
 use Rattle.std.proofs.lemmas.Slice.Eq.{bytes_eq-Decides}
 use Rattle.ipam_addr.specs.Shape.{CidrValue}
+use Rattle.ipam_addr.specs.Width.{IsCidr}
 use Rattle.ipam_block.specs.Shape as block
 use Rattle.ipam_block_text.specs.declared.fault.BodyFault as block_fault
 use Rattle.ipam_block_text.specs.declared.fault.BodyFault.TheVariants as in_block
@@ -25,15 +27,17 @@ use Rattle.ipam_records.specs.declared.fault.TextFault.{TextFault}
 use Rattle.ipam_records.specs.declared.fault.TextFault.TheVariants as fault
 use Rattle.ipam_records.specs.declared.key.Key.{Key}
 use Rattle.ipam_records.specs.declared.key.Key.TheVariants as key_of_kind
+use Rattle.ipam_records.specs.declared.key_ref.KeyRef.{KeyRef}
 use Rattle.ipam_records.specs.declared.record.Record.{Record}
 use Rattle.ipam_records.specs.declared.record.Record.TheVariants.{Config, Pools, Reservations, Block, Affinity, Handle}
 use Rattle.ipam_records.specs.Key.{key_of}
 use Rattle.ipam_records.specs.KeyOrder.{key_rank}
+use Rattle.ipam_records.specs.KeyRef.{owned_key}
 use Rattle.ipam_records.specs.KeyText.{key_bytes, key_read, IsKey}
 use Rattle.ipam_records.specs.Body.{body_of}
 use Rattle.ipam_records.specs.RecordReading.{fault_of_body, unsound_fault, fault_of_block, if_key, keyed, keyed_block, reading_of_kind, reading_at, record_reading, SaysAnotherKey, SaysBlock}
 use Rattle.ipam_records.specs.Sound.{IsRecord}
-use Rattle.ipam_records.proofs.KeyTextLemmas.{key_read-key_bytes}
+use Rattle.ipam_records.proofs.KeyTextLemmas.{key_read-key_bytes, key_bytes_injective, IsTextOf-key_read}
 
 text_is : (xs ys : List ℕ) → bytes_eq xs ys ≡ true → xs ≡ ys
 text_is xs ys e = (bytes_eq-Decides xs ys).0 e
@@ -255,13 +259,8 @@ fault_told key body e refused = go (key_read key) refused
 -- ---- what the readers of bodies tell
 
 module _ {A : Type 0} (make : A → Record) (key : List ℕ) (read told : Result A BodyFault) (same : told ≢ Err in_body.Memory → read ≡ told) where
-  pub keyed-read : (v : A) (r : Result Record TextFault) → told ≡ Ok v → IfOk r (λ kept. if_key key (make v) ≡ Ok kept) → IfOk r (λ kept. keyed make key read ≡ Ok kept)
-  keyed-read v (Ok kept) is found = ap (keyed make key) (same (λ k. cc) ∙ is) ∙ found
-  keyed-read v (Err e) is found = tt
-
-  pub keyed-refused : (v : A) (r : Result Record TextFault) → told ≡ Ok v → IfErr r (λ e. e ≢ fault.Memory → if_key key (make v) ≡ Err e) → IfErr r (λ e. e ≢ fault.Memory → keyed make key read ≡ Err e)
-  keyed-refused v (Ok kept) is refused = tt
-  keyed-refused v (Err e) is refused = λ other. ap (keyed make key) (same (λ k. cc) ∙ is) ∙ refused other
+  pub keyed-told : (v : A) (r : Result Record TextFault) → told ≡ Ok v → r ≡ if_key key (make v) → keyed make key read ≡ r
+  keyed-told v r is found = ap (keyed make key) (same (λ k. cc) ∙ is) ∙ sym found
 
   pub keyed-fault : (f : BodyFault) (e : TextFault) → told ≡ Err f → e ≡ fault_of_body f → e ≢ fault.Memory → keyed make key read ≡ Err e
   keyed-fault f e is names other =
@@ -271,17 +270,64 @@ module _ {A : Type 0} (make : A → Record) (key : List ℕ) (read told : Result
       ap (keyed make key) (same some ∙ is) ∙ ap Err (sym names)
 
 module _ (key : List ℕ) (read told : Result block.BlockValue block_fault.BodyFault) (same : told ≢ Err in_block.Memory → read ≡ told) where
-  pub block-read : (b : block.BlockValue) (r : Result Record TextFault) → told ≡ Ok b → IfOk r (λ kept. if_key key (Block b) ≡ Ok kept) → IfOk r (λ kept. keyed_block key read ≡ Ok kept)
-  block-read b (Ok kept) is found = ap (keyed_block key) (same (λ k. cc) ∙ is) ∙ found
-  block-read b (Err e) is found = tt
+  pub block-told : (b : block.BlockValue) (r : Result Record TextFault) → told ≡ Ok b → r ≡ if_key key (Block b) → keyed_block key read ≡ r
+  block-told b r is found = ap (keyed_block key) (same (λ k. cc) ∙ is) ∙ sym found
 
-  pub block-refused : (b : block.BlockValue) (r : Result Record TextFault) → told ≡ Ok b → IfErr r (λ e. e ≢ fault.Memory → if_key key (Block b) ≡ Err e) → IfErr r (λ e. e ≢ fault.Memory → keyed_block key read ≡ Err e)
-  block-refused b (Ok kept) is refused = tt
-  block-refused b (Err e) is refused = λ other. ap (keyed_block key) (same (λ k. cc) ∙ is) ∙ refused other
-
-  pub block-fault : (f : block_fault.BodyFault) (e : TextFault) → told ≡ Err f → (e ≢ fault.Memory → e ≡ fault_of_block key f) → e ≢ fault.Memory → keyed_block key read ≡ Err e
+  pub block-fault : (f : block_fault.BodyFault) (e : TextFault) → told ≡ Err f → e ≡ fault_of_block key f → e ≢ fault.Memory → keyed_block key read ≡ Err e
   block-fault f e is names other =
       let some : told ≢ Err in_block.Memory = λ k.
       let memory : f ≡ in_block.Memory = cc in
-      other (names other ∙ ap (fault_of_block key) memory) in
-      ap (keyed_block key) (same some ∙ is) ∙ ap Err (sym (names other))
+      other (names ∙ ap (fault_of_block key) memory) in
+      ap (keyed_block key) (same some ∙ is) ∙ ap Err (sym names)
+
+pub record-ok : (x r : Result Record TextFault) → x ≡ r → IfOk r (λ found. x ≡ Ok found)
+record-ok x (Ok found) e = e
+record-ok x (Err f) e = tt
+
+pub record-err : (x r : Result Record TextFault) → x ≡ r → IfErr r (λ e. e ≢ fault.Memory → x ≡ Err e)
+record-err x (Ok found) e = tt
+record-err x (Err f) e = λ other. e
+
+-- ---- keys that are compared, and their texts
+
+-- the texts of two sound keys are one where the keys are
+pub texts_of_one_key : (own named : Key) → named ≡ own → bytes_eq (key_bytes own) (key_bytes named) ≡ true
+texts_of_one_key own named same = (bytes_eq-Decides (key_bytes own) (key_bytes named)).1 (ap key_bytes (sym same))
+
+pub texts_of_two_keys : (own named : Key) → IsKey own → IsKey named → named ≢ own → bytes_eq (key_bytes own) (key_bytes named) ≡ false
+texts_of_two_keys own named h k other = elim (cases_Bool (bytes_eq (key_bytes own) (key_bytes named))) [
+  | inl one ↦ absurd (other (sym (key_bytes_injective own named h k (text_is _ _ one))))
+  | inr two ↦ two
+]
+
+pub kept_by_key : (named : Key) (r : Record) → named ≡ key_of r → if_key (key_bytes named) r ≡ Ok r
+kept_by_key named r same = ap (λ t. cond t (Ok r) (Err fault.Key)) (texts_of_one_key (key_of r) named same)
+
+pub refused_by_key : (named : Key) (r : Record) → IsKey named → IsRecord r → named ≢ key_of r → if_key (key_bytes named) r ≡ Err fault.Key
+refused_by_key named r h is other = ap (λ t. cond t (Ok r) (Err fault.Key)) (texts_of_two_keys (key_of r) named (IsKey-key_of r is) h other)
+
+pub unsound_by_key : (named : Key) (cidr : CidrValue) → named ≡ key_of_kind.Block cidr → unsound_fault (key_bytes named) cidr ≡ fault.Unsound
+unsound_by_key named cidr same = ap (λ t. cond t fault.Unsound fault.Key) (texts_of_one_key (key_of_kind.Block cidr) named same)
+
+pub another_by_key : (named : Key) (cidr : CidrValue) → IsKey named → IsCidr cidr → named ≢ key_of_kind.Block cidr → unsound_fault (key_bytes named) cidr ≡ fault.Key
+another_by_key named cidr h is other = ap (λ t. cond t fault.Unsound fault.Key) (texts_of_two_keys (key_of_kind.Block cidr) named is h other)
+
+-- what is read with a key that was read is what is read with its text
+pub reading_named : (key body : List ℕ) (named : Key) → key_read key ≡ Some named → record_reading key body ≡ reading_of_kind named (key_bytes named) body
+unfolding record_reading
+reading_named key body named read =
+    ap (λ o. reading_at o key body) read ∙ ap (λ k. reading_of_kind named k body) (sym (IsTextOf-key_read key named read).spelled)
+
+pub named_read : {E : Type 0} (r : Result (Option KeyRef) E) (named : KeyRef) (text key : List ℕ) → r ≡ Ok (Some named) → IfOk r (λ found. option_map owned_key found ≡ key_read text) → text ≡ key → key_read key ≡ Some (owned_key named)
+named_read r named text key is read same =
+    let found = subst (λ r. IfOk r (λ found. option_map owned_key found ≡ key_read text)) is read in
+    ap key_read (sym same) ∙ sym found
+
+module _ (x y : Result Record TextFault) (same : x ≡ y) where
+  pub read_along : (r : Result Record TextFault) → IfOk r (λ found. y ≡ Ok found) → IfOk r (λ found. x ≡ Ok found)
+  read_along (Ok found) read = same ∙ read
+  read_along (Err e) read = tt
+
+  pub refused_along : (r : Result Record TextFault) → IfErr r (λ e. e ≢ fault.Memory → y ≡ Err e) → IfErr r (λ e. e ≢ fault.Memory → x ≡ Err e)
+  refused_along (Ok found) refused = tt
+  refused_along (Err e) refused = λ other. same ∙ refused other

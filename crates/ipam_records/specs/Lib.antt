@@ -1,9 +1,9 @@
 -- Keys, records, their texts, the datastore's calls, and the words of procedures.
 pub mod Key
+pub mod KeyText
 pub mod KeyRef
 pub mod KeyOrder
 pub mod KeyOrderLaws
-pub mod KeyText
 pub mod Pages
 pub mod Places
 pub mod BlockLists

@@ -1,4 +1,4 @@
-ghost use Rattle.std.specs.Prelude.{◌≡◌, ◌↔◌, IsTrue};
+ghost use Rattle.std.specs.Prelude.{◌≡◌, ◌↔◌, IfOk, IsTrue};
 ghost use Rattle.ipam_records.specs.Key.{key_of};
 ghost use Rattle.ipam_records.specs.KeyOrder.{key_cmp, key_rank, key_name, key_block};
 ghost use Rattle.ipam_records.specs.KeyRef.{owned_key};
@@ -6,6 +6,8 @@ ghost use Rattle.ipam_records.specs.KeyRef.{owned_key};
 use crate::key::Key;
 use crate::record::Record;
 use ipam_addr::Cidr;
+use ipam_text::Text;
+use std::alloc::{AllocError, Global};
 use std::cmp::Ordering;
 
 /// A key that borrows its texts, so that making one takes no memory.
@@ -48,6 +50,20 @@ impl<'a> KeyRef<'a> {
             Record::Block(block) => KeyRef::Block(block.cidr()),
             Record::Affinity(affinity) => KeyRef::Affinity(affinity.node.as_str(), affinity.cidr),
             Record::Handle(handle) => KeyRef::Handle(handle.id()),
+        }
+    }
+
+    /// A copy that owns its texts.
+    pub fn to_key(&self, alloc: Global) -> Result<Key, AllocError>
+        ensures { IfOk result (λ key. key ≡ owned_key self.now) }
+    {
+        match self {
+            KeyRef::Config => Ok(Key::Config),
+            KeyRef::Pools => Ok(Key::Pools),
+            KeyRef::Reservations => Ok(Key::Reservations),
+            KeyRef::Block(cidr) => Ok(Key::Block(*cidr)),
+            KeyRef::Affinity(node, cidr) => Ok(Key::Affinity(Text::copied(alloc, node)?, *cidr)),
+            KeyRef::Handle(id) => Ok(Key::Handle(Text::copied(alloc, id)?)),
         }
     }
 

@@ -1,13 +1,14 @@
 ghost use Rattle.std.specs.Prelude.{◌≡◌, IfOk};
 
 use crate::key::Key;
+use crate::key_ref::KeyRef;
 use ipam_affinity::Affinity;
 use ipam_block::Block;
 use ipam_handle::Handle;
 use ipam_pool::PoolTable;
 use ipam_record_text::Config;
 use ipam_reserve::Reservation;
-use ipam_text::{Seq, Text};
+use ipam_text::Seq;
 use std::alloc::{AllocError, Global};
 
 /// What the datastore keeps under a key.
@@ -28,16 +29,7 @@ impl Record {
     pub fn key(&self, alloc: Global) -> Result<Key, AllocError>
         ensures { IfOk result (λ key. key ≡ key_of self.now) }
     {
-        match self {
-            Record::Config(_) => Ok(Key::Config),
-            Record::Pools(_) => Ok(Key::Pools),
-            Record::Reservations(_) => Ok(Key::Reservations),
-            Record::Block(block) => Ok(Key::Block(block.cidr())),
-            Record::Affinity(affinity) => {
-                Ok(Key::Affinity(affinity.node.clone()?, affinity.cidr))
-            }
-            Record::Handle(handle) => Ok(Key::Handle(Text::copied(alloc, handle.id())?)),
-        }
+        KeyRef::of_record(self).to_key(alloc)
     }
 }
 

@@ -1,11 +1,12 @@
-ghost use Rattle.std.specs.Prelude.{◌≡◌, ◌++◌, ◌↔◌, IfOk, OnOk, bytes_eq, string_bytes};
+ghost use Rattle.std.specs.Prelude.{◌≡◌, ◌++◌, ◌↔◌, IfOk, OnOk, bytes_eq, option_map, string_bytes};
 ghost use Rattle.std.specs.Option.{option_copied};
 ghost use Rattle.std.specs.Str.{IsAscii};
+ghost use Rattle.ipam_records.specs.KeyRef.{owned_key};
 ghost use Rattle.ipam_records.specs.KeyText.{IsKey, IsTextOf, key_bytes, key_read, behind, cidr_read, block_read, affinity_of_parts, affinity_read, handle_read};
 
 use crate::key::Key;
+use crate::key_ref::KeyRef;
 use ipam_addr::{Cidr, is_handle_id, is_name, push_cidr, read_cidr};
-use ipam_text::Text;
 use std::alloc::{AllocError, Global};
 use std::str;
 
@@ -54,20 +55,25 @@ pub fn key_of_text(alloc: Global, text: &[u8]) -> Result<Option<Key>, AllocError
     ensures exact { IfOk result (λ found.
         (key : Key) → (found ≡ Some key) ↔ IsTextOf text.now key) }
 {
-    read_key(alloc, text)
+    match read_key(alloc, text) {
+        Ok(Some(key)) => Ok(Some(key.to_key(alloc)?)),
+        Ok(None) => Ok(None),
+        Err(fault) => Err(fault),
+    }
 }
 
-fn read_key(alloc: Global, text: &[u8]) -> Result<Option<Key>, AllocError>
-    ensures { IfOk result (λ found. found ≡ key_read text.now) }
+/// The same, which borrows from the text.
+pub(crate) fn read_key<'a>(alloc: Global, text: &'a [u8]) -> Result<Option<KeyRef<'a>>, AllocError>
+    ensures { IfOk result (λ found. option_map owned_key found ≡ key_read text.now) }
 {
     if is_word(text, "config") {
-        return Ok(Some(Key::Config));
+        return Ok(Some(KeyRef::Config));
     }
     if is_word(text, "pools") {
-        return Ok(Some(Key::Pools));
+        return Ok(Some(KeyRef::Pools));
     }
     if is_word(text, "reservations") {
-        return Ok(Some(Key::Reservations));
+        return Ok(Some(KeyRef::Reservations));
     }
     if let Some(cidr) = behind(text, "block/") {
         return read_block(alloc, cidr);
@@ -76,7 +82,7 @@ fn read_key(alloc: Global, text: &[u8]) -> Result<Option<Key>, AllocError>
         return read_affinity(alloc, parts);
     }
     if let Some(id) = behind(text, "handle/") {
-        return read_handle(alloc, id);
+        return Ok(read_handle(id));
     }
     Ok(None)
 }
@@ -94,17 +100,17 @@ fn behind<'a>(text: &'a [u8], start: &str) -> Option<&'a [u8]>
     text.strip_prefix(start.as_bytes())
 }
 
-fn read_block(alloc: Global, text: &[u8]) -> Result<Option<Key>, AllocError>
-    ensures { IfOk result (λ key. key ≡ block_read text.now) }
+fn read_block<'a>(alloc: Global, text: &'a [u8]) -> Result<Option<KeyRef<'a>>, AllocError>
+    ensures { IfOk result (λ key. option_map owned_key key ≡ block_read text.now) }
 {
     match read_cidr_text(alloc, text)? {
-        Some(cidr) => Ok(Some(Key::Block(cidr))),
+        Some(cidr) => Ok(Some(KeyRef::Block(cidr))),
         None => Ok(None),
     }
 }
 
-fn read_affinity(alloc: Global, text: &[u8]) -> Result<Option<Key>, AllocError>
-    ensures { IfOk result (λ key. key ≡ affinity_read text.now) }
+fn read_affinity<'a>(alloc: Global, text: &'a [u8]) -> Result<Option<KeyRef<'a>>, AllocError>
+    ensures { IfOk result (λ key. option_map owned_key key ≡ affinity_read text.now) }
 {
     let slash = text.iter().position(|&byte| byte == b'/');
     match slash {
@@ -113,27 +119,30 @@ fn read_affinity(alloc: Global, text: &[u8]) -> Result<Option<Key>, AllocError>
     }
 }
 
-fn read_affinity_parts(alloc: Global, node: &[u8], cidr: &[u8]) -> Result<Option<Key>, AllocError>
-    ensures { IfOk result (λ key. key ≡ affinity_of_parts node.now cidr.now) }
+fn read_affinity_parts<'a>(
+    alloc: Global,
+    node: &'a [u8],
+    cidr: &[u8],
+) -> Result<Option<KeyRef<'a>>, AllocError>
+    ensures { IfOk result (λ key. option_map owned_key key ≡ affinity_of_parts node.now cidr.now) }
 {
     if !is_name(node) {
         return Ok(None);
     }
-    let Some(cidr) = read_cidr_text(alloc, cidr)? else {
-        return Ok(None);
-    };
-    let node = copied_word(alloc, node)?;
-    Ok(Some(Key::Affinity(node, cidr)))
+    match read_cidr_text(alloc, cidr)? {
+        Some(cidr) => Ok(Some(KeyRef::Affinity(ascii(node), cidr))),
+        None => Ok(None),
+    }
 }
 
-fn read_handle(alloc: Global, id: &[u8]) -> Result<Option<Key>, AllocError>
-    ensures { IfOk result (λ key. key ≡ handle_read id.now) }
+fn read_handle<'a>(id: &'a [u8]) -> Option<KeyRef<'a>>
+    ensures { option_map owned_key result ≡ handle_read id.now }
 {
-    if !is_handle_id(id) {
-        return Ok(None);
+    if is_handle_id(id) {
+        Some(KeyRef::Handle(ascii(id)))
+    } else {
+        None
     }
-    let id = copied_word(alloc, id)?;
-    Ok(Some(Key::Handle(id)))
 }
 
 // The CIDR whose printed text this is.
@@ -152,10 +161,10 @@ fn read_cidr_text(alloc: Global, text: &[u8]) -> Result<Option<Cidr>, AllocError
     }
 }
 
-// A copy of a name or an id.
-fn copied_word(alloc: Global, bytes: &[u8]) -> Result<Text, AllocError>
+// A name or an id as a text.
+fn ascii<'a>(bytes: &'a [u8]) -> &'a str
     requires { IsAscii bytes.now }
-    ensures { IfOk result (λ text. text ≡ bytes.now) }
+    ensures { result.now ≡ bytes.now }
 {
-    Text::copied(alloc, str::from_utf8(bytes).unwrap())
+    str::from_utf8(bytes).unwrap()
 }

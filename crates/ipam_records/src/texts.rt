@@ -1,5 +1,6 @@
-ghost use Rattle.std.specs.Prelude.{◌≡◌, ◌≢◌, Ok, Err, IfOk, IfErr, bytes_eq, string_bytes};
+ghost use Rattle.std.specs.Prelude.{◌≡◌, ◌≢◌, Ok, Err, IfOk, IfErr, string_bytes};
 ghost use Rattle.ipam_addr.specs.Shape.{CidrValue};
+ghost use Rattle.ipam_addr.specs.Width.{IsCidr};
 ghost use Rattle.ipam_block_text.specs.Reading.{block_reading};
 ghost use Rattle.ipam_record_text.specs.Config.{config_reading};
 ghost use Rattle.ipam_record_text.specs.Pools.{pools_reading};
@@ -9,14 +10,15 @@ ghost use Rattle.ipam_record_text.specs.Handle.{handle_reading};
 ghost use Rattle.ipam_records.specs.declared.record.Record.TheVariants as record_of;
 ghost use Rattle.ipam_records.specs.Body.{body_of};
 ghost use Rattle.ipam_records.specs.Key.{key_of};
-ghost use Rattle.ipam_records.specs.KeyText.{key_bytes};
+ghost use Rattle.ipam_records.specs.KeyRef.{owned_key, key_ref_bytes};
+ghost use Rattle.ipam_records.specs.KeyText.{IsKey, key_bytes};
 ghost use Rattle.ipam_records.specs.RecordReading.{fault_of_body, unsound_fault, fault_of_block, if_key, keyed, keyed_block, reading_of_kind, record_reading};
 ghost use Rattle.ipam_records.specs.Sound.{IsRecord};
 
 use crate::fault::TextFault;
-use crate::key::Key;
+use crate::key_ref::KeyRef;
 use crate::record::Record;
-use crate::spelling::{key_of_text, key_text};
+use crate::spelling::read_key;
 use ipam_addr::Cidr;
 use ipam_block_text::{BodyFault as BlockFault, block_of, block_text};
 use ipam_record_text::{
@@ -64,125 +66,118 @@ fn read_record(alloc: Global, key: &str, body: &str) -> Result<Record, TextFault
     ensures refused { IfErr result
         (λ e. e ≢ TextFault.Memory → record_reading key.now body.now ≡ Err e) }
 {
-    match key_of_text(alloc, key.as_bytes()) {
-        Ok(Some(named)) => record_of_kind(alloc, &named, key, body),
+    match read_key(alloc, key.as_bytes()) {
+        Ok(Some(named)) => record_of_kind(alloc, &named, body),
         Ok(None) => Err(TextFault::Form),
         Err(_) => Err(TextFault::Memory),
     }
 }
 
-fn record_of_kind(alloc: Global, named: &Key, key: &str, body: &str) -> Result<Record, TextFault>
-    ensures read { IfOk result (λ found. reading_of_kind named.now key.now body.now ≡ Ok found) }
-    ensures refused { IfErr result
-        (λ e. e ≢ TextFault.Memory → reading_of_kind named.now key.now body.now ≡ Err e) }
+fn record_of_kind(alloc: Global, named: &KeyRef<'_>, body: &str) -> Result<Record, TextFault>
+    requires { IsKey (owned_key named.now) }
+    ensures read { IfOk result (λ found.
+        reading_of_kind (owned_key named.now) (key_ref_bytes named.now) body.now ≡ Ok found) }
+    ensures refused { IfErr result (λ e. e ≢ TextFault.Memory
+        → reading_of_kind (owned_key named.now) (key_ref_bytes named.now) body.now ≡ Err e) }
 {
     match named {
-        Key::Config => config_record(alloc, key, body),
-        Key::Pools => pools_record(alloc, key, body),
-        Key::Reservations => reservations_record(alloc, key, body),
-        Key::Block(_) => block_record(alloc, key, body),
-        Key::Affinity(_, _) => affinity_record(alloc, key, body),
-        Key::Handle(_) => handle_record(alloc, key, body),
+        KeyRef::Config => config_record(alloc, named, body),
+        KeyRef::Pools => pools_record(alloc, named, body),
+        KeyRef::Reservations => reservations_record(alloc, named, body),
+        KeyRef::Block(_) => block_record(alloc, named, body),
+        KeyRef::Affinity(..) => affinity_record(alloc, named, body),
+        KeyRef::Handle(_) => handle_record(alloc, named, body),
     }
 }
 
-fn config_record(alloc: Global, key: &str, body: &str) -> Result<Record, TextFault>
+fn config_record(alloc: Global, named: &KeyRef<'_>, body: &str) -> Result<Record, TextFault>
+    requires { IsKey (owned_key named.now) }
     ensures read { IfOk result
-        (λ found. keyed record_of.Config key.now (config_reading body.now) ≡ Ok found) }
+        (λ found. keyed record_of.Config (key_ref_bytes named.now) (config_reading body.now) ≡ Ok found) }
     ensures refused { IfErr result (λ e. e ≢ TextFault.Memory
-        → keyed record_of.Config key.now (config_reading body.now) ≡ Err e) }
+        → keyed record_of.Config (key_ref_bytes named.now) (config_reading body.now) ≡ Err e) }
 {
     match config_of(alloc, body) {
-        Ok(config) => if_key(alloc, key, Record::Config(config)),
+        Ok(config) => if_key(named, Record::Config(config)),
         Err(fault) => Err(fault_of_body(fault)),
     }
 }
 
-fn pools_record(alloc: Global, key: &str, body: &str) -> Result<Record, TextFault>
+fn pools_record(alloc: Global, named: &KeyRef<'_>, body: &str) -> Result<Record, TextFault>
+    requires { IsKey (owned_key named.now) }
     ensures read { IfOk result
-        (λ found. keyed record_of.Pools key.now (pools_reading body.now) ≡ Ok found) }
+        (λ found. keyed record_of.Pools (key_ref_bytes named.now) (pools_reading body.now) ≡ Ok found) }
     ensures refused { IfErr result (λ e. e ≢ TextFault.Memory
-        → keyed record_of.Pools key.now (pools_reading body.now) ≡ Err e) }
+        → keyed record_of.Pools (key_ref_bytes named.now) (pools_reading body.now) ≡ Err e) }
 {
     match pools_of(alloc, body) {
-        Ok(pools) => if_key(alloc, key, Record::Pools(pools)),
+        Ok(pools) => if_key(named, Record::Pools(pools)),
         Err(fault) => Err(fault_of_body(fault)),
     }
 }
 
-fn reservations_record(alloc: Global, key: &str, body: &str) -> Result<Record, TextFault>
+fn reservations_record(alloc: Global, named: &KeyRef<'_>, body: &str) -> Result<Record, TextFault>
+    requires { IsKey (owned_key named.now) }
     ensures read { IfOk result
-        (λ found. keyed record_of.Reservations key.now (reservations_reading body.now) ≡ Ok found) }
+        (λ found. keyed record_of.Reservations (key_ref_bytes named.now) (reservations_reading body.now) ≡ Ok found) }
     ensures refused { IfErr result (λ e. e ≢ TextFault.Memory
-        → keyed record_of.Reservations key.now (reservations_reading body.now) ≡ Err e) }
+        → keyed record_of.Reservations (key_ref_bytes named.now) (reservations_reading body.now) ≡ Err e) }
 {
     match reservations_of(alloc, body) {
-        Ok(reservations) => if_key(alloc, key, Record::Reservations(reservations)),
+        Ok(reservations) => if_key(named, Record::Reservations(reservations)),
         Err(fault) => Err(fault_of_body(fault)),
     }
 }
 
-fn block_record(alloc: Global, key: &str, body: &str) -> Result<Record, TextFault>
-    ensures read { IfOk result (λ found. keyed_block key.now (block_reading body.now) ≡ Ok found) }
+fn block_record(alloc: Global, named: &KeyRef<'_>, body: &str) -> Result<Record, TextFault>
+    requires { IsKey (owned_key named.now) }
+    ensures read { IfOk result (λ found. keyed_block (key_ref_bytes named.now) (block_reading body.now) ≡ Ok found) }
     ensures refused { IfErr result
-        (λ e. e ≢ TextFault.Memory → keyed_block key.now (block_reading body.now) ≡ Err e) }
+        (λ e. e ≢ TextFault.Memory → keyed_block (key_ref_bytes named.now) (block_reading body.now) ≡ Err e) }
 {
     match block_of(alloc, body) {
-        Ok(block) => if_key(alloc, key, Record::Block(block)),
-        Err(fault) => Err(fault_of_block(alloc, key, fault)),
+        Ok(block) => if_key(named, Record::Block(block)),
+        Err(fault) => Err(fault_of_block(named, fault)),
     }
 }
 
-fn affinity_record(alloc: Global, key: &str, body: &str) -> Result<Record, TextFault>
+fn affinity_record(alloc: Global, named: &KeyRef<'_>, body: &str) -> Result<Record, TextFault>
+    requires { IsKey (owned_key named.now) }
     ensures read { IfOk result
-        (λ found. keyed record_of.Affinity key.now (affinity_reading body.now) ≡ Ok found) }
+        (λ found. keyed record_of.Affinity (key_ref_bytes named.now) (affinity_reading body.now) ≡ Ok found) }
     ensures refused { IfErr result (λ e. e ≢ TextFault.Memory
-        → keyed record_of.Affinity key.now (affinity_reading body.now) ≡ Err e) }
+        → keyed record_of.Affinity (key_ref_bytes named.now) (affinity_reading body.now) ≡ Err e) }
 {
     match affinity_of(alloc, body) {
-        Ok(affinity) => if_key(alloc, key, Record::Affinity(affinity)),
+        Ok(affinity) => if_key(named, Record::Affinity(affinity)),
         Err(fault) => Err(fault_of_body(fault)),
     }
 }
 
-fn handle_record(alloc: Global, key: &str, body: &str) -> Result<Record, TextFault>
+fn handle_record(alloc: Global, named: &KeyRef<'_>, body: &str) -> Result<Record, TextFault>
+    requires { IsKey (owned_key named.now) }
     ensures read { IfOk result
-        (λ found. keyed record_of.Handle key.now (handle_reading body.now) ≡ Ok found) }
+        (λ found. keyed record_of.Handle (key_ref_bytes named.now) (handle_reading body.now) ≡ Ok found) }
     ensures refused { IfErr result (λ e. e ≢ TextFault.Memory
-        → keyed record_of.Handle key.now (handle_reading body.now) ≡ Err e) }
+        → keyed record_of.Handle (key_ref_bytes named.now) (handle_reading body.now) ≡ Err e) }
 {
     match handle_of(alloc, body) {
-        Ok(handle) => if_key(alloc, key, Record::Handle(handle)),
+        Ok(handle) => if_key(named, Record::Handle(handle)),
         Err(fault) => Err(fault_of_body(fault)),
     }
 }
 
-/// The record, where its key has this text.
-fn if_key(alloc: Global, key: &str, found: Record) -> Result<Record, TextFault>
-    ensures read { IfOk result (λ kept. if_key key.now found ≡ Ok kept) }
-    ensures refused { IfErr result (λ e. e ≢ TextFault.Memory → if_key key.now found ≡ Err e) }
+/// The record, where this is its key.
+fn if_key(named: &KeyRef<'_>, found: Record) -> Result<Record, TextFault>
+    requires named { IsKey (owned_key named.now) }
+    requires sound { IsRecord found }
+    ensures { result ≡ if_key (key_ref_bytes named.now) found }
 {
-    match has_key(alloc, &found, key) {
-        Ok(true) => Ok(found),
-        Ok(false) => Err(TextFault::Key),
-        Err(_) => Err(TextFault::Memory),
+    if named.is_same(&KeyRef::of_record(&found)) {
+        Ok(found)
+    } else {
+        Err(TextFault::Key)
     }
-}
-
-/// Whether the record's key has this text.
-fn has_key(alloc: Global, found: &Record, key: &str) -> Result<bool, AllocError>
-    ensures { IfOk result (λ same. same ≡ bytes_eq (key_bytes (key_of found.now)) key.now) }
-{
-    let own = found.key(alloc)?;
-    is_text_of(alloc, &own, key)
-}
-
-/// Whether this is the key's text.
-fn is_text_of(alloc: Global, own: &Key, key: &str) -> Result<bool, AllocError>
-    ensures { IfOk result (λ same. same ≡ bytes_eq (key_bytes own.now) key.now) }
-{
-    let text = key_text(alloc, own)?;
-    Ok(text.as_str() == key)
 }
 
 fn fault_of_body(fault: BodyFault) -> TextFault
@@ -195,23 +190,27 @@ fn fault_of_body(fault: BodyFault) -> TextFault
     }
 }
 
-fn fault_of_block(alloc: Global, key: &str, fault: BlockFault) -> TextFault
-    ensures { result ≢ TextFault.Memory → result ≡ fault_of_block key.now fault }
+fn fault_of_block(named: &KeyRef<'_>, fault: BlockFault) -> TextFault
+    requires named { IsKey (owned_key named.now) }
+    requires cidr { (cidr : CidrValue) → fault ≡ BlockFault.Unsound cidr → IsCidr cidr }
+    ensures { result ≡ fault_of_block (key_ref_bytes named.now) fault }
 {
     match fault {
         BlockFault::Form => TextFault::Form,
-        BlockFault::Unsound(cidr) => unsound_fault(alloc, key, cidr),
+        BlockFault::Unsound(cidr) => unsound_fault(named, cidr),
         BlockFault::Memory => TextFault::Memory,
     }
 }
 
 /// The fault of an unsound block of this CIDR.
-fn unsound_fault(alloc: Global, key: &str, cidr: Cidr) -> TextFault
-    ensures { result ≢ TextFault.Memory → result ≡ unsound_fault key.now cidr }
+fn unsound_fault(named: &KeyRef<'_>, cidr: Cidr) -> TextFault
+    requires named { IsKey (owned_key named.now) }
+    requires cidr { IsCidr cidr }
+    ensures { result ≡ unsound_fault (key_ref_bytes named.now) cidr }
 {
-    match is_text_of(alloc, &Key::Block(cidr), key) {
-        Ok(true) => TextFault::Unsound,
-        Ok(false) => TextFault::Key,
-        Err(_) => TextFault::Memory,
+    if named.is_same(&KeyRef::Block(cidr)) {
+        TextFault::Unsound
+    } else {
+        TextFault::Key
     }
 }

@@ -1,8 +1,9 @@
-use Rattle.std.proofs.Common.{◌+◌, ◌∙◌, take, ap, sym, rules, tests}
+use Rattle.std.proofs.Common.{◌+◌, ◌∙◌, take, option_map, ap, sym, rules, tests}
 use Rattle.std.proofs.lemmas.Iterator.{YieldsList-from_slice}
 use Rattle.std.proofs.lemmas.Iterator.Search.{position_from_yields_List}
 use Rattle.std.proofs.lemmas.List.{take_rest}
 use Rattle.ipam_addr.specs.Text.{is_slash}
+use Rattle.ipam_records.specs.KeyRef.{owned_key}
 use Rattle.ipam_records.specs.KeyText.{affinity_of_parts}
 use Rattle.ipam_records.proofs.KeyTextLemmas.{affinity_read-at, affinity_read-none, IfOk-along}
 use Rattle.ipam_records.proofs.spelling.read_affinity.Goals as goal
@@ -17,6 +18,6 @@ returns-in-Some c =
     let found = position_from_yields_List is_slash _ _ c.position-slash.result c.position-slash.ensures.ran (YieldsList-from_slice _ c.iter.ensures.rest) (λ x b q k. search (rules, tests)) in
     let at = affinity_read-at c.args.text.now c.in-Some.slash (sym found ∙ c.in-Some.is) in
     let rest = take_rest c.args.text.now (c.in-Some.slash + 1) in
-    IfOk-along c.read_affinity_parts.result _ _
+    IfOk-along (option_map owned_key) c.read_affinity_parts.result _ _
     (ap (λ block. affinity_of_parts (take c.in-Some.slash c.args.text.now) block) rest ∙ sym at)
     c.read_affinity_parts.ensures

@@ -1,5 +1,6 @@
-use Rattle.std.proofs.Common.{◌∙◌, ap, refl, sym}
+use Rattle.std.proofs.Common.{◌∙◌, option_map, ap, refl, sym}
 use Rattle.std.specs.Option.{option_copied}
+use Rattle.ipam_records.specs.KeyRef.{owned_key}
 use Rattle.ipam_records.specs.KeyText.{key_read}
 use Rattle.ipam_records.proofs.KeyTextLemmas.{key_read-parts, IfOk-along}
 use Rattle.ipam_records.proofs.spelling.read_key.Goals as goal
@@ -29,7 +30,7 @@ returns-in-Some c =
     let b = sym c.is_word-2.ensures ∙ c.if-is_word-2.false in
     let d = sym c.is_word-3.ensures ∙ c.if-is_word-3.false in
     let block = sym c.behind.ensures ∙ ap option_copied c.in-Some.is in
-    IfOk-along c.read_block.result _ _
+    IfOk-along (option_map owned_key) c.read_block.result _ _
     (key_read-parts c.args.text.now _ _ _ (record { no_config = a; no_pools = b; no_reservations = d }) block refl refl)
     c.read_block.ensures
 
@@ -40,7 +41,7 @@ returns-in-Some-behind c =
     let d = sym c.is_word-3.ensures ∙ c.if-is_word-3.false in
     let block = sym c.behind.ensures ∙ ap option_copied c.in_default.is in
     let affinity = sym c.behind-2.ensures ∙ ap option_copied c.in-Some-behind.is in
-    IfOk-along c.read_affinity.result _ _
+    IfOk-along (option_map owned_key) c.read_affinity.result _ _
     (key_read-parts c.args.text.now _ _ _ (record { no_config = a; no_pools = b; no_reservations = d }) block affinity refl)
     c.read_affinity.ensures
 
@@ -52,9 +53,8 @@ returns-in-Some-behind-2 c =
     let block = sym c.behind.ensures ∙ ap option_copied c.in_default.is in
     let affinity = sym c.behind-2.ensures ∙ ap option_copied c.in_default-behind.is in
     let handle = sym c.behind-3.ensures ∙ ap option_copied c.in-Some-behind-2.is in
-    IfOk-along c.read_handle.result _ _
-    (key_read-parts c.args.text.now _ _ _ (record { no_config = a; no_pools = b; no_reservations = d }) block affinity handle)
     c.read_handle.ensures
+    ∙ key_read-parts c.args.text.now _ _ _ (record { no_config = a; no_pools = b; no_reservations = d }) block affinity handle
 
 pub returns : goal.returns
 returns c =

@@ -1,22 +1,31 @@
+use Rattle.std.proofs.Common.{◌∙◌, ap, Err}
 use Rattle.ipam_block_text.specs.Reading.{block_reading}
 use Rattle.ipam_block_text.proofs.Exact.{block_reading-told}
-use Rattle.ipam_records.proofs.RecordTexts.{block-read, block-refused, block-fault}
+use Rattle.ipam_block_text.proofs.Sound.{cidr_said-sound}
+use Rattle.ipam_records.specs.KeyRef.{key_ref_bytes}
+use Rattle.ipam_records.proofs.RecordTexts.{block-told, block-fault, record-ok, record-err}
 use Rattle.ipam_records.proofs.texts.block_record.Goals as goal
+
+pub fault_of_block-requires-clause-cidr : goal.fault_of_block-requires-clause-cidr
+fault_of_block-requires-clause-cidr c =
+    λ cidr is. cidr_said-sound c.args.body.now cidr (c.block_of.ensures.unsound cidr (c.in-Err.is ∙ ap Err is)).0
 
 pub returns-in-Ok-clause-read : goal.returns-in-Ok-clause-read
 returns-in-Ok-clause-read c =
-    block-read c.args.key.now (block_reading c.args.body.now) c.block_of.result
+    record-ok _ c.if_key.result
+    (block-told (key_ref_bytes c.args.named.now) (block_reading c.args.body.now) c.block_of.result
     (block_reading-told c.args.body.now c.block_of.result c.block_of.ensures.read c.block_of.ensures.form c.block_of.ensures.unsound)
-    c.in-Ok.block c.if_key.result c.in-Ok.is c.if_key.ensures.read
+    c.in-Ok.block c.if_key.result c.in-Ok.is c.if_key.ensures)
 
 pub returns-in-Ok-clause-refused : goal.returns-in-Ok-clause-refused
 returns-in-Ok-clause-refused c =
-    block-refused c.args.key.now (block_reading c.args.body.now) c.block_of.result
+    record-err _ c.if_key.result
+    (block-told (key_ref_bytes c.args.named.now) (block_reading c.args.body.now) c.block_of.result
     (block_reading-told c.args.body.now c.block_of.result c.block_of.ensures.read c.block_of.ensures.form c.block_of.ensures.unsound)
-    c.in-Ok.block c.if_key.result c.in-Ok.is c.if_key.ensures.refused
+    c.in-Ok.block c.if_key.result c.in-Ok.is c.if_key.ensures)
 
 pub returns-in-Err-clause-refused : goal.returns-in-Err-clause-refused
 returns-in-Err-clause-refused c =
-    block-fault c.args.key.now (block_reading c.args.body.now) c.block_of.result
+    block-fault (key_ref_bytes c.args.named.now) (block_reading c.args.body.now) c.block_of.result
     (block_reading-told c.args.body.now c.block_of.result c.block_of.ensures.read c.block_of.ensures.form c.block_of.ensures.unsound)
     c.in-Err.fault c.fault_of_block.result c.in-Err.is c.fault_of_block.ensures
