@@ -6,6 +6,7 @@ ghost use Rattle.ipam_model.specs.Owners.{owners};
 ghost use Rattle.ipam_opening.specs.Opening.{IsFaultOf};
 ghost use Rattle.ipam_audit.specs.Reported.{report_of};
 ghost use Rattle.ipam_audit.specs.Parts.{IsReportOf};
+ghost use Rattle.ipam_audit.specs.declared.words.TheConstants.{MOST_WORKERS};
 
 use crate::affinities::{stale, stray};
 use crate::counted::owners;
@@ -34,7 +35,7 @@ pub fn audit<R: Threads + Sync>(
 ) -> Result<Report, OpenFault>
     requires by_key { AreByKey base.now.rows.items }
     requires some { 0 < workers }
-    requires few { workers ≤ 16 }
+    requires few { workers ≤ MOST_WORKERS }
     ensures report { IfOk result (IsReportOf (texts_in base.now)) }
     ensures refused { IfErr result (IsFaultOf (texts_in base.now)) }
 {

@@ -10,6 +10,7 @@ ghost use Rattle.ipam_audit.specs.Printed.{report_text};
 ghost use Rattle.ipam_audit.specs.Reported.{report_of};
 ghost use Rattle.ipam_audit.specs.Run.{EndsSo, IsReportTold, unknown_line};
 ghost use Rattle.ipam_audit.specs.Words.{workers_asked};
+ghost use Rattle.ipam_audit.specs.declared.words.TheConstants.{MOST_WORKERS};
 
 use crate::auditing::audit;
 use crate::printed::report_text;
@@ -63,7 +64,7 @@ fn tell_audit<R: Threads + Sync, K: Sink, D: Keeper>(
     keeper: &mut D,
 ) -> Status
     requires some { 0 < workers }
-    requires few { workers ≤ 16 }
+    requires few { workers ≤ MOST_WORKERS }
     ensures told { Tells (D.rows keeper.old) (D.faults keeper.old) (D.faults keeper.new) (λ rows store. report_text (report_of store))
         (λ text own. Writes (K.written sink.old) (K.written sink.new)
         (K.write_faults sink.old) (K.write_faults sink.new) text own result) }
@@ -88,7 +89,7 @@ fn audit_kept<R: Threads + Sync, D: Keeper>(
     keeper: &mut D,
 ) -> Result<Report, KeptFault>
     requires some { 0 < workers }
-    requires few { workers ≤ 16 }
+    requires few { workers ≤ MOST_WORKERS }
     ensures reported { IfOk result (IsReportTold (D.rows keeper.old)) }
     ensures no_fault { OnOk result (D.faults keeper.new ≡ D.faults keeper.old) }
     ensures refused { IfErr result (IsNotLoaded (D.rows keeper.old) (D.faults keeper.old) (D.faults keeper.new)) }
@@ -116,7 +117,7 @@ fn audit_loaded<R: Threads + Sync>(
 ) -> Result<Report, OpenFault>
     requires by_key { Ascend rows.items }
     requires some { 0 < workers }
-    requires few { workers ≤ 16 }
+    requires few { workers ≤ MOST_WORKERS }
     ensures report { IfOk result (IsReportOf (texts_loaded rows.items)) }
     ensures refused { IfErr result (IsFaultOf (texts_loaded rows.items)) }
 {

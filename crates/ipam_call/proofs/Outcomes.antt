@@ -19,11 +19,12 @@ use Rattle.ipam_call.specs.declared.end.CallFault.{CallFault}
 use Rattle.ipam_call.specs.declared.end.CallFault.TheVariants.{Read, Undecodable, Link, Reply, Memory}
 use Rattle.ipam_call.specs.declared.end.DaemonReply.{DaemonReply}
 use Rattle.ipam_call.specs.Calls.{Outcome, Received, LinkFaults, MayBeReceived, IsExchanged, IsReading, IsOutcomeOf}
-use Rattle.ipam_call.specs.Replies.{HasReply, HasNoReply, ends, too_long, other, are_of_reply, reply_in, reply_of_line, line_limit}
+use Rattle.ipam_lines.specs.declared.limits.TheConstants.{SESSION_LINE_BYTES}
+use Rattle.ipam_call.specs.Replies.{HasReply, HasNoReply, ends, too_long, other, are_of_reply, reply_in, reply_of_line}
 
 -- ---- the bytes
 
-reading_received : (o : Outcome) (bytes line rest : List ℕ) → IsLine line_limit line → bytes ≡ line ++ 10 ∷ rest → IsReading o (reply_of_line line) → Received o bytes
+reading_received : (o : Outcome) (bytes line rest : List ℕ) → IsLine SESSION_LINE_BYTES line → bytes ≡ line ++ 10 ∷ rest → IsReading o (reply_of_line line) → Received o bytes
 reading_received (Ok reply) bytes line rest is splits reads = record { line = line; rest = rest; is_line = is; splits = splits; reads = reads }
 reading_received (Err Read) bytes line rest is splits reads = tt
 reading_received (Err Undecodable) bytes line rest is splits reads = tt
@@ -34,10 +35,10 @@ reading_received (Err Memory) bytes line rest is splits reads = tt
 none_received : (o : Outcome) (bytes : List ℕ) → HasNoReply bytes → o ≡ Err Reply → Received o bytes
 none_received o bytes none e = rw e none
 
-empty_is_line : (bytes : List ℕ) → bytes ≡ [] → IsLine line_limit bytes
+empty_is_line : (bytes : List ℕ) → bytes ≡ [] → IsLine SESSION_LINE_BYTES bytes
 empty_is_line bytes e = rw e ((λ k d less. absurd (omega arith)), omega arith)
 
-pub got_received : (got : Result Got LinesFault) (o : Outcome) (bytes : List ℕ) → IsOutcomeOf got o → IsAnswerTo line_limit bytes got → Received o bytes
+pub got_received : (got : Result Got LinesFault) (o : Outcome) (bytes : List ℕ) → IsOutcomeOf got o → IsAnswerTo SESSION_LINE_BYTES bytes got → Received o bytes
 got_received (Ok (Line line)) o bytes is answer = reading_received o bytes line.items answer.1 answer.0 answer.2 is
 got_received (Ok End) o bytes is answer = none_received o bytes (ends (empty_is_line bytes answer)) is
 got_received (Ok Cut) o bytes is answer = none_received o bytes (ends answer.0) is

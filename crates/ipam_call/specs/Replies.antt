@@ -4,6 +4,7 @@ use Rattle.std.specs.Str.{is_utf8}
 use Rattle.serde_json.specs.Data.{Data, Members, no_members, member}
 use Rattle.serde_json.specs.Find.{as_object}
 use Rattle.serde_json.specs.Read.{read}
+use Rattle.ipam_lines.specs.declared.limits.TheConstants.{SESSION_LINE_BYTES}
 use Rattle.ipam_lines.specs.Feeds.{IsLine, IsTooLong}
 use Rattle.ipam_json.specs.Members.{◌>>=◌, only_if, whole_at, text_at}
 use Rattle.ipam_call.specs.declared.end.DaemonReply.{DaemonReply}
@@ -33,20 +34,16 @@ reply_of_line line = do
   d ← read text
   reply_in d
 
--- how many bytes a line may have, its line feed among them
-abbrev pub line_limit : ℕ
-line_limit = 1048576
-
 -- the bytes begin with a line that is this reply
 pub record HasReply (bytes : List ℕ) (reply : DaemonReply) : Type 0 where
   pub line : List ℕ
   pub rest : List ℕ
-  pub is_line : IsLine line_limit line
+  pub is_line : IsLine SESSION_LINE_BYTES line
   pub splits : bytes ≡ line ++ 10 ∷ rest
   pub reads : reply_of_line line ≡ Some reply
 
 -- the bytes end before a line feed, have none where a line may have it, or begin with a line that is no reply
 pub data HasNoReply (bytes : List ℕ) : Type 0 where
-  ends : IsLine line_limit bytes → HasNoReply bytes
-  too_long : IsTooLong line_limit bytes → HasNoReply bytes
-  other : (line rest : List ℕ) → IsLine line_limit line → bytes ≡ line ++ 10 ∷ rest → reply_of_line line ≡ None → HasNoReply bytes
+  ends : IsLine SESSION_LINE_BYTES bytes → HasNoReply bytes
+  too_long : IsTooLong SESSION_LINE_BYTES bytes → HasNoReply bytes
+  other : (line rest : List ℕ) → IsLine SESSION_LINE_BYTES line → bytes ≡ line ++ 10 ∷ rest → reply_of_line line ≡ None → HasNoReply bytes

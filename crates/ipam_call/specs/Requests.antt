@@ -4,6 +4,7 @@ use Rattle.serde_json.specs.Data.{Data, object, string, Members, no_members, put
 use Rattle.serde_json.specs.Written.{compact_text}
 use Rattle.ipam_json.specs.Built.{object_of}
 use Rattle.ipam_json.specs.Members.{◌>>=◌, only_if}
+use Rattle.ipam_lines.specs.declared.limits.TheConstants.{SESSION_LINE_BYTES}
 use Rattle.cni_types.specs.Looking.{input_text}
 use Rattle.cni_types.specs.Reading.{Pair}
 
@@ -42,9 +43,9 @@ call_data env input =
 unfoldable pub call_text : List Pair → List ℕ → List ℕ
 call_text env input = compact_text (call_data env input)
 
--- the text with its line feed, where these are at most 1,048,576 bytes
+-- the text with its line feed, where these are no more bytes than a line has
 abbrev pub sendable : List ℕ → Option (List ℕ)
-sendable text = only_if (nat_lt (length text) 1048576) (text ++ codes "\n")
+sendable text = only_if (nat_lt (length text) SESSION_LINE_BYTES) (text ++ codes "\n")
 
 -- The line that is sent: none where standard input is longer than 1,048,576 bytes or no UTF-8, or
 -- where the line would be longer than that.

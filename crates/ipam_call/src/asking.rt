@@ -6,9 +6,9 @@ ghost use Rattle.ipam_call.specs.Requests.{line_for};
 
 use crate::end::{CallFault, DaemonReply};
 use crate::reply::reply_of_line;
-use crate::request::{MOST_LINE_BYTES, line_for};
+use crate::request::line_for;
 use ipam_io::Link;
-use ipam_lines::{Got, Lines, LinesFault};
+use ipam_lines::{Got, Lines, LinesFault, SESSION_LINE_BYTES};
 use ipam_text::Text;
 use std::alloc::Global;
 
@@ -58,7 +58,7 @@ fn receive<L: Link>(alloc: Global, link: &mut L) -> Result<DaemonReply, CallFaul
         (L.write_faults link.old) (L.write_faults link.new) }
     ensures causes { MayBeReceived result }
 {
-    let mut lines = Lines::<MOST_LINE_BYTES>::new(alloc);
+    let mut lines = Lines::<SESSION_LINE_BYTES>::new(alloc);
     let got = lines.next(link);
     read_got(alloc, got)
 }

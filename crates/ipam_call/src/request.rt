@@ -4,12 +4,10 @@ ghost use Rattle.serde_json.specs.View.{view, members_view};
 ghost use Rattle.ipam_call.specs.Requests.{last_of, with_last, env_members, call_data, call_text, sendable, line_for};
 
 use cni_types::input_text;
+use ipam_lines::SESSION_LINE_BYTES;
 use ipam_text::Text;
 use serde_json::{Map, Value, json, put};
 use std::alloc::{AllocError, Global};
-
-/// How many bytes a line may have, its line feed among them.
-pub(crate) const MOST_LINE_BYTES: usize = 1_048_576;
 
 /// The line that is sent, with its line feed, or none where standard input is too long or no
 /// UTF-8, or where the line would be too long.
@@ -33,7 +31,7 @@ fn line_of(alloc: Global, env: &[(Text, Text)], input: &str) -> Result<Option<St
         ≡ sendable (call_text env.now input.now)) }
 {
     let mut line = call_string(alloc, env, input)?;
-    if line.len() >= MOST_LINE_BYTES {
+    if line.len() >= SESSION_LINE_BYTES {
         return Ok(None);
     }
     line.push_str("\n")?;

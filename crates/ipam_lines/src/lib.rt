@@ -2,8 +2,10 @@
 #![tactic(auto)]
 
 mod input;
+mod limits;
 mod lines;
 
 pub use input::{InputFault, read_whole};
+pub use limits::SESSION_LINE_BYTES;
 pub use lines::{Got, Lines, LinesFault};
 pub use std::alloc::AllocError as Memory;

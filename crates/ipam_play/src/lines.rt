@@ -6,15 +6,15 @@ ghost use Rattle.std.specs.Io.KnownBytes.{IsAtEnd};
 ghost use Rattle.ipam_play.specs.Readings.{reading_of, coming, IfLine, IsNextOf, IsTold, IsLastTold, OnEnd, OnLine, UnlessRead};
 ghost use Rattle.ipam_play.specs.SoundLine.{IsSoundLine};
 
-use crate::offset::{MOST_SCRIPT_BYTES, Offset};
+use crate::offset::Offset;
 use crate::refusal::LineRefusal;
 use ipam_io::Source;
 use ipam_lines::{Got, Lines, LinesFault};
-use ipam_script::{Line, LineFault, read_line};
+use ipam_script::{Line, LineFault, MOST_LINE_BYTES, MOST_SCRIPT_BYTES, read_line};
 use std::alloc::{AllocError, Global};
 
 /// The most bytes of a line and its line end.
-const LINE_LIMIT: usize = 1_048_577;
+const LINE_LIMIT: usize = MOST_LINE_BYTES + 1;
 
 /// What comes next in a script.
 #[derive(Debug, Drop)]
@@ -124,7 +124,7 @@ fn asked(
     requires short { length bytes.now < LINE_LIMIT }
     ensures reading { IfOk result (λ r. r ≡ reading_of (told before.bytes bytes.now)) }
     ensures sound { IfOk result (λ r. IfOk r IsSoundLine) }
-    ensures in_time { IfOk result (λ r. IfOk r (λ line. before.bytes + length bytes.now ≤ 67108864)) }
+    ensures in_time { IfOk result (λ r. IfOk r (λ line. before.bytes + length bytes.now ≤ MOST_SCRIPT_BYTES)) }
 {
     if bytes.is_empty() {
         return Ok(Err(LineRefusal::Unreadable));

@@ -1,13 +1,12 @@
 ghost use Rattle.std.specs.Prelude.{◌≡◌, ◌+◌, ◌≤◌};
 
-/// The last byte of a line is one of the first so many bytes of its script.
-pub(crate) const MOST_SCRIPT_BYTES: u64 = 67_108_864;
+use ipam_script::MOST_SCRIPT_BYTES;
 
 /// How many bytes stand before a line of a script.
 #[derive(Clone, Copy, Debug)]
 pub(crate) struct Offset {
     pub(crate) bytes: u64,
-    ghost small: { bytes ≤ 67108865 },
+    ghost small: { bytes ≤ MOST_SCRIPT_BYTES + 1 },
 }
 
 impl Offset {
@@ -20,7 +19,7 @@ impl Offset {
 
     /// The line behind one of so many bytes that ends in time.
     pub(crate) fn behind(self, line: usize) -> Offset
-        requires { self.bytes + line ≤ 67108864 }
+        requires { self.bytes + line ≤ MOST_SCRIPT_BYTES }
         ensures { result.bytes ≡ self.bytes + line + 1 }
     {
         Offset {

@@ -1,13 +1,7 @@
 -- How a script is cut into lines.
 use Rattle.std.specs.Prelude.{ℕ, ◌+◌, ◌==◌, ◌&&◌, ◌||◌, List, [], ◌∷◌, length, Bool, nat_lt, if◌then◌else◌}
 use Rattle.std.specs.List.{slice_split}
-
--- the most bytes of a line before its end, and of a script before its last line's end
-abbrev pub most_line_bytes : ℕ
-most_line_bytes = 1048576
-
-abbrev pub most_script_bytes : ℕ
-most_script_bytes = 67108864
+use Rattle.ipam_script.specs.declared.limits.TheConstants.{MOST_LINE_BYTES, MOST_SCRIPT_BYTES}
 
 -- a line, or that it is too long or ends too late
 pub data ScriptLine : Type 0 where
@@ -27,8 +21,8 @@ without_empty_end (line ∷ next ∷ lines) = line ∷ without_empty_end (next �
 -- too many bytes, or the last of them too late; an empty line has no last byte
 abbrev pub is_long : (before : ℕ) → List ℕ → Bool
 is_long before line =
-    nat_lt most_line_bytes (length line)
-    || (nat_lt 0 (length line) && nat_lt most_script_bytes (before + length line))
+    nat_lt MOST_LINE_BYTES (length line)
+    || (nat_lt 0 (length line) && nat_lt MOST_SCRIPT_BYTES (before + length line))
 
 abbrev pub told : (before : ℕ) → List ℕ → ScriptLine
 told before line = if is_long before line then Long else Whole line

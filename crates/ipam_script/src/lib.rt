@@ -3,10 +3,12 @@
 
 mod fault;
 pub mod laws;
+mod limits;
 mod line;
 mod reading;
 mod words;
 
 pub use fault::LineFault;
+pub use limits::{MOST_LINE_BYTES, MOST_SCRIPT_BYTES};
 pub use line::Line;
 pub use reading::read_line;

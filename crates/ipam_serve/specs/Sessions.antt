@@ -3,6 +3,7 @@ use Rattle.std.specs.Prelude.{◌≡◌, ◌≢◌, ◌⊎◌, ℕ, ◌+◌, ◌
 use Rattle.std.specs.Io.KnownBytes.{prepend_known, append_known}
 use Rattle.ipam_io.specs.Counts.{Rose}
 use Rattle.ipam_io.specs.Streams.{AppendsPrefix}
+use Rattle.ipam_lines.specs.declared.limits.TheConstants.{SESSION_LINE_BYTES}
 use Rattle.ipam_lines.specs.Feeds.{IsLine, IsTooLong}
 use Rattle.ipam_model.specs.declared.entry.Entry.{Entry}
 use Rattle.ipam_model.specs.declared.entry.Entry.TheVariants as entry
@@ -18,10 +19,6 @@ use Rattle.ipam_serve.specs.Faults.{IsWorn}
 use Rattle.ipam_serve.specs.Gains.{Gained, Passed}
 use Rattle.ipam_serve.specs.Lines.{Breaks, Replies, Server, asked_by}
 use Rattle.ipam_serve.specs.Runs.{Taker}
-
--- how many bytes a line has at the most, with its line feed
-abbrev pub line_limit : ℕ
-line_limit = 1048576
 
 -- ---- lines and replies
 
@@ -43,7 +40,7 @@ pub record Exchange : Type 0 where
 
 -- the line was read
 pub record ReadsLine (line : List ℕ) (old new : Option (List ℕ)) : Type 0 where
-  pub is_line : IsLine line_limit line
+  pub is_line : IsLine SESSION_LINE_BYTES line
   pub bytes : old ≡ prepend_known (line ++ 10 ∷ []) new
 
 -- the line was read and done, and its reply was written
@@ -96,8 +93,8 @@ IsUntold (Untold line reply) = ⊤
 -- why the session ends so, where this stands behind its whole exchanges and these bytes were to come then
 abbrev pub IsCause : SessionEnd → Rest → (coming : Option (List ℕ)) → (last : PassValue) → Type 0
 IsCause end.Closed rest coming last = (rest ≡ Nothing) × IfSome coming (λ bytes. bytes ≡ [])
-IsCause end.Cut rest coming last = (rest ≡ Nothing) × IfSome coming (λ bytes. IsLine line_limit bytes × (bytes ≢ []))
-IsCause end.LineTooLong rest coming last = (rest ≡ Nothing) × IfSome coming (IsTooLong line_limit)
+IsCause end.Cut rest coming last = (rest ≡ Nothing) × IfSome coming (λ bytes. IsLine SESSION_LINE_BYTES bytes × (bytes ≢ []))
+IsCause end.LineTooLong rest coming last = (rest ≡ Nothing) × IfSome coming (IsTooLong SESSION_LINE_BYTES)
 IsCause end.ReadFault rest coming last = rest ≡ Nothing
 IsCause end.WriteFault rest coming last = IsUntold rest
 IsCause end.Halted rest coming last = (rest ≡ Nothing) ⊎ IsUndone rest

@@ -13,14 +13,11 @@ use crate::ends::SessionEnd;
 use crate::lines::answer_line;
 use crate::ran::Broken;
 use ipam_io::{Clock, Gate, Link, Passed, Point};
-use ipam_lines::{Got, Lines, LinesFault};
+use ipam_lines::{Got, Lines, LinesFault, SESSION_LINE_BYTES};
 use ipam_session::{Reply, push_reply};
 use ipam_shared::{Keeper, Pass, Shared, SpentPass};
 use std::alloc::Global;
 use std::sync::Wait;
-
-/// A line has at most so many bytes, its line feed among them.
-const LINE_LIMIT: usize = 1_048_576;
 
 /// Serves a session over the link, in the pass's slot, until it ends. A line is replied to before the
 /// next is read. What waits in the slot at the end is stopped by one more turn. It waits for the link
@@ -70,7 +67,7 @@ fn serve_lines<R: Wait, D: Keeper, G: Gate, C: Clock, L: Link>(
     ensures writes { RoseIf (is_write_fault result) (L.write_faults link.old) (L.write_faults link.new) }
     ensures stops { RoseIf (is_halted result) (G.stops gate.old) (G.stops gate.new) }
 {
-    let mut lines = Lines::<LINE_LIMIT>::new(alloc);
+    let mut lines = Lines::<SESSION_LINE_BYTES>::new(alloc);
     for _ in rt.forever() {
         match exchange(rt, alloc, shared, pass, gate, clock, link, &mut lines) {
             Ok(()) => {}
@@ -89,7 +86,7 @@ fn exchange<R: Wait, D: Keeper, G: Gate, C: Clock, L: Link>(
     gate: &mut G,
     clock: &mut C,
     link: &mut L,
-    lines: &mut Lines<LINE_LIMIT>,
+    lines: &mut Lines<SESSION_LINE_BYTES>,
 ) -> Result<(), SessionEnd>
     requires lock { pass.old.lock ≡ shared.now }
     requires rests { IsAtRest (runs_in pass.old) }
@@ -132,7 +129,7 @@ fn end_of(broken: Broken) -> SessionEnd
 fn read_line<G: Gate, L: Link>(
     gate: &mut G,
     link: &mut L,
-    lines: &mut Lines<LINE_LIMIT>,
+    lines: &mut Lines<SESSION_LINE_BYTES>,
 ) -> Result<Vec<u8>, SessionEnd>
     ensures line { IfOk result (λ line. ReadsLine line.items (prepend_known lines.old (L.left link.old)) (prepend_known lines.new (L.left link.new))) }
     ensures none { OnErr result (prepend_known lines.new (L.left link.new) ≡ prepend_known lines.old (L.left link.old)) }
@@ -150,7 +147,10 @@ fn read_line<G: Gate, L: Link>(
 }
 
 /// Reads the next line.
-fn next_line<L: Link>(link: &mut L, lines: &mut Lines<LINE_LIMIT>) -> Result<Vec<u8>, SessionEnd>
+fn next_line<L: Link>(
+    link: &mut L,
+    lines: &mut Lines<SESSION_LINE_BYTES>,
+) -> Result<Vec<u8>, SessionEnd>
     ensures line { IfOk result (λ line. ReadsLine line.items (prepend_known lines.old (L.left link.old)) (prepend_known lines.new (L.left link.new))) }
     ensures none { OnErr result (prepend_known lines.new (L.left link.new) ≡ prepend_known lines.old (L.left link.old)) }
     ensures cause { (pass : PassValue) → IfErr result (λ how. IsCause how Nothing (prepend_known lines.old (L.left link.old)) pass) }
