@@ -1,13 +1,12 @@
 -- What is read of a document are sound changes.
-use Rattle.std.proofs.Common.{◌≡◌, ℕ, ◌^◌, ◌<◌, List, [], ◌∷◌, ◌++◌, length, Bool, true, false, Option, Some, None, option_and_then, Result, Ok, Err, nat_lt, nat_le, refl, subst, arith, All}
-use Rattle.std.specs.Prelude.{is_some, if◌then◌else◌}
+use Rattle.std.proofs.Common.{◌≡◌, ℕ, ◌^◌, ◌<◌, List, length, true, false, Option, Some, None, Ok, nat_le, refl, subst, arith, All}
 use Rattle.std.specs.Option.{ok_or}
 use Rattle.std.specs.List.{AllByRecursion}
 use Rattle.std.proofs.lemmas.Bool.{leb-true}
 use Rattle.std.proofs.lemmas.Option.{cond_some}
 use Rattle.std.proofs.lemmas.List.Elements.{All-from_recursion}
-use Rattle.serde_json.specs.Data.{Data, Items, no_items, item}
-use Rattle.serde_json.specs.Find.{as_bool, as_array, as_object}
+use Rattle.serde_json.specs.Data.{Data}
+use Rattle.serde_json.specs.Find.{as_bool}
 use Rattle.ipam_addr.specs.declared.address.Family.{Family}
 use Rattle.ipam_addr.specs.declared.address.Family.TheVariants.{V4, V6}
 use Rattle.ipam_addr.specs.Names.{is_name_text}
@@ -23,29 +22,19 @@ use Rattle.ipam_record_text.specs.Reservations.{IsReservation, named_cidrs, cidr
 use Rattle.ipam_json.proofs.MemberLemmas.{then-is}
 use Rattle.ipam_record_text.proofs.ReservationLists.{cidr_in-is}
 use Rattle.ipam_model.specs.SoundRequest.{IsSoundChange}
-use Rattle.ipam_resources.specs.declared.fault.DocumentFault.TheVariants as fault
-use Rattle.ipam_resources.specs.declared.fault.TheConstants.{DOCUMENT_MAX}
-use Rattle.ipam_resources.specs.declared.kind.DocumentKind.{DocumentKind}
-use Rattle.ipam_resources.specs.declared.kind.DocumentKind.TheVariants.{One, Several}
 use Rattle.ipam_resources.specs.declared.kind.ResourceKind.{ResourceKind}
 use Rattle.ipam_resources.specs.declared.kind.ResourceKind.TheVariants as kind
 use Rattle.ipam_resources.specs.declared.member.Member.{Member}
 use Rattle.ipam_resources.specs.declared.member.Member.TheVariants as member
 use Rattle.ipam_resources.specs.declared.resource.Resource.{Resource}
-use Rattle.ipam_resources.specs.Members.{◌>>=◌, found_at, required, read_or, optional}
+use Rattle.ipam_resources.specs.Members.{found_at, required, read_or, optional}
 use Rattle.ipam_resources.specs.Values.{name_in, size_in, bound_in, selector_in, ranges_in, default_size}
-use Rattle.ipam_resources.specs.Resources.{plain_pool, mode_at, pool_reading, reservation_reading, config_reading, config_name, pool_resource, reservation_resource, config_resource, kind_in, pool_in, reservation_in, config_in, resource_in, item_in}
-use Rattle.ipam_resources.specs.Documents.{alone, as_item, resources_after, resources_of, kind_said, by_kind, json_of, object_reading, document_reading}
+use Rattle.ipam_resources.specs.Resources.{plain_pool, mode_at, pool_reading, reservation_reading, config_reading, config_name, pool_resource, reservation_resource, config_resource, pool_in, reservation_in, config_in, resource_in}
+use Rattle.ipam_resources.specs.Documents.{document_reading}
+use Rattle.ipam_resources.proofs.DocumentParts.{bind_ok, same_Ok, document_each}
 use Rattle.ipam_resources.proofs.ValueLemmas.{name_in-is, size_in-is, bound_in-is, selector_in-is, ranges_in-is}
 
 -- ---- what was read where there is something
-
-bind_ok : {A B E P : Type 0} (f : A → Result B E) (r : Result A E) (y : B) → (r >>= f) ≡ Ok y → ((x : A) → r ≡ Ok x → f x ≡ Ok y → P) → P
-bind_ok f (Ok x) y e k = k x refl e
-bind_ok f (Err m) y e k = cc
-
-same_Ok : {A E : Type 0} (x y : A) → ◌≡◌ {A = Result A E} (Ok x) (Ok y) → x ≡ y
-same_Ok x y e = cc
 
 ok_or_ok : {A : Type 0} (o : Option A) (m : Member) (x : A) → ok_or o m ≡ Ok x → o ≡ Some x
 ok_or_ok (Some y) m x e = cc
@@ -154,50 +143,5 @@ resource_in-sound kind.Reservation d r e = reservation_in-sound d r e
 resource_in-sound kind.Config d r e = config_in-sound kind.Config d r e
 resource_in-sound kind.Configuration d r e = config_in-sound kind.Configuration d r e
 
-item_in-sound : (d : Data) (r : Resource) → item_in d ≡ Ok r → Changes r
-unfolding item_in
-item_in-sound d r e = bind_ok _ (required kind_in member.Kind d) r e (λ k is e1. resource_in-sound k d r e1)
-
--- ---- a document
-
-push_change : (rs : List Resource) (r : Resource) → AllByRecursion Changes rs → Changes r → AllByRecursion Changes (rs ++ r ∷ [])
-push_change [] r h k = (k, tt)
-push_change (q ∷ rs) r h k = (h.0, push_change rs r h.1 k)
-
-resources_after-sound : (there : List Resource) (ds : Items) (rs : List Resource) → resources_after there ds ≡ Ok rs → AllByRecursion Changes there → AllByRecursion Changes rs
-resources_after-sound there no_items rs e h = subst (AllByRecursion Changes) (same_Ok there rs e) h
-resources_after-sound there (item d ds) rs e h =
-    next (item_in d) refl e (λ r k e'. resources_after-sound (there ++ r ∷ []) ds rs e' k)
-  where
-    next : (found : Result Resource Member) → item_in d ≡ found → (as_item (length there) found >>= λ r. resources_after (there ++ r ∷ []) ds) ≡ Ok rs → ((r : Resource) → AllByRecursion Changes (there ++ r ∷ []) → resources_after (there ++ r ∷ []) ds ≡ Ok rs → AllByRecursion Changes rs) → AllByRecursion Changes rs
-    next (Ok r) is e' more = more r (push_change there r h (item_in-sound d r is)) e'
-    next (Err m) is e' more = cc
-
-resources_of-sound : (o : Option Items) (rs : List Resource) → resources_of o ≡ Ok rs → AllByRecursion Changes rs
-resources_of-sound (Some items) rs e = resources_after-sound [] items rs e tt
-resources_of-sound None rs e = cc
-
-alone-sound : (k : ResourceKind) (d : Data) (rs : List Resource) → alone (resource_in k d) ≡ Ok rs → AllByRecursion Changes rs
-alone-sound k d rs e = go (resource_in k d) refl e
-  where
-    go : (found : Result Resource Member) → resource_in k d ≡ found → alone found ≡ Ok rs → AllByRecursion Changes rs
-    go (Ok r) is e' = subst (AllByRecursion Changes) (same_Ok (r ∷ []) rs e') (resource_in-sound k d r is, tt)
-    go (Err m) is e' = cc
-
-object-sound : (o : Option Data) (rs : List Resource) → object_reading o ≡ Ok rs → AllByRecursion Changes rs
-object-sound None rs e = cc
-object-sound (Some d) rs e = go (is_some (as_object d)) (kind_said d) e
-  where
-    go : (b : Bool) (k : Option DocumentKind) → (if b then by_kind k d else Err fault.NotJson) ≡ Ok rs → AllByRecursion Changes rs
-    go true None e' = cc
-    go true (Some (One k)) e' = alone-sound k d rs e'
-    go true (Some Several) e' = resources_of-sound (option_and_then as_array (found_at member.Items d)) rs e'
-    go false k e' = cc
-
 pub document_sound : (bytes : List ℕ) (rs : List Resource) → document_reading bytes ≡ Ok rs → All (λ r. IsSoundChange r.change) rs
-unfolding document_reading
-document_sound bytes rs e = All-from_recursion Changes rs (go (nat_lt DOCUMENT_MAX (length bytes)) e)
-  where
-    go : (b : Bool) → (if b then Err fault.Long else object_reading (json_of bytes)) ≡ Ok rs → AllByRecursion Changes rs
-    go true e' = cc
-    go false e' = object-sound (json_of bytes) rs e'
+document_sound = document_each Changes resource_in-sound
