@@ -2,6 +2,7 @@
 ghost use Rattle.std.specs.Prelude.{◌≡◌, ◌+◌, ◌<◌, ◌≤◌, [], length, IfOk, IfErr};
 ghost use Rattle.ipam_io.specs.Counts.{Rose};
 ghost use Rattle.ipam_script.specs.Lines.{told};
+ghost use Rattle.ipam_script.specs.declared.limits.TheConstants.{MOST_SCRIPT_BYTES};
 ghost use Rattle.std.specs.Io.KnownBytes.{IsAtEnd};
 ghost use Rattle.ipam_play.specs.Readings.{reading_of, coming, IfLine, IsNextOf, IsTold, IsLastTold, OnEnd, OnLine, UnlessRead};
 ghost use Rattle.ipam_play.specs.SoundLine.{IsSoundLine};
