@@ -12,6 +12,7 @@ use Rattle.serde_json.specs.Data.{Data, Num, null, boolean, number, string, arra
 use Rattle.serde_json.specs.Find.{get, get_member}
 use Rattle.serde_json.specs.Read.{read, max_depth, of_json, of_items, of_members, number_of}
 use Rattle.ipam_json.specs.Canonical.{IsBeforeFirst}
+use Rattle.ipam_json.proofs.Constructors.{good-put}
 use Rattle.cni_types.specs.Reading.{Pair, text_of}
 use Rattle.cni_types.specs.Asked.{labels_after}
 use Rattle.cni_types.specs.Sound.{KeysAscend}
@@ -33,26 +34,8 @@ abbrev mutual
   MembersAscend no_members = Unit {0}
   MembersAscend (member k d ms) = IsBeforeFirst k ms × NamesAscend d × MembersAscend ms
 
-before-put_at : (o : Ordering) (m k l : List ℕ) (d e : Data) (ms : Members) → slice_cmp nat_cmp m k ≡ Less → slice_cmp nat_cmp m l ≡ Less
-    → IsBeforeFirst m (match_ordering o (member k d (member l e ms)) (member l d ms) (member l e (put k d ms)))
-before-put_at Less m k l d e ms new old = new
-before-put_at Equal m k l d e ms new old = old
-before-put_at Greater m k l d e ms new old = old
-
-before-put : (m k : List ℕ) (d : Data) (ms : Members) → slice_cmp nat_cmp m k ≡ Less → IsBeforeFirst m ms → IsBeforeFirst m (put k d ms)
-before-put m k d no_members new old = new
-before-put m k d (member l e ms) new old = before-put_at (slice_cmp nat_cmp k l) m k l d e ms new old
-
-ascend-put_at : (o : Ordering) (k l : List ℕ) (d e : Data) (ms : Members) → slice_cmp nat_cmp k l ≡ o → NamesAscend d → MembersAscend (member l e ms) → MembersAscend (put k d ms)
-    → MembersAscend (match_ordering o (member k d (member l e ms)) (member l d ms) (member l e (put k d ms)))
-ascend-put_at Less k l d e ms is value old later = (is, value, old)
-ascend-put_at Equal k l d e ms is value old later = (old.0, value, old.2)
-ascend-put_at Greater k l d e ms is value old later =
-    (before-put l k d ms (nat_list_cmp_total.antisymm l k ∙ ap ordering_reverse is) old.0, old.1, later)
-
 ascend-put : (k : List ℕ) (d : Data) (ms : Members) → NamesAscend d → MembersAscend ms → MembersAscend (put k d ms)
-ascend-put k d no_members value old = (tt, value, tt)
-ascend-put k d (member l e ms) value old = ascend-put_at _ k l d e ms refl value old (ascend-put k d ms value old.2)
+ascend-put = good-put NamesAscend MembersAscend tt (λ k d ms before value old. (before, value, old)) (λ k d ms h. h)
 
 -- ---- what is read of each form
 

@@ -1,4 +1,4 @@
--- Arguments go item by item, items are counted, and a prefix stands behind a slash.
+-- Arguments go item by item, items are counted, and a prefix stands after a slash.
 pub mod ArgumentItems
 pub mod Counts
 pub mod Prefixes

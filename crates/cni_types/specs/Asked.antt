@@ -31,7 +31,7 @@ handle_asked env d = handle_of (text_at (codes "name") d) (variable ContainerId 
 abbrev pub items_found : Option Data → Items
 items_found o = unwrap_or (option_and_then as_array o) no_items
 
--- the texts, and behind them those that the items are
+-- the texts, and after them those that the items are
 abbrev pub texts_after : List (List ℕ) → Items → List (List ℕ)
 texts_after texts no_items = texts
 texts_after texts (item d ds) = texts_after (texts ++ text_of d ∷ []) ds
@@ -40,7 +40,7 @@ texts_after texts (item d ds) = texts_after (texts ++ text_of d ∷ []) ds
 abbrev pub pools_asked : List ℕ → Data → List (List ℕ)
 pools_asked name d = texts_after [] (items_found (inside (codes "ipam") name d))
 
--- the labels, and behind them those that the members are
+-- the labels, and after them those that the members are
 abbrev pub labels_after : List Pair → Members → List Pair
 labels_after labels no_members = labels
 labels_after labels (member key d ms) = labels_after (labels ++ (key, text_of d) ∷ []) ms
@@ -90,7 +90,7 @@ abbrev pub with_address : List AddrValue → Option AddrValue → List AddrValue
 with_address addresses None = addresses
 with_address addresses (Some a) = addresses ++ a ∷ []
 
--- the addresses, and behind them those that the items have
+-- the addresses, and after them those that the items have
 abbrev pub addresses_after : List AddrValue → Items → List AddrValue
 addresses_after addresses no_items = addresses
 addresses_after addresses (item d ds) = addresses_after (with_address addresses (address_in d)) ds
@@ -102,7 +102,7 @@ check_asked version env d = record {
   addresses = addresses_after [] (items_found (inside (codes "prevResult") (codes "ips") d));
 }
 
--- the handles, and behind them those of the attachments
+-- the handles, and after them those of the attachments
 abbrev pub live_after : List ℕ → List (List ℕ) → Items → List (List ℕ)
 live_after network live no_items = live
 live_after network live (item d ds) =

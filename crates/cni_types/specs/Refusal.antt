@@ -5,7 +5,7 @@ use Rattle.cni_types.specs.declared.refusal.Member.TheVariants.{Name, NodeName, 
 use Rattle.cni_types.specs.declared.refusal.Variable.{Variable}
 use Rattle.cni_types.specs.declared.refusal.Variable.TheVariants as variable
 
--- an attachment, and what stands behind its index
+-- an attachment, and what stands after its index
 abbrev pub attachment_text : ℕ → List ℕ → List ℕ
 attachment_text index member = codes "cni.dev/valid-attachments." ++ decimal index ++ member
 

@@ -18,7 +18,7 @@ fn told_of_del(alloc: Global, stdin: &[u8]) -> Result<String, AllocError> {
     told(alloc, env.as_slice(), stdin)
 }
 
-/// A good configuration with spaces behind it, so many bytes in all.
+/// A good configuration with spaces after it, so many bytes in all.
 fn padded(alloc: Global, bytes: usize) -> Result<String, AllocError> {
     let config =
         "{\"cniVersion\":\"1.0.0\",\"name\":\"n\",\"nodename\":\"a\",\"ipam\":{\"type\":\"calico-ipam\"}}";

@@ -38,7 +38,7 @@ turn_gifts (Only family) = []
 turn_gifts First = []
 turn_gifts (Second grant) = gift_in grant ∷ []
 
--- the families behind
+-- the families after this one
 abbrev pub turn_later : Turn → List Family
 turn_later (Only family) = []
 turn_later First = V6 ∷ []
@@ -58,7 +58,7 @@ add_on request turn gift now = add_each request (turn_gifts turn ++ gift ∷ [])
 abbrev pub family_then : AddRequest → Turn → Outcome Served → Part AddAnswer
 family_then request turn = after_family request (turn_gifts turn) (add_on request turn)
 
--- the answer behind the freeing
+-- the answer after the freeing
 abbrev pub then_answer : AddAnswer → Left → ℕ → Part AddAnswer
 then_answer answer now amount = went now answer
 

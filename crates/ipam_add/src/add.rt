@@ -35,9 +35,9 @@ pub struct AddProc {
 enum Turn {
     /// The only one.
     Only(Family),
-    /// IPv4, and IPv6 behind it.
+    /// IPv4, and IPv6 after it.
     First,
-    /// IPv6, behind what was given of IPv4.
+    /// IPv6, after what was given of IPv4.
     Second(Grant),
 }
 

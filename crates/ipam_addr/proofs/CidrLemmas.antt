@@ -18,7 +18,7 @@ pow-split w k within =
 pub multiple : (b k : ℕ) → b % 2 ^ k ≡ 0 → b / 2 ^ k * 2 ^ k ≡ b
 multiple b k aligned = omega (arith, shr_split b k)
 
--- behind a multiple of 2 ^ k there is room for 2 ^ k numbers
+-- after a multiple of 2 ^ k there is room for 2 ^ k numbers
 pub aligned_end : (w k b : ℕ) → k ≤ w → b < 2 ^ w → b % 2 ^ k ≡ 0 → b + 2 ^ k ≤ 2 ^ w
 aligned_end w k b within fits aligned =
     let split = pow-split w k within in
@@ -58,7 +58,7 @@ last_fits r w n h w_is n_is =
     let step : r.base + n + 1 ≡ cidr_end r = omega arith in
     (omega arith, omega arith, step)
 
--- the bits behind the prefix are the remainder
+-- the bits after the prefix are the remainder
 pub masked : (a w p m : ℕ) (f : Family) → w ≡ width f → m ≡ 2 ^ (w - p) - 1 → bit_and a m ≡ a % size_of f p
 masked a w p m f w_is m_is =
     ap (λ v. bit_and a v) m_is ∙ and_mask a (w - p) ∙ ap (λ v. a % 2 ^ (v - p)) w_is

@@ -9,7 +9,7 @@ use Rattle.ipam_addr.specs.Width.{cidr_size}
 abbrev pub first_address : CidrValue → AddrValue
 first_address r = record { family = r.family; number = r.base }
 
--- the number behind the last address
+-- the number after the last address
 abbrev pub cidr_end : CidrValue → ℕ
 cidr_end r = r.base + cidr_size r
 

@@ -9,7 +9,7 @@ use Rattle.ipam_addr.specs.Width.{width, size_of}
 abbrev pub cidr_at_prefix : AddrValue → ℕ → CidrValue
 cidr_at_prefix a prefix = record { family = a.family; base = a.number; prefix = prefix }
 
--- the CIDR, or else the first fault: a prefix longer than an address, or a bit behind the prefix
+-- the CIDR, or else the first fault: a prefix longer than an address, or a bit after the prefix
 abbrev pub made_cidr : AddrValue → ℕ → Result CidrValue AddrFault
 made_cidr a prefix =
     if nat_lt (width a.family) prefix then Err Prefix

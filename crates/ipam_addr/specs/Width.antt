@@ -25,7 +25,7 @@ size_of family prefix = 2 ^ (width family - prefix)
 abbrev pub cidr_size : CidrValue → ℕ
 cidr_size r = size_of r.family r.prefix
 
--- the prefix is no longer than an address, and no bit of the base is set behind it
+-- the prefix is no longer than an address, and no bit of the base is set after it
 pub record IsCidr (r : CidrValue) : Type 0 where
   pub prefix_fits : r.prefix ≤ width r.family
   pub base_fits : r.base < address_count r.family

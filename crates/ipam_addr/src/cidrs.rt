@@ -15,7 +15,7 @@ pub enum AddrFault {
     Text = 1,
     /// The prefix is longer than an address of the family.
     Prefix = 2,
-    /// A bit behind the prefix is set.
+    /// A bit after the prefix is set.
     HostBits = 3,
 }
 

@@ -8,7 +8,7 @@ use crate::cidrs::{AddrFault, Cidr, low_bits};
 /// The CIDR of all addresses that share the first `prefix` bits of `addr`, whose other bits are 0.
 ///
 /// Fails with `Prefix` where the family's addresses have fewer bits, and else with `HostBits`
-/// where a bit behind the prefix is set.
+/// where a bit after the prefix is set.
 pub fn cidr(addr: Addr, prefix: u8) -> Result<Cidr, AddrFault>
     ensures value { result ≡ made_cidr addr prefix }
     ensures prefix { (result ≡ Err AddrFault.Prefix) ↔ (width addr.family < prefix) }
@@ -24,7 +24,7 @@ pub fn cidr(addr: Addr, prefix: u8) -> Result<Cidr, AddrFault>
     Ok(Cidr::new(addr, prefix))
 }
 
-// The bits of the address behind its first `prefix`.
+// The bits of the address after its first `prefix`.
 fn host_bits(addr: Addr, prefix: u8) -> u128
     requires { prefix ≤ width addr.family }
     ensures { result ≡ addr.number % size_of addr.family prefix }

@@ -71,7 +71,7 @@ fn chosen(other: &Reservation, new: &Reservation) -> Result<Reservation, AllocEr
     other.clone()
 }
 
-/// The list with the reservation behind it.
+/// The list with the reservation after it.
 fn appended(
     alloc: Global,
     list: &[Reservation],

@@ -33,7 +33,7 @@ use Rattle.ipam_parts.proofs.FreeingLemmas.{lowering_asks}
 use Rattle.ipam_assign.specs.declared.assigning.Assigning.{Assigning}
 use Rattle.ipam_assign.specs.declared.assigning.Stage.{Stage as AssignStage}
 use Rattle.ipam_assign.specs.declared.assigning.Stage.TheVariants as assign
-use Rattle.ipam_assign.specs.Assigning.{PartAssigned, assigning_at, assigning_leaves, assigning_rest, nothing, write_behind}
+use Rattle.ipam_assign.specs.Assigning.{PartAssigned, assigning_at, assigning_leaves, assigning_rest, nothing, write_after}
 use Rattle.ipam_assign.proofs.AssigningLemmas.{raising_asks}
 use Rattle.ipam_assign.specs.AddThis.{then_next, looked_in, looked_of, claims_leaves, assigns_leaves, Going, next_for, wanted_at, rules_of, block_part, claims_part, assigns_part, going, this_part, this_rest, this_at}
 use Rattle.ipam_assign.specs.PlaceShape.{PlaceValue}
@@ -110,7 +110,7 @@ asks_open (Waits next) some = absurd (cc some)
 
 assigning_asks_at : (id : List ℕ) (b : BlockValue) (revision : ℕ) (stage : AssignStage) → IsSome (next_call (assigning_at id b revision stage))
 assigning_asks_at id b revision (assign.Raises raising) =
-    asks_on (raising_rest id raising) (onward (write_behind id b revision)) (raising_asks id raising)
+    asks_on (raising_rest id raising) (onward (write_after id b revision)) (raising_asks id raising)
 assigning_asks_at id b revision (assign.Writes left) = refl
 assigning_asks_at id b revision (assign.Lowers lowering) =
     asks_on (lowering_rest id lowering) (onward nothing) (lowering_asks id lowering)

@@ -1,4 +1,4 @@
--- What is left of an assignment behind the raising and behind the lowering of the count.
+-- What is left of an assignment after the raising and after the lowering of the count.
 use Rattle.std.proofs.Common.{◌≡◌, refl, sym, ap, ◌∙◌, ℕ, List, Some, None, IsSome}
 use Rattle.ipam_addr.specs.Shape.{CidrValue}
 use Rattle.ipam_block.specs.Shape.{BlockValue}
@@ -19,7 +19,7 @@ use Rattle.ipam_parts.specs.declared.raising.Stage.{Stage as RaiseStage}
 use Rattle.ipam_parts.specs.declared.raising.Stage.TheVariants as raise
 use Rattle.ipam_parts.specs.Lowering.{lowering_rest}
 use Rattle.ipam_parts.specs.Raising.{raising_at, raising_rest}
-use Rattle.ipam_assign.specs.Assigning.{nothing, none_behind, write_behind}
+use Rattle.ipam_assign.specs.Assigning.{nothing, none_after, write_after}
 use Rattle.ipam_parts.proofs.BoundLaws.{asked_bound, heard_bound, may_hear_bound, goes_on_bound, ended_bound}
 use Rattle.ipam_parts.proofs.FreeingLemmas.{lowering_asks}
 
@@ -35,14 +35,14 @@ raising_asks id r = raising_asks_at id r.cidr r.left r.stage
 -- ---- while the count is raised
 
 pub asks_raising : (id : List ℕ) (r : Raising) (b : BlockValue) (revision : ℕ)
-    → next_call (part_then (raising_rest id r) (write_behind id b revision)) ≡ next_call (raising_rest id r)
-asks_raising id r b revision = asked_bound (raising_rest id r) (onward (write_behind id b revision)) (raising_asks id r)
+    → next_call (part_then (raising_rest id r) (write_after id b revision)) ≡ next_call (raising_rest id r)
+asks_raising id r b revision = asked_bound (raising_rest id r) (onward (write_after id b revision)) (raising_asks id r)
 
 pub hears_raising : (id : List ℕ) (r : Raising) (b : BlockValue) (revision moment : ℕ) (said : Said)
-    → after_reply (part_then (raising_rest id r) (write_behind id b revision)) moment said
-    ≡ part_then (after_reply (raising_rest id r) moment said) (write_behind id b revision)
+    → after_reply (part_then (raising_rest id r) (write_after id b revision)) moment said
+    ≡ part_then (after_reply (raising_rest id r) moment said) (write_after id b revision)
 hears_raising id r b revision moment said =
-    heard_bound (raising_rest id r) (onward (write_behind id b revision)) moment said (raising_asks id r)
+    heard_bound (raising_rest id r) (onward (write_after id b revision)) moment said (raising_asks id r)
 
 -- ---- while it is lowered
 
@@ -58,12 +58,12 @@ pub may_hear_lowering : (id : List ℕ) (l : Lowering) (said : Said)
     → MayHear (part_then (lowering_rest id l) nothing) said → MayHear (lowering_rest id l) said
 may_hear_lowering id l said may = may_hear_bound (lowering_rest id l) (onward nothing) said (lowering_asks id l) may
 
-none_onward : (outcome : Outcome (Unit {0})) → answer_in (onward nothing outcome) ≡ Some (none_behind outcome)
+none_onward : (outcome : Outcome (Unit {0})) → answer_in (onward nothing outcome) ≡ Some (none_after outcome)
 none_onward (Went left done) = refl
 none_onward (Stops left why) = refl
 
 pub lowering_ends : (part : Part (Unit {0})) (outcome : Outcome (Unit {0})) → Some outcome ≡ answer_in part
-    → Some (none_behind outcome) ≡ answer_in (part_then part nothing)
+    → Some (none_after outcome) ≡ answer_in (part_then part nothing)
 lowering_ends part outcome is = sym (ap answer_in (ended_bound part (onward nothing) outcome is) ∙ none_onward outcome)
 
 pub lowering_goes_on : (part : Part (Unit {0})) → None ≡ answer_in part → None ≡ answer_in (part_then part nothing)
@@ -73,7 +73,7 @@ lowering_goes_on part none = goes_on_bound part (onward nothing) none
 
 pub begins : (attributes : Attributes) (revision : ℕ) (b new : BlockValue) (ordinal : ℕ) (left : Left) (part : Part (Unit {0}))
     → part ≡ raise_count attributes.handle b.cidr left → new ≡ block_with_ordinal (next_block b) ordinal attributes
-    → part_then part (write_behind attributes.handle new revision) ≡ assign attributes (target_in (revision, b) ordinal) left
+    → part_then part (write_after attributes.handle new revision) ≡ assign attributes (target_in (revision, b) ordinal) left
 begins attributes revision b new ordinal left part is made =
-    ap (λ p. part_then p (write_behind attributes.handle new revision)) is
-    ∙ ap (λ n. part_then (raise_count attributes.handle b.cidr left) (write_behind attributes.handle n revision)) made
+    ap (λ p. part_then p (write_after attributes.handle new revision)) is
+    ∙ ap (λ n. part_then (raise_count attributes.handle b.cidr left) (write_after attributes.handle n revision)) made

@@ -45,9 +45,9 @@ first_holds {A} {B} P Q finds (x ∷ xs) found all each is =
     by rest (Some b) here e = each x (All-head Q x xs all) (here ∙ e)
     by rest None here e = rest e
 
--- ---- the rank of a block that was rows_of_kind
+-- ---- the rank of a block that was listed
 
--- a block as it was rows_of_kind, in a sound datastore
+-- a block as it was listed, in a sound datastore
 record IsListed (found : ℕ × BlockValue) : Type 0 where
   takeable : (reserved : AddrValue → Bool) (ordinal : ℕ) → room reserved found.1 ≡ Some ordinal → IsTakeable found.1 ordinal
   counted : found.1.sequence < 2 ^ 62
@@ -188,7 +188,7 @@ module _ (asked : Asked) (sight : Sight) (rows_of_kind : (slot : CidrValue) → 
       by None None here = tt
       by None (Some found) here = in_pools pools found slots here
 
--- what is picked by blocks that may be rows_of_kind can be written
+-- what is picked by blocks that may be listed can be written
 pub pick_fits : (asked : Asked) (pools : List Pool) (sight : Sight) (pick : Pick) (said : Said) → IsPoolTable pools
     → CanBeSaid (ListAll kind.Block) said → sight.blocks ≡ rows_said said → pick ≡ pick_in asked pools sight → FitsPick pick
 pick_fits asked pools sight pick said table can blocks is =

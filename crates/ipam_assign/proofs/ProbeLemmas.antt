@@ -86,7 +86,7 @@ next_is : (request : ProbeRequest) (scan : Scan) → probe_at request (Second sc
 unfolding probe_each
 next_is request scan = refl
 
--- behind IPv4, IPv6 is looked at
+-- after IPv4, IPv6 is looked at
 pub next_turn : (request : ProbeRequest) (turn : Turn) (scan : Scan) → turn ≡ First
     → probe_at request (Second scan) ReadsConfig ≡ probe_on request turn scan
 next_turn request turn scan is = next_is request scan ∙ ap (λ t. probe_on request t scan) (sym is)

@@ -1,4 +1,4 @@
--- What is left of the five reads behind each of them.
+-- What is left of the five reads after each of them.
 use Rattle.std.proofs.Common.{◌≡◌, refl, ℕ}
 use Rattle.std.specs.List.{list_any}
 use Rattle.ipam_addr.specs.Shape.{AddrValue, CidrValue}

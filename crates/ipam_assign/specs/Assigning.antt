@@ -26,7 +26,7 @@ use Rattle.ipam_assign.specs.declared.assigning.AssigningTurned.{AssigningTurned
 abbrev pub PartAssigned : Type 0
 PartAssigned = Part (Option Assigned)
 
--- behind the lowering, nothing was assigned
+-- after the lowering, nothing was assigned
 abbrev pub nothing : Left → Unit {0} → PartAssigned
 nothing now done = went now None
 
@@ -45,12 +45,12 @@ writes id b revision left =
     Asks (owing (credit_of id b.cidr 1)) (Update (record_of.Block b) revision)
     (λ moment said. written_at id b left moment said)
 
--- behind the raising, the block is written
-abbrev pub write_behind : List ℕ → BlockValue → (revision : ℕ) → Left → Unit {0} → PartAssigned
-write_behind id b revision now done = writes id b revision now
+-- after the raising, the block is written
+abbrev pub write_after : List ℕ → BlockValue → (revision : ℕ) → Left → Unit {0} → PartAssigned
+write_after id b revision now done = writes id b revision now
 
 abbrev pub assigning_at : List ℕ → BlockValue → (revision : ℕ) → Stage → PartAssigned
-assigning_at id b revision (Raises raising) = part_then (raising_rest id raising) (write_behind id b revision)
+assigning_at id b revision (Raises raising) = part_then (raising_rest id raising) (write_after id b revision)
 assigning_at id b revision (Writes left) = writes id b revision left
 assigning_at id b revision (Lowers lowering) = part_then (lowering_rest id lowering) nothing
 
@@ -60,7 +60,7 @@ assigning_rest id a = assigning_at id a.block a.revision a.stage
 -- what is left once the raising goes where a reply led it; no other stage has one
 abbrev pub raises_leaves : List ℕ → BlockValue → (revision : ℕ) → Stage → RaisingTurned → PartAssigned
 raises_leaves id b revision (Raises raising) turned =
-    part_then (raising_leaves id raising turned) (write_behind id b revision)
+    part_then (raising_leaves id raising turned) (write_after id b revision)
 raises_leaves id b revision stage turned = assigning_at id b revision stage
 
 -- and likewise the lowering
@@ -79,6 +79,6 @@ abbrev pub assigning_leaves : List ℕ → Assigning → AssigningTurned → Par
 assigning_leaves id a turned = assigning_goes id a turned.goes
 
 -- what the whole came to, where the lowering came to this
-abbrev pub none_behind : Outcome (Unit {0}) → Outcome (Option Assigned)
-none_behind (Went left done) = Went left None
-none_behind (Stops left why) = Stops left why
+abbrev pub none_after : Outcome (Unit {0}) → Outcome (Option Assigned)
+none_after (Went left done) = Went left None
+none_after (Stops left why) = Stops left why

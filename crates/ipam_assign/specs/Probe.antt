@@ -29,7 +29,7 @@ turn_scans (Only family) = []
 turn_scans First = []
 turn_scans (Second scan) = scan ∷ []
 
--- the families behind
+-- the families after this one
 abbrev pub turn_later : Turn → List Family
 turn_later (Only family) = []
 turn_later First = V6 ∷ []

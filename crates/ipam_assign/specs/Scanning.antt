@@ -100,7 +100,7 @@ scanning_at asked (ListsAffinities reserving) = affinities_listed asked reservin
 scanning_at asked (ListsBlocks gathered) =
     blocks_listed asked gathered.reserving gathered.f (has_confirmed gathered.confirmed)
 
--- the stage behind what was learned; what belongs to another stage changes nothing
+-- the stage after what was learned; what belongs to another stage changes nothing
 abbrev pub learn_at : Stage → (moment : ℕ) → Read → Stage
 learn_at ReadsConfig moment (Config config) = ReadsPools (record { config = config; c = moment })
 learn_at (ReadsPools configured) moment (Pools pools) =

@@ -5,7 +5,7 @@ ghost use Rattle.ipam_records.specs.Hearing.{MayHear};
 ghost use Rattle.ipam_records.specs.Said.{said};
 ghost use Rattle.ipam_records.specs.Word.{next_call, after_reply, answer_in};
 ghost use Rattle.ipam_model.specs.Assigning.{assign, target_in};
-ghost use Rattle.ipam_assign.specs.Assigning.{lost_at, written_at, none_behind, assigning_at, assigning_rest, assigning_goes, assigning_leaves, raises_leaves, lowers_leaves};
+ghost use Rattle.ipam_assign.specs.Assigning.{lost_at, written_at, none_after, assigning_at, assigning_rest, assigning_goes, assigning_leaves, raises_leaves, lowers_leaves};
 ghost use Rattle.ipam_block.specs.Shape.{BlockValue};
 
 use ipam_addr::Cidr;
@@ -194,15 +194,15 @@ fn lowered(stage: &mut Stage, turned: LoweringTurned) -> Option<Outcome<Option<A
     match stage {
         Stage::Lowers(lowering) => match lowering.go(turned) {
             None => None,
-            Some(outcome) => Some(nothing_behind(outcome)),
+            Some(outcome) => Some(nothing_after(outcome)),
         },
         _ => None,
     }
 }
 
 /// What the whole came to, where the lowering came to this.
-fn nothing_behind(outcome: Outcome<()>) -> Outcome<Option<Assigned>>
-    ensures { result ≡ none_behind outcome }
+fn nothing_after(outcome: Outcome<()>) -> Outcome<Option<Assigned>>
+    ensures { result ≡ none_after outcome }
 {
     match outcome {
         Outcome::Went(left, ()) => Outcome::Went(left, None),

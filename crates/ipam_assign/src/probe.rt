@@ -30,9 +30,9 @@ pub struct ProbeProc {
 enum Turn {
     /// The only one.
     Only(Family),
-    /// IPv4, and IPv6 behind it.
+    /// IPv4, and IPv6 after it.
     First,
-    /// IPv6, behind what was read for IPv4.
+    /// IPv6, after what was read for IPv4.
     Second(Scan),
 }
 

@@ -21,7 +21,7 @@ impl Rounds {
         }
     }
 
-    /// What is left behind one more round, or that there is none.
+    /// What is left after one more round, or that there is none.
     pub fn next(self) -> Option<Rounds>
         ensures { result ≡ fewer self }
     {

@@ -6,7 +6,7 @@ use Rattle.ipam_addr.specs.Text.{cidr_text_of}
 use Rattle.ipam_audit.specs.declared.report.Excess.{Excess}
 use Rattle.ipam_audit.specs.declared.report.Report.{Report}
 
--- a word, and behind it a name and a block
+-- a word, and after it a name and a block
 unfoldable pub named_block : (word name : List ℕ) → CidrValue → List ℕ
 named_block word name cidr = word ++ (codes " " ++ (name ++ (codes " " ++ cidr_text_of cidr)))
 

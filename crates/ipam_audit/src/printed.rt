@@ -38,7 +38,7 @@ fn push_excess(alloc: Global, out: &mut String, excess: &Excess) -> Result<(), A
     push_counts(alloc, out, excess.count, excess.owned)
 }
 
-/// The word, and behind it the name and the block.
+/// The word, and after it the name and the block.
 #[tactic(auto, unfolding(crate::specs::Printed::named_block))]
 fn push_named(
     alloc: Global,

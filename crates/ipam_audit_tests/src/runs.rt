@@ -73,7 +73,7 @@ fn words_of(alloc: Global, text: &str) -> Result<Vec<String>, AllocError> {
     Ok(words)
 }
 
-/// Runs the words of a table over one keeper: the rows, and behind each `†` the words, `⇒`, and what
+/// Runs the words of a table over one keeper: the rows, and after each `†` the words, `⇒`, and what
 /// is wanted. Answers how many there were.
 pub(crate) fn count_of<R: Threads + Sync + Abort>(
     rt: &R,

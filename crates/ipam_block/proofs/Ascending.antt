@@ -1,4 +1,4 @@
--- An allocation that is put behind those of lower ordinals keeps them ascending.
+-- An allocation that is put after those of lower ordinals keeps them ascending.
 use Rattle.std.proofs.Common.{◌≡◌, ◌≢◌, ℕ, zero, suc, ◌+◌, ◌-◌, ◌<◌, ◌≤◌, ◌⊎◌, Bool, cond, List, [], ◌∷◌, length, get_or, ap, sym, arith, refl, subst, inl, inr, lt-ltb, le-ltb}
 use Rattle.std.specs.Prelude.{AllPairs, insert, count_by, sum_by, nat_lt}
 use Rattle.std.proofs.lemmas.Bool.{cases_lt}
@@ -69,7 +69,7 @@ in_front o (x ∷ xs) (suc k) d h below =
           absurd (omega arith)
     ]
 
--- and none behind them
+-- and none after them
 pub behind : (o : ℕ) (xs : List Allocation) (k : ℕ) (d : Allocation) → Ascend xs → lower_count o xs ≤ k → k < length xs → o ≤ (get_or xs k d).ordinal
 behind o [] k d h from within = absurd (omega arith)
 behind o (x ∷ xs) zero d h from within =
@@ -104,7 +104,7 @@ at_place xs p a d j e within =
     let P : ℕ → Type 0 = λ k. get_or (insert xs p a) k d ≡ a in
     subst P (sym e) (get_or-insert_at xs p a d within)
 
--- an allocation of an ordinal that none has, put behind the lower ones
+-- an allocation of an ordinal that none has, put after the lower ones
 pub Ascend-insert : (xs : List Allocation) (a : Allocation) → Ascend xs → ((k : ℕ) (d : Allocation) → k < length xs → (get_or xs k d).ordinal ≢ a.ordinal) → Ascend (insert xs (lower_count a.ordinal xs) a)
 Ascend-insert xs a h new i j d before within =
     let p = lower_count a.ordinal xs in

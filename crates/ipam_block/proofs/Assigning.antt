@@ -1,4 +1,4 @@
--- A block stays a block where one of its queued ordinals is block_with_ordinal.
+-- A block stays a block where one of its queued ordinals is assigned.
 use Rattle.std.proofs.Common.{◌≡◌, ◌≢◌, ℕ, zero, suc, ◌+◌, ◌<◌, ◌≤◌, Bool, true, false, not, cond, eqb, List, [], ◌∷◌, ◌++◌, length, get_or, ap, ◌∙◌, arith, refl, subst, inl, inr, eqb-true, eq-eqb}
 use Rattle.std.specs.Prelude.{filter, insert, count_by, sum_by, nat_lt, ◌==◌}
 use Rattle.std.specs.List.{range_with_len, list_any}

@@ -1,4 +1,4 @@
--- A block stays a block where some of its allocations are block_without.
+-- A block stays a block where some of its allocations are freed.
 use Rattle.std.proofs.Common.{◌≡◌, ℕ, ◌+◌, ◌<◌, ◌≤◌, Bool, true, false, not, ◌||◌, cond, List, [], ◌∷◌, ◌++◌, sym, arith, refl, subst, append_assoc}
 use Rattle.std.specs.Prelude.{filter, count_by, nat_lt}
 use Rattle.std.specs.List.{list_any}
@@ -14,7 +14,7 @@ use Rattle.ipam_block.specs.Shape.{BlockValue}
 use Rattle.ipam_block.specs.Sound.{IsBlock, held_ordinals}
 use Rattle.ipam_block.specs.Operations.{block_without}
 
--- what is kept, then the queue, then what is block_without: the same ordinals as before
+-- what is kept, then the queue, then what is freed: the same ordinals as before
 freed-shares : (test : Allocation → Bool) (xs : List Allocation) (queue : List ℕ) → IsPermutation (held_ordinals xs ++ queue) (held_ordinals (filter (λ a. not (test a)) xs) ++ (queue ++ held_ordinals (filter test xs)))
 freed-shares test xs queue =
     let kept = filter (λ a. not (test a)) xs in

@@ -49,7 +49,7 @@ lent_holding = option_map (λ p. (p.0.now, p.1))
 abbrev pub is_held : BlockValue → ℕ → Bool
 is_held b ordinal = list_any (λ a. a.ordinal == ordinal) b.allocations
 
--- the block with one more allocation, which stands behind those of lower ordinals
+-- the block with one more allocation, which stands after those of lower ordinals
 abbrev pub with_allocation : BlockValue → Allocation → BlockValue
 with_allocation b a =
     record b {

@@ -12,7 +12,7 @@ holders_text node places attributes =
     ++ (codes ",\"allocations\":" ++ (compact_text (array_of (map place_data places))
     ++ (codes ",\"attributes\":" ++ compact_text (array_of (map attributes_data attributes))))))
 
--- the rest behind the CIDR, with the text of the stamps
+-- the rest after the CIDR, with the text of the stamps
 abbrev pub rest_text : (sequence : ℕ) → (stamps : List ℕ) → (queue : List ℕ) → List ℕ
 rest_text sequence stamps queue =
     codes ",\"sequenceNumber\":" ++ (decimal sequence

@@ -36,7 +36,7 @@ only_if test x = if test x then Some x else None
 
 -- ---- the members
 
--- what stands behind `host:`
+-- what stands after `host:`
 unfoldable pub after_host : List ℕ → Option (List ℕ)
 after_host text = if starts_with nat_eq text (codes "host:") then Some (drop 5 text) else None
 

@@ -126,7 +126,7 @@ fn node_named(alloc: Global, text: &str) -> Result<Option<Option<Text>>, AllocEr
     }
 }
 
-/// What stands behind `host:`.
+/// What stands after `host:`.
 fn after_host(text: &str) -> Option<&str>
     ensures { option_map (λ t. t.now) result ≡ after_host text.now }
 {

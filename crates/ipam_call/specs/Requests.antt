@@ -47,8 +47,8 @@ call_text env input = compact_text (call_data env input)
 abbrev pub sendable : List ℕ → Option (List ℕ)
 sendable text = only_if (nat_lt (length text) SESSION_LINE_BYTES) (text ++ codes "\n")
 
--- The line that is sent: none where standard input is longer than 1,048,576 bytes or no UTF-8, or
--- where the line would be longer than that.
+-- The line that is sent: none where standard input is longer than is read of it or no UTF-8, or
+-- where the line would be longer than a session's line may be.
 unfoldable pub line_for : List Pair → List ℕ → Option (List ℕ)
 line_for env input = do
   text ← input_text input

@@ -65,7 +65,7 @@ cidr_of_row revision (record_of.Block b) = refl
 cidr_of_row revision (record_of.Affinity a) = refl
 cidr_of_row revision (record_of.Handle h) = refl
 
--- those of a row and more behind it
+-- those of a row and more after it
 pub cidrs_from_row : (row : StoredRecord) (rest : List StoredRecord) (o : Option CidrValue) → o ≡ cidr_in row.1 → cidrs_in (row ∷ rest) ≡ cons_option o (cidrs_in rest)
 cidrs_from_row row rest o is = ap (λ (p : Option CidrValue). cons_option p (cidrs_in rest)) (cidr_of_row row.0 row.1 ∙ sym is)
 

@@ -78,7 +78,7 @@ module _ (slot : CidrValue) where
   no_block_there ((revision, record_of.Affinity a) ∷ rows) none = no_block_there rows none
   no_block_there ((revision, record_of.Handle h) ∷ rows) none = no_block_there rows none
 
--- ---- what is behind something is not it
+-- ---- what is after something is not it
 not_itself : (c : CidrValue) → cidr_cmp c c ≡ Less → ⊥
 not_itself c less = absurd (cc (tied_itself cidr_cmp_total c, less))
 
@@ -194,7 +194,7 @@ module _ (r : ReservedValue) (rows : List StoredRecord) (pool : Pool) where
       | inr behind ↦ full_not_bare j (full j behind within)
     ]
 
-    -- the block stands behind the slot
+    -- the block stands after the slot
     none_here : IsStrictlySortedBy cidr_cmp (cidrs_in rows) → cidr_cmp c (at k) ≡ Greater → Has (at k) (cidrs_in rows) → ⊥
     none_here ascends greater has =
         let less = behind_less c (at k) greater in

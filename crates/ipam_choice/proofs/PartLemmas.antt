@@ -63,7 +63,7 @@ ascend-take xs zero s = tt
 ascend-take [] (suc i) s = tt
 ascend-take (x ∷ xs) (suc i) s = (all-take (λ y. cidr_cmp x y ≡ Less) xs i s.0, ascend-take xs i s.1)
 
--- all of what is behind a place
+-- all of what is after a place
 pub all-behind : (xs : List CidrValue) (i : ℕ) → drop i xs ≡ take (length xs - i) (drop i xs)
 all-behind xs i = sym (ap (λ n. take n (drop i xs)) (sym (length-drop i xs)) ∙ take-length (drop i xs))
 

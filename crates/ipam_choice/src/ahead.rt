@@ -11,7 +11,7 @@ use ipam_records::{Listing, Record};
 pub(crate) struct Ahead<'a> {
     /// What is left of a page.
     page: &'a [(u64, Record)],
-    /// The pages behind it.
+    /// The pages after it.
     pages: &'a [Vec<(u64, Record)>],
 }
 

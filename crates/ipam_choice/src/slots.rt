@@ -53,7 +53,7 @@ pub(crate) fn next_bare(pool: &Pool, blocks: &Listing, reserved: &Reserved) -> O
     Some(number)
 }
 
-// The number of the first slot behind this one that has an address which is not reserved.
+// The number of the first slot after this one that has an address which is not reserved.
 fn next_with_room(pool: &Pool, reserved: &Reserved, number: u128) -> Option<u128>
     requires slotted { IsSlotted pool.now }
     requires within { number ≤ last_slot_of pool.now.cidr pool.now.size }

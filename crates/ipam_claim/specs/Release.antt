@@ -61,7 +61,7 @@ part_at tie left (Writes writing) = writing_at tie left writing
 abbrev pub release_at : Tie → Left → Stage → Word ReleaseAnswer
 release_at tie left stage = as_word release_stops (part_at tie left stage)
 
--- the stage behind the second read, where the affinity was at its mark
+-- the stage after the second read, where the affinity was at its mark
 abbrev pub stage_at_mark : Stage → Stage
 stage_at_mark (Reads (Again seen)) = Writes (Bares seen)
 stage_at_mark other = other

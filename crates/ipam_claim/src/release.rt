@@ -24,7 +24,7 @@ use ipam_text::Text;
 use std::alloc::{AllocError, Global};
 use std::mem;
 
-/// What a release has seen: the revision of its mark, and the block as it was read behind it.
+/// What a release has seen: the revision of its mark, and the block as it was read after it.
 #[derive(Debug, Drop)]
 struct Marked {
     mark: u64,
@@ -262,7 +262,7 @@ fn took(writing: &Writing, revision: u64) -> Goes
     }
 }
 
-/// The stage behind the second read, where the affinity was at its mark.
+/// The stage after the second read, where the affinity was at its mark.
 fn at_mark(stage: Stage) -> Stage
     ensures { result ≡ stage_at_mark stage }
 {

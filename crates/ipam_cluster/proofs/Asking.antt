@@ -87,7 +87,7 @@ sound_written store (Put revision new) sound =
     (row.is_record, row.counted)
 sound_written store (Remove revision key) sound = tt
 
--- the datastore stays sound behind the call
+-- the datastore stays sound after the call
 sound_behind : (cluster : Cluster) (slot : ℕ) (running : Running) (call : Call) (base : Base) (history : List Entry)
     → slot < 64 → cluster.entries < 2 ^ 62 → Lawful base history → IsDatastore base.store
     → (is : IsCluster cluster (cluster_at base history)) → slot_of cluster slot ≡ Some running → next_call (running_rest running) ≡ Some call

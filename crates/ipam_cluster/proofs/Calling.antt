@@ -113,7 +113,7 @@ moved_by old new one c code is within store entries slots this =
     moved old new one c.slot code (goes_on one.store one.entries c.answer (one.slots c.slot)) (store_after c one.store) is within
     (store ∙ ap (store_after c) is.store) entries slots this
 
--- what runs on has what is left behind the answer
+-- what runs on has what is left after the answer
 on_there : (old : Cluster) (one : model.Cluster) (slot : ℕ) (was after : Running) (call : Call) → IsCluster old one
     → RunsThere was (one.slots slot) → next_call (running_rest was) ≡ Some call
     → running_rest after ≡ after_reply (running_rest was) old.entries (reply_of old.store.store call) → running_grace after ≡ running_grace was
@@ -179,7 +179,7 @@ failed_before prepared = record {
   answer = Some Fault;
 }
 
--- what is word_after_reply where the reply leads
+-- what is answered where the reply leads
 answer_is : (old : Cluster) (prepared : Prepared) (p : IsPrepared old prepared) (answer : Option Answer) → answer ≡ answer_in (running_leaves p.running prepared.turned)
     → answer_in (after_reply (running_rest p.running) old.entries (reply_of old.store.store p.call)) ≡ answer
 answer_is old prepared p answer is = sym (ap answer_in p.leads.leaves) ∙ sym is

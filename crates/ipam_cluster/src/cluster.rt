@@ -67,7 +67,7 @@ impl Cluster {
         }
     }
 
-    /// A cluster in which nothing runs, over this datastore and behind so many entries.
+    /// A cluster in which nothing runs, over this datastore and after so many entries.
     fn of(alloc: Global, store: Store, first: u64) -> Result<Cluster, AllocError>
         requires { first ≤ 2 ^ 62 + SLOTS }
         ensures store { IfOk result (λ cluster. cluster.store ≡ store) }
@@ -247,7 +247,7 @@ impl Cluster {
         })
     }
 
-    /// One entry more, behind which this runs in the slot.
+    /// One entry more, after which this runs in the slot.
     pub(crate) fn put(&mut self, slot: u8, running: Option<Running>)
         requires slot { slot < SLOTS }
         requires room { self.old.entries + 1 + busy_count (slice_set self.old.slots.items slot running) ≤ 2 ^ 62 + SLOTS }
@@ -259,7 +259,7 @@ impl Cluster {
         self.entries += 1;
     }
 
-    /// One entry more, behind which what runs in the slot has gone where a reply led it.
+    /// One entry more, after which what runs in the slot has gone where a reply led it.
     pub(crate) fn turn(&mut self, slot: u8, turned: RunningTurned) -> Option<Answer>
         requires slot { slot < SLOTS }
         requires few { self.old.entries < 2 ^ 62 }

@@ -13,7 +13,7 @@ pub enum BeginFault {
 pub enum FeedFault {
     /// No collection waits in the slot.
     NotWaiting,
-    /// The grace behind the first list is not over: when that list was made, and the grace, in seconds.
+    /// The grace after the first list is not over: when that list was made, and the grace, in seconds.
     TooSoon { at: u64, grace: u64 },
     /// There were too many entries.
     Worn,

@@ -10,7 +10,7 @@ use ipam_request_text::read_request;
 use std::alloc::{AllocError, Global};
 use std::test::Fail;
 
-/// A cluster with no rows, behind so many entries.
+/// A cluster with no rows, after so many entries.
 #[tactic(auto, using(crate::proofs::Empty::no_rows_by_key))]
 fn opened(alloc: Global, first: u64) -> Result<Cluster, AllocError>
     requires { first ≤ 2 ^ 62 + 64 }
@@ -133,7 +133,7 @@ fn begins(cluster: &mut Cluster, alloc: Global, request: &Request) -> bool
     }
 }
 
-/// What comes of the first call of a DEL, behind so many entries.
+/// What comes of the first call of a DEL, after so many entries.
 fn first_call(alloc: Global, first: u64) -> &'static str
     requires { first ≤ 2 ^ 62 }
 {

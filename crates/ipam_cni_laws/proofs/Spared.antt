@@ -37,7 +37,7 @@ use Rattle.cni_gc.specs.Begun.{collect_of, probe_of}
 use Rattle.cni_gc.specs.Replies.{gc_reply_of, status_reply_of}
 use Rattle.ipam_cni.specs.Replies.{Answered, Asked, AtOnce, BadRows, ComesTo, Refused, Reply, RequestComesTo, begun_by, reply_to}
 use Rattle.ipam_cni_laws.specs.Spare.{GcLeavesLaw, StatusAddsLaw}
-use Rattle.ipam_cni_laws.proofs.Ready.{plain-ready, ready-plain}
+use Rattle.ipam_cni_laws.proofs.Ready.{ready-as-plain}
 
 -- ---- what a call is replied
 
@@ -172,10 +172,10 @@ status_adds env stdin call old new reply store request look comes opens same sou
     to : reply.0 ≡ 0 → (given : List Given) × ((alone_over (opened store) (Add request)).0 ≡ answer.Added given)
     to zero =
         let status : reply_status r.is_told ≡ 0 = ap (λ (p : Reply). p.0) r.text ∙ zero in
-        tells.0 (ready-plain found (zero-told (status_reply_of found) r.is_told (status-told found) r.answer status))
+        tells.0 ((ready-as-plain found).0 (zero-told (status_reply_of found) r.is_told (status-told found) r.answer status))
 
     from : (given : List Given) × ((alone_over (opened store) (Add request)).0 ≡ answer.Added given) → reply.0 ≡ 0
     from given =
-        let success = plain-ready found (tells.1 given) in
+        let success = (ready-as-plain found).1 (tells.1 given) in
         let is : r.is_told ≡ Success = cc (r.answer, success) in
         sym (ap (λ (p : Reply). p.0) r.text) ∙ ap reply_status is

@@ -71,7 +71,7 @@ fn calls_over_rows_that_do_not_allow_them_are_told(rt: HostRuntime) -> Result<()
     Ok(())
 }
 
-/// What comes of VERSION with a configuration and spaces behind it, so many bytes in all.
+/// What comes of VERSION with a configuration and spaces after it, so many bytes in all.
 fn told_of_padded(alloc: Global, bytes: usize) -> Result<String, AllocError> {
     let mut scenario = String::from_str(alloc, "call CNI_COMMAND=VERSION⇒{}")?;
     for _ in 2..bytes {

@@ -42,7 +42,7 @@ listed_sound store sound = record {
 said_sound : (s : Said) → CanBeSaid (ListAll kind.Block) s → AreSoundRows (rows_said s)
 said_sound s can = subst (λ (t : Said). AreSoundRows (rows_said t)) can.is_reply (listed_sound can.store can.sound)
 
--- where the blocks are rows_of_kind again, what is said are sound rows
+-- where the blocks are listed again, what is said are sound rows
 pub heard_sound : (request : CollectRequest) (stage : Stage) (found : FoundTwice) (s : Said) → stage ≡ ListsAgain found → MayHear (collect_at request stage) s → AreSoundRows (rows_said s)
 heard_sound request stage found s is heard =
     said_sound s (subst (λ (t : Stage). MayHear (collect_at request t) s) is heard).0

@@ -62,7 +62,7 @@ and_false : (a : Bool) → false ≡ a && false
 and_false true = refl
 and_false false = refl
 
--- an ordinal behind all addresses
+-- an ordinal after all addresses
 pub too_far : (address : AddrValue) (cidr : CidrValue) (ordinal : ℕ) → address.number < 2 ^ 128 → 2 ^ 128 ≤ cidr.base + ordinal
     → false ≡ same_address address (ordinal_address cidr ordinal)
 too_far address cidr ordinal small far =

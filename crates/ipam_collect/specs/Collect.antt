@@ -23,7 +23,7 @@ use Rattle.ipam_collect.specs.Frees.{leaks_left, frees_at, frees_leaves}
 abbrev pub due_from : CollectProc → ℕ
 due_from p = p.request.at + p.request.grace
 
--- when the first list was made, and the grace behind it
+-- when the first list was made, and the grace after it
 abbrev pub grace_asked : CollectRequest → Grace
 grace_asked request = record { at = request.at; grace = request.grace }
 

@@ -17,7 +17,7 @@ pub record AreSoundRows (rows : List StoredRecord) : Type 0 where
   pub blocks : (revision : ℕ) (b : BlockValue) → Contains rows (revision, record_of.Block b) → IsBlock b
   pub ascending : IsStrictlySortedBy key_cmp (map row_key rows)
 
--- the block that has the address, with this many bits behind the prefix
+-- the block that has the address, with this many bits after the prefix
 abbrev pub block_around : AddrValue → (bits : ℕ) → CidrValue
 block_around a bits = record {
   family = a.family;

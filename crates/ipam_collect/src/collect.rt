@@ -243,7 +243,7 @@ fn begun(b1: u64, b2: u64, tally: Tally) -> Goes
     }
 }
 
-/// The stage behind the wait, once the second list is there.
+/// The stage after the wait, once the second list is there.
 fn fed(stage: Stage, live: Seq<Text>) -> Stage
     ensures { result ≡ stage_fed stage live }
 {

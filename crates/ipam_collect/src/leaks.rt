@@ -16,7 +16,7 @@ use ipam_records::{Listing, Record};
 use ipam_text::{Seq, Text};
 use std::alloc::{AllocError, Global};
 
-/// How many sizes of blocks there are: the bits behind the prefix are at most 12.
+/// How many sizes of blocks there are: the bits after the prefix are at most 12.
 const BLOCK_SIZES: u8 = 13;
 
 /// The suspects that hold their addresses still, for handles that are not in this list either.
@@ -72,7 +72,7 @@ fn holds_around(suspect: &Suspect, listing: &Listing) -> bool
     false
 }
 
-/// Whether it is recorded in the block with this many bits behind the prefix.
+/// Whether it is recorded in the block with this many bits after the prefix.
 fn holds_in_size(suspect: &Suspect, listing: &Listing, bits: u8) -> bool
     requires { bits < 13 }
     ensures { result ≡ list_any (same_owner suspect.now.owner)
@@ -84,7 +84,7 @@ fn holds_in_size(suspect: &Suspect, listing: &Listing, bits: u8) -> bool
     }
 }
 
-/// The block around the address, with this many bits behind the prefix.
+/// The block around the address, with this many bits after the prefix.
 fn around(addr: Addr, bits: u8) -> Option<Cidr>
     requires { bits < 13 }
     ensures { result ≡ Some (block_around addr bits) }

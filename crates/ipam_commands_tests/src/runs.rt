@@ -100,7 +100,7 @@ fn number_of(status: Status) -> u8 {
     }
 }
 
-/// Runs the commands of a table, one table for one keeper: the rows, and behind each `†` the words of a
+/// Runs the commands of a table, one table for one keeper: the rows, and after each `†` the words of a
 /// command, `⇒`, and what is wanted. Answers how many there were.
 pub(crate) fn count_of(rt: &impl Abort, alloc: Global, table: &str) -> Result<usize, AllocError> {
     let mut count = 0usize;

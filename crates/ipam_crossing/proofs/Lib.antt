@@ -5,5 +5,4 @@ pub mod SentParts
 pub mod SentProcedures
 pub mod SentCluster
 pub mod SentShared
-pub mod SentSharedMemory
 pub mod SentMemory

@@ -72,7 +72,7 @@ fn put(keeper: &mut MemoryKeeper, line: &str) -> Result<(), AllocError> {
     }
 }
 
-/// The writes that fail, which come behind those of the rows.
+/// The writes that fail, which come after those of the rows.
 fn failing_of(alloc: Global, scenario: &str) -> Result<Vec<(u64, bool)>, AllocError> {
     let mut failing = Vec::new(alloc);
     let mut rows = 0u64;
@@ -116,7 +116,7 @@ fn step(
     }
 }
 
-/// Runs the command behind the number, whose output has room for so many bytes.
+/// Runs the command after the number, whose output has room for so many bytes.
 fn push_cut(
     alloc: Global,
     keeper: &mut MemoryKeeper,

@@ -3,7 +3,7 @@ use crate::commands::{WELL, run};
 use ipam_keeper::MemoryKeeper;
 use std::alloc::{AllocError, Global};
 
-/// So many times the part, behind the start.
+/// So many times the part, after the start.
 pub(crate) fn repeated(
     alloc: Global,
     start: &str,

@@ -41,7 +41,7 @@ impl Route {
     }
 }
 
-/// Adds the routes of the rows behind the others.
+/// Adds the routes of the rows after the others.
 pub(crate) fn add_routes(routes: &mut Vec<Route>, rows: &[(u64, Record)]) -> Result<(), AllocError>
     ensures { OnOk result (routes.new.items ≡ routes.old.items ++ routes_of rows.now) }
 {

@@ -1,4 +1,4 @@
--- A cluster over the generator's base, behind a history, and what was counted on it.
+-- A cluster over the generator's base, after a history, and what was counted on it.
 use Rattle.std.specs.Prelude.{◌≡◌, ℕ, ◌+◌, ◌<◌, ◌^◌, List, [], ◌∷◌, codes, Option, Some, None}
 use Rattle.ipam_records.specs.declared.call.Row.{Row as RowText}
 use Rattle.ipam_model.specs.declared.entry.Entry.{Entry}
@@ -37,7 +37,7 @@ pub record CountsOne (old new : Cluster) : Type 0 where
 
 -- ---- what is counted
 
--- it stands behind this history, and these answers were counted
+-- it stands after this history, and these answers were counted
 pub record IsCounted (counted : Counted) (history : List Entry) : Type 0 where
   pub stands : StandsFor counted.cluster base history
   pub again : counted.again ≡ again_count history
@@ -82,14 +82,14 @@ pub record IsDrawing (count : ℕ) (counted : Counted) (x begun : ℕ) : Type 0 
   pub drawn : IsDrawn count x begun history
   pub plain : AllRun IsNoCollection history
 
--- it stands behind a history of which this holds, and no collection runs
+-- it stands after a history of which this holds, and no collection runs
 pub record IsPlain (counted : Counted) (Holds : List Entry → Type 0) : Type 0 where
   pub history : List Entry
   pub is_counted : IsCounted counted history
   pub plain : AllRun IsNoCollection history
   pub holds : Holds history
 
--- whatever history the one stands behind without a collection, the other stands behind one that holds of it
+-- whatever history the one stands after without a collection, the other stands after one that holds of it
 abbrev pub Leads : (old new : Counted) → (Holds : List Entry → List Entry → Type 0) → Type 0
 Leads old new Holds = (before : List Entry) → IsCounted old before → AllRun IsNoCollection before → IsPlain new (Holds before)
 
@@ -101,7 +101,7 @@ pub record IsCollecting (counted : Counted) (live : List (List ℕ)) (before : L
   pub collects : Collects live before history
   pub is_freed : freed ≡ freed_count history
 
--- it stands behind this history, whose newest entry tells of nothing freed
+-- it stands after this history, whose newest entry tells of nothing freed
 pub record IsStart (counted : Counted) (before : List Entry) : Type 0 where
   pub is_counted : IsCounted counted before
   pub at_once : AllRun IsAtOnce before
@@ -117,7 +117,7 @@ pub record Turns (old new : Counted) (freed : ℕ) : Type 0 where
   pub happens : HappensAs old new (Turn 0 Well) made
   pub is_freed : freed ≡ freed_in (answer_told made)
 
--- the collection ran behind this history
+-- the collection ran after this history
 pub record HasCollected (counted : Counted) (count : ℕ) (before : List Entry) (freed : ℕ) : Type 0 where
   pub history : List Entry
   pub is_counted : IsCounted counted history

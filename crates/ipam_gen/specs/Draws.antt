@@ -1,7 +1,7 @@
 -- What is drawn: numbers from a state of 64 bits.
 use Rattle.std.specs.Prelude.{ℕ, ◌+◌, ◌*◌, ◌/◌, ◌%◌, ◌^◌}
 
--- the state behind a draw
+-- the state after a draw
 unfoldable pub next_state : ℕ → ℕ
 next_state x = (6364136223846793005 * x + 1442695040888963407) % 2 ^ 64
 

@@ -9,11 +9,11 @@ use Rattle.ipam_model.specs.History.{Lawful, cluster_at}
 use Rattle.ipam_gen.specs.Draws.{draw, next_state}
 use Rattle.ipam_gen.specs.Requests.{base, collection, live_below, request_of}
 
--- behind this history the event makes this entry
+-- after this history the event makes this entry
 abbrev pub Makes : List Entry → Event → Entry → Type 0
 Makes history event made = entries_of (cluster_at base history) event ≡ Ok (made ∷ [])
 
--- what runs in the slot behind this history
+-- what runs in the slot after this history
 abbrev pub slot_at : List Entry → (slot : ℕ) → Option Running
 slot_at history slot = (cluster_at base history).slots slot
 
@@ -25,7 +25,7 @@ slot_drawn x = draw 8 x
 
 -- By these draws the generator has come to the state x, has begun so many of its requests, and this
 -- has happened. A slot is drawn while not all are begun: one that is busy takes a turn, and in one that
--- is idle the next request begins, which is drawn from the state behind that draw.
+-- is idle the next request begins, which is drawn from the state after that draw.
 pub data IsDrawn (count : ℕ) : (x begun : ℕ) → List Entry → Type 0 where
   NothingDrawn : IsDrawn count 1 0 []
   TurnDrawn : (x begun : ℕ) (history : List Entry) (running : Running) (made : Entry)
@@ -74,8 +74,8 @@ pub record IsCollected (count : ℕ) (before after : List Entry) : Type 0 where
 
 -- ---- all of it
 
--- So many requests are drawn and run, behind the first history of which each has its answer; and then
--- the collection runs, behind the second.
+-- So many requests are drawn and run, after the first history of which each has its answer; and then
+-- the collection runs, after the second.
 pub record IsGenerated (count : ℕ) (answered whole : List Entry) : Type 0 where
   pub x : ℕ
   pub drawn : List Entry

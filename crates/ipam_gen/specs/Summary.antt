@@ -74,7 +74,7 @@ pub record Summary : Type 0 where
   pub exhausted : ℕ
   pub freed : ℕ
 
--- Of so many requests, that are all answered behind the first history, and of the whole one: the
+-- Of so many requests, that are all answered after the first history, and of the whole one: the
 -- requests, all entries, the addresses that are owned at the end, the requests that were tried too often
 -- and that found no address left, and the addresses that the collection freed.
 abbrev pub summary_of : (count : ℕ) (answered whole : List Entry) → Summary

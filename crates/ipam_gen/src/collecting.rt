@@ -1,4 +1,4 @@
-//! The collection behind the requests.
+//! The collection after the requests.
 ghost use Rattle.std.specs.Prelude.{◌≡◌, ℕ, List, [], ◌∷◌, None, IfOk, OnOk, ◌+◌, ◌<◌, ◌^◌};
 ghost use Rattle.std.specs.List.{All};
 ghost use Rattle.ipam_records.specs.Sound.{IsHandleId};

@@ -9,7 +9,7 @@ pub record IsPlace (counts : List (CidrValue × ℕ)) (block : CidrValue) (place
   pub within : place < length counts
   pub same : (d : CidrValue × ℕ) → (slice_index_or counts place d).0 ≡ block
 
--- the blocks before this place stand before the block, and the others behind it
+-- the blocks before this place stand before the block, and the others after it
 pub record IsGap (counts : List (CidrValue × ℕ)) (block : CidrValue) (place : ℕ) : Type 0 where
   pub within : place ≤ length counts
   pub before : (i : ℕ) (d : CidrValue × ℕ) → i < place → cidr_cmp block (slice_index_or counts i d).0 ≡ Greater

@@ -35,7 +35,7 @@ PlayedRightLaw =
 
 -- ---- what is written
 
--- the journal of a right history was written, and behind it this
+-- the journal of a right history was written, and after it this
 pub record WroteRight (script : Script) (first now : Option (List ℕ)) (last : List ℕ) : Type 0 where
   pub entries : List Entry
   pub right : IsRightOf script entries

@@ -42,16 +42,16 @@ use Rattle.ipam_journal_laws.proofs.WholeLines.{first_of, cut_at}
 
 -- ---- words before a space
 
--- two texts that go on behind a space
+-- two texts that go on after a space
 pub cut-words : (x y r s : List ℕ) → IsVisible x → IsVisible y → x ++ 32 ∷ r ≡ y ++ 32 ∷ s → (x ≡ y) × (r ≡ s)
 cut-words x y r s h k same = cut_at 32 x y r s (lacks-passed is_visible 32 refl x h) (lacks-passed is_visible 32 refl y k) same
 
--- a number behind a space, or nothing
+-- a number after a space, or nothing
 abbrev pub number_part : Bool → ℕ → List ℕ
 number_part false n = []
 number_part true n = 32 ∷ decimal n
 
--- what stands behind the first space, where this follows
+-- what stands after the first space, where this follows
 abbrev pub after_word : Bool → ℕ → List ℕ → List ℕ
 after_word false n r = r
 after_word true n r = decimal n ++ 32 ∷ r
@@ -77,7 +77,7 @@ cut-phrases b c x y m n r s has h k same =
 
 -- ---- slots and kinds
 
--- what stands behind the slot and a space
+-- what stands after the slot and a space
 unfoldable pub behind_slot : Entry → List ℕ
 behind_slot (entry.Began slot request) = codes "began " ++ (request_text request ++ codes "\n")
 behind_slot (entry.Fed slot at live) = codes "fed " ++ (at_text at ++ (live_text live ++ codes "\n"))

@@ -45,7 +45,7 @@ kind-plain kind.Handle = plain-text (codes "handle") refl
 key-plain : (k : Key) → HasName k → IsPlain (key_bytes k)
 key-plain k h = plain-visible (key_bytes k) (key-visible k h)
 
--- a word, and what stands behind it
+-- a word, and what stands after it
 behind-plain : (word : List ℕ) (rest : List ℕ) → list_all is_no_feed word ≡ true → IsPlain rest → IsPlain (word ++ rest)
 behind-plain word rest h k = passes-append word rest (plain-text word h) k
 
@@ -121,7 +121,7 @@ heard-plain c =
     passes-append (told_text c.reply) _ (told-plain c.reply) (behind-plain (codes " ") _ refl
     (passes-append (written_text c.written) _ (written-plain c.written) (behind-plain (codes " ") (ending_text c.answer) refl (ending-plain c.answer))))
 
--- a word, and a whole line behind it
+-- a word, and a whole line after it
 word-whole : (word line : List ℕ) → list_all is_no_feed word ≡ true → IsWholeLine line → IsWholeLine (word ++ line)
 word-whole word line h k = whole-behind word line (plain-text word h) k
 

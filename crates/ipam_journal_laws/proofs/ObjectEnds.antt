@@ -9,9 +9,9 @@ use Rattle.serde_json.specs.Data.{unsigned, negative, float, Num, Data, null, bo
 use Rattle.serde_json.specs.Written.{comma_if, number_text, compact_text, items_text, members_text}
 use Rattle.ipam_journal_laws.proofs.Plain.{Passes, passes, passes-cons, passes-first, passes-rest}
 
--- ---- what stands behind the last bracket
+-- ---- what stands after the last bracket
 
--- between the parts of values, in a string, or behind its escaping byte
+-- between the parts of values, in a string, or after its escaping byte
 data Place : Type 0 where
   Between : Place
   Inside : Place
@@ -42,12 +42,12 @@ is_last Between depth x = is_close x && (depth == 1)
 is_last Inside depth x = false
 is_last Escaped depth x = false
 
--- the text behind the bracket that closes the first of so many
+-- the text after the bracket that closes the first of so many
 abbrev behind : Place → ℕ → List ℕ → List ℕ
 behind place depth [] = []
 behind place depth (x ∷ xs) = cond (is_last place depth x) xs (behind (next_place place x) (next_depth place depth x) xs)
 
--- the same behind a closing bracket
+-- the same after a closing bracket
 abbrev closed : ℕ → List ℕ → List ℕ
 closed n r = cond (suc n == 1) r (behind Between n r)
 
@@ -196,7 +196,7 @@ is_object (string s) = false
 is_object (array ds) = false
 is_object (object ms) = true
 
--- what stands behind the object with which a text begins
+-- what stands after the object with which a text begins
 pub behind_object : List ℕ → List ℕ
 behind_object text = behind Between 0 text
 

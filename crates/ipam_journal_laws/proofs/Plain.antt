@@ -16,7 +16,7 @@ pub record Passes (p : ℕ → Bool) (text : List ℕ) : Type 0 where
 abbrev pub is_no_feed : ℕ → Bool
 is_no_feed x = not (x == 10)
 
--- the byte stands behind the space, so it is no line feed either
+-- the byte stands after the space, so it is no line feed either
 abbrev pub is_visible : ℕ → Bool
 is_visible x = nat_lt 32 x
 

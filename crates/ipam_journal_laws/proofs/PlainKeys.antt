@@ -56,7 +56,7 @@ compressed-visible segments run = by (nat_lt 1 run.1)
     by true = passes-append (groups_text (take run.0 segments) ++ codes "::") _ (passes-append (groups_text (take run.0 segments)) (codes "::") (groups-visible (take run.0 segments)) (visible-text (codes "::") refl)) (groups-visible (drop (run.0 + run.1) segments))
     by false = groups-visible segments
 
--- a number behind a sign
+-- a number after a sign
 signed-visible : (xs sign : List ℕ) (n : ℕ) → list_all is_visible sign ≡ true → IsVisible xs → IsVisible ((xs ++ sign) ++ decimal n)
 signed-visible xs sign n e h = passes-append (xs ++ sign) (decimal n) (passes-append xs sign h (visible-text sign e)) (visible-decimal n)
 

@@ -8,7 +8,7 @@ use Rattle.ipam_journal_laws.proofs.Plain.{IsPlain, Lacks, HasNoFeed-plain}
 pub whole-plain : (line : List ℕ) → IsPlain line → IsWholeLine (line ++ codes "\n")
 whole-plain line h = (line, HasNoFeed-plain line h, refl)
 
--- a whole line behind a text without a line feed
+-- a whole line after a text without a line feed
 pub whole-behind : (xs ys : List ℕ) → IsPlain xs → IsWholeLine ys → IsWholeLine (xs ++ ys)
 whole-behind xs ys h (line, k, e) =
     (xs ++ line, All-append (λ x. x ≢ 10) xs line (HasNoFeed-plain xs h) k, ap (λ (t : List ℕ). xs ++ t) e ∙ sym (append_assoc xs line (codes "\n")))

@@ -123,16 +123,21 @@ IsBeforeFirst-put : (m k : List ℕ) (d : Data) (ms : Members) → slice_cmp nat
 IsBeforeFirst-put m k d no_members new old = new
 IsBeforeFirst-put m k d (member l e ms) new old = IsBeforeFirst-put_at (slice_cmp nat_cmp k l) m k l d e ms new old
 
-MembersAreRegular-put_at : (o : Ordering) (k l : List ℕ) (d e : Data) (ms : Members) → slice_cmp nat_cmp k l ≡ o → IsRegular d → MembersAreRegular (member l e ms) → MembersAreRegular (put k d ms)
-    → MembersAreRegular (match_ordering o (member k d (member l e ms)) (member l d ms) (member l e (put k d ms)))
-MembersAreRegular-put_at Less k l d e ms is value old later = (is, value, old)
-MembersAreRegular-put_at Equal k l d e ms is value old later = (old.0, value, old.2)
-MembersAreRegular-put_at Greater k l d e ms is value old later =
-    (IsBeforeFirst-put l k d ms (nat_list_cmp_total.antisymm l k ∙ ap ordering_reverse is) old.0, old.1, later)
+-- what holds of members that ascend and of their data holds with one more
+module _ (IsGood : Data → Type 0) (AreGood : Members → Type 0) (none : AreGood no_members) (more : (k : List ℕ) (d : Data) (ms : Members) → IsBeforeFirst k ms → IsGood d → AreGood ms → AreGood (member k d ms)) (parts : (k : List ℕ) (d : Data) (ms : Members) → AreGood (member k d ms) → IsBeforeFirst k ms × IsGood d × AreGood ms) where
+  good-put_at : (o : Ordering) (k l : List ℕ) (d e : Data) (ms : Members) → slice_cmp nat_cmp k l ≡ o → IsGood d → AreGood (member l e ms) → AreGood (put k d ms) → AreGood (match_ordering o (member k d (member l e ms)) (member l d ms) (member l e (put k d ms)))
+  good-put_at Less k l d e ms is value old later = more k d (member l e ms) is value old
+  good-put_at Equal k l d e ms is value old later = let p = parts l e ms old in more l d ms p.0 value p.2
+  good-put_at Greater k l d e ms is value old later =
+      let p = parts l e ms old in
+      more l e (put k d ms) (IsBeforeFirst-put l k d ms (nat_list_cmp_total.antisymm l k ∙ ap ordering_reverse is) p.0) p.1 later
+
+  pub good-put : (k : List ℕ) (d : Data) (ms : Members) → IsGood d → AreGood ms → AreGood (put k d ms)
+  good-put k d no_members value old = more k d no_members tt value none
+  good-put k d (member l e ms) value old = good-put_at _ k l d e ms refl value old (good-put k d ms value (parts l e ms old).2)
 
 pub MembersAreRegular-put : (k : List ℕ) (d : Data) (ms : Members) → IsRegular d → MembersAreRegular ms → MembersAreRegular (put k d ms)
-MembersAreRegular-put k d no_members value old = (tt, value, tt)
-MembersAreRegular-put k d (member l e ms) value old = MembersAreRegular-put_at _ k l d e ms refl value old (MembersAreRegular-put k d ms value old.2)
+MembersAreRegular-put = good-put IsRegular MembersAreRegular tt (λ k d ms before value old. (before, value, old)) (λ k d ms h. h)
 
 members_depth-put_at : (o : Ordering) (levels : ℕ) (k l : List ℕ) (d e : Data) (ms : Members) → depth d ≤ levels → members_depth (member l e ms) ≤ levels → members_depth (put k d ms) ≤ levels
     → members_depth (match_ordering o (member k d (member l e ms)) (member l d ms) (member l e (put k d ms))) ≤ levels

@@ -1,6 +1,6 @@
 -- A path, a name at a time.
 use Rattle.std.proofs.Common.{◌≡◌, ◌≢◌, ℕ, suc, ◌^◌, ◌<◌, ◌≤◌, nat_le, List, [], ◌∷◌, ◌++◌, length, get_or, true, Option, Some, None, option_and_then, cond, Result, Ok, Err, refl, sym, ap, ◌∙◌, subst, inl, inr, arith, ne_eqb}
-use Rattle.std.proofs.lemmas.Bool.{and_parts, and_from, leb-true, le-leb, ltb-true, cases_lt}
+use Rattle.std.proofs.lemmas.Bool.{and_parts, and_from, leb-true, le-leb, ltb-true, lt-ltb, le-ltb, cases_lt}
 use Rattle.std.proofs.lemmas.Str.Parse.{IsDigitsTest, IsNumeralModel, numerals_by_value, without_leading_plus_none}
 use Rattle.std.specs.Prelude.{nat_lt, IfNone}
 use Rattle.std.specs.Char.{is_ascii_digit}
@@ -67,6 +67,23 @@ index_numeral name h =
     let tests = and_parts _ (list_all is_ascii_digit name) h in
     let some = (and_parts (nat_lt 0 (length name)) _ tests.0).0 in
     (without_leading_plus_none name (no_plus name tests.1), (ltb-true 0 (length name) some, digit_texts.to name tests.1))
+
+-- what `parse` reads of an index is its value, where so many bits hold it
+pub index_parsed : {E : Type 0} (bits : ℕ) (name : List ℕ) (r : Result ℕ E) → is_index name ≡ true → ParsesUnsigned bits 10 name r → result_ok r ≡ cond (nat_lt (digits_value 10 name) (2 ^ bits)) (Some (digits_value 10 name)) None
+index_parsed bits name (Ok n) index h =
+    let numeral = index_numeral name index in
+    let P : List ℕ → Type 0 = λ s. digits_value 10 s < 2 ^ bits in
+    let less = subst P numeral.0 h.0.1 in
+    let value : n ≡ digits_value 10 name = h.1 ∙ ap (digits_value 10) numeral.0 in
+    rw (lt-ltb (digits_value 10 name) (2 ^ bits) less) (ap Some value)
+index_parsed bits name (Err e) index h =
+    let numeral = index_numeral name index in
+    let P : List ℕ → Type 0 = λ s. ¬ (IsNumeral 10 s × (digits_value 10 s < 2 ^ bits)) in
+    let refused = subst P numeral.0 h in
+    elim (cases_lt (digits_value 10 name) (2 ^ bits)) [
+      | inl less ↦ absurd (refused (numeral.1, less))
+      | inr large ↦ rw (le-ltb (digits_value 10 name) (2 ^ bits) large) refl
+    ]
 
 -- an index that `parse` refuses is too large
 pub index_refused : (name : List ℕ) → is_index name ≡ true → ¬ (IsNumeral 10 (without_leading_plus name) × (digits_value 10 (without_leading_plus name) < 2 ^ 64)) → (i : ℕ) → index_of name ≡ Some i → 2 ^ 64 ≤ i

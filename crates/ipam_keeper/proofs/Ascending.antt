@@ -5,7 +5,8 @@ use Rattle.std.specs.declared.cmp.Ordering.TheVariants.{Less, Equal, Greater}
 use Rattle.std.specs.Ordering.{ordering_reverse}
 use Rattle.std.specs.List.{AllByRecursion, filter}
 use Rattle.ipam_records.specs.declared.call.Row.{Row}
-use Rattle.ipam_keeper.specs.Rows.{text_cmp, Ascend, row_key, row_at, rows_with, rows_without}
+use Rattle.ipam_records.specs.Datastore.{row_at}
+use Rattle.ipam_keeper.specs.Rows.{text_cmp, Ascend, row_key, rows_with, rows_without}
 use Rattle.ipam_keeper.proofs.Searching.{text_total}
 
 pub each_from : (P Q : List ℕ → Type 0) → ((key : List ℕ) → P key → Q key) → (rows : List Row) → AllByRecursion P (map row_key rows) → AllByRecursion Q (map row_key rows)

@@ -7,7 +7,8 @@ use Rattle.std.specs.Cmp.{tied_itself}
 use Rattle.std.specs.List.{AllByRecursion}
 use Rattle.std.proofs.lemmas.Map.Lookups.{exact_bytes}
 use Rattle.ipam_records.specs.declared.call.Row.{Row}
-use Rattle.ipam_keeper.specs.Rows.{text_cmp, texts_equal, Ascend, row_key, row_of, row_at, rows_with, rows_without}
+use Rattle.ipam_records.specs.Datastore.{row_at}
+use Rattle.ipam_keeper.specs.Rows.{text_cmp, texts_equal, Ascend, row_key, row_of, rows_with, rows_without}
 use Rattle.ipam_keeper.proofs.Searching.{text_total}
 use Rattle.ipam_keeper.proofs.Ascending.{each_from}
 

@@ -1,16 +1,16 @@
 -- What a search among rows finds, and what a write at that place does.
 use Rattle.std.proofs.Common.{◌≡◌, ℕ, List, [], ◌∷◌, length, set, map, not, cond, Result, Ok, Err, IfOk, IfErr, ap, ◌∙◌, refl}
 use Rattle.std.specs.declared.cmp.Ordering.{Ordering}
-use Rattle.std.specs.declared.cmp.Ordering.TheVariants.{Less, Equal, Greater}
 use Rattle.std.specs.Ordering.{is_eq, ordering_reverse}
 use Rattle.std.specs.Cmp.{IsTotalOrder}
 use Rattle.std.specs.List.{insert, remove}
 use Rattle.std.specs.List.Sorted.{IsStrictlySortedBy, IsSearchInRange, IsBinarySearchResult}
 use Rattle.std.proofs.lemmas.Cmp.{nat_list_cmp_total}
 use Rattle.ipam_records.specs.declared.call.Row.{Row}
-use Rattle.ipam_records.proofs.PlaceWrites.{PutsByKey, TakesByKey, set_found, insert_gap, remove_found, without_gap}
+use Rattle.ipam_records.proofs.PlaceWrites.{PutsByKey, TakesByKey, puts_by_step, takes_by_step, set_found, insert_gap, remove_found, without_gap}
 use Rattle.ipam_records.proofs.SearchLemmas.{searched as searched_by_key}
-use Rattle.ipam_keeper.specs.Rows.{text_cmp, Ascend, row_key, row_at, rows_with, rows_without}
+use Rattle.ipam_records.specs.Datastore.{row_at}
+use Rattle.ipam_keeper.specs.Rows.{text_cmp, Ascend, row_key, rows_with, rows_without}
 use Rattle.ipam_keeper.specs.Places.{IsPlace, IsGap}
 
 -- the order of key texts is total
@@ -39,20 +39,10 @@ with_step new r rs o h =
     ap (λ v. row_at v new r rs (rows_with new rs)) (text_total.antisymm (row_key new) (row_key r) ∙ ap ordering_reverse h)
 
 puts : PutsByKey text_cmp row_key rows_with
-puts = record {
-  empty = λ new. refl;
-  below = λ new r rs h. with_step new r rs Less h;
-  same = λ new r rs h. with_step new r rs Equal h;
-  above = λ new r rs h. with_step new r rs Greater h;
-}
+puts = puts_by_step text_cmp row_key rows_with (λ new. refl) with_step
 
 takes : TakesByKey text_cmp row_key rows_without
-takes = record {
-  empty = λ key. refl;
-  below = λ key r rs h. without_step key r rs Less h;
-  same = λ key r rs h. without_step key r rs Equal h;
-  above = λ key r rs h. without_step key r rs Greater h;
-}
+takes = takes_by_step text_cmp row_key rows_without (λ key. refl) without_step
 
 -- ---- by what a search found
 pub set-rows_with : (rows : List Row) → Ascend rows → (new : Row) (i : ℕ) → IsPlace rows (row_key new) i → set rows i new ≡ rows_with new rows

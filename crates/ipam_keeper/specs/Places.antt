@@ -9,7 +9,7 @@ pub record IsPlace (rows : List Row) (key : List ℕ) (place : ℕ) : Type 0 whe
   pub within : place < length rows
   pub same : (d : Row) → text_cmp (row_key (slice_index_or rows place d)) key ≡ Equal
 
--- the rows before this place stand before the key, and the others behind it
+-- the rows before this place stand before the key, and the others after it
 pub record IsGap (rows : List Row) (key : List ℕ) (place : ℕ) : Type 0 where
   pub within : place ≤ length rows
   pub before : (i : ℕ) (d : Row) → i < place → text_cmp (row_key (slice_index_or rows i d)) key ≡ Less

@@ -1,11 +1,12 @@
 -- Rows by their key texts.
 use Rattle.std.specs.Prelude.{◌≡◌, ℕ, ⊤, Bool, not, List, [], ◌∷◌, map, filter, find, Option}
 use Rattle.std.specs.declared.cmp.Ordering.{Ordering}
-use Rattle.std.specs.declared.cmp.Ordering.TheVariants.{Less, Equal, Greater}
+use Rattle.std.specs.declared.cmp.Ordering.TheVariants.{Less}
 use Rattle.std.specs.Ordering.{nat_cmp, eq_by_cmp}
 use Rattle.std.specs.Cmp.Lexicographic.{slice_cmp}
 use Rattle.std.specs.List.{AllByRecursion}
 use Rattle.ipam_records.specs.declared.call.Row.{Row}
+use Rattle.ipam_records.specs.Datastore.{row_at}
 
 -- key texts stand by their bytes
 abbrev pub text_cmp : List ℕ → List ℕ → Ordering
@@ -28,12 +29,6 @@ Ascend (row ∷ rows) = AllByRecursion (λ key. text_cmp (row_key row) key ≡ L
 -- the row of a key
 abbrev pub row_of : List ℕ → List Row → Option Row
 row_of key = find (λ row. texts_equal (row_key row) key)
-
--- a row before, in place of or behind the first, where `further` has it behind
-abbrev pub row_at : Ordering → (row first : Row) (rest further : List Row) → List Row
-row_at Less row first rest further = row ∷ first ∷ rest
-row_at Equal row first rest further = row ∷ rest
-row_at Greater row first rest further = first ∷ further
 
 -- the rows with this one in its place, where it stands for the row of its key
 abbrev pub rows_with : Row → List Row → List Row

@@ -129,7 +129,7 @@ writes-key own (Conflict revision) done e = absurd (cc e)
 writes-key own Full done e = absurd (cc e)
 writes-key own Spent done e = absurd (cc e)
 
--- the key that a granted write names is sound, where the datastore behind it is
+-- the key that a granted write names is sound, where the datastore after it is
 changed-there : (store : Datastore) (seen revision : ℕ) (o : Option StoredRecord) → reply_to_change store seen o ≡ Can revision → (row : StoredRecord) × (o ≡ Some row)
 changed-there store seen revision None e = absurd (cc e)
 changed-there store seen revision (Some row) e = (row, refl)

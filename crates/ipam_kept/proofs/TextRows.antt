@@ -88,7 +88,7 @@ rows-differ (row ∷ rows) s =
     never-less row.key (ap (λ (r : Row). text_cmp row.key r.key) same ∙ less-than row.key rows other s.0 there)))
     (rows-differ rows s.1)
 
--- what differs from a first one, and what stands behind it
+-- what differs from a first one, and what stands after it
 first-differs : {X : Type 0} → (x : X) (xs : List X) → AllPairs (λ x y. x ≢ y) (x ∷ xs) → (y : X) → Contains xs y → x ≢ y
 first-differs x xs differ y (k, inside, is) same = differ zero (suc k) y (omega arith) (omega arith) (same ∙ sym is)
 

@@ -78,7 +78,7 @@ lowering-apart : (h : handle.HandleValue) (counts : List (CidrValue × ℕ)) (re
 lowering-apart h [] revision = tt
 lowering-apart h (count ∷ counts) revision = tt
 
--- an address was block_with_ordinal by a call of the trail
+-- an address was assigned by a call of the trail
 pub record DidAssign (attributes : Attributes) (target : Target) (trail : Trail) : Type 0 where
   pub moment : ℕ
   pub store : Datastore
@@ -161,7 +161,7 @@ module _ (May : Trail → Datastore → CallLabel → Call → Type 0) (apart : 
 
   -- ---- freeing
 
-  -- what may be block_without behind this trail
+  -- what may be freed after this trail
   abbrev pub MayFree : Freeing → Trail → Type 0
   MayFree what origin =
       (trail : Trail) → Since origin trail → (store : Datastore) (b : BlockValue) (revision amount : ℕ) → b.cidr ≡ what.block → IsCurrent store revision b → count_by what.picks b.allocations ≡ suc amount
@@ -324,7 +324,7 @@ module _ (May : Trail → Datastore → CallLabel → Call → Type 0) (apart : 
 
   -- ---- assigning
 
-  -- what may be block_with_ordinal behind this trail
+  -- what may be assigned after this trail
   pub record MayAssign (attributes : Attributes) (target : Target) (origin : Trail) : Type 0 where
     pub current : (trail : Trail) → Since origin trail → (store : Datastore) → AgreesAll store trail → IsCurrent store target.revision target.block
     pub may : (trail : Trail) (store : Datastore) → IsCurrent store target.revision target.block → May trail store (owing (credit_of attributes.handle target.block.cidr 1)) (assigning_call attributes target)

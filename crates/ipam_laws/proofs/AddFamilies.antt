@@ -54,7 +54,7 @@ use Rattle.ipam_laws.proofs.Trails.{AgreesAll, Comes, Comes-bound, Did, Got, Ste
 
 -- ---- a round
 
--- the latest step rows_of_kind the block as it was read
+-- the latest step listed the block as it was read
 pub record IsListed (trail : Trail) (found : ℕ × block.BlockValue) : Type 0 where
   pub b : ℕ
   pub blocks : Datastore
@@ -211,7 +211,7 @@ follow-comes round seen five left (Picks ranked) r after picked is =
 follow-comes round seen five left Lacks r after picked is = is-chosen round.request round.scan seen five Nothing r is
 follow-comes round seen five left (Unknown place) r after picked is = (round.scan, place, refl, refl, is-chosen round.request round.scan seen five (NoPool place) r is)
 
--- a block that was rows_of_kind is known from then on
+-- a block that was listed is known from then on
 pub listed-known : (blocks : Datastore) (four : Trail) (b : ℕ) (slot : CidrValue) (read : BlockRead) → block_in_found (find (is_block_at slot) (rows_of_kind kind.Block blocks)) ≡ read → KnownAt (Did b blocks (ListAll kind.Block) ∷ four) slot read
 unfolding AgreesAll
 listed-known blocks four b slot None e = tt

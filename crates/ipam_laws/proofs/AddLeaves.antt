@@ -1,5 +1,5 @@
 -- What an ADD without an address leaves, by the trail that led there: each of its calls is calm, or it
--- assigned an address that is still given, or that was freed behind it.
+-- assigned an address that is still given, or that was freed after it.
 use Rattle.std.proofs.Common.{◌≡◌, ℕ, zero, suc, ◌+◌, ◌-◌, inl, inr, List, [], ◌∷◌, ◌++◌, Option, Some, None, refl, sym, subst, arith}
 use Rattle.std.specs.Prelude.{Contains}
 use Rattle.std.proofs.lemmas.List.Elements.{Contains-append_left, Contains-append_right}
@@ -64,14 +64,14 @@ pub record IsGiftOf (request : AddRequest) (gift : Gift) (store : Datastore) (as
   pub ordinal : gift.given.address.number - gift.block.base ≡ target.ordinal
   pub stamp : gift.stamp ≡ target.block.sequence + 1
 
--- what the call gave was freed behind it
+-- what the call gave was freed after it
 pub record IsFreedBehind (request : AddRequest) (whole : Trail) (moment : ℕ) (store : Datastore) (asked : Call) (before : Trail) : Type 0 where
   pub gift : Gift
   pub given : IsGiftOf request gift store asked
   pub amount : ℕ
   pub rid : Rid (freeing_gift request gift) (Did moment store asked ∷ before) amount whole
 
--- the call is calm, or what it gave was freed behind it, or is one of these
+-- the call is calm, or what it gave was freed after it, or is one of these
 pub data StepLeaves (request : AddRequest) (gifts : List Gift) (whole : Trail) (moment : ℕ) (store : Datastore) (asked : Call) (before : Trail) : Type 0 where
   IsCalm : Calm store asked → StepLeaves request gifts whole moment store asked before
   IsFreed : IsFreedBehind request whole moment store asked before → StepLeaves request gifts whole moment store asked before
@@ -120,7 +120,7 @@ more-leaves request gifts gift whole (Did moment store asked ∷ trail) h = (by 
     by (IsGiven one among given) = IsGiven one (Contains-append_left gifts (gift ∷ []) one among) given
 more-leaves request gifts gift whole (Got moment at live ∷ trail) h = h
 
--- one gift less: it was freed behind the trail
+-- one gift less: it was freed after the trail
 freed-leaves : (request : AddRequest) (gift : Gift) (gifts : List Gift) (whole longer : Trail) (amount : ℕ) → Calmer whole longer → Rid (freeing_gift request gift) whole amount longer → (trail : Trail) → Since trail whole
     → Leaves request (gift ∷ gifts) whole trail → Leaves request gifts longer trail
 unfolding Leaves

@@ -75,7 +75,7 @@ gained-held old next request target revision c d granted current is owner gains 
     })
 
 module _ (span : Span) (consistent : IsConsistent span.base.store) (lawful : Lawful span.base span.history) (request : AddRequest) (whole : Trail) (is_whole : IsTrail span (now span) whole) where
-  -- what a call gained that was freed behind it is gone
+  -- what a call gained that was freed after it is gone
   freed-gone : (m : ℕ) (store : Datastore) (asked : Call) (before : Trail) → DidAt span m store asked → IsFreedBehind request whole m store asked before → (owner : Owner) → Gains (seen_at span m) (seen_at span (m + 1)) owner → ¬ (Owns (seen_now span) owner)
   freed-gone m store asked before did freed owner gains =
       let given = freed.given in

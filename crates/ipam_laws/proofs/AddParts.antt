@@ -71,7 +71,7 @@ unfoldable pub StopsOtherwise : {A : Type 0} → Trail → Outcome A → Type 0
 StopsOtherwise trail (Went left a) = Unit {0}
 StopsOtherwise trail (Stops left why) = NotLimit why
 
--- the handle was read at the moment, quietly behind the trail, and last, and its count was at its limit
+-- the handle was read at the moment, quietly after the trail, and last, and its count was at its limit
 pub record ReadLast (origin : Trail) (id : List ℕ) (cidr : CidrValue) (moment : ℕ) (trail : Trail) : Type 0 where
   pub store : Datastore
   pub between : Trail
@@ -271,9 +271,9 @@ claim-for origin trail node cidr read left quiet knows =
     ends longer claimed.Full k = (tt, k)
     ends longer claimed.Spent k = (tt, k)
 
--- ---- an address is block_with_ordinal
+-- ---- an address is assigned
 
--- the latest call gives an address of the family and of no other, quietly behind the trail
+-- the latest call gives an address of the family and of no other, quietly after the trail
 pub record GivesLast (origin : Trail) (family : Family) (trail : Trail) : Type 0 where
   pub moment : ℕ
   pub store : Datastore
@@ -284,7 +284,7 @@ pub record GivesLast (origin : Trail) (family : Family) (trail : Trail) : Type 0
   pub only : (other : Family) → IsGift store asked other → other ≡ family
   pub is : trail ≡ Did moment store asked ∷ between
 
--- the latest call block_with_ordinal the target, quietly behind the trail
+-- the latest call assigns the target, quietly after the trail
 pub record AssignsLast (origin : Trail) (attributes : Attributes) (target : Target) (done : Assigned) (trail : Trail) : Type 0 where
   pub store : Datastore
   pub between : Trail

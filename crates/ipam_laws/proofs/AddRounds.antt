@@ -197,7 +197,7 @@ pub record IsGivenBy (request : AddRequest) (trail : Trail) (family : Family) (g
   pub ordinal : ℕ
   pub chosen : IsChosen request (scan_of family given) (Use cidr ordinal) trail ⊎ IsChosen request (scan_of family given) (Borrow cidr ordinal) trail
   pub is_address : given.address ≡ ordinal_address cidr ordinal
-  -- its block was rows_of_kind in that round, and then it was assigned there
+  -- its block was listed in that round, and then it was assigned there
   pub found : ℕ × block.BlockValue
   pub done : Assigned
   pub five : Trail

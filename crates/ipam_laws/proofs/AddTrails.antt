@@ -44,7 +44,7 @@ HasGift [] family = ⊥
 HasGift (Did moment store asked ∷ trail) family = IsGift store asked family ⊎ HasGift trail family
 HasGift (Got moment at live ∷ trail) family = HasGift trail family
 
--- behind the call nobody owns who did not own before: it writes no block, or a block with no other
+-- after the call nobody owns who did not own before: it writes no block, or a block with no other
 -- allocations than it had, or a fresh one; or it was not done
 pub data Calm (store : Datastore) (asked : Call) : Type 0 where
   NoBlock : ((cidr : CidrValue) → key_written (name_of asked) ≢ Some (key.Block cidr)) → Calm store asked
@@ -59,7 +59,7 @@ pub record IsQuiet (store : Datastore) (asked : Call) : Type 0 where
   pub no_round : name_of asked ≢ name.Get key.Config
   pub calm : Calm store asked
 
--- the trail, and quiet calls behind it
+-- the trail, and quiet calls after it
 pub data Quietly (trail : Trail) : Trail → Type 0 where
   Same : Quietly trail trail
   More : (moment : ℕ) (store : Datastore) (asked : Call) (longer : Trail) → IsQuiet store asked → Quietly trail longer

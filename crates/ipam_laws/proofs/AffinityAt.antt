@@ -41,7 +41,7 @@ state_in_row _ = None
 abbrev pub state_at : Datastore → List ℕ → CidrValue → Option State
 state_at store node cidr = state_in_row (row_of (key.Affinity node cidr) store.rows)
 
--- ---- rows behind a write
+-- ---- rows after a write
 
 pub put-at : (store next : Datastore) (new : Record) → IsPut store next new → row_of (key_of new) next.rows ≡ Some (store.counter + 1, new)
 put-at store next new e = ap (λ (s : Datastore). row_of (key_of new) s.rows) e ∙ row_of-with_row (store.counter + 1, new) store.rows

@@ -24,7 +24,7 @@ use Rattle.ipam_laws.proofs.Steps.{IsKnownBlock, IsOwnOrNobodys, IsPut, known-bl
 use Rattle.ipam_laws.proofs.AffinityAt.{node_at, state_at, put-at, put-beside, gone-beside, there-current, At, Stays, Sets, IsConfirmed, IsDeleted, IsTaken, IsBared}
 use Rattle.ipam_records.specs.BlockLists.{is_node}
 
--- ---- what is current behind a write was current before
+-- ---- what is current after a write was current before
 
 -- nothing is written, a record is, or one is removed that is no block
 pub data Written (store next : Datastore) : Type 0 where

@@ -45,7 +45,7 @@ record Known-good (known : Known) (store : Datastore) : Type 0 where
 given-rows : (store : Datastore) → IsDatastore store → (k : Key) (revision : ℕ) (found : Record) → HasAt store k revision found → revision ≤ store.counter
 given-rows store sound k revision found there = (row-there store k revision found sound there).given
 
--- a row of the store behind a step is new, or was there
+-- a row of the store after a step is new, or was there
 later-row : (store next : Datastore) → StoreStep store next → (k : Key) (revision : ℕ) (found : Record) → HasAt next k revision found → (revision ≡ store.counter + 1) ⊎ HasAt store k revision found
 later-row store next (Stays e) k revision found there = inr (subst (λ (s : Datastore). HasAt s k revision found) e there)
 later-row store next (Puts new e left place) k revision found there =

@@ -148,7 +148,7 @@ first-rank asked seen c candidate zero_is none = (picks-no_claim (pick_of asked 
     some (inl (no_candidate, nothing)) = absurd (no_candidate c candidate)
     some (inr (first, same)) = picks-some (pick_of asked seen) first.best.ranked.slot (ap slot_in same ∙ chosen-slot first.best.ranked.slot first.best.ranked.rank)
 
--- ---- behind a claim
+-- ---- after a claim
 
 -- what a claim leaves of the rows that a choice sees
 pub record IsClaimed (rows then : List StoredRecord) (node : List ℕ) (slot : CidrValue) (read : BlockRead) : Type 0 where

@@ -25,7 +25,7 @@ ComesTo : Base → List Entry → Request → Option Running → Type 0
 ComesTo base history request running =
     (r : Running) → running ≡ Some r → AloneFrom (cluster_at base history) request r.word ≡ alone_over base request
 
--- a call that is done leaves what follows it, at the store behind it
+-- a call that is done leaves what follows it, at the store after it
 record CallsAlone (store : Datastore) (moment : ℕ) (live : List (List ℕ)) (word : Word Answer) (c : Called) : Type 0 where
   pub same : alone (store_after c store) (moment + 1) live (word_after_reply store moment word) ≡ alone store moment live word
   pub is_answer : c.answer ≡ answer_in (word_after_reply store moment word)

@@ -46,7 +46,7 @@ use Rattle.ipam_laws.proofs.SaysWords.{IsSetting}
 use Rattle.ipam_laws.proofs.Steps.{IsAsRead, taken}
 use Rattle.ipam_laws.proofs.WriteSteps.{found-affinity}
 
--- ---- rows behind a write
+-- ---- rows after a write
 
 pub put-there : (store : Datastore) (asked : Call) (new : Record) (r : ℕ) → Puts asked new → reply_of store asked ≡ Can r → HasAt (behind store asked) (key_of new) r new
 put-there store asked new r puts e = ap (λ (s : Datastore). row_of (key_of new) s.rows) (puts.puts store r e) ∙ put-own store r new

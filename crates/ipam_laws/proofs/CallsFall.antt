@@ -15,7 +15,7 @@ use Rattle.ipam_model.specs.Remove.{Leak, suspects, leaks}
 use Rattle.ipam_model.specs.Requests.{word_of}
 use Rattle.ipam_laws.proofs.RequestBounds.{bounds, collect_bounds}
 
--- a bound of all calls falls, whatever the word is after_feed
+-- a bound of all calls falls, whatever the word is fed
 bound-falls : {A : Type 0} → (w : Word A) (count : ℕ) → AtMost w count → Falls w count
 bound-falls (Ends answer) count h = tt
 bound-falls (Asks label next_call next) count h = (h.0, λ moment said. bound-falls (next moment said) (count - 1) (h.1 moment said))

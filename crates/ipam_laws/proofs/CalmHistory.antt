@@ -56,7 +56,7 @@ is-apart (Create new) h = no-block-key (key_of new) h
 is-apart (Update new old) h = no-block-key (key_of new) h
 is-apart (Delete k old) h = no-block-key k h
 
--- who owns behind a calm call owned before
+-- who owns after a calm call owned before
 calm-owns : (store next : Datastore) (asked : Call) → IsConsistent store → IsConsistent next → next ≡ behind store asked → Calm store asked → (o : Owner) → Owns next o → Owns store o
 calm-owns store next asked c d is calm o owns = elim (granted-cases store asked) [
   | NotGiven stays ↦ subst (λ (s : Datastore). Owns s o) (is ∙ stays) owns

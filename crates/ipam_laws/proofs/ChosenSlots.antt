@@ -34,7 +34,7 @@ none-unknown asked seen ranked e = by (unknown_name asked seen.pools) refl e
 pub best-choice : (asked : Asked) (seen : Seen) → unknown_name asked seen.pools ≡ None → IsBest asked seen (choice_of asked seen)
 best-choice asked seen none = subst (λ (o : Option ℕ). MatchOption o (IsBest asked seen (choice_of asked seen)) (λ place. choice_of asked seen ≡ NoPool place)) none (choice_is asked seen)
 
--- a candidate that is not behind one of the first rank is of the first rank
+-- a candidate that is not after one of the first rank is of the first rank
 pub least-rank : (c other : Candidate) → IsNotBehind c other → rank_in other ≡ 0 → rank_in c ≡ 0
 least-rank c other (by_rank less) zero_is = absurd (omega arith)
 least-rank c other (by_place same less) zero_is = same ∙ zero_is

@@ -1,9 +1,9 @@
--- What a collection is answered is right: it tells of exactly the leaks, in their order, each block_without exactly
--- where it block_without it, and none of them owns its address.
+-- What a collection is answered is right: it tells of exactly the leaks, in their order, each freed exactly
+-- where it freed it, and none of them owns its address.
 use Rattle.std.proofs.Common.{◌≡◌, ◌≢◌, ℕ, zero, suc, ◌+◌, ◌-◌, ◌<◌, ◌≤◌, inl, inr, Bool, true, List, [], ◌∷◌, ◌++◌, map, Option, Some, None, refl, sym, ap, ◌∙◌, subst, arith, ltb-false}
 use Rattle.std.specs.Prelude.{AllPairs, Contains, IsTrue, ◌&&◌, ◌==◌, ◌↔◌, bytes_eq, nat_lt, option_map}
 use Rattle.std.specs.List.{count_by}
-use Rattle.std.proofs.lemmas.Bool.{cases_Bool, eqb-false, leb-true}
+use Rattle.std.proofs.lemmas.Bool.{cases_Bool, eqb-false}
 use Rattle.std.proofs.lemmas.List.Kept.{AllPairs-cons}
 use Rattle.ipam_addr.specs.Shape.{AddrValue}
 use Rattle.ipam_block.specs.Operations.{block_without, is_stamped, next_block}
@@ -37,7 +37,7 @@ use Rattle.ipam_laws.proofs.ActParts.{IsCurrent, freeing_call}
 use Rattle.ipam_laws.proofs.CalmHistory.{began-leaves, is-apart, quiet-entry}
 use Rattle.ipam_laws.proofs.CollectTrails.{CollectStep, CollectSteps, DidCollect, Rests, Took, head_of, owner_at, whole_of}
 use Rattle.ipam_laws.proofs.CountLemmas.{same_text}
-use Rattle.ipam_laws.proofs.FamilyHistory.{heard, three}
+use Rattle.ipam_laws.proofs.FamilyHistory.{three}
 use Rattle.ipam_laws.proofs.FedDue.{AreDue, DueIn, due-skip, fed-due}
 use Rattle.ipam_laws.proofs.FreeTrails.{Elsewhere, Freed, Idle, NoneThere, NotDone, Rid}
 use Rattle.ipam_laws.proofs.LeaksAll.{leak-found, leaks-order, own-owner}
@@ -47,7 +47,7 @@ use Rattle.ipam_laws.proofs.Members.{all-of, in-map, out-map}
 use Rattle.ipam_laws.proofs.NoReturn.{consistent-before}
 use Rattle.ipam_laws.proofs.Owned.{HeldIn, held-in, held-owns, owns-held}
 use Rattle.ipam_laws.proofs.OwnersEffects.{Rewrites, moves}
-use Rattle.ipam_laws.proofs.OwnersHistory.{owner-at, part-of}
+use Rattle.ipam_laws.proofs.OwnersHistory.{leak-is, owner-at, part-of, went-by}
 use Rattle.ipam_laws.proofs.OwnersMoves.{Given, NotGiven, apart-leaves, granted-cases, loses-one, rewrites, stamped_owner}
 use Rattle.ipam_laws.proofs.OwnersOrder.{owners_order, pairs-head, pairs-of, pairs-tail}
 use Rattle.ipam_laws.proofs.RidHistory.{PicksOwner, rid-gone}
@@ -97,7 +97,7 @@ leak-picks leak a is =
 
 -- ---- calls that lose nobody
 
--- behind a call that changes no block all own who owned
+-- after a call that changes no block all own who owned
 idle-owns : (store next : Datastore) (asked : Call) → IsConsistent store → next ≡ behind store asked → Idle store asked → (o : Owner) → Owns store o → Owns next o
 idle-owns store next asked c is (Elsewhere apart) o owns =
     let (cidr, held) = owns-held store o c.sound owns in
@@ -115,7 +115,7 @@ fed-leaves base slot at live h = refl
 -- ---- in the span
 
 module _ (span : Span) (consistent : IsConsistent span.base.store) (lawful : Lawful span.base span.history) (whole : List Leak) (items : List Item) (in_block : (leak : Leak) → Contains whole leak → IsInBlock leak) where
-  -- a call that block_without a leak took it away, and nobody else
+  -- a call that freed a leak took it away, and nobody else
   record IsTaken (m : ℕ) (leak : Leak) : Type 0 where
     was : Owns (seen_at span m) leak.owner
     gone : ¬ (Owns (seen_at span (m + 1)) leak.owner)
@@ -142,14 +142,14 @@ module _ (span : Span) (consistent : IsConsistent span.base.store) (lawful : Law
         others = λ o owns differ. (l.are o).1 (owns, λ lost. differ (lost ∙ own));
       }
 
-  -- the leak that was block_without
+  -- the leak that was freed
   record IsTold (o : Owner) : Type 0 where
     leak : Leak
     more : ℕ
     item : Contains items (item_of leak (suc more))
     is : o ≡ leak.owner
 
-  -- whoever lost its address by the collection is told as block_without
+  -- whoever lost its address by the collection is told as freed
   lost-told : (trail : Trail) (upto : ℕ) → IsTrail span upto trail → CollectSteps whole items trail → (k : ℕ) → k < upto → (o : Owner) → LostAt span k o → IsTold o
   unfolding IsTrail CollectSteps
   lost-told [] upto is steps k below o lost = elim (three k (begin_moment span)) [
@@ -188,7 +188,7 @@ module _ (span : Span) (consistent : IsConsistent span.base.store) (lawful : Law
     | inr (inr late) ↦ absurd (is.1.nothing_between k lost.there late below lost.in_span)
   ]
 
-  -- what is told as block_without was lost
+  -- what is told as freed was lost
   freed-lost : (leak : Leak) → Contains whole leak → (head trail : Trail) (amount : ℕ) → IsTrail span (now span) trail → Rid (freeing_owner leak.owner leak.block) head amount trail → 0 < amount → LostInSpan span leak.owner
   unfolding IsTrail
   freed-lost leak among head trail amount is (NoneThere m store earlier there later none read) some = absurd (omega (arith, none))
@@ -240,38 +240,16 @@ collected-right a request collected trail c h asked requested is d =
     let head = head_of lists in
     let (until, there) = part-of span head trail (now span) d.all.since is in
     let did2 = there.0 in
-    let fed_there = there.2.0 in
     let did1 = there.2.2.0 in
     let at_first = consistent-before a.base (history_of a) lists.b1 c h in
     let first : IsConsistent lists.first = subst (λ (s : Datastore). IsConsistent s) did1.before_it at_first in
-    let by : Collecting span request = record {
-      b1 = lists.b1;
-      b2 = lists.b2;
-      fed_at = lists.fed_at;
-      time = lists.time;
-      live = lists.live;
-      first = reply_of lists.first (ListAll kind.Block);
-      second = reply_of lists.second (ListAll kind.Block);
-      first_list = heard span lists.b1 lists.first (ListAll kind.Block) did1;
-      second_list = heard span lists.b2 lists.second (ListAll kind.Block) did2;
-      fed = fed_there;
-      fed_behind = there.2.2.1.behind;
-      listed_behind = there.2.1.behind;
-      late_enough = leb-true (request.at + request.grace) lists.time (due-then a request h asked requested lists.fed_at lists.time lists.live fed_there);
-    } in
+    let due = due-then a request h asked requested in
+    let by : Collecting span request = went-by span request lists.b1 lists.fed_at lists.time lists.b2 lists.live lists.first lists.second due did1 there.2.0 did2 there.2.2.1.behind there.2.1.behind in
     let found : (leak : Leak) → Contains whole leak → IsFoundLeak lists.first lists.second request lists.live leak = λ leak among. found-leak lists.first lists.second request lists.live leak among in
     let order : map owner_in collected.items ≡ map owner_at whole = sym (no-more (map owner_in collected.items)) ∙ d.all.order in
     let in_block : (leak : Leak) → Contains whole leak → IsInBlock leak = λ leak among. suspect-in-block lists.first request leak (found leak among).suspect in
-    let is_leak : (leak : Leak) → Contains whole leak → IsLeak span request by leak.owner = λ leak among.
-    let one = found leak among in
-    record {
-      allocation = one.suspect.a;
-      at_first = subst (λ (s : Datastore). Recorded s leak.owner one.suspect.a) (sym did1.before_it) one.suspect.recorded;
-      in_scope = one.suspect.in_scope;
-      at_second = subst (λ (s : Datastore). Owns s leak.owner) (sym did2.before_it) one.owns;
-      not_live = one.suspect.not_live;
-      not_live_still = one.not_live_still;
-    } in
+    let is_leak : (leak : Leak) → Contains whole leak → IsLeak span request by leak.owner =
+    λ leak among. leak-is span request lists.b1 lists.fed_at lists.time lists.b2 lists.live lists.first lists.second due did1 there.2.0 did2 there.2.2.1.behind there.2.1.behind leak (found leak among) in
     let to : (o : Owner) → Contains (map owner_in collected.items) o → IsLeak span request by o = λ o there.
     let (leak, among, same) = out-map owner_at o whole (subst (λ (l : List Owner). Contains l o) order there) in
     subst (λ (x : Owner). IsLeak span request by x) same (is_leak leak among) in

@@ -36,7 +36,7 @@ use Rattle.ipam_laws.proofs.Trails.{Comes, Comes-bound, Did, Got, Trail}
 
 -- ---- items
 
--- the item tells of a leak, which was rid of behind the lists
+-- the item tells of a leak, which was rid of after the lists
 pub record IsRidOf (whole : List Leak) (head : Trail) (item : Item) (trail : Trail) : Type 0 where
   pub leak : Leak
   pub among : Contains whole leak

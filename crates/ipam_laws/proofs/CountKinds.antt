@@ -132,7 +132,7 @@ block-keeps store r b label after less none =
     (λ id. let k = less id in let e = none id b.cidr in omega arith)
     (λ id cidr differ. let e = none id cidr in omega arith)
 
--- ---- addresses that are block_without or block_with_ordinal
+-- ---- addresses that are freed or assigned
 
 free-does : (store : Datastore) (r : ℕ) (id : List ℕ) (cidr : CidrValue) (picks : Allocation → Bool) (more' : ℕ) (b : block.BlockValue) → ((a : Allocation) → picks a ≡ true → is_owned id a ≡ true) → count_by picks b.allocations ≡ suc more' → b.cidr ≡ cidr → ((other : List ℕ) → held_count store other cidr ≡ count_by (is_owned other) b.allocations) → CountsGrow store (written store (Put r (record_of.Block (block_without picks (next_block b))))) idle (owing (credit_of id cidr (suc more')))
 free-does store r id cidr picks more' b own amount same held =

@@ -21,7 +21,7 @@ unfolding after_all
 after_all-append cluster [] second = refl
 after_all-append cluster (new ∷ first) second = after_all-append (after cluster new) first second
 
--- the events of the second list happen behind those of the first
+-- the events of the second list happen after those of the first
 abbrev pub joined : (many : ℕ) → (first second : Course) → Course
 joined many first second = record {
   entries = first.entries ++ second.entries;

@@ -93,7 +93,7 @@ block-raises-none : (store : Datastore) (asked : Call) (b : BlockValue) → Puts
 block-raises-none store asked b puts id cidr raises =
     let same : Some (key.Block b.cidr) ≡ Some (key.Handle id) = sym puts.writes ∙ raises.done.writes in absurd (cc same)
 
--- the block that is block_without from is the one that is put
+-- the block that is freed from is the one that is put
 freed-there : (store : Datastore) (asked : Call) (b : BlockValue) → Puts asked (record_of.Block b) → (credit : Credit) → Frees store asked credit → (b.cidr ≡ credit.block) × (held_count store credit.handle b.cidr ≡ count_by (is_owned credit.handle) b.allocations + credit.amount)
 freed-there store asked b puts credit frees =
     let same : Some (key.Block b.cidr) ≡ Some (key.Block credit.block) = sym puts.writes ∙ frees.done.writes in
@@ -115,7 +115,7 @@ block-harmless store asked b puts holds = record {
       absurd (omega arith);
 }
 
--- ---- what is block_without
+-- ---- what is freed
 
 module _ (store : Datastore) (b : BlockValue) (old : ℕ) (id : List ℕ) (picks : Allocation → Bool) (own : (a : Allocation) → picks a ≡ true → is_owned id a ≡ true) (amount : ℕ) (count : count_by picks b.allocations ≡ suc amount) where
   abbrev freeing : Call
@@ -162,7 +162,7 @@ handle-frees-none : (store : Datastore) (asked : Call) (h : HandleValue) → Put
 handle-frees-none store asked h puts credit frees =
     let same : Some (key.Handle h.id) ≡ Some (key.Block credit.block) = sym puts.writes ∙ frees.done.writes in absurd (cc same)
 
--- the count that is with_raised_count is the handle's
+-- the count that is raised is the handle's
 raised-there : (store : Datastore) (asked : Call) (h : HandleValue) → Puts asked (record_of.Handle h) → (id : List ℕ) (cidr : CidrValue) → Raises store asked id cidr → (h.id ≡ id) × (count_of h cidr ≡ handle_count store h.id cidr + 1)
 raised-there store asked h puts id cidr raises =
     let same : Some (key.Handle h.id) ≡ Some (key.Handle id) = sym puts.writes ∙ raises.done.writes in

@@ -43,7 +43,7 @@ Undone store asked = (k : Key) → ¬ (Done store asked k)
 
 -- ---- a trail
 
--- a call of the trail did this, and none behind it made up for it
+-- a call of the trail did this, and none after it made up for it
 unfoldable pub Lasts : (Event Kills : Datastore → Call → Type 0) → Trail → Type 0
 Lasts Event Kills [] = ⊥
 Lasts Event Kills (Did moment store asked ∷ trail) = Event store asked ⊎ (Lasts Event Kills trail × ¬ (Kills store asked))

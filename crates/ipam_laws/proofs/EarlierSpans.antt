@@ -170,7 +170,7 @@ latest-step span (Got m at live ∷ trail) upto h moment next c inside = elim (t
   | inr (inr later) ↦ absurd (h.1.nothing_between moment (entry.Called c) later next.behind inside)
 ]
 
--- a trail comes behind the beginning
+-- a trail comes after the beginning
 pub begins-below : (span : Span) (trail : Trail) (upto : ℕ) → IsTrail span upto trail → begin_moment span < upto
 unfolding IsTrail
 begins-below span [] upto h = h.1.behind

@@ -21,7 +21,7 @@ use Rattle.ipam_model.specs.History.{Base, Lawful, cluster_at, start, MayCome, M
 
 -- ---- entries one after the other
 
--- the entries, the oldest first, may come behind the history
+-- the entries, the oldest first, may come after the history
 unfoldable Comes : Base → List Entry → List Entry → Type 0
 Comes base history [] = Unit {0}
 Comes base history (new ∷ rest) = MayCome (cluster_at base history) new × Comes base (new ∷ history) rest

@@ -55,7 +55,7 @@ told-can (Conflict old) revision e = absurd (cc e)
 told-can Full revision e = absurd (cc e)
 told-can Spent revision e = absurd (cc e)
 
--- a moment before, the same, or behind
+-- a moment before, the same, or after
 pub three : (k m : ℕ) → (k < m) ⊎ ((k ≡ m) ⊎ (m < k))
 three k m = elim (cases_Bool (nat_lt k m)) [
   | inl below ↦ inl (ltb-true k m below)

@@ -1,4 +1,4 @@
--- A request is word_after_reply Fault exactly where its call failed, and a failed call may have been done.
+-- A request is answered Fault exactly where its call failed, and a failed call may have been done.
 use Rattle.std.proofs.Common.{◌≡◌, ◌≢◌, ℕ, ◌+◌, List, ◌∷◌, Option, Some, refl, sym, ap, ◌∙◌, subst}
 use Rattle.ipam_records.specs.declared.call.Call.{Call}
 use Rattle.ipam_records.specs.Datastore.{Datastore, reply_of, write_granted}
@@ -142,7 +142,7 @@ ended-never (Ends answer) h e = h (cc e)
 ended-never (Asks label asked next) h e = cc
 ended-never (Waits next) h e = cc
 
--- a call that is done is not word_after_reply so
+-- a call that is done is not answered so
 well-answered : (slot : ℕ) (store : Datastore) (moment : ℕ) (word : Word Answer) (c : Called) → NeverFaults word → call_entry slot Well store moment word ≡ Some c → c.answer ≢ Some Fault
 unfolding NeverFaults
 well-answered slot store moment (Ends answer) c h e = λ f. cc

@@ -1,4 +1,4 @@
--- What is block_without is rid of: by the trail that led there.
+-- What is freed is rid of: by the trail that led there.
 use Rattle.std.proofs.Common.{◌≡◌, ◌≢◌, ℕ, zero, suc, List, [], ◌∷◌, not, Some, None, refl, sym, ap, ◌∙◌}
 use Rattle.std.specs.List.{count_by}
 use Rattle.ipam_addr.specs.Shape.{CidrValue}
@@ -34,7 +34,7 @@ use Rattle.ipam_laws.proofs.Losses.{full-creates}
 use Rattle.ipam_laws.proofs.Members.{in-filter}
 use Rattle.ipam_laws.proofs.Trails.{Comes, Comes-bound, Did, Trail}
 
--- behind the origin, nothing that is picked was in the block when it was read, or it was block_without then
+-- after the origin, nothing that is picked was in the block when it was read, or it was freed then
 pub data Rid (what : Freeing) (origin : Trail) (amount : ℕ) (trail : Trail) : Type 0 where
   NoneThere : (moment : ℕ) (store : Datastore) (before : Trail) → Since (Did moment store (Get (key.Block what.block)) ∷ before) trail → Since origin before → amount ≡ 0
       → ((found : ℕ × BlockValue) → block_said (reply_of store (Get (key.Block what.block))) ≡ Some found → count_by what.picks found.1.allocations ≡ 0) → Rid what origin amount trail
@@ -59,7 +59,7 @@ rid-since what origin amount trail longer since (NoneThere moment store before t
 rid-since what origin amount trail longer since (Freed moment store before b old revision more there later is done current same count) =
     Freed moment store before b old revision more (since-since (Did moment store (freeing_call what b old) ∷ before) trail longer there since) later is done current same count
 
--- behind what is earlier
+-- after what is earlier
 pub rid-origin : (what : Freeing) (first origin : Trail) (amount : ℕ) (trail : Trail) → Since first origin → Rid what origin amount trail → Rid what first amount trail
 rid-origin what first origin amount trail since (NoneThere moment store before there later zero_amount none) = NoneThere moment store before there (since-since first origin before since later) zero_amount none
 rid-origin what first origin amount trail since (Freed moment store before b old revision more there later is done current same count) = Freed moment store before b old revision more there (since-since first origin before since later) is done current same count
@@ -84,7 +84,7 @@ pub idler-calmer : (origin trail : Trail) → Idler origin trail → Calmer orig
 idler-calmer origin trail Stays = Still
 idler-calmer origin trail (Goes moment store asked longer idle before) = Then moment store asked longer (idle-calm store asked idle) (idler-calmer origin longer before)
 
--- behind the origin nothing was block_without, or one call block_without so many
+-- after the origin nothing was freed, or one call freed so many
 pub data FreeSteps (what : Freeing) (origin : Trail) (amount : ℕ) (trail : Trail) : Type 0 where
   NoSteps : amount ≡ 0 → Idler origin trail → FreeSteps what origin amount trail
   OneStep : (moment : ℕ) (store : Datastore) (before : Trail) (b : BlockValue) (old revision more : ℕ) → Idler origin before → Idler (Did moment store (freeing_call what b old) ∷ before) trail → amount ≡ suc more

@@ -68,7 +68,7 @@ word-tells request trail (Ends answer) on h = absurd (cc on)
 word-tells request trail (Asks label asked next) on h = h.0
 word-tells request trail (Waits next) on h = h.0
 
--- ---- nothing that has answer_in runs
+-- ---- nothing that has answered runs
 
 families-on : (request : AddRequest) → IsTrue (request.ipv4 || request.ipv6) → IsOn (word_of (Add request))
 unfolding word_of add_each rounds
@@ -101,7 +101,7 @@ begun-on (Collect request) sound = refl
 begun-on (Admin setting) sound = refl
 begun-on (Probe request) sound = probe-on request sound.some_family
 
--- ---- what runs has not answer_in
+-- ---- what runs has not answered
 
 abbrev pub SlotIsOn : Option Running → Type 0
 SlotIsOn None = Unit {0}

@@ -52,9 +52,9 @@ own-family V6 = refl
 pub own-owner : (o : Owner) → same_owner o o ≡ true
 own-owner o = both-true (both-true (both-true (own-family o.address.family) (own-number o.address.number)) (same_text o.handle)) (own-number o.stamp)
 
--- ---- each owner is rows_of_kind
+-- ---- each owner is listed
 
--- who owns is an owner in the blocks that are rows_of_kind
+-- who owns is an owner in the blocks that are listed
 owns-listed : (store : Datastore) (o : Owner) → Owns store o → is_owner_in (rows_of_kind kind.Block store) o ≡ true
 owns-listed store o owns =
     let (row, among, own) = owner-row store.rows o owns in

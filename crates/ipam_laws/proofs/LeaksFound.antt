@@ -60,9 +60,9 @@ any-in test (x ∷ list) e = elim (cases_Bool (test x)) [
       (y, in-there y x list among, is)
 ]
 
--- ---- owners that are rows_of_kind
+-- ---- owners that are listed
 
--- who is an owner in the blocks that are rows_of_kind owns
+-- who is an owner in the blocks that are listed owns
 pub listed-owns : (store : Datastore) (owner : Owner) → is_owner_in (rows_of_kind kind.Block store) owner ≡ true → Owns store owner
 listed-owns store owner e =
     let (found, among, same) = any-in (same_owner owner) (owners_in (rows_of_kind kind.Block store)) e in

@@ -22,7 +22,7 @@ use Rattle.ipam_laws.proofs.Calls.{found-block, found-key}
 use Rattle.ipam_laws.proofs.Trails.{AgreesAll, Did, Trail}
 use Rattle.ipam_laws.proofs.WordSteps.{listed-block}
 
--- the block is known behind the trail, and lies at the CIDR, where it was not missing
+-- the block is known after the trail, and lies at the CIDR, where it was not missing
 abbrev pub KnowsRead : Trail → CidrValue → BlockRead → Type 0
 KnowsRead trail cidr None = Unit {0}
 KnowsRead trail cidr (Some found) = (found.1.cidr ≡ cidr) × Knows trail found.0 found.1

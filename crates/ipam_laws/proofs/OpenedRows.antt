@@ -165,7 +165,7 @@ rows-differ (row ∷ rows) sorted =
     never-less (row_key row) (ap (λ (r : StoredRecord). key_cmp (row_key row) (row_key r)) same ∙ less)))
     (rows-differ rows sorted.1)
 
--- a place behind the last has nothing
+-- a place after the last has nothing
 pub few-places : {X : Type 0} → (xs : List X) (n : ℕ) → ((x : X) → slice_get xs n ≢ Some x) → length xs ≤ n
 few-places [] n h = omega arith
 few-places (x ∷ xs) zero h = absurd (h x refl)

@@ -1,4 +1,4 @@
--- Each request is word_after_reply as its procedure can.
+-- Each request is answered as its procedure can.
 use Rattle.std.proofs.Common.{◌≡◌, ℕ, inl, inr, List, Option, Some, None, refl, sym, ap, ◌∙◌, subst}
 use Rattle.std.specs.Prelude.{option_map}
 use Rattle.ipam_records.specs.declared.call.Call.{Call}

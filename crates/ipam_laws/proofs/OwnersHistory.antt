@@ -1,5 +1,5 @@
 -- In every lawful history owners change in five ways and no other.
-use Rattle.std.proofs.Common.{◌≡◌, ◌≢◌, ℕ, suc, ◌+◌, ◌-◌, inl, inr, List, [], ◌∷◌, Option, Some, refl, sym, ap, ◌∙◌, subst, arith}
+use Rattle.std.proofs.Common.{◌≡◌, ◌≢◌, ℕ, suc, ◌+◌, ◌-◌, ◌<◌, inl, inr, List, [], ◌∷◌, Option, Some, refl, sym, ap, ◌∙◌, subst, arith}
 use Rattle.std.specs.Prelude.{option_map}
 use Rattle.std.specs.List.{count_by}
 use Rattle.std.proofs.lemmas.Bool.{leb-true}
@@ -31,7 +31,7 @@ use Rattle.ipam_model.specs.Assigning.{Target}
 use Rattle.ipam_model.specs.Cluster.{Running, after, call_made, store_after}
 use Rattle.ipam_model.specs.Consistent.{IsConsistent}
 use Rattle.ipam_model.specs.Counting.{Freeing}
-use Rattle.ipam_model.specs.History.{Base, Lawful, Span, cluster_at, now, seen_at, seen_now, store_at}
+use Rattle.ipam_model.specs.History.{Base, InSpan, Lawful, Span, cluster_at, now, seen_at, seen_now, store_at}
 use Rattle.ipam_model.specs.Moments.{GainedInSpan, Loses, Owns, Recorded, request_in}
 use Rattle.ipam_model.specs.Owners.{Owner, owners}
 use Rattle.ipam_model.specs.OwnerLaw.{Assigned, Collected, Collecting, Deleted, IsLeak, MayGain, OwnersLaw, OwnersMove, Undone}
@@ -42,7 +42,7 @@ use Rattle.ipam_laws.proofs.ActRequests.{all-acts}
 use Rattle.ipam_laws.proofs.Acts.{Acts, Later, Same, Since}
 use Rattle.ipam_laws.proofs.FamilyHistory.{heard}
 use Rattle.ipam_laws.proofs.FedDue.{AreDue, DueIn, fed-due}
-use Rattle.ipam_laws.proofs.LeaksFound.{found-leak}
+use Rattle.ipam_laws.proofs.LeaksFound.{IsFoundLeak, found-leak}
 use Rattle.ipam_laws.proofs.Lift.{behind}
 use Rattle.ipam_laws.proofs.NoReturn.{consistent-before}
 use Rattle.ipam_laws.proofs.OneRecord.{AreGiven, given-row, history-given}
@@ -52,7 +52,7 @@ use Rattle.ipam_laws.proofs.OwnersMoves.{Given, NotGiven, apart-leaves, granted-
 use Rattle.ipam_laws.proofs.SlotsHistory.{consistent_law}
 use Rattle.ipam_laws.proofs.SlotSteps.{done-store, known_at, label_at, label_in, turn-of}
 use Rattle.ipam_laws.proofs.Steps.{IsPut}
-use Rattle.ipam_laws.proofs.Trails.{Did, Got, IsTrail, Lasts, SlotComes, Trail, made, slot-comes, span_at, trail-agrees}
+use Rattle.ipam_laws.proofs.Trails.{Did, DidAt, Got, IsTrail, Lasts, SlotComes, Trail, made, slot-comes, span_at, trail-agrees}
 
 -- ---- what a trail did, in its span
 
@@ -63,7 +63,7 @@ part-of span earlier trail upto Same h = (upto, h)
 part-of span earlier trail upto (Later (Did moment store asked) rest since) h = part-of span earlier rest moment since h.2
 part-of span earlier trail upto (Later (Got moment at live) rest since) h = part-of span earlier rest moment since h.2
 
--- an address that was block_with_ordinal was gained in the span
+-- an address that was assigned was gained in the span
 gained : (span : Span) (attributes : Attributes) (target : Target) (trail : Trail) (upto : ℕ) → IsConsistent span.base.store → Lawful span.base span.history → IsTrail span upto trail → DidAssign attributes target trail → GainedInSpan span (new_owner target.block target.ordinal attributes)
 unfolding IsTrail
 gained span attributes target trail upto c h is did =
@@ -92,48 +92,53 @@ record IsLeaking (span : Span) (collect : CollectRequest) (leak : Leak) : Type 0
   number : leak.owner.address.number - leak.block.base + leak.block.base ≡ leak.owner.address.number
   family : leak.block.family ≡ leak.owner.address.family
 
-leaking : (span : Span) (collect : CollectRequest) (leak : Leak) (trail : Trail) (upto : ℕ) → AreDue span.base span.history span.slot (Collect collect) → IsTrail span upto trail → HasListed collect leak trail → IsLeaking span collect leak
-unfolding IsTrail
-leaking span collect leak trail upto due is h =
-    let (until, three) = part-of span (Did h.b2 h.second (ListAll kind.Block) ∷ Got h.fed_at h.time h.live ∷ Did h.b1 h.first (ListAll kind.Block) ∷ []) trail upto h.since is in
-    let did2 = three.0 in
-    let fed_there = three.2.0 in
-    let did1 = three.2.2.0 in
-    let found = found-leak h.first h.second collect h.live leak h.is_leak in
-    let late = due h.fed_at h.time h.live fed_there in
-    let by : Collecting span collect = record {
-      b1 = h.b1;
-      b2 = h.b2;
-      fed_at = h.fed_at;
-      time = h.time;
-      live = h.live;
-      first = reply_of h.first (ListAll kind.Block);
-      second = reply_of h.second (ListAll kind.Block);
-      first_list = heard span h.b1 h.first (ListAll kind.Block) did1;
-      second_list = heard span h.b2 h.second (ListAll kind.Block) did2;
-      fed = fed_there;
-      fed_behind = three.2.2.1.behind;
-      listed_behind = three.2.1.behind;
-      late_enough = leb-true (collect.at + collect.grace) h.time late;
-    } in
-    let suspect = found.suspect in
-    record {
-      went_by = by;
-      is_leak = record {
+-- a collection by its two lists and the list of live handles between them
+module _ (span : Span) (collect : CollectRequest) (b1 fed_at time b2 : ℕ) (live : List (List ℕ)) (first second : Datastore) (due : AreDue span.base span.history span.slot (Collect collect)) (did1 : DidAt span b1 first (ListAll kind.Block)) (fed : InSpan span fed_at (entry.Fed span.slot time live)) (did2 : DidAt span b2 second (ListAll kind.Block)) (fed_after : b1 < fed_at) (listed_after : fed_at < b2) where
+  abbrev pub went-by : Collecting span collect
+  went-by = record {
+    b1 = b1;
+    b2 = b2;
+    fed_at = fed_at;
+    time = time;
+    live = live;
+    first = reply_of first (ListAll kind.Block);
+    second = reply_of second (ListAll kind.Block);
+    first_list = heard span b1 first (ListAll kind.Block) did1;
+    second_list = heard span b2 second (ListAll kind.Block) did2;
+    fed = fed;
+    fed_after = fed_after;
+    listed_after = listed_after;
+    late_enough = leb-true (collect.at + collect.grace) time (due fed_at time live fed);
+  }
+
+  pub leak-is : (leak : Leak) → IsFoundLeak first second collect live leak → IsLeak span collect went-by leak.owner
+  leak-is leak found =
+      let suspect = found.suspect in
+      record {
         allocation = suspect.a;
         at_first = subst (λ (s : Datastore). Recorded s leak.owner suspect.a) (sym did1.before_it) suspect.recorded;
         in_scope = suspect.in_scope;
         at_second = subst (λ (s : Datastore). Owns s leak.owner) (sym did2.before_it) found.owns;
         not_live = suspect.not_live;
         not_live_still = found.not_live_still;
-      };
+      }
+
+leaking : (span : Span) (collect : CollectRequest) (leak : Leak) (trail : Trail) (upto : ℕ) → AreDue span.base span.history span.slot (Collect collect) → IsTrail span upto trail → HasListed collect leak trail → IsLeaking span collect leak
+unfolding IsTrail
+leaking span collect leak trail upto due is h =
+    let (until, three) = part-of span (Did h.b2 h.second (ListAll kind.Block) ∷ Got h.fed_at h.time h.live ∷ Did h.b1 h.first (ListAll kind.Block) ∷ []) trail upto h.since is in
+    let found = found-leak h.first h.second collect h.live leak h.is_leak in
+    let suspect = found.suspect in
+    record {
+      went_by = went-by span collect h.b1 h.fed_at h.time h.b2 h.live h.first h.second due three.2.2.0 three.2.0 three.0 three.2.2.1.behind three.2.1.behind;
+      is_leak = leak-is span collect h.b1 h.fed_at h.time h.b2 h.live h.first h.second due three.2.2.0 three.2.0 three.0 three.2.2.1.behind three.2.1.behind leak found;
       number = subst (λ (x : Leak). x.owner.address.number - x.block.base + x.block.base ≡ x.owner.address.number) (sym suspect.is) (omega arith);
       family = subst (λ (x : Leak). x.block.family ≡ x.owner.address.family) (sym suspect.is) refl;
     }
 
 -- ---- one call
 
--- where a call stands: over a consistent history, with the store behind it
+-- where a call stands: over a consistent history, with the store after it
 record CallThere (span : Span) (request : Request) (trail : Trail) (next : Datastore) : Type 0 where
   consistent : IsConsistent span.base.store
   lawful : Lawful span.base span.history

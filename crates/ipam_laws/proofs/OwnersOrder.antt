@@ -42,7 +42,7 @@ use Rattle.ipam_laws.proofs.Members.{all-of, in-cons, in-here, in-there, in-noth
 use Rattle.ipam_laws.proofs.SlotsHistory.{consistent_law}
 use Rattle.ipam_laws.proofs.SoundSteps.{row-there}
 
--- ---- lists whose members stand in a relation to those behind
+-- ---- lists whose members stand in a relation to those after
 
 pub pairs-head : {X : Type 0} (R : X → X → Type 0) (x : X) (xs : List X) → AllPairs R (x ∷ xs) → (y : X) → Contains xs y → R x y
 pairs-head R x xs h y (k, below, is) = subst (λ z. R x z) is (h zero (suc k) y (omega arith) (omega arith))
@@ -145,7 +145,7 @@ same-slot pools one other address table first second holds also =
     let there' : slice_get pools slot'.0 ≡ Some lies.pool = ap (λ (s : ℕ × ℕ). slice_get pools s.0) (sym same) ∙ there in
     is lies.pool there ∙ (ap (λ (s : ℕ × ℕ). slot_of lies.pool.cidr lies.pool.size s.1) same ∙ sym (is' lies.pool there'))
 
--- a block of the same family that begins behind another begins behind its end
+-- a block of the same family that begins after another begins after its end
 slots-apart : (pools : List Pool) (r s : CidrValue) → IsPoolTable pools → IsSlotOfSome pools r → IsSlotOfSome pools s → r ≢ s → r.family ≡ s.family → r.base ≤ s.base → cidr_end r ≤ s.base
 slots-apart pools r s table first second differ family level = elim (cases_lt s.base (cidr_end r)) [
   | inl inside ↦

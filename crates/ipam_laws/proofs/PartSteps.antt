@@ -202,7 +202,7 @@ lower_tries-steps credit (suc races) claims known =
 pub lower-steps : (credit : Credit) (left : Left) (known : Known) → Steps still known (lower credit left)
 lower-steps credit left known = lower_tries-steps credit left.races left.claims known
 
--- what the count is with_lowered_count before, where that ends the part
+-- what the count is lowered before, where that ends the part
 pub lowered-steps : {A : Type 0} → (credit : Credit) (left : Left) (value : A) (known : Known) → (label_to still (part_then (lower credit left) (λ now done. goes now value)) ≡ owing credit) × Steps still known (part_then (lower credit left) (λ now done. goes now value))
 lowered-steps {A} credit left value known = (
   sym (label_to-bound Step still still (onward (λ now done. goes now value)) labels (lower credit left)) ∙ lower-label credit left,

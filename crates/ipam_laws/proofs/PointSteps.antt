@@ -1,4 +1,4 @@
--- The points at which a claim and a release stand behind their writes.
+-- The points at which a claim and a release stand after their writes.
 use Rattle.std.proofs.Common.{◌≡◌, ◌≢◌, ℕ, false, List, ◌∷◌, Option, Some, refl, sym, ap, ◌∙◌, subst}
 use Rattle.std.specs.Prelude.{IsTrue, ◌==◌}
 use Rattle.std.proofs.lemmas.Bool.{eqb-false}
@@ -48,7 +48,7 @@ module _ (request : Request) (moment : ℕ) (store : Datastore) (asked : Call) (
   putting-releases_none b is node cidr read mark h =
       let none = sym is ∙ ap new_record (release-reads request moment store asked trail node cidr read mark h) in absurd (cc none)
 
-  -- the block was put behind what stood there
+  -- the block was put after what stood there
   put-here : (b : BlockValue) (revision : ℕ) (Before : Trail → Type 0) → Wrote store asked (record_of.Block b) revision → Before trail → PutBlock longer b.cidr Before
   put-here b revision Before w stood = record { newest = newest_here; b = b; is_of = refl; revision = revision; put = w; stood = stood }
 
@@ -121,7 +121,7 @@ module _ (node : List ℕ) (cidr : CidrValue) where
   pub releases-no-add : ¬ (IsTrue (is_add releasing))
   releases-no-add t = absurd (cc t)
 
-  -- a read of the affinity behind no read of the block
+  -- a read of the affinity after no read of the block
   pub first-read : (moment : ℕ) (store : Datastore) (trail : Trail) → NotLooked trail → IsAtPoint releasing (Did moment store (Get (key.Affinity node cidr)) ∷ trail) Nowhere
   first-read moment store trail not_looked =
       let asked = Get (key.Affinity node cidr) in
@@ -131,7 +131,7 @@ module _ (node : List ℕ) (cidr : CidrValue) where
       let looked = subst (λ (t : Trail). (newest : Newest t) × (newest.asked ≡ Get (key.Block c))) rest (h.looked, h.looks) in
       not_looked looked.0 c looked.1)
 
-  -- the three calls behind which the block is to be written
+  -- the three calls after which the block is to be written
   module _ (one two three mark : ℕ) (first second third : Datastore) (marking : Call) (origin : Trail) (wrote : Wrote first marking (record_of.Affinity (affinity node cidr PendingDeletion)) mark) where
     abbrev marked : Trail
     marked = Did one first marking ∷ origin

@@ -170,7 +170,7 @@ module _ (request : Request) (moment : ℕ) (store : Datastore) (asked : Call) (
           let e = (at point some).1 there in
           some (sym e)
 
-  -- a release stands between its writes behind a read of the affinity alone
+  -- a release stands between its writes after a read of the affinity alone
   pub release-reads : (node : List ℕ) (cidr : CidrValue) (read : Option ℕ) (mark : ℕ) → ReleasingBy request longer node cidr read mark → asked ≡ Get (key.Affinity node cidr)
   release-reads node cidr read mark h = sym (same-asked h.at_mark) ∙ h.finds
 

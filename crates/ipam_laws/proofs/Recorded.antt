@@ -1,4 +1,4 @@
--- An address that was block_with_ordinal is recorded so, in the span.
+-- An address that was assigned is recorded so, in the span.
 use Rattle.std.proofs.Common.{◌≡◌, ℕ, ◌+◌, ◌<◌, inl, inr, Bool, true, false, cond, List, [], ◌∷◌, Some, refl, sym, ap, ◌∙◌, subst, arith, eqb-true}
 use Rattle.std.specs.Prelude.{AllPairs, Contains, ◌==◌}
 use Rattle.std.specs.List.{count_by, find}
@@ -96,7 +96,7 @@ pub quietly-since : (origin trail : Trail) → Quietly origin trail → Since or
 quietly-since origin trail Still = Same
 quietly-since origin trail (More moment store asked longer quiet before) = Later (Did moment store asked) longer (quietly-since origin longer before)
 
--- what was block_with_ordinal was block_with_ordinal behind what is earlier
+-- what was assigned was assigned after what is earlier
 pub assigned-later : (span : Span) (attributes : Attributes) (target : Target) (done : Assigned) (moment : ℕ) (store : Datastore) (asked : Call) (before origin trail : Trail) (upto : ℕ) → IsTrail span upto trail → origin ≡ Did moment store asked ∷ before → AssignsLast origin attributes target done trail → moment < done.moment
 unfolding IsTrail
 assigned-later span attributes target done moment store asked before origin trail upto is head last =

@@ -293,7 +293,7 @@ free_leaks-lawful done (leak ∷ rest) left known =
     (free-lawful (remove.freeing_owner leak.owner leak.block) left (one-picks leak.owner.handle leak.block (leak.owner.address.number - leak.block.base) leak.owner.stamp))
     (λ now amount. free_leaks-lawful (remove.with_item done (remove.item_of leak amount)) rest now) known
 
--- what a collection does behind its second list
+-- what a collection does after its second list
 abbrev collected : (b1 b2 : ℕ) → List remove.Leak → Word CollectAnswer
 collected b1 b2 leaks = as_word remove.collect_stops (remove.free_leaks (record { b1 = b1; b2 = b2; items = [] }) leaks all_left)
 

@@ -66,7 +66,7 @@ module _ (span : Span) (consistent : IsConsistent span.base.store) (lawful : Law
       let count = none (there.holding.revision, there.holding.b) (ap (λ r. block_said (reply_to_get r)) row) in
       none-counted what.picks there.holding.b.allocations there.a count there.among (picks there.a there.is_owner)
 
-  -- block_without, and so not there
+  -- freed, and so not there
   freed-there : (m : ℕ) (store : Datastore) (b : BlockValue) (old revision : ℕ) → first ≤ m → seen_at span m ≡ store → seen_at span (m + 1) ≡ behind store (freeing_call what b old) → reply_of store (freeing_call what b old) ≡ Can revision → IsCurrent store old b → b.cidr ≡ what.block → ¬ (Owns (seen_at span (m + 1)) o)
   freed-there m store b old revision later at left done current same owns =
       let next = seen_at span (m + 1) in
@@ -88,7 +88,7 @@ module _ (span : Span) (consistent : IsConsistent span.base.store) (lawful : Law
   never m later early gone owns =
       gone (no_return span.base span.history consistent lawful first m (now span) later early o (held-owns (seen_at span first) what.block o held) (subst (λ (s : Datastore). Owns s o) (sym (seen-now span)) owns))
 
-  -- behind a step that lies at the first moment, or just before it
+  -- after a step that lies at the first moment, or just before it
   pub rid-gone : (head_at : ℕ) → first ≤ head_at + 1 → (trail origin before : Trail) (amount : ℕ) (store : Datastore) (asked : Call) → origin ≡ Did head_at store asked ∷ before → IsTrail span (now span) trail → Rid what origin amount trail → ¬ (Owns (seen_now span) o)
   unfolding IsTrail
   rid-gone head_at near trail origin before amount store asked head is (NoneThere m at earlier there later none_amount none) =

@@ -57,7 +57,7 @@ bound-on (Waits next) follows e = refl
 
 module _ (request : Request) where
   -- Whatever sound stores answer the calls, each label says what the calls before have made, and each
-  -- answer has this of the trail that led to it. What waits has not answer_in once it is fed.
+  -- answer has this of the trail that led to it. What waits has not answered once it is fed.
   abbrev pub Says : {A : Type 0} → (Trail → A → Type 0) → Trail → Word A → Type 0
   Says Q trail (Ends answer) = Q trail answer
   Says Q trail (Asks label asked next) =
@@ -88,7 +88,7 @@ module _ (request : Request) where
 
   -- ---- what a part comes to
 
-  -- where a request goes on behind a stop, it owes nothing
+  -- where a request goes on after a stop, it owes nothing
   abbrev pub StopsClean : Trail → Stop → Type 0
   StopsClean trail OutOfTries = Unit {0}
   StopsClean trail OutOfClaims = Unit {0}

@@ -46,7 +46,7 @@ module _ (request : Request) where
   pub settles : {A : Type 0} → (answers : StopAnswers A) (part : Part A) (trail : Trail) → Says request (Clean request) trail part → Says request Any trail (as_word answers part)
   settles answers part trail h = Says-bound request (Clean request) Any (λ outcome. Ends (answer_of answers outcome)) part trail h (λ longer a since k. tt)
 
-  -- a part behind another
+  -- a part after another
   pub then-says : {A B : Type 0} → (part : Part A) (follows : Left → A → Part B) (trail : Trail) → Says request (Clean request) trail part → ((longer : Trail) (left : Left) (a : A) → Rests request longer → Says request (Clean request) longer (follows left a)) → Says request (Clean request) trail (part_then part follows)
   then-says {A} part follows trail h k = Says-bound request (Clean request) (Clean request) (onward follows) part trail h (λ longer outcome since clean. ends longer outcome clean)
     where

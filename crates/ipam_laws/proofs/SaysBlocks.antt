@@ -108,7 +108,7 @@ module _ (request : Request) where
     abbrev raised_debt : Debt
     raised_debt = Raised attributes.handle target.block.cidr
 
-    -- the block that is block_with_ordinal holds no less than it did
+    -- the block that is assigned from holds no less than it did
     assign-harmless : (store : Datastore) → IsCurrent store target.revision target.block → (r : ℕ) → reply_of store (assigning_call attributes target) ≡ Can r → (id : List ℕ)
         → held_count store id target.block.cidr ≤ count_by (is_owned id) (block_with_ordinal (next_block target.block) target.ordinal attributes).allocations
     assign-harmless store current r e id =

@@ -75,7 +75,7 @@ said-id store id said (WasFound revision h e own there sound) = ap (λ (s : Said
 module _ (request : Request) where
   -- ---- raising
 
-  -- the count is with_raised_count, or nothing is owed
+  -- the count is raised, or nothing is owed
   unfoldable pub RaiseEnds : List ℕ → CidrValue → Trail → Outcome (Unit {0}) → Type 0
   RaiseEnds id cidr trail (Went left done) = Stays request (Raised id cidr) trail
   RaiseEnds id cidr trail (Stops left why) = StopsClean request trail why

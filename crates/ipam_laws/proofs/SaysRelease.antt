@@ -38,7 +38,7 @@ module _ (node : List ℕ) (cidr : CidrValue) where
   abbrev tie : Tie
   tie = record { node = node; block = cidr }
 
-  -- a try begins at rest, and not behind a read of the block
+  -- a try begins at rest, and not after a read of the block
   abbrev Again : Part ReleaseAnswer → Type 0
   Again again = (trail : Trail) → Rests request trail → NotLooked trail → Says request (Clean request) trail again
 

@@ -131,7 +131,7 @@ record CallTurn (store next : Datastore) (moment : ℕ) (c : Called) (running : 
   step : Step known store next (label_of running.word) reached
   now : (label_in (goes_on store moment c.answer (Some running)) ≡ reached) ⊎ (label_in (goes_on store moment c.answer (Some running)) ≡ idle)
 
--- the store behind a call that was done
+-- the store after a call that was done
 pub done-store : (slot : ℕ) (fate : Fate) (asked : Call) (store : Datastore) (answer : Option Answer) → fate ≢ Before → store_after (call_made slot fate asked (reply_of store asked) answer) store ≡ behind store asked
 done-store slot Well asked store answer done = ap (λ w. store_with w store) (write_told-granted asked (reply_of store asked))
 done-store slot After asked store answer done = ap (λ w. store_with w store) (write_told-granted asked (reply_of store asked))

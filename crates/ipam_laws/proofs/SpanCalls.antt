@@ -65,9 +65,9 @@ fed-slot base slot at live history running e =
     own-slot slot (run_after_feed live ((cluster_at base history).slots slot)) (cluster_at base history).slots
     ∙ ap (λ (o : Option Running). run_after_feed live o) e
 
--- ---- what is left behind a call
+-- ---- what is left after a call
 
--- a word whose bound behind the call is known
+-- a word whose bound after the call is known
 call-left : (store : Datastore) (moment : ℕ) (answer : Option Answer) (running : Running) (count : ℕ) → AtMost (word_after_reply store moment running.word) count → Left (goes_on store moment answer (Some running)) 0 count
 unfolding Left
 call-left store moment (Some answer) running count h = omega arith
@@ -106,14 +106,14 @@ del_calls del h is =
 
 -- ---- a collection
 
--- what goes on behind a call that was not word_after_reply
+-- what goes on after a call that was not answered
 goes-some : (store : Datastore) (moment : ℕ) (answer : Option Answer) (r running : Running) → goes_on store moment answer (Some r) ≡ Some running → running.word ≡ word_after_reply store moment r.word
 goes-some store moment (Some answer) r running e = absurd (cc e)
 goes-some store moment None r running e =
     let same : record r { word = word_after_reply store moment r.word } ≡ running = cc e in
     ap (λ (x : Running). x.word) (sym same)
 
--- both of its lists are the word's calls before and behind the second list of handles
+-- both of its lists are the word's calls before and after the second list of handles
 collect-lists : (store other : Datastore) (first second : ℕ) (request : CollectRequest) (live : List (List ℕ))
     → word_after_reply other second (after_feed (word_after_reply store first (word_of (Collect request))) live)
     ≡ after_reply (after_feed (after_reply (word_of (Collect request)) first (reply_of store (ListAll kind.Block))) live) second (reply_of other (ListAll kind.Block))

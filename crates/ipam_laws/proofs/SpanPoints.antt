@@ -227,7 +227,7 @@ module _ (request : Request) where
         marks = put-wrote span one.moment one.store one.asked first.did _ mark (subst (λ (m : ℕ). HasPut span m _ mark) (sym latest1.same) h.has_marked);
       }
 
-  -- ---- behind the write of a block
+  -- ---- after the write of a block
 
   -- the run as it was before the newest step
   earlier-run : (span : Span) (trail : Trail) → IsRun request span trail → (newest : Newest trail) → IsRun request (span_before span newest.moment) newest.rest

@@ -1,4 +1,4 @@
--- A cluster stands for a history, and where nothing runs one is fresh_run anew.
+-- A cluster stands for a history, and where nothing runs one is begun anew.
 use Rattle.std.proofs.Common.{◌≡◌, ℕ, ◌+◌, ◌<◌, List, [], ◌∷◌, ◌++◌, None, refl, sym, ap, ◌∙◌, subst, arith, nat_lt, ltb-true, ltb-false, inl, inr}
 use Rattle.std.proofs.Math.Path.{fun_ext}
 use Rattle.std.proofs.lemmas.Bool.{cases_Bool}

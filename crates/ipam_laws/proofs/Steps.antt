@@ -1,5 +1,5 @@
 -- What a call of a request may do: the kinds of steps, from where the request stands before the call
--- to where it stands behind it.
+-- to where it stands after it.
 use Rattle.std.proofs.Common.{◌≡◌, ◌≢◌, ◌⊎◌, inl, inr, ℕ, suc, ◌+◌, ◌-◌, ◌<◌, true, List, [], ◌∷◌, Some, None}
 use Rattle.std.specs.Prelude.{Contains}
 use Rattle.std.specs.List.{count_by}
@@ -102,7 +102,7 @@ OwnPicks what = (a : Allocation) → what.picks a ≡ true → is_owned what.han
 
 -- ---- what is written
 
--- the store behind a write of this record
+-- the store after a write of this record
 abbrev pub IsPut : (store next : Datastore) → Record → Type 0
 IsPut store next new = next ≡ written store (Put (store.counter + 1) new)
 
@@ -155,14 +155,14 @@ pub data Step (known : Known) (store next : Datastore) (label after : CallLabel)
       → IsAsRead store tie.block read → IsMarked known tie mark → Step known store next label after
   Deletes : (tie : Tie) (mark : ℕ) (found : Record) → next ≡ written store (Remove (store.counter + 1) (key.Affinity tie.node tie.block)) → label ≡ at_released tie mark → after ≡ idle
       → HasAt store (key.Affinity tie.node tie.block) mark found → Step known store next label after
-  -- a count is with_raised_count, or with_lowered_count
+  -- a count is raised, or lowered
   Raises : (id : List ℕ) (cidr : CidrValue) (h : handle.HandleValue) → IsPut store next (record_of.Handle (with_raised_count h cidr 1)) → label ≡ idle → after ≡ owing (credit_of id cidr 1)
       → IsHandle store id h → count_of h cidr < most_count → IsCountable known id cidr → Step known store next label after
   Lowers : (credit : Credit) (h : handle.HandleValue) (revision : ℕ) (first : CidrValue × ℕ) (rest : List (CidrValue × ℕ)) → IsPut store next (record_of.Handle (with_lowered_count h credit.block credit.amount)) → label ≡ owing credit → after ≡ idle
       → HasAt store (key.Handle credit.handle) revision (record_of.Handle h) → h.id ≡ credit.handle → (with_lowered_count h credit.block credit.amount).counts ≡ first ∷ rest → Step known store next label after
   LowersOut : (credit : Credit) (h : handle.HandleValue) (revision : ℕ) → next ≡ written store (Remove (store.counter + 1) (key.Handle h.id)) → label ≡ owing credit → after ≡ idle
       → HasAt store (key.Handle credit.handle) revision (record_of.Handle h) → h.id ≡ credit.handle → (with_lowered_count h credit.block credit.amount).counts ≡ [] → Step known store next label after
-  -- what a handle holds is block_without in its block, or an address of a block block_with_ordinal
+  -- what a handle holds is freed in its block, or an address of a block assigned
   Frees : (what : Freeing) (amount revision : ℕ) (b : block.BlockValue) → IsPut store next (record_of.Block (block_without what.picks (next_block b))) → label ≡ idle → after ≡ owing (credit_of what.handle what.block (suc amount))
       → HasAt store (key.Block what.block) revision (record_of.Block b) → b.cidr ≡ what.block → OwnPicks what → count_by what.picks b.allocations ≡ suc amount → Step known store next label after
   Assigns : (attributes : Attributes) (target : Target) → IsPut store next (record_of.Block (block_with_ordinal (next_block target.block) target.ordinal attributes)) → label ≡ owing (credit_of attributes.handle target.block.cidr 1) → after ≡ idle

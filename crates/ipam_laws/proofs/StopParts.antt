@@ -138,7 +138,7 @@ module _ (request : Request) (no_release : is_release request ≡ false) where
       (λ lost. b (Did moment store asked ∷ trail) lost)
       (λ new is full k. absurd (creates new is)) (λ spent. spent)
 
-  -- ---- parts behind parts
+  -- ---- parts after parts
 
   pub parts-follow : {A B : Type 0} → (Q : Trail → Outcome B → Type 0) → ((trail : Trail) (left : Left) (why : Stop) → Stopped request trail left why → Q trail (Stops left why)) → (bound : ℕ) (part : Part A) (follows : Left → A → Part B) (trail : Trail)
       → Comes (PartEnds bound) trail part → ((longer : Trail) (left : Left) (a : A) → IsLeft request bound longer left → Comes Q longer (follows left a)) → Comes Q trail (part_then part follows)
@@ -230,7 +230,7 @@ module _ (request : Request) (no_release : is_release request ≡ false) where
 
   -- ---- assigning
 
-  -- an address was block_with_ordinal, or less is left
+  -- an address was assigned, or less is left
   unfoldable pub AssignEnds : (bound : ℕ) → Trail → Outcome (Option Assigned) → Type 0
   AssignEnds bound trail (Went left (Some done)) = IsLeft request bound trail left
   AssignEnds bound trail (Went left None) = IsLeft request bound trail left × (left.races + left.claims < bound)

@@ -79,7 +79,7 @@ limit-is store id cidr sound full = exact (count_of (handle_said id (reply_of st
 
 -- ---- the same round
 
--- no round begins behind a step while what comes is quiet
+-- no round begins after a step while what comes is quiet
 pub no-round-behind : (span : Span) (moment : ℕ) (store : Datastore) (asked : Call) (before between : Trail) → Quietly (Did moment store asked ∷ before) between → (upto : ℕ) → IsTrail span upto between → (k : ℕ) (c : Called) → moment < k → k < upto → InSpan span k (entry.Called c) → c.call ≢ name.Get key.Config
 unfolding IsTrail
 no-round-behind span moment store asked before between Still upto h k c above below inside = absurd (h.1.nothing_between k (entry.Called c) above below inside)

@@ -33,7 +33,7 @@ use Rattle.ipam_laws.proofs.StoreSteps.{write_told-granted}
 
 -- ---- what a request did
 
--- a call at its moment, over the store that word_after_reply it; or a second list that was after_feed
+-- a call at its moment, over the store that answered it; or a second list that was fed
 pub data Step : Type 0 where
   Did : (moment : ℕ) (store : Datastore) (asked : Call) → Step
   Got : (moment at : ℕ) (live : List (List ℕ)) → Step
@@ -574,7 +574,7 @@ module _ (Q : Request → Trail → Answer → Type 0) (starts : (request : Requ
     feeds = λ request trail next h. h;
   }
 
-  -- the trail of a request that has word_after_reply, and what holds of its answer
+  -- the trail of a request that has answered, and what holds of its answer
   pub record AnswerComes (a : Answered) (told : Answer) : Type 0 where
     pub trail : Trail
     pub is_trail : IsTrail (span_of a) (now (span_of a)) trail

@@ -25,7 +25,7 @@ Within-bound P Q (Ends answer) follows count h k = k answer count h
 Within-bound P Q (Asks label call next) follows count h k = (h.0, λ moment said. Within-bound P Q (next moment said) follows (count - 1) (h.1 moment said) k)
 Within-bound P Q (Waits next) follows count h k = λ live. Within-bound P Q (next live) follows count (h live) k
 
--- a part behind another
+-- a part after another
 pub Within-followed : {A B : Type 0} → (P : Outcome A → ℕ → Type 0) (Q : Outcome B → ℕ → Type 0) (part : Part A) (follows : Left → A → Part B) (count : ℕ) → Within P part count → ((left : Left) (a : A) (rest : ℕ) → P (Went left a) rest → Within Q (follows left a) rest) → ((left : Left) (why : Stop) (rest : ℕ) → P (Stops left why) rest → Q (Stops left why) rest) → Within Q (part_then part follows) count
 Within-followed {A} P Q part follows count h goes stops = Within-bound P Q part (onward follows) count h after
   where

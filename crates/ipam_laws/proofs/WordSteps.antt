@@ -57,11 +57,11 @@ use Rattle.ipam_records.specs.BlockLists.{is_node}
 abbrev pub Keeps : {A : Type 0} → Known → Word A → Type 0
 Keeps known word = (label_to still word ≡ idle) × Steps still known word
 
--- the first label of a word behind another that stands nowhere
+-- the first label of a word after another that stands nowhere
 behind-label : {A B : Type 0} → (w : Word A) (follows : A → Word B) → label_to still w ≡ idle → ((a : A) → idle ≡ label_to still (follows a)) → label_to still (bound w follows) ≡ idle
 behind-label w follows label labels = sym (label_to-bound Step still still follows labels w) ∙ label
 
--- a word behind one that ends idle
+-- a word after one that ends idle
 pub bound-keeps : {A B : Type 0} → (w : Word A) (follows : A → Word B) (known : Known) → Keeps known w → ((a : A) → idle ≡ label_to still (follows a)) → ((other : Known) (a : A) → Grows known other → Steps still other (follows a)) → Keeps known (bound w follows)
 bound-keeps w follows known h labels k = (
   behind-label w follows h.0 labels,
@@ -112,7 +112,7 @@ unfolding rounds
 rounds-lawful round h zero left = h (λ now. stops now OutOfTries) (λ now known. (refl, tt)) left
 rounds-lawful round h (suc many) left = h (rounds round many) (rounds-lawful round h many) left
 
--- ---- blocks that were rows_of_kind
+-- ---- blocks that were listed
 
 pub listed-block : (rows : List StoredRecord) (cidr : CidrValue) → find (is_block_at cidr) (filter (λ row. is_of_kind kind.Block (row_key row)) rows) ≡ row_of (key.Block cidr) rows
 listed-block [] cidr = refl
@@ -159,7 +159,7 @@ listed-known known store cidr =
     subst (λ (o : Option StoredRecord). IsKnownBlock (more known store store) cidr (block_in_found o)) (sym (listed-block store.rows cidr))
     (found-known known store cidr (row_of (key.Block cidr) store.rows) refl)
 
--- the word of a round behind each of its reads
+-- the word of a round after each of its reads
 abbrev behind_4 : {A : Type 0} → Family → (Scan → Seen → Word A) → (c p r f : ℕ) → (config pools reservations affinities : Said) → Word A
 behind_4 family follows c p r f config pools reservations affinities =
     Asks idle (call.List kind.Block) (λ b blocks. follows

@@ -14,7 +14,7 @@ fn reservation(alloc: Global, text: &str) -> Result<Reservation, AllocError> {
     }
 }
 
-/// The set in front of `;`, and what is behind it.
+/// The set in front of `;`, and what is after it.
 fn reserved(alloc: Global, text: &str) -> Result<(Reserved, &str), AllocError> {
     let Some((cidrs, rest)) = text.split_once(';') else {
         return Err(AllocError);

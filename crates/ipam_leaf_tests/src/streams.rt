@@ -48,7 +48,7 @@ impl Write for Narrow {
     }
 }
 
-/// What so many reads of two bytes answer, each with the two bytes behind it.
+/// What so many reads of two bytes answer, each with the two bytes after it.
 fn reads<S: Source>(alloc: Global, source: &mut S, times: &str) -> Result<String, AllocError> {
     let mut out = String::new(alloc);
     let mut into = *b"--";

@@ -1,4 +1,4 @@
-//! Each line has a question and, behind `|`, its answer.
+//! Each line has a question and, after `|`, its answer.
 
 pub(crate) const CIDRS: &str = "\
 ::/0|::/0

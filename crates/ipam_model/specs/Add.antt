@@ -161,7 +161,7 @@ after_family request gifts rest (Went left (Gave gift)) = rest gift left
 after_family request gifts rest (Went left (Refused answer)) = refuse request gifts answer left
 after_family request gifts rest (Stops left why) = after_stop request gifts left why
 
--- an address of each of the families, behind what was given before
+-- an address of each of the families, after what was given before
 unfoldable pub add_each : AddRequest → List Gift → List Family → Left → Part AddAnswer
 add_each request gifts [] left = goes left (add.Added (map (λ gift. gift.given) gifts))
 add_each request gifts (family ∷ families) left =

@@ -117,6 +117,6 @@ admin_once request again left =
 abbrev pub admin_stops : StopAnswers AdminAnswer
 admin_stops = without_count admin.Again admin.Full admin.Spent
 
--- The record is read, admin_change and written, even if the change makes no difference.
+-- The record is read, changed and written, even if the change makes no difference.
 abbrev pub admin_word : Admin → Word AdminAnswer
 admin_word request = as_word admin_stops (with_retries (admin_once request) all_left)

@@ -1,4 +1,4 @@
--- What both kinds of ADD do once they have chosen: an address is block_with_ordinal, or a block is claimed.
+-- What both kinds of ADD do once they have chosen: an address is assigned, or a block is claimed.
 use Rattle.std.specs.Prelude.{ℕ, zero, suc, ◌+◌, List, Option, Some, None}
 use Rattle.ipam_addr.specs.declared.address.Family.{Family}
 use Rattle.ipam_addr.specs.declared.address.Family.TheVariants.{V4, V6}
@@ -25,7 +25,7 @@ abbrev pub names_for : Family → AddRequest → List (List ℕ)
 names_for V4 request = request.pools4
 names_for V6 request = request.pools6
 
--- ---- an address is block_with_ordinal
+-- ---- an address is assigned
 
 -- an ordinal of a block as it was read, with its revision
 pub record Target : Type 0 where
@@ -52,7 +52,7 @@ assign_block attributes target left =
     (assign_lost attributes target left))
 
 -- The count is raised and the block written at the revision at which it was read. Where that is
--- lost, nothing is block_with_ordinal.
+-- lost, nothing is assigned.
 abbrev pub assign : Attributes → Target → Left → Part (Option Assigned)
 assign attributes target left =
     part_then (raise attributes.handle target.block.cidr left) (λ now done. assign_block attributes target now)

@@ -104,7 +104,7 @@ DelCallsLaw =
     (del : DelSpan) → Lawful del.base (whole_del del) → IsDelSpan del
     → 1 + length (calls_of del.first.slot del.later) ≤ 200 + 4 * length (counts_read del)
 
--- a collection began, listed the blocks, was after_feed, listed them again, and then freed what leaks
+-- a collection began, listed the blocks, was fed, listed them again, and then freed what leaks
 pub record CollectSpan : Type 0 where
   pub base : Base
   pub earlier : List Entry

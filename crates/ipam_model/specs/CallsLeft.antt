@@ -11,7 +11,7 @@ use Rattle.ipam_model.specs.Reads.{handle_said, rows_said}
 use Rattle.ipam_model.specs.Remove.{suspects}
 use Rattle.ipam_model.specs.Requests.{word_of}
 
--- at most so many calls come before the answer, or before a wait, behind which the number is another
+-- at most so many calls come before the answer, or before a wait, after which the number is another
 abbrev pub Falls : {A : Type 0} → Word A → ℕ → Type 0
 Falls (Ends answer) count = Unit {0}
 Falls (Asks label call next) count =

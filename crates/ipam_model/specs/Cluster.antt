@@ -61,8 +61,8 @@ abbrev pub record_written : Call → Said → Option Record
 record_written asked (Can revision) = new_record asked
 record_written asked _ = None
 
--- By its fate a call is done and word_after_reply, fails before it is done, or fails after. A request whose
--- call fails is word_after_reply so.
+-- By its fate a call is done and answered, fails before it is done, or fails after. A request whose
+-- call fails is answered so.
 abbrev pub call_made : (slot : ℕ) → Fate → Call → Said → Option Answer → Called
 call_made slot Well asked reply answer = record {
   slot = slot;
@@ -123,7 +123,7 @@ store_with (Some write) store = written store write
 abbrev pub store_after : Called → Datastore → Datastore
 store_after c store = store_with (write_told c.call c.reply c.written) store
 
--- what is left of the word once its call is word_after_reply
+-- what is left of the word once its call is answered
 abbrev pub word_after_reply : Datastore → (moment : ℕ) → Word Answer → Word Answer
 word_after_reply store moment (Ends answer) = Ends answer
 word_after_reply store moment (Asks label asked next) = next moment (reply_of store asked)

@@ -72,7 +72,7 @@ lower credit left = with_retries (lower_once credit) left
 abbrev pub credit_of : List ℕ → CidrValue → ℕ → Credit
 credit_of id cidr amount = record { handle = id; block = cidr; amount = amount }
 
--- what is block_without: the allocations of a block that are picked, which the handle of this id holds
+-- what is freed: the allocations of a block that are picked, which the handle of this id holds
 pub record Freeing : Type 0 where
   pub handle : List ℕ
   pub block : CidrValue
@@ -86,7 +86,7 @@ freeing_all id cidr = record { handle = id; block = cidr; picks = is_owned id }
 abbrev pub freeing_one : List ℕ → CidrValue → (ordinal stamp : ℕ) → Freeing
 freeing_one id cidr ordinal stamp = record { handle = id; block = cidr; picks = is_stamped ordinal id stamp }
 
--- so many are block_without: the block is written without them, and the count is with_lowered_count
+-- so many are freed: the block is written without them, and the count is lowered
 abbrev pub free_these : Freeing → (again : Part ℕ) → Left → (amount : ℕ) → ℕ × block.BlockValue → Part ℕ
 free_these what again left zero found = goes left 0
 free_these what again left (suc more) (revision, b) =
@@ -104,6 +104,6 @@ abbrev pub free_once : Freeing → (again : Part ℕ) → Left → Part ℕ
 free_once what again left =
     Asks idle (Get (key.Block what.block)) (λ moment said. free_found what again left (block_said said))
 
--- It comes to how many were block_without. Where there are none, nothing is written.
+-- It comes to how many were freed. Where there are none, nothing is written.
 abbrev pub free : Freeing → Left → Part ℕ
 free what left = with_retries (free_once what) left

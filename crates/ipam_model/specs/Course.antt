@@ -37,7 +37,7 @@ pub data Refusal : Type 0 where
   Idle : Refusal
   Waiting : Refusal
   NotWaiting : Refusal
-  -- the second list was made before the grace behind the first was over
+  -- the second list was made before the grace after the first was over
   TooSoon : (at grace : ℕ) → Refusal
   -- there were too many entries
   Worn : Refusal

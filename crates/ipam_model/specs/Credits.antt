@@ -38,7 +38,7 @@ pub record HasWritten (span : Span) (moment : ℕ) (key : Key) : Type 0 where
 abbrev pub NotSince : Span → (moment : ℕ) → Key → Type 0
 NotSince span moment key = (later : ℕ) → moment < later → ¬ (HasWritten span later key)
 
--- the count as it was before the moment, and behind it
+-- the count as it was before the moment, and after it
 abbrev pub count_before : Span → (moment : ℕ) → List ℕ → CidrValue → ℕ
 count_before span moment id cidr = handle_count (seen_at span moment) id cidr
 

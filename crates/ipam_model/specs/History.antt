@@ -136,7 +136,7 @@ span_before span moment = record span { history = before span.base span.history 
 abbrev pub seen_at : Span → ℕ → Datastore
 seen_at span moment = store_before span.base span.history moment
 
--- the store behind its history
+-- the store after its history
 abbrev pub seen_now : Span → Datastore
 seen_now span = store_at span.base span.history
 

@@ -78,7 +78,7 @@ probe_choice rest asked scan Nothing = Ends (probe.Exhausted scan)
 probe_choice rest asked scan (NoPool place) = Ends (probe.NoPool (name_at asked.names place) scan.p)
 probe_choice rest asked scan _ = rest
 
--- each of the families, behind what was read for those before
+-- each of the families, after what was read for those before
 unfoldable pub probe_each : ProbeRequest → List Scan → List Family → Word ProbeAnswer
 probe_each request scans [] = Ends (probe.Ready scans)
 probe_each request scans (family ∷ families) =

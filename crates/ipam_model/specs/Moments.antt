@@ -71,7 +71,7 @@ pub record LostAt (span : Span) (moment : ℕ) (owner : Owner) : Type 0 where
 abbrev pub LostInSpan : Span → Owner → Type 0
 LostInSpan span owner = (moment : ℕ) × LostAt span moment owner
 
--- the second moment is that of the slot's next entry behind the first, or of the next entry of all
+-- the second moment is that of the slot's next entry after the first, or of the next entry of all
 pub record IsNext (span : Span) (first second : ℕ) : Type 0 where
   pub behind : first < second
   pub nothing_between : (k : ℕ) (there : Entry) → first < k → k < second → ¬ (InSpan span k there)

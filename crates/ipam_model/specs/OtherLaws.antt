@@ -179,7 +179,7 @@ AreReady a request moment (family ∷ families) [] = ⊥
 abbrev pub probe_begins : Answered → ℕ
 probe_begins a = begin_moment (span_of a)
 
--- the moment behind the last of the scans
+-- the moment after the last of the scans
 abbrev pub last_scan : (moment : ℕ) → List Scan → ℕ
 last_scan moment [] = moment
 last_scan moment (scan ∷ scans) = last_scan scan.b scans

@@ -51,8 +51,8 @@ pub record Collecting (span : Span) (request : CollectRequest) : Type 0 where
   pub first_list : HeardCall span b1 (ListAll kind.Block) first
   pub second_list : HeardCall span b2 (ListAll kind.Block) second
   pub fed : InSpan span fed_at (entry.Fed span.slot time live)
-  pub fed_behind : b1 < fed_at
-  pub listed_behind : fed_at < b2
+  pub fed_after : b1 < fed_at
+  pub listed_after : fed_at < b2
   pub late_enough : request.at + request.grace ≤ time
 
 -- An owner in scope at both moments, whose handle is in neither list of live handles.
@@ -78,22 +78,22 @@ pub record IsHeldIn (cidr : CidrValue) (id : List ℕ) (owner : Owner) : Type 0 
   pub inside : Holds cidr owner.address
   pub own : owner.handle ≡ id
 
--- from the slot's span, with this request, to the store behind its next entry
-pub data OwnersChange (span : Span) (request : Request) (behind : Datastore) : Type 0 where
-  Assigned : (owner : Owner) → MayGain request owner → Gains (seen_now span) behind owner → OwnersChange span request behind
+-- from the slot's span, with this request, to the store after its next entry
+pub data OwnersChange (span : Span) (request : Request) (later : Datastore) : Type 0 where
+  Assigned : (owner : Owner) → MayGain request owner → Gains (seen_now span) later owner → OwnersChange span request later
   Deleted : (id : List ℕ) (b : block.BlockValue) → request ≡ Del id → Has (seen_now span) (key.Block b.cidr) (record_of.Block b)
-      → Loses (seen_now span) behind (IsHeldIn b.cidr id) → OwnersChange span request behind
+      → Loses (seen_now span) later (IsHeldIn b.cidr id) → OwnersChange span request later
   Undone : (add : AddRequest) (owner : Owner) → request ≡ Add add → GainedInSpan span owner
-      → Loses (seen_now span) behind (λ o. o ≡ owner) → OwnersChange span request behind
+      → Loses (seen_now span) later (λ o. o ≡ owner) → OwnersChange span request later
   Collected : (collect : CollectRequest) (owner : Owner) → request ≡ Collect collect
       → (c : Collecting span collect) → IsLeak span collect c owner
-      → Loses (seen_now span) behind (λ o. o ≡ owner) → OwnersChange span request behind
+      → Loses (seen_now span) later (λ o. o ≡ owner) → OwnersChange span request later
 
 -- The owners stay as they are, or change in one of these ways by the request that runs.
-abbrev pub OwnersMove : Span → (behind : Datastore) → Type 0
-OwnersMove span behind =
-    (owners behind ≡ owners (seen_now span))
-    ⊎ ((request : Request) × (request_in (cluster_at span.base span.history) span.slot ≡ Some request) × OwnersChange span request behind)
+abbrev pub OwnersMove : Span → (later : Datastore) → Type 0
+OwnersMove span later =
+    (owners later ≡ owners (seen_now span))
+    ⊎ ((request : Request) × (request_in (cluster_at span.base span.history) span.slot ≡ Some request) × OwnersChange span request later)
 
 abbrev pub OwnersLaw : Type 0
 OwnersLaw =

@@ -206,7 +206,7 @@ Result = PlainAnswer × Rows
 abbrev pub freeing_gift : AddRequest → PlainGift → Freeing
 freeing_gift request gift = freeing_one request.attributes.handle gift.block gift.ordinal gift.stamp
 
--- what was given is block_without, and what was claimed stays claimed
+-- what was given is freed, and what was claimed stays claimed
 abbrev pub with_gifts_freed : AddRequest → List PlainGift → Rows → Rows
 with_gifts_freed request [] rows = rows
 with_gifts_freed request (gift ∷ gifts) rows =
@@ -216,7 +216,7 @@ abbrev pub plain_after : AddRequest → List PlainGift → (rest : PlainGift →
 plain_after request gifts rest (Served gift rows) = rest gift rows
 plain_after request gifts rest (Unserved why rows) = (why, with_gifts_freed request gifts rows)
 
--- an address of each of the families, behind what was given before
+-- an address of each of the families, after what was given before
 abbrev pub plain_each : AddRequest → List PlainGift → List Family → Rows → Result
 plain_each request gifts [] rows = (Gives (map (λ (gift : PlainGift). gift.address) gifts), rows)
 plain_each request gifts (family ∷ families) rows =

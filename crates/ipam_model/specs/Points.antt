@@ -30,7 +30,7 @@ pub record HasPut (span : Span) (moment : ℕ) (new : Record) (revision : ℕ) :
   pub is_written : c.written ≡ Some new
   pub is_done : c.reply ≡ told.Done revision
 
--- nothing came in the span behind the moment
+-- nothing came in the span after the moment
 abbrev pub IsLatest : Span → (moment : ℕ) → Type 0
 IsLatest span moment = IsNext span moment (now span)
 

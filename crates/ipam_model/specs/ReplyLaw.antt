@@ -17,21 +17,21 @@ use Rattle.ipam_model.specs.Named.{name_of, told_of}
 use Rattle.ipam_model.specs.History.{Base, Lawful, cluster_at, store_at}
 
 -- the reply and the written record are those of the datastore, and what it granted is done
-pub record IsDoneBy (store behind : Datastore) (next_call : Call) (c : Called) : Type 0 where
+pub record IsDoneBy (store later : Datastore) (next_call : Call) (c : Called) : Type 0 where
   pub is_reply : c.reply ≡ told_of (reply_of store next_call)
   pub is_written : c.written ≡ record_written next_call (reply_of store next_call)
-  pub is_store : behind ≡ store_with (write_granted next_call (reply_of store next_call)) store
+  pub is_store : later ≡ store_with (write_granted next_call (reply_of store next_call)) store
 
 -- a call that failed before was not answered, and wrote nothing
-pub record IsNotDone (store behind : Datastore) (c : Called) : Type 0 where
+pub record IsNotDone (store later : Datastore) (c : Called) : Type 0 where
   pub no_reply : c.reply ≡ told.Nothing
   pub nothing_written : c.written ≡ None
-  pub is_store : behind ≡ store
+  pub is_store : later ≡ store
 
 abbrev pub IsAnsweredBy : Datastore → Datastore → Call → Called → Fate → Type 0
-IsAnsweredBy store behind next_call c Well = IsDoneBy store behind next_call c
-IsAnsweredBy store behind next_call c After = IsDoneBy store behind next_call c
-IsAnsweredBy store behind next_call c Before = IsNotDone store behind c
+IsAnsweredBy store later next_call c Well = IsDoneBy store later next_call c
+IsAnsweredBy store later next_call c After = IsDoneBy store later next_call c
+IsAnsweredBy store later next_call c Before = IsNotDone store later c
 
 abbrev pub RepliesLaw : Type 0
 RepliesLaw =

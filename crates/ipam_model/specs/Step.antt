@@ -72,7 +72,7 @@ abbrev pub onward : {A B : Type 0} → (Left → A → Part B) → Outcome A →
 onward follows (Went left value) = follows left value
 onward follows (Stops left why) = stops left why
 
--- one part behind another
+-- one part after another
 abbrev pub part_then : {A B : Type 0} → Part A → (Left → A → Part B) → Part B
 part_then part follows = bound part (onward follows)
 

@@ -74,7 +74,7 @@ abbrev pub follows_block_read : List Called → Bool
 follows_block_read [] = false
 follows_block_read (c ∷ calls) = reads_block c.call
 
--- a release reads the affinity again behind the block, and finds it no more at its mark
+-- a release reads the affinity again after the block, and finds it no more at its mark
 abbrev pub is_mark_lost : Called → List Called → Bool
 is_mark_lost c earlier =
     reads_affinity c.call && follows_block_read earlier && not (is_at (latest_done earlier) c.reply)

@@ -13,7 +13,7 @@ pub enum Fate {
     Well,
     /// It failed and was not done.
     Before,
-    /// It failed behind the datastore's own answer, so a granted write was done.
+    /// It failed after the datastore's own answer, so a granted write was done.
     After,
 }
 

@@ -52,7 +52,7 @@ InNoPool = goes held_base
     (entry.Began 0 (Check (codes "n.c1") (v4 8 ∷ []))
     ∷ ends_with (name.Get key.Pools) (told.Found 1) (answer.NotRecorded (v4 8) 1))
 
--- also behind one that is held
+-- also after one that is held
 abbrev pub SecondInNoPool : Type 0
 SecondInNoPool = goes held_base
     (Begin 0 (Check (codes "n.c1") (v4 0 ∷ v4 8 ∷ [])) ∷ turns 0 2)

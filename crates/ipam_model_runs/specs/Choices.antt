@@ -119,7 +119,7 @@ OtherAffinities =
 abbrev pub UnconfirmedAtTheBound : Type 0
 UnconfirmedAtTheBound = choice_of anything (seen bounded [] (empty_of slot0 a ∷ [])) ≡ Claim slot0
 
--- a confirmed block comes before one that isn't, also where its slot comes behind
+-- a confirmed block comes before one that isn't, also where its slot comes after
 abbrev pub ConfirmedFirst : Type 0
 ConfirmedFirst =
     choice_of anything (seen defaults (confirmed slot1 a ∷ []) (empty_of slot0 a ∷ empty_of slot1 a ∷ []))

@@ -121,8 +121,8 @@ GivenAgainBetweenTheLists = goes held_base
     ∷ [])
 
 -- between the second list and the read of the block: the leak is gone, and what has its place stays
-abbrev pub GivenAgainBehindTheLists : Type 0
-GivenAgainBehindTheLists = goes held_base
+abbrev pub GivenAgainAfterTheLists : Type 0
+GivenAgainAfterTheLists = goes held_base
     (Begin 0 collect_all ∷ turns 0 1 ++ Feed 0 0 [] ∷ turns 0 1 ++ give_again ++ turns 0 1)
     (entry.Began 0 collect_all
     ∷ list_blocks None
@@ -143,8 +143,8 @@ FedWithinTheGrace = stops held_base
     (entry.Began 0 after_a_minute ∷ list_blocks None ∷ [])
     (TooSoon 100 60)
 
-abbrev pub FedBehindTheGrace : Type 0
-FedBehindTheGrace = goes held_base
+abbrev pub FedAfterTheGrace : Type 0
+FedAfterTheGrace = goes held_base
     (Begin 0 after_a_minute ∷ turns 0 1 ++ Feed 0 160 [] ∷ turns 0 5)
     (entry.Began 0 after_a_minute ∷ list_blocks None ∷ entry.Fed 0 160 [] ∷ freeing)
 

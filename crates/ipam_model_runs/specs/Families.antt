@@ -16,7 +16,7 @@ use Rattle.ipam_model.specs.Course.{Event, Begin}
 use Rattle.ipam_model.specs.History.{Base}
 use Rattle.ipam_model.specs.Owners.{owners}
 use Rattle.ipam_model.specs.Reads.{StoredRecord}
-use Rattle.ipam_model_runs.specs.Setting.{v4, v4_range, slot0, pool, ready_base, base_of, block_record, affinity_of, handle_of, queue4, held, add_request, add_this, turns, did, get_block, get_handle, created, updated, five_reads, scan_from, given, given_this, goes, store_behind, first_given, first_freed, three_reads}
+use Rattle.ipam_model_runs.specs.Setting.{v4, v4_range, slot0, pool, ready_base, base_of, block_record, affinity_of, handle_of, queue4, held, add_request, add_this, turns, did, get_block, get_handle, created, updated, five_reads, scan_from, given, given_this, goes, store_after_events, first_given, first_freed, three_reads}
 
 abbrev pub add_both : Request
 add_both = Add (record (add_request (codes "n.c1") (codes "a")) { ipv6 = true })
@@ -34,7 +34,7 @@ SecondFamilyExhausted = goes ready_base both
     ++ first_freed 0 (answer.Exhausted (scan_from V6 9)))
 
 abbrev pub NoOwnerIsLeft : Type 0
-NoOwnerIsLeft = owners (store_behind ready_base both) ≡ []
+NoOwnerIsLeft = owners (store_after_events ready_base both) ≡ []
 
 -- Between the two families the address is freed and given to the same handle again, so there is
 -- nothing of this request to be freed.

@@ -10,7 +10,7 @@ use Rattle.ipam_model.specs.declared.entry.Told.TheVariants as told
 use Rattle.ipam_model.specs.Course.{Event, Begin}
 use Rattle.ipam_model.specs.History.{Base}
 use Rattle.ipam_model.specs.Owners.{owners}
-use Rattle.ipam_model_runs.specs.Setting.{v4, v4_range, pool, base_of, block_record, affinity_of, handle_of, held, add, add_this, turns, get_affinity, get_handle, created, updated, five_reads, given, given_this, goes, store_behind, three_reads}
+use Rattle.ipam_model_runs.specs.Setting.{v4, v4_range, pool, base_of, block_record, affinity_of, handle_of, held, add, add_this, turns, get_affinity, get_handle, created, updated, five_reads, given, given_this, goes, store_after_events, three_reads}
 
 abbrev pub large : CidrValue
 large = v4_range 0 20
@@ -50,7 +50,7 @@ FirstAndLast = goes large_base first_and_last
     ∷ [])
 
 abbrev pub TheirOwners : Type 0
-TheirOwners = owners (store_behind large_base first_and_last)
+TheirOwners = owners (store_after_events large_base first_and_last)
     ≡ record { address = v4 0; handle = codes "n.c1"; stamp = 1 }
     ∷ record { address = v4 4095; handle = codes "n.c2"; stamp = 2 }
     ∷ []

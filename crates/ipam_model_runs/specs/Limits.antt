@@ -96,7 +96,7 @@ SixtyFourClaims =
 
 -- ---- a claim, and 64 lost races
 
--- The races that are lost behind a claim are as many.
+-- The races that are lost after a claim are as many.
 abbrev pub ClaimAndLostRaces : Type 0
 ClaimAndLostRaces =
     excerpt (1047 ∷ 1063 ∷ [])
@@ -139,8 +139,8 @@ abbrev pub WornAtFirst : Type 0
 WornAtFirst = stops (begun_at (2 ^ 62)) (Begin 0 (add (codes "n.c1") (codes "a")) ∷ []) [] Worn
 
 -- One entry is left. What it begins has no turn any more, and can be stopped.
-abbrev pub WornBehindOne : Type 0
-WornBehindOne = stops (begun_at (2 ^ 62 - 1))
+abbrev pub WornAfterOne : Type 0
+WornAfterOne = stops (begun_at (2 ^ 62 - 1))
     (Begin 0 (add (codes "n.c1") (codes "a")) ∷ Turn 0 Well ∷ [])
     (entry.Began 0 (add (codes "n.c1") (codes "a")) ∷ [])
     Worn

@@ -8,7 +8,7 @@ use Rattle.ipam_model.specs.declared.entry.Entry.TheVariants as entry
 use Rattle.ipam_model.specs.declared.entry.Told.TheVariants as told
 use Rattle.ipam_model.specs.declared.request.Request.TheVariants.{Del}
 use Rattle.ipam_model.specs.Course.{Event, Begin}
-use Rattle.ipam_model_runs.specs.Setting.{v4, slot0, slot1, pool_row, ready_base, bare_base, block_record, affinity_of, handle_of, held_base, held, queue4, add, add_this, turns, did_read, get_block, get_affinity, get_handle, created, updated, deleted, five_reads, given, given_this, goes, store_behind, three_reads, second_given, first_given}
+use Rattle.ipam_model_runs.specs.Setting.{v4, slot0, slot1, pool_row, ready_base, bare_base, block_record, affinity_of, handle_of, held_base, held, queue4, add, add_this, turns, did_read, get_block, get_affinity, get_handle, created, updated, deleted, five_reads, given, given_this, goes, store_after_events, three_reads, second_given, first_given}
 
 -- ---- two ADDs on one node
 
@@ -78,7 +78,7 @@ TwoNodesRace = goes bare_base two_nodes
 
 -- Then each node has one confirmed block. The pending affinity of b to the first slot stays.
 abbrev pub TwoNodesRows : Type 0
-TwoNodesRows = store_behind bare_base two_nodes ≡ record {
+TwoNodesRows = store_after_events bare_base two_nodes ≡ record {
   rows =
       pool_row
       ∷ (6, block_record slot0 (Some (codes "a")) (held 0 (codes "n.c1") 1 ∷ []) (1 ∷ 2 ∷ 3 ∷ []) 1)

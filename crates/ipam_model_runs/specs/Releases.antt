@@ -155,7 +155,7 @@ MarkTakenBack = goes ready_base
     (Some (given (v4 0) 30 37))
     ∷ [])
 
--- The ADD takes the affinity back behind the release's write of the block. The release loses its
+-- The ADD takes the affinity back after the release's write of the block. The release loses its
 -- deletion, and reads the affinity again.
 abbrev pub DeletionLost : Type 0
 DeletionLost = goes ready_base

@@ -237,7 +237,7 @@ second_given slot id revision answer =
 
 -- ---- answers
 
--- the five reads of a round that stand at the moment c and behind it
+-- the five reads of a round that stand at the moment c and after it
 abbrev pub scan_from : Family → (c : ℕ) → Scan
 scan_from family c = record { family = family; c = c; p = c + 1; r = c + 2; f = c + 3; b = c + 4 }
 
@@ -267,9 +267,9 @@ stops base events entries refusal = run base events ≡ record {
   refused = Some (record { place = length events - 1; why = refusal });
 }
 
--- the datastore behind the events
-abbrev pub store_behind : Base → List Event → Datastore
-store_behind base events = (after_all (start base) (run base events).entries).store
+-- the datastore after the events
+abbrev pub store_after_events : Base → List Event → Datastore
+store_after_events base events = (after_all (start base) (run base events).entries).store
 
 -- ---- a part of what happens, where it is long
 

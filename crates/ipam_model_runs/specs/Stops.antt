@@ -10,7 +10,7 @@ use Rattle.ipam_model.specs.declared.entry.Fate.TheVariants.{Before, After}
 use Rattle.ipam_model.specs.declared.entry.Told.TheVariants as told
 use Rattle.ipam_model.specs.declared.request.Request.TheVariants.{Del}
 use Rattle.ipam_model.specs.Course.{Event, Begin, Turn, Stop, Restart}
-use Rattle.ipam_model_runs.specs.Setting.{slot0, pool_row, ready_base, block_record, affinity_of, handle_of, held, add, turns, did, get_handle, created, five_reads, goes, store_behind, first_freed}
+use Rattle.ipam_model_runs.specs.Setting.{slot0, pool_row, ready_base, block_record, affinity_of, handle_of, held, add, turns, did, get_handle, created, five_reads, goes, store_after_events, first_freed}
 
 -- an ADD up to its write of the block
 abbrev pub before_the_write : List Event
@@ -47,7 +47,7 @@ LostAnswer = goes ready_base lost_answer
     ∷ first_freed 0 (answer.Deleted 10))
 
 abbrev pub LostAnswerRows : Type 0
-LostAnswerRows = store_behind ready_base lost_answer ≡ record {
+LostAnswerRows = store_after_events ready_base lost_answer ≡ record {
   rows =
       pool_row
       ∷ (6, block_record slot0 (Some (codes "a")) [] (1 ∷ 2 ∷ 3 ∷ 0 ∷ []) 2)
@@ -77,7 +77,7 @@ FailedWrite = goes ready_base failed_write
 
 -- the rows once the count is raised and the block is not written
 abbrev pub RowsWithCount : List Event → Type 0
-RowsWithCount events = store_behind ready_base events ≡ record {
+RowsWithCount events = store_after_events ready_base events ≡ record {
   rows =
       pool_row
       ∷ (3, block_record slot0 (Some (codes "a")) [] (0 ∷ 1 ∷ 2 ∷ 3 ∷ []) 0)

@@ -3,13 +3,13 @@ ghost use Rattle.ipam_model_runs.specs.FirstRun.{FirstRun, NinthCall, FifthExhau
 ghost use Rattle.ipam_model_runs.specs.Races.{LostBlockWrite, TwoNodesRace, TwoNodesRows, RaceForOneHandle, RaceForOneAddress, DelLosesItsWrite, DelLosesItsLowering};
 ghost use Rattle.ipam_model_runs.specs.Releases.{ReleasedBeforeTheClaim, AffinityTakenBack, ReleasedTwice, ReleasedBesideAnother, MarkTakenBack, DeletionLost, MarkGone};
 ghost use Rattle.ipam_model_runs.specs.Stops.{LostAnswer, LostAnswerRows, FailedWrite, FailedWriteRows, StoppedAdd, StoppedAddRows, RestartOfIdle, RestartOfBusy};
-ghost use Rattle.ipam_model_runs.specs.Collections.{LeakFreed, LiveInFirstList, LiveInSecondList, NotYetWaiting, WaitingHasNoCall, GivenAgainBetweenTheLists, GivenAgainBehindTheLists, FedWithinTheGrace, FedBehindTheGrace, OutsideTheScope, InsideTheScope, TwoLeaksFreed};
+ghost use Rattle.ipam_model_runs.specs.Collections.{LeakFreed, LiveInFirstList, LiveInSecondList, NotYetWaiting, WaitingHasNoCall, GivenAgainBetweenTheLists, GivenAgainAfterTheLists, FedWithinTheGrace, FedAfterTheGrace, OutsideTheScope, InsideTheScope, TwoLeaksFreed};
 ghost use Rattle.ipam_model_runs.specs.Borrowing.{StrictAdd, BorrowingAdd, StrictAddOfOne, BorrowingFromNobody};
 ghost use Rattle.ipam_model_runs.specs.Families.{SecondFamilyExhausted, NoOwnerIsLeft, GivenAgainBeforeTheSecond, SecondFamilyUnknown, SecondCountFull, Ipv6Given, BothGiven};
 ghost use Rattle.ipam_model_runs.specs.LostRaces.{ChangeAgain, DelAgain, UndoingAgain, ReleaseAgain, MarkAgain};
 ghost use Rattle.ipam_model_runs.specs.LargeBlock.{FirstAndLast, TheirOwners};
 ghost use Rattle.ipam_model_runs.specs.NoRoom.{FullInARaise, FullInAClaim, FullOfBlocks, FullInTheSecondFamily, FullInARelease};
-ghost use Rattle.ipam_model_runs.specs.Limits.{RevisionsSpent, SixtyFourLostRaces, SixtyFourClaims, ClaimAndLostRaces, CountAtItsLimit, WornAtFirst, WornBehindOne, WornAndStopped};
+ghost use Rattle.ipam_model_runs.specs.Limits.{RevisionsSpent, SixtyFourLostRaces, SixtyFourClaims, ClaimAndLostRaces, CountAtItsLimit, WornAtFirst, WornAfterOne, WornAndStopped};
 ghost use Rattle.ipam_model_runs.specs.OneAddress.{TakenAddress, AddressInNoPool, ReservedAddress, ClaimedForOneAddress, ClaimedFromNobody, NobodysIsNotAffine};
 ghost use Rattle.ipam_model_runs.specs.Deletions.{DelOfTwoBlocks, DelOfMissing};
 ghost use Rattle.ipam_model_runs.specs.Checks.{Recorded, RecordedToAnother, SecondNotRecorded, InNoPool, SecondInNoPool, InDisabledPool};
@@ -47,7 +47,7 @@ pub fn releases()
     ensures mark_gone { MarkGone }
 {}
 
-/// Calls fail before and behind a write, and requests are stopped.
+/// Calls fail before and after a write, and requests are stopped.
 pub fn calls_that_fail_and_stops()
     ensures lost_answer { LostAnswer }
     ensures lost_answer_rows { LostAnswerRows }
@@ -67,9 +67,9 @@ pub fn collections()
     ensures not_yet_waiting { NotYetWaiting }
     ensures waiting_has_no_call { WaitingHasNoCall }
     ensures given_again_between_the_lists { GivenAgainBetweenTheLists }
-    ensures given_again_behind_the_lists { GivenAgainBehindTheLists }
+    ensures given_again_after_the_lists { GivenAgainAfterTheLists }
     ensures fed_within_the_grace { FedWithinTheGrace }
-    ensures fed_behind_the_grace { FedBehindTheGrace }
+    ensures fed_after_the_grace { FedAfterTheGrace }
     ensures outside_the_scope { OutsideTheScope }
     ensures inside_the_scope { InsideTheScope }
     ensures two_leaks_freed { TwoLeaksFreed }
@@ -127,7 +127,7 @@ pub fn requests_at_a_limit()
     ensures claim_and_lost_races { ClaimAndLostRaces }
     ensures count_at_its_limit { CountAtItsLimit }
     ensures worn_at_first { WornAtFirst }
-    ensures worn_behind_one { WornBehindOne }
+    ensures worn_after_one { WornAfterOne }
     ensures worn_and_stopped { WornAndStopped }
 {}
 

@@ -26,7 +26,7 @@ equal-not x y e g = cc (e, g)
 pub itself-not : (x : List ℕ) → slice_cmp nat_cmp x x ≢ Greater
 itself-not x = equal-not x x (text-itself x)
 
--- what is before another is not behind what that is not behind
+-- what is before another is not after what that is not after
 less-then : (x y z : List ℕ) → slice_cmp nat_cmp x y ≡ Less → slice_cmp nat_cmp y z ≢ Greater → slice_cmp nat_cmp x z ≢ Greater
 less-then x y z one two = by (slice_cmp nat_cmp y z) refl
   where
@@ -38,7 +38,7 @@ less-then x y z one two = by (slice_cmp nat_cmp y z) refl
         less-not x z (nat_list_cmp_total.antisymm x z ∙ ap ordering_reverse zx)
     by Greater f = absurd (two f)
 
--- where it is not before the other, the other is not behind it
+-- where it is not before the other, the other is not after it
 not-less : (x y : List ℕ) → is_lt (slice_cmp nat_cmp x y) ≡ false → slice_cmp nat_cmp y x ≢ Greater
 not-less x y e = by (slice_cmp nat_cmp x y) refl e
   where

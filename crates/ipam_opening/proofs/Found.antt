@@ -41,7 +41,7 @@ same-text one other e =
     let test : bytes_eq one other ≡ true = sym (is_eq-slice_cmp one other) ∙ ap is_eq e in
     (bytes_eq-Decides one other).0 test
 
--- the keys of the rows behind another stand behind its own
+-- the keys of the rows after another stand after its own
 pub later-key : (first : RowText) (rest : List RowText) → AllByRecursion (λ k. slice_cmp nat_cmp first.key k ≡ Less) (map (λ (t : RowText). t.key) rest) → (row : RowText) → Contains rest row → slice_cmp nat_cmp first.key row.key ≡ Less
 later-key first [] all row h = absurd (in-nothing row h)
 later-key first (t ∷ rest) all row h = elim (in-cons row t rest h) [

@@ -11,7 +11,7 @@ abbrev pub is_block_read : Result Record TextFault → Bool
 is_block_read (Ok (record_of.Block b)) = true
 is_block_read _ = false
 
--- how many others come first behind a row, or none where it is the one that is looked for
+-- how many others come first after a row, or none where it is the one that is looked for
 abbrev pub left_behind : Bool → ℕ → Option ℕ
 left_behind false left = Some left
 left_behind true zero = None

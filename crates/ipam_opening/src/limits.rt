@@ -70,7 +70,7 @@ fn counter_above(alloc: Global, counter: u64) -> Result<Option<Text>, AllocError
     }
 }
 
-/// How many blocks come first behind a row. None where it is a block, and none comes first.
+/// How many blocks come first after a row. None where it is a block, and none comes first.
 fn left_behind(is_block: bool, left: usize) -> Option<usize>
     ensures { result ≡ left_behind is_block left }
 {

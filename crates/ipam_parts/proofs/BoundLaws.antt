@@ -1,4 +1,4 @@
--- A word with another behind it.
+-- A word with another after it.
 use Rattle.std.proofs.Common.{◌≡◌, refl, ap, ℕ, Some, None, IsSome}
 use Rattle.ipam_records.specs.Hearing.{MayHear}
 use Rattle.ipam_records.specs.Said.{Said}

@@ -27,7 +27,7 @@ asks_at id cidr picks left (Lowers amount lowering) =
 pub freeing_asks : (id : List ℕ) (f : Freeing) → IsSome (next_call (freeing_rest id f))
 freeing_asks id f = asks_at id f.cidr f.picks f.left f.stage
 
--- ---- a freeing with others behind it that ends in an answer
+-- ---- a freeing with others after it that ends in an answer
 
 pub asks_freeing : {B : Type 0} (answers : StopAnswers B) (follows : Left → ℕ → Part B) (id : List ℕ) (f : Freeing)
     → next_call (as_word answers (part_then (freeing_rest id f) follows)) ≡ next_call (freeing_rest id f)

@@ -1,4 +1,4 @@
--- What is left of the freeing of addresses before each of its tries, and behind its lowering.
+-- What is left of the freeing of addresses before each of its tries, and after its lowering.
 use native.Mathlib.Omega.{arith}
 use Rattle.std.proofs.Common.{◌≡◌, ◌<◌, ◌^◌, refl, sym, ap, ◌∙◌, ℕ, zero, suc, List, Option, Some, None, IsSome, IfSome}
 use Rattle.std.specs.List.{count_by}

@@ -1,4 +1,4 @@
--- A part with others behind it that ends in an answer.
+-- A part with others after it that ends in an answer.
 use Rattle.std.proofs.Common.{◌≡◌, refl, ap, ℕ, Some, None, IsSome}
 use Rattle.ipam_records.specs.Hearing.{MayHear}
 use Rattle.ipam_records.specs.Said.{Said}

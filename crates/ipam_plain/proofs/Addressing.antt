@@ -76,7 +76,7 @@ module _ (request : AddRequest) (address : AddrValue) where
       subst (λ (d : Option Assigned). Runs [] (Finishes Q) then later (this_assigned wanted next looked left d)) (sym h.is_done)
       (record { says = refl; is_as = subst (λ (s : Datastore). IsAs s (with_assigned request.attributes found.1 ordinal rows)) (sym h.is_store) (as-assigned store rows request.attributes found.1 ordinal is) }))
 
-  -- ---- a round behind a claim
+  -- ---- a round after a claim
 
   -- the block of the address is the node's own, and the address is free
   record IsOwnFree (store : Datastore) (cidr : CidrValue) (b : BlockValue) : Type 0 where
@@ -125,7 +125,7 @@ module _ (request : AddRequest) (address : AddrValue) where
   own-node cidr None = same_text request.node
   own-node cidr (Some found) = same_text request.node
 
-  -- what the records say behind a claim
+  -- what the records say after a claim
   plain-gives : (cidr : CidrValue) (o : BlockRead) (b : BlockValue) (rows : Rows) → value_in o ≡ Some b → plain_this wanted cidr o rows ≡ gives cidr b rows
   plain-gives cidr None b rows e = absurd (cc e)
   plain-gives cidr (Some found) b rows e = let same : found.1 ≡ b = cc e in ap (λ (x : BlockValue). gives cidr x rows) same
@@ -136,7 +136,7 @@ module _ (request : AddRequest) (address : AddrValue) where
     abbrev left : Left
     left = left_of races (suc claims)
 
-    -- behind the claim there is one round more
+    -- after the claim there is one round more
     behind-claim : (pool : Pool) (then : Datastore) (later : ℕ) → pool_in store.rows ≡ Some pool → IsAsRead store (slot_holding pool address) (block_in_rows (slot_holding pool address) store.rows)
         → holder (taken request.node (slot_holding pool address) (block_in_rows (slot_holding pool address) store.rows)) (address.number - (slot_holding pool address).base) ≡ None
         → IsClaimed store.rows request.node (slot_holding pool address) (block_in_rows (slot_holding pool address) store.rows) 2 1 0 then

@@ -104,7 +104,7 @@ pick-slot Lacks slot e = absurd (cc e)
 pick-slot (Unknown place) slot e = absurd (cc e)
 pick-slot (Picks ranked) slot e = let same : Some ranked.slot ≡ Some slot = sym (chosen-slot ranked.slot ranked.rank) ∙ e in (ranked, refl, cc same)
 
--- ---- behind a claim
+-- ---- after a claim
 
 -- the block that was claimed is picked
 pub record PicksClaimed (asked : Asked) (seen : Seen) (slot : CidrValue) (b : BlockValue) : Type 0 where

@@ -120,7 +120,7 @@ module _ (live : List (List ℕ)) (node : List ℕ) (cidr : CidrValue) (read : B
       new : Record
       new = record_of.Block (taken node cidr read)
 
-      -- the affinity is still there behind the block's write
+      -- the affinity is still there after the block's write
       confirms : Enough (suc revisions) rows blocks (put_in store (record_of.Block (taken node cidr read))) → Runs live Claims (put_in store (record_of.Block (taken node cidr read))) (moment + 1) (claim_confirm node cidr kept)
       confirms left =
           let row : ℕ × Record = (store.counter + 1, record_of.Block (taken node cidr read)) in
@@ -148,7 +148,7 @@ module _ (live : List (List ℕ)) (node : List ℕ) (cidr : CidrValue) (read : B
           (confirms (subst (λ (x : Record). Enough (suc revisions) rows blocks (put_in store x)) (sym same)
           (enough-less (suc revisions) rows blocks (suc revisions) (suc rows) (suc blocks) (put_in store (record_of.Block (taken node cidr (Some found)))) (omega arith) (omega arith) (omega arith) (enough-there (suc revisions) (suc rows) (suc blocks) store (record_of.Block (taken node cidr (Some found))) (found.0, record_of.Block found.1) enough sorted at)))))
 
-  -- behind the write of the pending affinity
+  -- after the write of the pending affinity
   claim-pending : (store : Datastore) (moment : ℕ) → IsAsRead store cidr read → Others store.rows → IsSorted store.rows → Enough (suc (suc revisions)) (suc rows) (suc blocks) (put_in store (record_of.Affinity (affinity node cidr Pending)))
       → Runs live Claims (put_in store (record_of.Affinity (affinity node cidr Pending))) moment (claim_block node cidr read (store.counter + 1))
   claim-pending store moment as_read others sorted enough =

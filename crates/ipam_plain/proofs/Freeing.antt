@@ -27,7 +27,7 @@ use Rattle.ipam_laws.proofs.Calls.{found-block, found-key}
 use Rattle.ipam_plain.proofs.Alike.{alike-block, alike-handle, value_in}
 use Rattle.ipam_plain.proofs.Writes.{Comes, IsAs, as-cut, as-put, comes-followed, delete-runs, put_in, update-runs}
 
--- ---- what is block_without of a block, by what the block is
+-- ---- what is freed of a block, by what the block is
 
 pub freed-same : (what : Freeing) (one other : Option (ℕ × BlockValue)) (rows : Rows) → value_in one ≡ value_in other → with_freed_found what one rows ≡ with_freed_found what other rows
 freed-same what None None rows e = refl

@@ -148,7 +148,7 @@ grows-trans one two three h g cidr b at =
     let (last, then, more) = g cidr middle there in
     (last, then, omega arith)
 
--- an assignment behind a claim
+-- an assignment after a claim
 pub claimed-gives : (attributes : Attributes) (node : List ℕ) (slot : CidrValue) (rows after then : Rows) (gift : PlainGift) → IsClaimedIn rows after node slot (claimed_block node slot (block_in_rows slot rows)) → GivesOne attributes after gift then → GivesOne attributes rows gift then
 claimed-gives attributes node slot rows after then gift h g = record {
   was = λ c a held. elim (g.was c a held) [ inl old ↦ inl (claimed-was node slot rows after h c a old) | inr new ↦ inr new ];

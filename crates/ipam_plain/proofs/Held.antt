@@ -175,7 +175,7 @@ module _ (what : Freeing) (rows : Rows) where
           let same : found.1 ≡ b = cc e in
           subst (λ (x : BlockValue). IsLeft (with_these_freed what (count_by what.picks x.allocations) x rows) what.block what.picks b) (sym same) (these (count_by what.picks b.allocations) refl)
 
-  -- where there is no block nothing is block_without
+  -- where there is no block nothing is freed
   freed-nowhere : (found : Record) → record_at (key.Block what.block) (with_freed what rows) ≡ Some found → ((b : BlockValue) × (record_at (key.Block what.block) rows ≡ Some (record_of.Block b))) ⊎ (record_at (key.Block what.block) rows ≡ Some found)
   freed-nowhere found e = by (block_in_rows what.block rows) refl e
     where
@@ -183,7 +183,7 @@ module _ (what : Freeing) (rows : Rows) where
       by None is f = inr f
       by (Some there) is f = inl (there.1, found-record rows what.block there.1 (ap value_in is))
 
-  -- what is held behind it was held, and is not picked
+  -- what is held after it was held, and is not picked
   pub freed-was : (cidr : CidrValue) (a : Allocation) → HeldAt (with_freed what rows) cidr a → HeldAt rows cidr a × (cidr ≡ what.block → what.picks a ≡ false)
   freed-was cidr a (b, there, among) = elim (cidr_cases cidr what.block) [
     | inr (f, other) ↦ ((b, sym (freed-elsewhere cidr other) ∙ there, among), λ e. absurd (other e))

@@ -42,7 +42,7 @@ use Rattle.ipam_plain.proofs.Alike.{IsSorted, record-row, record_at, record_in}
 use Rattle.ipam_plain.proofs.Held.{HeldAt, freed-stays, freed-was, held-owner, named, owner-held, same-owners}
 use Rattle.ipam_plain.proofs.Whole.{collect_alone, del_alone}
 
--- ---- what was block_without stays in order
+-- ---- what was freed stays in order
 
 pub sorted-freed : (what : Freeing) (rows : Rows) → IsSorted rows → IsSorted (with_freed what rows)
 sorted-freed what rows sorted = by (block_in_rows what.block rows)

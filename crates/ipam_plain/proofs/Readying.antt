@@ -103,7 +103,7 @@ apart-count asked r apart row same = by row.1 (subst (λ (k : Key). ¬ (IsSeenKe
     by (record_of.Affinity a) unseen = refl
     by (record_of.Handle h) unseen = refl
 
--- a choice in the family sees the same behind the write of such a record
+-- a choice in the family sees the same after the write of such a record
 put-sees : (asked : Asked) (rows : Rows) (r : Record) → IsSorted rows → IsApart asked.family r → SeesSame asked (seen_in rows) (seen_in (put r rows))
 put-sees asked rows r sorted apart =
     let then = put r rows in
@@ -251,7 +251,7 @@ picked-next rest asked ranked = by ranked.rank
     by (Foreign found ordinal) = refl
 
 module _ (probe : ProbeRequest) (request : AddRequest) (asks : AsksSame probe request) where
-  -- One family, and others behind it: the probe looks at the base, and the ADD at what is there now, of
+  -- One family, and others after it: the probe looks at the base, and the ADD at what is there now, of
   -- which the same is picked.
   family-ready : (family : Family) (families : List Family) (gifts : List PlainGift) (base now : Rows) → IsSorted now → SamePick (pick_of (asked_of request family) (seen_in base)) (pick_of (asked_of request family) (seen_in now))
       → ((s : IsServedPlain request family now) → (plain_probe probe families base ≡ CanGive) ↔ GivesSome (plain_each request (gifts ++ s.gift ∷ []) families s.after).0)

@@ -57,7 +57,7 @@ del-comes id store moment is spare =
 
 -- ---- what a collection finds
 
--- what only blocks have is had by the blocks that are rows_of_kind
+-- what only blocks have is had by the blocks that are listed
 listed-all : {X : Type 0} → (f : StoredRecord → List X) → ((row : StoredRecord) → is_of_kind kind.Block (row_key row) ≡ false → f row ≡ []) → (rows : Rows) → flat_map f (filter (λ row. is_of_kind kind.Block (row_key row)) rows) ≡ flat_map f rows
 listed-all f none [] = refl
 listed-all {X} f none (row ∷ rows) = by (is_of_kind kind.Block (row_key row)) refl (listed-all f none rows)

@@ -74,7 +74,7 @@ pub record IsGiftOf (gift : Gift) (plain : PlainGift) : Type 0 where
   pub ordinal : gift.given.address.number - gift.block.base ≡ plain.ordinal
   pub stamp : gift.stamp ≡ plain.stamp
 
--- how much is left behind a family
+-- how much is left after a family
 pub record Keeps : Type 0 where
   pub revisions : ℕ
   pub rows : ℕ
@@ -182,7 +182,7 @@ module _ (request : AddRequest) (family : Family) (keeps : Keeps) where
   settled-rounds base below missing zero first left slot found there ordinal store moment rows picked same spends may = settled-round base below missing (λ now. stops now OutOfTries) first left slot found there ordinal store moment rows picked same spends may
   settled-rounds base below missing (suc more) first left slot found there ordinal store moment rows picked same spends may = settled-round base below missing (rounds (round_of request family) more) first left slot found there ordinal store moment rows picked same spends may
 
-  -- ---- what the records say behind a claim
+  -- ---- what the records say after a claim
 
   pub plain-claimed-take : (o : BlockRead) (b : BlockValue) (ordinal : ℕ) (rows : Rows) → value_in o ≡ Some b → room_of (seen_in rows) b ≡ Some ordinal
       → plain_take_claimed request family (room_in (seen_in rows) o) o rows ≡ plain_take request (0, b) ordinal rows
@@ -205,7 +205,7 @@ module _ (request : AddRequest) (family : Family) (keeps : Keeps) where
     at-first : MayTake base base rows missing
     at-first = record { is_as = is; room = room; enough = enough-less (suc (suc keeps.revisions)) (with_handle missing keeps.rows) keeps.blocks (suc (suc (suc (suc (suc keeps.revisions))))) (suc (suc (with_handle missing keeps.rows))) (suc keeps.blocks) base (omega arith) (omega arith) (omega arith) enough; same = refl }
 
-    -- one round more behind the claim
+    -- one round more after the claim
     behind-claim : (ranked : Ranked) (other : CidrValue) (then : Datastore) (later : ℕ) → ranked.slot ≡ other → pick_of asked (seen_in base.rows) ≡ Picks ranked → rank_number ranked.rank ≢ 0 → IsAsRead base ranked.slot (block_at (seen_in base.rows) ranked.slot)
         → IsClaimed base.rows request.node ranked.slot (block_at (seen_in base.rows) ranked.slot) (suc (suc keeps.revisions)) (with_handle missing keeps.rows) keeps.blocks then
         → Runs [] (Serves (plain_claim request family other rows) base first) then later (next (left_of races claims))

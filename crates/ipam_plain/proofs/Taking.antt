@@ -117,7 +117,7 @@ module _ (live : List (List ℕ)) where
   raise-tries id cidr zero claims store moment below room spare = raise-once id cidr (stops (left_of zero claims) OutOfTries) (left_of zero claims) store moment below room spare
   raise-tries id cidr (suc races) claims store moment below room spare = raise-once id cidr (tries (raise_once id cidr) races claims) (left_of (suc races) claims) store moment below room spare
 
-  -- the address is block_with_ordinal
+  -- the address is assigned
   pub record IsAssigned (store : Datastore) (attributes : Attributes) (target : Target) (then : Datastore) (done : Option Assigned) : Type 0 where
     pub at : ℕ
     pub is_done : done ≡ Some (record { moment = at; stamp = target.block.sequence + 1 })
@@ -146,7 +146,7 @@ module _ (live : List (List ℕ)) where
           (λ taken. goes left (Some (record { moment = later; stamp = target.block.sequence + 1 }))) (assign_lost attributes target left) (stops left NoRoom) (stops left NoRevisions)
           (kept ∙ there) (omega arith) (refl, record { at = later; is_done = refl; is_store = refl })
 
--- ---- what is left behind it
+-- ---- what is left after it
 
 -- the handle is there
 pub handle-there : (store : Datastore) (attributes : Attributes) (b : BlockValue) (ordinal : ℕ) → record_at (key.Handle attributes.handle) (assigned_in store attributes b ordinal).rows ≡ Some (record_of.Handle (with_raised_count (handle_of attributes.handle store.rows) b.cidr 1))

@@ -11,7 +11,7 @@ use Rattle.ipam_model.specs.SoundRequest.{IsSoundRequest}
 
 -- A request that runs alone with spare changes each count by exactly as much as it changes how many
 -- addresses the handle owns in the block. So a count that was more than that before is more by as much
--- behind it.
+-- after it.
 abbrev pub CountsFollowLaw : Type 0
 CountsFollowLaw =
     (base : Base) (request : Request) (result : Result)

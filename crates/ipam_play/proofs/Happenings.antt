@@ -49,7 +49,7 @@ unfolding course course_from
 course-one cluster event made is =
     ap (course_from cluster []) is ∙ ap (λ (entries : List Entry). record { entries = entries; refused = None }) (append-nil made)
 
--- events behind others that all happened
+-- events after others that all happened
 pub course-then : (cluster : model.Cluster) (first second : List Event) (made more : List Entry) → course cluster first ≡ record { entries = made; refused = None }
     → course (after_all cluster made) second ≡ record { entries = more; refused = None } → course cluster (first ++ second) ≡ record { entries = made ++ more; refused = None }
 course-then cluster first second made more e f =
@@ -97,7 +97,7 @@ one_happens old new before after event made is added = record {
   plays = plays_one old new event made is;
 }
 
--- the entry is noted behind those for which room was made
+-- the entry is noted after those for which room was made
 pub one_noted : (old new : Cluster) (before room after : List Entry) (event : Event) (made : Entry) → Makes old new event made → after ≡ room ++ made ∷ [] → room ≡ before → Happens old new before after (event ∷ [])
 one_noted old new before room after event made is added same =
     one_happens old new before after event made is (added ∙ ap (λ (l : List Entry). l ++ made ∷ []) same)
@@ -154,7 +154,7 @@ stops_then old mid new before between after first second told h k = record {
   cause = cause-behind old mid h.made k.made k.next told h.plays.stands k.cause;
 }
 
--- with more events behind the one that did not happen
+-- with more events after the one that did not happen
 pub stops_before : (old new : Cluster) (before after : List Entry) (events more : List Event) (told : PlayFault) → Stops old new before after events told → Stops old new before after (events ++ more) told
 stops_before old new before after events more told k = record {
   first = k.first;

@@ -22,7 +22,7 @@ use Rattle.ipam_play.specs.Player.{HasHappened, IsBegunWith, IsCauseAtFirst, IsG
 use Rattle.ipam_play.specs.Script.{Gathered, events_of}
 use Rattle.ipam_play.proofs.Happenings.{course-cons, course_from, course-nothing, onto-append}
 
--- ---- lines behind the base
+-- ---- lines after the base
 
 still-playing : (new : Player) (o : OpenCluster) (base : Gathered) (store : Datastore) (past before made : List Entry) → new.stage ≡ stage.Playing o → IsOpened base store
     → StandsFor o.cluster (base_of store) (onto made (onto (past ++ before) [])) → journal_of new ≡ before ++ made → IsPlaying new base store past
@@ -87,7 +87,7 @@ module _ (old new : Player) (o n : OpenCluster) (was : old.stage ≡ stage.Playi
       still-playing new n base store past (journal_of old) [] is h.opened
       (keeps (base_of store) (onto (past ++ journal_of old) []) (stood-at old o base store past was h)) (same ∙ sym (append-nil (journal_of old)))
 
--- ---- the first line behind the base
+-- ---- the first line after the base
 
 single-front : (event next : Event) (first rest : List Event) → event ∷ [] ≡ first ++ next ∷ rest → first ≡ []
 single-front event next [] rest e = refl

@@ -40,7 +40,7 @@ no_end (c ∷ line) h = by (c == 10) refl (no_end line (All-tail (λ byte. byte 
     by true e rest = absurd (All-head (λ byte. byte ≢ 10) c line h (eqb-true c 10 e))
     by false e rest = rw e rest
 
--- the first line, and the readings behind it
+-- the first line, and the readings after it
 readings-line : (before : ℕ) (line rest : List ℕ) → HasNoFeed line → readings_from before (line ++ 10 ∷ rest) ≡ reading_of (told before line) ∷ readings_from (before + length line + 1) rest
 unfolding readings_from
 readings-line before line rest none =
@@ -115,7 +115,7 @@ end_comes before known (Some rest) held same none ended =
     subst (λ k. IsNextOf (Ok next.End) (option_map (readings_from before) k) (Some (readings_from before (held ++ rest)))) (sym same)
     (readings_from before (held ++ rest), refl, ap (readings_from before) all ∙ none_to_come before)
 
--- ---- a line that is too long is refused, whatever comes behind it
+-- ---- a line that is too long is refused, whatever comes after it
 
 first-part : (n : ℕ) (bytes : List ℕ) → HasNoFeed (take n bytes) → n ≤ length bytes → (line : List ℕ) × (more : List (List ℕ)) × (slice_split is_line_end bytes ≡ line ∷ more) × (n ≤ length line)
 first-part zero bytes none long =

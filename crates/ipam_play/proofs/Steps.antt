@@ -27,7 +27,7 @@ use Rattle.ipam_play.proofs.Players.{base_keeps, first_keeps, line_happened, lin
 
 -- ---- what stands
 
--- behind what came of a line the cluster stands for some history
+-- after what came of a line the cluster stands for some history
 pub still_stood : {T : Type 0} (result : Result T PlayFault) (old new : Cluster) (before after : List Entry) (events : Option (List Event)) → IfSome events (ComesOf result old new before after)
     → (events ≡ None → Keeps old new) → Stood old → Stood new
 still_stood result old new before after None comes keeps (base, (history, h)) = (base, (history, keeps refl base history h))
@@ -130,7 +130,7 @@ module _ (old new : Player) (g : Gathering) (was : old.stage ≡ stage.Gathering
       let gathers = gathers_there old g base was h in
       rw (place-events base asked events with_events) (gathering_still old new base same (kept base gathers) h, cause base events gathers with_events)
 
--- ---- lines behind the base
+-- ---- lines after the base
 
 module _ (old new : Player) (o n : OpenCluster) (was : old.stage ≡ stage.Playing o) (is : new.stage ≡ stage.Playing n) where
   pub line_plays : {T : Type 0} (result : Result T PlayFault) (events : Option (List Event)) → IfSome events (ComesOf result o.cluster n.cluster (journal_of old) (journal_of new))
@@ -145,7 +145,7 @@ module _ (old new : Player) (o n : OpenCluster) (was : old.stage ≡ stage.Playi
   line_stays result None comes keeps same base store past h = base_keeps old new o n was is base store past h (keeps refl) (same refl)
   line_stays result (Some events) comes keeps same base store past h = line_keeps old new o n was is result base store past events h comes
 
--- ---- the first line behind the base
+-- ---- the first line after the base
 
 module _ (base : Gathered) (store : Datastore) (o n : OpenCluster) (before after : List Entry) (opened : IsOpened base store) (stands : StandsFor o.cluster (base_of store) []) where
   pub first_kept : {T : Type 0} (result : Result T PlayFault) (asked : Line) → IfSome (events_of asked) (ComesOf result o.cluster n.cluster before after)

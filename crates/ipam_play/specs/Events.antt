@@ -36,7 +36,7 @@ Refuses cluster event refusal =
     (base : Base) (history : List Entry) → StandsFor cluster base history
     → entries_of (cluster_at base history) event ≡ Err refusal
 
--- behind these entries the event is refused, wherever the cluster stands, and told so
+-- after these entries the event is refused, wherever the cluster stands, and told so
 pub record IsToldBy (cluster : Cluster) (made : List Entry) (event : Event) (told : PlayFault) : Type 0 where
   pub refusal : Refusal
   pub is_told : told ≡ fault_of refusal

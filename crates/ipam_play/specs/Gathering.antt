@@ -14,7 +14,7 @@ abbrev pub counter_from : Option ℕ → Counter
 counter_from None = Greatest
 counter_from (Some counter) = Given
 
--- the counter behind a row of this revision
+-- the counter after a row of this revision
 abbrev pub raised : Counter → (counter revision : ℕ) → ℕ
 raised Greatest counter revision = if nat_lt counter revision then revision else counter
 raised Given counter revision = counter

@@ -77,7 +77,7 @@ OpensBase script = (script.steps ≡ [] → script.stops ≡ Ended)
 
 -- What comes of a script.
 pub data IsPlayed (script : Script) : List Entry → Ending → Type 0 where
-  -- a line of the base, or the first behind it, is refused whatever the base is
+  -- a line of the base, or the first after it, is refused whatever the base is
   RefusedAtOnce : (number : ℕ) (why : LineRefusal) → script.steps ≡ [] → script.stops ≡ Broken number why
       → IsPlayed script [] (LineRefused number why)
   -- the base is refused

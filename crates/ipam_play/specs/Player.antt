@@ -58,14 +58,14 @@ pub record IsGathering (player : Player) (base : Gathered) : Type 0 where
   pub gathers : Gathers gathering base
   pub nothing : journal_of player ≡ []
 
--- the base is opened as this datastore, and behind these entries those of the journal happened
+-- the base is opened as this datastore, and after these entries those of the journal happened
 pub record IsPlaying (player : Player) (base : Gathered) (store : Datastore) (past : List Entry) : Type 0 where
   pub open_cluster : OpenCluster
   pub is : player.stage ≡ stage.Playing open_cluster
   pub opened : IsOpened base store
   pub stands : StandsFor open_cluster.cluster (base_of store) (onto (past ++ journal_of player) [])
 
--- ---- lines behind the base
+-- ---- lines after the base
 
 -- the event is refused by the cluster, and told so
 pub record IsRefusal (cluster : model.Cluster) (event : Event) (told : PlayFault) : Type 0 where

@@ -35,7 +35,7 @@ readings script = map reading_of (lines_of script)
 abbrev pub Answer : Type 0
 Answer = Result Next ScriptFault
 
--- What an answer says of the readings to come, and of those behind it. A refused line and a fault end
+-- What an answer says of the readings to come, and of those after it. A refused line and a fault end
 -- the reading.
 abbrev pub IsNext : Answer → (now after : List Reading) → Type 0
 IsNext (Ok (next.Line line)) now after = now ≡ Ok line ∷ after

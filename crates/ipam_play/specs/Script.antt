@@ -46,7 +46,7 @@ events_of (line.Feed slot at live) = Some (Feed slot at live ∷ [])
 events_of (line.Stop slot) = Some (Stop slot ∷ [])
 events_of line.Restart = Some (Restart ∷ [])
 
--- what a line is behind the lines of the base so far
+-- what a line is after the lines of the base so far
 pub data Place : Type 0 where
   -- it is of the base, which is this with it
   OfBase : Gathered → Place
@@ -66,7 +66,7 @@ place_of base other = happening (events_of other)
 
 -- ---- scripts
 
--- a line behind the base: its number, from 1 on, and what it does
+-- a line after the base: its number, from 1 on, and what it does
 pub record Step : Type 0 where
   pub number : ℕ
   pub events : List Event
@@ -90,7 +90,7 @@ stopped base stops = record { base = base; steps = []; stops = stops }
 abbrev pub behind_step : Step → Script → Script
 behind_step step script = record script { steps = step ∷ script.steps }
 
--- the script of lines behind the base, from this number on
+-- the script of lines after the base, from this number on
 unfoldable pub steps_from : ℕ → Gathered → List Reading → Script
 steps_from number base [] = stopped base Ended
 steps_from number base (Err why ∷ more) = stopped base (Broken number why)
@@ -100,7 +100,7 @@ steps_from number base (Ok line ∷ more) =
       | Some events ↦ behind_step (record { number = number; events = events }) (steps_from (number + 1) base more)
     ]
 
--- the script of lines from this number on, behind these lines of the base
+-- the script of lines from this number on, after these lines of the base
 unfoldable pub script_from : ℕ → Gathered → List Reading → Script
 script_from number base [] = stopped base Ended
 script_from number base (Err why ∷ more) = stopped base (Broken number why)

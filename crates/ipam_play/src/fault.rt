@@ -3,7 +3,7 @@ use ipam_text::Text;
 /// Why a line did not happen.
 #[derive(Debug, Drop)]
 pub enum PlayFault {
-    /// A row or a counter that was given before, or that stands behind the base.
+    /// A row or a counter that was given before, or that stands after the base.
     Base,
     /// A request runs in the slot.
     Busy,
@@ -13,7 +13,7 @@ pub enum PlayFault {
     Waiting,
     /// No collection waits in the slot.
     NotWaiting,
-    /// The grace behind the first list is not over.
+    /// The grace after the first list is not over.
     TooSoon,
     /// There are too many entries.
     Worn,

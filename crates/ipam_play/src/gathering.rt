@@ -145,7 +145,7 @@ impl Gathering {
 impl Counter {
     ghost use Rattle.ipam_play.specs.Gathering.{raised};
 
-    /// The counter behind a row of this revision.
+    /// The counter after a row of this revision.
     fn raised(self, counter: u64, revision: u64) -> u64
         ensures { result ≡ raised self counter revision }
     {

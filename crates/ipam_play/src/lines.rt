@@ -58,7 +58,7 @@ impl ScriptLines {
     }
 
     /// The next line, or that the script ended. A line that is refused, and a fault, end the reading:
-    /// nothing is said of what comes behind them.
+    /// nothing is said of what comes after them.
     pub fn next<S: Source>(&mut self, alloc: Global, source: &mut S) -> Result<Next, ScriptFault>
         ensures next { IsNextOf result (coming self.old (S.left source.old)) (coming self.new (S.left source.new)) }
         ensures sound { IfLine result IsSoundLine }

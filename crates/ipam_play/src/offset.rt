@@ -16,7 +16,7 @@ impl Offset {
         Offset { bytes: 0 }
     }
 
-    /// The line behind one of so many bytes that ends in time.
+    /// The line after one of so many bytes that ends in time.
     pub(crate) fn behind(self, line: usize) -> Offset
         requires { self.bytes + line ≤ MOST_SCRIPT_BYTES }
         ensures { result.bytes ≡ self.bytes + line + 1 }

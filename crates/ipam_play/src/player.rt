@@ -135,7 +135,7 @@ fn opened(alloc: Global, gathering: &Gathering) -> Result<OpenCluster, PlayFault
     }
 }
 
-/// Opens the base, and plays the first line behind it. On `Err` nothing changes.
+/// Opens the base, and plays the first line after it. On `Err` nothing changes.
 fn first_line(
     alloc: Global,
     gathering: &Gathering,

@@ -4,12 +4,12 @@ ghost use Rattle.ipam_play.specs.Output.{refusal_text};
 /// Why a line of a script is refused.
 #[derive(Clone, Copy, Debug, PartialEq, Eq)]
 pub enum LineRefusal {
-    /// It has more than 1,048,576 bytes, or its last byte stands behind the first 67,108,864 bytes of
+    /// It has more than 1,048,576 bytes, or its last byte stands after the first 67,108,864 bytes of
     /// the script.
     Long,
     /// It has none of the forms of a line.
     Unreadable,
-    /// A row or a counter that was given before, or that stands behind the base.
+    /// A row or a counter that was given before, or that stands after the base.
     Base,
     /// A request runs in the slot.
     Busy,
@@ -19,7 +19,7 @@ pub enum LineRefusal {
     Waiting,
     /// No collection waits in the slot.
     NotWaiting,
-    /// The grace behind the first list is not over.
+    /// The grace after the first list is not over.
     TooSoon,
     /// There are too many entries.
     Worn,

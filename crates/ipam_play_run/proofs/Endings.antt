@@ -140,13 +140,13 @@ writes_fault_part script first now after held past w front part = record {
 
 -- ---- writes
 
--- a front part of a piece is one of the piece and what stands behind it
+-- a front part of a piece is one of the piece and what stands after it
 pub front-part : (now after : Option (List ℕ)) (piece more : List ℕ) → AppendsPrefix now after piece → AppendsPrefix now after (piece ++ more)
 front-part now after piece more (n, below, is) =
     let lengths = length-append piece more in
     (n, omega arith, is ∙ ap (append_known now) (sym (take-append-le n piece more below)))
 
--- the piece was written, and then a front part of what stands behind it
+-- the piece was written, and then a front part of what stands after it
 pub next-part : (now mid after : Option (List ℕ)) (piece more : List ℕ) → mid ≡ append_known now piece → AppendsPrefix mid after more → AppendsPrefix now after (piece ++ more)
 next-part now mid after piece more written (n, below, is) =
     let lengths = length-append piece more in (

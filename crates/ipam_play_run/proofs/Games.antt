@@ -55,7 +55,7 @@ pub record WritesJournal {T : Type 0} (result : Result T Halt) (old new : Game) 
   pub gathering : (base : Gathered) → IsGathering old.player base → OnOk result (IsGathering new.player base)
   pub playing : (base : Gathered) (store : Datastore) (past : List Entry) → IsPlaying old.player base store past → OnOk result (IsPlaying new.player base store (past ++ journal_of old.player))
 
--- behind a line that made entries
+-- after a line that made entries
 pub went_on : {T : Type 0} (result : Result T Halt) (script : Script) (first now after : Option (List ℕ)) (old new : Game) (past : List Entry) (number : ℕ) (rest : Script)
     → Wrote first now (held_by old) past → IsFront script past → IsStepped script old.player past rest → WritesJournal result old new now after → IsAtOr result script first after new number rest
 went_on (Ok done) script first now after old new past number rest w front stepped j = record {
@@ -81,7 +81,7 @@ journal-none : journal_text [] ≡ []
 unfolding journal_text
 journal-none = refl
 
--- behind a line of the base
+-- after a line of the base
 pub gathered_on : {T : Type 0} (result : Result T Halt) (script : Script) (first now after : Option (List ℕ)) (old new : Game) (number : ℕ) (more : List Reading)
     → Wrote first now (held_by old) [] → IsGatheringOn script old.player (number + 1) more → WritesJournal result old new now after → IsBeforeOr result script first after new number more
 gathered_on (Ok done) script first now after old new number more w on j = record {

@@ -77,7 +77,7 @@ single event next (f ∷ first) rest e = absurd (too-long (ap length e))
     too-long : 1 ≡ suc (length (first ++ next ∷ rest)) → ⊥
     too-long k = let l = length-append first (next ∷ rest) in omega arith
 
--- ---- a line of one event, behind the base
+-- ---- a line of one event, after the base
 
 module _ (script : Script) (number : ℕ) (event : Event) (events : List Event) (rest : Script) where
   whole-rest : Script

@@ -1,4 +1,4 @@
--- Lines behind the base, event by event.
+-- Lines after the base, event by event.
 use Rattle.std.proofs.Common.{◌≡◌, ℕ, suc, ◌+◌, ◌-◌, ◌<◌, List, [], ◌∷◌, Option, Some, None, refl, sym, ap, ◌∙◌, subst, arith, inl, inr, ◌⊎◌}
 use Rattle.std.specs.Prelude.{Result, Ok, Err, replicate}
 use Rattle.ipam_model.specs.declared.entry.Fate.TheVariants.{Well}
@@ -60,7 +60,7 @@ all_turned script first now game number slot count done rest some none h =
 
 -- ---- a line
 
--- the script from a line behind the base, by its events
+-- the script from a line after the base, by its events
 unfoldable pub steps-by : (number : ℕ) (base : Gathered) (more : List Reading) → Option (List Event) → Script
 steps-by number base more o = elim o [
   | None ↦ record { base = base; steps = []; stops = Broken number refusal.Base }
@@ -103,7 +103,7 @@ line_at script first now game number asked events more is (inr going) =
     going_at script first now game _
     (subst (λ (s : Script). IsGoing script first now game s) (steps-line number script.base asked more ∙ ap (steps-by number script.base more) is) going)
 
--- behind its events
+-- after its events
 pub line_on : {T : Type 0} (result : Result T Halt) (script : Script) (first now : Option (List ℕ)) (game : Game) (number : ℕ) (more : List Reading)
     → IsAtOr result script first now game number (line_then number [] (steps_from (number + 1) script.base more)) → IsOnOr result script first now game number more
 line_on (Ok done) script first now game number more g = inr (record {

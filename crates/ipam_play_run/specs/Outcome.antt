@@ -22,7 +22,7 @@ outcome cluster script =
     let happened = course cluster (events_in script.steps) in
     record { entries = happened.entries; ending = ending_of script happened.refused }
 
--- the same behind other entries
+-- the same after other entries
 abbrev pub behind : List Entry → Outcome → Outcome
 behind past coming = record { entries = past ++ coming.entries; ending = coming.ending }
 
@@ -30,7 +30,7 @@ behind past coming = record { entries = past ++ coming.entries; ending = coming.
 abbrev pub line_then : (number : ℕ) → List Event → Script → Script
 line_then number events rest = behind_step (record { number = number; events = events }) rest
 
--- The base of the script was opened as this datastore, and behind these entries the rest is to come.
+-- The base of the script was opened as this datastore, and after these entries the rest is to come.
 pub record Follows (script : Script) (store : Datastore) (past : List Entry) (rest : Script) : Type 0 where
   pub opens_base : OpensBase script
   pub opened : IsOpened script.base store
@@ -44,7 +44,7 @@ pub record IsGatheringOn (script : Script) (player : Player) (number : ℕ) (mor
   pub gathering : IsGathering player base
   pub is_script : script ≡ script_from number base more
 
--- behind these entries the rest is to come
+-- after these entries the rest is to come
 pub record IsPlayingOn (script : Script) (player : Player) (past : List Entry) (rest : Script) : Type 0 where
   pub store : Datastore
   pub playing : IsPlaying player script.base store past

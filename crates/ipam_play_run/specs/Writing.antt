@@ -53,7 +53,7 @@ IsRefusedLine ending = (number : ℕ) × ((why : LineRefusal) × (ending ≡ Lin
 abbrev pub IsRefusedBase : Ending → Type 0
 IsRefusedBase ending = (rule : ℕ) × ((about : List ℕ) × (ending ≡ NotOpened rule about))
 
--- whole lines of the journal were written, and behind them this
+-- whole lines of the journal were written, and after them this
 pub record WritesFront (script : Script) (first now : Option (List ℕ)) (last : List ℕ) : Type 0 where
   pub done : List Entry
   pub is_front : IsFront script done

@@ -112,7 +112,7 @@ impl Game {
         }
     }
 
-    /// Writes the lines that it holds, and behind them this last one.
+    /// Writes the lines that it holds, and after them this last one.
     fn end<K: Sink>(self, sink: &mut K, line: &str) -> Result<(), Failed>
         ensures wrote { OnOk result (K.written sink.new ≡ append_known (K.written sink.old) (held_by self ++ line.now)) }
         ensures part { OnErr result (AppendsPrefix (K.written sink.old) (K.written sink.new) (held_by self ++ line.now)) }

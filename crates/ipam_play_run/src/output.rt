@@ -60,7 +60,7 @@ impl Output {
         Ok(())
     }
 
-    /// Writes its lines, and behind them this last one. It takes no memory.
+    /// Writes its lines, and after them this last one. It takes no memory.
     pub(crate) fn end<K: Sink>(self, sink: &mut K, line: &str) -> Result<(), Failed>
         ensures wrote { OnOk result (K.written sink.new ≡ append_known (K.written sink.old) (held_in self ++ line.now)) }
         ensures part { OnErr result (AppendsPrefix (K.written sink.old) (K.written sink.new) (held_in self ++ line.now)) }

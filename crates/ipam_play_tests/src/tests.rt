@@ -146,7 +146,7 @@ fn a_failing_source_or_sink_ends_the_run(rt: HostRuntime) -> Result<(), Fail> {
     Ok(())
 }
 
-/// A line of so many bytes that is read as none, behind a line that is played.
+/// A line of so many bytes that is read as none, after a line that is played.
 fn with_line_of(alloc: Global, count: usize) -> Result<String, AllocError> {
     let mut script = String::from_str(alloc, "restart\n")?;
     for _ in 0..count {

@@ -1,4 +1,4 @@
--- A pool that is not refused may stand behind the others.
+-- A pool that is not refused may stand after the others.
 use Rattle.std.proofs.Common.{◌≡◌, ◌≢◌, ℕ, zero, suc, ◌<◌, Bool, true, false, List, [], ◌∷◌, ◌++◌, length, length-append, get_or, Option, Some, None, inl, inr, arith, refl, subst}
 use Rattle.std.specs.Prelude.{All, option_map, position}
 use Rattle.std.specs.List.{list_any, position_or_len}

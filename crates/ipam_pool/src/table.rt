@@ -58,7 +58,7 @@ impl PoolTable {
         self.pools.as_slice()
     }
 
-    /// Adds the pool behind the others, unless it is refused.
+    /// Adds the pool after the others, unless it is refused.
     pub fn add(&mut self, pool: Pool) -> Result<(), PoolRefusal>
         ensures refused { IfSome (refusal_of self.old pool) (λ refusal. result ≡ Err refusal) }
         ensures accepted { IsNone (refusal_of self.old pool) → IsOkUnless result PoolRefusal.Memory }
@@ -141,7 +141,7 @@ impl Clone for PoolTable {
     }
 }
 
-// Why the pool cannot stand behind the others, if it cannot.
+// Why the pool cannot stand after the others, if it cannot.
 fn refusal_of(pools: &[Pool], pool: &Pool) -> Option<PoolRefusal>
     ensures value { result ≡ refusal_of pools.now pool.now }
     ensures sound { IsNone result → IsCidr pool.now.cidr }

@@ -171,7 +171,7 @@ absent_first (member name d ms) cs all r e none =
     let h = first_of cs name d ms all e in
     (absent_before cs r h.block h.count h.is.some (absent_first ms (ins cs h.block h.count) all r h.rest none)).1
 
--- a count that is put in before the members may be put in behind them
+-- a count that is put in before the members may be put in after them
 put_before : (ms : Members) (cs all : Counts) (r : CidrValue) (n : ℕ) → counts_after cs ms ≡ Some all → count_in all r ≡ 0 → counts_after (ins cs r n) ms ≡ Some (ins all r n)
 put_before no_members cs all r n e none = let same : cs ≡ all = cc in ap (λ l. Some (ins l r n)) same
 put_before (member name d ms) cs all r n e none =

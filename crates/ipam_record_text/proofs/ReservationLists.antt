@@ -203,7 +203,7 @@ reservation_back : (r : ReservationValue) → IsSoundReservation r → reservati
 unfolding reservation_in reservation_data named_cidrs
 reservation_back r h = rw (name_of-name r.name h.name, cidrs_back [] r.cidrs h.cidrs, le-leb (length r.cidrs) 64 h.few) refl
 
--- a name apart from those behind it, seen from one of them
+-- a name apart from those after it, seen from one of them
 apart_later : (name other : List ℕ) (rs left : List ReservationValue) (r : ReservationValue) → AllByRecursion (λ y. bytes_eq name y ≡ false) (names_of (rs ++ r ∷ left)) → bytes_eq name r.name ≡ false
 apart_later name other [] left r h = h.0
 apart_later name other (q ∷ rs) left r h = apart_later name other rs left r h.1

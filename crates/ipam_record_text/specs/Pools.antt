@@ -48,7 +48,7 @@ pub record IsSoundPool (p : Pool) : Type 0 where
   pub size : p.size < 2 ^ 8
   pub selector : is_sound p.selector ≡ true
 
--- none of the pools is refused when they are added one after the other behind those that are there
+-- none of the pools is refused when they are added one after the other after those that are there
 abbrev pub are_added : List Pool → List Pool → Bool
 are_added there [] = true
 are_added there (p ∷ pools) = is_none (refusal_of there p) && are_added (there ++ p ∷ []) pools
@@ -88,7 +88,7 @@ pool_in d = do
   selector ← selector_in d
   Some (record plain { selector = selector })
 
--- the pools, and behind them those that the items hold
+-- the pools, and after them those that the items hold
 abbrev pub pools_after : List Pool → Items → Option (List Pool)
 pools_after pools no_items = Some pools
 pools_after pools (item d ds) = do

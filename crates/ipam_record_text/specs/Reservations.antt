@@ -49,7 +49,7 @@ pub record IsReservationsRecord (list : List ReservationValue) : Type 0 where
 unfoldable pub cidr_in : Data → Option CidrValue
 cidr_in d = option_and_then cidr_of (as_str d)
 
--- the CIDRs, and behind them those that the items are
+-- the CIDRs, and after them those that the items are
 abbrev pub cidrs_after : List CidrValue → Items → Option (List CidrValue)
 cidrs_after cidrs no_items = Some cidrs
 cidrs_after cidrs (item d ds) = do
@@ -73,7 +73,7 @@ unfoldable pub may_follow : List ReservationValue → ReservationValue → Bool
 may_follow rs r =
     nat_lt (length rs) MOST_RESERVATIONS && not (list_any (λ other. bytes_eq r.name other.name) rs)
 
--- the reservations, and behind them those that the items hold
+-- the reservations, and after them those that the items hold
 abbrev pub reservations_after : List ReservationValue → Items → Option (List ReservationValue)
 reservations_after rs no_items = Some rs
 reservations_after rs (item d ds) = do

@@ -125,7 +125,7 @@ fn reservations_of_items(
     Ok(Some(list))
 }
 
-/// Whether the reservation may stand behind the others.
+/// Whether the reservation may stand after the others.
 #[tactic(auto, unfolding(crate::specs::Reservations::may_follow))]
 fn may_follow(list: &[Reservation], reservation: &Reservation) -> bool
     ensures { result ≡ may_follow list.now reservation.now }

@@ -12,7 +12,7 @@ use Rattle.std.specs.List.Sorted.{IsStrictlySortedBy}
 use Rattle.ipam_records.specs.Sound.{IsDatastore}
 use Rattle.ipam_records.specs.Datastore.{row_key, row_of, row_at, with_row, without_row}
 
--- a key that the first stands behind is another one
+-- a key that the first stands after is another one
 behind_other : (k l : Key) → key_cmp k l ≡ Greater → keys_equal l k ≡ false
 behind_other k l e = ap is_eq (key_cmp_total.antisymm l k ∙ ap ordering_reverse e)
 

@@ -34,7 +34,7 @@ cidr_text_of-cidr_read text r e = from (cidr_reading text) refl e
         (subst (λ (x : CidrValue). IsCidr x) same (spelled-cidr_reading text s read).sound, ap cidr_text_of (sym same) ∙ text_is (cidr_text_of s) text test)
     from (Err fault) read found = cc
 
--- ---- what stands behind a beginning
+-- ---- what stands after a beginning
 pub behind_text : (start text rest : List ℕ) → bytes_eq (take (length start) text) start ≡ true → rest ≡ drop (length start) text → text ≡ start ++ rest
 behind_text start text rest test same = sym (take-append-drop (length start) text) ∙ (λ i. text_is (take (length start) text) start test i ++ sym same i)
 

@@ -1,11 +1,13 @@
 -- What a write at the place that a search found does to a list whose keys ascend.
-use Rattle.std.proofs.Common.{◌≡◌, ℕ, zero, suc, ◌<◌, ◌≤◌, List, [], ◌∷◌, length, get_or, set, map, ap, sym, ◌∙◌, arith}
+use Rattle.std.proofs.Common.{◌≡◌, ℕ, zero, suc, ◌<◌, ◌≤◌, List, [], ◌∷◌, length, get_or, set, map, not, cond, ap, sym, ◌∙◌, arith}
 use Rattle.std.specs.declared.cmp.Ordering.{Ordering}
 use Rattle.std.specs.declared.cmp.Ordering.TheVariants.{Less, Equal, Greater}
+use Rattle.std.specs.Ordering.{is_eq, ordering_reverse}
 use Rattle.std.specs.Cmp.{IsTotalOrder}
 use Rattle.std.specs.List.{insert, remove}
 use Rattle.std.specs.List.Sorted.{IsStrictlySortedBy}
 use Rattle.std.proofs.lemmas.Map.Keys.{sorted_tail}
+use Rattle.ipam_records.specs.Datastore.{row_at}
 use Rattle.ipam_records.proofs.SearchLemmas.{before_found, behind_found}
 
 -- how an item is put into the place of its key, by the first item of the list
@@ -21,6 +23,23 @@ pub record TakesByKey {X K : Type 0} (cmp : K → K → Ordering) (key : X → K
   pub below : (k : K) (x : X) (xs : List X) → cmp (key x) k ≡ Less → without k (x ∷ xs) ≡ x ∷ without k xs
   pub same : (k : K) (x : X) (xs : List X) → cmp (key x) k ≡ Equal → without k (x ∷ xs) ≡ without k xs
   pub above : (k : K) (x : X) (xs : List X) → cmp (key x) k ≡ Greater → without k (x ∷ xs) ≡ x ∷ without k xs
+
+-- both by one step of the definitions
+pub puts_by_step : {X K : Type 0} (cmp : K → K → Ordering) (key : X → K) (put : X → List X → List X) → ((new : X) → put new [] ≡ new ∷ []) → ((new x : X) (xs : List X) (o : Ordering) → cmp (key x) (key new) ≡ o → put new (x ∷ xs) ≡ row_at (ordering_reverse o) new x xs (put new xs)) → PutsByKey cmp key put
+puts_by_step cmp key put none step = record {
+  empty = none;
+  below = λ new x xs h. step new x xs Less h;
+  same = λ new x xs h. step new x xs Equal h;
+  above = λ new x xs h. step new x xs Greater h;
+}
+
+pub takes_by_step : {X K : Type 0} (cmp : K → K → Ordering) (key : X → K) (without : K → List X → List X) → ((k : K) → without k [] ≡ []) → ((k : K) (x : X) (xs : List X) (o : Ordering) → cmp (key x) k ≡ o → without k (x ∷ xs) ≡ cond (not (is_eq o)) (x ∷ without k xs) (without k xs)) → TakesByKey cmp key without
+takes_by_step cmp key without none step = record {
+  empty = none;
+  below = λ k x xs h. step k x xs Less h;
+  same = λ k x xs h. step k x xs Equal h;
+  above = λ k x xs h. step k x xs Greater h;
+}
 
 -- ---- at a gap
 module _ {X K : Type 0} (cmp : K → K → Ordering) (key : X → K) where

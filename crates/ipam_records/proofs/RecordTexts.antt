@@ -259,34 +259,34 @@ fault_told key body e refused = go (key_read key) refused
 -- ---- what the readers of bodies tell
 
 module _ {A : Type 0} (make : A → Record) (key : List ℕ) (read told : Result A BodyFault) (same : told ≢ Err in_body.Memory → read ≡ told) where
-  pub keyed-told : (v : A) (r : Result Record TextFault) → told ≡ Ok v → r ≡ if_key key (make v) → keyed make key read ≡ r
-  keyed-told v r is found = ap (keyed make key) (same (λ k. cc) ∙ is) ∙ sym found
+  pub keyed-kept : (v : A) (r : Result Record TextFault) → told ≡ Ok v → r ≡ if_key key (make v) → r ≢ Err fault.Memory → keyed make key read ≡ r
+  keyed-kept v r is found other = ap (keyed make key) (same (λ k. cc) ∙ is) ∙ sym found
 
-  pub keyed-fault : (f : BodyFault) (e : TextFault) → told ≡ Err f → e ≡ fault_of_body f → e ≢ fault.Memory → keyed make key read ≡ Err e
+  pub keyed-fault : (f : BodyFault) (e : TextFault) → told ≡ Err f → e ≡ fault_of_body f → ◌≢◌ {A = Result Record TextFault} (Err e) (Err fault.Memory) → keyed make key read ≡ Err e
   keyed-fault f e is names other =
       let some : told ≢ Err in_body.Memory = λ k.
       let memory : f ≡ in_body.Memory = cc in
-      other (names ∙ ap fault_of_body memory) in
+      other (ap Err (names ∙ ap fault_of_body memory)) in
       ap (keyed make key) (same some ∙ is) ∙ ap Err (sym names)
 
 module _ (key : List ℕ) (read told : Result block.BlockValue block_fault.BodyFault) (same : told ≢ Err in_block.Memory → read ≡ told) where
-  pub block-told : (b : block.BlockValue) (r : Result Record TextFault) → told ≡ Ok b → r ≡ if_key key (Block b) → keyed_block key read ≡ r
-  block-told b r is found = ap (keyed_block key) (same (λ k. cc) ∙ is) ∙ sym found
+  pub block-kept : (b : block.BlockValue) (r : Result Record TextFault) → told ≡ Ok b → r ≡ if_key key (Block b) → r ≢ Err fault.Memory → keyed_block key read ≡ r
+  block-kept b r is found other = ap (keyed_block key) (same (λ k. cc) ∙ is) ∙ sym found
 
-  pub block-fault : (f : block_fault.BodyFault) (e : TextFault) → told ≡ Err f → e ≡ fault_of_block key f → e ≢ fault.Memory → keyed_block key read ≡ Err e
+  pub block-fault : (f : block_fault.BodyFault) (e : TextFault) → told ≡ Err f → e ≡ fault_of_block key f → ◌≢◌ {A = Result Record TextFault} (Err e) (Err fault.Memory) → keyed_block key read ≡ Err e
   block-fault f e is names other =
       let some : told ≢ Err in_block.Memory = λ k.
       let memory : f ≡ in_block.Memory = cc in
-      other (names ∙ ap (fault_of_block key) memory) in
+      other (ap Err (names ∙ ap (fault_of_block key) memory)) in
       ap (keyed_block key) (same some ∙ is) ∙ ap Err (sym names)
 
-pub record-ok : (x r : Result Record TextFault) → x ≡ r → IfOk r (λ found. x ≡ Ok found)
-record-ok x (Ok found) e = e
+pub record-ok : (x r : Result Record TextFault) → (r ≢ Err fault.Memory → x ≡ r) → IfOk r (λ found. x ≡ Ok found)
+record-ok x (Ok found) e = e (λ k. cc)
 record-ok x (Err f) e = tt
 
-pub record-err : (x r : Result Record TextFault) → x ≡ r → IfErr r (λ e. e ≢ fault.Memory → x ≡ Err e)
+pub record-err : (x r : Result Record TextFault) → (r ≢ Err fault.Memory → x ≡ r) → IfErr r (λ e. e ≢ fault.Memory → x ≡ Err e)
 record-err x (Ok found) e = tt
-record-err x (Err f) e = λ other. e
+record-err x (Err f) e = λ other. e (λ k. other (fault_same f fault.Memory k))
 
 -- ---- keys that are compared, and their texts
 
@@ -322,12 +322,3 @@ pub named_read : {E : Type 0} (r : Result (Option KeyRef) E) (named : KeyRef) (t
 named_read r named text key is read same =
     let found = subst (λ r. IfOk r (λ found. option_map owned_key found ≡ key_read text)) is read in
     ap key_read (sym same) ∙ sym found
-
-module _ (x y : Result Record TextFault) (same : x ≡ y) where
-  pub read_along : (r : Result Record TextFault) → IfOk r (λ found. y ≡ Ok found) → IfOk r (λ found. x ≡ Ok found)
-  read_along (Ok found) read = same ∙ read
-  read_along (Err e) read = tt
-
-  pub refused_along : (r : Result Record TextFault) → IfErr r (λ e. e ≢ fault.Memory → y ≡ Err e) → IfErr r (λ e. e ≢ fault.Memory → x ≡ Err e)
-  refused_along (Ok found) refused = tt
-  refused_along (Err e) refused = λ other. same ∙ refused other

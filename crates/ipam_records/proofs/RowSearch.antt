@@ -79,17 +79,17 @@ row_of-later key (x ∷ xs) (r ∷ rs) s t =
     ap (λ o. cond (is_eq o) (Some x) (row_of key (xs ++ r ∷ rs))) (before_key (row_key x) (row_key r) key less (key_cmp (row_key r) key) refl t)
     ∙ row_of-later key xs (r ∷ rs) s.1 t
 
-none_behind : (key r : Key) (rows : List (ℕ × Record)) → key_cmp r key ≡ Greater → AllByRecursion (λ y. key_cmp r y ≡ Less) (map row_key rows) → row_of key rows ≡ None
-none_behind key r [] h all = refl
-none_behind key r (x ∷ xs) h all =
-    ap (λ o. cond (is_eq o) (Some x) (row_of key xs)) (behind_key r (row_key x) key h all.0) ∙ none_behind key r xs h all.1
+none_after : (key r : Key) (rows : List (ℕ × Record)) → key_cmp r key ≡ Greater → AllByRecursion (λ y. key_cmp r y ≡ Less) (map row_key rows) → row_of key rows ≡ None
+none_after key r [] h all = refl
+none_after key r (x ∷ xs) h all =
+    ap (λ o. cond (is_eq o) (Some x) (row_of key xs)) (behind_key r (row_key x) key h all.0) ∙ none_after key r xs h all.1
 
 none_begun : (key : Key) (ys : List (ℕ × Record)) → IsStrictlySortedBy key_cmp (map row_key ys) → begins_by key ys ≡ false → row_of key ys ≡ None
 unfolding IsStrictlySortedBy
 none_begun key [] s t = refl
 none_begun key (r ∷ rs) s t =
     let h : key_cmp (row_key r) key ≡ Greater = greater _ t in
-    ap (λ o. cond (is_eq o) (Some r) (row_of key rs)) h ∙ none_behind key (row_key r) rs h s.0
+    ap (λ o. cond (is_eq o) (Some r) (row_of key rs)) h ∙ none_after key (row_key r) rs h s.0
 
 -- where it does not, its row is not in the later one
 row_of-earlier : (key : Key) (xs ys : List (ℕ × Record)) → IsStrictlySortedBy key_cmp (map row_key (xs ++ ys)) → begins_by key ys ≡ false → row_of key (xs ++ ys) ≡ row_of key xs

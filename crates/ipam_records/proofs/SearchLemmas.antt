@@ -71,7 +71,7 @@ module _ {X K : Type 0} (cmp : K → K → Ordering) (total : IsTotalOrder cmp) 
   before_found xs s k i found j d h =
       sym (alike_right total _ k (key (get_or xs j d)) (found.same d)) ∙ below_at xs j i d s h found.within
 
-  -- what is behind the place of a key is above it
+  -- what is after the place of a key is above it
   pub behind_found : (xs : List X) → IsStrictlySortedBy cmp (map key xs) → (k : K) (i : ℕ) → IsFoundAt (λ x. cmp (key x) k) xs i → (j : ℕ) (d : X) → i < j → j < length xs → cmp (key (get_or xs j d)) k ≡ Greater
   behind_found xs s k i found j d h within =
       total.antisymm (key (get_or xs j d)) k

@@ -1,4 +1,4 @@
--- Words one behind another, and how many calls they have.
+-- Words one after another, and how many calls they have.
 use Rattle.std.proofs.Common.{◌≡◌, ℕ, ◌+◌, ◌-◌, ◌<◌, ◌≤◌, Some, refl, subst, arith}
 use Rattle.ipam_records.specs.declared.call.Call.{Call}
 use Rattle.ipam_records.specs.Said.{Said}
@@ -15,7 +15,7 @@ bound-bound (Ends answer) f g = refl
 bound-bound (Asks label call next) f g = λ i. Asks label call (λ moment said. bound-bound (next moment said) f g i)
 bound-bound (Waits next) f g = λ i. Waits (λ live. bound-bound (next live) f g i)
 
--- while the first word asks, it is after_reply alone
+-- while the first word asks, the reply goes to it alone
 pub asked-bound : {A B : Type 0} (word : Word A) (f : A → Word B) (call : Call) → next_call word ≡ Some call → next_call (bound word f) ≡ Some call
 asked-bound (Ends answer) f call e = cc
 asked-bound (Asks label other next) f call e = e
@@ -40,7 +40,7 @@ AtMost-heard (Ends answer) n call moment said e h = cc
 AtMost-heard (Asks label other next) n call moment said e h = h.1 moment said
 AtMost-heard (Waits next) n call moment said e h = cc
 
--- the calls of two words, one behind the other
+-- the calls of two words, one after the other
 pub AtMost-bound : {A B : Type 0} (word : Word A) (f : A → Word B) (m n : ℕ) → AtMost word m → ((answer : A) → AtMost (f answer) n) → AtMost (bound word f) (m + n)
 AtMost-bound (Ends answer) f m n h k = AtMost-more (f answer) n (m + n) (omega arith) (k answer)
 AtMost-bound (Asks label call next) f m n h k =

@@ -87,8 +87,8 @@ abbrev pub write_granted : Call → Said → Option Write
 write_granted call (Can revision) = write_of call revision
 write_granted call _ = None
 
--- a row before, in place of or behind the first, where `further` has it behind
-abbrev pub row_at : Ordering → (row first : ℕ × Record) (rest further : List (ℕ × Record)) → List (ℕ × Record)
+-- a row before, in place of or after the first, where `further` has it after
+abbrev pub row_at : {Row : Type 0} → Ordering → (row first : Row) (rest further : List Row) → List Row
 row_at Less row first rest further = row ∷ first ∷ rest
 row_at Equal row first rest further = row ∷ rest
 row_at Greater row first rest further = first ∷ further

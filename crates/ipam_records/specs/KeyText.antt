@@ -40,7 +40,7 @@ cidr_printed text (Err fault) = None
 abbrev pub cidr_read : List ℕ → Option CidrValue
 cidr_read text = cidr_printed text (cidr_reading text)
 
--- the key of a block, of an affinity and of a handle, from what stands behind the kind
+-- the key of a block, of an affinity and of a handle, from what stands after the kind
 abbrev pub block_read : List ℕ → Option Key
 block_read text = option_map Block (cidr_read text)
 
@@ -54,11 +54,11 @@ affinity_read text = affinity_of_parts (before_first is_slash text) (after_first
 abbrev pub handle_read : List ℕ → Option Key
 handle_read text = if is_handle_text text then Some (Handle text) else None
 
--- what stands behind this beginning, where the text has it
+-- what stands after this beginning, where the text has it
 abbrev pub behind : List ℕ → List ℕ → Option (List ℕ)
 behind start text = if bytes_eq (take (length start) text) start then Some (drop (length start) text) else None
 
--- the key of a kind, from what stands behind `block/`, `affinity/` or `handle/`
+-- the key of a kind, from what stands after `block/`, `affinity/` or `handle/`
 abbrev pub key_of_kind : (block affinity handle : Option (List ℕ)) → Option Key
 key_of_kind (Some text) affinity handle = block_read text
 key_of_kind None (Some text) handle = affinity_read text

@@ -13,7 +13,7 @@ pub record IsFoundAt {X : Type 0} (stands : X → Ordering) (xs : List X) (place
   pub within : place < length xs
   pub same : (d : X) → stands (slice_index_or xs place d) ≡ Equal
 
--- what is before this place stands before what is looked for, and the others behind it
+-- what is before this place stands before what is looked for, and the others after it
 pub record IsGapAt {X : Type 0} (stands : X → Ordering) (xs : List X) (place : ℕ) : Type 0 where
   pub within : place ≤ length xs
   pub before : (i : ℕ) (d : X) → i < place → stands (slice_index_or xs i d) ≡ Less

@@ -10,7 +10,7 @@ use ipam_addr::{Cidr, is_handle_id, is_name, push_cidr, read_cidr};
 use std::alloc::{AllocError, Global};
 use std::str;
 
-/// The key's text: its kind, and behind a slash what tells it from others of its kind.
+/// The key's text: its kind, and after a slash what tells it from others of its kind.
 pub fn key_text(alloc: Global, key: &Key) -> Result<String, AllocError>
     ensures text { IfOk result (λ text. string_bytes text ≡ key_bytes key.now) }
     ensures reads_back { IsKey key.now → key_read (key_bytes key.now) ≡ Some key.now }
@@ -55,6 +55,7 @@ pub fn key_of_text(alloc: Global, text: &[u8]) -> Result<Option<Key>, AllocError
     ensures exact { IfOk result (λ found.
         (key : Key) → (found ≡ Some key) ↔ IsTextOf text.now key) }
 {
+    // (no `?` here: what borrows from the text would be given back on one branch alone)
     match read_key(alloc, text) {
         Ok(Some(key)) => Ok(Some(key.to_key(alloc)?)),
         Ok(None) => Ok(None),
@@ -62,7 +63,7 @@ pub fn key_of_text(alloc: Global, text: &[u8]) -> Result<Option<Key>, AllocError
     }
 }
 
-/// The same, which borrows from the text.
+/// The key that has this text, as `key_of_text`, borrowed from the text.
 pub(crate) fn read_key<'a>(alloc: Global, text: &'a [u8]) -> Result<Option<KeyRef<'a>>, AllocError>
     ensures { IfOk result (λ found. option_map owned_key found ≡ key_read text.now) }
 {
@@ -93,7 +94,7 @@ fn is_word(text: &[u8], word: &str) -> bool
     text == word.as_bytes()
 }
 
-// What stands behind this beginning, where the text has it.
+// What stands after this beginning, where the text has it.
 fn behind<'a>(text: &'a [u8], start: &str) -> Option<&'a [u8]>
     ensures { option_copied result ≡ behind start.now text.now }
 {

@@ -62,9 +62,7 @@ pub fn from_text(alloc: Global, key: &str, body: &str) -> Result<Record, TextFau
 
 #[tactic(auto, unfolding(crate::specs::RecordReading::record_reading))]
 fn read_record(alloc: Global, key: &str, body: &str) -> Result<Record, TextFault>
-    ensures read { IfOk result (λ found. record_reading key.now body.now ≡ Ok found) }
-    ensures refused { IfErr result
-        (λ e. e ≢ TextFault.Memory → record_reading key.now body.now ≡ Err e) }
+    ensures { result ≢ Err TextFault.Memory → record_reading key.now body.now ≡ result }
 {
     match read_key(alloc, key.as_bytes()) {
         Ok(Some(named)) => record_of_kind(alloc, &named, body),
@@ -75,10 +73,8 @@ fn read_record(alloc: Global, key: &str, body: &str) -> Result<Record, TextFault
 
 fn record_of_kind(alloc: Global, named: &KeyRef<'_>, body: &str) -> Result<Record, TextFault>
     requires { IsKey (owned_key named.now) }
-    ensures read { IfOk result (λ found.
-        reading_of_kind (owned_key named.now) (key_ref_bytes named.now) body.now ≡ Ok found) }
-    ensures refused { IfErr result (λ e. e ≢ TextFault.Memory
-        → reading_of_kind (owned_key named.now) (key_ref_bytes named.now) body.now ≡ Err e) }
+    ensures { result ≢ Err TextFault.Memory
+        → reading_of_kind (owned_key named.now) (key_ref_bytes named.now) body.now ≡ result }
 {
     match named {
         KeyRef::Config => config_record(alloc, named, body),
@@ -92,10 +88,8 @@ fn record_of_kind(alloc: Global, named: &KeyRef<'_>, body: &str) -> Result<Recor
 
 fn config_record(alloc: Global, named: &KeyRef<'_>, body: &str) -> Result<Record, TextFault>
     requires { IsKey (owned_key named.now) }
-    ensures read { IfOk result
-        (λ found. keyed record_of.Config (key_ref_bytes named.now) (config_reading body.now) ≡ Ok found) }
-    ensures refused { IfErr result (λ e. e ≢ TextFault.Memory
-        → keyed record_of.Config (key_ref_bytes named.now) (config_reading body.now) ≡ Err e) }
+    ensures { result ≢ Err TextFault.Memory
+        → keyed record_of.Config (key_ref_bytes named.now) (config_reading body.now) ≡ result }
 {
     match config_of(alloc, body) {
         Ok(config) => if_key(named, Record::Config(config)),
@@ -105,10 +99,8 @@ fn config_record(alloc: Global, named: &KeyRef<'_>, body: &str) -> Result<Record
 
 fn pools_record(alloc: Global, named: &KeyRef<'_>, body: &str) -> Result<Record, TextFault>
     requires { IsKey (owned_key named.now) }
-    ensures read { IfOk result
-        (λ found. keyed record_of.Pools (key_ref_bytes named.now) (pools_reading body.now) ≡ Ok found) }
-    ensures refused { IfErr result (λ e. e ≢ TextFault.Memory
-        → keyed record_of.Pools (key_ref_bytes named.now) (pools_reading body.now) ≡ Err e) }
+    ensures { result ≢ Err TextFault.Memory
+        → keyed record_of.Pools (key_ref_bytes named.now) (pools_reading body.now) ≡ result }
 {
     match pools_of(alloc, body) {
         Ok(pools) => if_key(named, Record::Pools(pools)),
@@ -118,10 +110,9 @@ fn pools_record(alloc: Global, named: &KeyRef<'_>, body: &str) -> Result<Record,
 
 fn reservations_record(alloc: Global, named: &KeyRef<'_>, body: &str) -> Result<Record, TextFault>
     requires { IsKey (owned_key named.now) }
-    ensures read { IfOk result
-        (λ found. keyed record_of.Reservations (key_ref_bytes named.now) (reservations_reading body.now) ≡ Ok found) }
-    ensures refused { IfErr result (λ e. e ≢ TextFault.Memory
-        → keyed record_of.Reservations (key_ref_bytes named.now) (reservations_reading body.now) ≡ Err e) }
+    ensures { result ≢ Err TextFault.Memory
+        → keyed record_of.Reservations (key_ref_bytes named.now)
+        (reservations_reading body.now) ≡ result }
 {
     match reservations_of(alloc, body) {
         Ok(reservations) => if_key(named, Record::Reservations(reservations)),
@@ -131,9 +122,8 @@ fn reservations_record(alloc: Global, named: &KeyRef<'_>, body: &str) -> Result<
 
 fn block_record(alloc: Global, named: &KeyRef<'_>, body: &str) -> Result<Record, TextFault>
     requires { IsKey (owned_key named.now) }
-    ensures read { IfOk result (λ found. keyed_block (key_ref_bytes named.now) (block_reading body.now) ≡ Ok found) }
-    ensures refused { IfErr result
-        (λ e. e ≢ TextFault.Memory → keyed_block (key_ref_bytes named.now) (block_reading body.now) ≡ Err e) }
+    ensures { result ≢ Err TextFault.Memory
+        → keyed_block (key_ref_bytes named.now) (block_reading body.now) ≡ result }
 {
     match block_of(alloc, body) {
         Ok(block) => if_key(named, Record::Block(block)),
@@ -143,10 +133,8 @@ fn block_record(alloc: Global, named: &KeyRef<'_>, body: &str) -> Result<Record,
 
 fn affinity_record(alloc: Global, named: &KeyRef<'_>, body: &str) -> Result<Record, TextFault>
     requires { IsKey (owned_key named.now) }
-    ensures read { IfOk result
-        (λ found. keyed record_of.Affinity (key_ref_bytes named.now) (affinity_reading body.now) ≡ Ok found) }
-    ensures refused { IfErr result (λ e. e ≢ TextFault.Memory
-        → keyed record_of.Affinity (key_ref_bytes named.now) (affinity_reading body.now) ≡ Err e) }
+    ensures { result ≢ Err TextFault.Memory
+        → keyed record_of.Affinity (key_ref_bytes named.now) (affinity_reading body.now) ≡ result }
 {
     match affinity_of(alloc, body) {
         Ok(affinity) => if_key(named, Record::Affinity(affinity)),
@@ -156,10 +144,8 @@ fn affinity_record(alloc: Global, named: &KeyRef<'_>, body: &str) -> Result<Reco
 
 fn handle_record(alloc: Global, named: &KeyRef<'_>, body: &str) -> Result<Record, TextFault>
     requires { IsKey (owned_key named.now) }
-    ensures read { IfOk result
-        (λ found. keyed record_of.Handle (key_ref_bytes named.now) (handle_reading body.now) ≡ Ok found) }
-    ensures refused { IfErr result (λ e. e ≢ TextFault.Memory
-        → keyed record_of.Handle (key_ref_bytes named.now) (handle_reading body.now) ≡ Err e) }
+    ensures { result ≢ Err TextFault.Memory
+        → keyed record_of.Handle (key_ref_bytes named.now) (handle_reading body.now) ≡ result }
 {
     match handle_of(alloc, body) {
         Ok(handle) => if_key(named, Record::Handle(handle)),

@@ -37,7 +37,7 @@ number_or_0 name d = found_or 0 number_in (get name d)
 abbrev pub small_at : List ℕ → Data → Option ℕ
 small_at name d = option_and_then in_8_bits (option_and_then as_whole (get name d))
 
--- the texts, and behind them those that the items are
+-- the texts, and after them those that the items are
 abbrev pub texts_after : List (List ℕ) → Items → Option (List (List ℕ))
 texts_after texts no_items = Some texts
 texts_after texts (item d ds) = do
@@ -50,7 +50,7 @@ texts_in d = option_and_then (texts_after []) (as_array d)
 abbrev pub texts_or_none : List ℕ → Data → Option (List (List ℕ))
 texts_or_none name d = found_or [] texts_in (get name d)
 
--- the pairs, and behind them those that the members are
+-- the pairs, and after them those that the members are
 abbrev pub pairs_after : List Pair → Members → Option (List Pair)
 pairs_after pairs no_members = Some pairs
 pairs_after pairs (member key d ms) = do
@@ -67,7 +67,7 @@ pairs_or_none name d = found_or [] pairs_in (get name d)
 abbrev pub address_in : Data → Option AddrValue
 address_in d = option_and_then address_of (as_str d)
 
--- the addresses, and behind them those that the items are
+-- the addresses, and after them those that the items are
 abbrev pub addresses_after : List AddrValue → Items → Option (List AddrValue)
 addresses_after addresses no_items = Some addresses
 addresses_after addresses (item d ds) = do

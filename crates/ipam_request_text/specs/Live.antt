@@ -10,7 +10,7 @@ use Rattle.ipam_record_text.specs.Blocks.{id_of}
 unfoldable pub id_in : Data → Option (List ℕ)
 id_in d = option_and_then id_of (as_str d)
 
--- the ids, and behind them those that the items are
+-- the ids, and after them those that the items are
 abbrev pub ids_after : List (List ℕ) → Items → Option (List (List ℕ))
 ids_after ids no_items = Some ids
 ids_after ids (item d ds) = do

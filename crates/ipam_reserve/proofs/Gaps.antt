@@ -42,7 +42,7 @@ free_between spans n place before behind =
       | inr back ↦ not_held_above (get_or spans k d) n (behind k d back within)
     ])
 
--- where the next span begins behind the number, the number is the gap
+-- where the next span begins after the number, the number is the gap
 pub gap_here : (spans : List Span) (from last place : ℕ) → IsMerged spans → SplitsAt spans from place → from ≤ last → ((d : Span) → place < length spans → from < (get_or spans place d).first) → IsFirstGap spans from last from
 gap_here spans from last place h s order begins = record {
   above = omega arith;
@@ -71,7 +71,7 @@ held_here spans from place s within at begins m above below =
     let e : span_holds (get_or spans place s) m ≡ true = rw (← at) (held_by s m (omega arith) below) in
     list_any_at (λ x. span_holds x m) spans place s within e
 
--- and then the gap is behind it
+-- and then the gap is after it
 pub gap_behind : (spans : List Span) (from last place : ℕ) (s : Span) → IsMerged spans → SplitsAt spans from place → place < length spans → s ≡ get_or spans place s → s.first ≤ from → s.last < last → IsFirstGap spans from last (s.last + 1)
 gap_behind spans from last place s h split within at begins ends =
     let reaches : from ≤ (get_or spans place s).last = split.behind place s (omega arith) within in

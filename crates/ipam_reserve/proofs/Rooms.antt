@@ -58,7 +58,7 @@ slots_ascend pool size j k before =
     let room = row_fits j d k d before (omega arith) in
     omega arith
 
--- a slot from `from` on begins at the first of these or behind it
+-- a slot from `from` on begins at the first of these or after it
 slots_from : (pool : CidrValue) (size j k : ℕ) → j ≤ k → (slot_of pool size j).base ≤ (slot_of pool size k).base
 slots_from pool size j k above = elim (cases_lt j k) [
   | inl before ↦

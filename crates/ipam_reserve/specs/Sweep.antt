@@ -3,7 +3,7 @@ use Rattle.std.specs.Prelude.{◌+◌, ◌<◌, List, All}
 use Rattle.ipam_reserve.specs.declared.spans.Span.{Span}
 use Rattle.ipam_reserve.specs.Spans.{IsOrdered, IsMerged}
 
--- the spans are done, and the current one, which may still grow, stands behind them
+-- the spans are done, and the current one, which may still grow, stands after them
 pub record Sweeps (spans : List Span) (current : Span) : Type 0 where
   pub merged : IsMerged spans
   pub before : All (λ s. s.last + 1 < current.first) spans

@@ -36,7 +36,7 @@ abbrev pub as_item : ℕ → Result Resource Member → Result Resource Document
 as_item n (Ok resource) = Ok resource
 as_item n (Err m) = Err (bad_in_item n m)
 
--- the resources, and behind them those that the items are. As many came before an item as its index
+-- the resources, and after them those that the items are. As many came before an item as its index
 abbrev pub resources_after : List Resource → Items → Result (List Resource) DocumentFault
 resources_after there no_items = Ok there
 resources_after there (item d ds) = do

@@ -82,7 +82,7 @@ range_of text = option_or (cidr_of text) (option_map cidr_of_address (address_of
 unfoldable pub range_in : Data → Option CidrValue
 range_in d = option_and_then range_of (as_str d)
 
--- the ranges, and behind them those that the items are
+-- the ranges, and after them those that the items are
 abbrev pub ranges_after : List CidrValue → Items → Option (List CidrValue)
 ranges_after ranges no_items = Some ranges
 ranges_after ranges (item d ds) = do

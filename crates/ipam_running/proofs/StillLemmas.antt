@@ -1,4 +1,4 @@
--- What runs has not answer_in, and nothing but a collection waits.
+-- What runs has not answered, and nothing but a collection waits.
 use Rattle.std.proofs.Common.{◌≡◌, ℕ, true, false, List, Some, None, IsSome, refl, ap, subst, sym, ◌∙◌}
 use Rattle.std.specs.Prelude.{option_map}
 use Rattle.ipam_records.specs.Word.{Word, Ends, Asks, Waits, next_call, answer_in, waits, bound}
@@ -17,7 +17,7 @@ use Rattle.ipam_assign.specs.declared.add_this.Stage.{Stage as ThisStage}
 use Rattle.ipam_assign.specs.declared.add_this.Stage.TheVariants as this
 use Rattle.ipam_assign.specs.declared.assigning.Stage.{Stage as AssignStage}
 use Rattle.ipam_assign.specs.declared.assigning.Stage.TheVariants as assign
-use Rattle.ipam_assign.specs.Assigning.{assigning_at, write_behind, nothing}
+use Rattle.ipam_assign.specs.Assigning.{assigning_at, write_after, nothing}
 use Rattle.ipam_assign.specs.AddThis.{Going, then_next, next_for, wanted_at, looked_of, this_part, this_at}
 use Rattle.ipam_block.specs.Shape.{BlockValue}
 use Rattle.ipam_addr.specs.Shape.{CidrValue}
@@ -135,7 +135,7 @@ lowering_asks id cidr amount left (lower.Writes lowered) = refl
 
 assigning_asks : (id : List ℕ) (b : BlockValue) (revision : ℕ) (stage : AssignStage) → IsSome (next_call (assigning_at id b revision stage))
 assigning_asks id b revision (assign.Raises raising) =
-    asks_on (raising_rest id raising) (onward (write_behind id b revision)) (raising_asks id raising.cidr raising.left raising.stage)
+    asks_on (raising_rest id raising) (onward (write_after id b revision)) (raising_asks id raising.cidr raising.left raising.stage)
 assigning_asks id b revision (assign.Writes left) = refl
 assigning_asks id b revision (assign.Lowers lowering) =
     asks_on (lowering_rest id lowering) (onward nothing) (lowering_asks id lowering.cidr lowering.amount lowering.left lowering.stage)
@@ -186,7 +186,7 @@ collect_runs_on request (collect.Waits found) = refl
 collect_runs_on request (collect.ListsAgain found) = refl
 collect_runs_on request (collect.Frees f) = not_ended (collect_frees_at f) (collect_frees f)
 
--- what is kept has not answer_in
+-- what is kept has not answered
 runs_on_kept : (k : Kept) → answer_in (rest_of k) ≡ None
 runs_on_kept (kept.Collect p) = ended_telling _ (collect_rest p) ∙ ap (option_map of_collect) (collect_runs_on p.request p.stage)
 runs_on_kept (kept.Add p) = not_ended _ (asks (kept.Add p) (λ it. cc (it.1)))

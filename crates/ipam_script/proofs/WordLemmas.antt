@@ -4,10 +4,10 @@ use Rattle.std.specs.Prelude.{nat_lt}
 use Rattle.std.specs.Option.{MatchOption}
 use Rattle.std.specs.Result.{result_ok}
 use Rattle.std.specs.List.{before_first, after_first, position_or_len}
-use Rattle.std.specs.Str.Parse.{IsNumeral, digits_value, ParsesUnsigned}
-use Rattle.std.proofs.lemmas.Bool.{lt-ltb, le-ltb, cases_lt}
+use Rattle.std.specs.Str.Parse.{ParsesUnsigned}
+use Rattle.std.proofs.lemmas.Bool.{lt-ltb, le-ltb}
 use Rattle.ipam_json.specs.Path.{is_index}
-use Rattle.ipam_json.proofs.PathLemmas.{index_numeral}
+use Rattle.ipam_json.proofs.PathLemmas.{index_parsed}
 use Rattle.ipam_script.specs.Words.{is_space, split_word, number_of}
 
 same_is_not_less : (n m : ℕ) → n ≡ m → nat_lt n m ≡ false
@@ -20,17 +20,4 @@ split_told text (Some x) h =
     rw (lt-ltb (position_or_len is_space text) (length text) h.0) (rw (h.1, h.2) refl)
 
 pub parsed : {E : Type 0} (word : List ℕ) (r : Result ℕ E) → is_index word ≡ true → ParsesUnsigned 64 10 word r → result_ok r ≡ number_of word
-parsed word (Ok n) index h =
-    let numeral = index_numeral word index in
-    let P : List ℕ → Type 0 = λ s. digits_value 10 s < 2 ^ 64 in
-    let less = subst P numeral.0 h.0.1 in
-    let value : n ≡ digits_value 10 word = h.1 ∙ ap (digits_value 10) numeral.0 in
-    rw (index, lt-ltb (digits_value 10 word) (2 ^ 64) less) (ap Some value)
-parsed word (Err e) index h =
-    let numeral = index_numeral word index in
-    let P : List ℕ → Type 0 = λ s. ¬ (IsNumeral 10 s × (digits_value 10 s < 2 ^ 64)) in
-    let refused = subst P numeral.0 h in
-    elim (cases_lt (digits_value 10 word) (2 ^ 64)) [
-      | inl less ↦ absurd (refused (numeral.1, less))
-      | inr large ↦ rw (index, le-ltb (digits_value 10 word) (2 ^ 64) large) refl
-    ]
+parsed word r index h = rw index (index_parsed 64 word r index h)

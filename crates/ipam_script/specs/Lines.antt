@@ -11,7 +11,7 @@ pub data ScriptLine : Type 0 where
 abbrev pub is_line_end : ℕ → Bool
 is_line_end c = c == 10
 
--- the parts between line ends; behind the last line end there is a line only if a byte stands there
+-- the parts between line ends; after the last line end there is a line only if a byte stands there
 abbrev pub without_empty_end : List (List ℕ) → List (List ℕ)
 without_empty_end [] = []
 without_empty_end ([] ∷ []) = []
@@ -27,7 +27,7 @@ is_long before line =
 abbrev pub told : (before : ℕ) → List ℕ → ScriptLine
 told before line = if is_long before line then Long else Whole line
 
--- the lines, the first of which begins behind so many bytes
+-- the lines, the first of which begins after so many bytes
 abbrev pub placed : (before : ℕ) → List (List ℕ) → List ScriptLine
 placed before [] = []
 placed before (line ∷ lines) = told before line ∷ placed (before + length line + 1) lines

@@ -12,7 +12,7 @@ is_space c = c == 32
 abbrev pub has_space : List ℕ → Bool
 has_space text = nat_lt (position_or_len is_space text) (length text)
 
--- the first word, and what stands behind the space that ends it
+-- the first word, and what stands after the space that ends it
 abbrev pub split_word : List ℕ → Option (List ℕ × List ℕ)
 split_word text = only_if (has_space text) (before_first is_space text, after_first is_space text)
 

@@ -4,7 +4,7 @@ ghost use Rattle.std.specs.List.{list_any, slice_split};
 ghost use Rattle.ipam_script.specs.Lines.{is_line_end, lines_of, placed, told, without_empty_end};
 
 /// An empty script has no line. A script that begins with a line and its end has that line first,
-/// and behind it those of the rest. A script without a line end is one line.
+/// and after it those of the rest. A script without a line end is one line.
 pub fn scripts_are_cut_at_line_ends()
     ensures empty { lines_of [] ≡ [] }
     ensures more { (line rest : List ℕ) → list_any is_line_end line ≡ false

@@ -5,7 +5,7 @@ ghost use Rattle.ipam_script.specs.Words.{split_word, number_of, slot_in, slot_o
 use ipam_json::is_index;
 use ipam_model::SLOTS;
 
-/// The first word, and what stands behind the space that ends it.
+/// The first word, and what stands after the space that ends it.
 pub(crate) fn split_word(text: &str) -> Option<(&str, &str)>
     ensures { option_map (λ parts. (parts.0.now, parts.1.now)) result ≡ split_word text.now }
 {

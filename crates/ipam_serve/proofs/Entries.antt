@@ -1,4 +1,4 @@
--- Lists of entries: which are of a slot, what runs behind them, and how many are calls.
+-- Lists of entries: which are of a slot, what runs after them, and how many are calls.
 use Rattle.std.proofs.Common.{◌≡◌, ◌≢◌, ℕ, zero, suc, ◌+◌, Bool, true, false, cond, List, [], ◌∷◌, ◌++◌, Option, Some, None, refl, sym, ap, ◌∙◌, eqb-true, arith}
 use Rattle.std.proofs.lemmas.Bool.{eqb-false}
 use Rattle.std.specs.Prelude.{◌==◌, option_map}
@@ -54,7 +54,7 @@ of_slot-told slot [] between own none = of_slot-none slot between none
 of_slot-told slot (new ∷ []) between own none = of_slot-own slot new between own ∙ ap (λ l. new ∷ l) (of_slot-none slot between none)
 of_slot-told slot (new ∷ other ∷ more) between own none = absurd own
 
--- ---- what runs behind them
+-- ---- what runs after them
 
 pub asked_after-append : (asked : Option Request) (later earlier : List Entry) → asked_after asked (later ++ earlier) ≡ asked_after (asked_after asked earlier) later
 unfolding asked_after

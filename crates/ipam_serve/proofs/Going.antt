@@ -139,7 +139,7 @@ pub call-broken : (old middle new : Taker) (request : Request) (r : Result Answe
 call-broken old middle new request (Ok told) a b = tt
 call-broken old middle new request (Err broken) a b = own-part old middle new request a b
 
--- a stop of the gate behind passes that it did not stop
+-- a stop of the gate after passes that it did not stop
 pub halts-on : (broken : Broken) (one two three : ℕ) → two ≡ one → Halts {T = Ran} (Err broken) two three → Halts {T = Ran} (Err broken) one three
 halts-on Halted one two three same h = subst (λ (n : ℕ). Rose n three) same h
 halts-on Worn one two three same h = h ∙ same

@@ -139,7 +139,7 @@ not-begun old new deed took = record { entries = []; did = inl refl; took = took
 pub part-spared : (old new : Taker) (deed : Deed) (few more : ℕ) → few ≤ more → DoesPart old deed few new → DoesPart old deed more new
 part-spared old new deed few more less d = record { entries = d.entries; did = d.did; took = took-spared old.pass new.pass d.entries few more less d.took; passed = d.passed }
 
--- ---- what runs behind a span
+-- ---- what runs after a span
 
 goes-behind : (slot : ℕ) (asked : Option Request) (calls : List Entry) → GoesOn slot calls → asked_after asked calls ≡ asked
 unfolding asked_after
@@ -158,7 +158,7 @@ answers-behind slot asked told (entry.Began other request ∷ earlier) h = absur
 answers-behind slot asked told (entry.Fed other at live ∷ earlier) h = absurd h
 answers-behind slot asked told (entry.Stopped other ∷ earlier) h = absurd h
 
--- nothing runs behind an answer
+-- nothing runs after an answer
 pub span-idle : (slot : ℕ) (first : Entry) (told : Answer) (entries : List Entry) (asked : Option Request) → Span slot first (Some told) entries → asked_after asked entries ≡ None
 span-idle slot first told entries asked s =
     ap (asked_after asked) s.are ∙ asked_after-append asked s.calls (first ∷ []) ∙ answers-behind slot (asked_after asked (first ∷ [])) told s.calls s.reaches
@@ -167,7 +167,7 @@ pub went-idle : (old new : Taker) (told : Answer) (spared : ℕ) → WentOn old 
 went-idle old new told spared on =
     none-asked (runs_in new.pass) (on.took.runs ∙ answers-behind old.pass.slot (asked_in (runs_in old.pass)) told on.calls on.reaches)
 
--- what runs behind calls without an answer
+-- what runs after calls without an answer
 pub went-asked : (old new : Taker) (spared : ℕ) → WentOn old None spared new → asked_in (runs_in new.pass) ≡ asked_in (runs_in old.pass)
 went-asked old new spared on = on.took.runs ∙ goes-behind old.pass.slot (asked_in (runs_in old.pass)) on.calls on.reaches
 

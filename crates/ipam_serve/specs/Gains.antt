@@ -32,7 +32,7 @@ abbrev pub unless_answered : Option Answer → Option Request → Option Request
 unless_answered None asked = asked
 unless_answered (Some told) asked = None
 
--- the request that runs behind these entries of a slot, the newest first
+-- the request that runs after these entries of a slot, the newest first
 unfoldable pub asked_after : Option Request → List Entry → Option Request
 asked_after asked [] = asked
 asked_after asked (entry.Began slot request ∷ earlier) = Some request

@@ -85,7 +85,7 @@ since_in pass revision =
     else (if nat_lt (store_at pass.base pass.seen).counter revision then Ahead (store_at pass.base pass.seen).counter
     else Changes (store_at pass.base pass.seen).counter (changes_since pass.base.store (writes_in pass.seen) revision))
 
--- on what the reply rests: what the pass has seen before the line and behind it
+-- on what the reply rests: what the pass has seen before the line and after it
 abbrev pub standing : (old new : PassValue) (at : ℕ) → Option Answer → Standing
 standing old new at answer = record {
   waited = is_waiting (runs_in old);

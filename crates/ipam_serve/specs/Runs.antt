@@ -1,4 +1,4 @@
--- What a session's slot does by turns behind passes of a gate.
+-- What a session's slot does by turns after passes of a gate.
 use Rattle.std.specs.Prelude.{◌≡◌, ◌⊎◌, ℕ, true, false, List, Option, Some, None}
 use Rattle.ipam_model.specs.declared.answer.Answer.{Answer}
 use Rattle.ipam_model.specs.declared.entry.Entry.{Entry}

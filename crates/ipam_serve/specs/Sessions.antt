@@ -56,7 +56,7 @@ Talks (x ∷ earlier) old new = (between : Talk) × Talks earlier old between ×
 
 -- ---- the end
 
--- what stands behind the whole exchanges: nothing, a line that was not done to its end, or one whose
+-- what stands after the whole exchanges: nothing, a line that was not done to its end, or one whose
 -- reply was not wholly written
 pub data Rest : Type 0 where
   Nothing : Rest
@@ -90,7 +90,7 @@ IsUntold Nothing = ⊥
 IsUntold (Undone line) = ⊥
 IsUntold (Untold line reply) = ⊤
 
--- why the session ends so, where this stands behind its whole exchanges and these bytes were to come then
+-- why the session ends so, where this stands after its whole exchanges and these bytes were to come then
 abbrev pub IsCause : SessionEnd → Rest → (coming : Option (List ℕ)) → (last : PassValue) → Type 0
 IsCause end.Closed rest coming last = (rest ≡ Nothing) × IfSome coming (λ bytes. bytes ≡ [])
 IsCause end.Cut rest coming last = (rest ≡ Nothing) × IfSome coming (λ bytes. IsLine SESSION_LINE_BYTES bytes × (bytes ≢ []))

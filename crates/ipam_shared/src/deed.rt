@@ -38,7 +38,7 @@ pub(crate) trait Deed<D: Keeper> {
         ensures keeps { (base : Base) (history : List OneEntry) → FedFor D.rows kept.old base history → FedFor D.rows kept.new base (told result ++ history) };
 }
 
-/// The deed, in this slot. It also answers whether something runs there behind it.
+/// The deed, in this slot. It also answers whether something runs there after it.
 #[derive(Drop)]
 pub(crate) struct InSlot<W> {
     pub(crate) slot: u8,

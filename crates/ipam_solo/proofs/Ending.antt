@@ -85,7 +85,7 @@ module _ {D : Type 0} (tells : Tells D) where
 
   -- ---- an answer
 
-  -- another slot is idle behind it
+  -- another slot is idle after it
   other-idle : (faults : D → ℕ) (request : Request) (old begun before new : Kept D) (c : Called) → IsKept tells old → NothingRuns old → KeepsWith tells old begun (entry.Began 0 request) → SoFar tells faults request begun before → KeepsWith tells before new (entry.Called c) → c.slot ≡ 0 → (slot : ℕ) → slot ≢ 0 → slot_of new.cluster slot ≡ None
   other-idle faults request old begun before new c (base, (history, kept)) nothing begins far keeps own slot differ =
       let started = entry.Began 0 request ∷ history in

@@ -88,7 +88,7 @@ answer-leaves base history c told own is =
 
 -- ---- as a request by itself
 
--- the steps behind a beginning are the request alone
+-- the steps after a beginning are the request alone
 pub steps-alone : (request : Request) (steps : List Entry) → GoesOn request steps → IsAlone request (steps ++ (entry.Began 0 request ∷ []))
 steps-alone request [] h = (refl, refl, refl)
 steps-alone request (entry.Called c ∷ steps) h = (h.0, h.1, steps-alone request steps h.3)
@@ -96,6 +96,6 @@ steps-alone request (entry.Fed slot at live ∷ steps) h = (h.0, h.1, steps-alon
 steps-alone request (entry.Began slot other ∷ steps) h = absurd h
 steps-alone request (entry.Stopped slot ∷ steps) h = absurd h
 
--- the beginning may be told before or behind
+-- the beginning may be told before or after
 pub joined : (request : Request) (steps history : List Entry) → (steps ++ (entry.Began 0 request ∷ [])) ++ history ≡ steps ++ (entry.Began 0 request ∷ history)
 joined request steps history = append_assoc steps (entry.Began 0 request ∷ []) history

@@ -1,20 +1,18 @@
 -- Lists under names: where the list of a node is, and what a write there changes.
-use Rattle.std.proofs.Common.{◌≡◌, ℕ, zero, suc, ◌+◌, ◌<◌, ◌≤◌, List, [], ◌∷◌, length, get_or, set, cond, Bool, true, false, inl, inr, ap, sym, ◌∙◌, subst, arith, refl, bytes_eq, Result, Ok, Err, IfOk, IfErr}
-use Rattle.std.specs.declared.cmp.Ordering.TheVariants.{Less, Equal, Greater}
+use Rattle.std.proofs.Common.{◌≡◌, ℕ, zero, suc, ◌+◌, ◌<◌, ◌≤◌, List, [], ◌∷◌, length, get_or, set, cond, Bool, false, inl, inr, ap, sym, ◌∙◌, subst, arith, refl, bytes_eq}
 use Rattle.std.proofs.lemmas.Bool.{cases_lt}
 use Rattle.std.proofs.lemmas.List.{get_or-set_same, get_or-set_other, length-set}
 use Rattle.std.proofs.Math.Seq.{map-set_same}
 use Rattle.std.proofs.lemmas.List.Elements.{All-nil, All-set}
 use Rattle.std.proofs.lemmas.List.Edits.{get_or-insert_at, get_or-insert_below, get_or-remove_below, get_or-remove_above, length-insert, length-remove}
 use Rattle.std.specs.Ordering.{is_eq}
-use Rattle.std.specs.Cmp.Lexicographic.{nat_list_cmp_total, texts_ties}
+use Rattle.std.specs.Cmp.Lexicographic.{nat_list_cmp_total}
 use Rattle.std.specs.Global.{Vec}
 use Rattle.std.specs.List.{insert, remove}
-use Rattle.std.specs.List.Sorted.{IsStrictlySortedBy, IsSearchInRange, IsBinarySearchResult}
+use Rattle.std.specs.List.Sorted.{IsStrictlySortedBy}
 use Rattle.std.proofs.lemmas.Slice.Eq.{bytes_eq-Decides}
 use Rattle.ipam_addr.specs.Shape.{CidrValue}
 use Rattle.ipam_records.specs.BlockLists.{name_cmp, named_lists, list_under, AreNamedLists}
-use Rattle.ipam_records.specs.Places.{IsFoundAt, IsGapAt}
 use Rattle.ipam_records.proofs.BlockListLemmas.{Entry, plain, length-named, named-get, under-at, under-none, differs, under-gap, name_at, earlier, later, under-found}
 use Rattle.ipam_store.specs.CidrLists.{CidrsAscend, with_cidr, without_cidr}
 use Rattle.ipam_store.specs.Named.{ChangesList}

@@ -24,7 +24,7 @@ all_rows_by_key : (P : Key → Type 0) (xs : List (ℕ × Record)) → AllByRecu
 all_rows_by_key P [] all = All-nil (λ (r : ℕ × Record). P (row_key r))
 all_rows_by_key P (x ∷ xs) all = All-cons (λ (r : ℕ × Record). P (row_key r)) x xs all.0 (all_rows_by_key P xs all.1)
 
--- the rows before a row are below it, and those behind it above
+-- the rows before a row are below it, and those after it above
 below : (xs : List (ℕ × Record)) (r : ℕ × Record) (ys : List (ℕ × Record)) → IsStrictlySortedBy key_cmp (map row_key (xs ++ r ∷ ys)) → All (λ x. key_cmp (row_key x) (row_key r) ≡ Less) xs
 unfolding IsStrictlySortedBy
 below [] r ys s = All-nil (λ (x : ℕ × Record). key_cmp (row_key x) (row_key r) ≡ Less)

@@ -22,7 +22,7 @@ use Rattle.ipam_store.proofs.Parts.{with_row-front, without-behind}
 use Rattle.ipam_records.proofs.RowWrites.{All-with_row, All-without_row}
 use Rattle.ipam_store.proofs.Keeping.{Ascend-with_row, Ascend-without_row}
 
--- what is below all rows, and is no lower than the key, has all of them behind the key
+-- what is below all rows, and is no lower than the key, has all of them after the key
 behind_key : (k key r : Key) (o : Ordering) → key_cmp k key ≡ o → (o ≡ Less → ⊥) → key_cmp k r ≡ Less → key_cmp r key ≡ Greater
 behind_key k key r Less h other less = absurd (other refl)
 behind_key k key r Equal h other less =

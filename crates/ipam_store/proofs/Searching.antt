@@ -1,7 +1,6 @@
 -- What a search among rows finds, and what a write at that place does.
 use Rattle.std.proofs.Common.{◌≡◌, ℕ, List, ◌∷◌, length, get_or, set, not, cond, Some, None, Result, Ok, Err, IfOk, IfErr, ap, ◌∙◌, refl}
 use Rattle.std.specs.declared.cmp.Ordering.{Ordering}
-use Rattle.std.specs.declared.cmp.Ordering.TheVariants.{Less, Equal, Greater}
 use Rattle.std.specs.Ordering.{is_eq, ordering_reverse}
 use Rattle.std.specs.List.{insert, remove}
 use Rattle.std.specs.List.Sorted.{IsSearchInRange, IsBinarySearchResult}
@@ -10,7 +9,7 @@ use Rattle.ipam_records.specs.declared.record.Record.{Record}
 use Rattle.ipam_records.specs.KeyOrder.{key_cmp}
 use Rattle.ipam_records.specs.Datastore.{row_key, row_of, row_at, with_row, without_row}
 use Rattle.ipam_records.specs.KeyOrderLaws.{key_cmp_total}
-use Rattle.ipam_records.proofs.PlaceWrites.{PutsByKey, TakesByKey, set_found, insert_gap, remove_found, without_gap}
+use Rattle.ipam_records.proofs.PlaceWrites.{PutsByKey, TakesByKey, puts_by_step, takes_by_step, set_found, insert_gap, remove_found, without_gap}
 use Rattle.ipam_records.proofs.RowSearch.{row_of-found, row_of-absent}
 use Rattle.ipam_records.proofs.SearchLemmas.{searched as searched_by_key}
 use Rattle.ipam_store.specs.Places.{Ascend, IsPlace, IsGap}
@@ -34,20 +33,10 @@ with_step new r rs o h =
     ap (λ v. row_at v new r rs (with_row new rs)) (key_cmp_total.antisymm (row_key new) (row_key r) ∙ ap ordering_reverse h)
 
 puts : PutsByKey key_cmp row_key with_row
-puts = record {
-  empty = λ new. refl;
-  below = λ new r rs h. with_step new r rs Less h;
-  same = λ new r rs h. with_step new r rs Equal h;
-  above = λ new r rs h. with_step new r rs Greater h;
-}
+puts = puts_by_step key_cmp row_key with_row (λ new. refl) with_step
 
 takes : TakesByKey key_cmp row_key without_row
-takes = record {
-  empty = λ key. refl;
-  below = λ key r rs h. without_step key r rs Less h;
-  same = λ key r rs h. without_step key r rs Equal h;
-  above = λ key r rs h. without_step key r rs Greater h;
-}
+takes = takes_by_step key_cmp row_key without_row (λ key. refl) without_step
 
 -- ---- by what a search found
 pub row_of-place : (rows : List (ℕ × Record)) → Ascend rows → (key : Key) (i : ℕ) (d : ℕ × Record) → IsPlace rows key i → row_of key rows ≡ Some (get_or rows i d)

@@ -17,13 +17,13 @@ pub record IsPlace (rows : List (ℕ × Record)) (key : Key) (place : ℕ) : Typ
   pub within : place < length rows
   pub same : (d : ℕ × Record) → key_cmp (row_key (slice_index_or rows place d)) key ≡ Equal
 
--- the rows before this place stand before the key, and the others behind it
+-- the rows before this place stand before the key, and the others after it
 pub record IsGap (rows : List (ℕ × Record)) (key : Key) (place : ℕ) : Type 0 where
   pub within : place ≤ length rows
   pub before : (i : ℕ) (d : ℕ × Record) → i < place → key_cmp (row_key (slice_index_or rows i d)) key ≡ Less
   pub behind : (i : ℕ) (d : ℕ × Record) → place ≤ i → i < length rows → key_cmp (row_key (slice_index_or rows i d)) key ≡ Greater
 
--- these rows stand before the key, or behind it
+-- these rows stand before the key, or after it
 abbrev pub IsBefore : Key → ℕ × Record → Type 0
 IsBefore k r = key_cmp (row_key r) k ≡ Less
 

@@ -123,7 +123,7 @@ create affinity/a/9.0.0.0/26
 create handle/n.c1
 ";
 
-/// The counter behind the first calls.
+/// The counter after the first calls.
 const FIRST: u32 = 6;
 
 fn started(alloc: Global) -> Result<Both, AllocError> {
@@ -148,7 +148,7 @@ fn handle_call(alloc: Global, step: u32) -> Result<String, AllocError> {
 
 const BLOCKS: u32 = 600;
 
-/// What a block's body has before its CIDR and behind it, where its one address is held.
+/// What a block's body has before its CIDR and after it, where its one address is held.
 const HELD: (&str, &str) = (
     r#""allocations":[0],"attributes":[{"handle_id":"n.c1","secondary":{}}]"#,
     r#""sequenceNumber":1,"sequenceNumberForAllocation":{"0":1},"unallocated":[]"#,
@@ -235,7 +235,7 @@ fn turns(
     Ok(())
 }
 
-/// How many rows there are behind these steps, and the counter.
+/// How many rows there are after these steps, and the counter.
 fn told(rt: &impl Abort, alloc: Global, kind: Kind, steps: u32) -> Result<String, AllocError> {
     let mut both = started(alloc)?;
     turns(rt, alloc, &mut both, kind, steps)?;

@@ -18,7 +18,7 @@ fn push_row(
     text.push_str(line.as_str())
 }
 
-/// The texts of the keys that a list of the kind lends, each behind its revision.
+/// The texts of the keys that a list of the kind lends, each after its revision.
 fn list_text(alloc: Global, store: &Store, kind: Kind) -> Result<String, AllocError> {
     let mut text = String::new(alloc);
     if let Reply::Listed(listing) = store.reply(&Call::List(kind)) {

@@ -3,7 +3,7 @@ use Rattle.serde_json.specs.View.{items_view}
 use Rattle.cni_types.specs.Asked.{addresses_after}
 use Rattle.cni_types.proofs.asked.addresses_of.Given as goal
 
--- what was copied so far, and behind it the items that are left
+-- what was copied so far, and after it the items that are left
 abbrev pub invariant-loop-item : goal.invariant-loop-item
 invariant-loop-item l =
     addresses_after l.addresses.items (items_view (drop l.item-index l.items)) ≡ addresses_after [] (items_view l.items)

@@ -26,17 +26,17 @@ pub returns-clause-given_again_between_the_lists : goal.returns-clause-given_aga
 unfolding runs_computed
 returns-clause-given_again_between_the_lists c = refl
 
-pub returns-clause-given_again_behind_the_lists : goal.returns-clause-given_again_behind_the_lists
+pub returns-clause-given_again_after_the_lists : goal.returns-clause-given_again_after_the_lists
 unfolding runs_computed
-returns-clause-given_again_behind_the_lists c = refl
+returns-clause-given_again_after_the_lists c = refl
 
 pub returns-clause-fed_within_the_grace : goal.returns-clause-fed_within_the_grace
 unfolding runs_computed
 returns-clause-fed_within_the_grace c = refl
 
-pub returns-clause-fed_behind_the_grace : goal.returns-clause-fed_behind_the_grace
+pub returns-clause-fed_after_the_grace : goal.returns-clause-fed_after_the_grace
 unfolding runs_computed
-returns-clause-fed_behind_the_grace c = refl
+returns-clause-fed_after_the_grace c = refl
 
 pub returns-clause-outside_the_scope : goal.returns-clause-outside_the_scope
 unfolding runs_computed

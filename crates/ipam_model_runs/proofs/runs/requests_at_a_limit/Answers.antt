@@ -23,9 +23,9 @@ pub returns-clause-worn_at_first : goal.returns-clause-worn_at_first
 unfolding runs_computed
 returns-clause-worn_at_first c = refl
 
-pub returns-clause-worn_behind_one : goal.returns-clause-worn_behind_one
+pub returns-clause-worn_after_one : goal.returns-clause-worn_after_one
 unfolding runs_computed
-returns-clause-worn_behind_one c = refl
+returns-clause-worn_after_one c = refl
 
 pub returns-clause-worn_and_stopped : goal.returns-clause-worn_and_stopped
 unfolding runs_computed
