@@ -3,12 +3,12 @@
 
     bench/choice.py PROGRAM [BLOCKS..]
 
-Half of the blocks are full. Every tenth is of the node that asks, and then again ten of them whatever
-their number. What is looked for lies behind the full ones:
+Half of the blocks are full. In one run every tenth block is of the node that asks, in another run ten of
+them whatever their number. What is looked for comes after the full ones:
 
     own          of the node's confirmed blocks the first half is full
     unconfirmed  the same, with affinities that are pending
-    unclaimed    all blocks of the node are full; the first slot without a block lies behind all
+    unclaimed    all blocks of the node are full; the first slot without a block comes after all
     foreign      the same, with no further block allowed; of the other blocks the first ones are full
     nothing      the same with strict affinity
 

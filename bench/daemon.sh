@@ -1,8 +1,8 @@
 #!/usr/bin/env bash
 # ADD and DEL through the daemon, over one connection and over sixteen, by one node and by a node for each
-# connection: calls a second, the median and the 99th percentile. First on a file in the folder for temporary
-# files (TMPDIR), whose sync is timed, and then on one in memory. The words are how many addresses each run
-# adds and deletes (2000) and the port (9431).
+# connection: calls a second, the median and the 99th percentile. First it uses a file in the folder for
+# temporary files (TMPDIR) and times its sync, and then a file in memory. The words are how many addresses each
+# run adds and deletes (2000) and the port (9431).
 set -eu
 top=$(cd "$(dirname "$0")/.." && pwd)
 calls=${1:-2000}

@@ -1,8 +1,8 @@
 #!/usr/bin/env python3
-"""Kills a daemon under sixteen clients, and compares its file with what they were told.
+"""Kills a daemon under sixteen clients, and compares its file with the replies that they got.
 
-The words are the program, a folder for the file, how many kills, the port and a seed. A client does as a
-kubelet: a call that got no reply is followed by a DEL of its container, until one is answered.
+The words are the program, a folder for the file, how many kills, the port and a seed. A client acts as a
+kubelet does: after a call without a reply it makes a DEL of that container, until one is answered.
 """
 
 import json

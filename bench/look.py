@@ -3,8 +3,9 @@
 
     bench/look.py PROGRAM
 
-Each configuration has one member that is passed over, which fills it. VERSION reads it and answers;
-ADD tests it whole and finds no pool. What is told is above what the same call takes with a short one.
+Each configuration has one member that the program ignores, which fills it. VERSION reads the whole and
+answers. ADD tests the whole and finds no pool. The printed time is the difference to the same call with a
+short configuration.
 """
 import json
 import os

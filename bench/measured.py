@@ -1,4 +1,4 @@
-"""Runs the program and tells how long it took, how much memory, and what it wrote."""
+"""Runs the program and reports its time, its memory and its output."""
 import os
 import statistics
 import subprocess

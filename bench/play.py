@@ -1,5 +1,5 @@
 #!/usr/bin/env python3
-"""Plays long scripts, and tells how many entries a second were made and what the most memory was.
+"""Plays long scripts, and reports the entries a second and the most memory.
 
     bench/play.py PROGRAM
 

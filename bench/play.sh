@@ -1,5 +1,5 @@
 #!/usr/bin/env bash
-# Plays long scripts, and tells how many entries a second were made and what the most memory was.
+# Plays long scripts, and reports the entries a second and the most memory.
 set -eu
 top=$(cd "$(dirname "$0")/.." && pwd)
 program=$("$top/bench/program.sh")

@@ -1,4 +1,4 @@
-"""Makes scripts for `play`, and tells what their answers are."""
+"""Makes scripts for `play`, with their answers."""
 import ipaddress
 
 from bases import Block, row_lines, rows_of, so_many_rows, text

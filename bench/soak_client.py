@@ -1,5 +1,5 @@
 #!/usr/bin/env python3
-"""Loads a daemon by sixteen clients for some minutes, and compares its file with what they were told.
+"""Loads a daemon with sixteen clients for some minutes, and compares its file with the replies that they got.
 
 The words are the program, a folder for the file, how many minutes, the port and a seed. Each client has a
 network of its own, so that what it collects is its own; they share the nodes and their blocks.

@@ -1,11 +1,11 @@
 #!/usr/bin/env python3
 """Bad input for every reader of bytes that the program reaches, and long input for its times.
 
-For each reader a hundred inputs are made of good ones by changes at random, and given to the program.
-What it has to answer is said by the second readers of this folder and by Python's `json`. The seed is
-fixed, so two runs try the same. Lines of a session are sent to the daemon, and the client reads the
-replies of a small one that only seems a daemon. Then come inputs that are deep, long or many, of two
-sizes each, and the time of each: what takes much more than the bytes that were added allow is told.
+For each reader the script makes a hundred inputs from good ones by random changes, and gives them to the
+program. The second readers of this folder and Python's `json` decide what the program has to answer. The
+seed is fixed, so two runs try the same. Lines of a session go to the daemon. The client reads the replies
+of a small server that imitates a daemon. Then come inputs that are deep, long or many, in two sizes each,
+with their times. The script reports an input that takes much longer than its added bytes explain.
 
     tools/bad_input.py              by ./ipam, all of it
     tools/bad_input.py PROGRAM [COUNT [SEED]]

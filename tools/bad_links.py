@@ -1,4 +1,4 @@
-"""Bad input for the two readers behind a socket: a session of the daemon, and the client that reads a reply."""
+"""Bad input for the two readers behind a socket: a session of the daemon, and the client."""
 
 import json
 import sqlite3

@@ -1,10 +1,10 @@
 #!/usr/bin/env python3
-"""Writes broken.rt and broken_rows.rt of crates/ipam_cni_tests/src: CNI calls with one thing broken each, and what is told of them.
+"""Writes broken.rt and broken_rows.rt of crates/ipam_cni_tests/src: CNI calls with one thing broken each, and their replies.
 
-What is broken is a member, a variable, a version or the input of a call (the calls of tools/cni_table.py
-whose code and details are stated there), or one thing about the rows that the call meets, or what it
-asks of them. The reply to each is stated here by its code and details and put together byte for byte;
-nothing of the program is run. Each command is also called with nothing broken, and succeeds.
+In each call one thing is broken: a member, a variable, a version or the input (the calls of
+tools/cni_table.py with code and details), the rows, or what the call asks of the rows. This script states
+the code and the details of each reply and builds its bytes. It runs nothing of the program. Each command
+is also called with nothing broken, and succeeds.
 
 Run it from the top of the repository: python3 tools/broken_calls.py
 """

@@ -1,10 +1,10 @@
 #!/usr/bin/env python3
-"""Writes crates/cni_types_tests/src/call_table.rt: CNI calls and what must be read of each.
+"""Writes crates/cni_types_tests/src/call_table.rt: CNI calls, and what must be read from each.
 
-The reader below is written from the rules alone. A line has the environment, standard input, and
-what the call asks or `refused`, the version, the code and the details. The first lines have one
-thing broken each, with the code and the details stated by hand; the script stops where its own
-reader says otherwise. The last lines have several things broken, so that the order shows.
+The reader below was written only from the rules. A line has the environment, standard input, and
+what the call asks, or `refused` with the version, the code and the details. The first lines have one
+thing broken each, with the code and the details stated by hand. The script stops if its own reader
+disagrees. The last lines have several things broken, so that the order of the tests shows.
 
 Run it from the top of the repository: python3 tools/cni_table.py
 """

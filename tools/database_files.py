@@ -4,10 +4,10 @@ was killed, or that failed, at each of its writes.
 
     tools/database_files.py [PROGRAM]        else release/ipam
 
-Whatever the file is, the program has to end with a status of its own, and Python's SQLite has to find
-the rows afterwards: those from before, or those with a front part of what was asked, in which is all
-that was told as applied. A line tells each case that failed. The last one is 'N passed, M failed'.
-Needs Linux, and strace for the writers that are killed or failed: without it their cases fail.
+Whatever the file is, the program has to end with one of its statuses. Afterwards Python's SQLite has to
+find the rows from before, or those after a front part of what was asked, with everything that was reported
+as applied. Each case that failed has a line. The last line is 'N passed, M failed'.
+It needs Linux, and strace for the writers that are killed or made to fail: without it those cases fail.
 """
 import json
 import os

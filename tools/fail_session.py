@@ -1,14 +1,14 @@
 #!/usr/bin/env python3
 """Refuses memory to a session of the daemon, one allocation at a time, from where the client connects.
 
-Each line of the session has to have its own reply, or the session ends without it; the rows have to be those
-behind the lines that were replied to and a front part of the writes of the next one, by the second allocator.
-A further session of the same daemon, which has all its memory, then goes on from these rows. Usage:
+Each line of the session has to get its own reply, or the session ends without it. The second allocator
+decides which rows may be left: those after the lines with a reply and a front part of the writes of the next
+line. A further session of the same daemon, with all its memory, then goes on from these rows. Usage:
 
     tools/fail_session.py PROGRAM REFUSE FOLDER
 
-REFUSE is the library that refuses the allocation whose number stands in the file REFUSED, which it counts
-down (tools/fail_alloc.sh makes it); files are put into the folder.
+REFUSE is the library that refuses one allocation (tools/fail_alloc.sh builds it). The file REFUSED has the
+number of that allocation, and the library counts it down. The script puts its files into FOLDER.
 """
 
 import json

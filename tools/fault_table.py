@@ -1,17 +1,17 @@
 #!/usr/bin/env python3
-"""Writes what the tests of faults and stops expect, by the second allocator.
+"""Writes the tables of the tests of faults and stops, by the second allocator.
 
 Stops: four requests race in four slots, an ADD on each of two nodes, the release of a block and a
 collection, round by round. For each turn of theirs, and for each of `stop`, `fail` and `lose` in its
-place, the others go on to their ends; then all is stopped and opened again, and both handles are
+place, the others go on to their ends. Then everything is stopped and opened again, and both handles are
 deleted. The second allocator has to leave no owner. A row of the table is the run, a sign for each
 line of its script.
 
-Doubts: a call by itself, a write of which fails, done or not; what is told of it and of the calls
-behind it, and the rows that are left.
+Doubts: a call by itself of which a write fails, done or not. The table has its reply, the replies to the
+calls after it, and the rows that are left.
 
 Run it from the top of the repository: python3 tools/fault_table.py
-With --states FOLDER it writes there an ADD, and the rows behind each front part of its writes.
+With --states FOLDER it writes an ADD there, and the rows after each front part of its writes.
 """
 
 import json

@@ -1,10 +1,9 @@
 #!/usr/bin/env python3
-"""Writes the scripts that `play` is tested with, and what must be written of each.
+"""Writes the scripts that `play` is tested with, and what `play` must write for each.
 
-What is expected is the second allocator's, but for scripts that are refused before anything happens,
-of which it is said here. Beside some scripts stand lines that were worked out by hand: the second
-allocator's journal has to have them. Of long journals the table has a sum of the bytes that are
-expected.
+The second allocator gives what is expected. For scripts that are refused before anything happens, this
+script states it. Some scripts have lines that were worked out by hand, and the second allocator's journal
+has to contain them. For a long journal the table has only a sum of the expected bytes.
 
 Run it from the top of the repository: python3 tools/play_table.py
 """

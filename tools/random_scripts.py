@@ -1,12 +1,12 @@
 #!/usr/bin/env python3
 """Random scripts, and their comparison with the second allocator.
 
-Each script has a base of a few small pools, and then begins requests in some slots, and gives them
-turns, failures, stops and restarts at random, none of which is refused. The same number gives the
-same script. Usage:
+Each script has a base of a few small pools. It then begins requests in some slots, and gives them
+random turns, failures, stops and restarts, none of which is refused. The same number gives the same
+script. Usage:
 
     tools/random_scripts.py NUMBER                    prints the script of this number
-    tools/random_scripts.py FIRST LAST PROGRAM ARG..  plays each by the program, and tells where the
+    tools/random_scripts.py FIRST LAST PROGRAM ARG..  plays each by the program, and reports where the
                                                       journal is not the second allocator's
 """
 

@@ -1,7 +1,7 @@
 #!/usr/bin/env python3
 """Writes tables.rt and table_tests.rt of crates/ipam_request_tests/src: texts of requests and of live lists, and what is read from each.
 
-The reader below is written from the format alone, over Python's own `json` and `ipaddress`. A row
+The reader below was written only from the format, over Python's own `json` and `ipaddress`. A row
 has a text, and the printed text of what it is read as, or `unreadable`.
 
 Run it from the top of the repository: python3 tools/request_table.py

@@ -1,8 +1,8 @@
 #!/usr/bin/env python3
 """Writes tables.rt and table_tests.rt of crates/ipam_resources_tests/src: documents of resources and what must be read from each.
 
-The reader below is written from the format alone, over Python's own `json` and `ipaddress`. A row
-has a document and what is told of it: for each resource its line and the text of the request that it
+The reader below was written only from the format, over Python's own `json` and `ipaddress`. A row
+has a document and what comes of it: for each resource its line and the text of the request that it
 becomes, or the line of the document's fault.
 
 Run it from the top of the repository: python3 tools/resource_table.py

@@ -1,10 +1,10 @@
 #!/usr/bin/env python3
-"""A second allocator, written from the rules and formats alone, to compare journals with.
+"""A second allocator, written only from the rules and formats, to compare journals with.
 
 It plays a script as `ipam play` does: it reads lines from standard input, and writes the journal and
-the line of a refusal; its status is 0 or 8. It shares no code with the product, and is slow and
-short. It reads sound scripts: it opens any rows, and tells `unreadable` only of lines that have no
-form at all. Usage:
+the line of a refusal. Its status is 0 or 8. It shares no code with the product, and is slow and short.
+It reads sound scripts: it opens any rows, and reports `unreadable` only for lines that have no form at
+all. Usage:
 
     tools/second_allocator.py < examples/first-run.script
     tools/second_allocator.py --gen N

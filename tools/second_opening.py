@@ -1,4 +1,4 @@
-"""Which of the ten rules rows break first, by a reader of rows that was written from the formats alone."""
+"""Finds the first of the ten rules that rows break. The reader of rows was written only from the formats."""
 
 import json
 import re

@@ -1,5 +1,5 @@
-"""Sessions of the daemon by the second allocator: which reply each line of a session has, written from
-the rules and formats alone. One session runs at a time, and its requests run to their answers."""
+"""Sessions of the daemon by the second allocator: the reply to each line, written only from the rules and
+formats. One session runs at a time, and its requests run to their answers."""
 
 import cni_table
 import request_table

@@ -1,9 +1,9 @@
 #!/usr/bin/env python3
 """Writes crates/ipam_select_tests/src/table_tests.rt: selector texts and what must be read from each.
 
-The parser, the printer and the matcher below are written from the grammar alone. A line has a
-text, the printed form of what it is read as, and for each of three lists of labels `y` or `n`; or
-`form` or `long` in place of these, where it is refused.
+The parser, the printer and the matcher below were written only from the grammar. A line has a text,
+the printed form of what it is read as, and `y` or `n` for each of three lists of labels. A text that is
+refused has `form` or `long` in place of these.
 
 Run it from the top of the repository: python3 tools/selector_table.py
 """

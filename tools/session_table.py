@@ -1,8 +1,8 @@
 #!/usr/bin/env python3
-"""Writes crates/ipam_session_tests/src/table_tests.rt: lines of a session and what must be read of each.
+"""Writes crates/ipam_session_tests/src/table_tests.rt: lines of a session, and what must be read from each.
 
-The reader below is written from the format alone, over Python's own `json`. A row has a line and
-what it asks, or `line` where it asks nothing that is known.
+The reader below was written only from the format, over Python's own `json`. A row has a line and what
+it asks, or `line` if it asks for nothing that is known.
 
 Run it from the top of the repository: python3 tools/session_table.py
 """
