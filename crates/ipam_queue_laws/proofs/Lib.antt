@@ -1,0 +1,4 @@
+-- Proofs of the laws.
+mod Ahead
+mod QueueSteps
+mod QueueHistory

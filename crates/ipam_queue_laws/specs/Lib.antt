@@ -1,0 +1,2 @@
+-- The order of the queue of a block, over a whole history.
+pub mod Queues
