@@ -2,3 +2,4 @@
 mod Ahead
 mod QueueSteps
 mod QueueHistory
+mod Whole
