@@ -1,6 +1,6 @@
 -- What the answers of a turn come to.
 use Rattle.std.proofs.Common.{◌≡◌, ◌↔◌, ◌⊎◌, ◌<◌, ◌≤◌, ℕ, ◌+◌, arith, true, inl, inr, List, [], ◌∷◌, Option, Some, None, Result, Ok, Err, IsSome, refl, sym, ap, ◌∙◌, subst}
-use Rattle.std.specs.Prelude.{IfOk, IfSome, OnErr, option_map}
+use Rattle.std.specs.Prelude.{IfOk, IfSome, OnErr, OnOk, option_map}
 use Rattle.ipam_model.specs.declared.answer.Answer.{Answer}
 use Rattle.ipam_model.specs.declared.entry.Called.{Called as OneCall}
 use Rattle.ipam_model.specs.declared.entry.Entry.{Entry}
@@ -34,6 +34,10 @@ pub on-err : {T E : Type 0} {P : Type 0} (r : Result T E) → P → OnErr r P
 on-err (Ok value) p = tt
 on-err (Err error) p = p
 
+pub on-ok : {T E : Type 0} {P : Type 0} (r : Result T E) → P → OnOk r P
+on-ok (Ok value) p = p
+on-ok (Err error) p = tt
+
 -- ---- a refusal
 
 unless-err : {E : Type 0} (T : Type 0) (fault : SharedFault E) (p : Type 0) → (fault ≡ SpentPass → ⊥) → UnlessSpent {T = T} {E = E} (Err fault) p → p
@@ -50,6 +54,9 @@ module _ {T E : Type 0} (old new : PassValue) (fault : SharedFault E) (spent : (
   pub took-err : IsSamePass old new → UnlessSpent {T = T} {E = E} (Err fault) (SeesNext old [] new) → UnlessSpent {T = T} {E = E} (Err fault) (new.left + 1 ≡ old.left) → Took old [] 1 new
   took-err same sees left =
       took-none old new same (sees-none sees) (unless-err T fault (new.left + 1 ≡ old.left) (not-spent {T = T} fault old.left spent enough) left) enough
+
+  pub one-err : UnlessSpent {T = T} {E = E} (Err fault) (new.left + 1 ≡ old.left) → new.left + 1 ≡ old.left
+  one-err left = unless-err T fault (new.left + 1 ≡ old.left) (not-spent {T = T} fault old.left spent enough) left
 
 -- ---- a call
 

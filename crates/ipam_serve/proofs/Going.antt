@@ -12,7 +12,7 @@ use Rattle.ipam_serve.specs.declared.ran.Broken.TheVariants.{Halted, Worn, Memor
 use Rattle.ipam_serve.specs.declared.ran.Ran.{Ran}
 use Rattle.ipam_serve.specs.declared.ran.Ran.TheVariants.{Answered, Waits}
 use Rattle.ipam_serve.specs.Faults.{Halts, IfAnswered, OnWaits, OnWorn, answer_ran, spared_by}
-use Rattle.ipam_serve.specs.Gains.{Took, asked_in, is_early, is_waiting}
+use Rattle.ipam_serve.specs.Gains.{Took, asked_after, asked_in, is_early, is_waiting}
 use Rattle.ipam_serve.specs.Runs.{Does, DoesPart, FeedsList, Taker, WentOn}
 use Rattle.ipam_serve.specs.Spans.{Begins, Calls, Deed, Feeds, list_deed, own_feed}
 use Rattle.ipam_serve.specs.Turns.{Fed}
@@ -144,3 +144,34 @@ pub halts-on : (broken : Broken) (one two three : ℕ) → two ≡ one → Halts
 halts-on Halted one two three same h = subst (λ (n : ℕ). Rose n three) same h
 halts-on Worn one two three same h = h ∙ same
 halts-on Memory one two three same h = h ∙ same
+
+-- ---- too few turns, or too many entries
+
+-- a fact of any end is one of this kind
+pub worn-any : (why : Broken) (p : Type 0) → p → OnWorn {T = Unit {0}} (Err why) p
+worn-any Halted p a = tt
+worn-any Worn p a = a
+worn-any Memory p a = tt
+
+-- two facts make a third
+pub worn-both : (why : Broken) (p q r : Type 0) → (p → q → r) → OnWorn {T = Unit {0}} (Err why) p → OnWorn {T = Unit {0}} (Err why) q → OnWorn {T = Unit {0}} (Err why) r
+worn-both Halted p q r from a b = tt
+worn-both Worn p q r from a b = from a b
+worn-both Memory p q r from a b = tt
+
+pub worn-so : {T : Type 0} (r : Result T Broken) (p q : Type 0) → (p → q) → OnWorn r p → OnWorn r q
+worn-so (Ok value) p q from a = tt
+worn-so (Err Halted) p q from a = tt
+worn-so (Err Worn) p q from a = from a
+worn-so (Err Memory) p q from a = tt
+
+pub worn-from : {T : Type 0} (r : Result T Broken) (p q s : Type 0) → (p → q → s) → OnWorn r p → OnWorn r q → OnWorn r s
+worn-from (Ok value) p q s from a b = tt
+worn-from (Err Halted) p q s from a b = tt
+worn-from (Err Worn) p q s from a b = from a b
+worn-from (Err Memory) p q s from a b = tt
+
+-- what runs still does, where the slot gained no entry
+pub still-runs : (old new : PassValue) (spared : ℕ) → Took old [] spared new → IsSome (runs_in old) → IsSome (runs_in new)
+unfolding asked_after
+still-runs old new spared took runs = same-some (runs_in new) (runs_in old) took.runs runs

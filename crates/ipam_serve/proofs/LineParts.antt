@@ -1,5 +1,5 @@
 -- What a line comes to.
-use Rattle.std.proofs.Common.{◌≡◌, ◌↔◌, ◌≤◌, ℕ, arith, Bool, true, false, inl, inr, List, [], ◌∷◌, Option, Some, None, Result, Ok, Err, IsSome, IsTrue, refl, sym, ap, subst}
+use Rattle.std.proofs.Common.{◌≡◌, ◌↔◌, ◌⊎◌, ◌<◌, ◌≤◌, ◌^◌, ℕ, arith, Bool, true, false, inl, inr, List, [], ◌∷◌, Option, Some, None, Result, Ok, Err, IsSome, IsTrue, refl, sym, ap, subst}
 use Rattle.std.specs.Prelude.{IfOk, OnErr, option_map}
 use Rattle.ipam_io.specs.Readings.{prepend_known_readings}
 use Rattle.ipam_addr.specs.Shape.{AddrValue}
@@ -8,6 +8,7 @@ use Rattle.ipam_model.specs.declared.entry.Entry.TheVariants as entry
 use Rattle.ipam_model.specs.declared.request.AddRequest.{AddRequest}
 use Rattle.ipam_model.specs.declared.request.Request.{Request}
 use Rattle.ipam_model.specs.Cluster.{Running}
+use Rattle.ipam_model.specs.History.{moment_of}
 use Rattle.cni_types.specs.declared.calls.Look.{Look}
 use Rattle.cni_types.specs.declared.calls.Look.TheVariants.{Version, Add, Del, Check, Gc, Status}
 use Rattle.cni_types.specs.declared.error.CniError.{CniError}
@@ -29,14 +30,14 @@ use Rattle.ipam_shared.specs.Passes.{runs_in}
 use Rattle.ipam_serve.specs.declared.ran.Broken.{Broken}
 use Rattle.ipam_serve.specs.declared.ran.Ran.{Ran}
 use Rattle.ipam_serve.specs.declared.ran.Ran.TheVariants.{Answered, Waits}
-use Rattle.ipam_serve.specs.Faults.{IfAnswered, OnWaits, answer_ran, spared_by}
-use Rattle.ipam_serve.specs.Gains.{Took, asked_after, calls_in, is_early, is_waiting}
-use Rattle.ipam_serve.specs.Lines.{Breaks, Replies, Server, TellsRun, deed_of, is_collect, reading, reads_clock, reply_fed, reply_ran, server_at, standing, timed}
+use Rattle.ipam_serve.specs.Faults.{IfAnswered, IsWorn, OnWaits, answer_ran, spared_by}
+use Rattle.ipam_serve.specs.Gains.{Gained, Took, asked_after, calls_in, is_early, is_waiting}
+use Rattle.ipam_serve.specs.Lines.{Breaks, IsUnanswered, Replies, Server, TakesTurn, TellsRun, WearsOut, deed_of, wants_entry, is_collect, reading, reads_clock, reply_fed, reply_ran, server_at, standing, timed}
 use Rattle.ipam_serve.specs.Runs.{Does, DoesPart, FeedsList, IsAtRest, Taker}
 use Rattle.ipam_serve.specs.Spans.{Begins, Calls, Deed, Feeds, IsTimeless, Nothing, list_deed}
 use Rattle.ipam_serve.proofs.Going.{does-spared}
 use Rattle.ipam_serve.proofs.Running.{does-part, none-asked, part-spared}
-use Rattle.ipam_serve.proofs.Turning.{passed-nothing, took-rest, took-spared}
+use Rattle.ipam_serve.proofs.Turning.{passed-nothing, took-nothing, took-rest, took-spared}
 
 -- ---- what runs
 
@@ -63,29 +64,30 @@ reads-none (Some ahead) = refl
 
 module _ (server : Server) where
   nothing : (asked : Option Wish) (one : Reply) → deed_of asked (runs_in server.taker.pass) 0 ≡ Nothing → reads_clock asked (runs_in server.taker.pass) ≡ false
-      → reply_unless_unread asked (standing server.taker.pass server.taker.pass 0 None) ≡ Some one → Replies asked one server server
-  nothing asked one deed reads replied = record {
+      → TakesTurn asked server.taker.pass server.taker.pass → reply_unless_unread asked (standing server.taker.pass server.taker.pass 0 None) ≡ Some one → Replies asked one server server
+  nothing asked one deed reads turned replied = record {
     at = 0;
     answer = None;
     does = subst (λ (d : Deed). Does server.taker d None 1 server.taker) (sym deed) (does-nothing server.taker);
     reads = subst (λ (b : Bool). server.ahead ≡ prepend_known_readings (reading b 0) server.ahead) (sym reads) (reads-none server.ahead);
+    turned = turned;
     replied = replied;
   }
 
   pub unread : Replies None (reply.Refused refusal.Line) server server
-  unread = nothing None (reply.Refused refusal.Line) refl refl refl
+  unread = nothing None (reply.Refused refusal.Line) refl refl tt refl
 
   pub call-waiting : (env : List Pair) (stdin : List ℕ) → is_waiting (runs_in server.taker.pass) ≡ true → Replies (Some (wish.Cni env stdin)) (reply.Refused refusal.Waiting) server server
-  call-waiting env stdin waits = nothing (Some (wish.Cni env stdin)) (reply.Refused refusal.Waiting) (rw waits refl) refl (rw waits refl)
+  call-waiting env stdin waits = nothing (Some (wish.Cni env stdin)) (reply.Refused refusal.Waiting) (rw waits refl) refl tt (rw waits refl)
 
   pub request-waiting : (request : Request) → is_waiting (runs_in server.taker.pass) ≡ true → Replies (Some (wish.Request request)) (reply.Refused refusal.Waiting) server server
-  request-waiting request waits = nothing (Some (wish.Request request)) (reply.Refused refusal.Waiting) (rw waits refl) (rw waits refl) (rw waits refl)
+  request-waiting request waits = nothing (Some (wish.Request request)) (reply.Refused refusal.Waiting) (rw waits refl) (rw waits refl) tt (rw waits refl)
 
   pub feed-idle : (live : List (List ℕ)) → is_waiting (runs_in server.taker.pass) ≡ false → Replies (Some (wish.Feed live)) (reply.Refused refusal.NotWaiting) server server
-  feed-idle live idle = nothing (Some (wish.Feed live)) (reply.Refused refusal.NotWaiting) (rw idle refl) idle (rw idle refl)
+  feed-idle live idle = nothing (Some (wish.Feed live)) (reply.Refused refusal.NotWaiting) (rw idle refl) idle tt (rw idle refl)
 
   pub stop-idle : is_waiting (runs_in server.taker.pass) ≡ false → Replies (Some wish.Stop) (reply.Refused refusal.NotWaiting) server server
-  stop-idle idle = nothing (Some wish.Stop) (reply.Refused refusal.NotWaiting) (rw idle refl) refl (rw idle refl)
+  stop-idle idle = nothing (Some wish.Stop) (reply.Refused refusal.NotWaiting) (rw idle refl) refl tt (rw idle refl)
 
   -- as far as it came, which is nowhere
   pub breaks-at-once : (asked : Option Wish) → Breaks asked server server
@@ -111,6 +113,7 @@ module _ (old new : Server) (request : Request) (at : ℕ) (idle : is_waiting (r
     answer = Some told;
     does = request-did (Some told) 0 (omega arith) d;
     reads = request-reads;
+    turned = tt;
     replied = let not = none-waits (runs_in new.taker.pass) none in rw (idle, not) refl;
   }
   request-replies Waits d none waits = record {
@@ -118,6 +121,7 @@ module _ (old new : Server) (request : Request) (at : ℕ) (idle : is_waiting (r
     answer = None;
     does = request-did None 1 (omega arith) d;
     reads = request-reads;
+    turned = tt;
     replied = rw (idle, waits) refl;
   }
 
@@ -140,6 +144,7 @@ module _ (old new : Server) (live : List (List ℕ)) (at : ℕ) (waits : is_wait
     answer = None;
     does = rw (waits, early) d;
     reads = feed-reads;
+    turned = tt;
     replied = rw (waits, early) refl;
   }
   feed-replies (Some told) (due, none, d) = record {
@@ -147,6 +152,7 @@ module _ (old new : Server) (live : List (List ℕ)) (at : ℕ) (waits : is_wait
     answer = Some told;
     does = rw (waits, due) (does-spared old.taker new.taker (Feeds live at) (Some told) 0 1 (omega arith) d);
     reads = feed-reads;
+    turned = tt;
     replied = rw (waits, due) refl;
   }
 
@@ -180,6 +186,7 @@ stop-replies server new waits took = record {
     passed = let p = passed-nothing server.taker.turns in record { passes = p.passes; enough = omega arith; counts = p.counts };
   });
   reads = reads-none server.ahead;
+  turned = tt;
   replied = rw waits refl;
 }
 
@@ -216,7 +223,7 @@ call-timeless env stdin request version e = look-timeless (look_reading env stdi
 
 module _ (server : Server) (env : List Pair) (stdin : List ℕ) (idle : is_waiting (runs_in server.taker.pass) ≡ false) where
   pub call-told : (status : ℕ) (text : List ℕ) → call_begun env stdin ≡ Some (Told status text) → Replies (Some (wish.Cni env stdin)) (reply.Called status text) server server
-  call-told status text begun = nothing server (Some (wish.Cni env stdin)) (reply.Called status text) (rw (idle, begun) refl) refl (rw (idle, begun) refl)
+  call-told status text begun = nothing server (Some (wish.Cni env stdin)) (reply.Called status text) (rw (idle, begun) refl) refl tt (rw (idle, begun) refl)
 
   pub call-replies : (new : Taker) (request : Request) (version : versions.Version) (one : Reply) → call_begun env stdin ≡ Some (Runs request version) → TellsRun request version server.taker one new → Replies (Some (wish.Cni env stdin)) one server (record { taker = new; ahead = server.ahead })
   call-replies new request version one begun t = record {
@@ -224,6 +231,7 @@ module _ (server : Server) (env : List Pair) (stdin : List ℕ) (idle : is_waiti
     answer = Some t.told;
     does = rw (idle, begun) t.does;
     reads = reads-none server.ahead;
+    turned = tt;
     replied = rw (idle, begun) t.tells;
   }
 
@@ -255,3 +263,29 @@ told-so old new request version told (Err broken) d t = tt
 pub told-broken : (old new : Taker) (request : Request) (told : Answer) (r : Result Reply Broken) → Does old (Calls request) (Some told) 1 new → OnErr r (DoesPart old (Calls request) 2 new)
 told-broken old new request told (Ok one) d = tt
 told-broken old new request told (Err broken) d = part-spared old new (Calls request) 1 2 (omega arith) (does-part old new (Calls request) (Some told) 1 d)
+
+-- ---- too few turns, or too many entries
+
+-- where the line wants an entry
+full : (asked : Option Wish) (new : PassValue) → wants_entry asked ≡ true → IsWorn new → (new.left < 2) ⊎ ((wants_entry asked ≡ true) × (2 ^ 62 ≤ moment_of new.base new.seen))
+full asked new wants (inl few) = inl few
+full asked new wants (inr many) = inr (wants, many)
+
+module _ (old new : PassValue) where
+  pub request-wears : (request : Request) → is_waiting (runs_in old) ≡ false → IsWorn new → IsUnanswered old new → WearsOut (Some (wish.Request request)) old new
+  request-wears request idle worn unanswered = record { due = rw idle refl; worn = full (Some (wish.Request request)) new refl worn; unanswered = unanswered }
+
+  pub call-wears : (env : List Pair) (stdin : List ℕ) (request : Request) (version : versions.Version) → is_waiting (runs_in old) ≡ false → call_begun env stdin ≡ Some (Runs request version) → IsWorn new → IsUnanswered old new → WearsOut (Some (wish.Cni env stdin)) old new
+  call-wears env stdin request version idle begun worn unanswered = record { due = rw (idle, begun) refl; worn = full (Some (wish.Cni env stdin)) new refl worn; unanswered = unanswered }
+
+  pub feed-wears : (live : List (List ℕ)) → is_waiting (runs_in old) ≡ true → IsWorn new → IsSome (runs_in new) → WearsOut (Some (wish.Feed live)) old new
+  feed-wears live waits worn runs = record { due = waits; worn = full (Some (wish.Feed live)) new refl worn; unanswered = inr runs }
+
+  pub stop-wears : is_waiting (runs_in old) ≡ true → new ≡ old → new.left < 2 → WearsOut (Some wish.Stop) old new
+  stop-wears waits same few = record { due = waits; worn = inl few; unanswered = inl (subst (λ (p : PassValue). Gained old.slot old.seen [] p.seen) (sym same) (took-nothing old).gained) }
+
+  pub routes-wears : Took old [] 1 new → new.left < 2 → WearsOut (Some wish.Routes) old new
+  routes-wears took few = record { due = refl; worn = inl few; unanswered = inl took.gained }
+
+  pub since-wears : (revision : ℕ) → Took old [] 1 new → new.left < 2 → WearsOut (Some (wish.RoutesSince revision)) old new
+  since-wears revision took few = record { due = refl; worn = inl few; unanswered = inl took.gained }

@@ -1,5 +1,5 @@
 -- What a line that asks for routes comes to.
-use Rattle.std.proofs.Common.{◌≡◌, ◌↔◌, ◌<◌, ℕ, arith, ltb-true, lt-ltb, Bool, true, false, inl, List, [], Option, Some, None, Result, Ok, Err, refl, sym, ap, ◌∙◌, subst}
+use Rattle.std.proofs.Common.{◌≡◌, ◌↔◌, ◌<◌, ℕ, ◌+◌, arith, ltb-true, lt-ltb, Bool, true, false, inl, List, [], Option, Some, None, Result, Ok, Err, refl, sym, ap, ◌∙◌, subst}
 use Rattle.std.specs.Prelude.{IfOk, nat_lt}
 use Rattle.ipam_model.specs.Cluster.{Running}
 use Rattle.ipam_model.specs.History.{store_at}
@@ -79,23 +79,25 @@ told-faults old new revision some_left fault (Err broken) compacted ahead h = tt
 -- ---- the line
 
 module _ (server : Server) (new : PassValue) (took : Took server.taker.pass [] 1 new) where
-  pub routes-replies : (counter : ℕ) (routes : List Route) → AreRoutes new.base new.seen counter routes
+  pub routes-replies : (counter : ℕ) (routes : List Route) → AreRoutes new.base new.seen counter routes → new.left + 1 ≡ server.taker.pass.left
       → Replies (Some wish.Routes) (reply.Routes counter routes) server (server_at new server.taker.turns server.ahead)
-  routes-replies counter routes are = record {
+  routes-replies counter routes are one = record {
     at = 0;
     answer = None;
     does = record { entries = []; did = (refl, refl); took = took; passed = passed-nothing server.taker.turns };
     reads = reads-none server.ahead;
+    turned = one;
     replied = λ i. Some (reply.Routes (sym are.is_counter i) (sym are.are_routes i));
   }
 
-  pub since-replies : (revision : ℕ) (since : Since) → since ≡ since_in new revision
+  pub since-replies : (revision : ℕ) (since : Since) → since ≡ since_in new revision → new.left + 1 ≡ server.taker.pass.left
       → Replies (Some (wish.RoutesSince revision)) (reply.RoutesSince since) server (server_at new server.taker.turns server.ahead)
-  since-replies revision since is = record {
+  since-replies revision since is one = record {
     at = 0;
     answer = None;
     does = record { entries = []; did = (refl, refl); took = took; passed = passed-nothing server.taker.turns };
     reads = reads-none server.ahead;
+    turned = one;
     replied = ap (λ (s : Since). Some (reply.RoutesSince s)) (sym is);
   }
 

@@ -18,9 +18,9 @@ use Rattle.ipam_serve.specs.declared.ends.SessionEnd.{SessionEnd}
 use Rattle.ipam_serve.specs.declared.ends.SessionEnd.TheVariants as end
 use Rattle.ipam_serve.specs.declared.ran.Broken.{Broken}
 use Rattle.ipam_serve.specs.declared.ran.Broken.TheVariants.{Halted, Worn, Memory}
-use Rattle.ipam_serve.specs.Faults.{IsWorn, OnWorn}
+use Rattle.ipam_serve.specs.Faults.{OnWorn}
 use Rattle.ipam_serve.specs.Gains.{Gained, Passed, Took, asked_after, asked_in, calls_in}
-use Rattle.ipam_serve.specs.Lines.{Breaks, Replies, Server, asked_by}
+use Rattle.ipam_serve.specs.Lines.{Breaks, Replies, Server, WearsOut, asked_by}
 use Rattle.ipam_serve.specs.Runs.{Taker}
 use Rattle.ipam_serve.specs.Sessions.{Ends, Exchange, Exchanges, IsCause, IsStopped, Leaves, LeavesUndone, LeavesUntold, Nothing, ReadsLine, Rest, Serves, Session, StopsLast, Sums, Talk, Talks, Undone, Untold, end_of, lines_in, lines_read, with_pass}
 use Rattle.ipam_serve.proofs.Entries.{of_slot-told}
@@ -176,15 +176,15 @@ module _ (line : List ℕ) (old new : Talk) (turns : Option ℕ) (coming mid : O
   reads-new = record { is_line = reads.is_line; bytes = reads.bytes ∙ ap (prepend_known (line ++ 10 ∷ [])) (sym same) }
 
   -- it was not done to its end
-  pub ends-undone : (why : Broken) → Breaks (asked_by line) (with_turns turns old.server) new.server → OnWorn {T = Reply} (Err why) (IsWorn new.server.taker.pass) → new.written ≡ mid → Ends (end_of why) old new
+  pub ends-undone : (why : Broken) → Breaks (asked_by line) (with_turns turns old.server) new.server → OnWorn {T = Reply} (Err why) (WearsOut (asked_by line) old.server.taker.pass new.server.taker.pass) → new.written ≡ mid → Ends (end_of why) old new
   ends-undone why breaks worn written = record { rest = Undone line; leaves = leaves; cause = cause why worn }
     where
       leaves : LeavesUndone line old new
       leaves = record { reads = reads-new; breaks = subst (λ t. Breaks (asked_by line) (with_turns t old.server) new.server) same_turns breaks; writes = written ∙ kept }
 
-      cause : (b : Broken) → OnWorn {T = Reply} (Err b) (IsWorn new.server.taker.pass) → IsCause (end_of b) (Undone line) old.coming new.server.taker.pass
+      cause : (b : Broken) → OnWorn {T = Reply} (Err b) (WearsOut (asked_by line) old.server.taker.pass new.server.taker.pass) → IsCause (end_of b) (Undone line) old.coming old.server.taker.pass new.server.taker.pass
       cause Halted w = inr tt
-      cause Worn w = (tt, w)
+      cause Worn w = w
       cause Memory w = tt
 
   module _ (reply : Reply) (replied : Replies (asked_by line) reply (with_turns turns old.server) new.server) where
@@ -204,6 +204,6 @@ module _ (line : List ℕ) (old new : Talk) (turns : Option ℕ) (coming mid : O
         leaves : LeavesUntold line reply old new
         leaves = record { reads = reads-new; replies = replies-new; writes = subst (λ w. AppendsPrefix w new.written (reply_line reply)) kept part }
 
-        cause : (how ≡ end.WriteFault) ⊎ (how ≡ end.Memory) → IsCause how (Untold line reply) old.coming new.server.taker.pass
-        cause (inl e) = subst (λ h. IsCause h (Untold line reply) old.coming new.server.taker.pass) (sym e) tt
-        cause (inr e) = subst (λ h. IsCause h (Untold line reply) old.coming new.server.taker.pass) (sym e) tt
+        cause : (how ≡ end.WriteFault) ⊎ (how ≡ end.Memory) → IsCause how (Untold line reply) old.coming old.server.taker.pass new.server.taker.pass
+        cause (inl e) = subst (λ h. IsCause h (Untold line reply) old.coming old.server.taker.pass new.server.taker.pass) (sym e) tt
+        cause (inr e) = subst (λ h. IsCause h (Untold line reply) old.coming old.server.taker.pass new.server.taker.pass) (sym e) tt

@@ -1,5 +1,5 @@
 -- What a line has a session do, and what it is replied.
-use Rattle.std.specs.Prelude.{◌≡◌, ◌⊎◌, ℕ, Bool, true, false, List, [], ◌∷◌, Option, Some, None, option_map, nat_lt, if◌then◌else◌}
+use Rattle.std.specs.Prelude.{◌≡◌, ◌⊎◌, ℕ, ⊤, ◌+◌, ◌<◌, ◌≤◌, ◌^◌, Bool, true, false, not, IsSome, List, [], ◌∷◌, Option, Some, None, option_map, nat_lt, if◌then◌else◌}
 use Rattle.ipam_io.specs.Readings.{prepend_known_readings}
 use Rattle.ipam_model.specs.declared.answer.Answer.{Answer}
 use Rattle.ipam_model.specs.declared.request.Request.{Request}
@@ -8,7 +8,7 @@ use Rattle.ipam_feed.specs.Feed.{changes_since}
 use Rattle.ipam_feed.specs.Route.{routes_in}
 use Rattle.ipam_kept.specs.Feed.{floor_in, writes_in}
 use Rattle.ipam_model.specs.Cluster.{Running}
-use Rattle.ipam_model.specs.History.{store_at}
+use Rattle.ipam_model.specs.History.{moment_of, store_at}
 use Rattle.ipam_session.specs.declared.call.CallBegun.{CallBegun}
 use Rattle.ipam_session.specs.declared.call.CallBegun.TheVariants.{Told, Runs}
 use Rattle.ipam_session.specs.declared.replies.Reply.{Reply}
@@ -26,7 +26,7 @@ use Rattle.ipam_shared.specs.PassValue.{PassValue}
 use Rattle.ipam_shared.specs.Passes.{runs_in}
 use Rattle.ipam_serve.specs.declared.ran.Ran.{Ran}
 use Rattle.ipam_serve.specs.declared.ran.Ran.TheVariants.{Answered, Waits}
-use Rattle.ipam_serve.specs.Gains.{is_early, is_waiting}
+use Rattle.ipam_serve.specs.Gains.{Gained, is_early, is_waiting}
 use Rattle.ipam_serve.specs.Runs.{Does, DoesPart, Taker}
 use Rattle.ipam_serve.specs.Spans.{Begins, Calls, Deed, Nothing, Stops, list_deed}
 
@@ -109,12 +109,23 @@ pub record Server : Type 0 where
 abbrev pub server_at : PassValue → (turns : Option ℕ) → (ahead : Option (ℕ → ℕ)) → Server
 server_at pass turns ahead = record { taker = record { pass = pass; turns = turns }; ahead = ahead }
 
+-- a line on routes takes one turn, and what it is replied is from that turn
+abbrev pub TakesTurn : Option Wish → (old new : PassValue) → Type 0
+TakesTurn None old new = ⊤
+TakesTurn (Some (wish.Cni env stdin)) old new = ⊤
+TakesTurn (Some (wish.Request request)) old new = ⊤
+TakesTurn (Some (wish.Feed live)) old new = ⊤
+TakesTurn (Some wish.Stop) old new = ⊤
+TakesTurn (Some wish.Routes) old new = new.left + 1 ≡ old.left
+TakesTurn (Some (wish.RoutesSince revision)) old new = new.left + 1 ≡ old.left
+
 -- a wish was done, and this is its reply
 pub record Replies (asked : Option Wish) (reply : Reply) (old new : Server) : Type 0 where
   pub at : ℕ
   pub answer : Option Answer
   pub does : Does old.taker (deed_of asked (runs_in old.taker.pass) at) answer 1 new.taker
   pub reads : old.ahead ≡ prepend_known_readings (reading (reads_clock asked (runs_in old.taker.pass)) at) new.ahead
+  pub turned : TakesTurn asked old.taker.pass new.taker.pass
   pub replied : reply_unless_unread asked (standing old.taker.pass new.taker.pass at answer) ≡ Some reply
 
 -- a wish was done as far as it came
@@ -123,6 +134,44 @@ pub record Breaks (asked : Option Wish) (old new : Server) : Type 0 where
   pub does : DoesPart old.taker (deed_of asked (runs_in old.taker.pass) at) 2 new.taker
   pub reads : (new.ahead ≡ old.ahead)
       ⊎ (old.ahead ≡ prepend_known_readings (reading (reads_clock asked (runs_in old.taker.pass)) at) new.ahead)
+
+-- ---- too few turns, or too many entries
+
+-- a CNI call has something to run
+abbrev pub is_run : Option CallBegun → Bool
+is_run None = false
+is_run (Some (Told status text)) = false
+is_run (Some (Runs request version)) = true
+
+-- the line wants a turn, where a collection waits or none does
+abbrev pub wants_turn : Option Wish → (waits : Bool) → Bool
+wants_turn None waits = false
+wants_turn (Some (wish.Cni env stdin)) waits = if waits then false else is_run (call_begun env stdin)
+wants_turn (Some (wish.Request request)) waits = not waits
+wants_turn (Some (wish.Feed live)) waits = waits
+wants_turn (Some wish.Stop) waits = waits
+wants_turn (Some wish.Routes) waits = true
+wants_turn (Some (wish.RoutesSince revision)) waits = true
+
+-- the line begins, feeds or calls, which a full history has no room for
+abbrev pub wants_entry : Option Wish → Bool
+wants_entry None = false
+wants_entry (Some (wish.Cni env stdin)) = true
+wants_entry (Some (wish.Request request)) = true
+wants_entry (Some (wish.Feed live)) = true
+wants_entry (Some wish.Stop) = false
+wants_entry (Some wish.Routes) = false
+wants_entry (Some (wish.RoutesSince revision)) = false
+
+-- No answer was recorded: the slot gained no entry, or what was begun still runs.
+abbrev pub IsUnanswered : (old new : PassValue) → Type 0
+IsUnanswered old new = Gained old.slot old.seen [] new.seen ⊎ IsSome (runs_in new)
+
+-- The line wanted a turn, of which fewer than two were left, or an entry, for which the history has no room.
+pub record WearsOut (asked : Option Wish) (old new : PassValue) : Type 0 where
+  pub due : wants_turn asked (is_waiting (runs_in old)) ≡ true
+  pub worn : (new.left < 2) ⊎ ((wants_entry asked ≡ true) × (2 ^ 62 ≤ moment_of new.base new.seen))
+  pub unanswered : IsUnanswered old new
 
 -- ---- parts of a line
 

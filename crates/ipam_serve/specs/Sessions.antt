@@ -15,9 +15,8 @@ use Rattle.ipam_serve.specs.declared.ends.SessionEnd.{SessionEnd}
 use Rattle.ipam_serve.specs.declared.ends.SessionEnd.TheVariants as end
 use Rattle.ipam_serve.specs.declared.ran.Broken.{Broken}
 use Rattle.ipam_serve.specs.declared.ran.Broken.TheVariants as broken
-use Rattle.ipam_serve.specs.Faults.{IsWorn}
 use Rattle.ipam_serve.specs.Gains.{Gained, Passed}
-use Rattle.ipam_serve.specs.Lines.{Breaks, Replies, Server, asked_by}
+use Rattle.ipam_serve.specs.Lines.{Breaks, Replies, Server, WearsOut, asked_by}
 use Rattle.ipam_serve.specs.Runs.{Taker}
 
 -- ---- lines and replies
@@ -90,22 +89,29 @@ IsUntold Nothing = ⊥
 IsUntold (Undone line) = ⊥
 IsUntold (Untold line reply) = ⊤
 
--- why the session ends so, where this stands after its whole exchanges and these bytes were to come then
-abbrev pub IsCause : SessionEnd → Rest → (coming : Option (List ℕ)) → (last : PassValue) → Type 0
-IsCause end.Closed rest coming last = (rest ≡ Nothing) × IfSome coming (λ bytes. bytes ≡ [])
-IsCause end.Cut rest coming last = (rest ≡ Nothing) × IfSome coming (λ bytes. IsLine SESSION_LINE_BYTES bytes × (bytes ≢ []))
-IsCause end.LineTooLong rest coming last = (rest ≡ Nothing) × IfSome coming (IsTooLong SESSION_LINE_BYTES)
-IsCause end.ReadFault rest coming last = rest ≡ Nothing
-IsCause end.WriteFault rest coming last = IsUntold rest
-IsCause end.Halted rest coming last = (rest ≡ Nothing) ⊎ IsUndone rest
-IsCause end.Worn rest coming last = IsUndone rest × IsWorn last
-IsCause end.Memory rest coming last = ⊤
+-- the line that was not done to its end wore the pass or the history out
+abbrev pub IsWornAt : Rest → (first last : PassValue) → Type 0
+IsWornAt Nothing first last = ⊥
+IsWornAt (Undone line) first last = WearsOut (asked_by line) first last
+IsWornAt (Untold line reply) first last = ⊥
+
+-- why the session ends so, where this stands after its whole exchanges, and then these bytes were to come
+-- and this was the pass
+abbrev pub IsCause : SessionEnd → Rest → (coming : Option (List ℕ)) → (first last : PassValue) → Type 0
+IsCause end.Closed rest coming first last = (rest ≡ Nothing) × IfSome coming (λ bytes. bytes ≡ [])
+IsCause end.Cut rest coming first last = (rest ≡ Nothing) × IfSome coming (λ bytes. IsLine SESSION_LINE_BYTES bytes × (bytes ≢ []))
+IsCause end.LineTooLong rest coming first last = (rest ≡ Nothing) × IfSome coming (IsTooLong SESSION_LINE_BYTES)
+IsCause end.ReadFault rest coming first last = rest ≡ Nothing
+IsCause end.WriteFault rest coming first last = IsUntold rest
+IsCause end.Halted rest coming first last = (rest ≡ Nothing) ⊎ IsUndone rest
+IsCause end.Worn rest coming first last = IsWornAt rest first last
+IsCause end.Memory rest coming first last = ⊤
 
 -- from here the session ends
 pub record Ends (how : SessionEnd) (old new : Talk) : Type 0 where
   pub rest : Rest
   pub leaves : Leaves rest old new
-  pub cause : IsCause how rest old.coming new.server.taker.pass
+  pub cause : IsCause how rest old.coming old.server.taker.pass new.server.taker.pass
 
 -- whole exchanges were made, and then the session ended
 pub record Serves (how : SessionEnd) (old new : Talk) : Type 0 where

@@ -4,6 +4,7 @@
 
 mod ends;
 mod lines;
+mod patience;
 mod ran;
 mod requests;
 mod session;
@@ -14,6 +15,7 @@ pub use ipam_io::{Clock, Gate, Link};
 pub use ipam_session::{Refusal, Reply};
 pub use ipam_shared::{Keeper, Pass, Shared};
 pub use lines::answer_line;
+pub use patience::{Patience, Sleeps};
 pub use ran::{Broken, Ran};
 pub use requests::{run_call, run_feed, run_request};
 pub use session::serve_session;

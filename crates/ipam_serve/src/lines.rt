@@ -13,9 +13,10 @@ ghost use Rattle.ipam_session.specs.declared.wish.Wish.TheVariants as wish;
 ghost use Rattle.ipam_shared.specs.Passes.{runs_in};
 ghost use Rattle.ipam_serve.specs.Faults.{Halts, IsWorn, OnHalted, OnWorn};
 ghost use Rattle.ipam_serve.specs.Gains.{is_waiting};
-ghost use Rattle.ipam_serve.specs.Lines.{Breaks, Replies, TellsRun, asked_by, is_collect, reading, reply_fed, reply_ran, server_at, timed};
+ghost use Rattle.ipam_serve.specs.Lines.{Breaks, IsUnanswered, Replies, TellsRun, WearsOut, asked_by, is_collect, reading, reply_fed, reply_ran, server_at, timed};
 ghost use Rattle.ipam_serve.specs.Runs.{DoesPart, IsAtRest};
 
+use crate::patience::Patience;
 use crate::ran::{Broken, Ran};
 use crate::requests::{run_call, run_feed, run_request};
 use crate::turns::{routes, routes_since, stop};
@@ -30,13 +31,14 @@ use std::sync::Wait;
 
 /// Does what the line asks, in the pass's slot, and gives its reply. What is begun goes on to its
 /// answer, or until a collection waits. On `Err` what was begun still runs.
-pub fn answer_line<R: Wait, D: Keeper, G: Gate, C: Clock>(
+pub fn answer_line<R: Wait, D: Keeper, G: Gate, C: Clock, P: Patience>(
     rt: &R,
     alloc: Global,
     shared: &Shared<D>,
     pass: &mut Pass,
     gate: &mut G,
     clock: &mut C,
+    patience: &mut P,
     line: &[u8],
 ) -> Result<Reply, Broken>
     requires lock { pass.old.lock ≡ shared.now }
@@ -48,23 +50,24 @@ pub fn answer_line<R: Wait, D: Keeper, G: Gate, C: Clock>(
         (server_at pass.old (G.turns gate.old) (C.ahead clock.old))
         (server_at pass.new (G.turns gate.new) (C.ahead clock.new))) }
     ensures rests { OnOk result (IsAtRest (runs_in pass.new)) }
-    ensures worn { OnWorn result (IsWorn pass.new) }
+    ensures worn { OnWorn result (WearsOut (asked_by line.now) pass.old pass.new) }
     ensures stops { Halts result (G.stops gate.old) (G.stops gate.new) }
 {
     match read_wish(alloc, line) {
-        Ok(wish) => answer_wish(rt, alloc, shared, pass, gate, clock, wish),
+        Ok(wish) => answer_wish(rt, alloc, shared, pass, gate, clock, patience, wish),
         Err(AskFault::Unreadable) => Ok(Reply::Refused(Refusal::Line)),
         Err(AskFault::Memory) => Err(Broken::Memory),
     }
 }
 
-fn answer_wish<R: Wait, D: Keeper, G: Gate, C: Clock>(
+fn answer_wish<R: Wait, D: Keeper, G: Gate, C: Clock, P: Patience>(
     rt: &R,
     alloc: Global,
     shared: &Shared<D>,
     pass: &mut Pass,
     gate: &mut G,
     clock: &mut C,
+    patience: &mut P,
     wish: Wish,
 ) -> Result<Reply, Broken>
     requires lock { pass.old.lock ≡ shared.now }
@@ -77,7 +80,7 @@ fn answer_wish<R: Wait, D: Keeper, G: Gate, C: Clock>(
         (server_at pass.old (G.turns gate.old) (C.ahead clock.old))
         (server_at pass.new (G.turns gate.new) (C.ahead clock.new))) }
     ensures rests { OnOk result (IsAtRest (runs_in pass.new)) }
-    ensures worn { OnWorn result (IsWorn pass.new) }
+    ensures worn { OnWorn result (WearsOut (Some wish) pass.old pass.new) }
     ensures stops { Halts result (G.stops gate.old) (G.stops gate.new) }
 {
     match wish {
@@ -88,15 +91,34 @@ fn answer_wish<R: Wait, D: Keeper, G: Gate, C: Clock>(
             pass,
             gate,
             clock,
+            patience,
             env.as_slice(),
             stdin.as_str(),
         ),
         Wish::Request(mut request) => {
-            let reply = answer_request(rt, alloc, shared, pass, gate, clock, &mut request);
+            let reply = answer_request(
+                rt,
+                alloc,
+                shared,
+                pass,
+                gate,
+                clock,
+                patience,
+                &mut request,
+            );
             drop(request);
             reply
         }
-        Wish::Feed(live) => answer_feed(rt, alloc, shared, pass, gate, clock, live.as_slice()),
+        Wish::Feed(live) => answer_feed(
+            rt,
+            alloc,
+            shared,
+            pass,
+            gate,
+            clock,
+            patience,
+            live.as_slice(),
+        ),
         Wish::Stop => answer_stop(rt, shared, pass),
         Wish::Routes => answer_routes(rt, shared, pass),
         Wish::RoutesSince(revision) => answer_since(rt, shared, pass, revision),
@@ -104,13 +126,14 @@ fn answer_wish<R: Wait, D: Keeper, G: Gate, C: Clock>(
 }
 
 /// A CNI call.
-fn answer_call<R: Wait, D: Keeper, G: Gate, C: Clock>(
+fn answer_call<R: Wait, D: Keeper, G: Gate, C: Clock, P: Patience>(
     rt: &R,
     alloc: Global,
     shared: &Shared<D>,
     pass: &mut Pass,
     gate: &mut G,
     clock: &mut C,
+    patience: &mut P,
     env: &[(Text, Text)],
     stdin: &str,
 ) -> Result<Reply, Broken>
@@ -123,7 +146,7 @@ fn answer_call<R: Wait, D: Keeper, G: Gate, C: Clock>(
         (server_at pass.old (G.turns gate.old) (C.ahead clock.old))
         (server_at pass.new (G.turns gate.new) (C.ahead clock.new))) }
     ensures rests { OnOk result (IsAtRest (runs_in pass.new)) }
-    ensures worn { OnWorn result (IsWorn pass.new) }
+    ensures worn { OnWorn result (WearsOut (Some (wish.Cni env.now stdin.now)) pass.old pass.new) }
     ensures stops { Halts result (G.stops gate.old) (G.stops gate.new) }
 {
     if pass.running() {
@@ -132,20 +155,21 @@ fn answer_call<R: Wait, D: Keeper, G: Gate, C: Clock>(
     match begin_call(alloc, env, stdin) {
         Ok(CallBegun::Told(status, text)) => Ok(Reply::Called(status, text)),
         Ok(CallBegun::Runs(request, version)) => {
-            tell_run(rt, alloc, shared, pass, gate, &request, version)
+            tell_run(rt, alloc, shared, pass, gate, patience, &request, version)
         }
         Err(_) => Err(Broken::Memory),
     }
 }
 
 /// A request.
-fn answer_request<R: Wait, D: Keeper, G: Gate, C: Clock>(
+fn answer_request<R: Wait, D: Keeper, G: Gate, C: Clock, P: Patience>(
     rt: &R,
     alloc: Global,
     shared: &Shared<D>,
     pass: &mut Pass,
     gate: &mut G,
     clock: &mut C,
+    patience: &mut P,
     request: &mut Request,
 ) -> Result<Reply, Broken>
     requires lock { pass.old.lock ≡ shared.now }
@@ -158,27 +182,28 @@ fn answer_request<R: Wait, D: Keeper, G: Gate, C: Clock>(
         (server_at pass.old (G.turns gate.old) (C.ahead clock.old))
         (server_at pass.new (G.turns gate.new) (C.ahead clock.new))) }
     ensures rests { OnOk result (IsAtRest (runs_in pass.new)) }
-    ensures worn { OnWorn result (IsWorn pass.new) }
+    ensures worn { OnWorn result (WearsOut (Some (wish.Request request.old)) pass.old pass.new) }
     ensures stops { Halts result (G.stops gate.old) (G.stops gate.new) }
 {
     if pass.running() {
         return Ok(Reply::Refused(Refusal::Waiting));
     }
     let _at = set_time(clock, request);
-    match run_request(rt, alloc, shared, pass, gate, request) {
+    match run_request(rt, alloc, shared, pass, gate, patience, request) {
         Ok(ran) => Ok(reply_ran(ran)),
         Err(broken) => Err(broken),
     }
 }
 
 /// A second list.
-fn answer_feed<R: Wait, D: Keeper, G: Gate, C: Clock>(
+fn answer_feed<R: Wait, D: Keeper, G: Gate, C: Clock, P: Patience>(
     rt: &R,
     alloc: Global,
     shared: &Shared<D>,
     pass: &mut Pass,
     gate: &mut G,
     clock: &mut C,
+    patience: &mut P,
     live: &[Text],
 ) -> Result<Reply, Broken>
     requires lock { pass.old.lock ≡ shared.now }
@@ -191,23 +216,24 @@ fn answer_feed<R: Wait, D: Keeper, G: Gate, C: Clock>(
         (server_at pass.old (G.turns gate.old) (C.ahead clock.old))
         (server_at pass.new (G.turns gate.new) (C.ahead clock.new))) }
     ensures rests { OnOk result (IsAtRest (runs_in pass.new)) }
-    ensures worn { OnWorn result (IsWorn pass.new) }
+    ensures worn { OnWorn result (WearsOut (Some (wish.Feed live.now)) pass.old pass.new) }
     ensures stops { Halts result (G.stops gate.old) (G.stops gate.new) }
 {
     if pass.running() {
-        return feed_waiting(rt, alloc, shared, pass, gate, clock, live);
+        return feed_waiting(rt, alloc, shared, pass, gate, clock, patience, live);
     }
     Ok(Reply::Refused(Refusal::NotWaiting))
 }
 
 /// A second list of the collection that waits.
-fn feed_waiting<R: Wait, D: Keeper, G: Gate, C: Clock>(
+fn feed_waiting<R: Wait, D: Keeper, G: Gate, C: Clock, P: Patience>(
     rt: &R,
     alloc: Global,
     shared: &Shared<D>,
     pass: &mut Pass,
     gate: &mut G,
     clock: &mut C,
+    patience: &mut P,
     live: &[Text],
 ) -> Result<Reply, Broken>
     requires lock { pass.old.lock ≡ shared.now }
@@ -220,11 +246,11 @@ fn feed_waiting<R: Wait, D: Keeper, G: Gate, C: Clock>(
         (server_at pass.old (G.turns gate.old) (C.ahead clock.old))
         (server_at pass.new (G.turns gate.new) (C.ahead clock.new))) }
     ensures rests { OnOk result (IsAtRest (runs_in pass.new)) }
-    ensures worn { OnWorn result (IsWorn pass.new) }
+    ensures worn { OnWorn result (WearsOut (Some (wish.Feed live.now)) pass.old pass.new) }
     ensures stops { Halts result (G.stops gate.old) (G.stops gate.new) }
 {
     let at = clock.now();
-    match run_feed(rt, alloc, shared, pass, gate, live, at) {
+    match run_feed(rt, alloc, shared, pass, gate, patience, live, at) {
         Ok(told) => Ok(reply_fed(told)),
         Err(broken) => Err(broken),
     }
@@ -245,7 +271,7 @@ fn answer_stop<R: Wait, D: Keeper>(
         (server_at pass.old turns ahead)
         (server_at pass.new turns ahead)) }
     ensures rests { OnOk result (IsAtRest (runs_in pass.new)) }
-    ensures worn { OnWorn result (IsWorn pass.new) }
+    ensures worn { OnWorn result (WearsOut (Some wish.Stop) pass.old pass.new) }
     ensures not_halted { OnHalted result ⊥ }
 {
     if pass.running() {
@@ -269,7 +295,7 @@ fn stop_waiting<R: Wait, D: Keeper>(
         (server_at pass.old turns ahead)
         (server_at pass.new turns ahead)) }
     ensures rests { OnOk result (IsAtRest (runs_in pass.new)) }
-    ensures worn { OnWorn result (IsWorn pass.new) }
+    ensures worn { OnWorn result (WearsOut (Some wish.Stop) pass.old pass.new) }
     ensures not_halted { OnHalted result ⊥ }
 {
     match stop(rt, shared, pass) {
@@ -293,7 +319,7 @@ fn answer_routes<R: Wait, D: Keeper>(
         (server_at pass.old turns ahead)
         (server_at pass.new turns ahead)) }
     ensures rests { IsAtRest (runs_in pass.new) }
-    ensures worn { OnWorn result (IsWorn pass.new) }
+    ensures worn { OnWorn result (WearsOut (Some wish.Routes) pass.old pass.new) }
     ensures not_halted { OnHalted result ⊥ }
 {
     match routes(rt, shared, pass) {
@@ -318,7 +344,7 @@ fn answer_since<R: Wait, D: Keeper>(
         (server_at pass.old turns ahead)
         (server_at pass.new turns ahead)) }
     ensures rests { IsAtRest (runs_in pass.new) }
-    ensures worn { OnWorn result (IsWorn pass.new) }
+    ensures worn { OnWorn result (WearsOut (Some (wish.RoutesSince revision)) pass.old pass.new) }
     ensures not_halted { OnHalted result ⊥ }
 {
     match routes_since(rt, shared, pass, revision) {
@@ -328,12 +354,13 @@ fn answer_since<R: Wait, D: Keeper>(
 }
 
 /// Runs the request of a CNI call, and tells its answer.
-fn tell_run<R: Wait, D: Keeper, G: Gate>(
+fn tell_run<R: Wait, D: Keeper, G: Gate, P: Patience>(
     rt: &R,
     alloc: Global,
     shared: &Shared<D>,
     pass: &mut Pass,
     gate: &mut G,
+    patience: &mut P,
     request: &Request,
     version: Version,
 ) -> Result<Reply, Broken>
@@ -350,9 +377,10 @@ fn tell_run<R: Wait, D: Keeper, G: Gate>(
         (record { pass = pass.new; turns = G.turns gate.new })) }
     ensures idle { OnOk result (runs_in pass.new ≡ None) }
     ensures worn { OnWorn result (IsWorn pass.new) }
+    ensures unanswered { OnWorn result (IsUnanswered pass.old pass.new) }
     ensures stops { Halts result (G.stops gate.old) (G.stops gate.new) }
 {
-    match run_call(rt, alloc, shared, pass, gate, request) {
+    match run_call(rt, alloc, shared, pass, gate, patience, request) {
         Ok(answer) => call_reply(alloc, request, &answer, version),
         Err(broken) => Err(broken),
     }

@@ -10,10 +10,12 @@ ghost use Rattle.ipam_shared.specs.Passes.{runs_in};
 ghost use Rattle.ipam_io.specs.Counts.{next_count};
 ghost use Rattle.ipam_serve.specs.Faults.{Halts, IfAnswered, IsWorn, OnWaits, OnWorn, answer_ran, spared_by};
 ghost use Rattle.ipam_serve.specs.Gains.{Took, asked_in, is_early, is_waiting};
+ghost use Rattle.ipam_serve.specs.Lines.{IsUnanswered};
 ghost use Rattle.ipam_serve.specs.Runs.{Does, DoesPart, FeedsList, WentOn};
 ghost use Rattle.ipam_serve.specs.Spans.{Begins, Calls, Feeds, IsTimeless, list_deed, own_feed};
 ghost use Rattle.ipam_serve.specs.Turns.{Called};
 
+use crate::patience::{Losses, Patience};
 use crate::ran::{Broken, Ran};
 use crate::turns::{Feeding, begin, call, feed};
 use ipam_io::{Gate, Passed, Point};
@@ -26,12 +28,13 @@ use std::sync::Wait;
 /// Begins the request and goes on with it to its answer, or until it waits. It is one turn of the pass
 /// for the beginning and one for each call, so that others may come between; the gate is passed before
 /// each call. On `Err` what was begun still runs.
-pub fn run_request<R: Wait, D: Keeper, G: Gate>(
+pub fn run_request<R: Wait, D: Keeper, G: Gate, P: Patience>(
     rt: &R,
     alloc: Global,
     shared: &Shared<D>,
     pass: &mut Pass,
     gate: &mut G,
+    patience: &mut P,
     request: &Request,
 ) -> Result<Ran, Broken>
     requires lock { pass.old.lock ≡ shared.now }
@@ -48,21 +51,23 @@ pub fn run_request<R: Wait, D: Keeper, G: Gate>(
     ensures waits { IfOk result (λ ran. OnWaits ran
         ((is_waiting (runs_in pass.new) ≡ true) × (asked_in (runs_in pass.new) ≡ Some request.now))) }
     ensures worn { OnWorn result (IsWorn pass.new) }
+    ensures unanswered { OnWorn result (IsUnanswered pass.old pass.new) }
     ensures stops { Halts result (G.stops gate.old) (G.stops gate.new) }
 {
     match begin(rt, alloc, shared, pass, request) {
-        Ok(()) => run_on(rt, alloc, shared, pass, gate),
+        Ok(()) => run_on(rt, alloc, shared, pass, gate, patience),
         Err(broken) => Err(broken),
     }
 }
 
-/// Goes on with what runs to its answer, or until it waits.
-pub(crate) fn run_on<R: Wait, D: Keeper, G: Gate>(
+/// Goes on with what runs to its answer, or until it waits. Where it lost a race it lets others finish.
+pub(crate) fn run_on<R: Wait, D: Keeper, G: Gate, P: Patience>(
     rt: &R,
     alloc: Global,
     shared: &Shared<D>,
     pass: &mut Pass,
     gate: &mut G,
+    patience: &mut P,
 ) -> Result<Ran, Broken>
     requires lock { pass.old.lock ≡ shared.now }
     requires runs { IsSome (runs_in pass.old) }
@@ -76,12 +81,14 @@ pub(crate) fn run_on<R: Wait, D: Keeper, G: Gate>(
         → IfOk result (λ ran. IfAnswered ran (CanAnswer request)) }
     ensures waits { IfOk result (λ ran. OnWaits ran (is_waiting (runs_in pass.new) ≡ true)) }
     ensures worn { OnWorn result (IsWorn pass.new) }
+    ensures runs { OnWorn result (IsSome (runs_in pass.new)) }
     ensures stops { Halts result (G.stops gate.old) (G.stops gate.new) }
 {
+    let mut losses = Losses::none();
     loop {
-        match step_on(rt, alloc, shared, pass, gate) {
+        match step_on(rt, alloc, shared, pass, gate, &mut losses) {
             Ok(Some(ran)) => return Ok(ran),
-            Ok(None) => {}
+            Ok(None) => losses.wait(rt, patience),
             Err(broken) => return Err(broken),
         }
     }
@@ -94,6 +101,7 @@ fn step_on<R: Wait, D: Keeper, G: Gate>(
     shared: &Shared<D>,
     pass: &mut Pass,
     gate: &mut G,
+    losses: &mut Losses,
 ) -> Result<Option<Ran>, Broken>
     requires lock { pass.old.lock ≡ shared.now }
     requires runs { IsSome (runs_in pass.old) }
@@ -105,18 +113,19 @@ fn step_on<R: Wait, D: Keeper, G: Gate>(
 {
     match gate.pass(Point::Turn) {
         Passed::Stop => Err(Broken::Halted),
-        Passed::Go => call(rt, alloc, shared, pass),
+        Passed::Go => call(rt, alloc, shared, pass, losses),
     }
 }
 
 /// Goes on with what runs to its answer. What waits though it was fed would never be answered; no
 /// request does, and one that did would be told as want of memory.
-fn run_to_answer<R: Wait, D: Keeper, G: Gate>(
+fn run_to_answer<R: Wait, D: Keeper, G: Gate, P: Patience>(
     rt: &R,
     alloc: Global,
     shared: &Shared<D>,
     pass: &mut Pass,
     gate: &mut G,
+    patience: &mut P,
 ) -> Result<Answer, Broken>
     requires lock { pass.old.lock ≡ shared.now }
     requires runs { IsSome (runs_in pass.old) }
@@ -129,9 +138,10 @@ fn run_to_answer<R: Wait, D: Keeper, G: Gate>(
     ensures can_answer { (request : Asked) → asked_in (runs_in pass.old) ≡ Some request
         → IfOk result (CanAnswer request) }
     ensures worn { OnWorn result (IsWorn pass.new) }
+    ensures runs { OnWorn result (IsSome (runs_in pass.new)) }
     ensures stops { Halts result (G.stops gate.old) (G.stops gate.new) }
 {
-    match run_on(rt, alloc, shared, pass, gate) {
+    match run_on(rt, alloc, shared, pass, gate, patience) {
         Ok(ran) => answer_of(ran),
         Err(broken) => Err(broken),
     }
@@ -149,12 +159,13 @@ fn answer_of(ran: Ran) -> Result<Answer, Broken>
 }
 
 /// The same, as an answer that there may be.
-fn run_fed<R: Wait, D: Keeper, G: Gate>(
+fn run_fed<R: Wait, D: Keeper, G: Gate, P: Patience>(
     rt: &R,
     alloc: Global,
     shared: &Shared<D>,
     pass: &mut Pass,
     gate: &mut G,
+    patience: &mut P,
 ) -> Result<Option<Answer>, Broken>
     requires lock { pass.old.lock ≡ shared.now }
     requires runs { IsSome (runs_in pass.old) }
@@ -167,9 +178,10 @@ fn run_fed<R: Wait, D: Keeper, G: Gate>(
     ensures can_answer { (request : Asked) → asked_in (runs_in pass.old) ≡ Some request
         → IfOk result (λ found. IfSome found (CanAnswer request)) }
     ensures worn { OnWorn result (IsWorn pass.new) }
+    ensures runs { OnWorn result (IsSome (runs_in pass.new)) }
     ensures stops { Halts result (G.stops gate.old) (G.stops gate.new) }
 {
-    match run_to_answer(rt, alloc, shared, pass, gate) {
+    match run_to_answer(rt, alloc, shared, pass, gate, patience) {
         Ok(answer) => Ok(Some(answer)),
         Err(broken) => Err(broken),
     }
@@ -177,12 +189,13 @@ fn run_fed<R: Wait, D: Keeper, G: Gate>(
 
 /// Feeds the collection that waits its second list, and goes on to its answer. None where the grace is
 /// not over, and it waits as before.
-pub fn run_feed<R: Wait, D: Keeper, G: Gate>(
+pub fn run_feed<R: Wait, D: Keeper, G: Gate, P: Patience>(
     rt: &R,
     alloc: Global,
     shared: &Shared<D>,
     pass: &mut Pass,
     gate: &mut G,
+    patience: &mut P,
     live: &[Text],
     at: u64,
 ) -> Result<Option<Answer>, Broken>
@@ -198,10 +211,11 @@ pub fn run_feed<R: Wait, D: Keeper, G: Gate>(
     ensures can_answer { (request : Asked) → asked_in (runs_in pass.old) ≡ Some request
         → IfOk result (λ told. IfSome told (CanAnswer request)) }
     ensures worn { OnWorn result (IsWorn pass.new) }
+    ensures runs { OnWorn result (IsSome (runs_in pass.new)) }
     ensures stops { Halts result (G.stops gate.old) (G.stops gate.new) }
 {
     match feed(rt, alloc, shared, pass, live, at) {
-        Ok(Feeding::Fed) => run_fed(rt, alloc, shared, pass, gate),
+        Ok(Feeding::Fed) => run_fed(rt, alloc, shared, pass, gate, patience),
         Ok(Feeding::TooSoon) => Ok(None),
         Err(broken) => Err(broken),
     }
@@ -209,12 +223,13 @@ pub fn run_feed<R: Wait, D: Keeper, G: Gate>(
 
 /// Begins the request of a CNI call and goes on with it to its answer. A collection is fed its own list
 /// once it waits, at the time 0. On `Err` what was begun still runs.
-pub fn run_call<R: Wait, D: Keeper, G: Gate>(
+pub fn run_call<R: Wait, D: Keeper, G: Gate, P: Patience>(
     rt: &R,
     alloc: Global,
     shared: &Shared<D>,
     pass: &mut Pass,
     gate: &mut G,
+    patience: &mut P,
     request: &Request,
 ) -> Result<Answer, Broken>
     requires lock { pass.old.lock ≡ shared.now }
@@ -230,23 +245,25 @@ pub fn run_call<R: Wait, D: Keeper, G: Gate>(
     ensures can_answer { IfOk result (CanAnswer request.now) }
     ensures idle { OnOk result (runs_in pass.new ≡ None) }
     ensures worn { OnWorn result (IsWorn pass.new) }
+    ensures unanswered { OnWorn result (IsUnanswered pass.old pass.new) }
     ensures stops { Halts result (G.stops gate.old) (G.stops gate.new) }
 {
-    match run_request(rt, alloc, shared, pass, gate, request) {
+    match run_request(rt, alloc, shared, pass, gate, patience, request) {
         Ok(Ran::Answered(answer)) => Ok(answer),
-        Ok(Ran::Waits) => feed_own(rt, alloc, shared, pass, gate, request),
+        Ok(Ran::Waits) => feed_own(rt, alloc, shared, pass, gate, patience, request),
         Err(broken) => Err(broken),
     }
 }
 
 /// Feeds the collection that waits its own list. Nothing else waits, and what did would be told as want
 /// of memory.
-fn feed_own<R: Wait, D: Keeper, G: Gate>(
+fn feed_own<R: Wait, D: Keeper, G: Gate, P: Patience>(
     rt: &R,
     alloc: Global,
     shared: &Shared<D>,
     pass: &mut Pass,
     gate: &mut G,
+    patience: &mut P,
     request: &Request,
 ) -> Result<Answer, Broken>
     requires lock { pass.old.lock ≡ shared.now }
@@ -263,20 +280,22 @@ fn feed_own<R: Wait, D: Keeper, G: Gate>(
     ensures can_answer { IfOk result (CanAnswer request.now) }
     ensures idle { OnOk result (runs_in pass.new ≡ None) }
     ensures worn { OnWorn result (IsWorn pass.new) }
+    ensures runs { OnWorn result (IsSome (runs_in pass.new)) }
     ensures stops { Halts result (G.stops gate.old) (G.stops gate.new) }
 {
     match request {
-        Request::Collect(asked) => feed_first(rt, alloc, shared, pass, gate, asked),
+        Request::Collect(asked) => feed_first(rt, alloc, shared, pass, gate, patience, asked),
         _ => Err(Broken::Memory),
     }
 }
 
-fn feed_first<R: Wait, D: Keeper, G: Gate>(
+fn feed_first<R: Wait, D: Keeper, G: Gate, P: Patience>(
     rt: &R,
     alloc: Global,
     shared: &Shared<D>,
     pass: &mut Pass,
     gate: &mut G,
+    patience: &mut P,
     asked: &CollectRequest,
 ) -> Result<Answer, Broken>
     requires lock { pass.old.lock ≡ shared.now }
@@ -293,10 +312,11 @@ fn feed_first<R: Wait, D: Keeper, G: Gate>(
     ensures can_answer { IfOk result (CanAnswer (Collect asked.now)) }
     ensures idle { OnOk result (runs_in pass.new ≡ None) }
     ensures worn { OnWorn result (IsWorn pass.new) }
+    ensures runs { OnWorn result (IsSome (runs_in pass.new)) }
     ensures stops { Halts result (G.stops gate.old) (G.stops gate.new) }
 {
     let live = asked.live.as_slice();
-    match run_feed(rt, alloc, shared, pass, gate, live, 0) {
+    match run_feed(rt, alloc, shared, pass, gate, patience, live, 0) {
         Ok(Some(answer)) => Ok(answer),
         Ok(None) => unreachable!(),
         Err(broken) => Err(broken),

@@ -11,6 +11,7 @@ ghost use Rattle.ipam_serve.specs.Sessions.{Ends, Exchange, Exchanges, IsCause, 
 
 use crate::ends::SessionEnd;
 use crate::lines::answer_line;
+use crate::patience::Patience;
 use crate::ran::Broken;
 use ipam_io::{Clock, Gate, Link, Passed, Point};
 use ipam_lines::{Got, Lines, LinesFault, SESSION_LINE_BYTES};
@@ -22,13 +23,14 @@ use std::sync::Wait;
 /// Serves a session over the link, in the pass's slot, until it ends. A line is replied to before the
 /// next is read. What waits in the slot at the end is stopped by one more turn. It waits for the link
 /// and for turns at the cluster.
-pub fn serve_session<R: Wait, L: Link, D: Keeper, G: Gate, C: Clock>(
+pub fn serve_session<R: Wait, L: Link, D: Keeper, G: Gate, C: Clock, P: Patience>(
     rt: &R,
     alloc: Global,
     shared: &Shared<D>,
     pass: &mut Pass,
     gate: &mut G,
     clock: &mut C,
+    patience: &mut P,
     link: &mut L,
 ) -> SessionEnd
     requires lock { pass.old.lock ≡ shared.now }
@@ -42,19 +44,20 @@ pub fn serve_session<R: Wait, L: Link, D: Keeper, G: Gate, C: Clock>(
     ensures writes { RoseIf (is_write_fault result) (L.write_faults link.old) (L.write_faults link.new) }
     ensures stops { RoseIf (is_halted result) (G.stops gate.old) (G.stops gate.new) }
 {
-    let end = serve_lines(rt, alloc, shared, pass, gate, clock, link);
+    let end = serve_lines(rt, alloc, shared, pass, gate, clock, patience, link);
     stop_last(rt, shared, pass);
     end
 }
 
 /// Reads, does and replies to lines until the session ends. What waits in the slot then still does.
-fn serve_lines<R: Wait, D: Keeper, G: Gate, C: Clock, L: Link>(
+fn serve_lines<R: Wait, D: Keeper, G: Gate, C: Clock, P: Patience, L: Link>(
     rt: &R,
     alloc: Global,
     shared: &Shared<D>,
     pass: &mut Pass,
     gate: &mut G,
     clock: &mut C,
+    patience: &mut P,
     link: &mut L,
 ) -> SessionEnd
     requires lock { pass.old.lock ≡ shared.now }
@@ -69,7 +72,9 @@ fn serve_lines<R: Wait, D: Keeper, G: Gate, C: Clock, L: Link>(
 {
     let mut lines = Lines::<SESSION_LINE_BYTES>::new(alloc);
     for _ in rt.forever() {
-        match exchange(rt, alloc, shared, pass, gate, clock, link, &mut lines) {
+        match exchange(
+            rt, alloc, shared, pass, gate, clock, patience, link, &mut lines,
+        ) {
             Ok(()) => {}
             Err(end) => return end,
         }
@@ -78,13 +83,14 @@ fn serve_lines<R: Wait, D: Keeper, G: Gate, C: Clock, L: Link>(
 }
 
 /// Reads a line, does what it asks and writes its reply.
-fn exchange<R: Wait, D: Keeper, G: Gate, C: Clock, L: Link>(
+fn exchange<R: Wait, D: Keeper, G: Gate, C: Clock, P: Patience, L: Link>(
     rt: &R,
     alloc: Global,
     shared: &Shared<D>,
     pass: &mut Pass,
     gate: &mut G,
     clock: &mut C,
+    patience: &mut P,
     link: &mut L,
     lines: &mut Lines<SESSION_LINE_BYTES>,
 ) -> Result<(), SessionEnd>
@@ -104,7 +110,16 @@ fn exchange<R: Wait, D: Keeper, G: Gate, C: Clock, L: Link>(
 {
     match read_line(gate, link, lines) {
         Ok(line) => {
-            let told = answer_line(rt, alloc, shared, pass, gate, clock, line.as_slice());
+            let told = answer_line(
+                rt,
+                alloc,
+                shared,
+                pass,
+                gate,
+                clock,
+                patience,
+                line.as_slice(),
+            );
             drop(line);
             match told {
                 Ok(reply) => write_reply(alloc, link, reply),
@@ -133,7 +148,7 @@ fn read_line<G: Gate, L: Link>(
 ) -> Result<Vec<u8>, SessionEnd>
     ensures line { IfOk result (λ line. ReadsLine line.items (prepend_known lines.old (L.left link.old)) (prepend_known lines.new (L.left link.new))) }
     ensures none { OnErr result (prepend_known lines.new (L.left link.new) ≡ prepend_known lines.old (L.left link.old)) }
-    ensures cause { (pass : PassValue) → IfErr result (λ how. IsCause how Nothing (prepend_known lines.old (L.left link.old)) pass) }
+    ensures cause { (first last : PassValue) → IfErr result (λ how. IsCause how Nothing (prepend_known lines.old (L.left link.old)) first last) }
     ensures turns { G.turns gate.new ≡ G.turns gate.old }
     ensures written { L.written link.new ≡ L.written link.old }
     ensures reads { RoseAt is_read_fault result (L.read_faults link.old) (L.read_faults link.new) }
@@ -153,7 +168,7 @@ fn next_line<L: Link>(
 ) -> Result<Vec<u8>, SessionEnd>
     ensures line { IfOk result (λ line. ReadsLine line.items (prepend_known lines.old (L.left link.old)) (prepend_known lines.new (L.left link.new))) }
     ensures none { OnErr result (prepend_known lines.new (L.left link.new) ≡ prepend_known lines.old (L.left link.old)) }
-    ensures cause { (pass : PassValue) → IfErr result (λ how. IsCause how Nothing (prepend_known lines.old (L.left link.old)) pass) }
+    ensures cause { (first last : PassValue) → IfErr result (λ how. IsCause how Nothing (prepend_known lines.old (L.left link.old)) first last) }
     ensures written { L.written link.new ≡ L.written link.old }
     ensures reads { RoseAt is_read_fault result (L.read_faults link.old) (L.read_faults link.new) }
     ensures writes { RoseAt is_write_fault result (L.write_faults link.old) (L.write_faults link.new) }

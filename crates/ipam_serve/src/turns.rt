@@ -1,5 +1,5 @@
 //! One turn of a session's slot. Each leaves a turn for the last stop.
-ghost use Rattle.std.specs.Prelude.{◌≡◌, ◌≢◌, ◌⊎◌, ◌≤◌, ◌^◌, [], ◌∷◌, Some, None, Ok, Err, true, false, IsSome, IfOk, OnOk, OnErr, ℕ};
+ghost use Rattle.std.specs.Prelude.{◌≡◌, ◌≢◌, ◌⊎◌, ◌+◌, ◌<◌, ◌≤◌, ◌^◌, [], ◌∷◌, Some, None, Ok, Err, true, false, IsSome, IfOk, OnOk, OnErr, ℕ};
 ghost use Rattle.std.specs.List.{All};
 ghost use Rattle.ipam_records.specs.Sound.{IsHandleId};
 ghost use Rattle.ipam_model.specs.declared.entry.Entry.TheVariants as entry;
@@ -14,6 +14,7 @@ ghost use Rattle.ipam_kept.specs.Feed.{AreRoutes};
 ghost use Rattle.ipam_serve.specs.Lines.{since_in};
 ghost use Rattle.ipam_serve.specs.Turns.{Called, Fed, IsToldOf, answer_told};
 
+use crate::patience::Losses;
 use crate::ran::{Broken, Ran};
 use ipam_model::{Answer, Entry, Request};
 use ipam_session::{Route, Since};
@@ -75,6 +76,7 @@ pub(crate) fn call<R: Wait, D: Keeper>(
     alloc: Global,
     shared: &Shared<D>,
     pass: &mut Pass,
+    losses: &mut Losses,
 ) -> Result<Option<Ran>, Broken>
     requires lock { pass.old.lock ≡ shared.now }
     requires runs { IsSome (runs_in pass.old) }
@@ -87,7 +89,10 @@ pub(crate) fn call<R: Wait, D: Keeper>(
         return Err(Broken::Worn);
     }
     match shared.turn(rt, alloc, pass) {
-        Ok(entry) => Ok(told(entry)),
+        Ok(entry) => {
+            losses.note(&entry);
+            Ok(told(entry))
+        }
         Err(fault) => not_called(fault),
     }
 }
@@ -186,7 +191,7 @@ pub(crate) fn stop<R: Wait, D: Keeper>(
     requires runs { IsSome (runs_in pass.old) }
     ensures stopped { OnOk result (Took pass.old (entry.Stopped pass.old.slot ∷ []) 0 pass.new) }
     ensures not_stopped { OnErr result (pass.new ≡ pass.old) }
-    ensures worn { OnWorn result (IsWorn pass.new) }
+    ensures worn { OnWorn result (pass.new.left < 2) }
     ensures not_halted { OnHalted result ⊥ }
 {
     if pass.left() < 2 {
@@ -209,9 +214,10 @@ pub(crate) fn routes<R: Wait, D: Keeper>(
 ) -> Result<(u64, Vec<Route>), Broken>
     requires lock { pass.old.lock ≡ shared.now }
     ensures took { Took pass.old [] 1 pass.new }
+    ensures one { OnOk result (pass.new.left + 1 ≡ pass.old.left) }
     ensures runs { runs_in pass.new ≡ runs_in pass.old }
     ensures told { IfOk result (λ told. AreRoutes pass.new.base pass.new.seen told.0 told.1.items) }
-    ensures worn { OnWorn result (IsWorn pass.new) }
+    ensures worn { OnWorn result (pass.new.left < 2) }
     ensures not_halted { OnHalted result ⊥ }
 {
     if pass.left() < 2 {
@@ -232,9 +238,10 @@ pub(crate) fn routes_since<R: Wait, D: Keeper>(
 ) -> Result<Since, Broken>
     requires lock { pass.old.lock ≡ shared.now }
     ensures took { Took pass.old [] 1 pass.new }
+    ensures one { OnOk result (pass.new.left + 1 ≡ pass.old.left) }
     ensures runs { runs_in pass.new ≡ runs_in pass.old }
     ensures told { IfOk result (λ since. since ≡ since_in pass.new revision) }
-    ensures worn { OnWorn result (IsWorn pass.new) }
+    ensures worn { OnWorn result (pass.new.left < 2) }
     ensures not_halted { OnHalted result ⊥ }
 {
     if pass.left() < 2 {

@@ -3,6 +3,10 @@
 #![tactic(auto)]
 
 #[cfg(test)]
+mod counting;
+#[cfg(test)]
+mod crossed;
+#[cfg(test)]
 mod play;
 #[cfg(test)]
 mod scenarios;

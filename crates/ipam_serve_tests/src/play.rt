@@ -2,6 +2,7 @@
 ghost use Rattle.std.specs.Prelude.{◌≡◌, ◌≤◌, ◌^◌, None};
 ghost use Rattle.ipam_shared.specs.Passes.{IsNewlyKept, IsSamePass, runs_in};
 
+use crate::counting::Counting;
 use ipam_io::{ListClock, ListGate, MemoryLink};
 use ipam_keeper::{MemoryKeeper, Row};
 use ipam_serve::{SessionEnd, serve_session};
@@ -118,7 +119,7 @@ fn sessions<R: Wait, D: Keeper>(
 }
 
 /// Serves the session whose lines these are, and appends its replies and its end.
-fn session<R: Wait, D: Keeper>(
+pub(crate) fn session<R: Wait, D: Keeper>(
     rt: &R,
     alloc: Global,
     shared: &Shared<D>,
@@ -134,11 +135,25 @@ fn session<R: Wait, D: Keeper>(
     let mut gate = ListGate::new(numbers(alloc, lines, "stop ")?);
     let mut clock = ListClock::new(numbers(alloc, lines, "clock ")?);
     let mut link = link_of(alloc, lines)?;
-    let end = serve_session(rt, alloc, shared, pass, &mut gate, &mut clock, &mut link);
+    let mut patience = Counting::new();
+    let end = serve_session(
+        rt,
+        alloc,
+        shared,
+        pass,
+        &mut gate,
+        &mut clock,
+        &mut patience,
+        &mut link,
+    );
     tell_session(link.written(), end, told)
 }
 
-fn tell_session(written: &[u8], end: SessionEnd, told: &mut String) -> Result<(), AllocError> {
+pub(crate) fn tell_session(
+    written: &[u8],
+    end: SessionEnd,
+    told: &mut String,
+) -> Result<(), AllocError> {
     for line in str::from_utf8(written).unwrap_or("no text").lines() {
         push_line(told, "< ", line)?;
     }
@@ -173,7 +188,7 @@ fn numbers(alloc: Global, lines: &str, start: &str) -> Result<Vec<u64>, AllocErr
 
 /// The link of a session. `> TEXT` is a line that comes in, `. TEXT` a text without a line feed, and
 /// `fill N` are N bytes without one. Of its reads and writes those fail that a line `break N..` says.
-fn link_of(alloc: Global, lines: &str) -> Result<MemoryLink, AllocError> {
+pub(crate) fn link_of(alloc: Global, lines: &str) -> Result<MemoryLink, AllocError> {
     let mut bytes = Vec::new(alloc);
     for line in lines.lines() {
         let (word, rest) = line.split_once(' ').unwrap_or((line, ""));
@@ -215,7 +230,11 @@ fn first_of(scenario: &str) -> u64
 
 /// The keeper of these rows, each a line `REVISION KEY BODY`. Of its writes, those of the rows first,
 /// counted from 1, those fail that a line `fail N..` of the scenario says.
-fn keeper_of(alloc: Global, rows: &str, scenario: &str) -> Result<MemoryKeeper, AllocError> {
+pub(crate) fn keeper_of(
+    alloc: Global,
+    rows: &str,
+    scenario: &str,
+) -> Result<MemoryKeeper, AllocError> {
     let mut keeper = MemoryKeeper::new(Vec::new(alloc), failing_of(alloc, scenario)?);
     for row in rows.lines() {
         put(&mut keeper, row)?;

@@ -322,3 +322,29 @@ fill 1048576
 > {"request":{"add":{"handle":"n.c1","node":"a"}}}
 session line too long
 get handle"#;
+
+/// A session that asks for the routes twice.
+pub(crate) const ROUTES_TWICE: &str = r#"> {"routes":true}
+> {"routes":true}
+> {"routesSince":3}"#;
+
+/// Another one, which gives back the node's block.
+pub(crate) const RELEASE: &str = r#"> {"request":{"release":{"cidr":"10.0.0.0/30","node":"a"}}}"#;
+
+/// What it is told.
+pub(crate) const RELEASED: &str = r#"< {"answer":"released"}
+session closed
+"#;
+
+/// What the first is told, where the other is served before its second line.
+pub(crate) const ROUTES_LEFT: &str =
+    r#"< {"revision":3,"routes":[{"cidr":"10.0.0.0/30","node":"a"}]}
+< {"revision":6,"routes":[]}
+< {"changes":[{"cidr":"10.0.0.0/30","node":"a","revision":4,"up":false}],"revision":6}
+session closed
+"#;
+
+/// Sessions of one node that want an address.
+pub(crate) const ADD_FIRST: &str = r#"> {"request":{"add":{"handle":"n.c1","node":"a"}}}"#;
+
+pub(crate) const ADD_OTHER: &str = r#"> {"request":{"add":{"handle":"n.c2","node":"a"}}}"#;

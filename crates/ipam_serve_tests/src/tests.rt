@@ -1,5 +1,9 @@
+use crate::crossed::cross;
 use crate::play::play;
-use crate::scenarios::{CALLS, COLLECTIONS, ENDS, FREE, HELD, LONG, ROUTES};
+use crate::scenarios::{
+    ADD_FIRST, ADD_OTHER, CALLS, COLLECTIONS, ENDS, FREE, HELD, LONG, RELEASE, RELEASED, ROUTES,
+    ROUTES_LEFT, ROUTES_TWICE,
+};
 use std::alloc::{AllocError, Global};
 use std::process::Abort;
 use std::sync::Wait;
@@ -53,5 +57,31 @@ fn ends_are_told(rt: HostRuntime) -> Result<(), Fail> {
 fn a_line_has_at_most_1048575_bytes(rt: HostRuntime) -> Result<(), Fail> {
     let count = played(&rt, rt.alloc(), FREE, LONG)?;
     assert_eq!(rt; count, 2);
+    Ok(())
+}
+
+#[test]
+fn routes_are_those_that_another_session_left(rt: HostRuntime) -> Result<(), Fail> {
+    let crossed = cross(&rt, rt.alloc(), FREE, ROUTES_TWICE, 2, RELEASE)?;
+    assert_eq!(rt; crossed.other.as_str(), RELEASED);
+    assert_eq!(rt; crossed.first.as_str(), ROUTES_LEFT);
+    Ok(())
+}
+
+#[test]
+fn who_lost_a_race_waits_once(rt: HostRuntime) -> Result<(), Fail> {
+    // the ninth pass is before the write of the block
+    let crossed = cross(&rt, rt.alloc(), FREE, ADD_FIRST, 9, ADD_OTHER)?;
+    assert!(rt; crossed.other.as_str().contains("\"address\":\"10.0.0.0\""));
+    assert!(rt; crossed.first.as_str().contains("\"address\":\"10.0.0.1\""));
+    assert_eq!(rt; (crossed.waits, crossed.losses), (1, 1));
+    Ok(())
+}
+
+#[test]
+fn who_lost_no_race_does_not_wait(rt: HostRuntime) -> Result<(), Fail> {
+    let crossed = cross(&rt, rt.alloc(), FREE, ADD_FIRST, 1, ADD_OTHER)?;
+    assert!(rt; crossed.first.as_str().contains("\"address\":\"10.0.0.1\""));
+    assert_eq!(rt; crossed.waits, 0);
     Ok(())
 }

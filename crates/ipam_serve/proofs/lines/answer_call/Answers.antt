@@ -1,5 +1,6 @@
 use Rattle.ipam_shared.specs.Passes.{runs_in}
-use Rattle.ipam_serve.proofs.LineParts.{breaks-at-once, call-some-broken, call-some-replies, call-timeless, call-told, call-waiting, none-waits, rests-none, rests-waits}
+use Rattle.ipam_serve.proofs.Going.{worn-from}
+use Rattle.ipam_serve.proofs.LineParts.{breaks-at-once, call-some-broken, call-some-replies, call-timeless, call-told, call-waiting, call-wears, none-waits, rests-none, rests-waits}
 use Rattle.ipam_serve.proofs.lines.answer_call.Goals as goal
 use Rattle.ipam_serve.specs.Lines.{server_at}
 
@@ -43,3 +44,10 @@ returns-in-Ok-Runs-clause-broken g c =
 
 pub returns-in-Err-clause-broken : goal.returns-in-Err-clause-broken
 returns-in-Err-clause-broken g c = breaks-at-once (server_at c.args.pass.now (g.G.Gate.turns c.args.gate.now) (g.C.Clock.ahead c.args.clock.now)) _
+
+pub returns-in-Ok-Runs-clause-worn : goal.returns-in-Ok-Runs-clause-worn
+returns-in-Ok-Runs-clause-worn g c =
+    worn-from c.tell_run.result _ _ _
+    (call-wears c.args.pass.now c.tell_run.new.pass c.args.env.now c.args.stdin.now c.in-Ok-Runs.request c.in-Ok-Runs.version
+    (none-waits _ (rests-none (runs_in c.args.pass.now) c.running.result c.running.ensures c.if-running.false)) (rw c.in-Ok-Runs.field-0-is at c.in-Ok-Runs.ensures.begun))
+    c.tell_run.ensures.worn c.tell_run.ensures.unanswered

@@ -1,5 +1,6 @@
 use Rattle.ipam_shared.specs.Passes.{runs_in}
-use Rattle.ipam_serve.proofs.LineParts.{none-waits, ran-rests, request-breaks, request-replies, request-waiting, rests-none, rests-waits, waits-alone}
+use Rattle.ipam_serve.proofs.Going.{worn-both}
+use Rattle.ipam_serve.proofs.LineParts.{none-waits, ran-rests, request-breaks, request-replies, request-waiting, request-wears, rests-none, rests-waits, waits-alone}
 use Rattle.ipam_serve.proofs.lines.answer_request.Goals as goal
 use Rattle.ipam_serve.specs.Lines.{server_at}
 
@@ -30,3 +31,9 @@ returns-in-Err-clause-broken g c =
     c.args.request.now c.set_time-at.result
     (none-waits _ (rests-none (runs_in c.args.pass.now) c.running.result c.running.ensures c.if-running.false)) c.set_time-at.ensures.reads
     (rw c.set_time-at.ensures.timed at c.in-Err.ensures.broken)
+
+pub returns-in-Err-clause-worn : goal.returns-in-Err-clause-worn
+returns-in-Err-clause-worn g c =
+    worn-both c.in-Err.broken _ _ _
+    (request-wears c.args.pass.now c.run_request.new.pass c.args.request.now (none-waits _ (rests-none (runs_in c.args.pass.now) c.running.result c.running.ensures c.if-running.false)))
+    c.in-Err.ensures.worn c.in-Err.ensures.unanswered

@@ -1,10 +1,13 @@
+use Rattle.std.proofs.Common.{Err}
+use Rattle.ipam_serve.proofs.Going.{worn-so}
+use Rattle.ipam_serve.proofs.LineParts.{since-wears}
 use Rattle.ipam_serve.proofs.Routing.{since-breaks, since-replies, same-rests}
 use Rattle.ipam_serve.proofs.lines.answer_since.Goals as goal
 use Rattle.ipam_serve.specs.Lines.{server_at}
 
 pub returns-in-Ok-clause-replied : goal.returns-in-Ok-clause-replied
 returns-in-Ok-clause-replied g c turns ahead =
-    since-replies (server_at c.args.pass.now turns ahead) c.routes_since.new.pass c.in-Ok.ensures.took c.args.revision c.in-Ok.since c.in-Ok.ensures.told
+    since-replies (server_at c.args.pass.now turns ahead) c.routes_since.new.pass c.in-Ok.ensures.took c.args.revision c.in-Ok.since c.in-Ok.ensures.told c.in-Ok.ensures.one
 
 pub returns-in-Err-clause-broken : goal.returns-in-Err-clause-broken
 returns-in-Err-clause-broken g c turns ahead =
@@ -15,3 +18,6 @@ returns-in-Ok-clause-rests g c = same-rests c.args.pass.now c.routes_since.new.p
 
 pub returns-in-Err-clause-rests : goal.returns-in-Err-clause-rests
 returns-in-Err-clause-rests g c = same-rests c.args.pass.now c.routes_since.new.pass c.in-Err.ensures.runs c.requires.rests
+
+pub returns-in-Err-clause-worn : goal.returns-in-Err-clause-worn
+returns-in-Err-clause-worn g c = worn-so {T = Unit {0}} (Err c.in-Err.broken) _ _ (since-wears c.args.pass.now c.routes_since.new.pass c.args.revision c.in-Err.ensures.took) c.in-Err.ensures.worn

@@ -1,4 +1,5 @@
-use Rattle.ipam_serve.proofs.LineParts.{feed-breaks, feed-replies, feed-rests}
+use Rattle.ipam_serve.proofs.Going.{worn-both}
+use Rattle.ipam_serve.proofs.LineParts.{feed-breaks, feed-replies, feed-rests, feed-wears}
 use Rattle.ipam_serve.proofs.lines.feed_waiting.Goals as goal
 use Rattle.ipam_serve.specs.Lines.{server_at}
 
@@ -19,3 +20,6 @@ returns-in-Err-clause-broken g c =
     feed-breaks (server_at c.args.pass.now (g.G.Gate.turns c.args.gate.now) (g.C.Clock.ahead c.args.clock.now))
     (server_at c.run_feed.new.pass (g.G.Gate.turns c.run_feed.new.gate) (g.C.Clock.ahead c.now-at.new.self))
     c.args.live.now c.now-at.result c.requires.waits c.now-at.ensures c.in-Err.ensures.broken
+
+pub returns-in-Err-clause-worn : goal.returns-in-Err-clause-worn
+returns-in-Err-clause-worn g c = worn-both c.in-Err.broken _ _ _ (feed-wears c.args.pass.now c.run_feed.new.pass c.args.live.now c.requires.waits) c.in-Err.ensures.worn c.in-Err.ensures.runs

@@ -1,6 +1,7 @@
-use Rattle.std.proofs.Common.{inl}
+use Rattle.std.proofs.Common.{Err, inl}
 use Rattle.ipam_shared.specs.Passes.{runs_in}
-use Rattle.ipam_serve.proofs.LineParts.{stop-breaks, stop-replies, stopped-idle}
+use Rattle.ipam_serve.proofs.Going.{worn-so}
+use Rattle.ipam_serve.proofs.LineParts.{stop-breaks, stop-replies, stop-wears, stopped-idle}
 use Rattle.ipam_serve.proofs.Running.{waiting-some}
 use Rattle.ipam_serve.proofs.lines.stop_waiting.Goals as goal
 use Rattle.ipam_serve.specs.Lines.{server_at}
@@ -16,3 +17,6 @@ returns-in-Ok-clause-rests g c = inl (stopped-idle c.args.pass.now c.stop.new.pa
 
 pub returns-in-Err-clause-broken : goal.returns-in-Err-clause-broken
 returns-in-Err-clause-broken g c turns ahead = stop-breaks (server_at c.args.pass.now turns ahead) c.stop.new.pass c.in-Err.ensures.not_stopped
+
+pub returns-in-Err-clause-worn : goal.returns-in-Err-clause-worn
+returns-in-Err-clause-worn g c = worn-so {T = Unit {0}} (Err c.in-Err.broken) _ _ (stop-wears c.args.pass.now c.stop.new.pass c.requires.waits c.in-Err.ensures.not_stopped) c.in-Err.ensures.worn

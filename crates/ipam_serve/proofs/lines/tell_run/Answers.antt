@@ -17,3 +17,6 @@ returns-in-Ok-clause-worn g c = memory-worn c.call_reply.result _ c.call_reply.e
 
 pub returns-in-Ok-clause-stops : goal.returns-in-Ok-clause-stops
 returns-in-Ok-clause-stops g c = memory-halts c.call_reply.result _ _ c.call_reply.ensures.memory c.in-Ok.ensures.stops
+
+pub returns-in-Ok-clause-unanswered : goal.returns-in-Ok-clause-unanswered
+returns-in-Ok-clause-unanswered g c = memory-worn c.call_reply.result _ c.call_reply.ensures.memory

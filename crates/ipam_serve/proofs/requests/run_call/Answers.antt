@@ -1,4 +1,5 @@
-use Rattle.ipam_serve.proofs.Going.{call-answered, call-broken, call-fed}
+use Rattle.std.proofs.Common.{inr}
+use Rattle.ipam_serve.proofs.Going.{call-answered, call-broken, call-fed, worn-so}
 use Rattle.ipam_serve.proofs.Running.{begins-calls-part}
 use Rattle.ipam_serve.proofs.requests.run_call.Goals as goal
 
@@ -23,3 +24,6 @@ pub returns-in-Err-clause-broken : goal.returns-in-Err-clause-broken
 returns-in-Err-clause-broken g c =
     begins-calls-part (record { pass = c.args.pass.now; turns = g.G.Gate.turns c.args.gate.now }) (record { pass = c.run_request.new.pass; turns = g.G.Gate.turns c.run_request.new.gate })
     c.args.request.now c.in-Err.ensures.broken
+
+pub returns-in-Ok-Waits-clause-unanswered : goal.returns-in-Ok-Waits-clause-unanswered
+returns-in-Ok-Waits-clause-unanswered g c = worn-so c.feed_own.result _ _ inr c.feed_own.ensures.runs

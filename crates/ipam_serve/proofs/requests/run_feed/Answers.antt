@@ -1,6 +1,7 @@
 use Rattle.std.proofs.Common.{◌∙◌}
-use Rattle.ipam_serve.proofs.Going.{fed-broken, fed-found, fed-runs, feeds-early}
-use Rattle.ipam_serve.proofs.Running.{not-begun}
+use Rattle.ipam_shared.specs.Passes.{runs_in}
+use Rattle.ipam_serve.proofs.Going.{fed-broken, fed-found, fed-runs, feeds-early, still-runs, worn-any}
+use Rattle.ipam_serve.proofs.Running.{not-begun, waiting-some}
 use Rattle.ipam_serve.proofs.requests.run_feed.Goals as goal
 
 pub run_fed-requires-clause-runs : goal.run_fed-requires-clause-runs
@@ -30,3 +31,6 @@ returns-in-Ok-TooSoon-clause-fed g c =
 pub returns-in-Err-clause-broken : goal.returns-in-Err-clause-broken
 returns-in-Err-clause-broken g c =
     not-begun (record { pass = c.args.pass.now; turns = g.G.Gate.turns c.args.gate.now }) c.feed.new.pass _ c.in-Err.ensures.not_fed
+
+pub returns-in-Err-clause-runs : goal.returns-in-Err-clause-runs
+returns-in-Err-clause-runs g c = worn-any c.in-Err.broken _ (still-runs c.args.pass.now c.feed.new.pass 1 c.in-Err.ensures.not_fed (waiting-some (runs_in c.args.pass.now) c.requires.waits))

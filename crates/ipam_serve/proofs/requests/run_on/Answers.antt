@@ -1,6 +1,6 @@
 use Rattle.std.proofs.Common.{arith, refl, ◌∙◌}
 use Rattle.ipam_serve.proofs.Coming.{ran-can, ran-waiting}
-use Rattle.ipam_serve.proofs.Going.{halts-on}
+use Rattle.ipam_serve.proofs.Going.{halts-on, still-runs, worn-any}
 use Rattle.ipam_serve.proofs.Running.{far-ran, far-start, far-stays, far-step, made-asked, same-some}
 use Rattle.ipam_serve.proofs.Turning.{took-lock}
 use Rattle.ipam_serve.proofs.requests.run_on.Goals as goal
@@ -56,3 +56,6 @@ loop-ran-preserved g c =
       asked = same ∙ c.loop-ran.invariant.asked;
       stops = c.in-Ok-None.ensures.stops ∙ c.loop-ran.invariant.stops;
     }
+
+pub returns-in-Err-clause-runs : goal.returns-in-Err-clause-runs
+returns-in-Err-clause-runs g c = worn-any c.in-Err.broken _ (still-runs c.loop-ran.pass c.step_on.new.pass 1 c.in-Err.ensures.no_step c.loop-ran.invariant.runs)

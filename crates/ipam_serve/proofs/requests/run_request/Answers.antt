@@ -1,4 +1,5 @@
-use Rattle.ipam_serve.proofs.Going.{broken-begun, ran-begun, ran-idle, ran-waits}
+use Rattle.std.proofs.Common.{inl, inr}
+use Rattle.ipam_serve.proofs.Going.{broken-begun, ran-begun, ran-idle, ran-waits, worn-any, worn-so}
 use Rattle.ipam_serve.proofs.Running.{begun-asked, not-begun, some-asked}
 use Rattle.ipam_serve.proofs.requests.run_request.Goals as goal
 
@@ -33,3 +34,9 @@ returns-in-Ok-clause-waits g c =
 pub returns-in-Err-clause-broken : goal.returns-in-Err-clause-broken
 returns-in-Err-clause-broken g c =
     not-begun (record { pass = c.args.pass.now; turns = g.G.Gate.turns c.args.gate.now }) c.begin.new.pass _ c.in-Err.ensures.not_begun
+
+pub returns-in-Ok-clause-unanswered : goal.returns-in-Ok-clause-unanswered
+returns-in-Ok-clause-unanswered g c = worn-so c.run_on.result _ _ inr c.run_on.ensures.runs
+
+pub returns-in-Err-clause-unanswered : goal.returns-in-Err-clause-unanswered
+returns-in-Err-clause-unanswered g c = worn-any c.in-Err.broken _ (inl c.in-Err.ensures.not_begun.gained)

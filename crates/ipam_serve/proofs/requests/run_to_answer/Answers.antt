@@ -15,3 +15,6 @@ returns-in-Ok-clause-worn g c = memory-worn c.answer_of.result _ c.answer_of.ens
 
 pub returns-in-Ok-clause-stops : goal.returns-in-Ok-clause-stops
 returns-in-Ok-clause-stops g c = memory-halts c.answer_of.result _ _ c.answer_of.ensures.memory c.in-Ok.ensures.stops
+
+pub returns-in-Ok-clause-runs : goal.returns-in-Ok-clause-runs
+returns-in-Ok-clause-runs g c = memory-worn c.answer_of.result _ c.answer_of.ensures.memory

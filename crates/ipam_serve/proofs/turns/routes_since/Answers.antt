@@ -1,5 +1,5 @@
 use Rattle.std.proofs.Common.{◌≤◌, arith}
-use Rattle.ipam_serve.proofs.Coming.{sees-none, took-err}
+use Rattle.ipam_serve.proofs.Coming.{on-ok, one-err, sees-none, took-err}
 use Rattle.ipam_serve.proofs.Routing.{told-changes, told-faults}
 use Rattle.ipam_serve.proofs.Slots.{untold-runs}
 use Rattle.ipam_serve.proofs.Turning.{took-none, took-rest}
@@ -35,3 +35,8 @@ pub returns-in-Err-clause-told : goal.returns-in-Err-clause-told
 returns-in-Err-clause-told g c =
     let enough : 2 ≤ c.args.pass.now.left = rw (← c.left.ensures) c.if-left-lt2.false in
     told-faults c.args.pass.now c.routes_since.new.pass c.args.revision (omega arith) c.in-Err.fault c.not_told.result c.in-Err.ensures.compacted c.in-Err.ensures.ahead c.not_told.ensures.told
+
+pub returns-in-Err-clause-one : goal.returns-in-Err-clause-one
+returns-in-Err-clause-one g c =
+    let enough : 2 ≤ c.args.pass.now.left = rw (← c.left.ensures) c.if-left-lt2.false in
+    on-ok c.not_told.result (one-err c.args.pass.now c.routes_since.new.pass c.in-Err.fault c.in-Err.ensures.spent enough c.in-Err.ensures.left)
