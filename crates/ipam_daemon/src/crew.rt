@@ -1,0 +1,96 @@
+//! Threads for workers.
+ghost use Rattle.std.specs.Prelude.{◌≡◌, ℕ, IfOk};
+ghost use Rattle.ipam_daemon.specs.Crews.{IsHired};
+
+use crate::channel::TakingEnd;
+use crate::handing::{Attends, work};
+use ipam_socket::Stream;
+use log::Log;
+use std::alloc::{AllocError, Global};
+use std::sync::Wait;
+use std::thread;
+use std::thread::{JoinHandle, Threads};
+use std::time::Clock;
+
+/// What has workers work.
+pub trait Hires<W> {
+    /// How many work.
+    ghost hired: { Self → ℕ };
+
+    /// How often that failed.
+    ghost faults: { Self → ℕ };
+
+    /// Has the worker work. False where it can't.
+    fn hire(&mut self, worker: W) -> Result<bool, AllocError>
+        ensures { IfOk result (λ is_hired. IsHired is_hired (hired self.old) (hired self.new) (faults self.old) (faults self.new)) };
+}
+
+/// Threads that are started, in each of which a worker serves what is taken from one channel.
+#[derive(Drop)]
+pub(crate) struct Crew<'a, R> {
+    rt: &'a R,
+    from: &'a TakingEnd,
+    threads: Vec<JoinHandle<()>>,
+    hired: u64,
+    faults: u64,
+}
+
+impl<'a, R> Crew<'a, R> {
+    /// A crew of nobody.
+    pub(crate) fn new(rt: &'a R, alloc: Global, from: &'a TakingEnd) -> Crew<'a, R>
+        ensures hired { result.hired ≡ 0 }
+        ensures faults { result.faults ≡ 0 }
+    {
+        Crew {
+            rt,
+            from,
+            threads: Vec::new(alloc),
+            hired: 0,
+            faults: 0,
+        }
+    }
+
+    /// The threads, how many work, and how often that failed.
+    pub(crate) fn into_parts(self) -> (Vec<JoinHandle<()>>, u64, u64)
+        ensures hired { result.1 ≡ self.hired }
+        ensures faults { result.2 ≡ self.faults }
+    {
+        (self.threads, self.hired, self.faults)
+    }
+}
+
+impl<
+    R: Threads + Wait + Log + Clock + Copy + Send + Drop + 'static,
+    W: Attends<Stream> + Send + Drop + 'static,
+> Hires<W> for Crew<'_, R> {
+    ghost hired = { λ crew. crew.hired };
+
+    ghost faults = { λ crew. crew.faults };
+
+    /// Starts a thread in which the worker works. False where the system makes no thread.
+    fn hire(&mut self, worker: W) -> Result<bool, AllocError> {
+        let rt = *self.rt;
+        let from = self.from.another()?;
+        self.threads.reserve(1)?;
+        match thread::spawn(&rt, move || work_for(&rt, from, worker)) {
+            Ok(thread) => {
+                self.threads.push(thread)?;
+                self.hired = self.hired.saturating_add(1);
+                Ok(true)
+            }
+            Err(_) => {
+                self.faults = self.faults.saturating_add(1);
+                Ok(false)
+            }
+        }
+    }
+}
+
+/// Serves what is taken from the channel.
+fn work_for<R: Wait + Log + Clock, W: Attends<Stream> + Drop>(
+    rt: &R,
+    mut from: TakingEnd,
+    mut worker: W,
+) {
+    work(rt, &mut from, &mut worker);
+}
