@@ -20,17 +20,6 @@ a > "handle":"net.c2"}}}
 a < {"answer":"checked"}
 a !
 
-1 4 40000 who sends nothing or half a line costs a worker only while it is connected
-a . {"request":{"add":{"handle"
-a !
-b !
-c > {"request":{"add":{"handle":"n.c1","node":"a"}}}
-c . {"request":{"del":{"handle":"n.c1"}}}
-c !
-d > {"request":{"check":{"addresses":["10.0.0.0"],"handle":"n.c1"}}}
-d < {"answer":"checked"}
-d !
-
 0 3 40000 where there is no worker the connections are served one after the other
 a . {"request":{"add":{"handle"
 a !
@@ -89,8 +78,19 @@ a > POST / HTTP/1.1
 a < {"refused":"line"}
 a !"#;
 
-/// The same, over TCP.
-pub(crate) const OVER_TCP: &str = r#"1 2 40000 what a web page sends is closed before it is served
+/// The same, over TCP, where a client that is gone without a reset is not seen to be.
+pub(crate) const OVER_TCP: &str = r#"1 4 40000 who sends nothing or half a line costs a worker only while it is connected
+a . {"request":{"add":{"handle"
+a !
+b !
+c > {"request":{"add":{"handle":"n.c1","node":"a"}}}
+c . {"request":{"del":{"handle":"n.c1"}}}
+c !
+d > {"request":{"check":{"addresses":["10.0.0.0"],"handle":"n.c1"}}}
+d < {"answer":"checked"}
+d !
+
+1 2 40000 what a web page sends is closed before it is served
 a * {"request":{"add":{"handle":"n.c1","node":"a"}}}
 a < end
 b > {"request":{"add":{"handle":"n.c2","node":"a"}}}
@@ -98,13 +98,13 @@ b < {"answer":{"added":[{"address":"10.0.0.0","b":5,"c":1,"f":4,"p":2,"r":3,"w":
 b !
 
 1 2 40000 a session may begin with blanks
-a >   {"request":{"add":{"handle":"n.c1","node":"a"}}}
-a < {"refused":"line"}
+a >   {"feed":[]}
+a < {"refused":"not waiting"}
 b !
 a !"#;
 
-/// The same, where the daemon waits for a second.
-pub(crate) const CUT: &str = r#"3 3 1000 who is silent is cut off
+/// The same, where the daemon waits for two seconds.
+pub(crate) const CUT: &str = r#"3 3 2000 who is silent is cut off
 b . {"request":
 c > {"feed":[]}
 c < {"refused":"not waiting"}

@@ -96,10 +96,10 @@ fn play_each<R: Threads + Wait + Log + Clock + Copy + Send + Sync + Drop + 'stat
 fn scripts_are_played(rt: HostRuntime) -> Result<(), Fail> {
     let path = socket_path(&rt, "scripts")?;
     let tables = [
-        (ANY_PORT, EITHER, 5),
-        (path.as_str(), EITHER, 5),
+        (ANY_PORT, EITHER, 4),
+        (path.as_str(), EITHER, 4),
         (path.as_str(), AT_A_FILE, 3),
-        (ANY_PORT, OVER_TCP, 2),
+        (ANY_PORT, OVER_TCP, 3),
         (ANY_PORT, CUT, 1),
         (path.as_str(), CUT, 1),
     ];
