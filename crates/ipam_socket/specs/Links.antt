@@ -7,11 +7,11 @@ use Rattle.ipam_socket.specs.declared.stream.Stream.{Stream}
 use Rattle.ipam_socket.specs.declared.stream.Stream.TheVariants.{File, Host}
 
 -- how many reads of it failed
-abbrev pub link_read_faults : {R S : Type 0} → SocketLink R S → ℕ
+abbrev pub link_read_faults : {C S : Type 0} → SocketLink C S → ℕ
 link_read_faults link = link.read_faults
 
 -- how many writes to it failed
-abbrev pub link_write_faults : {R S : Type 0} → SocketLink R S → ℕ
+abbrev pub link_write_faults : {C S : Type 0} → SocketLink C S → ℕ
 link_write_faults link = link.write_faults
 
 -- whom the gate looks at

@@ -15,8 +15,8 @@ use std::time::{Clock, Duration, Instant};
 /// session begins: a web page can have a browser send lines of a session, but only after a first
 /// line of its own.
 #[derive(Drop)]
-pub struct SocketLink<'a, R, S> {
-    clock: &'a R,
+pub struct SocketLink<C, S> {
+    clock: C,
     stream: S,
     limits: Limits,
     waits: Waits,
@@ -26,9 +26,9 @@ pub struct SocketLink<'a, R, S> {
     write_faults: u64,
 }
 
-impl<'a, R: Clock, S: Connected> SocketLink<'a, R, S> {
+impl<C: Clock, S: Connected> SocketLink<C, S> {
     /// The daemon's end of this connection.
-    pub fn of_session(clock: &'a R, stream: S, limits: Limits) -> SocketLink<'a, R, S>
+    pub fn of_session(clock: C, stream: S, limits: Limits) -> SocketLink<C, S>
         ensures read_faults { link_read_faults result ≡ 0 }
         ensures write_faults { link_write_faults result ≡ 0 }
     {
@@ -37,14 +37,14 @@ impl<'a, R: Clock, S: Connected> SocketLink<'a, R, S> {
     }
 
     /// The client's end of this connection, where each first byte is taken.
-    pub fn of_call(clock: &'a R, stream: S, limits: Limits) -> SocketLink<'a, R, S>
+    pub fn of_call(clock: C, stream: S, limits: Limits) -> SocketLink<C, S>
         ensures read_faults { link_read_faults result ≡ 0 }
         ensures write_faults { link_write_faults result ≡ 0 }
     {
         SocketLink::new(clock, stream, limits, true)
     }
 
-    fn new(clock: &'a R, stream: S, limits: Limits, is_checked: bool) -> SocketLink<'a, R, S>
+    fn new(clock: C, stream: S, limits: Limits, is_checked: bool) -> SocketLink<C, S>
         ensures read_faults { link_read_faults result ≡ 0 }
         ensures write_faults { link_write_faults result ≡ 0 }
     {
@@ -97,9 +97,9 @@ impl<'a, R: Clock, S: Connected> SocketLink<'a, R, S> {
         let Some(left) = self.waits.left() else {
             return Err(io::Error::from(ErrorKind::TimedOut));
         };
-        let began = Instant::now(self.clock)?;
+        let began = Instant::now(&self.clock)?;
         let found = self.stream.stream().read_within(left, into);
-        self.waits.spend(began.elapsed(self.clock)?);
+        self.waits.spend(began.elapsed(&self.clock)?);
         found
     }
 
@@ -123,7 +123,7 @@ impl<'a, R: Clock, S: Connected> SocketLink<'a, R, S> {
             if rest.is_empty() {
                 return Ok(());
             }
-            let began = Instant::now(self.clock)?;
+            let began = Instant::now(&self.clock)?;
             match self.write_once(left, rest) {
                 Ok(count) => rest = &rest[count..],
                 Err(error) => {
@@ -132,7 +132,7 @@ impl<'a, R: Clock, S: Connected> SocketLink<'a, R, S> {
                     }
                 }
             }
-            left = left.saturating_sub(began.elapsed(self.clock)?);
+            left = left.saturating_sub(began.elapsed(&self.clock)?);
         }
         Err(io::Error::from(ErrorKind::TimedOut))
     }
@@ -151,7 +151,7 @@ impl<'a, R: Clock, S: Connected> SocketLink<'a, R, S> {
     }
 }
 
-impl<R: Clock, S: Connected> Source for SocketLink<'_, R, S> {
+impl<C: Clock, S: Connected> Source for SocketLink<C, S> {
     ghost use Rattle.std.specs.Prelude.{None};
 
     ghost left = { λ _. None };
@@ -173,7 +173,7 @@ impl<R: Clock, S: Connected> Source for SocketLink<'_, R, S> {
     }
 }
 
-impl<R: Clock, S: Connected> Sink for SocketLink<'_, R, S> {
+impl<C: Clock, S: Connected> Sink for SocketLink<C, S> {
     ghost use Rattle.std.specs.Prelude.{None};
 
     ghost written = { λ _. None };
@@ -196,7 +196,7 @@ impl<R: Clock, S: Connected> Sink for SocketLink<'_, R, S> {
     }
 }
 
-impl<R: Clock, S: Connected> Link for SocketLink<'_, R, S> {
+impl<C: Clock, S: Connected> Link for SocketLink<C, S> {
     ghost use Rattle.std.specs.Prelude.{refl};
 
     ghost read_leaves_sink = { λ _. refl };
