@@ -1,1 +1,1 @@
-mod Unreached
+mod NoReply

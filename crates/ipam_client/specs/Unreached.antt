@@ -21,7 +21,7 @@ unreached_fault Memory = Memory
 -- The version of standard input, where its bytes are known; or 1.0.0, since reading it failed.
 abbrev pub IsVersionRead : (left : Option (List ℕ)) → (faults faults' : ℕ) → Version → Type 0
 IsVersionRead left faults faults' version =
-    ((faults' ≡ faults) × IfSome left (λ input. version ≡ version_for input)) ⊎ (Rose faults faults' × (version ≡ V1_0_0))
+    ((faults' ≡ faults) × IfSome left (λ input. version ≡ version_for input)) ⊎ (Rose faults faults' × IfSome left (λ input. version ≡ V1_0_0))
 
 -- The link failed, and nothing else is told but want of memory for the version.
 abbrev pub IsUnreached : (left : Option (List ℕ)) → (faults faults' : ℕ) → CallEnd → Type 0

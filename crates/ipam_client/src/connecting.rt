@@ -45,14 +45,14 @@ impl<'a, R> Connector<'a, R> {
     }
 }
 
-impl<'a, R: Net<Stream = TcpStream> + Clock> Connects<SocketLink<'a, R, Stream>>
+impl<'a, R: Net<Stream = TcpStream> + Clock> Connects<SocketLink<&'a R, Stream>>
     for Connector<'a, R> {
     ghost connected = { λ connector. connector.connected };
 
     ghost faults = { λ connector. connector.faults };
 
     /// Connects to the address. Of the addresses of a host's name it takes the first that answers.
-    fn connect(&mut self) -> Option<SocketLink<'a, R, Stream>> {
+    fn connect(&mut self) -> Option<SocketLink<&'a R, Stream>> {
         match connect(self.rt, self.address, self.limits.first) {
             Some(stream) => {
                 self.connected = self.connected.saturating_add(1);

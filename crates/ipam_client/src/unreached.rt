@@ -71,6 +71,7 @@ pub fn tell_unreached<S: Source, K: Sink>(alloc: Global, source: &mut S, sink: &
 }
 
 /// How a call of nobody ends.
+#[tactic(auto, using(crate::proofs::NoReply::no_reply, crate::proofs::NoReply::unreached_end))]
 fn unreached<S: Source>(alloc: Global, source: &mut S) -> CallEnd
     ensures end { IsUnreached (S.left source.old) (S.read_faults source.old) (S.read_faults source.new) result }
     ensures rest { S.read_rest source.new ≡ S.read_rest source.old }

@@ -16,8 +16,8 @@ abbrev pub IsSpent : PassValue → Type 0
 IsSpent pass = (pass.left ≤ SPLIT_TURNS) ⊎ (pass.made ≡ SLOTS)
 
 -- all of so many workers work, or fewer, since a thread could not be made or no pass was left
-pub record IsEngaged (workers hired hired' faults faults' : ℕ) (pass : PassValue) : Type 0 where
+pub record IsEngaged (workers h h' faults faults' : ℕ) (pass : PassValue) : Type 0 where
   pub count : ℕ
   pub at_most : count ≤ workers
-  pub hired : hired' ≡ raised count hired
+  pub hired : h' ≡ raised count h
   pub all : (count ≡ workers) ⊎ Rose faults faults' ⊎ IsSpent pass

@@ -8,10 +8,10 @@ raised zero count = count
 raised (suc more) count = next_count (raised more count)
 
 -- each connection that was taken was served
-pub record IsEachServed (taken taken' attended attended' : ℕ) : Type 0 where
+pub record IsEachServed (t t' a a' : ℕ) : Type 0 where
   pub count : ℕ
-  pub taken : taken' ≡ raised count taken
-  pub attended : attended' ≡ raised count attended
+  pub taken : t' ≡ raised count t
+  pub attended : a' ≡ raised count a
 
 -- a connection was handed over, or served by who accepted it
 abbrev pub IsOneHandedOver : (handed handed' attended attended' : ℕ) → Type 0
@@ -19,9 +19,9 @@ IsOneHandedOver handed handed' attended attended' =
     ((handed' ≡ next_count handed) × (attended' ≡ attended)) ⊎ ((handed' ≡ handed) × (attended' ≡ next_count attended))
 
 -- each connection that was accepted was handed over, or served by who accepted it
-pub record IsHandedOver (accepted accepted' handed handed' attended attended' : ℕ) : Type 0 where
+pub record IsHandedOver (n n' h h' a a' : ℕ) : Type 0 where
   pub over : ℕ
   pub here : ℕ
-  pub accepted : accepted' ≡ raised (over + here) accepted
-  pub handed : handed' ≡ raised over handed
-  pub attended : attended' ≡ raised here attended
+  pub accepted : n' ≡ raised (over + here) n
+  pub handed : h' ≡ raised over h
+  pub attended : a' ≡ raised here a

@@ -4,6 +4,8 @@ ghost use Rattle.ipam_daemon.specs.Crews.{IsHired};
 
 use crate::channel::TakingEnd;
 use crate::handing::{Attends, work};
+use crate::serves::Serves;
+use crate::worker::Worker;
 use ipam_socket::Stream;
 use log::Log;
 use std::alloc::{AllocError, Global};
@@ -52,8 +54,8 @@ impl<'a, R> Crew<'a, R> {
 
     /// The threads, how many work, and how often that failed.
     pub(crate) fn into_parts(self) -> (Vec<JoinHandle<()>>, u64, u64)
-        ensures hired { result.1 ≡ self.hired }
-        ensures faults { result.2 ≡ self.faults }
+        ensures hired { result.1 ≡ self.entry.hired }
+        ensures faults { result.2 ≡ self.entry.faults }
     {
         (self.threads, self.hired, self.faults)
     }
@@ -61,29 +63,36 @@ impl<'a, R> Crew<'a, R> {
 
 impl<
     R: Threads + Wait + Log + Clock + Copy + Send + Drop + 'static,
-    W: Attends<Stream> + Send + Drop + 'static,
-> Hires<W> for Crew<'_, R> {
+    S: Serves + Send + Sync + Drop + 'static,
+> Hires<Worker<S, R>> for Crew<'_, R> {
     ghost hired = { λ crew. crew.hired };
 
     ghost faults = { λ crew. crew.faults };
 
     /// Starts a thread in which the worker works. False where the system makes no thread.
-    fn hire(&mut self, worker: W) -> Result<bool, AllocError> {
-        let rt = *self.rt;
-        let from = self.from.another()?;
+    fn hire(&mut self, worker: Worker<S, R>) -> Result<bool, AllocError> {
         self.threads.reserve(1)?;
-        match thread::spawn(&rt, move || work_for(&rt, from, worker)) {
-            Ok(thread) => {
+        match start(*self.rt, self.from.another()?, worker) {
+            Some(thread) => {
                 self.threads.push(thread)?;
                 self.hired = self.hired.saturating_add(1);
                 Ok(true)
             }
-            Err(_) => {
+            None => {
                 self.faults = self.faults.saturating_add(1);
                 Ok(false)
             }
         }
     }
+}
+
+/// Starts a thread in which the worker serves what is taken from the channel. None where the system
+/// makes no thread.
+fn start<
+    R: Threads + Wait + Log + Clock + Copy + Send + Drop + 'static,
+    S: Serves + Send + Sync + Drop + 'static,
+>(rt: R, from: TakingEnd, worker: Worker<S, R>) -> Option<JoinHandle<()>> {
+    thread::spawn(&rt, move || work_for(&rt, from, worker)).ok()
 }
 
 /// Serves what is taken from the channel.

@@ -44,6 +44,7 @@ pub fn serve<
 
 /// The same over this listener, and within these limits. It ends with a fault of listening exactly
 /// where the listener failed.
+#[tactic(auto, using(crate::proofs::Ended::served_out, crate::proofs::Ended::unopened))]
 pub fn serve_by<
     R: Threads + Wait + Log + Clock + Copy + Send + Drop + 'static,
     D: Keeper + Send + Drop + 'static,

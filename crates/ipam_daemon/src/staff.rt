@@ -30,7 +30,7 @@ pub struct Staff<S: Serves, R> {
     own: Worker<S, R>,
 }
 
-impl<S: Serves + Drop, C: Clock + Drop> Staff<S, C> {
+impl<S: Serves + Drop, C: Clock + Copy + Drop> Staff<S, C> {
     /// How many workers have a thread of their own.
     pub fn hired(&self) -> u64
         ensures { result ≡ self.now.hired }

@@ -1,6 +1,7 @@
 //! Who serves connections.
 ghost use Rattle.std.specs.Prelude.{◌≡◌, None};
 ghost use Rattle.std.specs.Arc.{arc_value};
+ghost use Rattle.ipam_io.specs.Counts.{next_count};
 ghost use Rattle.ipam_shared.specs.Passes.{runs_in};
 
 use crate::desk::Desk;
@@ -18,10 +19,11 @@ use std::time::Clock;
 #[derive(Drop)]
 pub(crate) struct Worker<S: Serves, C> {
     desk: Desk<S, C>,
+    clock: C,
     limits: Limits,
 }
 
-impl<S: Serves, C: Clock> Worker<S, C> {
+impl<S: Serves, C: Clock + Copy> Worker<S, C> {
     /// A worker that serves by this pass, within these limits.
     pub(crate) fn new(
         alloc: Global,
@@ -37,23 +39,31 @@ impl<S: Serves, C: Clock> Worker<S, C> {
     {
         Worker {
             desk: Desk::new(alloc, shared, pass, clock),
+            clock,
             limits,
         }
     }
-}
-
-impl<S: Serves, C: Clock> Attends<Stream> for Worker<S, C> {
-    ghost attended = { λ worker. worker.desk.sessions };
 
     /// Serves a session over the connection to its end, which is logged.
-    fn attend<R: Wait + Log + Clock>(&mut self, rt: &R, stream: Stream) {
-        let mut link = SocketLink::of_session(rt, &stream, self.limits);
-        let mut gate = PeerGate::new(StreamPeer::new(&stream));
+    fn serve<R: Wait + Log>(&mut self, rt: &R, stream: &Stream)
+        ensures { self.new.desk.sessions ≡ next_count self.old.desk.sessions }
+    {
+        let mut link = SocketLink::of_session(self.clock, stream, self.limits);
+        let mut gate = PeerGate::new(StreamPeer::new(stream));
         let end = self.desk.serve(rt, &mut gate, &mut link);
         if link.is_refused() {
             log_refused(rt);
         } else {
             log_end(rt, end);
         }
+    }
+}
+
+impl<S: Serves, C: Clock + Copy> Attends<Stream> for Worker<S, C> {
+    ghost attended = { λ worker. worker.desk.sessions };
+
+    /// Serves a session over the connection to its end, which is logged.
+    fn attend<R: Wait + Log + Clock>(&mut self, rt: &R, stream: Stream) {
+        self.serve(rt, &stream);
     }
 }

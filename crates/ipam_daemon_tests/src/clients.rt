@@ -22,7 +22,7 @@ const HEAD: &str = "POST / HTTP/1.1\r\nHost: localhost\r\n\r\n";
 /// A client that is connected.
 #[derive(Drop)]
 pub(crate) struct Client<'a> {
-    link: SocketLink<'a, HostRuntime, Stream>,
+    link: SocketLink<&'a HostRuntime, Stream>,
     lines: Lines<MOST_REPLY>,
 }
 

@@ -79,7 +79,8 @@ a < {"refused":"line"}
 a !"#;
 
 /// The same, over TCP, where a client that is gone without a reset is not seen to be.
-pub(crate) const OVER_TCP: &str = r#"1 4 40000 who sends nothing or half a line costs a worker only while it is connected
+pub(crate) const OVER_TCP: &str =
+    r#"1 4 40000 who sends nothing or half a line costs a worker only while it is connected
 a . {"request":{"add":{"handle"
 a !
 b !

@@ -11,4 +11,5 @@ invariant-loop g l =
     × (l.pass.lock ≡ l.initial.pass.lock)
     × (runs_in l.pass ≡ runs_in l.initial.pass)
     × (g.H.Hires.hired l.crew ≡ raised l.counter (g.H.Hires.hired l.initial.crew))
+    × (g.H.Hires.faults l.crew ≡ g.H.Hires.faults l.initial.crew)
     × (l.counter ≤ l.workers)
