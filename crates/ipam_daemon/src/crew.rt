@@ -1,5 +1,5 @@
 //! Threads for workers.
-ghost use Rattle.std.specs.Prelude.{◌≡◌, ℕ, IfOk};
+ghost use Rattle.std.specs.Prelude.{◌≡◌, IfOk};
 ghost use Rattle.ipam_daemon.specs.Crews.{IsHired};
 
 use crate::channel::TakingEnd;
@@ -13,19 +13,6 @@ use std::sync::Wait;
 use std::thread;
 use std::thread::{JoinHandle, Threads};
 use std::time::Clock;
-
-/// What has workers work.
-pub trait Hires<W> {
-    /// How many work.
-    ghost hired: { Self → ℕ };
-
-    /// How often that failed.
-    ghost faults: { Self → ℕ };
-
-    /// Has the worker work. False where it can't.
-    fn hire(&mut self, worker: W) -> Result<bool, AllocError>
-        ensures { IfOk result (λ is_hired. IsHired is_hired (hired self.old) (hired self.new) (faults self.old) (faults self.new)) };
-}
 
 /// Threads that are started, in each of which a worker serves what is taken from one channel.
 #[derive(Drop)]
@@ -61,27 +48,23 @@ impl<'a, R> Crew<'a, R> {
     }
 }
 
-impl<
+/// Starts a thread in which the worker works. False where the system makes no thread.
+pub(crate) fn hire<
     R: Threads + Wait + Log + Clock + Copy + Send + Drop + 'static,
     S: Serves + Send + Sync + Drop + 'static,
-> Hires<Worker<S, R>> for Crew<'_, R> {
-    ghost hired = { λ crew. crew.hired };
-
-    ghost faults = { λ crew. crew.faults };
-
-    /// Starts a thread in which the worker works. False where the system makes no thread.
-    fn hire(&mut self, worker: Worker<S, R>) -> Result<bool, AllocError> {
-        self.threads.reserve(1)?;
-        match start(*self.rt, self.from.another()?, worker) {
-            Some(thread) => {
-                self.threads.push(thread)?;
-                self.hired = self.hired.saturating_add(1);
-                Ok(true)
-            }
-            None => {
-                self.faults = self.faults.saturating_add(1);
-                Ok(false)
-            }
+>(crew: &mut Crew<'_, R>, worker: Worker<S, R>) -> Result<bool, AllocError>
+    ensures { IfOk result (λ is_hired. IsHired is_hired crew.old.hired crew.new.hired crew.old.faults crew.new.faults) }
+{
+    crew.threads.reserve(1)?;
+    match start(*crew.rt, crew.from.another()?, worker) {
+        Some(thread) => {
+            crew.threads.push(thread)?;
+            crew.hired = crew.hired.saturating_add(1);
+            Ok(true)
+        }
+        None => {
+            crew.faults = crew.faults.saturating_add(1);
+            Ok(false)
         }
     }
 }

@@ -16,7 +16,6 @@ mod serving;
 mod staff;
 mod worker;
 
-pub use crew::Hires;
 pub use ending::log_end;
 pub use handing::{Attends, Hands, Takes, hand_over, work};
 pub use ipam_serve::{Keeper, SessionEnd};

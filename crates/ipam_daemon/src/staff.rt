@@ -6,7 +6,7 @@ ghost use Rattle.ipam_shared.specs.Passes.{IsNewlyKept, runs_in};
 ghost use Rattle.ipam_daemon.specs.Crews.{IsEngaged};
 
 use crate::channel::{HandingEnd, channel};
-use crate::crew::{Crew, Hires};
+use crate::crew::{Crew, hire};
 use crate::handing::hand_over;
 use crate::opening::share;
 use crate::serves::Serves;
@@ -137,26 +137,29 @@ fn engage_over<
 /// Has up to so many workers work, each with a pass that is split off. A pass that was split off
 /// has too few turns to be split again, so this one makes them all.
 #[tactic(auto, using(crate::proofs::Counts::hired_none, crate::proofs::Counts::hired_more))]
-fn hire_all<C: Clock + Copy, S: Serves, H: Hires<Worker<S, C>>>(
-    clock: C,
+fn hire_all<
+    R: Threads + Wait + Log + Clock + Copy + Send + Drop + 'static,
+    S: Serves + Send + Sync + Drop + 'static,
+>(
+    rt: R,
     alloc: Global,
     shared: &Arc<S, Global>,
     pass: &mut Pass,
-    crew: &mut H,
+    crew: &mut Crew<'_, R>,
     workers: u8,
     limits: Limits,
 ) -> Result<(), AllocError>
     requires own { pass.old.lock ≡ S.id (arc_value shared.now) }
     ensures own { pass.new.lock ≡ pass.old.lock }
     ensures same { runs_in pass.new ≡ runs_in pass.old }
-    ensures engaged { OnOk result (IsEngaged workers (H.hired crew.old) (H.hired crew.new) (H.faults crew.old) (H.faults crew.new) pass.new) }
+    ensures engaged { OnOk result (IsEngaged workers crew.old.hired crew.new.hired crew.old.faults crew.new.faults pass.new) }
 {
     for _ in 0..workers {
         let Some(other) = shared.split_off(pass) else {
             return Ok(());
         };
-        let worker = Worker::new(alloc, Arc::try_clone(shared)?, other, clock, limits);
-        if !crew.hire(worker)? {
+        let worker = Worker::new(alloc, Arc::try_clone(shared)?, other, rt, limits);
+        if !hire(crew, worker)? {
             return Ok(());
         }
     }

@@ -10,6 +10,6 @@ invariant-loop g l =
     (l.pass.lock ≡ g.S.Serves.id (arc_value l.shared))
     × (l.pass.lock ≡ l.initial.pass.lock)
     × (runs_in l.pass ≡ runs_in l.initial.pass)
-    × (g.H.Hires.hired l.crew ≡ raised l.counter (g.H.Hires.hired l.initial.crew))
-    × (g.H.Hires.faults l.crew ≡ g.H.Hires.faults l.initial.crew)
+    × (l.crew.hired ≡ raised l.counter l.initial.crew.hired)
+    × (l.crew.faults ≡ l.initial.crew.faults)
     × (l.counter ≤ l.workers)
