@@ -1,1 +1,1 @@
-pub mod Versions
+mod NoReply

@@ -5,6 +5,7 @@ mod calling;
 mod connecting;
 mod unreached;
 
-pub use calling::call;
-pub use connecting::connect;
+pub use calling::{call, call_by};
+pub use connecting::{Connector, Connects};
+pub use ipam_socket::{Address, Limits};
 pub use unreached::tell_unreached;

@@ -1,1 +1,3 @@
 pub mod Idle
+pub mod Counts
+pub mod Ended

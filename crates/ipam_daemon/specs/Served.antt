@@ -29,3 +29,10 @@ pub data Writes (old new : Option (List ℕ)) (faults faults' : ℕ) (line : Lis
 -- what is written of an end, and the exit status
 abbrev pub Tells : Served → (old new : Option (List ℕ)) (faults faults' : ℕ) → ℕ → Type 0
 Tells served old new faults faults' status = Writes old new faults faults' (served_line served) (served_status served) status
+
+-- the count of faults of the listener: it rises where listening failed, and else not
+abbrev pub ListenFaults : Served → (faults faults' : ℕ) → Type 0
+ListenFaults KeeperFault faults faults' = faults' ≡ faults
+ListenFaults NoMemory faults faults' = faults' ≡ faults
+ListenFaults (BrokenRows number about) faults faults' = faults' ≡ faults
+ListenFaults ListenFault faults faults' = Rose faults faults'

@@ -15,3 +15,8 @@ pub fn log_end<R: Log>(rt: &R, end: SessionEnd) {
         | SessionEnd::Memory => warn!(rt; target: "ipam", "session ended early"),
     }
 }
+
+/// Logs one record of a connection that didn't begin as a session does.
+pub(crate) fn log_refused<R: Log>(rt: &R) {
+    warn!(rt; target: "ipam", "connection closed: it did not begin as a session does");
+}

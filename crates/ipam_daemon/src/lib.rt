@@ -1,11 +1,14 @@
-//! The daemon: it holds a keeper's rows, and serves sessions over TCP.
+//! The daemon: it holds a keeper's rows, and serves sessions at a socket file or over TCP.
 //!
 //! Each worker is a thread with a pass of its own of the shared cluster, and serves one connection
-//! after another. The loop that accepts connections hands them over through a channel.
+//! after another. The thread that accepts connections hands them over through a channel.
 #![tactic(auto)]
 
-mod accepting;
+mod channel;
+mod crew;
+mod desk;
 mod ending;
+mod handing;
 mod opening;
 mod served;
 mod serves;
@@ -14,9 +17,11 @@ mod staff;
 mod worker;
 
 pub use ending::log_end;
+pub use handing::{Attends, Hands, Takes, hand_over, work};
 pub use ipam_serve::{Keeper, SessionEnd};
+pub use ipam_socket::{Address, Limits, Listens, SocketListener, Stream};
 pub use opening::open_kept;
 pub use served::{Served, tell_served};
 pub use serves::Serves;
-pub use serving::{listen, serve};
+pub use serving::{serve, serve_by};
 pub use staff::{Staff, engage};

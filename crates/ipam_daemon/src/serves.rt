@@ -1,10 +1,11 @@
 //! What workers serve over.
-ghost use Rattle.std.specs.Prelude.{◌≡◌, ℕ, List, None, IfSome};
+ghost use Rattle.std.specs.Prelude.{◌≡◌, ℕ, List, None, IfSome, IfNone};
 ghost use Rattle.std.specs.Io.KnownBytes.{prepend_known};
 ghost use Rattle.atomic_table.specs.Seated.{TableId};
 ghost use Rattle.ipam_shared.specs.Passes.{IsSamePass, runs_in};
 ghost use Rattle.ipam_serve.specs.Lines.{server_at};
 ghost use Rattle.ipam_serve.specs.Sessions.{RoseIf, Session, is_halted, is_read_fault, is_write_fault, talk_at};
+ghost use Rattle.ipam_daemon.specs.Crews.{IsSpent};
 
 use ipam_io::{Clock, Gate, Link};
 use ipam_serve::{SessionEnd, serve_session};
@@ -24,7 +25,8 @@ pub trait Serves {
         ensures own { pass.new.lock ≡ pass.old.lock }
         ensures same { runs_in pass.new ≡ runs_in pass.old }
         ensures other { IfSome result (λ other. other.lock ≡ id self.now) }
-        ensures idle { IfSome result (λ other. runs_in other ≡ None) };
+        ensures idle { IfSome result (λ other. runs_in other ≡ None) }
+        ensures none { IfNone result (IsSpent pass.new) };
 
     /// Serves a session over the link to its end, as `serve_session` does.
     fn session<R: Wait, L: Link, G: Gate, C: Clock>(

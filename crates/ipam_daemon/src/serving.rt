@@ -2,35 +2,32 @@
 ghost use Rattle.std.specs.Prelude.{◌≡◌, ◌⊎◌};
 ghost use Rattle.ipam_shared.specs.Passes.{IsNewlyKept};
 ghost use Rattle.ipam_daemon.specs.Opening.{IsEnd};
+ghost use Rattle.ipam_daemon.specs.Served.{ListenFaults};
 
 use crate::opening::open_kept;
 use crate::served::Served;
 use crate::staff::engage;
 use ipam_kept::{Keeper, Kept};
+use ipam_socket::{Address, Failed, Limits, Listens, SocketListener, Stream};
 use log::Log;
 use std::alloc::Global;
+use std::fs::Files;
 use std::net::{Net, TcpListener, TcpStream};
-use std::rt::Clock;
 use std::sync::Wait;
 use std::thread::Threads;
+use std::time::Clock;
 
-/// Listens at this address: an IP address or the name of a host, a colon and a port, where the
-/// port 0 is one that the system chooses. None where the system refuses.
-pub fn listen<R: Net<Listener = TcpListener, Stream = TcpStream>>(
-    rt: &R,
-    address: &str,
-) -> Option<TcpListener> {
-    TcpListener::bind(rt, address).ok()
-}
-
-/// Opens the keeper's rows and serves sessions at the address, by up to so many workers. It ends
-/// where the rows are not opened or listening fails, and else goes on as long as connections can
-/// be accepted; sessions that are served by then are left to end with the process.
+/// Opens the keeper's rows and serves sessions at the address, by up to so many workers: at a socket
+/// file, where the address begins with a slash, and else at an IP address or the name of a host, a
+/// colon and a port. It ends where the rows are not opened or listening fails, and else goes on as
+/// long as connections can be accepted; sessions that are served by then are left to end with the
+/// process. The socket file is removed at the end.
 pub fn serve<
     R: Threads
         + Wait
         + Log
         + Clock
+        + Files
         + Net<Listener = TcpListener, Stream = TcpStream>
         + Copy
         + Send
@@ -40,13 +37,33 @@ pub fn serve<
 >(rt: R, alloc: Global, keeper: D, address: &str, workers: u8) -> Served
     ensures { IsEnd D.rows D.faults D.name keeper result }
 {
+    let mut listener = SocketListener::new(&rt, alloc, Address::of(address));
+    let limits = Limits::of_session();
+    serve_by(rt, alloc, keeper, &mut listener, workers, limits)
+}
+
+/// The same over this listener, and within these limits. It ends with a fault of listening exactly
+/// where the listener failed.
+#[tactic(auto, using(crate::proofs::Ended::served_out, crate::proofs::Ended::unopened))]
+pub fn serve_by<
+    R: Threads + Wait + Log + Clock + Copy + Send + Drop + 'static,
+    D: Keeper + Send + Drop + 'static,
+    L: Listens<Stream>,
+>(rt: R, alloc: Global, keeper: D, listener: &mut L, workers: u8, limits: Limits) -> Served
+    ensures ended { IsEnd D.rows D.faults D.name keeper result }
+    ensures listening { ListenFaults result (L.faults listener.old) (L.faults listener.new) }
+{
     let kept = match open_kept(alloc, keeper) {
         Ok(kept) => kept,
         Err(served) => return served,
     };
-    match listen(&rt, address) {
-        Some(listener) => serve_at(rt, alloc, kept, &listener, workers),
-        None => {
+    match listener.open() {
+        Ok(()) => {
+            let served = serve_at(rt, alloc, kept, listener, workers, limits);
+            listener.close();
+            served
+        }
+        Err(Failed) => {
             drop(kept);
             Served::ListenFault
         }
@@ -57,13 +74,15 @@ pub fn serve<
 fn serve_at<
     R: Threads + Wait + Log + Clock + Copy + Send + Drop + 'static,
     D: Keeper + Send + Drop + 'static,
->(rt: R, alloc: Global, kept: Kept<D>, listener: &TcpListener, workers: u8) -> Served
+    L: Listens<Stream>,
+>(rt: R, alloc: Global, kept: Kept<D>, listener: &mut L, workers: u8, limits: Limits) -> Served
     requires { IsNewlyKept D.rows kept }
-    ensures { (result ≡ Served.NoMemory) ⊎ (result ≡ Served.ListenFault) }
+    ensures ended { (result ≡ Served.NoMemory) ⊎ (result ≡ Served.ListenFault) }
+    ensures listening { ListenFaults result (L.faults listener.old) (L.faults listener.new) }
 {
-    match engage(rt, alloc, kept, workers) {
+    match engage(rt, alloc, kept, workers, limits) {
         Ok(mut staff) => {
-            staff.accept(&rt, listener, u64::MAX);
+            staff.accept_all(&rt, listener);
             drop(staff);
             Served::ListenFault
         }

@@ -1,81 +1,143 @@
 //! The workers.
-ghost use Rattle.std.specs.Prelude.{◌≡◌, None, IfOk};
+ghost use Rattle.std.specs.Prelude.{◌≡◌, None, IfOk, OnOk, OnErr};
 ghost use Rattle.std.specs.Arc.{arc_value};
+ghost use Rattle.ipam_io.specs.Counts.{Rose};
 ghost use Rattle.ipam_shared.specs.Passes.{IsNewlyKept, runs_in};
+ghost use Rattle.ipam_daemon.specs.Crews.{IsEngaged};
 
-use crate::accepting::hand_over;
+use crate::channel::{HandingEnd, channel};
+use crate::crew::{Crew, hire};
+use crate::handing::hand_over;
 use crate::opening::share;
 use crate::serves::Serves;
-use crate::worker::{Worker, work};
-use crossbeam_channel::{Receiver, Sender};
+use crate::worker::Worker;
 use ipam_kept::{Keeper, Kept};
 use ipam_shared::{Pass, Shared};
+use ipam_socket::{Failed, Limits, Listens, Stream};
 use log::Log;
 use std::alloc::{AllocError, Global};
-use std::net::{TcpListener, TcpStream};
-use std::rt::Clock;
 use std::sync::{Arc, Wait};
-use std::thread;
 use std::thread::{JoinHandle, Threads};
-
-/// How many connections may be accepted before a worker takes them. The system lets others wait.
-const MOST_WAITING: usize = 16;
+use std::time::Clock;
 
 /// Workers in threads of their own, and one more, who serves where none of them was started.
 #[derive(Drop)]
-pub struct Staff<S: Serves, C> {
-    to: Sender<TcpStream>,
+pub struct Staff<S: Serves, R> {
+    to: HandingEnd,
     threads: Vec<JoinHandle<()>>,
-    own: Worker<S, C>,
+    hired: u64,
+    thread_faults: u64,
+    own: Worker<S, R>,
 }
 
-impl<S: Serves + Drop, C: Clock + Drop> Staff<S, C> {
+impl<S: Serves + Drop, C: Clock + Copy + Drop> Staff<S, C> {
+    /// How many workers have a thread of their own.
+    pub fn hired(&self) -> u64
+        ensures { result ≡ self.now.hired }
+    {
+        self.hired
+    }
+
     /// Has up to so many connections of the listener served, one by each worker at a time. It ends
     /// early where accepting fails, and doesn't wait for the sessions that are served by then.
-    pub fn accept<R: Wait + Log>(&mut self, rt: &R, listener: &TcpListener, most: u64) {
-        hand_over(rt, listener, most, &self.to, &mut self.own);
+    pub fn accept<R: Wait + Log + Clock, L: Listens<Stream>>(
+        &mut self,
+        rt: &R,
+        listener: &mut L,
+        most: u64,
+    ) -> Result<(), Failed>
+        ensures fault { OnErr result (Rose (L.faults listener.old) (L.faults listener.new)) }
+        ensures no_fault { OnOk result (L.faults listener.new ≡ L.faults listener.old) }
+    {
+        hand_over(rt, listener, most, &mut self.to, &mut self.own)
     }
 
     /// Waits until the workers have served all that was accepted.
     pub fn dismiss<R: Threads>(self, rt: &R) {
-        let Staff { to, threads, own } = self;
+        let Staff {
+            to,
+            threads,
+            own,
+            ..
+        } = self;
         drop(to);
         for thread in threads {
             thread.join(rt);
         }
         drop(own);
     }
+
+    /// Has connections served as `accept` does, until accepting fails.
+    pub(crate) fn accept_all<R: Wait + Log + Clock, L: Listens<Stream>>(
+        &mut self,
+        rt: &R,
+        listener: &mut L,
+    )
+        ensures { Rose (L.faults listener.old) (L.faults listener.new) }
+    {
+        for _ in rt.forever() {
+            if let Err(Failed) = self.accept(rt, listener, u64::MAX) {
+                return;
+            }
+        }
+        unreachable!()
+    }
 }
 
-/// So many workers over the cluster, or as many as threads could be started for.
+/// So many workers over the cluster, or fewer where the system makes no more threads or the cluster has
+/// no more slots.
 pub fn engage<
     R: Threads + Wait + Log + Clock + Copy + Send + Drop + 'static,
     D: Keeper + Send + Drop + 'static,
->(rt: R, alloc: Global, kept: Kept<D>, workers: u8) -> Result<Staff<Shared<D>, R>, AllocError>
+>(
+    rt: R,
+    alloc: Global,
+    kept: Kept<D>,
+    workers: u8,
+    limits: Limits,
+) -> Result<Staff<Shared<D>, R>, AllocError>
     requires { IsNewlyKept D.rows kept }
+    ensures engaged { IfOk result (λ staff. IsEngaged workers 0 staff.hired 0 staff.thread_faults staff.own.desk.pass) }
 {
     let (shared, pass) = share(alloc, kept)?;
-    engage_over(rt, alloc, shared, pass, workers)
+    engage_over(rt, alloc, shared, pass, workers, limits)
 }
 
 /// The same, over what may be used by many threads.
 fn engage_over<
     R: Threads + Wait + Log + Clock + Copy + Send + Drop + 'static,
     S: Serves + Send + Sync + Drop + 'static,
->(rt: R, alloc: Global, shared: S, mut pass: Pass, workers: u8) -> Result<Staff<S, R>, AllocError>
+>(
+    rt: R,
+    alloc: Global,
+    shared: S,
+    mut pass: Pass,
+    workers: u8,
+    limits: Limits,
+) -> Result<Staff<S, R>, AllocError>
     requires own { pass.lock ≡ S.id shared }
     requires idle { runs_in pass ≡ None }
+    ensures engaged { IfOk result (λ staff. IsEngaged workers 0 staff.hired 0 staff.thread_faults staff.own.desk.pass) }
 {
     let shared = Arc::new(alloc, shared)?;
-    let (to, from) = crossbeam_channel::bounded(alloc, MOST_WAITING)?;
-    let threads = start(rt, alloc, &shared, &mut pass, &from, workers)?;
-    let own = Worker::new(alloc, shared, pass, rt);
-    Ok(Staff { to, threads, own })
+    let (to, from) = channel(alloc)?;
+    let mut crew = Crew::new(&rt, alloc, &from);
+    hire_all(rt, alloc, &shared, &mut pass, &mut crew, workers, limits)?;
+    let (threads, hired, thread_faults) = crew.into_parts();
+    let own = Worker::new(alloc, shared, pass, rt, limits);
+    Ok(Staff {
+        to,
+        threads,
+        hired,
+        thread_faults,
+        own,
+    })
 }
 
-/// Starts up to so many workers, each with a pass that is split off. A pass that was split off
+/// Has up to so many workers work, each with a pass that is split off. A pass that was split off
 /// has too few turns to be split again, so this one makes them all.
-fn start<
+#[tactic(auto, using(crate::proofs::Counts::hired_none, crate::proofs::Counts::hired_more))]
+fn hire_all<
     R: Threads + Wait + Log + Clock + Copy + Send + Drop + 'static,
     S: Serves + Send + Sync + Drop + 'static,
 >(
@@ -83,41 +145,23 @@ fn start<
     alloc: Global,
     shared: &Arc<S, Global>,
     pass: &mut Pass,
-    from: &Receiver<TcpStream>,
+    crew: &mut Crew<'_, R>,
     workers: u8,
-) -> Result<Vec<JoinHandle<()>>, AllocError>
+    limits: Limits,
+) -> Result<(), AllocError>
     requires own { pass.old.lock ≡ S.id (arc_value shared.now) }
     ensures own { pass.new.lock ≡ pass.old.lock }
     ensures same { runs_in pass.new ≡ runs_in pass.old }
+    ensures engaged { OnOk result (IsEngaged workers crew.old.hired crew.new.hired crew.old.faults crew.new.faults pass.new) }
 {
-    let mut threads = Vec::new(alloc);
     for _ in 0..workers {
         let Some(other) = shared.split_off(pass) else {
-            return Ok(threads);
+            return Ok(());
         };
-        match start_one(rt, alloc, shared, other, from)? {
-            Some(thread) => threads.push(thread)?,
-            None => return Ok(threads),
+        let worker = Worker::new(alloc, Arc::try_clone(shared)?, other, rt, limits);
+        if !hire(crew, worker)? {
+            return Ok(());
         }
     }
-    Ok(threads)
-}
-
-/// Starts a worker. None where no thread can be made.
-fn start_one<
-    R: Threads + Wait + Log + Clock + Copy + Send + Drop + 'static,
-    S: Serves + Send + Sync + Drop + 'static,
->(
-    rt: R,
-    alloc: Global,
-    shared: &Arc<S, Global>,
-    pass: Pass,
-    from: &Receiver<TcpStream>,
-) -> Result<Option<JoinHandle<()>>, AllocError>
-    requires own { pass.lock ≡ S.id (arc_value shared.now) }
-    requires idle { runs_in pass ≡ None }
-{
-    let worker = Worker::new(alloc, Arc::try_clone(shared)?, pass, rt);
-    let from = from.clone()?;
-    Ok(thread::spawn(&rt, move || work(&rt, worker, &from)).ok())
+    Ok(())
 }

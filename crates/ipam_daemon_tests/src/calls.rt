@@ -1,10 +1,9 @@
 //! CNI calls of a container.
 use ipam_call::run_call;
 use ipam_client::call;
-use ipam_io::{MemorySink, MemorySource, TcpLink};
+use ipam_io::{Link, MemorySink, MemorySource};
 use ipam_text::Text;
 use std::alloc::{AllocError, Global};
-use std::net::{Net, TcpStream};
 use std::str;
 
 const CONFIGURATION: &str =
@@ -41,10 +40,10 @@ fn told(alloc: Global, status: u8, sink: &MemorySink) -> Result<String, AllocErr
 }
 
 /// Makes this call over the link, and tells its status and what it writes.
-pub(crate) fn called_over(
+pub(crate) fn called_over<L: Link>(
     alloc: Global,
     command: &str,
-    link: &mut TcpLink,
+    link: &mut L,
 ) -> Result<String, AllocError> {
     let environment = environment(alloc, command)?;
     let mut source = input(alloc)?;
@@ -53,23 +52,40 @@ pub(crate) fn called_over(
     told(alloc, status, &sink)
 }
 
-/// Connects to the address and makes this call there, and tells its status and what it writes.
-pub(crate) fn called_at<R: Net<Stream = TcpStream>>(
-    rt: &R,
-    alloc: Global,
+/// Connects to the address and makes this call there, with this standard input, and tells its status
+/// and what it writes.
+pub(crate) fn called_with(
+    rt: &HostRuntime,
+    command: &str,
+    address: &str,
+    mut source: MemorySource,
+) -> Result<String, AllocError> {
+    let alloc = rt.alloc();
+    let environment = environment(alloc, command)?;
+    let mut sink = MemorySink::new(alloc, ROOM, Vec::new(alloc))?;
+    let env = environment.as_slice();
+    let status = call(rt, alloc, address, env, &mut source, &mut sink);
+    told(alloc, status, &sink)
+}
+
+/// The same, with the configuration.
+pub(crate) fn called_at(
+    rt: &HostRuntime,
     command: &str,
     address: &str,
 ) -> Result<String, AllocError> {
-    let environment = environment(alloc, command)?;
-    let mut source = input(alloc)?;
-    let mut sink = MemorySink::new(alloc, ROOM, Vec::new(alloc))?;
-    let status = call(
-        rt,
-        alloc,
-        address,
-        environment.as_slice(),
-        &mut source,
-        &mut sink,
-    );
-    told(alloc, status, &sink)
+    called_with(rt, command, address, input(rt.alloc())?)
+}
+
+/// Standard input of this text, of which each read fails where it is to.
+pub(crate) fn input_of(
+    alloc: Global,
+    text: &str,
+    is_failing: bool,
+) -> Result<MemorySource, AllocError> {
+    let mut failing = Vec::new(alloc);
+    if is_failing {
+        failing.push(1)?;
+    }
+    Ok(MemorySource::new(Vec::from_slice(alloc, text.as_bytes())?, failing))
 }

@@ -1,47 +1,58 @@
 //! Clients of the daemon, as a script has them.
 //!
 //! Each line of a script begins with the letter of a client, `a` for the first. `a > TEXT` sends a line,
-//! `a . TEXT` a text without a line feed, `a < TEXT` reads a line, which should be this, and `a !` closes.
-use ipam_io::{Sink, TcpLink};
+//! `a . TEXT` a text without a line feed, `a * TEXT` a line after the head of a web page's request, `a < TEXT` reads a line, which should be this, and `a !` closes.
+use crate::loopback::limits_of;
+use ipam_io::Sink;
 use ipam_lines::{Got, Lines, LinesFault};
+use ipam_socket::{Address, SocketLink, Stream, connect};
 use std::alloc::{AllocError, Global};
-use std::net::{Net, SocketAddr, TcpStream};
+use std::str;
 use std::time::Duration;
-use std::{io, str};
 
 /// The most bytes of a reply, with its line feed.
 const MOST_REPLY: usize = 65_536;
 
-/// How many seconds a client waits for a reply.
-const MOST_WAIT: u64 = 40;
+/// How many milliseconds a client waits for a reply.
+const MOST_WAIT: u64 = 40_000;
+
+/// What a browser sends before what a page has it send.
+const HEAD: &str = "POST / HTTP/1.1\r\nHost: localhost\r\n\r\n";
 
 /// A client that is connected.
 #[derive(Drop)]
-pub(crate) struct Client {
-    link: TcpLink,
+pub(crate) struct Client<'a> {
+    link: SocketLink<&'a HostRuntime, Stream>,
     lines: Lines<MOST_REPLY>,
 }
 
-impl Client {
+impl<'a> Client<'a> {
     /// Connects to this address. A read that gets nothing for a long time then fails.
-    pub(crate) fn connect<R: Net<Stream = TcpStream>>(
-        rt: &R,
-        alloc: Global,
-        address: SocketAddr,
-    ) -> io::Result<Client> {
-        let stream = TcpStream::connect(rt, address)?;
-        stream.set_read_timeout(Some(Duration::from_secs(MOST_WAIT)))?;
-        Ok(Client {
-            link: TcpLink::new(stream),
-            lines: Lines::new(alloc),
+    pub(crate) fn connect(rt: &'a HostRuntime, address: &str) -> Option<Client<'a>> {
+        let stream = connect(rt, Address::of(address), Duration::from_millis(MOST_WAIT))?;
+        Some(Client {
+            link: SocketLink::of_call(rt, stream, limits_of(MOST_WAIT)),
+            lines: Lines::new(rt.alloc()),
         })
     }
 
-    fn send(&mut self, told: &mut String, text: &str, end: &str) -> Result<(), AllocError> {
-        if self.link.write(text.as_bytes()).is_err() || self.link.write(end.as_bytes()).is_err() {
-            return told.push_str("not sent\n");
+    /// Sends the text. A client that can't sends less.
+    pub(crate) fn say(&mut self, text: &str) {
+        let _ = self.link.write(text.as_bytes());
+    }
+
+    /// Sends the text between these, in one write.
+    fn send(
+        &mut self,
+        alloc: Global,
+        told: &mut String,
+        (head, text, end): (&str, &str, &str),
+    ) -> Result<(), AllocError> {
+        let piece = format!(in alloc; "{head}{text}{end}")?;
+        match self.link.write(piece.as_bytes()) {
+            Ok(()) => Ok(()),
+            Err(_) => told.push_str("not sent\n"),
         }
-        Ok(())
     }
 
     /// Reads the next line, and tells it, or that there is none.
@@ -61,15 +72,14 @@ impl Client {
 }
 
 /// So many clients of this address, connected one after the other.
-pub(crate) fn connected<R: Net<Stream = TcpStream>>(
-    rt: &R,
-    alloc: Global,
-    address: SocketAddr,
+pub(crate) fn connected<'a>(
+    rt: &'a HostRuntime,
+    address: &str,
     count: u8,
-) -> io::Result<Vec<Option<Client>>> {
-    let mut clients = Vec::new(alloc);
+) -> Result<Vec<Option<Client<'a>>>, AllocError> {
+    let mut clients = Vec::new(rt.alloc());
     for _ in 0..count {
-        clients.push(Some(Client::connect(rt, alloc, address)?))?;
+        clients.push(Client::connect(rt, address))?;
     }
     Ok(clients)
 }
@@ -77,18 +87,19 @@ pub(crate) fn connected<R: Net<Stream = TcpStream>>(
 /// Plays the script, and tells the lines that were read.
 pub(crate) fn play(
     alloc: Global,
-    mut clients: Vec<Option<Client>>,
+    mut clients: Vec<Option<Client<'_>>>,
     script: &str,
 ) -> Result<String, AllocError> {
     let mut told = String::new(alloc);
     for line in script.lines() {
-        step(&mut clients, line, &mut told)?;
+        step(alloc, &mut clients, line, &mut told)?;
     }
     Ok(told)
 }
 
 fn step(
-    clients: &mut Vec<Option<Client>>,
+    alloc: Global,
+    clients: &mut Vec<Option<Client<'_>>>,
     line: &str,
     told: &mut String,
 ) -> Result<(), AllocError> {
@@ -102,15 +113,22 @@ fn step(
         return Ok(());
     }
     match place {
-        Some(client) => act(client, word, text, told),
+        Some(client) => act(alloc, client, word, text, told),
         None => told.push_str("closed\n"),
     }
 }
 
-fn act(client: &mut Client, word: &str, text: &str, told: &mut String) -> Result<(), AllocError> {
+fn act(
+    alloc: Global,
+    client: &mut Client<'_>,
+    word: &str,
+    text: &str,
+    told: &mut String,
+) -> Result<(), AllocError> {
     match word {
-        ">" => client.send(told, text, "\n"),
-        "." => client.send(told, text, ""),
+        ">" => client.send(alloc, told, ("", text, "\n")),
+        "." => client.send(alloc, told, ("", text, "")),
+        "*" => client.send(alloc, told, (HEAD, text, "\n")),
         "<" => client.receive(told),
         _ => Ok(()),
     }

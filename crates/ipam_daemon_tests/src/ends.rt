@@ -1,26 +1,24 @@
 //! What is written and logged at ends.
-use crate::calls::called_at;
-use crate::loopback::{free, keeper_of};
-use ipam_daemon::{Keeper, Served, SessionEnd, listen, log_end, serve, tell_served};
+use crate::calls::{called_with, input_of};
+use crate::loopback::{free, keeper_of, listening, reached};
+use ipam_daemon::{Keeper, Served, SessionEnd, log_end, serve, tell_served};
 use ipam_io::MemorySink;
 use ipam_keeper::MemoryKeeper;
 use ipam_text::Text;
 use log::Log;
 use log::sink::Memory;
 use std::alloc::{AllocError, Global};
+use std::fs::Files;
 use std::net::{Net, TcpListener, TcpStream};
-use std::rt::Clock;
 use std::str;
 use std::sync::Wait;
 use std::test::Fail;
 use std::thread::Threads;
+use std::time::Clock;
 
 const CLOSED: &str = "[INFO  ipam] session closed";
 
 const EARLY: &str = "[WARN  ipam] session ended early";
-
-const NO_LINK: &str = "1 {\"cniVersion\":\"1.0.0\",\"code\":111,\"details\":\"link\",\
-    \"msg\":\"no reply from the daemon\"}\n";
 
 #[test]
 fn each_session_is_logged_once(rt: HostRuntime) -> Result<(), Fail> {
@@ -58,21 +56,19 @@ fn told(alloc: Global, served: &Served, room: usize) -> Result<String, AllocErro
 fn ends_have_a_line_and_a_status(rt: HostRuntime) -> Result<(), Fail> {
     let about = Text::copied(rt.alloc(), "handle/n.c1")?;
     let ends = [
-        (Served::KeeperFault, "5 keeper fault\n"),
-        (Served::NoMemory, "6 "),
+        (Served::KeeperFault, 64, "5 keeper fault\n"),
+        (Served::NoMemory, 64, "6 "),
         (
             Served::BrokenRows(6, about),
+            64,
             "7 datastore OR6 handle/n.c1\n",
         ),
-        (Served::ListenFault, "9 listen fault\n"),
+        (Served::ListenFault, 64, "9 listen fault\n"),
+        (Served::ListenFault, 3, "4 lis"),
     ];
-    for (served, line) in ends {
-        assert_eq!(rt; told(rt.alloc(), &served, 64)?.as_str(), line);
+    for (served, room, line) in ends {
+        assert_eq!(rt; told(rt.alloc(), &served, room)?.as_str(), line);
     }
-    assert_eq!(rt;
-        told(rt.alloc(), &Served::ListenFault, 3)?.as_str(),
-        "4 lis"
-    );
     Ok(())
 }
 
@@ -95,6 +91,7 @@ fn told_served<
         + Wait
         + Log
         + Clock
+        + Files
         + Net<Listener = TcpListener, Stream = TcpStream>
         + Copy
         + Send
@@ -106,18 +103,44 @@ fn told_served<
     told(alloc, &served, 64)
 }
 
+/// What serving at the address tells over rows that are sound, that can't be loaded, and that are broken.
+fn told_of_each<
+    R: Threads
+        + Wait
+        + Log
+        + Clock
+        + Files
+        + Net<Listener = TcpListener, Stream = TcpStream>
+        + Copy
+        + Send
+        + Drop
+        + 'static,
+>(rt: R, alloc: Global, address: &str) -> Result<[String; 3], AllocError> {
+    Ok([
+        told_served(rt, alloc, free(alloc)?, address)?,
+        told_served(rt, alloc, failing(alloc)?, address)?,
+        told_served(rt, alloc, keeper_of(alloc, BROKEN)?, address)?,
+    ])
+}
+
 #[test]
 fn serving_ends_at_once(rt: HostRuntime) -> Result<(), Fail> {
-    let listener = listen(&rt, "127.0.0.1:0").ok_or("no listener")?;
-    let taken = format!(in rt.alloc(); "{}", listener.local_addr()?)?;
-    for address in [taken.as_str(), "127.0.0.1", "127.0.0.1:65536", ""] {
-        let found = told_served(rt, rt.alloc(), free(rt.alloc())?, address)?;
-        assert_eq!(rt; found.as_str(), "9 listen fault\n", "{address}");
-        let found = told_served(rt, rt.alloc(), failing(rt.alloc())?, address)?;
-        assert_eq!(rt; found.as_str(), "5 keeper fault\n", "{address}");
-        let found = told_served(rt, rt.alloc(), keeper_of(rt.alloc(), BROKEN)?, address)?;
+    let listener = listening(&rt, "127.0.0.1:0").ok_or("no listener")?;
+    let taken = reached(rt.alloc(), &listener, "")?;
+    let addresses = [
+        taken.as_str(),
+        "127.0.0.1",
+        "127.0.0.1:65536",
+        "",
+        "/",
+        "/nobody/has/this/socket",
+    ];
+    for address in addresses {
+        let [sound, failing, broken] = told_of_each(rt, rt.alloc(), address)?;
+        assert_eq!(rt; sound.as_str(), "9 listen fault\n", "{address}");
+        assert_eq!(rt; failing.as_str(), "5 keeper fault\n", "{address}");
         assert_eq!(rt;
-            found.as_str(),
+            broken.as_str(),
             "7 datastore OR6 handle/n.c1\n",
             "{address}"
         );
@@ -125,14 +148,45 @@ fn serving_ends_at_once(rt: HostRuntime) -> Result<(), Fail> {
     Ok(())
 }
 
+/// An address, standard input, whether a read of it fails, and the version that is told.
+const UNREACHED: [(&str, &str, bool, &str); 7] = [
+    ("127.0.0.1", r#"{"cniVersion":"1.0.0"}"#, false, "1.0.0"),
+    ("", r#"{"cniVersion":"1.0.0"}"#, false, "1.0.0"),
+    (
+        "/nobody/has/this/socket",
+        r#"{"cniVersion":"1.0.0"}"#,
+        false,
+        "1.0.0",
+    ),
+    ("127.0.0.1", r#"{"cniVersion":"0.4.0"}"#, false, "0.4.0"),
+    ("127.0.0.1", r#"{"cniVersion":"9.9.9"}"#, false, "1.0.0"),
+    ("127.0.0.1", "no object", false, "1.0.0"),
+    ("127.0.0.1", r#"{"cniVersion":"0.4.0"}"#, true, "1.0.0"),
+];
+
+/// What is told of a call that has no link, in this version.
+fn no_link(alloc: Global, version: &str) -> Result<String, AllocError> {
+    format!(in alloc;
+        "1 {{\"cniVersion\":\"{version}\",\"code\":111,\"details\":\"link\",\"msg\":\"no reply from the daemon\"}}\n"
+    )
+}
+
 #[test]
 fn a_call_that_reaches_nobody_has_no_link(rt: HostRuntime) -> Result<(), Fail> {
-    let listener = listen(&rt, "127.77.0.3:0").ok_or("no listener")?;
-    let left = format!(in rt.alloc(); "{}", listener.local_addr()?)?;
+    let listener = listening(&rt, "127.77.0.3:0").ok_or("no listener")?;
+    let left = reached(rt.alloc(), &listener, "")?;
     drop(listener);
-    for address in [left.as_str(), "127.0.0.1", ""] {
-        let found = called_at(&rt, rt.alloc(), "ADD", address)?;
-        assert_eq!(rt; found.as_str(), NO_LINK, "{address}");
+    let source = input_of(rt.alloc(), r#"{"cniVersion":"1.0.0"}"#, false)?;
+    let found = called_with(&rt, "ADD", left.as_str(), source)?;
+    assert_eq!(rt; found.as_str(), no_link(rt.alloc(), "1.0.0")?.as_str());
+    for (address, input, is_failing, version) in UNREACHED {
+        let source = input_of(rt.alloc(), input, is_failing)?;
+        let found = called_with(&rt, "ADD", address, source)?;
+        assert_eq!(rt;
+            found.as_str(),
+            no_link(rt.alloc(), version)?.as_str(),
+            "{address} {input}"
+        );
     }
     Ok(())
 }

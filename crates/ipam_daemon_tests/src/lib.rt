@@ -8,7 +8,11 @@ mod clients;
 #[cfg(test)]
 mod ends;
 #[cfg(test)]
+mod files;
+#[cfg(test)]
 mod flags;
+#[cfg(test)]
+mod logged;
 #[cfg(test)]
 mod loopback;
 #[cfg(test)]

@@ -1,12 +1,13 @@
-//! The daemon at a port of the loopback.
-use ipam_daemon::{engage, open_kept};
+//! The daemon at a port of the loopback, or at a socket file.
+use ipam_daemon::{Address, Limits, Listens, SocketListener, Stream, engage, open_kept};
 use ipam_keeper::{KeepFault, Keeper, MemoryKeeper};
+use ipam_socket::Failed;
 use log::Log;
 use std::alloc::{AllocError, Global};
-use std::net::TcpListener;
-use std::rt::Clock;
+use std::process;
 use std::sync::Wait;
 use std::thread::Threads;
+use std::time::{Clock, Duration};
 
 /// A pool of eight addresses, and a block of the node `a` with none given out, as `REVISION KEY BODY`.
 const ROWS: &str =
@@ -37,18 +38,113 @@ fn put(keeper: &mut MemoryKeeper, row: &str) -> Result<(), AllocError> {
     }
 }
 
+/// Limits of so many milliseconds each, but for the peer to take a write.
+pub(crate) fn limits_of(millis: u64) -> Limits {
+    Limits {
+        first: Duration::from_millis(millis),
+        line: Duration::from_millis(millis),
+        between: Duration::from_millis(millis),
+        write: Duration::from_secs(10),
+    }
+}
+
+/// A listener that fails after so many connections.
+#[derive(Drop)]
+pub(crate) struct Few<L> {
+    listener: L,
+    left: u64,
+    faults: u64,
+}
+
+impl<L> Few<L> {
+    pub(crate) fn new(listener: L, left: u64) -> Few<L> {
+        Few {
+            listener,
+            left,
+            faults: 0,
+        }
+    }
+}
+
+impl<L: Listens<Stream>> Listens<Stream> for Few<L> {
+    ghost accepted = { λ few. L.accepted few.listener };
+
+    ghost faults = { λ few. few.faults };
+
+    fn open(&mut self) -> Result<(), Failed> {
+        if self.listener.open().is_err() {
+            self.faults = self.faults.saturating_add(1);
+            return Err(Failed);
+        }
+        Ok(())
+    }
+
+    fn accept(&mut self) -> Result<Stream, Failed> {
+        if self.left > 0 {
+            self.left -= 1;
+            if let Ok(stream) = self.listener.accept() {
+                return Ok(stream);
+            }
+        }
+        self.faults = self.faults.saturating_add(1);
+        Err(Failed)
+    }
+
+    fn close(&mut self) {
+        self.listener.close();
+    }
+}
+
+/// A listener that listens at the address.
+pub(crate) fn listening<'a>(
+    rt: &'a HostRuntime,
+    address: &'a str,
+) -> Option<SocketListener<'a, HostRuntime>> {
+    let mut listener = SocketListener::new(rt, rt.alloc(), Address::of(address));
+    match listener.open() {
+        Ok(()) => Some(listener),
+        Err(Failed) => None,
+    }
+}
+
+/// The address at which it listens, where it was opened at this one.
+pub(crate) fn reached(
+    alloc: Global,
+    listener: &SocketListener<'_, HostRuntime>,
+    address: &str,
+) -> Result<String, AllocError> {
+    match listener.local_addr() {
+        Some(host) => format!(in alloc; "{host}"),
+        None => String::from_str(alloc, address),
+    }
+}
+
+/// The path of a socket file that no other test uses.
+pub(crate) fn socket_path(rt: &HostRuntime, name: &str) -> Result<String, AllocError> {
+    format!(in rt.alloc(); "/tmp/ipam-{}-{name}", process::id(rt.process()))
+}
+
 /// Serves so many connections of the listener to their ends, by so many workers. False where the rows
 /// are not opened or there is no memory.
 pub(crate) fn serve_all<
     R: Threads + Wait + Log + Clock + Copy + Send + Drop + 'static,
     D: Keeper + Send + Drop + 'static,
->(rt: R, alloc: Global, keeper: D, listener: &TcpListener, workers: u8, connections: u64) -> bool {
+    L: Listens<Stream>,
+>(
+    rt: R,
+    alloc: Global,
+    keeper: D,
+    listener: &mut L,
+    workers: u8,
+    connections: u64,
+    limits: Limits,
+) -> bool {
     let Ok(kept) = open_kept(alloc, keeper) else {
         return false;
     };
-    match engage(rt, alloc, kept, workers) {
+    match engage(rt, alloc, kept, workers, limits) {
         Ok(mut staff) => {
-            staff.accept(&rt, listener, connections);
+            let _ = staff.accept(&rt, listener, connections);
             staff.dismiss(&rt);
             true
         }

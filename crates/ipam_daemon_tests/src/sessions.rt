@@ -2,22 +2,25 @@
 use crate::calls::{called_at, called_over};
 use crate::clients::{connected, play, wanted};
 use crate::flags::Flag;
-use crate::loopback::{free, serve_all};
-use crate::scripts::SCRIPTS;
+use crate::loopback::{Few, free, limits_of, listening, reached, serve_all, socket_path};
+use crate::scripts::{AT_A_FILE, CUT, EITHER, OVER_TCP};
 use crate::turns::two_sessions;
-use ipam_client::connect;
-use ipam_daemon::{listen, open_kept, serve};
-use ipam_io::TcpLink;
+use ipam_daemon::{Address, Listens, Served, SocketListener, open_kept, serve_by};
+use ipam_socket::{SocketLink, Stream, connect};
 use log::Log;
-use std::alloc::{AllocError, Global};
-use std::net::{Net, TcpListener, TcpStream};
+use std::alloc::AllocError;
 use std::process::Abort;
-use std::rt::Clock;
-use std::sync::{Arc, Wait};
+use std::sync::Wait;
 use std::test::Fail;
 use std::thread;
-use std::thread::Threads;
-use std::time::Duration;
+use std::thread::{Threads, join};
+use std::time::{Clock, Duration};
+
+/// A port of the loopback that the system chooses.
+const ANY_PORT: &str = "127.0.0.1:0";
+
+/// How many milliseconds are waited where nothing should be cut off.
+const LONG: u64 = 40_000;
 
 const ADDED: &str = "0 {\"cniVersion\":\"1.0.0\",\"ips\":[{\"address\":\"10.0.0.0/32\"}]}\n";
 
@@ -26,90 +29,134 @@ const ADDED_NEXT: &str = "0 {\"cniVersion\":\"1.0.0\",\"ips\":[{\"address\":\"10
 
 const DELETED: &str = "0 ";
 
-/// How many workers and clients the head of a script has.
-fn counts_of(head: &str) -> (u8, u8) {
-    let (workers, rest) = head.split_once(' ').unwrap_or((head, ""));
-    let (clients, _) = rest.split_once(' ').unwrap_or((rest, ""));
-    (workers.parse().unwrap_or(0), clients.parse().unwrap_or(0))
+/// How many workers and clients the head of a script has, and how many milliseconds.
+fn counts_of(head: &str) -> (u8, u8, u64) {
+    let mut words = head.split(' ');
+    let workers = words.next().unwrap_or("").parse().unwrap_or(0);
+    let clients = words.next().unwrap_or("").parse().unwrap_or(0);
+    let millis = words.next().unwrap_or("").parse().unwrap_or(0);
+    (workers, clients, millis)
 }
 
-/// Has the script played by its clients against its workers, and compares what is told.
-fn play_one<
-    R: Threads
-        + Wait
-        + Log
-        + Clock
-        + Net<Listener = TcpListener, Stream = TcpStream>
-        + Abort
-        + Copy
-        + Send
-        + Drop
-        + 'static,
->(rt: R, alloc: Global, script: &'static str) -> Result<(), Fail> {
+/// Has the script played by its clients against its workers at the address. Gives what is told, or
+/// nothing where nobody was served.
+fn played<R: Threads + Wait + Log + Clock + Copy + Send + Sync + Drop + 'static>(
+    host: R,
+    rt: &HostRuntime,
+    address: &str,
+    script: &str,
+) -> Result<String, AllocError> {
+    let alloc = rt.alloc();
     let (head, _) = script.split_once('\n').unwrap_or((script, ""));
-    let (workers, clients) = counts_of(head);
-    let listener = listen(&rt, "127.0.0.1:0").ok_or("no listener")?;
-    let connected = connected(&rt, alloc, listener.local_addr()?, clients)?;
-    let playing = thread::spawn(&rt, move || play(alloc, connected, script))?;
-    let is_served = serve_all(
-        rt,
-        alloc,
-        free(alloc)?,
-        &listener,
-        workers,
-        u64::from(clients),
+    let (workers, clients, millis) = counts_of(head);
+    let Some(mut listener) = listening(rt, address) else {
+        return String::from_str(alloc, "no listener");
+    };
+    let reached = reached(alloc, &listener, address)?;
+    let connected = connected(rt, reached.as_str(), clients)?;
+    let keeper = free(alloc)?;
+    let (told, _) = join(
+        &host,
+        move || play(alloc, connected, script),
+        || serve_all(
+            host,
+            alloc,
+            keeper,
+            &mut listener,
+            workers,
+            u64::from(clients),
+            limits_of(millis),
+        ),
     );
-    let told = playing.join(&rt)?;
-    assert!(rt; is_served, "{head}");
-    assert_eq!(rt; told.as_str(), wanted(alloc, script)?.as_str(), "{head}");
-    Ok(())
+    listener.close();
+    told
+}
+
+/// Plays each script at the address, and counts them.
+fn play_each<R: Threads + Wait + Log + Clock + Copy + Send + Sync + Drop + 'static + Abort>(
+    host: R,
+    rt: &HostRuntime,
+    address: &str,
+    scripts: &str,
+) -> Result<u8, Fail> {
+    let mut count = 0u8;
+    for script in scripts.split("\n\n") {
+        let told = played(host, rt, address, script)?;
+        assert_eq!(host;
+            told.as_str(),
+            wanted(rt.alloc(), script)?.as_str(),
+            "{script}"
+        );
+        count = count.wrapping_add(1);
+    }
+    Ok(count)
 }
 
 #[test]
 fn scripts_are_played(rt: HostRuntime) -> Result<(), Fail> {
-    let mut count = 0u8;
-    for script in SCRIPTS.split("\n\n") {
-        play_one(rt, rt.alloc(), script)?;
-        count = count.wrapping_add(1);
+    let path = socket_path(&rt, "scripts")?;
+    let tables = [
+        (ANY_PORT, EITHER, 4),
+        (path.as_str(), EITHER, 4),
+        (path.as_str(), AT_A_FILE, 3),
+        (ANY_PORT, OVER_TCP, 3),
+        (ANY_PORT, CUT, 1),
+        (path.as_str(), CUT, 1),
+    ];
+    for (address, scripts, count) in tables {
+        assert_eq!(rt; play_each(rt, &rt, address, scripts)?, count, "{address}");
     }
-    assert_eq!(rt; count, 5);
     Ok(())
 }
 
 /// Makes an ADD over the link, and raises the flag when it has its reply.
-fn add_and_tell(alloc: Global, mut link: TcpLink, flag: &Flag) -> Result<String, AllocError> {
-    let told = called_over(alloc, "ADD", &mut link);
+fn add_and_tell(rt: &HostRuntime, address: &str, flag: &Flag) -> Result<String, AllocError> {
+    let told = called_at(rt, "ADD", address);
     flag.raise();
     told
 }
 
-/// Makes an ADD over the second link while the first stays silent, and then a DEL over the first. None
-/// where the second has no reply in time.
+/// Makes an ADD while the connection stays silent, and then a DEL over it. Nothing is told of the DEL
+/// where the ADD has no reply in time.
 fn call_both<R: Threads>(
-    rt: &R,
-    alloc: Global,
-    mut first: TcpLink,
-    second: TcpLink,
-) -> Option<(String, String)> {
-    let flag = Arc::new(alloc, Flag::new()).ok()?;
-    let theirs = Arc::try_clone(&flag).ok()?;
-    let calling = thread::spawn(rt, move || add_and_tell(alloc, second, &theirs)).ok()?;
-    if !flag.is_raised_in_time() {
-        return None;
-    }
-    let deleted = called_over(alloc, "DEL", &mut first).ok()?;
-    Some((calling.join(rt).ok()?, deleted))
+    host: &R,
+    rt: &HostRuntime,
+    address: &str,
+    silent: Stream,
+) -> Result<(String, String), AllocError> {
+    let alloc = rt.alloc();
+    let flag = Flag::new();
+    let (added, deleted) = join(
+        host,
+        || -> Result<String, AllocError> { add_and_tell(rt, address, &flag) },
+        || -> Result<String, AllocError> {
+            if !flag.is_raised_in_time() {
+                let told: Result<_, _> = String::from_str(
+                    alloc,
+                    "no reply beside a silent session",
+                );
+                return told;
+            }
+            let mut link = SocketLink::of_call(rt, silent, limits_of(LONG));
+            called_over(alloc, "DEL", &mut link)
+        },
+    );
+    Ok((added?, deleted?))
 }
 
 #[test]
 fn two_workers_serve_at_once(rt: HostRuntime) -> Result<(), Fail> {
-    let listener = listen(&rt, "127.0.0.1:0").ok_or("no listener")?;
-    let address = format!(in rt.alloc(); "{}", listener.local_addr()?)?;
-    let first = connect(&rt, address.as_str()).ok_or("no connection")?;
-    let second = connect(&rt, address.as_str()).ok_or("no connection")?;
-    let calling = thread::spawn(&rt, move || call_both(&rt, rt.alloc(), first, second))?;
-    let is_served = serve_all(rt, rt.alloc(), free(rt.alloc())?, &listener, 2, 2);
-    let (added, deleted) = calling.join(&rt).ok_or("no reply beside a silent session")?;
+    let mut listener = listening(&rt, ANY_PORT).ok_or("no listener")?;
+    let address = reached(rt.alloc(), &listener, ANY_PORT)?;
+    let limit = Duration::from_secs(40);
+    let silent = connect(&rt, Address::of(address.as_str()), limit).ok_or("no connection")?;
+    let keeper = free(rt.alloc())?;
+    let (called, is_served) = join(
+        &rt,
+        || call_both(&rt, &rt, address.as_str(), silent),
+        || serve_all(rt, rt.alloc(), keeper, &mut listener, 2, 2, limits_of(LONG)),
+    );
+    let (added, deleted) = called?;
     assert!(rt; is_served);
     assert_eq!(rt; (added.as_str(), deleted.as_str()), (ADDED, DELETED));
     Ok(())
@@ -132,46 +179,66 @@ fn a_session_between_two_turns_holds_up_no_other(rt: HostRuntime) -> Result<(), 
     Ok(())
 }
 
-#[test]
-fn serving_ends_where_accepting_fails(rt: HostRuntime) -> Result<(), Fail> {
-    let listener = listen(&rt, "127.0.0.1:0").ok_or("no listener")?;
-    listener.set_nonblocking(true)?;
-    assert!(rt; serve_all(rt, rt.alloc(), free(rt.alloc())?, &listener, 2, 1));
-    Ok(())
-}
-
 /// Makes the call at the address once somebody listens there, for up to some 20 seconds.
-fn called_soon<R: Net<Stream = TcpStream> + Clock>(
-    rt: &R,
-    alloc: Global,
-    command: &str,
-    address: &str,
-) -> Result<String, AllocError> {
+fn called_soon(rt: &HostRuntime, command: &str, address: &str) -> Result<String, AllocError> {
     for _ in 0..2000 {
-        if connect(rt, address).is_some() {
-            break;
+        let told = called_at(rt, command, address)?;
+        if !told.as_str().contains("no reply from the daemon") {
+            return Ok(told);
         }
         thread::sleep(rt, Duration::from_millis(10));
     }
-    called_at(rt, alloc, command, address)
+    called_at(rt, command, address)
 }
 
-/// Nobody else is at an address such as 127.77.0.2, so the port that it was given stays free.
+/// Serves so many connections at the address, and tells whether the end is that of a listener that
+/// failed.
+fn serve_few<R: Threads + Wait + Log + Clock + Copy + Send + Sync + Drop + 'static>(
+    host: R,
+    rt: &HostRuntime,
+    address: &str,
+    connections: u64,
+) -> Result<bool, AllocError> {
+    let alloc = rt.alloc();
+    let mut few = Few::new(
+        SocketListener::new(rt, alloc, Address::of(address)),
+        connections,
+    );
+    let served = serve_by(host, alloc, free(alloc)?, &mut few, 2, limits_of(LONG));
+    Ok(matches!(served, Served::ListenFault))
+}
+
+/// What the calls that are made one after another are told.
+fn calls_of(rt: &HostRuntime, address: &str) -> Result<String, AllocError> {
+    let mut told = String::new(rt.alloc());
+    for command in ["ADD", "DEL", "ADD"] {
+        told.push_str(called_soon(rt, command, address)?.as_str())?;
+        told.push_str("|")?;
+    }
+    Ok(told)
+}
+
+/// A port of the loopback at an address that nobody else uses, which stays free.
+fn free_port(rt: &HostRuntime, host: &str) -> Result<String, AllocError> {
+    match listening(rt, host) {
+        Some(listener) => reached(rt.alloc(), &listener, host),
+        None => String::from_str(rt.alloc(), host),
+    }
+}
+
 #[test]
 fn calls_are_served_at_an_address(rt: HostRuntime) -> Result<(), Fail> {
-    let listener = listen(&rt, "127.77.0.2:0").ok_or("no listener")?;
-    let address = format!(in rt.alloc(); "{}", listener.local_addr()?)?;
-    drop(listener);
-    let theirs = address.clone()?;
-    let keeper = free(rt.alloc())?;
-    drop(thread::spawn(
-        &rt,
-        move || serve(rt, rt.alloc(), keeper, theirs.as_str(), 2),
-    )?);
-    let calls = [("ADD", ADDED), ("DEL", DELETED), ("ADD", ADDED_NEXT)];
-    for (command, told) in calls {
-        let found = called_soon(&rt, rt.alloc(), command, address.as_str())?;
-        assert_eq!(rt; found.as_str(), told, "{command}");
+    let port = free_port(&rt, "127.77.0.2:0")?;
+    let path = socket_path(&rt, "calls")?;
+    let wanted = format!(in rt.alloc(); "{ADDED}|{DELETED}|{ADDED_NEXT}|")?;
+    for address in [port.as_str(), path.as_str()] {
+        let (told, is_fault) = join(
+            &rt,
+            || calls_of(&rt, address),
+            || serve_few(rt, &rt, address, 3),
+        );
+        assert_eq!(rt; told?.as_str(), wanted.as_str(), "{address}");
+        assert!(rt; is_fault?, "{address}");
     }
     Ok(())
 }

@@ -4,6 +4,7 @@ use ipam_sqlite::SqliteKeeper;
 use log::Log;
 use sqlite::Alter;
 use std::alloc::Global;
+use std::fs::Files;
 use std::net::{Net, TcpListener, TcpStream};
 use std::rt::Clock;
 use std::sync::Wait;
@@ -50,6 +51,7 @@ pub fn serve_stored<
         + Wait
         + Log
         + Clock
+        + Files
         + Net<Listener = TcpListener, Stream = TcpStream>
         + Copy
         + Send

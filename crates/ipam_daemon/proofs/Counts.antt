@@ -1,0 +1,46 @@
+-- How counts of connections and workers go on by one.
+use Rattle.std.proofs.Common.{◌≡◌, ◌⊎◌, inl, inr, ℕ, suc, ◌+◌, refl, ap, sym, ◌∙◌, arith}
+use Rattle.ipam_io.specs.Counts.{next_count}
+use Rattle.ipam_daemon.specs.Handing.{raised, IsEachServed, IsOneHandedOver, IsHandedOver}
+
+pub served_none : (t a : ℕ) → IsEachServed t t a a
+served_none t a = record { count = 0; taken = refl; attended = refl }
+
+pub served_more : (t t' t'' a a' a'' : ℕ) → IsEachServed t t' a a' → t'' ≡ next_count t' → a'' ≡ next_count a' → IsEachServed t t'' a a''
+served_more t t' t'' a a' a'' s et ea =
+    record { count = suc s.count; taken = et ∙ ap next_count s.taken; attended = ea ∙ ap next_count s.attended }
+
+pub handed_none : (n h a : ℕ) → IsHandedOver n n h h a a
+handed_none n h a = record { over = 0; here = 0; accepted = refl; handed = refl; attended = refl }
+
+suc_left : (over here : ℕ) → suc (over + here) ≡ suc over + here
+suc_left over here = grind arith
+
+suc_right : (over here : ℕ) → suc (over + here) ≡ over + suc here
+suc_right over here = grind arith
+
+pub handed_more : (n n' n'' h h' h'' a a' a'' : ℕ) → IsHandedOver n n' h h' a a' → n'' ≡ next_count n' → IsOneHandedOver h' h'' a' a'' → IsHandedOver n n'' h h'' a a''
+handed_more n n' n'' h h' h'' a a' a'' s en (inl (eh, ea)) =
+    record {
+      over = suc s.over;
+      here = s.here;
+      accepted = en ∙ ap next_count s.accepted ∙ ap (λ k. raised k n) (suc_left s.over s.here);
+      handed = eh ∙ ap next_count s.handed;
+      attended = ea ∙ s.attended;
+    }
+handed_more n n' n'' h h' h'' a a' a'' s en (inr (eh, ea)) =
+    record {
+      over = s.over;
+      here = suc s.here;
+      accepted = en ∙ ap next_count s.accepted ∙ ap (λ k. raised k n) (suc_right s.over s.here);
+      handed = eh ∙ s.handed;
+      attended = ea ∙ ap next_count s.attended;
+    }
+
+pub hired_none : (h : ℕ) → h ≡ raised 0 h
+hired_none h = refl
+
+pub hired_more : (count h h' h'' : ℕ) → h' ≡ raised count h → h'' ≡ next_count h' → h'' ≡ raised (count + 1) h
+hired_more count h h' h'' e e' =
+    let next : suc count ≡ count + 1 = grind arith in
+    e' ∙ ap next_count e ∙ ap (λ k. raised k h) next

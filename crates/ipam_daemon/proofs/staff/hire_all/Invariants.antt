@@ -1,0 +1,15 @@
+-- A worker works for each round so far.
+use Rattle.std.proofs.Common.{◌≡◌, ◌≤◌}
+use Rattle.std.specs.Arc.{arc_value}
+use Rattle.ipam_shared.specs.Passes.{runs_in}
+use Rattle.ipam_daemon.specs.Handing.{raised}
+use Rattle.ipam_daemon.proofs.staff.hire_all.Given as goal
+
+abbrev pub invariant-loop : goal.invariant-loop
+invariant-loop g l =
+    (l.pass.lock ≡ g.S.Serves.id (arc_value l.shared))
+    × (l.pass.lock ≡ l.initial.pass.lock)
+    × (runs_in l.pass ≡ runs_in l.initial.pass)
+    × (l.crew.hired ≡ raised l.counter l.initial.crew.hired)
+    × (l.crew.faults ≡ l.initial.crew.faults)
+    × (l.counter ≤ l.workers)

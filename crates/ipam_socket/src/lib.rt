@@ -1,0 +1,25 @@
+//! The sockets between the daemon and its clients: a Unix stream socket file or a TCP address, with
+//! the time that each side waits for the other, and a look whether the peer is still there.
+#![tactic(auto)]
+
+mod address;
+mod connecting;
+mod file;
+mod gate;
+mod limits;
+mod link;
+mod listener;
+mod listening;
+mod stream;
+mod waits;
+
+pub use address::Address;
+pub use connecting::connect;
+pub use gate::{Peer, PeerGate, StreamPeer};
+pub use ipam_io::Failed;
+pub use limits::Limits;
+pub use link::SocketLink;
+pub use listener::SocketListener;
+pub use listening::Listens;
+pub use stream::{Connected, Stream, may_begin};
+pub use waits::Waits;

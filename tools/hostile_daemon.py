@@ -1,0 +1,585 @@
+#!/usr/bin/env python3
+"""Does to a built program what its surroundings may do to it, and prints what it saw.
+
+  tools/hostile_daemon.py [--quick] [--plugin PATH] PROGRAM [COUNT]
+
+PROGRAM is the built program, and COUNT how many calls are killed in each part that kills calls (1,000). PATH is the
+plugin as `install` makes it, without a daemon: 32 calls of it are made at once. Each line says what was tried and what
+was seen, and ends with `ok`, `FAILED` or, where the program has no such thing, `not supported`. The last line is
+`N passed, M failed`, and the status is 1 where one failed. It needs Python alone, and some minutes; what waits for a
+limit waits for as long as the program does (`--quick` leaves those out).
+"""
+
+import argparse
+import concurrent.futures
+import json
+import os
+import random
+import signal
+import socket
+import stat
+import subprocess
+import sys
+import tempfile
+import threading
+import time
+
+sys.path.insert(0, os.path.join(os.path.dirname(os.path.abspath(__file__)), "..", "bench"))
+from kill_client import line_of, owners  # noqa: E402
+
+PATIENCE = 30
+FIRST_LINE = 10        # seconds that the daemon waits for a first line, and for the rest of a line
+REPLY = 30             # seconds that a call waits for its reply
+MOST_PEAK = 600        # MB of memory at the peak of sixteen long lines
+MOST_AFTER = 60        # MB that stay
+POOL = {"kind": "IPPool", "metadata": {"name": "pods"}, "spec": {"cidr": "10.0.0.0/16"}}
+
+
+class Seen:
+    """What was seen, and how often it was right."""
+
+    def __init__(self):
+        self.passed, self.failed = 0, 0
+
+    def say(self, what, seen, is_right):
+        self.passed, self.failed = self.passed + bool(is_right), self.failed + (not is_right)
+        print(f"{what}: {seen}: {'ok' if is_right else 'FAILED'}", flush=True)
+
+    @staticmethod
+    def lacks(what):
+        print(f"{what}: not supported", flush=True)
+
+
+class Daemon:
+    """A daemon of the program in a folder of its own, at a socket file or a port of the loopback."""
+
+    def __init__(self, program, workers=4, over_tcp=False, folder=None, env=None):
+        self.program, self.workers = program, workers
+        self.folder = folder or tempfile.mkdtemp(prefix="ipam-hostile-")
+        self.env = {**os.environ, "IPAM_DB": os.path.join(self.folder, "ipam.db"), **(env or {})}
+        self.address = f"127.0.0.1:{free_port()}" if over_tcp else os.path.join(self.folder, "s")
+        self.log, self.process = os.path.join(self.folder, "log"), None
+
+    def apply(self):
+        subprocess.run([self.program, "apply"], env=self.env, input=json.dumps(POOL), text=True, check=True,
+                       stdout=subprocess.DEVNULL)
+        return self
+
+    def start(self):
+        with open(self.log, "ab") as log:
+            words = [self.program, "serve", self.address, str(self.workers)]
+            self.process = subprocess.Popen(words, env=self.env, stdout=log, stderr=log)
+        end = time.monotonic() + PATIENCE
+        while time.monotonic() < end:
+            try:
+                self.connect().close()
+                return self
+            except OSError:
+                if self.process.poll() is not None:
+                    return None
+                time.sleep(0.01)
+        return None
+
+    def connect(self):
+        if self.address.startswith("/"):
+            made = socket.socket(socket.AF_UNIX, socket.SOCK_STREAM)
+            made.settimeout(PATIENCE)
+            made.connect(self.address)
+            return made
+        host, port = self.address.rsplit(":", 1)
+        made = socket.create_connection((host, int(port)), timeout=PATIENCE)
+        made.setsockopt(socket.IPPROTO_TCP, socket.TCP_NODELAY, 1)
+        return made
+
+    def call(self, command, container, **more):
+        """A plugin's call that is begun."""
+        env = {**self.env, "CNI_COMMAND": command, "CNI_CONTAINERID": container, "CNI_IFNAME": "eth0",
+               "CNI_NETNS": "/run/netns/x", **more}
+        return subprocess.Popen([self.program, "call", self.address], env=env, stdin=subprocess.PIPE,
+                                stdout=subprocess.PIPE, stderr=subprocess.DEVNULL)
+
+    def ended(self):
+        """Stops it, and gives its status."""
+        if self.process is not None and self.process.poll() is None:
+            self.process.kill()
+        return self.process.wait() if self.process is not None else None
+
+    def held(self):
+        """The container of each address, by the rows, once it is stopped."""
+        self.ended()
+        return owners(self.program, self.env)
+
+    def memory(self, field):
+        with open(f"/proc/{self.process.pid}/status", encoding="ascii") as lines:
+            for line in lines:
+                if line.startswith(field + ":"):
+                    return int(line.split()[1]) // 1024
+        return 0
+
+
+def free_port():
+    with socket.socket() as made:
+        made.bind(("127.0.0.1", 0))
+        return made.getsockname()[1]
+
+
+def reply(connection, line):
+    """The reply to a line. None where the connection ends before."""
+    try:
+        connection.sendall(line)
+        got = b""
+        while not got.endswith(b"\n"):
+            part = connection.recv(1 << 16)
+            if not part:
+                return None
+            got += part
+        return json.loads(got)
+    except OSError:
+        return None
+
+
+def stdin_of(node="node-0"):
+    text = {"cniVersion": "1.0.0", "name": "net", "type": "calico", "nodename": node, "ipam": {"type": "calico-ipam"}}
+    return json.dumps(text).encode()
+
+
+def statuses_of(calls):
+    """The statuses of calls that all have their standard input before the first of them is waited for."""
+    for call in calls:
+        call.stdin.write(stdin_of())
+        call.stdin.close()
+    for call in calls:
+        call.stdout.read()
+    return [call.wait() for call in calls]
+
+
+def added(daemon, container, node="node-0"):
+    """Whether an ADD over a connection of its own is answered."""
+    with daemon.connect() as connection:
+        told = reply(connection, line_of("ADD", container, node))
+    return told is not None and told.get("status") == 0
+
+
+# ---- a socket file
+
+def has_files(program):
+    """Whether the program serves at a socket file."""
+    daemon = Daemon(program).apply()
+    is_there = daemon.start() is not None
+    daemon.ended()
+    return is_there
+
+
+def socket_file(seen, program):
+    daemon = Daemon(program).apply().start()
+    mode = stat.S_IMODE(os.stat(daemon.address).st_mode)
+    seen.say("the mode of the socket file", oct(mode), mode == 0o660)
+    seen.say("an ADD over it", "answered", added(daemon, "one"))
+    other = Daemon(program, folder=tempfile.mkdtemp(prefix="ipam-hostile-")).apply()
+    other.address = daemon.address
+    out = subprocess.run([program, "serve", daemon.address, "1"], env=other.env, stdout=subprocess.PIPE, timeout=PATIENCE)
+    seen.say("a second daemon at it", out.stdout.decode().strip(), out.returncode == 9)
+    seen.say("the first one after that", "answers", added(daemon, "two"))
+    daemon.ended()
+    is_left = os.path.exists(daemon.address)
+    again = daemon.start()
+    seen.say("a stale socket file", f"left: {is_left}, replaced: {again is not None}", is_left and again is not None)
+    daemon.ended()
+    os.remove(daemon.address)
+    with open(daemon.address, "wb") as file:
+        file.write(b"text")
+    out = subprocess.run([program, "serve", daemon.address, "1"], env=daemon.env, stdout=subprocess.PIPE, timeout=PATIENCE)
+    with open(daemon.address, "rb") as file:
+        is_kept = file.read() == b"text"
+    seen.say("a file that is no socket", f"{out.stdout.decode().strip()}, kept: {is_kept}", out.returncode == 9 and is_kept)
+
+
+# ---- calls that are killed
+
+def held(daemon):
+    """A session that has its reply and is silent from then on, which the daemon bears for ten minutes."""
+    connection = daemon.connect()
+    reply(connection, b"{\"feed\":[]}\n")
+    return connection
+
+
+def killed_while_busy(seen, program, count, over_tcp):
+    """Each worker is held by a silent session; calls are killed meanwhile; then the workers are let go."""
+    where = "TCP" if over_tcp else "a socket file"
+    daemon = Daemon(program, workers=2, over_tcp=over_tcp).apply().start()
+    silent, killed = [held(daemon) for _ in range(2)], 0
+    for first in range(0, count, 8):
+        calls = [daemon.call("ADD", f"c{number}") for number in range(first, min(first + 8, count))]
+        for call in calls:
+            call.stdin.write(stdin_of())
+            call.stdin.close()
+        time.sleep(0.05)
+        for call in calls:
+            killed += call.poll() is None
+            call.kill()
+            call.wait()
+    for connection in silent:
+        connection.close()
+    is_up = added(daemon, "last")
+    kept = [who for who in daemon.held().values() if who != "last"]
+    seen.say(f"calls killed before their lines were begun, all workers busy, {where}",
+             f"{len(kept)} of {killed} kept an address", is_up and (over_tcp or not kept))
+
+
+def killed_before_reading(seen, program, count):
+    """With a worker free, a client sends its line and is gone at once: what was not begun is not done."""
+    daemon = Daemon(program, workers=1).apply().start()
+    holds = 0
+    for number in range(count):
+        with daemon.connect() as first:
+            first.sendall(b"{")
+            gone = daemon.connect()
+            gone.sendall(line_of("ADD", f"c{number}", "node-0"))
+            gone.close()
+        holds += 1
+    is_up = added(daemon, "last")
+    kept = [who for who in daemon.held().values() if who != "last"]
+    seen.say("clients gone before their lines were begun, one worker that is let go, a socket file",
+             f"{len(kept)} of {holds} kept an address", is_up and not kept)
+
+
+def killed_at_any_moment(seen, program, count, over_tcp):
+    """Calls are killed after a drawn time, a worker being free; then each is followed by a DEL, as a runtime does."""
+    where = "TCP" if over_tcp else "a socket file"
+    daemon = Daemon(program, workers=8, over_tcp=over_tcp).apply().start()
+    draw = random.Random(1)
+    begin = time.perf_counter()
+    call = daemon.call("ADD", "measure")
+    call.communicate(stdin_of())
+    whole = time.perf_counter() - begin
+    answered, gone = set(), set()
+
+    def one(number):
+        made = daemon.call("ADD", f"c{number}")
+        made.stdin.write(stdin_of())
+        made.stdin.close()
+        time.sleep(draw.uniform(0, whole))
+        made.kill()
+        out = made.stdout.read()
+        made.wait()
+        if made.returncode == 0 and out:
+            answered.add(f"c{number}")
+            return
+        with daemon.connect() as connection:
+            told = reply(connection, line_of("DEL", f"c{number}", "node-0"))
+        if told is not None and told.get("status") == 0:
+            gone.add(f"c{number}")
+
+    with concurrent.futures.ThreadPoolExecutor(4) as pool:
+        list(pool.map(one, range(count)))
+    time.sleep(0.5)
+    kept = [who for who in daemon.held().values() if who in gone]
+    seen.say(f"calls killed at any moment, each followed by its DEL, {where}",
+             f"{len(kept)} of {len(gone)} kept an address, {len(answered)} were answered before",
+             over_tcp or len(kept) * 1000 <= max(count, 1000))
+
+
+# ---- silent, slow and deaf clients
+
+def is_closed(connection, within):
+    """Whether the peer closes within so many seconds."""
+    connection.settimeout(within)
+    try:
+        while connection.recv(1 << 16):
+            pass
+        return True
+    except (socket.timeout, TimeoutError):
+        return False
+    except OSError:
+        return True
+
+
+def silent_clients(seen, program, over_tcp):
+    where = "TCP" if over_tcp else "a socket file"
+    daemon = Daemon(program, workers=4, over_tcp=over_tcp).apply().start()
+    silent = [daemon.connect() for _ in range(4)]
+    silent[1].sendall(b"{\"request\":")
+    trickle, ends = silent[2], threading.Event()
+
+    def send_slowly():
+        while not ends.wait(1):
+            try:
+                trickle.sendall(b" ")
+            except OSError:
+                return
+
+    slow = threading.Thread(target=send_slowly, daemon=True)
+    slow.start()
+    begin = time.monotonic()
+    is_served = added(daemon, "c1")
+    waited = time.monotonic() - begin
+    closed = sum(is_closed(connection, 5) for connection in silent)
+    ends.set()
+    seen.say(f"four silent and slow clients at four workers, {where}",
+             f"{closed} closed, another is served after {waited:.1f} s", is_served and closed == 4 and waited < FIRST_LINE + 5)
+    daemon.ended()
+
+
+def deaf_client(seen, program):
+    daemon = Daemon(program, workers=1).apply().start()
+    deaf = daemon.connect()
+    deaf.settimeout(60)
+    lines = b"{\"feed\":[]}\n" * 100_000
+
+    def send():
+        try:
+            deaf.sendall(lines)
+        except OSError:
+            pass
+
+    threading.Thread(target=send, daemon=True).start()
+    time.sleep(1)
+    begin = time.monotonic()
+    is_served = added(daemon, "c1")
+    seen.say("a client that never reads its replies, at one worker",
+             f"another is served after {time.monotonic() - begin:.1f} s", is_served)
+    deaf.close()
+    daemon.ended()
+
+
+def listener_that_never_replies(seen, program):
+    folder = tempfile.mkdtemp(prefix="ipam-hostile-")
+    for address, made in ((os.path.join(folder, "s"), socket.socket(socket.AF_UNIX)), (None, socket.socket())):
+        made.bind(address or ("127.0.0.1", 0))
+        made.listen(8)
+        daemon = Daemon(program)
+        daemon.address = address or f"127.0.0.1:{made.getsockname()[1]}"
+        begin = time.monotonic()
+        call = daemon.call("ADD", "c1")
+        try:
+            out, _ = call.communicate(stdin_of(), timeout=REPLY + 15)
+            told = json.loads(out)
+        except (subprocess.TimeoutExpired, ValueError):
+            call.kill()
+            told = {}
+        waited = time.monotonic() - begin
+        seen.say(f"a listener that never replies, {'a socket file' if address else 'TCP'}",
+                 f"code {told.get('code')} ({told.get('details')}) after {waited:.1f} s",
+                 told.get("code") == 111 and told.get("details") == "link" and waited < REPLY + 5)
+        made.close()
+
+
+# ---- a web page
+
+def web_page(seen, program):
+    daemon = Daemon(program, over_tcp=True).apply().start()
+    body = line_of("ADD", "web", "node-0")
+    heads = {
+        "a POST": b"POST / HTTP/1.1\r\nHost: localhost\r\nContent-Type: text/plain\r\n\r\n",
+        "a GET": b"GET /?x HTTP/1.1\r\n\r\n",
+        "a TLS hello": b"\x16\x03\x01\x02\x00\x01\x00\x01\xfc\x03\x03",
+    }
+    for name, head in heads.items():
+        with daemon.connect() as connection:
+            try:
+                connection.sendall(head + body)
+            except OSError:
+                pass
+            is_shut = is_closed(connection, 5)
+        seen.say(f"{name} with a session's line as its body, TCP", f"closed: {is_shut}", is_shut)
+    is_up = added(daemon, "one")
+    with open(daemon.log, "rb") as log:
+        logged = log.read().count(b"did not begin as a session does")
+    kept = list(daemon.held().values())
+    seen.say("what they left", f"{kept}, logged {logged} times", is_up and kept == ["one"] and logged == len(heads))
+
+
+# ---- restarts, and files that are gone
+
+def opened(daemon):
+    with daemon.connect() as connection:
+        told = reply(connection, b"{\"opened\":true}\n")
+    return (told or {}).get("opened")
+
+
+def restarts(seen, program, over_tcp):
+    daemon = Daemon(program, over_tcp=over_tcp).apply().start()
+    first = opened(daemon)
+    if first is None:
+        daemon.ended()
+        seen.lacks("which opening this is, by {\"opened\":true}")
+        return
+    same = opened(daemon)
+    daemon.ended()
+    daemon.start()
+    second = opened(daemon)
+    seen.say("which opening this is", f"{first}, {same}, and after a restart {second}", first == same != second)
+    daemon.ended()
+
+
+def gone_files(seen, program, over_tcp):
+    def removed(path):
+        os.remove(path)
+
+    def renamed(path):
+        os.rename(path, path + ".old")
+
+    def replaced(path):
+        os.rename(path, path + ".old")
+        with open(path, "wb"):
+            pass
+
+    for name in ("", "-wal"):
+        for how in (removed, renamed, replaced):
+            daemon = Daemon(program, over_tcp=over_tcp).apply().start()
+            is_up = added(daemon, "before")
+            path = daemon.env["IPAM_DB"] + name
+            if not os.path.exists(path):
+                daemon.ended()
+                seen.lacks(f"ipam.db{name} {how.__name__} under the daemon: there is no such file")
+                continue
+            how(path)
+            answers = [added(daemon, f"c{number}") for number in range(3)] if daemon.process.poll() is None else []
+            end = time.monotonic() + 5
+            while daemon.process.poll() is None and time.monotonic() < end:
+                time.sleep(0.05)
+            status = daemon.process.poll()
+            daemon.ended()
+            seen.say(f"ipam.db{name} {how.__name__} under the daemon",
+                     f"{sum(answers)} of {len(answers)} calls were answered, status {status}", is_up and not any(answers))
+
+
+def strange_files(seen, program):
+    import sqlite3
+    daemon = Daemon(program).apply()
+    path = daemon.env["IPAM_DB"]
+    os.link(path, path + ".link")
+    out = subprocess.run([program, "get"], env=daemon.env, stdout=subprocess.PIPE)
+    seen.say("a hard link beside the database", f"status {out.returncode}, {out.stdout.decode().splitlines()[-1:]}",
+             out.returncode != 0)
+    daemon = Daemon(program)
+    with sqlite3.connect(daemon.env["IPAM_DB"]) as rows:
+        rows.execute("CREATE TABLE rows (key TEXT PRIMARY KEY, revision TEXT NOT NULL, body TEXT NOT NULL)")
+    rows.close()
+    out = subprocess.run([program, "apply"], env=daemon.env, input=json.dumps(POOL).encode(), stdout=subprocess.PIPE)
+    seen.say("a table `rows` whose revisions are texts", f"status {out.returncode}", out.returncode != 0)
+    daemon = Daemon(program).apply()
+    lone = Daemon(program)
+    with open(daemon.env["IPAM_DB"], "rb") as old, open(lone.env["IPAM_DB"], "wb") as new:
+        new.write(old.read())
+    out = subprocess.run([program, "get"], env=lone.env, stdout=subprocess.PIPE)
+    seen.say("the file copied without its log, after an apply", f"{out.stdout.decode().count('pools ')} rows of pools",
+             out.returncode == 0 and b"pools " in out.stdout)
+
+
+def modes(seen, program):
+    old = os.umask(0)
+    try:
+        daemon = Daemon(program).apply()
+    finally:
+        os.umask(old)
+    found = {name: oct(stat.S_IMODE(os.stat(os.path.join(daemon.folder, name)).st_mode))
+             for name in os.listdir(daemon.folder) if name.startswith("ipam.db")}
+    seen.say("the modes of the database's files, made with no umask", found,
+             all(int(mode, 8) & 0o7 == 0 for mode in found.values()))
+
+
+# ---- environments
+
+def environments(seen, program, over_tcp):
+    daemon = Daemon(program, over_tcp=over_tcp).apply().start()
+    call = daemon.call("ADD", "c1", CNI_IFNAME=os.fsdecode(b"eth\xff0"))
+    out, _ = call.communicate(stdin_of(), timeout=REPLY + 15)
+    told = json.loads(out or b"{}")
+    seen.say("an interface name that is no UTF-8", f"status {call.returncode}, code {told.get('code')}",
+             call.returncode == 1 and told.get("code") == 4)
+    script = ("import ctypes,os,sys\n"
+              "pairs = [b'CNI_COMMAND=DEL', b'CNI_COMMAND=ADD', b'CNI_CONTAINERID=c2', b'CNI_IFNAME=eth0', b'CNI_NETNS=/x',\n"
+              "         b'IPAM_DB=' + os.environb[b'IPAM_DB']]\n"
+              "words = [w.encode() for w in sys.argv[1:]]\n"
+              "array = lambda xs: (ctypes.c_char_p * (len(xs) + 1))(*xs, None)\n"
+              "ctypes.CDLL(None).execve(words[0], array(words), array(pairs))\n")
+    out = subprocess.run([sys.executable, "-c", script, os.path.abspath(program), "call", daemon.address], env=daemon.env,
+                         input=stdin_of(), stdout=subprocess.PIPE, timeout=REPLY + 15)
+    seen.say("of two pairs of one name the last counts", f"status {out.returncode}, {out.stdout[:60]!r}", b"ips" in out.stdout)
+    daemon.ended()
+
+
+# ---- many at once, and memory
+
+def many_at_once(seen, program, over_tcp):
+    daemon = Daemon(program, workers=8, over_tcp=over_tcp).apply().start()
+    calls = [daemon.call("ADD", f"c{number}") for number in range(32)]
+    done = statuses_of(calls).count(0)
+    seen.say("32 calls of the daemon at once", f"{done} of 32 have an address", done == 32)
+    daemon.ended()
+
+
+def many_plugins(seen, plugin):
+    if plugin is None:
+        seen.lacks("32 calls of the plugin at once (see --plugin)")
+        return
+    env = {**os.environ, "CNI_COMMAND": "ADD", "CNI_IFNAME": "eth0", "CNI_NETNS": "/x"}
+    calls = [subprocess.Popen([plugin], env={**env, "CNI_CONTAINERID": f"hostile-{number}"}, stdin=subprocess.PIPE,
+                              stdout=subprocess.PIPE, stderr=subprocess.DEVNULL) for number in range(32)]
+    done = statuses_of(calls).count(0)
+    for number in range(32):
+        gone = subprocess.Popen([plugin], env={**env, "CNI_COMMAND": "DEL", "CNI_CONTAINERID": f"hostile-{number}"},
+                                stdin=subprocess.PIPE, stdout=subprocess.DEVNULL, stderr=subprocess.DEVNULL)
+        gone.communicate(stdin_of())
+    load = os.getloadavg()[0]
+    seen.say("32 calls of the plugin at once", f"{done} of 32 have an address, at a load of {load:.0f}", done == 32)
+
+
+def memory(seen, program, over_tcp):
+    env = {"MALLOC_ARENA_MAX": "1", "MALLOC_TRIM_THRESHOLD_": "1048576"}
+    line = b"{\"x\":[" + b",".join([b"{\"a\":1}"] * 131_000) + b"]}\n"
+    for name, more in (("as it is", {}), ("with one heap, as the unit has it", env)):
+        daemon = Daemon(program, workers=16, over_tcp=over_tcp, env=more).apply().start()
+        connections = [daemon.connect() for _ in range(16)]
+        with concurrent.futures.ThreadPoolExecutor(16) as pool:
+            replies = list(pool.map(lambda connection: reply(connection, line), connections))
+        for connection in connections:
+            connection.close()
+        time.sleep(1)
+        peak, after = daemon.memory("VmHWM"), daemon.memory("VmRSS")
+        is_right = all(told is not None for told in replies)
+        if more:
+            is_right = is_right and peak <= MOST_PEAK and after <= MOST_AFTER
+        seen.say(f"sixteen lines of {len(line)} bytes of small objects at once, {name}",
+                 f"{peak} MB at the peak, {after} MB after", is_right)
+        daemon.ended()
+
+
+def main():
+    words = argparse.ArgumentParser(description=__doc__, formatter_class=argparse.RawDescriptionHelpFormatter)
+    words.add_argument("--quick", action="store_true", help="leave out what waits for a limit")
+    words.add_argument("--plugin", help="the installed plugin, without a daemon")
+    words.add_argument("program")
+    words.add_argument("count", nargs="?", type=int, default=1000)
+    words = words.parse_args()
+    program, count, seen = os.path.abspath(words.program), words.count, Seen()
+    signal.signal(signal.SIGPIPE, signal.SIG_IGN)
+    with_files = has_files(program)
+    over_tcp = not with_files
+    parts = []
+    if with_files:
+        parts += [(socket_file, program), (killed_before_reading, program, count),
+                  (killed_while_busy, program, count, False), (killed_at_any_moment, program, count, False)]
+    else:
+        seen.lacks("a socket file")
+    parts += [(killed_while_busy, program, min(count, 100), True), (killed_at_any_moment, program, min(count, 100), True),
+              (web_page, program)]
+    if not words.quick:
+        parts += [(silent_clients, program, True)]
+        parts += [(silent_clients, program, False), (deaf_client, program)] if with_files else []
+        parts += [(listener_that_never_replies, program)]
+    parts += [(restarts, program, over_tcp), (gone_files, program, over_tcp), (strange_files, program), (modes, program),
+              (environments, program, over_tcp), (many_at_once, program, over_tcp), (many_plugins, words.plugin),
+              (memory, program, over_tcp)]
+    for part, *given in parts:
+        try:
+            part(seen, *given)
+        except (OSError, AttributeError, subprocess.SubprocessError, ValueError, KeyError) as failed:
+            seen.say(part.__name__, f"it broke off: {failed!r}", False)
+    print(f"{seen.passed} passed, {seen.failed} failed")
+    sys.exit(1 if seen.failed else 0)
+
+
+if __name__ == "__main__":
+    main()
