@@ -9,7 +9,7 @@ ghost use Rattle.ipam_serve.specs.Sessions.{RoseIf, Session, is_halted, is_read_
 
 use crate::serves::Serves;
 use ipam_io::{Gate, Link, SystemClock};
-use ipam_serve::SessionEnd;
+use ipam_serve::{SessionEnd, Sleeps};
 use ipam_shared::Pass;
 use std::alloc::Global;
 use std::sync::{Arc, Wait};
@@ -23,6 +23,7 @@ pub(crate) struct Desk<S: Serves, C> {
     shared: Arc<S, Global>,
     pass: Pass,
     clock: SystemClock<C>,
+    patience: Sleeps,
     sessions: u64,
     ghost own: { pass.lock ≡ S.id (arc_value shared) },
     ghost idle: { IsNone (runs_in pass) },
@@ -37,10 +38,12 @@ impl<S: Serves, C: Clock> Desk<S, C> {
         ensures pass { result.pass ≡ pass }
         ensures sessions { result.sessions ≡ 0 }
     {
+        let patience = Sleeps::new(pass.slot());
         Desk {
             alloc,
             shared,
             pass,
+            patience,
             clock: SystemClock::new(clock),
             sessions: 0,
         }
@@ -65,6 +68,14 @@ impl<S: Serves, C: Clock> Desk<S, C> {
         ensures counted { self.new.sessions ≡ next_count self.old.sessions }
     {
         self.sessions = self.sessions.saturating_add(1);
-        self.shared.session(rt, self.alloc, &mut self.pass, gate, &mut self.clock, link)
+        self.shared.session(
+            rt,
+            self.alloc,
+            &mut self.pass,
+            gate,
+            &mut self.clock,
+            &mut self.patience,
+            link,
+        )
     }
 }

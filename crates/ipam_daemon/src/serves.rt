@@ -8,7 +8,7 @@ ghost use Rattle.ipam_serve.specs.Sessions.{RoseIf, Session, is_halted, is_read_
 ghost use Rattle.ipam_daemon.specs.Crews.{IsSpent};
 
 use ipam_io::{Clock, Gate, Link};
-use ipam_serve::{SessionEnd, serve_session};
+use ipam_serve::{Patience, SessionEnd, serve_session};
 use ipam_shared::{Keeper, Pass, Shared};
 use std::alloc::Global;
 use std::sync::Wait;
@@ -28,14 +28,16 @@ pub trait Serves {
         ensures idle { IfSome result (λ other. runs_in other ≡ None) }
         ensures none { IfNone result (IsSpent pass.new) };
 
-    /// Serves a session over the link to its end, as `serve_session` does.
-    fn session<R: Wait, L: Link, G: Gate, C: Clock>(
+    /// Serves a session over the link to its end, as `serve_session` does. Where a race was lost it lets
+    /// others finish.
+    fn session<R: Wait, L: Link, G: Gate, C: Clock, P: Patience>(
         &self,
         rt: &R,
         alloc: Global,
         pass: &mut Pass,
         gate: &mut G,
         clock: &mut C,
+        patience: &mut P,
         link: &mut L,
     ) -> SessionEnd
         requires own { pass.old.lock ≡ id self.now }
@@ -57,15 +59,16 @@ impl<D: Keeper> Serves for Shared<D> {
         self.split(pass)
     }
 
-    fn session<R: Wait, L: Link, G: Gate, C: Clock>(
+    fn session<R: Wait, L: Link, G: Gate, C: Clock, P: Patience>(
         &self,
         rt: &R,
         alloc: Global,
         pass: &mut Pass,
         gate: &mut G,
         clock: &mut C,
+        patience: &mut P,
         link: &mut L,
     ) -> SessionEnd {
-        serve_session(rt, alloc, self, pass, gate, clock, link)
+        serve_session(rt, alloc, self, pass, gate, clock, patience, link)
     }
 }
