@@ -18,7 +18,7 @@ seconds() {
 }
 for words in "get config" "audit 1" "audit 2" "audit 4"; do
     printf '%s:' "$words"
-    for run in 1 2 3; do
+    for _ in 1 2 3; do
         # shellcheck disable=SC2086
         seconds $words
     done

@@ -69,6 +69,8 @@ def without_rows():
 def with_rows(rows):
     without_rows()
     with sqlite3.connect(DATABASE) as database:
+        # (these files need not outlive a loss of power)
+        database.execute("PRAGMA synchronous = OFF")
         database.execute("CREATE TABLE rows(key TEXT PRIMARY KEY, revision INTEGER NOT NULL, body TEXT NOT NULL)")
         database.executemany("INSERT INTO rows VALUES(?, ?, ?)", rows)
     database.close()

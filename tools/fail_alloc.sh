@@ -83,8 +83,8 @@ try_play() {
     "$program" play <"$top/examples/first-run.script" >"$place/journal"
     while refuse "$number" play <"$top/examples/first-run.script"; do
         case $status in
-        0) cmp -s "$place/found" "$place/journal" && whole=$((whole + 1)) || tell_wrong play "$number" ;;
-        6) is_front "$place/journal" && none=$((none + 1)) || tell_wrong play "$number" ;;
+        0) if cmp -s "$place/found" "$place/journal"; then whole=$((whole + 1)); else tell_wrong play "$number"; fi ;;
+        6) if is_front "$place/journal"; then none=$((none + 1)); else tell_wrong play "$number"; fi ;;
         *) tell_wrong play "$number" ;;
         esac
         number=$((number + 1))

@@ -13,14 +13,14 @@ use Rattle.ipam_commands.specs.declared.status.Status.{Status}
 use Rattle.ipam_commands.specs.declared.status.Status.TheVariants as status
 use Rattle.ipam_commands.specs.Courses.{AreRowsOf}
 use Rattle.ipam_commands.specs.Telling.{Writes}
-use Rattle.ipam_apply.specs.Applying.{All, AreApplied, EndsAt, IsApplied, KeeperFailed, Refused, RunEnds, Stopped, UpTo, Untold, alone_on, applied_lines}
+use Rattle.ipam_apply.specs.Applying.{All, AreApplied, EndsAt, IsAppliedOn, KeeperFailed, Refused, RunEnds, Stopped, UpTo, Untold, alone_on, applied_lines}
 use Rattle.ipam_apply.specs.Outside.{Outside, Took, with_text}
 
 -- one more is applied
-pub applied-one : (store : Datastore) (front : List Resource) (before : Datastore) (one : Resource) → AreApplied store front before → IsApplied (alone_on before one).0
+pub applied-one : (store : Datastore) (front : List Resource) (before : Datastore) (one : Resource) → AreApplied store front before → IsAppliedOn before one
     → AreApplied store (front ++ one ∷ []) (alone_on before one).1
 applied-one store [] before one same applied =
-    (subst (λ (s : Datastore). IsApplied (alone_on s one).0) same applied, ap (λ (s : Datastore). (alone_on s one).1) same)
+    (subst (λ (s : Datastore). IsAppliedOn s one) same applied, ap (λ (s : Datastore). (alone_on s one).1) same)
 applied-one store (first ∷ front) before one h applied = (h.0, applied-one (alone_on store first).1 front before one h.1 applied)
 
 lines-one : (front : List Resource) (one : Resource) → applied_lines (front ++ one ∷ []) ≡ applied_lines front ++ applied_line one
@@ -69,8 +69,8 @@ said-from one other new before between after text own end bytes faults said =
 
 -- it does not matter which rows there were before
 ends-from : (store : Datastore) (one : Resource) (now old new : Outside) (end : Status) → now.written ≡ old.written → now.write_faults ≡ old.write_faults → now.keeper_faults ≡ old.keeper_faults → EndsAt store one now new end → EndsAt store one old new end
-ends-from store one now old new end bytes writes keeps (Refused why is left said) =
-    Refused why is (record { rows = left.rows; no_keeper_fault = left.no_keeper_fault ∙ keeps })
+ends-from store one now old new end bytes writes keeps (Refused why is course left said) =
+    Refused why is course (record { rows = left.rows; no_keeper_fault = left.no_keeper_fault ∙ keeps })
     (said-from now.written old.written new.written now.write_faults old.write_faults new.write_faults _ _ end bytes writes said)
 ends-from store one now old new end bytes writes keeps (Untold applied left said not) =
     Untold applied (record { rows = left.rows; no_keeper_fault = left.no_keeper_fault ∙ keeps })

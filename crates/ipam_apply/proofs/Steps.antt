@@ -23,11 +23,11 @@ use Rattle.ipam_commands.specs.declared.status.Status.{Status}
 use Rattle.ipam_commands.specs.declared.status.Status.TheVariants as status
 use Rattle.ipam_commands.specs.Courses.{AreRowsOf}
 use Rattle.ipam_commands.specs.Telling.{Cut, Untold as NoText, Whole, Writes}
-use Rattle.ipam_solo.proofs.Courses.{fault-course}
+use Rattle.ipam_solo.proofs.Courses.{answer-course, fault-course}
 use Rattle.ipam_commands.proofs.CourseRuns.{stop-course}
 use Rattle.ipam_apply.specs.declared.step.Step.{Step}
 use Rattle.ipam_apply.specs.declared.step.Step.TheVariants.{Applied, Ended}
-use Rattle.ipam_apply.specs.Applying.{IsApplied, KeeperFailed, Refused, StepEnds, Stopped, Untold, alone_on, asked}
+use Rattle.ipam_apply.specs.Applying.{HasCourse, IsApplied, KeeperFailed, Refused, StepEnds, Stopped, Untold, alone_on, asked}
 use Rattle.ipam_apply.specs.Outside.{IsLeft}
 use Rattle.ipam_apply.specs.Ready.{IsFit, IsReady, OnApplied}
 use Rattle.ipam_apply.specs.Telling.{Applies, Fails, MayBeTold, Refuses, TellsAnswer}
@@ -65,6 +65,12 @@ module _ {D : Type 0} (tells : Tells D) (faults : D → ℕ) (one : Resource) (f
   pub store-is : (told : Answer) → IsAnswered tells faults (asked one) old new told → new.cluster.store.store ≡ (alone_on old.cluster.store.store one).1
   store-is told e = e.store ∙ ap (λ (both : Answer × Datastore). both.1) same-alone
 
+  pub course-is : (told : Answer) → IsAnswered tells faults (asked one) old new told → HasCourse old.cluster.store.store one
+  course-is told e = (
+    old.cluster.entries,
+    answer-course tells faults (asked one) old new (base_of old) ready.kept_for told _ _ (told-is told e) (store-is told e) e,
+  )
+
   -- ---- what can be told
 
   own-told : (told : Answer) (own : AdminAnswer) → told ≡ of_admin own → IsAnswered tells faults (asked one) old new told → MayBeTold told
@@ -100,11 +106,11 @@ module _ {D : Type 0} (tells : Tells D) (faults : D → ℕ) (one : Resource) (f
         (record { written = w'; write_faults = f'; rows = tells new.keeper; keeper_faults = faults new.keeper }) step
     step-ends told Applied (applied, said) (inl e) =
         let all = all-written w w' f f' (applied_line one) status.Done status.Done said refl in
-        (subst IsApplied (told-is told e) applied, left told e, record { written = all.0; no_write_fault = all.1; no_keeper_fault = e.no_fault })
+        ((subst IsApplied (told-is told e) applied, course-is told e), left told e, record { written = all.0; no_write_fault = all.1; no_keeper_fault = e.no_fault })
     step-ends told Applied (applied, said) (inr e) = absurd (subst IsApplied e.is_fault applied)
-    step-ends told (Ended end) (inl (applied, (said, not_done))) (inl e) = Untold (subst IsApplied (told-is told e) applied) (left told e) said not_done
+    step-ends told (Ended end) (inl (applied, (said, not_done))) (inl e) = Untold (subst IsApplied (told-is told e) applied, course-is told e) (left told e) said not_done
     step-ends told (Ended end) (inl (applied, rest)) (inr e) = absurd (subst IsApplied e.is_fault applied)
-    step-ends told (Ended end) (inr (inl (why, is, said))) (inl e) = Refused why (ap refusal_of (sym (told-is told e)) ∙ is) (left told e) said
+    step-ends told (Ended end) (inr (inl (why, is, said))) (inl e) = Refused why (ap refusal_of (sym (told-is told e)) ∙ is) (course-is told e) (left told e) said
     step-ends told (Ended end) (inr (inl (why, is, said))) (inr e) =
         let none : None ≡ Some why = sym (ap refusal_of e.is_fault) ∙ is in
         absurd (cc none)

@@ -13,7 +13,7 @@ use Rattle.ipam_resources.specs.declared.resource.Resource.{Resource}
 use Rattle.ipam_resources.specs.Printed.{applied_line, refusal_of, refused_line}
 use Rattle.ipam_commands.specs.declared.status.Status.{Status}
 use Rattle.ipam_commands.specs.declared.status.Status.TheVariants as status
-use Rattle.ipam_solo.specs.Courses.{IsFaultCourse}
+use Rattle.ipam_solo.specs.Courses.{IsAnswerCourse, IsFaultCourse}
 use Rattle.ipam_commands.specs.Courses.{IsStopCourse}
 use Rattle.ipam_commands.specs.Telling.{keeper_line}
 use Rattle.ipam_apply.specs.declared.step.Step.{Step}
@@ -34,10 +34,19 @@ abbrev pub IsApplied : Answer → Type 0
 IsApplied (answer.Done revision) = Unit {0}
 IsApplied _ = ⊥
 
+-- a lawful history in which the resource's request, by itself on the datastore, comes to that
+abbrev pub HasCourse : Datastore → Resource → Type 0
+HasCourse store one =
+    (first : ℕ) × IsAnswerCourse (record { store = store; first = first }) (asked one) (alone_on store one).0 (alone_on store one).1
+
+-- the resource's request by itself is applied on the datastore
+abbrev pub IsAppliedOn : Datastore → Resource → Type 0
+IsAppliedOn store one = IsApplied (alone_on store one).0 × HasCourse store one
+
 -- each is applied on the datastore that the one before left, and the last leaves this
 abbrev pub AreApplied : Datastore → List Resource → (left : Datastore) → Type 0
 AreApplied store [] left = left ≡ store
-AreApplied store (one ∷ more) left = IsApplied (alone_on store one).0 × AreApplied (alone_on store one).1 more left
+AreApplied store (one ∷ more) left = IsAppliedOn store one × AreApplied (alone_on store one).1 more left
 
 -- a line for each of them
 abbrev pub applied_lines : List Resource → List ℕ
@@ -50,9 +59,9 @@ applied_lines (one ∷ more) = applied_line one ++ applied_lines more
 -- applied, and the sink failed or there was no memory for its line; or the keeper failed; or there was
 -- no memory for its request.
 pub data EndsAt (store : Datastore) (one : Resource) (old new : Outside) (end : Status) : Type 0 where
-  Refused : (why : Refusal) → refusal_of (alone_on store one).0 ≡ Some why → IsLeft (alone_on store one).1 old new
+  Refused : (why : Refusal) → refusal_of (alone_on store one).0 ≡ Some why → HasCourse store one → IsLeft (alone_on store one).1 old new
       → Says old new (refused_line one why) status.Refused end → EndsAt store one old new end
-  Untold : IsApplied (alone_on store one).0 → IsLeft (alone_on store one).1 old new
+  Untold : IsAppliedOn store one → IsLeft (alone_on store one).1 old new
       → Says old new (applied_line one) status.Done end → end ≢ status.Done → EndsAt store one old new end
   KeeperFailed : (first : ℕ) → IsFaultCourse (record { store = store; first = first }) (asked one) new.rows
       → Rose old.keeper_faults new.keeper_faults → Says old new keeper_line status.KeeperFault end → EndsAt store one old new end
@@ -62,7 +71,7 @@ pub data EndsAt (store : Datastore) (one : Resource) (old new : Outside) (end : 
 -- what comes of one resource
 abbrev pub StepEnds : Datastore → Resource → (old new : Outside) → Step → Type 0
 StepEnds store one old new Applied =
-    IsApplied (alone_on store one).0 × IsLeft (alone_on store one).1 old new × Took old new (applied_line one)
+    IsAppliedOn store one × IsLeft (alone_on store one).1 old new × Took old new (applied_line one)
 StepEnds store one old new (Ended end) = EndsAt store one old new end
 
 -- ---- all of them

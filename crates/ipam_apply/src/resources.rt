@@ -74,7 +74,8 @@ fn open_and_run<K: Sink, D: Keeper>(
     }
 }
 
-/// Applies the resources, up to one at which the run ends.
+/// Applies the resources, up to one at which the run ends. The cluster has no entries yet, so none of the
+/// requests finds it full.
 fn run<K: Sink, D: Keeper>(
     alloc: Global,
     sink: &mut K,
@@ -83,6 +84,7 @@ fn run<K: Sink, D: Keeper>(
 ) -> Status
     requires sound { All IsFit resources.items }
     requires ready { IsReady D.rows kept.old }
+    requires first { kept.old.cluster.entries ≡ 0 }
     ensures ended { RunEnds kept.old.cluster.store.store resources.items
         (record {
           written = K.written sink.old;

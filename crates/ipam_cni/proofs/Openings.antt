@@ -28,7 +28,7 @@ pub opened_ends : {D : Type 0} (tells : Tells D) (faults name : D → ℕ) (keep
 opened_ends tells faults name keeper kept asked version (Told status text) new after o (same, e) = (
   same ∙ o.no_fault,
   subst (λ (r : Reply). RequestComesTo asked version (tells keeper) new r) e.text
-      (Answered o.loaded kept.cluster.store.store e.is_told o.told o.opens e.answer e.rows),
+      (Answered o.loaded kept.cluster.store.store e.is_told o.told o.opens e.answer e.rows e.course),
 )
 opened_ends tells faults name keeper kept asked version (Failed other Read) new after o e = e
 opened_ends tells faults name keeper kept asked version (Failed other Keeper) new after o (same, rose, course) =

@@ -11,7 +11,7 @@ use Rattle.ipam_model.specs.History.{Base, store_at}
 use Rattle.ipam_kept.specs.declared.kept.Kept.{Kept}
 use Rattle.ipam_kept.specs.Kept.{KeptFor, Tells, opened}
 use Rattle.ipam_kept.specs.Rows.{AreTextsOf}
-use Rattle.ipam_solo.proofs.Courses.{ends-kept, fault-course, no-doubt, sure-rows}
+use Rattle.ipam_solo.proofs.Courses.{answer-course, ends-kept, fault-course, no-doubt, sure-rows}
 use Rattle.ipam_solo.specs.Solo.{IsAnswered, IsFaulted, IsStopped, KeepsWithAll, base_of}
 use Rattle.cni_types.specs.declared.version.Version.{Version}
 use Rattle.ipam_cni.specs.declared.end.CniEnd.{CniEnd}
@@ -52,6 +52,9 @@ module _ {D : Type 0} (tells : Tells D) (faults : D → ℕ) (asked : Request) (
       answer = ap (reply_to asked) (sym (e.answer ∙ ap (λ (b : Base). (alone_over b asked).0) base-opened)) ∙ is;
       text = refl;
       rows = subst (λ (s : Datastore). IfSome (tells new.keeper) (λ rows. AreTextsOf rows s)) (e.store ∙ ap (λ (b : Base). (alone_over b asked).1) base-opened) e.rows;
+      course = answer-course tells faults asked old new (opened old.cluster.store.store) kept told _ _
+          (e.answer ∙ ap (λ (b : Base). (alone_over b asked).0) base-opened)
+          (e.store ∙ ap (λ (b : Base). (alone_over b asked).1) base-opened) e;
     },
   )
   alone-ends version told end e (NoMemory not) = (

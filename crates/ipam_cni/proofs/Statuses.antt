@@ -23,7 +23,7 @@ reply-small (Failure code details) = omega arith
 
 request-small : (asked : Request) (version : Version) (old new : Option (List RowText)) (reply : Reply) → RequestComesTo asked version old new reply → reply.0 ≤ 1
 request-small asked version old new _ (BadRows loaded number about is refused same) = omega arith
-request-small asked version old new _ (Answered loaded store reply is opens told rows) = reply-small reply
+request-small asked version old new _ (Answered loaded store reply is opens told rows course) = reply-small reply
 
 comes-small : (env : List Pair) (stdin : List ℕ) (old new : Option (List RowText)) (reply : Reply) → ComesTo env stdin old new reply → reply.0 ≤ 1
 comes-small env stdin old new _ (Refused error is same) = omega arith

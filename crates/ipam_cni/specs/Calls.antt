@@ -16,7 +16,7 @@ use Rattle.ipam_kept.specs.Kept.{opened}
 use Rattle.ipam_kept.specs.declared.kept.KeptFault.{KeptFault}
 use Rattle.ipam_kept.specs.declared.kept.KeptFault.TheVariants as fault
 use Rattle.ipam_kept.specs.Rows.{AreTextsOf, texts_loaded}
-use Rattle.ipam_solo.specs.Courses.{IsFaultCourse}
+use Rattle.ipam_solo.specs.Courses.{IsAnswerCourse, IsFaultCourse}
 use Rattle.ipam_solo.specs.Solo.{IsStoppedAlone}
 use Rattle.cni_types.specs.declared.calls.Look.{Look}
 use Rattle.cni_types.specs.declared.error.CniError.{CniError}
@@ -67,12 +67,14 @@ pub record IsStopCourse (store : Datastore) (asked : Request) (new : Option (Lis
   pub alone : IsStoppedAlone asked entries ⊎ IsAlone asked entries
   pub rows : IfSome new (λ after. AreTextsOf after (store_at (opened store) entries))
 
--- the answer is that of the request alone, and the rows are those of the datastore that it leaves
+-- the answer is that of the request alone, by a lawful history of its own, and the rows are those of the
+-- datastore that it leaves
 pub record IsAloneReply (store : Datastore) (asked : Request) (version : Version) (new : Option (List RowText)) (reply : ℕ × List ℕ) : Type 0 where
   pub is_told : CniReply
   pub answer : reply_to asked (alone_over (opened store) asked).0 ≡ Some is_told
   pub text : told version is_told ≡ reply
   pub rows : IfSome new (λ after. AreTextsOf after (alone_over (opened store) asked).1)
+  pub course : IsAnswerCourse (opened store) asked (alone_over (opened store) asked).0 (alone_over (opened store) asked).1
 
 -- How a request ends that runs by itself over the rows of a datastore.
 abbrev pub RunEnds : (store : Datastore) → Request → Version → CniEnd → (new : Option (List RowText)) → (faults faults' : ℕ) → Type 0

@@ -10,6 +10,7 @@ use Rattle.ipam_model.specs.Alone.{alone_over}
 use Rattle.ipam_model.specs.Opened.{IsRefusedBy, OpensAs}
 use Rattle.ipam_kept.specs.Kept.{opened}
 use Rattle.ipam_kept.specs.Rows.{AreTextsOf, texts_loaded}
+use Rattle.ipam_solo.specs.Courses.{IsAnswerCourse}
 use Rattle.cni_types.specs.declared.calls.Look.{Look}
 use Rattle.cni_types.specs.declared.calls.Look.TheVariants.{Version, Add, Del, Check, Gc, Status}
 use Rattle.cni_types.specs.declared.code.Code.TheVariants.{BadDatastore}
@@ -77,7 +78,7 @@ Reply = ℕ × List ℕ
 -- ---- what it comes to
 
 -- What a request is replied, and what becomes of the rows that a keeper tells: rows that break a rule
--- stay, and over others the request runs alone.
+-- stay, and over others the request runs alone, by a lawful history of its own.
 pub data RequestComesTo (asked : Request) (version : versions.Version) (old new : Option (List RowText)) : Reply → Type 0 where
   BadRows : (loaded : List RowText) (number : ℕ) (about : List ℕ)
       → IsTold old loaded → IsRefusedBy (texts_loaded loaded) number about → new ≡ old
@@ -86,6 +87,7 @@ pub data RequestComesTo (asked : Request) (version : versions.Version) (old new 
       → IsTold old loaded → OpensAs (texts_loaded loaded) store
       → reply_to asked (alone_over (opened store) asked).0 ≡ Some reply
       → IfSome new (λ after. AreTextsOf after (alone_over (opened store) asked).1)
+      → IsAnswerCourse (opened store) asked (alone_over (opened store) asked).0 (alone_over (opened store) asked).1
       → RequestComesTo asked version old new (told version reply)
 
 -- What a call is replied: a refusal and VERSION leave the rows, and else it is what its request comes to.

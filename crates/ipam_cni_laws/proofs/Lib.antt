@@ -1,5 +1,5 @@
 -- Proofs of the laws.
-mod TryAgain
+pub mod TryAgain
 mod Ready
 pub mod Spared
 mod Told

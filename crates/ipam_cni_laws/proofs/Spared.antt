@@ -51,7 +51,7 @@ pub record IsReplied (store : Datastore) (asked : Request) (version : Version) (
 request-replied : (asked : Request) (version : Version) (old : List RowText) (new : Option (List RowText)) (reply : Reply) (store : Datastore) → OpensAs (texts_loaded old) store → RequestComesTo asked version (Some old) new reply → IsReplied store asked version new reply
 request-replied asked version old new reply store opens (BadRows loaded number about is refused same) =
     absurd (opens.may_be_opened number about (subst (λ (l : List RowText). Breaks (texts_loaded l) number about) is refused.breaks))
-request-replied asked version old new reply store opens (Answered loaded other said is own answer rows) =
+request-replied asked version old new reply store opens (Answered loaded other said is own answer rows course) =
     let same : other ≡ store = opens_as_one (texts_loaded old) other store (subst (λ (l : List RowText). OpensAs (texts_loaded l) other) is own) opens in
     record {
       is_told = said;

@@ -1,5 +1,5 @@
 -- What a CNI call is told whose request runs by itself over rows that were opened.
-use Rattle.std.specs.Prelude.{◌≡◌, ◌≢◌, List, [], ◌∷◌, Option, Some}
+use Rattle.std.specs.Prelude.{◌≡◌, ◌≢◌, ℕ, List, [], ◌∷◌, Option, Some, Ok}
 use Rattle.ipam_addr.specs.declared.address.Family.{Family}
 use Rattle.ipam_records.specs.Datastore.{Datastore}
 use Rattle.ipam_model.specs.declared.answer.Answer.TheVariants as answer
@@ -14,11 +14,16 @@ use Rattle.ipam_model.specs.Usable.{families_if}
 use Rattle.ipam_laws.specs.AlonePlain.{AsksSame, IsGivenOrWants}
 use Rattle.ipam_kept.specs.Kept.{opened}
 use Rattle.cni_types.specs.declared.calls.CniStatus.{CniStatus}
+use Rattle.cni_types.specs.declared.calls.Look.{Look}
 use Rattle.cni_types.specs.declared.code.Code.TheVariants.{TryAgain}
+use Rattle.cni_types.specs.declared.version.Version.{Version}
+use Rattle.cni_types.specs.Looking.{look_reading}
+use Rattle.cni_types.specs.Reading.{Pair}
+use Rattle.cni_asks.specs.declared.asks.Ask.TheVariants.{Begin}
 use Rattle.cni_asks.specs.declared.replies.CniReply.{CniReply}
 use Rattle.cni_asks.specs.declared.replies.CniReply.TheVariants.{Success, Failure}
 use Rattle.cni_gc.specs.Begun.{probe_of}
-use Rattle.ipam_cni.specs.Replies.{reply_to}
+use Rattle.ipam_cni.specs.Replies.{begun_by, reply_to}
 
 -- what a request is told that runs by itself
 abbrev pub reply_alone : Datastore → Request → Option CniReply
@@ -34,6 +39,14 @@ SaysTryAgain _ = ⊥
 abbrev pub NoTryAgainLaw : Type 0
 NoTryAgainLaw =
     (texts : Texts) (store : Datastore) (asked : Request) → OpensAs texts store → IsSoundRequest asked
+    → ¬ (SaysTryAgain (reply_alone store asked))
+
+-- The same of a call as it is read, with no premise on its request: whatever request the environment and
+-- standard input begin.
+abbrev pub CallNeverAgainLaw : Type 0
+CallNeverAgainLaw =
+    (env : List Pair) (stdin : List ℕ) (look : Look) (asked : Request) (version : Version) (texts : Texts) (store : Datastore)
+    → look_reading env stdin ≡ Ok look → begun_by look ≡ Begin asked version → OpensAs texts store
     → ¬ (SaysTryAgain (reply_alone store asked))
 
 -- ---- STATUS, and the ADD that it is about

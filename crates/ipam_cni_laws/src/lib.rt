@@ -1,13 +1,18 @@
 //! What CNI calls are told that run by themselves. Each function does nothing: its contract is the law.
 #![tactic(auto)]
 
-ghost use Rattle.ipam_cni_laws.specs.Alone.{NoTryAgainLaw, StatusLaw};
+ghost use Rattle.ipam_cni_laws.specs.Alone.{CallNeverAgainLaw, NoTryAgainLaw, StatusLaw};
 ghost use Rattle.ipam_cni_laws.specs.ByRecords.{ByRecordsLaw};
 ghost use Rattle.ipam_cni_laws.specs.Spare.{GcLeavesLaw, StatusAddsLaw};
 
 /// No call is told to try again later, code 11: nobody else runs.
 pub fn no_call_is_told_to_try_again()
     ensures { NoTryAgainLaw }
+{}
+
+/// The same of a call as it is read, whatever request its environment and standard input begin.
+pub fn no_call_that_is_read_is_told_to_try_again()
+    ensures { CallNeverAgainLaw }
 {}
 
 /// STATUS of one family tells of the ADD that asks for the same on the same rows.

@@ -13,9 +13,13 @@ use Rattle.ipam_cni.specs.Calls as cni
 use Rattle.ipam_cni.specs.Ends as cni_ends
 use Rattle.ipam_cni.specs.Replies.{ComesTo, Reply}
 use Rattle.ipam_cni_laws.proofs.Records.{by_records}
+use Rattle.ipam_cni_laws.proofs.Spared as spared
 use Rattle.ipam_cni_laws.proofs.Spared.{gc_leaves, status_adds}
+use Rattle.ipam_cni_laws.proofs.TryAgain.{call_never_again}
+use Rattle.ipam_cni_laws.specs.Alone.{SaysTryAgain}
+use Rattle.ipam_kept.specs.Rows.{texts_loaded}
 use Rattle.ipam_cni.proofs.Shortness.{look_short}
-use Rattle.ipam_command.specs.CniCalls.{Finds, GoesWell, IsCallByRecords, IsSaid, LeavesWhatIsSpared, TellsOfAdd}
+use Rattle.ipam_command.specs.CniCalls.{Finds, GoesWell, IsCallByRecords, IsSaid, LeavesWhatIsSpared, NeverSaysTryAgain, TellsOfAdd}
 use Rattle.ipam_command.specs.Outside.{Outside, sides_of}
 
 -- what was read of standard input that is a call is all of it
@@ -58,6 +62,16 @@ call_by_records env ending old new status went tells look asked version store re
       reply = r.reply;
       by_records = by_records env found.stdin look asked version found.loaded new.rows r.reply store result found.is_look begins r.comes found.opens spare says;
       said = r.said;
+    }
+
+pub never_says_try_again : (env : List Pair) (ending : CniEnd) (old new : Outside) (status : ℕ) → cni.Went env ending (sides_of old) (sides_of new) → cni_ends.Tells ending old.written new.written old.write_faults new.write_faults status → NeverSaysTryAgain env ending old new status
+never_says_try_again env ending old new status went tells look asked version store found begins well =
+    let r = replied env ending old new status look store went tells found well in
+    let is = spared.replied env found.stdin look asked version found.loaded new.rows r.reply store found.is_look begins found.opens r.comes in
+    record {
+      reply = is.is_told;
+      said = subst (λ (reply : Reply). IsSaid reply old new status) (sym is.text) r.said;
+      not_later = λ h. call_never_again env found.stdin look asked version (texts_loaded found.loaded) store found.is_look begins found.opens (subst SaysTryAgain (sym is.answer) h);
     }
 
 pub leaves_spared : (env : List Pair) (ending : CniEnd) (old new : Outside) (status : ℕ) → cni.Went env ending (sides_of old) (sides_of new) → cni_ends.Tells ending old.written new.written old.write_faults new.write_faults status → LeavesWhatIsSpared env ending old new status

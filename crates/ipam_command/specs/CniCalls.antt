@@ -24,11 +24,14 @@ use Rattle.cni_types.specs.declared.version.Version.{Version}
 use Rattle.cni_types.specs.Looking.{look_reading}
 use Rattle.cni_types.specs.Reading.{Pair}
 use Rattle.cni_asks.specs.declared.asks.Ask.TheVariants.{Begin}
+use Rattle.cni_asks.specs.declared.replies.CniReply.{CniReply}
+use Rattle.cni_asks.specs.Replying.{told}
 use Rattle.cni_gc.specs.Begun.{collect_of, probe_of}
 use Rattle.ipam_cni.specs.declared.end.CniEnd.{CniEnd}
 use Rattle.ipam_cni.specs.declared.end.CniEnd.TheVariants.{Failed}
 use Rattle.ipam_cni.specs.declared.end.CniFault.TheVariants.{Memory}
 use Rattle.ipam_cni.specs.Replies.{Reply, begun_by}
+use Rattle.ipam_cni_laws.specs.Alone.{SaysTryAgain}
 use Rattle.ipam_cni_laws.specs.ByRecords.{IsByRecords}
 use Rattle.ipam_cni_laws.specs.Spare.{LeavesSpared}
 use Rattle.ipam_command.specs.Outside.{Outside}
@@ -71,6 +74,21 @@ IsCallByRecords env ending old new status =
     → Finds env old look store → begun_by look ≡ Begin asked version
     → HasSpareFor store asked → plain asked store.rows ≡ Some result → GoesWell ending old new
     → IsSaidByRecords asked version result old new status
+
+-- ---- never told to try again later
+
+-- What was said is a reply, and not that the call may be made again later.
+pub record IsSaidForGood (version : Version) (old new : Outside) (status : ℕ) : Type 0 where
+  pub reply : CniReply
+  pub said : IsSaid (told version reply) old new status
+  pub not_later : ¬ (SaysTryAgain (Some reply))
+
+-- Where a call that begins a request goes well over rows that open.
+abbrev pub NeverSaysTryAgain : List Pair → CniEnd → (old new : Outside) → (status : ℕ) → Type 0
+NeverSaysTryAgain env ending old new status =
+    (look : Look) (asked : Request) (version : Version) (store : Datastore)
+    → Finds env old look store → begun_by look ≡ Begin asked version → GoesWell ending old new
+    → IsSaidForGood version old new status
 
 -- ---- GC
 

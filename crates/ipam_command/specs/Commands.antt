@@ -32,7 +32,7 @@ use Rattle.ipam_cni.specs.declared.end.CniEnd.{CniEnd}
 use Rattle.ipam_cni.specs.Calls as cni
 use Rattle.ipam_call.specs.Ends.{IsStatus}
 use Rattle.ipam_cni.specs.Ends as cni_ends
-use Rattle.ipam_command.specs.CniCalls.{IsCallByRecords, LeavesWhatIsSpared, TellsOfAdd}
+use Rattle.ipam_command.specs.CniCalls.{IsCallByRecords, LeavesWhatIsSpared, NeverSaysTryAgain, TellsOfAdd}
 use Rattle.ipam_command.specs.Outside.{LeavesKeeper, LeavesSource, Outside, sides_of}
 use Rattle.ipam_commands.specs.Statuses.{code_of}
 use Rattle.ipam_command.specs.Statuses.{code_of_gen, code_of_play}
@@ -127,13 +127,14 @@ pub record DoesApply (old new : Outside) (status : ℕ) : Type 0 where
 
 -- ---- no word, or `cni`
 
--- The call of this environment is made over the keeper's rows. Where it goes well and the rows have
--- spare, what it writes and leaves is as the function of the records says, what GC leaves is known by its
+-- The call of this environment is made over the keeper's rows. Where it goes well it is never said that
+-- the call may be made again later. Where it goes well and the rows have spare, what it writes and leaves is as the function of the records says, what GC leaves is known by its
 -- owners, and STATUS tells of the ADD that asks for the same.
 pub record DoesCni (env : List Pair) (old new : Outside) (status : ℕ) : Type 0 where
   pub ending : CniEnd
   pub went : cni.Went env ending (sides_of old) (sides_of new)
   pub tells : cni_ends.Tells ending old.written new.written old.write_faults new.write_faults status
+  pub never_later : NeverSaysTryAgain env ending old new status
   pub by_records : IsCallByRecords env ending old new status
   pub gc : LeavesWhatIsSpared env ending old new status
   pub status_of_add : TellsOfAdd env ending old new status

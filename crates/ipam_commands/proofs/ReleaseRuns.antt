@@ -26,7 +26,7 @@ use Rattle.ipam_commands.specs.declared.outcome.ReleaseOutcome.{ReleaseOutcome}
 use Rattle.ipam_commands.specs.declared.outcome.ReleaseOutcome.TheVariants as outcome
 use Rattle.ipam_commands.specs.Courses.{AreRowsOf}
 use Rattle.ipam_commands.specs.Releasing.{IsRelease, ReleaseEnds, ReleaseRuns, outcome_of}
-use Rattle.ipam_solo.proofs.Courses.{fault-course}
+use Rattle.ipam_solo.proofs.Courses.{answer-course, fault-course}
 use Rattle.ipam_commands.proofs.CourseRuns.{stop-course}
 
 -- ---- what an answer comes to
@@ -75,6 +75,9 @@ module _ {D : Type 0} (tells : Tells D) (faults : D → ℕ) (asked : Request) (
     record {
       answer = ap outcome_of (sym (e.answer ∙ ap (λ (b : Base). (alone_over b asked).0) base-opened)) ∙ is;
       rows = subst (λ (s : Datastore). AreRowsOf (tells new.keeper) s) (e.store ∙ ap (λ (b : Base). (alone_over b asked).1) base-opened) e.rows;
+      course = answer-course tells faults asked old new (opened old.cluster.store.store) kept told _ _
+          (e.answer ∙ ap (λ (b : Base). (alone_over b asked).0) base-opened)
+          (e.store ∙ ap (λ (b : Base). (alone_over b asked).1) base-opened) e;
     },
   )
 

@@ -15,7 +15,7 @@ use Rattle.ipam_commands.specs.declared.outcome.ReleaseOutcome.{ReleaseOutcome}
 use Rattle.ipam_commands.specs.declared.outcome.ReleaseOutcome.TheVariants as outcome
 use Rattle.ipam_commands.specs.declared.status.Status.{Status}
 use Rattle.ipam_commands.specs.declared.status.Status.TheVariants as status
-use Rattle.ipam_solo.specs.Courses.{IsFaultCourse}
+use Rattle.ipam_solo.specs.Courses.{IsAnswerCourse, IsFaultCourse}
 use Rattle.ipam_commands.specs.Courses.{AreRowsOf, IsStopCourse}
 use Rattle.ipam_commands.specs.Telling.{AreBroken, AreOpened, FaultWrites}
 
@@ -47,10 +47,12 @@ ReleaseWrites writes (Err why) = FaultWrites writes why
 
 -- ---- a request over a datastore
 
--- the request alone has this outcome, and the rows are those of the datastore that it leaves
+-- the request alone has this outcome, by a lawful history of its own, and the rows are those of the
+-- datastore that it leaves
 pub record IsReleased (store : Datastore) (asked : Request) (found : ReleaseOutcome) (new : Option (List RowText)) : Type 0 where
   pub answer : outcome_of (alone_over (opened store) asked).0 ≡ Some (Ok found)
   pub rows : AreRowsOf new (alone_over (opened store) asked).1
+  pub course : IsAnswerCourse (opened store) asked (alone_over (opened store) asked).0 (alone_over (opened store) asked).1
 
 -- How a request runs over a datastore.
 abbrev pub ReleaseRuns : (store : Datastore) → Request → Result ReleaseOutcome KeptFault → (new : Option (List RowText)) → (faults faults' : ℕ) → Type 0

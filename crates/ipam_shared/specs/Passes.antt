@@ -67,11 +67,12 @@ pub record IsSplit (p p' q : PassValue) : Type 0 where
   pub base : q.base ≡ p.base
   pub seen : q.seen ≡ p.seen
 
--- the cluster is kept for what the pass has seen, with later entries of others
+-- the cluster is kept for what the pass has seen, with later entries of others, and its feed follows them
 pub record KeptPast {D : Type 0} (tells : Tells D) (kept : Kept D) (pass : PassValue) : Type 0 where
   pub later : List Entry
   pub others : NoneBy slot_of_entry pass.slot later
   pub stands : KeptFor tells kept pass.base (later ++ pass.seen)
+  pub fed : FedFor tells kept pass.base (later ++ pass.seen)
 
 -- the datastore and the number of entries of a kept cluster, as the base of a history
 abbrev pub own_base : {D : Type 0} → Kept D → Base

@@ -119,8 +119,8 @@ impl<D: Keeper> Shared<D> {
         self.lock.join(&mut into.turns, turns);
     }
 
-    /// The kept cluster, once all passes were joined into this one. It is kept for what the pass has seen,
-    /// with entries of others.
+    /// The kept cluster, once all passes were joined into this one. It is kept, and its feed of routes
+    /// follows, for what the pass has seen with entries of others.
     pub fn close(self, pass: Pass) -> Kept<D>
         requires lock { pass.lock ≡ self }
         requires last { pass.joined + 1 ≡ pass.made }

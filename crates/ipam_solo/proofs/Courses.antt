@@ -1,5 +1,5 @@
 -- What is kept of a request that did not come to its answer.
-use Rattle.std.proofs.Common.{◌≡◌, ℕ, inl, inr, List, [], ◌∷◌, Option, None, ◌∙◌, subst}
+use Rattle.std.proofs.Common.{◌≡◌, ℕ, inl, inr, List, [], ◌∷◌, Option, None, sym, ◌∙◌, subst}
 use Rattle.std.proofs.lemmas.List.{append-nil}
 use Rattle.std.specs.Prelude.{IfSome}
 use Rattle.ipam_records.specs.Datastore.{Datastore}
@@ -12,8 +12,8 @@ use Rattle.ipam_kept.specs.declared.kept.Kept.{Kept}
 use Rattle.ipam_kept.specs.declared.write.RowWrite.{RowWrite}
 use Rattle.ipam_kept.specs.Kept.{KeptFor, Tells}
 use Rattle.ipam_kept.specs.Rows.{AreTextsOf, AreToldKept}
-use Rattle.ipam_solo.specs.Courses.{IsFaultCourse}
-use Rattle.ipam_solo.specs.Solo.{IsFaulted, KeepsWithAll, NoMoreDoubt}
+use Rattle.ipam_solo.specs.Courses.{IsAnswerCourse, IsFaultCourse}
+use Rattle.ipam_solo.specs.Solo.{IsAnswered, IsFaulted, KeepsWithAll, NoMoreDoubt}
 
 pub no-doubt : {D : Type 0} (old new : Kept D) → NoMoreDoubt old new → old.doubt ≡ None → new.doubt ≡ None
 no-doubt old new (inl same) sure = same ∙ sure
@@ -29,6 +29,21 @@ sure-rows tells new base added is sure =
     let P : Datastore → Type 0 = λ s. IfSome (tells new.keeper) (λ rows. AreTextsOf rows s) in
     subst P is.cluster.is_cluster.store
     (subst (λ (d : Option RowWrite). AreToldKept (tells new.keeper) new.cluster.store.store d) sure is.rows)
+
+-- the request that was answered came to that by a lawful history of its own
+pub answer-course : {D : Type 0} (tells : Tells D) (faults : D → ℕ) (asked : Request) (old new : Kept D) (base : Base) → KeptFor tells old base []
+    → (told found : Answer) (left : Datastore) → told ≡ found → new.cluster.store.store ≡ left → IsAnswered tells faults asked old new told → IsAnswerCourse base asked found left
+answer-course tells faults asked old new base kept told found left same leaves e =
+    let is = ends-kept tells old new base kept (entry.Called e.last ∷ e.earlier) e.keeps in
+    subst (λ (f : Answer). IsAnswerCourse base asked f left) same
+    (record {
+      last = e.last;
+      earlier = e.earlier;
+      lawful = is.cluster.stands.lawful;
+      ends = e.ends;
+      alone = e.alone;
+      leaves = sym is.cluster.is_cluster.store ∙ leaves;
+    })
 
 pub fault-course : {D : Type 0} (tells : Tells D) (faults : D → ℕ) (asked : Request) (old new : Kept D) (base : Base) → KeptFor tells old base []
     → (told : Answer) → IsFaulted tells faults asked old new told → IsFaultCourse base asked (tells new.keeper)

@@ -1,5 +1,5 @@
 -- Each step keeps the rule of the table.
-use Rattle.std.proofs.Common.{◌≡◌, ◌≢◌, ℕ, ◌+◌, ◌%◌, ◌<◌, ◌≤◌, List, [], ◌∷◌, ◌++◌, length, get_or, set, sym, refl, ap, ◌∙◌, subst, ⊎_elim, inl, inr, arith, append_assoc, length-append}
+use Rattle.std.proofs.Common.{◌≡◌, ◌≢◌, ℕ, zero, suc, ◌+◌, ◌%◌, ◌<◌, ◌≤◌, List, [], ◌∷◌, ◌++◌, length, get_or, set, sym, refl, ap, ◌∙◌, subst, ⊎_elim, inl, inr, arith, append_assoc, length-append}
 use Rattle.std.proofs.lemmas.List.{append-nil}
 use mathlib.Core.Logic.{dite}
 use mathlib.Core.Option.{Option, some, none, some-ne-none, some-injective}
@@ -11,7 +11,7 @@ use Rattle.atomic_table.proofs.Lists.{set_else, set_again}
 use Rattle.turn_lock.specs.declared.view.View.{View}
 use Rattle.turn_lock.specs.Histories.{NoneBy, AtMostOneBy}
 use Rattle.turn_lock.specs.Rule.{times, total, waiting, held, turns, Numbered, Knows, Home, Kept}
-use Rattle.turn_lock.specs.Moves.{queued, holding, resting, sparing, worn, kept_part, new_part, both, spent, knowing, first_view, drew, looked, counted, passed_on, numbered, learned}
+use Rattle.turn_lock.specs.Moves.{queued, holding, resting, sparing, worn, kept_part, new_part, both, spent, knowing, first_view, drew, looked, counted, passed_on, rang, numbered, learned}
 use Rattle.turn_lock.proofs.Totals.{hit, miss, total_set, total_snoc, total_one, total_two, total_le, total_has, each_set, each_snoc}
 use Rattle.turn_lock.proofs.Numbering.{numbered_set, owned_low, one_owner, owns_few, own_low, is_only, numbered_sparing, numbered_worn, numbered_split, numbered_joined, total_spent, numbered_first}
 
@@ -40,6 +40,14 @@ module _ {E : Type 0} (by : E → ℕ) where
 -- a ticket list of one that has k has no other
 one_ticket : (k t : ℕ) → 0 < times k (t ∷ []) → k ≡ t
 one_ticket k t h = dite (ℕ_discrete k t) (λ e. e) (λ ne. let m = miss k t [] ne in absurd (omega arith))
+
+-- the words before the bells stay where a bell is set
+bell_set : (a b c d : ℕ) (bells : List ℕ) (i n : ℕ) → 4 ≤ i → (after : List ℕ) × (set (a ∷ b ∷ c ∷ d ∷ bells) i n ≡ a ∷ b ∷ c ∷ d ∷ after)
+bell_set a b c d bells zero n h = absurd (omega arith)
+bell_set a b c d bells (suc zero) n h = absurd (omega arith)
+bell_set a b c d bells (suc (suc zero)) n h = absurd (omega arith)
+bell_set a b c d bells (suc (suc (suc zero))) n h = absurd (omega arith)
+bell_set a b c d bells (suc (suc (suc (suc i)))) n h = (set bells i n, refl)
 
 module _ {T O E : Type 0} (stands : T → O → List E → Type 0) (by : E → ℕ) (o : O) where
   abbrev Rule : State T (View O E) → Type 0
@@ -89,8 +97,9 @@ module _ {T O E : Type 0} (stands : T → O → List E → Type 0) (by : E → �
           ticket = k.ticket + 1;
           serving = k.serving;
           next = k.next;
+          bells = k.bells;
           log = k.log;
-          words = ap (λ ws. set ws 0 ((get_or ws 0 0 + 1) % 18446744073709551616)) k.words ∙ ap (λ (n : ℕ). n ∷ k.serving ∷ length k.log % 18446744073709551616 ∷ k.next ∷ []) next;
+          words = ap (λ ws. set ws 0 ((get_or ws 0 0 + 1) % 18446744073709551616)) k.words ∙ ap (λ (n : ℕ). n ∷ k.serving ∷ length k.log % 18446744073709551616 ∷ k.next ∷ k.bells) next;
           served = omega arith;
           fits = let t = total_set turns s.views id v w at in omega arith;
           apart = λ t. let e = total_set (waiting t) s.views id v w at in let f = none_before t in let a = k.apart t in dite (ℕ_discrete t k.ticket)
@@ -139,6 +148,7 @@ module _ {T O E : Type 0} (stands : T → O → List E → Type 0) (by : E → �
           ticket = k.ticket;
           serving = k.serving;
           next = k.next;
+          bells = k.bells;
           log = k.log;
           words = set-get_or s.words 1 0 ∙ k.words;
           served = k.served;
@@ -202,8 +212,9 @@ module _ {T O E : Type 0} (stands : T → O → List E → Type 0) (by : E → �
           ticket = k.ticket;
           serving = k.serving;
           next = k.next;
+          bells = k.bells;
           log = log;
-          words = ap (λ ws. set ws 2 ((get_or ws 2 0 + b) % 18446744073709551616)) k.words ∙ ap (λ (n : ℕ). k.ticket ∷ k.serving ∷ n ∷ k.next ∷ [])
+          words = ap (λ ws. set ws 2 ((get_or ws 2 0 + b) % 18446744073709551616)) k.words ∙ ap (λ (n : ℕ). k.ticket ∷ k.serving ∷ n ∷ k.next ∷ k.bells)
               (let g : (length k.log % 18446744073709551616 + b) % 18446744073709551616 ≡ length log % 18446744073709551616 = omega arith in g);
           served = k.served;
           fits = let t = total_set turns s.views id v w at in let f = k.fits in omega arith;
@@ -266,8 +277,9 @@ module _ {T O E : Type 0} (stands : T → O → List E → Type 0) (by : E → �
           ticket = k.ticket;
           serving = k.serving + 1;
           next = k.next;
+          bells = k.bells;
           log = k.log;
-          words = ap (λ ws. set ws 1 ((get_or ws 1 0 + 1) % 18446744073709551616)) k.words ∙ ap (λ (n : ℕ). k.ticket ∷ n ∷ length k.log % 18446744073709551616 ∷ k.next ∷ [])
+          words = ap (λ ws. set ws 1 ((get_or ws 1 0 + 1) % 18446744073709551616)) k.words ∙ ap (λ (n : ℕ). k.ticket ∷ n ∷ length k.log % 18446744073709551616 ∷ k.next ∷ k.bells)
               (let g : (k.serving + 1) % 18446744073709551616 ≡ k.serving + 1 = omega arith in g);
           served = omega arith;
           fits = let t = total_set turns s.views id v w at in omega arith;
@@ -297,6 +309,37 @@ module _ {T O E : Type 0} (stands : T → O → List E → Type 0) (by : E → �
         refl,
       )
 
+  -- a bell means nothing: the rule holds whatever it is
+  pub rings : (slots id bell : ℕ) (me : Me T (View O E)) → 4 ≤ bell
+      → Allows Rule slots id me bell (λ n. (n + 1) % 18446744073709551616) (rang (step slots bell 1 0 none) me)
+  rings slots id bell me behind s k deep at fits =
+      let n : ℕ = (get_or s.words bell 0 + 1) % 18446744073709551616 in
+      let rung = bell_set k.ticket k.serving (length k.log % 18446744073709551616) k.next k.bells bell n behind in (
+        me.0,
+        keeps,
+        tt,
+        subst (λ vs. Rule record { words = set s.words bell n; homes = s.homes; views = vs }) (sym (set_again s.views id me.0 at))
+            record {
+              ticket = k.ticket;
+              serving = k.serving;
+              next = k.next;
+              bells = rung.0;
+              log = k.log;
+              words = ap (λ ws. set ws bell n) k.words ∙ rung.1;
+              served = k.served;
+              fits = k.fits;
+              apart = k.apart;
+              to_come = k.to_come;
+              queue = k.queue;
+              knows = k.knows;
+              home = k.home;
+              numbered = k.numbered;
+              fresh = k.fresh;
+              stood = k.stood;
+            },
+        refl,
+      )
+
   abbrev unchanged : View O E → View O E → Type 0
   unchanged v w = (w.waits ≡ v.waits) × (w.left ≡ v.left) × (w.holds ≡ v.holds)
 
@@ -307,8 +350,9 @@ module _ {T O E : Type 0} (stands : T → O → List E → Type 0) (by : E → �
     ticket = k.ticket;
     serving = k.serving;
     next = k.next + 1;
+    bells = k.bells;
     log = k.log;
-    words = ap (λ ws. set ws 3 ((get_or ws 3 0 + 1) % 18446744073709551616)) k.words ∙ ap (λ (n : ℕ). k.ticket ∷ k.serving ∷ length k.log % 18446744073709551616 ∷ n ∷ []) more;
+    words = ap (λ ws. set ws 3 ((get_or ws 3 0 + 1) % 18446744073709551616)) k.words ∙ ap (λ (n : ℕ). k.ticket ∷ k.serving ∷ length k.log % 18446744073709551616 ∷ n ∷ k.bells) more;
     served = k.served;
     fits = let t = total_set turns s.views id v w at in let f = k.fits in let e = same.1 in omega arith;
     apart = λ t. let e = total_set (waiting t) s.views id v w at in let a = k.apart t in let f = ap (times t) same.0 in omega arith;
@@ -379,6 +423,7 @@ module _ {T O E : Type 0} (stands : T → O → List E → Type 0) (by : E → �
         ticket = k.ticket;
         serving = k.serving;
         next = k.next;
+        bells = k.bells;
         log = k.log;
         words = k.words;
         served = k.served;
@@ -425,6 +470,7 @@ module _ {T O E : Type 0} (stands : T → O → List E → Type 0) (by : E → �
         ticket = k.ticket;
         serving = k.serving;
         next = k.next;
+        bells = k.bells;
         log = k.log;
         words = k.words;
         served = k.served;
@@ -472,6 +518,7 @@ module _ {T O E : Type 0} (stands : T → O → List E → Type 0) (by : E → �
           ticket = k.ticket;
           serving = k.serving;
           next = k.next;
+          bells = k.bells;
           log = k.log;
           words = set-get_or s.words 0 0 ∙ k.words;
           served = k.served;
@@ -505,13 +552,14 @@ module _ {T O E : Type 0} (stands : T → O → List E → Type 0) (by : E → �
         },
       )
 
-  pub opens : (y : T) → stands y o [] → Rule (opening (0 ∷ 0 ∷ 0 ∷ 1 ∷ []) (y ∷ []) (first_view o))
-  opens y h =
+  pub opens : (bells : List ℕ) (y : T) → stands y o [] → Rule (opening (0 ∷ 0 ∷ 0 ∷ 1 ∷ bells) (y ∷ []) (first_view o))
+  opens bells y h =
       let v : View O E = first_view o in
       record {
         ticket = 0;
         serving = 0;
         next = 1;
+        bells = bells;
         log = [];
         words = refl;
         served = omega arith;

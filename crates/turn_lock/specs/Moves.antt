@@ -106,6 +106,10 @@ module _ {O E : Type 0} where
     abbrev pub passed_on : Step T → Seated T O E → ℕ → Seated T O E → Type 0
     passed_on st m r n = n ≡ (resting m.0, rest m.1)
 
+    -- a bell was rung
+    abbrev pub rang : Step T → Seated T O E → ℕ → Seated T O E → Type 0
+    rang st m r n = n ≡ m
+
     module _ (stands : T → O → List E → Type 0) (by : E → ℕ) where
       -- the value was taken. Since the pass saw the history last, no entry of its own came
       pub record Took (m n : Seated T O E) : Type 0 where

@@ -3,7 +3,7 @@ use Rattle.std.specs.Prelude.{◌≡◌, ◌≢◌, ℕ, ◌+◌, ◌<◌, ◌�
 use base.Stored.{Coded, coded×, coded_ℕ, coded_list, coded_via}
 use Rattle.atomic_table.specs.Seated.{TableId, table_id_coded}
 use Rattle.atomic_table.specs.declared.shared.Seat.{Seat}
-use Rattle.turn_lock.specs.declared.limits.TheConstants.{MOST_PASSES, SPLIT_TURNS}
+use Rattle.turn_lock.specs.declared.limits.TheConstants.{MOST_PASSES, SPLIT_TURNS, WORDS}
 use Rattle.turn_lock.specs.declared.view.View.{View}
 use Rattle.turn_lock.specs.Histories.{NoneBy, AtMostOneBy}
 use Rattle.turn_lock.specs.Moves.{spent, IsIdle}
@@ -75,9 +75,9 @@ module _ {T O E : Type 0} (stands : T → O → List E → Type 0) (by : E → �
   abbrev pub StandsPast : T → ℕ → List O → List E → Type 0
   StandsPast value n origin seen = (from : O) × (origin ≡ from ∷ []) × ((later : List E) × stands value from (later ++ seen) × NoneBy by n later)
 
--- a lock's table has four words and one slot
+-- a lock's table has four words, a bell for each pass, and one slot
 abbrev pub IsDesk : TableId → Type 0
-IsDesk z = (z.words ≡ 4) × (z.slots ≡ 1)
+IsDesk z = (z.words ≡ WORDS) × (z.slots ≡ 1)
 
 abbrev pub IsSameSeat : {S V : Type 0} → Seat S V → Seat S V → Type 0
 IsSameSeat a b = (b.table_id ≡ a.table_id) × (b.id ≡ a.id)

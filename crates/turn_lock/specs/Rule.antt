@@ -1,5 +1,6 @@
 -- What holds of a lock's table between any two steps.
--- Its words are the next ticket, the ticket that is served, the number of entries, and the next number of a pass. Its one slot has the value.
+-- Its words are the next ticket, the ticket that is served, the number of entries, the next number of a pass, and the bells, which may have any value.
+-- Its one slot has the value.
 use Rattle.std.specs.Prelude.{◌≡◌, ◌≢◌, ◌⊎◌, ℕ, ◌+◌, ◌%◌, ◌<◌, ◌≤◌, ◌==◌, min, List, [], ◌∷◌, ◌++◌, length, if◌then◌else◌}
 use mathlib.Core.Option.{none, some}
 use lib.ListN.{get_elem?}
@@ -76,8 +77,9 @@ module _ {O E : Type 0} where
       pub ticket : ℕ
       pub serving : ℕ
       pub next : ℕ
+      pub bells : List ℕ
       pub log : List E
-      pub words : s.words ≡ ticket ∷ serving ∷ length log % 18446744073709551616 ∷ next ∷ []
+      pub words : s.words ≡ ticket ∷ serving ∷ length log % 18446744073709551616 ∷ next ∷ bells
       pub served : serving ≤ ticket
       pub fits : ticket + total turns s.views ≤ FIRST_TURNS
       pub apart : (t : ℕ) → total (waiting t) s.views ≤ 1

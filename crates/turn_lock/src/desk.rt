@@ -1,12 +1,14 @@
 // The steps of a turn, on the table of a lock. A seat is a pass while it takes them.
 ghost use Rattle.std.specs.Prelude.{◌≡◌, ◌+◌, ◌-◌, ◌<◌, ◌≤◌, List, [], ◌∷◌, ◌++◌, length};
 ghost use Rattle.atomic_table.specs.Seated.{TableId};
+ghost use Rattle.turn_lock.specs.declared.limits.TheConstants.{BELLS, WORDS};
 ghost use Rattle.turn_lock.specs.Histories.{AtMostOneBy};
 ghost use Rattle.turn_lock.specs.Moves.{IsIdle, queued, holding, resting, after_turn, Took};
 ghost use Rattle.turn_lock.specs.Passes.{held_or, Adds, IsDesk, IsSameSeat, MayRun, Turned};
 
 use crate::booked::{Booked, Step};
-use crate::plays::{Added, Count, Draw, InTurn, Look, PassOn};
+use crate::limits::{BELLS, MOST_PASSES};
+use crate::plays::{Added, Count, Draw, InTurn, Look, PassOn, Ring};
 use crate::view::View;
 use atomic_table::Shared;
 use std::marker::Brand;
@@ -29,6 +31,13 @@ pub(crate) type Desk<T> = Shared<
 
 pub(crate) type Seat<T> = atomic_table::Seat<T, View<<T as Booked>::Origin, <T as Booked>::Entry>>;
 
+// The word that is rung for a ticket. At most 64 passes wait, with tickets in a row, so each has a bell of its own.
+fn bell_of(ticket: u64) -> usize
+    ensures { (BELLS ≤ result) × (result < WORDS) }
+{
+    BELLS + (ticket % u64::from(MOST_PASSES)) as usize
+}
+
 fn draw<T: Booked>(desk: &Desk<T>, seat: &mut Seat<T>) -> u64
     requires desk { IsDesk desk.now.table_id × (seat.old.table_id ≡ desk.now.table_id) }
     requires seat { (seat.old.me.0.live ≡ 1) × (seat.old.me.0.holds ≡ 0) × (seat.old.me.0.waits ≡ []) × (0 < seat.old.me.0.left) }
@@ -38,19 +47,22 @@ fn draw<T: Booked>(desk: &Desk<T>, seat: &mut Seat<T>) -> u64
     desk.fetch_add::<Draw>(seat, TICKET, 1)
 }
 
-// Waits until the ticket is served, and takes the value.
+// Waits until the ticket is served, and takes the value. The bell is read before the look at what is served,
+// so a ring that comes after the look changes it, and the sleep ends or doesn't begin.
 fn wait<T: Booked, R: Wait>(rt: &R, desk: &Desk<T>, seat: &mut Seat<T>, ticket: u64)
     requires desk { IsDesk desk.now.table_id × (seat.old.table_id ≡ desk.now.table_id) }
     requires seat { (seat.old.me.0.live ≡ 1) × (seat.old.me.0.holds ≡ 0) × (seat.old.me.0.waits ≡ ticket ∷ []) }
     ensures same { IsSameSeat seat.old seat.new }
     ensures took { Took T.stands T.by seat.old.me seat.new.me }
 {
+    let bell = bell_of(ticket);
     for _ in rt.forever() {
+        let rung = desk.peek(bell);
         let serving = desk.load::<Look>(seat, SERVING);
         if serving == ticket {
             return;
         }
-        desk.park(rt, SERVING, (serving % (1 << 32)) as u32);
+        desk.park(rt, bell, (rung % (1 << 32)) as u32);
     }
     unreachable!()
 }
@@ -109,10 +121,22 @@ fn pass_on<T: Booked>(desk: &Desk<T>, seat: &mut Seat<T>, ticket: u64)
     ensures passed { seat.new.me ≡ (resting seat.old.me.0, []) }
 {
     desk.fetch_add::<PassOn>(seat, SERVING, 1);
+    let next = ticket.wrapping_add(1);
     // Who draws a ticket after this look finds the next one served, and doesn't sleep.
-    if desk.peek(TICKET) != ticket.wrapping_add(1) {
-        desk.wake_all(SERVING);
+    if desk.peek(TICKET) != next {
+        ring(desk, seat, bell_of(next));
     }
+}
+
+// Rings a bell, and wakes who waits for it.
+fn ring<T: Booked>(desk: &Desk<T>, seat: &mut Seat<T>, bell: usize)
+    requires desk { IsDesk desk.now.table_id × (seat.old.table_id ≡ desk.now.table_id) }
+    requires bell { (BELLS ≤ bell) × (bell < WORDS) }
+    ensures same { IsSameSeat seat.old seat.new }
+    ensures rang { seat.new.me ≡ seat.old.me }
+{
+    desk.fetch_add::<Ring>(seat, bell, 1);
+    desk.wake_one(bell);
 }
 
 // One turn: a ticket, the wait, the step, its entries, and the next ticket.

@@ -1,11 +1,11 @@
 // The lock.
-ghost use Rattle.std.specs.Prelude.{◌≡◌, ◌≢◌, ◌⊎◌, ◌+◌, ◌-◌, ◌<◌, ◌≤◌, max, None, [], ◌∷◌, ◌++◌, IfOk, IfErr, IfSome, IfNone};
+ghost use Rattle.std.specs.Prelude.{◌≡◌, ◌≢◌, ℕ, List, length, ◌⊎◌, ◌+◌, ◌-◌, ◌<◌, ◌≤◌, max, None, [], ◌∷◌, ◌++◌, IfOk, IfErr, IfSome, IfNone};
 ghost use Rattle.turn_lock.specs.Histories.{NoneBy, Grew, GrewPast};
 ghost use Rattle.turn_lock.specs.Passes.{MayRun, Stood, Turned, StandsPast, IsSplit};
 
 use crate::booked::{Booked, Step};
 use crate::desk::{Seat, take_turn};
-use crate::limits::{FIRST_TURNS, MOST_PASSES, SPLIT_TURNS};
+use crate::limits::{FIRST_TURNS, MOST_PASSES, NEXT, SPLIT_TURNS, WORDS};
 use crate::numbers::{absorb, split_off};
 use crate::plays::InTurn;
 use crate::turns::Turns;
@@ -37,6 +37,15 @@ impl<T: Booked> Model for TurnLock<T> {
     ghost invariant = { λ l. IsDesk l.table.shared.table_id };
 }
 
+// The words of a new lock: the first number of a pass is drawn, and nothing else has happened.
+fn first_words() -> [u64; WORDS]
+    ensures { (bells : List ℕ) × (result ≡ 0 ∷ 0 ∷ 0 ∷ 1 ∷ bells) × (length bells ≡ 64) }
+{
+    let mut words = [0; WORDS];
+    words[NEXT] = 1;
+    words
+}
+
 // The value alone in a vector. It comes back where there is no memory.
 fn shelf<T>(alloc: Global, value: T) -> Result<Vec<T>, T>
     ensures ok { IfOk result (λ slots. slots.items ≡ value ∷ []) }
@@ -65,7 +74,7 @@ impl<T: Booked> TurnLock<T> {
     {
         let about = Snapshot::of(&value);
         let slots = shelf(alloc, value)?;
-        match Table::new(alloc, &[0, 0, 0, 1], slots, &about) {
+        match Table::new(alloc, &first_words(), slots, &about) {
             Ok((table, seat)) => Ok((
                 TurnLock { table },
                 Turns {

@@ -7,10 +7,8 @@ ghost use Rattle.turn_lock.specs.Passes.{IsDesk, IsSameSeat};
 
 use crate::booked::Booked;
 use crate::desk::{Desk, Seat};
-use crate::limits::MOST_PASSES;
+use crate::limits::{MOST_PASSES, NEXT};
 use crate::plays::{Cut, DrawNumber, Glue, Learn};
-
-const NEXT: usize = 3;
 
 // A seat with a number of its own, where one is left.
 pub(crate) fn split_off<T: Booked>(desk: &Desk<T>, seat: &mut Seat<T>) -> Option<(u8, Seat<T>)>

@@ -1,6 +1,6 @@
 // What each step on the table tells, and how views are cut and joined.
 ghost use Rattle.std.specs.Prelude.{List, []};
-ghost use Rattle.turn_lock.specs.Moves.{drew, looked, counted, passed_on, numbered, learned, kept_part, new_part, both, spent};
+ghost use Rattle.turn_lock.specs.Moves.{drew, looked, counted, passed_on, rang, numbered, learned, kept_part, new_part, both, spent};
 
 use crate::booked::Booked;
 use crate::view::View;
@@ -53,6 +53,12 @@ pub(crate) struct PassOn;
 
 impl<T: Booked> Play<T, View<T::Origin, T::Entry>> for PassOn {
     ghost then = { passed_on };
+}
+
+pub(crate) struct Ring;
+
+impl<T: Booked> Play<T, View<T::Origin, T::Entry>> for Ring {
+    ghost then = { rang };
 }
 
 pub(crate) struct DrawNumber;

@@ -3,7 +3,7 @@ use Rattle.ipam_words.specs.declared.command.Command.{Command}
 use Rattle.ipam_words.specs.Words.{Cni, Play, Apply, Get, Routes, Release, Gen, asked_by}
 use Rattle.ipam_commands.specs.Texts.{rows_text, routes_text}
 use Rattle.ipam_command.specs.Commands.{IsSound}
-use Rattle.ipam_command.proofs.CallLemmas.{call_by_records, leaves_spared, tells_of_add}
+use Rattle.ipam_command.proofs.CallLemmas.{call_by_records, leaves_spared, never_says_try_again, tells_of_add}
 use Rattle.ipam_command.proofs.DoLemmas.{apply-ends, asked, does-gen, does-play, does-tell, written-right}
 use Rattle.ipam_command.proofs.running.run.Goals as goal
 
@@ -62,6 +62,7 @@ returns-in-Cni-clause-does g c =
       ending = c.cni.ensures.called.0;
       went = c.cni.ensures.called.1;
       tells = c.cni.ensures.called.2;
+      never_later = never_says_try_again c.args.env.now c.cni.ensures.called.0 _ _ _ c.cni.ensures.called.1 c.cni.ensures.called.2;
       by_records = call_by_records c.args.env.now c.cni.ensures.called.0 _ _ _ c.cni.ensures.called.1 c.cni.ensures.called.2;
       gc = leaves_spared c.args.env.now c.cni.ensures.called.0 _ _ _ c.cni.ensures.called.1 c.cni.ensures.called.2;
       status_of_add = tells_of_add c.args.env.now c.cni.ensures.called.0 _ _ _ c.cni.ensures.called.1 c.cni.ensures.called.2;

@@ -1,0 +1,5 @@
+-- Proofs of the laws.
+mod Ahead
+mod QueueSteps
+mod QueueHistory
+mod Whole
