@@ -26,7 +26,7 @@ use Rattle.ipam_request_text.specs.Requests.{request_text, live_text}
 use Rattle.ipam_request_text.proofs.Lives.{live_reads_back}
 use Rattle.ipam_request_text.proofs.ReadBack.{request_reads_back}
 use Rattle.ipam_answer_text.specs.Entries.{kind_text, call_text, told_text, at_text, at_text_unless, began_line, fed_line}
-use Rattle.ipam_journal_laws.specs.Limits.{IsSoundName, IsSoundTold}
+use Rattle.ipam_answer_laws.specs.Limits.{IsSoundName, IsSoundTold}
 use Rattle.ipam_journal_laws.specs.Names.{HasName}
 use Rattle.ipam_journal_laws.proofs.Plain.{visible-decimal}
 use Rattle.ipam_journal_laws.proofs.PlainKeys.{key-visible}

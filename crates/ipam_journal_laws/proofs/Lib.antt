@@ -12,3 +12,4 @@ pub mod EntriesTold
 pub mod EntriesRead
 pub mod Alike
 pub mod ObjectEnds
+pub mod SameEntries

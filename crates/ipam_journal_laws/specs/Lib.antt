@@ -2,4 +2,3 @@
 pub mod Whole
 pub mod Names
 pub mod Journals
-pub mod Limits

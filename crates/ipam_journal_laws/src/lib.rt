@@ -13,14 +13,16 @@ ghost use Rattle.ipam_model.specs.declared.entry.CallName.{CallName};
 ghost use Rattle.ipam_model.specs.declared.entry.Entry.{Entry};
 ghost use Rattle.ipam_model.specs.declared.entry.Told.{Told};
 ghost use Rattle.ipam_model.specs.declared.request.Request.{Request};
+ghost use Rattle.ipam_model.specs.Consistent.{IsWithinLimits};
 ghost use Rattle.ipam_model.specs.Course.{slot_count};
 ghost use Rattle.ipam_model.specs.SoundRequest.{IsSoundRequest};
 ghost use Rattle.ipam_model.specs.History.{Base, Lawful, slot_of_entry};
 ghost use Rattle.ipam_answer_text.specs.Entries.{began_line, call_text, called_line, entry_line, fed_line, told_text};
+ghost use Rattle.ipam_answer_laws.specs.Entries.{HasTime};
+ghost use Rattle.ipam_answer_laws.specs.Limits.{IsSoundName, IsSoundTold};
 ghost use Rattle.ipam_session.specs.declared.replies.Reply.{Reply};
 ghost use Rattle.ipam_session.specs.Replies.{reply_line};
 ghost use Rattle.ipam_journal_laws.specs.Journals.{AreToldAlike, CallsAgree, journal_of, kind_word, lines_of};
-ghost use Rattle.ipam_journal_laws.specs.Limits.{IsSoundName, IsSoundTold};
 ghost use Rattle.ipam_journal_laws.specs.Names.{HasNames, IsAboutName};
 ghost use Rattle.ipam_journal_laws.specs.Whole.{IsWholeLine};
 
@@ -128,4 +130,15 @@ pub fn histories_of_one_journal_are_told_alike()
     ensures { (base other : Base) (history further : List Entry) → IsDatastore base.store
         → IsDatastore other.store → Lawful base history → Lawful other further
         → journal_of history ≡ journal_of further → AreToldAlike history further }
+{}
+
+/// Two lawful histories whose journals are one text are the same entries, where the datastores that they
+/// begin with are sound and within their limits, and the times of their second lists fit 64 bits.
+#[tactic(auto, using(crate::proofs::SameEntries::histories_same))]
+pub fn histories_of_one_journal_are_the_same_entries()
+    ensures { (base other : Base) (history further : List Entry) → IsDatastore base.store
+        → IsWithinLimits base.store → IsDatastore other.store → IsWithinLimits other.store
+        → Lawful base history → Lawful other further → AllByRecursion HasTime history
+        → AllByRecursion HasTime further → journal_of history ≡ journal_of further
+        → history ≡ further }
 {}
