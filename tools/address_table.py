@@ -1,8 +1,9 @@
 #!/usr/bin/env python3
-"""Writes crates/ipam_leaf_tests/src/address_table.rt: address texts and what must be read from each.
+"""Writes the lines `addr|..` of stdin and stdout of crates/ipam_leaf_tests: address texts, and what
+must be read from each: the text and the number in hex, or `!` where it is refused.
 
 The judge is Python's `ipaddress`. It and ipam_addr differ in two places, where ipam_addr's own
-rule decides, and the table marks the line:
+rule decides:
 
   zone    `ipaddress` takes a zone, as in `fe80::1%eth0`; ipam_addr refuses it.
   dotted  newer `ipaddress` prints an IPv4-mapped address in dots; ipam_addr prints hex groups.
@@ -14,7 +15,7 @@ import ipaddress
 import random
 from pathlib import Path
 
-OUT = Path(__file__).resolve().parent.parent / "crates/ipam_leaf_tests/src/address_table.rt"
+OUT = Path(__file__).resolve().parent.parent / "crates/ipam_leaf_tests"
 IPV6_LINES = 340
 IPV4_LINES = 120
 
@@ -38,14 +39,12 @@ IPV4_BY_HAND = """
 
 
 def value_of(text):
-    """The address that the text writes, or None, and the mark of a difference."""
+    """The address that the text writes, or None."""
     try:
         address = ipaddress.ip_address(text)
     except ValueError:
-        return None, ""
-    if "%" in text:
-        return None, "zone"
-    return address, "dotted" if "." in str(address) and address.version == 6 else ""
+        return None
+    return None if "%" in text else address
 
 
 def groups_text(address):
@@ -120,7 +119,7 @@ def texts_ipv4(rng):
 
 
 def lines(texts, count, version):
-    """`text|printed hex`, or `text|!` for a refused text, and a mark where the two differ."""
+    """`text|printed hex`, or `text|!` for a refused text."""
     seen = set()
     made = []
     for text in texts:
@@ -129,36 +128,28 @@ def lines(texts, count, version):
         if text in seen or not text.isascii():
             continue
         seen.add(text)
-        address, mark = value_of(text)
+        address = value_of(text)
         if address is not None and address.version != version:
             continue
         want = "!" if address is None else f"{printed(address)} {int(address):x}"
-        made.append(f"{text}|{want}" + (f"|{mark}" if mark else ""))
+        made.append(f"addr|{text}|{want}")
 
 
-HEAD = '''// Written by tools/address_table.py: change that, and not this file.
-// Each line has a text, and the text and the number in hex that it is read as, or `!` where it is
-// refused. A third part says where Python's `ipaddress`, which judged the texts, has another rule:
-// `zone`, which it takes, and `dotted`, where it prints an IPv4-mapped address in dots.
-
-'''
+def put(path, made):
+    """Puts the lines in front of the file's lines of other kinds."""
+    others = [line for line in path.read_text().split("\n") if not line.startswith("addr|")]
+    path.write_text("\n".join(made + others))
 
 
 def main():
     rng = random.Random(20260101)
-    tables = [
-        ("ipv6", lines(texts_ipv6(rng), IPV6_LINES, 6)),
-        ("ipv4", lines(texts_ipv4(rng), IPV4_LINES, 4)),
-    ]
-    text = HEAD
-    for name, table in tables:
-        body = "\n".join(table)
-        text += f'pub(crate) const {name.upper()}: &str = "\\\n{body}\n";\n\n'
-    text = text.rstrip("\n") + "\n"
-    OUT.write_text(text)
-    for name, table in tables:
-        bad = sum(line.split("|")[1] == "!" for line in table)
-        print(name, len(table), "lines,", bad, "refused")
+    table = []
+    for texts, count, version in [(texts_ipv6, IPV6_LINES, 6), (texts_ipv4, IPV4_LINES, 4)]:
+        made = lines(texts(rng), count, version)
+        print(f"IPv{version}", len(made), "lines,", sum(line.endswith("|!") for line in made), "refused")
+        table += made
+    put(OUT / "stdin", [line.rpartition("|")[0] for line in table])
+    put(OUT / "stdout", table)
 
 
 if __name__ == "__main__":

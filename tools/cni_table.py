@@ -1,10 +1,10 @@
 #!/usr/bin/env python3
-"""Writes crates/cni_types_tests/src/call_table.rt: CNI calls, and what must be read from each.
+"""Writes the lines `call|..` of stdin and stdout of crates/cni_types_tests: CNI calls, and what must be read of each.
 
-The reader below was written only from the rules. A line has the environment, standard input, and
-what the call asks, or `refused` with the version, the code and the details. The first lines have one
-thing broken each, with the code and the details stated by hand. The script stops if its own reader
-disagrees. The last lines have several things broken, so that the order of the tests shows.
+The reader below is written from the rules alone. A line has the environment, standard input, and
+what the call asks or `refused`, the version, the code and the details. The first lines have one
+thing broken each, with the code and the details stated by hand; the script stops where its own
+reader says otherwise. The last lines have several things broken, so that the order shows.
 
 Run it from the top of the repository: python3 tools/cni_table.py
 """
@@ -16,7 +16,7 @@ import random
 import re
 from pathlib import Path
 
-OUT = Path(__file__).resolve().parent.parent / "crates/cni_types_tests/src/call_table.rt"
+OUT = Path(__file__).resolve().parent.parent / "crates/cni_types_tests"
 RANDOM_LINES = 90
 VERSIONS = ["0.3.0", "0.3.1", "0.4.0", "1.0.0", "1.1.0"]
 COMMANDS = ["ADD", "DEL", "CHECK", "VERSION", "GC", "STATUS"]
@@ -394,17 +394,18 @@ def mixed_calls(draw):
         yield env, text_of(config)
 
 
-def escaped(text):
-    for old, new in (("\\", "\\\\"), ('"', '\\"'), ("\t", "\\t"), ("\v", "\\x0b")):
-        text = text.replace(old, new)
-    return text
-
-
 def line(env, stdin, want):
+    """The question and its answer."""
     pairs_text = "¦".join(f"{name}={value}" for name, value in env)
-    text = f"{pairs_text}⇒{stdin}⇒{want}"
-    assert text.count("⇒") == 2 and "\n" not in text
-    return escaped(text)
+    text = f"call|{pairs_text}⇒{stdin}"
+    assert text.count("⇒") == 1 and "\n" not in text
+    return text, want
+
+
+def put(path, made):
+    """Puts the lines in front of the file's lines of other kinds."""
+    others = [line for line in path.read_text().split("\n") if not line.startswith("call|")]
+    path.write_text("\n".join(made + others))
 
 
 def main():
@@ -418,19 +419,10 @@ def main():
         lines.append(line(env, stdin, read(env, stdin)))
     good = len(lines) - stated
     lines += [line(env, stdin, read(env, stdin)) for env, stdin in mixed_calls(random.Random(19))]
-    OUT.write_text(TEMPLATE.replace("{table}", "\\n\\\n".join(lines)).replace("{count}", str(len(lines))))
+    put(OUT / "stdin", [question for question, _ in lines])
+    put(OUT / "stdout", [f"{question}|{want}" for question, want in lines])
     print(f"{len(lines)} lines: {stated} with one thing broken, {good} good, {len(lines) - stated - good} mixed")
 
-
-TEMPLATE = """// Written by tools/cni_table.py: change that, and not this file.
-// Each line has the environment, standard input, and what the call asks or why it is refused.
-
-pub(crate) const CALLS: usize = {count};
-
-pub(crate) const TABLE: &str = "\\
-{table}\\n\\
-";
-"""
 
 if __name__ == "__main__":
     main()

@@ -1,9 +1,10 @@
 #!/usr/bin/env python3
-"""Writes tables.rt and table_tests.rt of crates/ipam_resources_tests/src: documents of resources and what must be read from each.
+"""Writes the lines `document|..` of stdin and stdout of crates/ipam_resources_tests: documents of resources, and what must be read from each.
 
-The reader below was written only from the format, over Python's own `json` and `ipaddress`. A row
-has a document and what comes of it: for each resource its line and the text of the request that it
-becomes, or the line of the document's fault.
+The reader below is written from the format alone, over Python's own `json` and `ipaddress`. In a
+document `␤` stands for a line feed. What is told of it is, for each resource, its line and the text of
+the request that it becomes, or the line of the document's fault. The first documents are as
+`kubectl get .. -o json` prints them.
 
 Run it from the top of the repository: python3 tools/resource_table.py
 """
@@ -15,11 +16,12 @@ from pathlib import Path
 
 from selector_table import TEXT_MAX, Bad, Parser, printed
 
-OUT = Path(__file__).resolve().parent.parent / "crates/ipam_resources_tests/src"
+OUT = Path(__file__).resolve().parent.parent / "crates/ipam_resources_tests"
 NAME = re.compile(r"[A-Za-z0-9][A-Za-z0-9_.-]{0,252}")
 KINDS = ("IPPool", "IPReservation", "IPAMConfig", "IPAMConfiguration")
 LISTS = ("List", "IPPoolList", "IPReservationList")
 LEVELS = 127
+OTHER_KINDS = ("bytes", "byte", "refusal")
 
 
 class Fault(Exception):
@@ -437,10 +439,11 @@ def all_documents():
     return REAL, changed + others + SPELLED
 
 
-# ---- the test's source
+# ---- the files
 
 
 def escaped(text):
+    """The text as the lines of a literal, for the tables that stand in a source."""
     out = []
     for line in text.split("\n"):
         line = json.dumps(line, ensure_ascii=False)[1:-1].replace("\ufeff", "\\u{feff}")
@@ -448,112 +451,25 @@ def escaped(text):
     return "\\n\\\n".join(out)
 
 
-def table(documents):
-    return "".join(escaped(f"{one}⇒{answer(one)}‡") + "\\\n" for one in documents)
+def question(document):
+    assert "␤" not in document
+    return "document|" + document.replace("\n", "␤")
+
+
+def put(path, made):
+    """Puts the text in front of the file's lines of other kinds."""
+    text = path.read_text()
+    path.write_text(made + text[min(text.index(f"\n{kind}|") for kind in OTHER_KINDS) + 1 :])
 
 
 def main():
     real, others = all_documents()
-    groups = {"REAL": real}
-    groups.update({f"OTHERS_{n + 1}": others[n * 40 : n * 40 + 40] for n in range((len(others) + 39) // 40)})
-    tables = "".join(f'pub(crate) const {name}: &str = "\\\n{table(group)}";\n' for name, group in groups.items())
-    tests = "".join(TEST.format(test=name.lower(), name=name, count=len(group)) for name, group in groups.items())
-    (OUT / "tables.rt").write_text(TABLES + tables.rstrip("\n") + "\n")
-    names = ", ".join(sorted(groups))
-    (OUT / "table_tests.rt").write_text(SOURCE.replace("NAMES", names) + TELLING + tests)
-    refused = sum(answer(one).startswith("refused") for one in real + others)
-    print(f"{len(real) + len(others)} documents, {refused} refused")
+    documents = real + others
+    put(OUT / "stdin", "".join(f"{question(one)}\n" for one in documents))
+    put(OUT / "stdout", "".join(f"{question(one)}|{answer(one)}\n" for one in documents))
+    refused = sum(answer(one).startswith("refused") for one in documents)
+    print(f"{len(documents)} documents, {refused} refused")
 
-
-TABLES = """\
-// Written by tools/resource_table.py: change that, and not this file.
-// Each row has a document, and what is told of it: for each resource its line and the text of the
-// request that it becomes, or the line of the document's fault. The first table has documents as
-// `kubectl get .. -o json` prints them.
-"""
-
-SOURCE = """\
-// Written by tools/resource_table.py: change that, and not this file.
-use crate::tables::{NAMES};
-use ipam_model::Request;
-use ipam_request_text::push_request;
-use ipam_resources::{DocumentFault, Resource, push_applied, push_document_fault, read_resources};
-use ipam_text::Seq;
-use std::alloc::{AllocError, Global};
-use std::process::Abort;
-use std::test::Fail;
-
-"""
-
-TELLING = """\
-/// What is told of the document.
-fn told(alloc: Global, document: &str) -> Result<String, AllocError> {
-    match read_resources(alloc, document.as_bytes()) {
-        Ok(resources) => listed(alloc, resources),
-        Err(fault) => refused(alloc, fault),
-    }
-}
-
-fn refused(alloc: Global, fault: DocumentFault) -> Result<String, AllocError> {
-    let mut out = String::new(alloc);
-    push_document_fault(alloc, &mut out, fault)?;
-    Ok(out)
-}
-
-fn listed(alloc: Global, resources: Seq<Resource>) -> Result<String, AllocError> {
-    let mut out = String::new(alloc);
-    let mut rest = resources.into_vec();
-    for _ in 0..rest.len() {
-        push_first(alloc, &mut out, &mut rest)?;
-    }
-    Ok(out)
-}
-
-/// Takes the first of the resources, and tells of it.
-fn push_first(
-    alloc: Global,
-    out: &mut String,
-    rest: &mut Vec<Resource>,
-) -> Result<(), AllocError> {
-    if rest.is_empty() {
-        return Ok(());
-    }
-    let resource = rest.remove(0);
-    push_applied(alloc, out, &resource)?;
-    push_change(alloc, out, &request_of(resource))
-}
-
-fn request_of(resource: Resource) -> Request {
-    Request::Admin(resource.change)
-}
-
-fn push_change(alloc: Global, out: &mut String, request: &Request) -> Result<(), AllocError> {
-    push_request(alloc, out, request)?;
-    out.push_str("\\n")
-}
-
-/// How many rows there are, each of which holds.
-fn rows(rt: &impl Abort, alloc: Global, table: &str) -> Result<usize, AllocError> {
-    let mut count = 0usize;
-    for row in table.split('‡') {
-        if let Some((document, want)) = row.split_once('⇒') {
-            let found = told(alloc, document)?;
-            assert!(rt; found.as_str() == want, "{document}");
-            count = count.wrapping_add(1);
-        }
-    }
-    Ok(count)
-}
-"""
-
-TEST = """
-#[test]
-fn reads_{test}(rt: HostRuntime) -> Result<(), Fail> {{
-    let count = rows(&rt, rt.alloc(), {name})?;
-    assert_eq!(rt; count, {count});
-    Ok(())
-}}
-"""
 
 if __name__ == "__main__":
     main()

@@ -90,11 +90,20 @@ pub(crate) fn state_text(alloc: Global, text: &str) -> Result<String, AllocError
     let Some(state) = State::of(text.as_bytes()) else {
         return String::from_str(alloc, "none");
     };
-    let affinity = Affinity {
+    let changed = pending(alloc)?.with(state)?;
+    copy_text(alloc, state, &changed)
+}
+
+fn pending(alloc: Global) -> Result<Affinity, AllocError> {
+    let cidr = cidr_of("10.0.0.0/26")?;
+    Ok(Affinity {
         node: Text::copied(alloc, "node-a")?,
-        cidr: cidr_of("10.0.0.0/26")?,
+        cidr,
         state: State::Pending,
-    };
-    let copy = affinity.with(state)?.clone()?;
+    })
+}
+
+fn copy_text(alloc: Global, state: State, affinity: &Affinity) -> Result<String, AllocError> {
+    let copy = affinity.clone()?;
     format!(in alloc; "{state:?} {} {}", copy.state.name(), copy.node.as_str())
 }

@@ -19,9 +19,10 @@ fn pool_of(alloc: Global, text: &str) -> Result<Pool, AllocError> {
     let Some((cidr, size)) = rest.split_once(' ') else {
         return Err(AllocError);
     };
+    let cidr = cidr_of(cidr)?;
     Ok(Pool {
         name: Text::copied(alloc, name)?,
-        cidr: cidr_of(cidr)?,
+        cidr,
         size: size.parse::<u8>().unwrap_or(0),
         disabled: false,
         mode: Mode::Automatic,
@@ -55,12 +56,22 @@ pub(crate) fn many_text(alloc: Global, text: &str) -> Result<String, AllocError>
     let Some((count, text)) = text.split_once(';') else {
         return Err(AllocError);
     };
-    let mut table = PoolTable::new(alloc);
-    for number in 0..count.parse::<u8>().unwrap_or(0) {
-        let pool = format!(in alloc; "pool-{number} 10.{number}.0.0/16 26")?;
-        add(alloc, &mut table, pool.as_str())?;
-    }
+    let mut table = many(alloc, count.parse().unwrap_or(0))?;
     add(alloc, &mut table, text)
+}
+
+fn many(alloc: Global, count: u8) -> Result<PoolTable, AllocError> {
+    let mut table = PoolTable::new(alloc);
+    for number in 0..count {
+        add_numbered(alloc, &mut table, number)?;
+    }
+    Ok(table)
+}
+
+fn add_numbered(alloc: Global, table: &mut PoolTable, number: u8) -> Result<(), AllocError> {
+    let pool = format!(in alloc; "pool-{number} 10.{number}.0.0/16 26")?;
+    add(alloc, table, pool.as_str())?;
+    Ok(())
 }
 
 /// The pool and the slot in it that an address lies in.
@@ -79,12 +90,15 @@ pub(crate) fn is_text(alloc: Global, text: &str) -> Result<String, AllocError> {
 fn described(alloc: Global, table: &PoolTable) -> Result<String, AllocError> {
     let mut out = String::new(alloc);
     for pool in table.pools() {
-        let (name, mode) = (pool.name.as_str(), pool.mode);
-        let (disabled, all) = (pool.disabled, pool.selector.is_all());
-        let piece = format!(in alloc; "{name} {mode:?} {disabled} {all},")?;
-        out.push_str(piece.as_str())?;
+        out.push_str(pool_text(alloc, pool)?.as_str())?;
     }
     Ok(out)
+}
+
+fn pool_text(alloc: Global, pool: &Pool) -> Result<String, AllocError> {
+    let (name, mode) = (pool.name.as_str(), pool.mode);
+    let (disabled, all) = (pool.disabled, pool.selector.is_all());
+    format!(in alloc; "{name} {mode:?} {disabled} {all},")
 }
 
 /// The pools after the named one was disabled, or that there is none.
@@ -99,20 +113,25 @@ pub(crate) fn disable_text(alloc: Global, name: &str) -> Result<String, AllocErr
 /// A copy of the pools after the named one was set, or that there is none. The pool is set back
 /// once the copy is made.
 pub(crate) fn set_text(alloc: Global, name: &str) -> Result<String, AllocError> {
-    let Ok(western) = Selector::read(alloc, b"zone == 'west'") else {
-        return Err(AllocError);
-    };
     let mut table = pools(alloc)?;
-    let western = NodeSelector::new(alloc, western);
-    if let Err(fault) = table.set(name, true, Mode::Manual, western) {
-        return format!(in alloc; "{fault:?}");
+    match table.set(name, true, Mode::Manual, western(alloc)?) {
+        Ok(()) => set_back_text(alloc, &mut table, name),
+        Err(fault) => format!(in alloc; "{fault:?}"),
     }
+}
+
+fn western(alloc: Global) -> Result<NodeSelector, AllocError> {
+    match Selector::read(alloc, b"zone == 'west'") {
+        Ok(selector) => Ok(NodeSelector::new(alloc, selector)),
+        Err(_) => Err(AllocError),
+    }
+}
+
+/// The pools as they were before this one was set back.
+fn set_back_text(alloc: Global, table: &mut PoolTable, name: &str) -> Result<String, AllocError> {
     let copy = table.clone()?;
-    if table
-        .set(name, false, Mode::Automatic, NodeSelector::all(alloc))
-        .is_err()
-    {
-        return Err(AllocError);
+    match table.set(name, false, Mode::Automatic, NodeSelector::all(alloc)) {
+        Ok(()) => described(alloc, &copy),
+        Err(_) => Err(AllocError),
     }
-    described(alloc, &copy)
 }

@@ -2,8 +2,8 @@
 ghost use Rattle.std.specs.Prelude.{◌≡◌, ◌<◌, length};
 
 use ipam_io::{
-    Gate, Link, ListGate, MemoryLink, MemorySink, MemorySource, Passed, Point, Sink, Source,
-    StdSink, StdSource,
+    Failed, Gate, Link, ListGate, MemoryLink, MemorySink, MemorySource, Passed, Point, Sink,
+    Source, StdSink, StdSource,
 };
 use std::alloc::{AllocError, Global};
 use std::io::{self, ErrorKind, Read, Write};
@@ -53,25 +53,41 @@ fn reads<S: Source>(alloc: Global, source: &mut S, times: &str) -> Result<String
     let mut out = String::new(alloc);
     let mut into = *b"--";
     for _ in 0..times.parse::<u32>().unwrap_or(0) {
-        let read = source.read(&mut into);
-        let bytes = str::from_utf8(&into).unwrap_or("?");
-        let piece = match read {
-            Ok(count) => format!(in alloc; "{count}{bytes} ")?,
-            Err(_) => format!(in alloc; "!{bytes} ")?,
-        };
-        out.push_str(piece.as_str())?;
+        let word = read_word(source.read(&mut into));
+        push_read(&mut out, word, &into)?;
     }
     Ok(out)
+}
+
+fn read_word(read: Result<usize, Failed>) -> &'static str {
+    match read {
+        Ok(0) => "0",
+        Ok(1) => "1",
+        Ok(_) => "2",
+        Err(_) => "!",
+    }
+}
+
+fn push_read(out: &mut String, word: &str, bytes: &[u8]) -> Result<(), AllocError> {
+    out.push_str(word)?;
+    out.push_str(str::from_utf8(bytes).unwrap_or("?"))?;
+    out.push(' ')
 }
 
 /// What the writes of the pieces answer.
 fn writes<S: Sink>(alloc: Global, sink: &mut S, pieces: &str) -> Result<String, AllocError> {
     let mut out = String::new(alloc);
     for piece in pieces.split(' ') {
-        let written = sink.write(piece.as_bytes());
-        out.push_str(if written.is_ok() { "." } else { "!" })?;
+        out.push_str(write_word(sink.write(piece.as_bytes())))?;
     }
     Ok(out)
+}
+
+fn write_word(written: Result<(), Failed>) -> &'static str {
+    match written {
+        Ok(()) => ".",
+        Err(_) => "!",
+    }
 }
 
 /// What is told of the answers and of what was written.
@@ -114,27 +130,28 @@ pub(crate) fn std_sink_text(alloc: Global, pieces: &str) -> Result<String, Alloc
 }
 
 // A read of any link leaves its sink as it was.
-fn read_alone<L: Link>(link: &mut L, into: &mut [u8]) -> &'static str
+fn read_alone<L: Link>(link: &mut L, into: &mut [u8]) -> Result<usize, Failed>
     requires { 0 < length into.old }
     ensures written { L.written link.new ≡ L.written link.old }
     ensures faults { L.write_faults link.new ≡ L.write_faults link.old }
 {
-    match link.read(into) {
-        Ok(0) => "0",
-        Ok(1) => "1",
-        Ok(_) => "2",
-        Err(_) => "!",
-    }
+    link.read(into)
 }
 
 // A write to any link leaves its source as it was.
-fn write_alone<L: Link>(link: &mut L, piece: &[u8]) -> &'static str
+fn write_alone<L: Link>(link: &mut L, piece: &[u8]) -> Result<(), Failed>
     ensures left { L.left link.new ≡ L.left link.old }
     ensures faults { L.read_faults link.new ≡ L.read_faults link.old }
 {
-    match link.write(piece) {
-        Ok(()) => ".",
-        Err(_) => "!",
+    link.write(piece)
+}
+
+/// What the call answers: a read is `r`, another text is written.
+fn call_word<L: Link>(link: &mut L, call: &str) -> &'static str {
+    if call == "r" {
+        read_word(read_alone(link, &mut [0; 2]))
+    } else {
+        write_word(write_alone(link, call.as_bytes()))
     }
 }
 
@@ -144,14 +161,8 @@ pub(crate) fn link_text(alloc: Global, calls: &str) -> Result<String, AllocError
     let bytes = Vec::from_slice(alloc, b"abc")?;
     let mut link = MemoryLink::new(alloc, bytes, 4, vec![in alloc; 3, 4]?)?;
     let mut answers = String::new(alloc);
-    let mut into = *b"--";
     for call in calls.split(' ') {
-        let answer = if call == "r" {
-            read_alone(&mut link, &mut into)
-        } else {
-            write_alone(&mut link, call.as_bytes())
-        };
-        answers.push_str(answer)?;
+        answers.push_str(call_word(&mut link, call))?;
     }
     told(alloc, answers.as_str(), link.written())
 }
@@ -161,13 +172,21 @@ pub(crate) fn gate_text(alloc: Global, points: &str) -> Result<String, AllocErro
     let mut gate = ListGate::new(vec![in alloc; 2, 3]?);
     let mut out = String::new(alloc);
     for point in points.split(' ') {
-        let point = if point == "t" {
-            Point::Turn
-        } else {
-            Point::Line
-        };
-        let is_stopped = gate.pass(point) == Passed::Stop;
-        out.push_str(if is_stopped { "stop " } else { "go " })?;
+        out.push_str(passed_word(gate.pass(point_of(point))))?;
     }
     Ok(out)
+}
+
+fn point_of(text: &str) -> Point {
+    match text {
+        "t" => Point::Turn,
+        _ => Point::Line,
+    }
+}
+
+fn passed_word(passed: Passed) -> &'static str {
+    match passed {
+        Passed::Stop => "stop ",
+        Passed::Go => "go ",
+    }
 }

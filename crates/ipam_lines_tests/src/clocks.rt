@@ -1,36 +1,45 @@
+//! What clocks tell.
 use ipam_io::{Clock, ListClock, SystemClock};
+use std::alloc::{AllocError, Global};
 use std::cell::Cell;
 use std::io;
 use std::io::ErrorKind;
-use std::test::Fail;
 use std::time::Duration;
 
-fn reading_of<C: Clock>(clock: &mut C) -> u64 {
-    clock.now()
-}
-
-#[test]
-fn gives_the_last_reading_again(rt: HostRuntime) -> Result<(), Fail> {
-    let cases: [(&[u64], [u64; 4]); 5] = [
-        (&[], [0, 0, 0, 0]),
-        (&[5], [5, 5, 5, 5]),
-        (&[100, 159], [100, 159, 159, 159]),
-        (&[3, 0, u64::MAX], [3, 0, u64::MAX, u64::MAX]),
-        (&[1, 2, 3, 4, 5], [1, 2, 3, 4]),
-    ];
-    for (readings, given) in cases {
-        let mut clock = ListClock::new(Vec::from_slice(rt.alloc(), readings)?);
-        for reading in given {
-            assert_eq!(rt; reading_of(&mut clock), reading);
+/// The numbers, which stand between spaces.
+pub(crate) fn numbers(alloc: Global, text: &str) -> Result<Vec<u64>, AllocError> {
+    let mut numbers = Vec::new(alloc);
+    for word in text.split(' ') {
+        if let Ok(number) = word.parse::<u64>() {
+            numbers.push(number)?;
         }
     }
-    Ok(())
+    Ok(numbers)
+}
+
+/// So many readings of the clock, each with a space after it.
+fn readings<C: Clock>(alloc: Global, clock: &mut C, count: u32) -> Result<String, AllocError> {
+    let mut out = String::new(alloc);
+    for _ in 0..count {
+        push_reading(alloc, &mut out, clock.now())?;
+    }
+    Ok(out)
+}
+
+fn push_reading(alloc: Global, out: &mut String, reading: u64) -> Result<(), AllocError> {
+    let text = format!(in alloc; "{reading} ")?;
+    out.push_str(text.as_str())
+}
+
+/// Four readings of a list.
+pub(crate) fn readings_text(alloc: Global, text: &str) -> Result<String, AllocError> {
+    readings(alloc, &mut ListClock::new(numbers(alloc, text)?), 4)
 }
 
 // A system's clock that tells these times in order, and can't be read at the zeros among them.
 #[derive(Drop)]
 struct Told {
-    milliseconds: [u64; 6],
+    milliseconds: Vec<u64>,
     asked: Cell<usize>,
 }
 
@@ -49,22 +58,18 @@ impl std::rt::Clock for Told {
     }
 }
 
-#[test]
-fn never_goes_back(rt: HostRuntime) -> Result<(), Fail> {
+/// Seven readings of a system whose clock tells these milliseconds, and can't be read at the zeros
+/// among them.
+pub(crate) fn times_text(alloc: Global, text: &str) -> Result<String, AllocError> {
     let mut clock = SystemClock::new(Told {
-        milliseconds: [0, 5_000, 0, 3_000, 7_999, 8_000],
+        milliseconds: numbers(alloc, text)?,
         asked: Cell::new(0),
     });
-    for reading in [0, 5, 5, 5, 7, 8, 8] {
-        assert_eq!(rt; reading_of(&mut clock), reading);
-    }
-    Ok(())
+    readings(alloc, &mut clock, 7)
 }
 
-// The system's time is past the year 2020.
-#[test]
-fn asks_the_system(rt: HostRuntime) -> Result<(), Fail> {
-    let mut clock = SystemClock::new(&rt);
-    assert!(rt; reading_of(&mut clock) > 1_577_836_800);
-    Ok(())
+/// Whether the system's time is past the year 2020.
+pub(crate) fn system_text(rt: &HostRuntime) -> Result<String, AllocError> {
+    let is_past = SystemClock::new(rt).now() > 1_577_836_800;
+    format!(in rt.alloc(); "{is_past}")
 }

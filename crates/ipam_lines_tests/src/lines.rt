@@ -1,151 +1,94 @@
+//! What is read of lines.
 ghost use Rattle.std.specs.Prelude.{None, ◌≡◌, ◌<◌, length};
 
+use crate::clocks::numbers;
 use ipam_io::{Failed, MemorySource, Source};
 use ipam_lines::{Got, Lines, LinesFault};
 use std::alloc::{AllocError, Global};
-use std::test::Fail;
 
-// What a call is to answer.
-#[derive(Clone, Copy, Debug)]
-enum Want<'a> {
-    Line(&'a [u8]),
-    // A line of so many bytes.
-    Long(usize),
-    End,
-    Cut,
-    Fault(LinesFault),
-}
+pub(crate) const LIMIT: usize = 1_048_576;
 
-const LIMIT: usize = 1_048_576;
+/// A longer line is told by its length alone.
+const SHORT: usize = 100;
 
-const LONGEST: Want<'static> = Want::Long(1_048_575);
-
-const TOO_LONG: Want<'static> = Want::Fault(LinesFault::TooLong);
-
-const FAILED: Want<'static> = Want::Fault(LinesFault::Read);
-
-fn meets(answer: &Result<Got, LinesFault>, want: Want<'_>) -> bool {
-    match (answer, want) {
-        (Ok(Got::Line(line)), Want::Line(bytes)) => line.as_slice() == bytes,
-        (Ok(Got::Line(line)), Want::Long(length)) => line.len() == length,
-        (Ok(Got::End), Want::End) => true,
-        (Ok(Got::Cut), Want::Cut) => true,
-        (Err(fault), Want::Fault(expected)) => *fault == expected,
-        _ => false,
+fn got_text(alloc: Global, got: &Result<Got, LinesFault>) -> Result<String, AllocError> {
+    match got {
+        Ok(Got::Line(line)) if line.len() > SHORT => format!(in alloc; "{}", line.len()),
+        Ok(got) => format!(in alloc; "{got:?}"),
+        Err(fault) => format!(in alloc; "{fault:?}"),
     }
 }
 
-// How many of the wanted answers come, in order, before one that differs.
-fn answers<S: Source>(alloc: Global, source: &mut S, wanted: &[Want<'_>]) -> usize {
-    let mut lines = Lines::<LIMIT>::new(alloc);
-    let mut met = 0usize;
-    for want in wanted {
-        if !meets(&lines.next(source), *want) {
-            return met;
-        }
-        met = met.saturating_add(1);
-    }
-    met
+/// What comes next.
+pub(crate) fn next_text<S: Source>(
+    alloc: Global,
+    lines: &mut Lines<LIMIT>,
+    source: &mut S,
+) -> Result<String, AllocError> {
+    got_text(alloc, &lines.next(source))
 }
 
-#[test]
-fn gives_the_lines_in_order(rt: HostRuntime) -> Result<(), Fail> {
-    let cases: [(&[u8], &[Want<'_>]); 7] = [
-        (b"", &[Want::End, Want::End]),
-        (b"\n", &[Want::Line(b""), Want::End]),
-        (b"a\n", &[Want::Line(b"a"), Want::End]),
-        (b"a\nb", &[Want::Line(b"a"), Want::Cut, Want::Cut]),
-        (
-            b"\n\r\n\n",
-            &[
-                Want::Line(b""),
-                Want::Line(b"\r"),
-                Want::Line(b""),
-                Want::End,
-            ],
-        ),
-        (
-            b"a\0\xff\n{}\n",
-            &[Want::Line(b"a\0\xff"), Want::Line(b"{}"), Want::End],
-        ),
-        (b"no feed", &[Want::Cut]),
-    ];
-    for (bytes, wanted) in cases {
-        let mut source = MemorySource::new(
-            Vec::from_slice(rt.alloc(), bytes)?,
-            Vec::new(rt.alloc()),
-        );
-        assert_eq!(rt; answers(rt.alloc(), &mut source, wanted), wanted.len());
+/// What so many calls answer, each with a space after it.
+pub(crate) fn answers<S: Source>(
+    alloc: Global,
+    lines: &mut Lines<LIMIT>,
+    source: &mut S,
+    calls: u32,
+) -> Result<String, AllocError> {
+    let mut out = String::new(alloc);
+    for _ in 0..calls {
+        out.push_str(next_text(alloc, lines, source)?.as_str())?;
+        out.push(' ')?;
     }
-    Ok(())
+    Ok(out)
 }
 
-// A read that fails ends no line: the bytes before it and after it are one line.
-#[test]
-fn reads_only_where_no_line_is_held(rt: HostRuntime) -> Result<(), Fail> {
-    let cases: [(&[u8], &[u64], &[Want<'_>]); 4] = [
-        (b"a\n", &[1], &[FAILED, Want::Line(b"a"), Want::End]),
-        (
-            b"a\nb\n",
-            &[2],
-            &[Want::Line(b"a"), Want::Line(b"b"), FAILED, Want::End],
-        ),
-        (
-            b"a\nb",
-            &[2, 3],
-            &[Want::Line(b"a"), FAILED, FAILED, Want::Cut],
-        ),
-        (b"", &[1, 2], &[FAILED, FAILED, Want::End]),
-    ];
-    for (bytes, failing, wanted) in cases {
-        let bytes = Vec::from_slice(rt.alloc(), bytes)?;
-        let mut source = MemorySource::new(bytes, Vec::from_slice(rt.alloc(), failing)?);
-        assert_eq!(rt; answers(rt.alloc(), &mut source, wanted), wanted.len());
-    }
-    Ok(())
+/// What is in front of the first `|`, and what is after it.
+fn parts(text: &str) -> (&str, &str) {
+    text.split_once('|').unwrap_or((text, ""))
 }
 
-// The bytes `front`, then as many `x`, then the bytes `back`.
-fn filled(alloc: Global, front: &[u8], count: usize, back: &[u8]) -> Result<Vec<u8>, AllocError> {
-    let mut bytes = Vec::from_slice(alloc, front)?;
-    bytes.extend_from_slice(vec![in alloc; b'x'; count]?.as_slice())?;
-    bytes.extend_from_slice(back)?;
+/// A source of `READS|FRONT|COUNT|BACK`, the reads of these numbers of which fail: the bytes of the
+/// front, as many `x`, and the bytes of the back.
+fn source_of(alloc: Global, text: &str) -> Result<MemorySource, AllocError> {
+    let (reads, bytes) = parts(text);
+    let bytes = filled(alloc, bytes)?;
+    Ok(MemorySource::new(bytes, numbers(alloc, reads)?))
+}
+
+fn filled(alloc: Global, text: &str) -> Result<Vec<u8>, AllocError> {
+    let (front, rest) = parts(text);
+    let (count, back) = parts(rest);
+    let mut bytes = Vec::new(alloc);
+    push_bytes(&mut bytes, front)?;
+    bytes.resize(bytes.len().saturating_add(count.parse().unwrap_or(0)), b'x')?;
+    push_bytes(&mut bytes, back)?;
     Ok(bytes)
 }
 
-#[test]
-fn keeps_to_the_limit(rt: HostRuntime) -> Result<(), Fail> {
-    let cases: [(&[u8], usize, &[u8], &[Want<'_>]); 8] = [
-        (b"", 1_048_575, b"\n", &[LONGEST, Want::End]),
-        (b"", 1_048_575, b"", &[Want::Cut]),
-        (b"", 1_048_576, b"\n", &[TOO_LONG, TOO_LONG]),
-        (b"", 1_048_576, b"", &[TOO_LONG]),
-        (
-            b"a\n",
-            1_048_575,
-            b"\nb\n",
-            &[Want::Line(b"a"), LONGEST, Want::Line(b"b"), Want::End],
-        ),
-        (b"a\n", 1_048_576, b"\n", &[Want::Line(b"a"), TOO_LONG]),
-        (
-            b"",
-            5000,
-            b"\nb\n",
-            &[Want::Long(5000), Want::Line(b"b"), Want::End],
-        ),
-        (
-            b"",
-            4095,
-            b"\n\nb",
-            &[Want::Long(4095), Want::Line(b""), Want::Cut],
-        ),
-    ];
-    for (front, count, back, wanted) in cases {
-        let bytes = filled(rt.alloc(), front, count, back)?;
-        let mut source = MemorySource::new(bytes, Vec::new(rt.alloc()));
-        assert_eq!(rt; answers(rt.alloc(), &mut source, wanted), wanted.len());
+fn push_bytes(bytes: &mut Vec<u8>, text: &str) -> Result<(), AllocError> {
+    for sign in text.chars() {
+        bytes.push(byte_of(sign))?;
     }
     Ok(())
+}
+
+/// The byte that the sign stands for: of its own number, but for a few.
+fn byte_of(sign: char) -> u8 {
+    match sign {
+        '␤' => b'\n',
+        '␍' => b'\r',
+        '␀' => 0,
+        _ => u8::try_from(u32::from(sign)).unwrap_or(b'?'),
+    }
+}
+
+/// What is answered of `CALLS|READS|FRONT|COUNT|BACK`.
+pub(crate) fn lines_text(alloc: Global, text: &str) -> Result<String, AllocError> {
+    let (calls, rest) = parts(text);
+    let mut lines = Lines::<LIMIT>::new(alloc);
+    let calls = calls.parse().unwrap_or(0);
+    answers(alloc, &mut lines, &mut source_of(alloc, rest)?, calls)
 }
 
 // A source that gives one byte a read, and does not tell its bytes.
@@ -164,16 +107,15 @@ impl Source for Trickle {
     }
 }
 
-#[test]
-fn joins_what_comes_in_pieces(rt: HostRuntime) -> Result<(), Fail> {
-    let bytes = filled(rt.alloc(), b"ab\n", 9000, b"\n\nc")?;
-    let mut source = Trickle(MemorySource::new(bytes, Vec::new(rt.alloc())));
-    let wanted = [
-        Want::Line(b"ab"),
-        Want::Long(9000),
-        Want::Line(b""),
-        Want::Cut,
-    ];
-    assert_eq!(rt; answers(rt.alloc(), &mut source, &wanted), wanted.len());
-    Ok(())
+/// The same where each read gives one byte.
+pub(crate) fn pieces_text(alloc: Global, text: &str) -> Result<String, AllocError> {
+    let (calls, rest) = parts(text);
+    let mut lines = Lines::<LIMIT>::new(alloc);
+    let calls = calls.parse().unwrap_or(0);
+    answers(
+        alloc,
+        &mut lines,
+        &mut Trickle(source_of(alloc, rest)?),
+        calls,
+    )
 }

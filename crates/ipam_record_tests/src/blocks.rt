@@ -1,4 +1,3 @@
-use crate::tables::BLOCK;
 use ipam_addr::{Addr, Cidr, Spared, read_cidr};
 use ipam_block::{Attributes, Block};
 use ipam_text::{Seq, Text};
@@ -29,12 +28,10 @@ fn fresh(alloc: Global, text: &str, node: Option<&str>) -> Result<Block, AllocEr
 
 /// Holds the ordinal for a handle, where it is free.
 fn assign(alloc: Global, block: &mut Block, ordinal: u16, handle: &str) -> Result<(), AllocError> {
-    let attributes = Attributes {
-        handle: Text::copied(alloc, handle)?,
-        secondary: Seq::new(alloc),
-    };
+    let handle = Text::copied(alloc, handle)?;
     if ordinal < block.count() && block.sequence() > 0 {
-        let _held = block.assign(ordinal, attributes);
+        let secondary = Seq::new(alloc);
+        let _held = block.assign(ordinal, Attributes { handle, secondary });
     }
     Ok(())
 }
@@ -61,15 +58,22 @@ fn change(alloc: Global, block: &mut Block, text: &str) -> Result<(), AllocError
 fn text_of(alloc: Global, block: &Block) -> Result<String, AllocError> {
     let mut text = String::new(alloc);
     for ordinal in block.queue() {
-        let number = format!(in alloc; "{ordinal} ")?;
-        text.push_str(number.as_str())?;
+        push_free(alloc, &mut text, *ordinal)?;
     }
     for held in block.allocations() {
-        let (ordinal, stamp) = (held.ordinal, held.stamp);
-        let piece = format!(in alloc; "{ordinal}@{stamp} ")?;
-        text.push_str(piece.as_str())?;
+        push_held(alloc, &mut text, held.ordinal, held.stamp)?;
     }
     Ok(text)
+}
+
+fn push_free(alloc: Global, out: &mut String, ordinal: u16) -> Result<(), AllocError> {
+    let text = format!(in alloc; "{ordinal} ")?;
+    out.push_str(text.as_str())
+}
+
+fn push_held(alloc: Global, out: &mut String, ordinal: u16, stamp: u64) -> Result<(), AllocError> {
+    let text = format!(in alloc; "{ordinal}@{stamp} ")?;
+    out.push_str(text.as_str())
 }
 
 /// The block's next write with the change.
@@ -82,25 +86,20 @@ fn changed(alloc: Global, block: &Block, text: &str) -> Result<Block, AllocError
     Ok(next)
 }
 
-/// The block after the changes of the table up to and with this one.
-pub(crate) fn block_answer(alloc: Global, last: &str) -> Result<String, AllocError> {
+/// The block after these changes, which stand between commas.
+pub(crate) fn block_answer(alloc: Global, changes: &str) -> Result<String, AllocError> {
     let mut block = fresh(alloc, "10.0.0.4/30", Some("a"))?;
-    for line in BLOCK.lines() {
-        if let Some((text, _)) = line.split_once('|') {
-            block = changed(alloc, &block, text)?;
-            if text == last {
-                return text_of(alloc, &block);
-            }
-        }
+    for text in changes.split(',') {
+        block = changed(alloc, &block, text)?;
     }
-    Err(AllocError)
+    text_of(alloc, &block)
 }
 
 /// The first ordinal that is free and not reserved.
 pub(crate) fn room_answer(alloc: Global, reserved: &str) -> Result<String, AllocError> {
-    let block = fresh(alloc, "2001:db8::/126", None)?;
     let Ok(reserved) = read_cidr(reserved.as_bytes()) else {
         return Err(AllocError);
     };
-    format!(in alloc; "{:?}", block.first_room(&Reserved(reserved)))
+    let found = fresh(alloc, "2001:db8::/126", None)?.first_room(&Reserved(reserved));
+    format!(in alloc; "{found:?}")
 }

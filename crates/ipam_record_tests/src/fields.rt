@@ -1,6 +1,7 @@
 use ipam_json::{FieldFault, ReadFault, array, canonical_text, object, text, truth, whole};
 use serde_json::Value;
 use std::alloc::{AllocError, Global};
+use std::fmt::Display;
 
 const NESTED: &str =
     "{\"items\": [{\"spec\": {\"cidr\": \"10.0.0.0/8\", \"open\": true, \"\": 7}}, \
@@ -17,15 +18,21 @@ fn fault_text(alloc: Global, fault: ReadFault) -> Result<String, AllocError> {
 
 /// What is read of the value at the path, where of an array and of an object the length is told.
 fn read(alloc: Global, value: &Value, kind: &str, path: &str) -> Result<String, AllocError> {
-    let told = match kind {
-        "text" => text(alloc, value, path).map(|it| format!(in alloc; "{it}")),
-        "truth" => truth(alloc, value, path).map(|it| format!(in alloc; "{it}")),
-        "whole" | "five" => whole(alloc, value, path).map(|it| format!(in alloc; "{it}")),
-        "array" => array(alloc, value, path).map(|it| format!(in alloc; "{}", it.len())),
-        _ => object(alloc, value, path).map(|it| format!(in alloc; "{}", it.len())),
-    };
-    match told {
-        Ok(told) => told,
+    match kind {
+        "text" => told(alloc, text(alloc, value, path)),
+        "truth" => told(alloc, truth(alloc, value, path)),
+        "whole" | "five" => told(alloc, whole(alloc, value, path)),
+        "array" => told(alloc, array(alloc, value, path).map(|it| it.len())),
+        _ => told(alloc, object(alloc, value, path).map(|it| it.len())),
+    }
+}
+
+fn told<T: Display + Drop>(
+    alloc: Global,
+    read: Result<T, ReadFault>,
+) -> Result<String, AllocError> {
+    match read {
+        Ok(found) => format!(in alloc; "{found}"),
         Err(fault) => fault_text(alloc, fault),
     }
 }
@@ -42,7 +49,11 @@ pub(crate) fn field_answer(alloc: Global, question: &str) -> Result<String, Allo
     }
 }
 
-/// The text as JSON.
+/// The text as JSON, where `␤` stands for a line feed.
 pub(crate) fn written_answer(alloc: Global, text: &str) -> Result<String, AllocError> {
-    canonical_text(alloc, &Value::try_from_str(alloc, text)?)
+    let mut written = String::new(alloc);
+    for sign in text.chars() {
+        written.push(if sign == '␤' { '\n' } else { sign })?;
+    }
+    canonical_text(alloc, &Value::try_from_str(alloc, written.as_str())?)
 }

@@ -19,12 +19,16 @@ fn described(alloc: Global, handle: &Handle) -> Result<String, AllocError> {
     let mut out = String::from_str(alloc, handle.id())?;
     out.push_str(if handle.is_empty() { " empty" } else { "" })?;
     for (block, count) in handle.blocks() {
-        out.push(' ')?;
-        push_cidr(alloc, &mut out, *block)?;
-        let count = format!(in alloc; "={count}")?;
-        out.push_str(count.as_str())?;
+        push_count(alloc, &mut out, *block, *count)?;
     }
     Ok(out)
+}
+
+fn push_count(alloc: Global, out: &mut String, block: Cidr, count: u32) -> Result<(), AllocError> {
+    out.push(' ')?;
+    push_cidr(alloc, out, block)?;
+    let count = format!(in alloc; "={count}")?;
+    out.push_str(count.as_str())
 }
 
 /// Raises by `+CIDR=NUMBER`, or lowers by `-CIDR=NUMBER`, and says whether a count was full.
@@ -48,20 +52,31 @@ pub(crate) fn changed_answer(alloc: Global, text: &str) -> Result<String, AllocE
             faults.push('!')?;
         }
     }
-    let copy = described(alloc, &handle.clone()?)?;
-    format!(in alloc; "{copy}{faults}")
+    copy_text(alloc, &handle, faults.as_str())
+}
+
+fn copy_text(alloc: Global, handle: &Handle, faults: &str) -> Result<String, AllocError> {
+    let copy = handle.clone()?;
+    let mut text = described(alloc, &copy)?;
+    text.push_str(faults)?;
+    Ok(text)
 }
 
 /// A handle that is made of these counts, or none.
 pub(crate) fn counts_answer(alloc: Global, text: &str) -> Result<String, AllocError> {
+    let counts = counts_of(alloc, text)?;
+    match Handle::of_counts(Text::copied(alloc, "n.c1")?, counts) {
+        Some(handle) => described(alloc, &handle),
+        None => String::from_str(alloc, "none"),
+    }
+}
+
+fn counts_of(alloc: Global, text: &str) -> Result<Seq<(Cidr, u32)>, AllocError> {
     let mut counts = Seq::new(alloc);
     for part in text.split(' ') {
         if !part.is_empty() {
             counts.push(count_of(part)?)?;
         }
     }
-    match Handle::of_counts(Text::copied(alloc, "n.c1")?, counts) {
-        Some(handle) => described(alloc, &handle),
-        None => String::from_str(alloc, "none"),
-    }
+    Ok(counts)
 }

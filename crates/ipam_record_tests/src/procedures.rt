@@ -6,7 +6,6 @@ ghost use Rattle.ipam_record_tests.specs.Example.{example_rest, example_leaves};
 
 use ipam_records::{Call, Heard, Key, Procedure, Reply};
 use std::alloc::{AllocError, Global};
-use std::test::Fail;
 
 /// Reads a record, and deletes it at the revision at which it was found.
 #[derive(Drop)]
@@ -71,8 +70,8 @@ fn turn<P: Procedure>(
     Ok(procedure.go(turned))
 }
 
-#[test]
-fn goes_on_and_answers(rt: HostRuntime) -> Result<(), Fail> {
+/// What a removal answers whose record is missing.
+pub(crate) fn removal_answer(alloc: Global) -> Result<String, AllocError> {
     let mut removal = Removal {
         key: Key::Config,
         found: None,
@@ -81,6 +80,6 @@ fn goes_on_and_answers(rt: HostRuntime) -> Result<(), Fail> {
         reply: Reply::Missing,
         moment: 7,
     };
-    assert_eq!(rt; turn(&mut removal, rt.alloc(), &missing)?, Some(false));
-    Ok(())
+    let answer = turn(&mut removal, alloc, &missing)?;
+    format!(in alloc; "{answer:?}")
 }

@@ -1,9 +1,11 @@
+//! What passes over links.
+use crate::lines::{LIMIT, answers, next_text};
 use ipam_io::{Failed, Link, StreamLink, TcpLink};
-use ipam_lines::{Got, Lines};
+use ipam_lines::Lines;
+use std::alloc::{AllocError, Global};
 use std::io;
 use std::io::{ErrorKind, Read, Write};
 use std::net::{TcpListener, TcpStream};
-use std::test::Fail;
 
 fn read_alone<L: Link>(link: &mut L, into: &mut [u8; 2]) -> Result<usize, Failed> {
     link.read(into)
@@ -11,6 +13,22 @@ fn read_alone<L: Link>(link: &mut L, into: &mut [u8; 2]) -> Result<usize, Failed
 
 fn write_alone<L: Link>(link: &mut L, piece: &[u8]) -> Result<(), Failed> {
     link.write(piece)
+}
+
+fn read_word(read: Result<usize, Failed>) -> &'static str {
+    match read {
+        Ok(0) => "0",
+        Ok(1) => "1",
+        Ok(_) => "2",
+        Err(_) => "!",
+    }
+}
+
+fn write_word(written: Result<(), Failed>) -> &'static str {
+    match written {
+        Ok(()) => ". ",
+        Err(_) => "! ",
+    }
 }
 
 // A stream that gives the bytes 1, 2, 3 and so on, one a read, and fails at each third read. It
@@ -52,25 +70,19 @@ impl Write for Narrow {
     }
 }
 
-#[test]
-fn passes_bytes_both_ways(rt: HostRuntime) -> Result<(), Fail> {
+/// What a read and a write of each piece answer, and the two bytes at the end.
+pub(crate) fn stream_text(alloc: Global, pieces: &str) -> Result<String, AllocError> {
     let mut stream = StreamLink::over(Narrow {
         reads: 0,
-        taken: Vec::new(rt.alloc()),
+        taken: Vec::new(alloc),
     });
     let mut into = [0u8; 2];
-    let steps: [(Result<usize, Failed>, &[u8], Result<(), Failed>); 4] = [
-        (Ok(1), b"abc", Ok(())),
-        (Ok(1), b"", Ok(())),
-        (Err(Failed), b"defg", Err(Failed)),
-        (Ok(1), b"h", Err(Failed)),
-    ];
-    for (count, piece, written) in steps {
-        assert_eq!(rt; read_alone(&mut stream, &mut into), count);
-        assert_eq!(rt; write_alone(&mut stream, piece), written);
+    let mut out = String::new(alloc);
+    for piece in pieces.split('|') {
+        out.push_str(read_word(read_alone(&mut stream, &mut into)))?;
+        out.push_str(write_word(write_alone(&mut stream, piece.as_bytes())))?;
     }
-    assert_eq!(rt; into, [4, 0]);
-    Ok(())
+    format!(in alloc; "{out}{into:?}")
 }
 
 // Two ends of a connection over the loopback.
@@ -81,23 +93,25 @@ fn connected(rt: &HostRuntime) -> io::Result<(TcpStream, TcpStream)> {
     Ok((near, far))
 }
 
-#[test]
-fn talks_over_a_socket_with_no_delay(rt: HostRuntime) -> Result<(), Fail> {
-    let (near, far) = connected(&rt)?;
+/// A link over the stream, and whether it sends with no delay.
+fn client_of(near: TcpStream) -> io::Result<(TcpLink, bool)> {
     let twin = near.try_clone()?;
-    let mut client = TcpLink::new(near);
+    let client = TcpLink::new(near);
+    let is_quick = twin.nodelay()?;
+    Ok((client, is_quick))
+}
+
+/// Whether a client sends with no delay, what its write of two lines answers, what is read while it is
+/// there, and what once it is gone.
+pub(crate) fn socket_text(rt: &HostRuntime, text: &str) -> io::Result<String> {
+    let (near, far) = connected(rt)?;
+    let (mut client, is_quick) = client_of(near)?;
+    let bytes = format!(in rt.alloc(); "{text}\nsecond\n")?;
+    let word = write_word(write_alone(&mut client, bytes.as_bytes()));
+    let mut lines = Lines::<LIMIT>::new(rt.alloc());
     let mut server = TcpLink::new(far);
-    assert!(rt; twin.nodelay()?);
-    drop(twin);
-    assert_eq!(rt; write_alone(&mut client, b"first\nsecond\n"), Ok(()));
-    let mut lines = Lines::<1_048_576>::new(rt.alloc());
-    for text in ["first", "second"] {
-        let Ok(Got::Line(line)) = lines.next(&mut server) else {
-            return Err(Fail::from("no line"));
-        };
-        assert_eq!(rt; line.as_slice(), text.as_bytes());
-    }
+    let before = answers(rt.alloc(), &mut lines, &mut server, 2)?;
     drop(client);
-    assert_eq!(rt; lines.next(&mut server), Ok(Got::End));
-    Ok(())
+    let after = next_text(rt.alloc(), &mut lines, &mut server)?;
+    Ok(format!(in rt.alloc(); "{is_quick} {word}{before}{after}")?)
 }

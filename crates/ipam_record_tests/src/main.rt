@@ -1,0 +1,49 @@
+//! Tests of records and their texts. Each line of the input has a kind and a question, as
+//! `key|block/10.0.0.0/26`; the output has the answer after them.
+#![tactic(auto)]
+
+mod blocks;
+mod fields;
+mod handles;
+mod keys;
+mod procedures;
+
+use std::alloc::{AllocError, Global};
+use std::io;
+
+/// What is answered to the question, which is of the kind that the word tells.
+fn answer(alloc: Global, kind: &str, text: &str) -> Result<String, AllocError> {
+    match kind {
+        "key" => keys::key_answer(alloc, text),
+        "record" => keys::record_answer(alloc, text),
+        "field" => fields::field_answer(alloc, text),
+        "written" => fields::written_answer(alloc, text),
+        "removal" => procedures::removal_answer(alloc),
+        _ => change_answer(alloc, kind, text),
+    }
+}
+
+fn change_answer(alloc: Global, kind: &str, text: &str) -> Result<String, AllocError> {
+    match kind {
+        "changed" => handles::changed_answer(alloc, text),
+        "counts" => handles::counts_answer(alloc, text),
+        "block" => blocks::block_answer(alloc, text),
+        "room" => blocks::room_answer(alloc, text),
+        _ => Err(AllocError),
+    }
+}
+
+/// The line, and after it the answer to its question.
+fn answered(alloc: Global, line: &str) -> Result<String, AllocError> {
+    let (kind, question) = line.split_once('|').unwrap_or((line, ""));
+    let answer = answer(alloc, kind, question)?;
+    format!(in alloc; "{line}|{answer}")
+}
+
+fn main(rt: HostRuntime) -> io::Result<()> {
+    for line in rt.lines(rt.alloc()) {
+        let answered = answered(rt.alloc(), line?.as_str())?;
+        println!(rt; "{answered}")?;
+    }
+    Ok(())
+}
