@@ -1,5 +1,5 @@
 use Rattle.std.proofs.Common.{◌+◌, ◌*◌}
-use Rattle.lock_bench.proofs.threads.+count_all+fn-count_all-join+arg2.Given as goal
+use Rattle.ipam_bench.proofs.threads.+count_all+fn-count_all-join+arg2.Given as goal
 
 abbrev pub decreases-join+arg2 : goal.decreases-join+arg2
 decreases-join+arg2 g l = 2 * l.more + 1
