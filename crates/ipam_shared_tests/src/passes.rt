@@ -14,7 +14,7 @@ use std::sync::Wait;
 const MOST_CALLS: u32 = 100_000;
 
 /// What a turn came to.
-#[derive(Clone, Copy, PartialEq, Eq)]
+#[derive(Clone, Copy)]
 pub enum Turned {
     /// Nothing was done.
     Nothing,
@@ -153,7 +153,7 @@ pub fn has<R: Wait, D: Keeper>(
     ensures { pass.new.lock ≡ pass.old.lock }
 {
     match requests::check(alloc, handle, address) {
-        Some(request) => run(rt, alloc, shared, pass, &request) == Turned::Checked,
+        Some(request) => matches!(run(rt, alloc, shared, pass, &request), Turned::Checked),
         None => false,
     }
 }

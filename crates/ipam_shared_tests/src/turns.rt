@@ -5,8 +5,8 @@ ghost use Rattle.ipam_kept.specs.Kept.{IsKept};
 use crate::workers::MANY;
 use crate::{keepers, requests};
 use ipam_keeper::Keeper;
-use ipam_model::{Request, SlotState};
-use ipam_shared::Kept;
+use ipam_model::{Entry, Request, SlotState};
+use ipam_shared::{BeginFault, Kept, PrepareFault};
 use std::alloc::{AllocError, Global};
 
 /// How many of so many turns were made in slot 0, by ADDs and DELs of one handle.
@@ -88,7 +88,7 @@ fn begin<D: Keeper>(alloc: Global, kept: &mut Kept<D>, request: &Request) -> boo
     requires sound { IsSoundRequest request.now }
     ensures { IsKept D.rows kept.new }
 {
-    kept.begin(alloc, 0, request).is_ok()
+    is_begun(kept.begin(alloc, 0, request))
 }
 
 /// Makes the next call, and says whether it could.
@@ -96,5 +96,26 @@ fn turn<D: Keeper>(alloc: Global, kept: &mut Kept<D>) -> bool
     requires kept { IsKept D.rows kept.old }
     ensures { IsKept D.rows kept.new }
 {
-    kept.turn(alloc, 0).is_ok()
+    is_turned(kept.turn(alloc, 0))
+}
+
+// Apart from the call, so that the entry is dropped in one place.
+fn is_begun(begun: Result<Entry, BeginFault>) -> bool {
+    match begun {
+        Ok(entry) => {
+            drop(entry);
+            true
+        }
+        Err(_) => false,
+    }
+}
+
+fn is_turned(turned: Result<Entry, PrepareFault>) -> bool {
+    match turned {
+        Ok(entry) => {
+            drop(entry);
+            true
+        }
+        Err(_) => false,
+    }
 }

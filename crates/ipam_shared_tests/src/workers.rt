@@ -197,7 +197,7 @@ fn delete<R: Wait, D: Keeper>(
     ensures { pass.new.lock ≡ pass.old.lock }
 {
     for _ in 0..MOST_TRIES {
-        if run(rt, alloc, shared, pass, request) == Turned::Deleted {
+        if matches!(run(rt, alloc, shared, pass, request), Turned::Deleted) {
             return true;
         }
     }
@@ -269,7 +269,7 @@ fn go_on<R: Wait, D: Keeper>(
     ensures { pass.new.lock ≡ pass.old.lock }
 {
     if pass.running() {
-        turn(rt, alloc, shared, pass) != Turned::Nothing
+        !matches!(turn(rt, alloc, shared, pass), Turned::Nothing)
     } else if adds {
         begin(rt, alloc, shared, pass, add)
     } else {
