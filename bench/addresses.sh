@@ -6,9 +6,9 @@ count=${1:-1000000}
 work=$(mktemp -d)
 trap 'rm -rf "$work"' EXIT
 rustc -O -o "$work/addresses" "$top/bench/addresses.rs"
-(cd "$top/crates/ipam_bench" && rt run -- narrow-slots 1 >/dev/null 2>&1)
+program=$("$top/bench/built.sh" ipam_bench)
 echo "Rattle:"
-"$top/crates/ipam_bench/out/ipam_bench" read-addresses "$count"
-"$top/crates/ipam_bench/out/ipam_bench" push-addresses "$count"
+echo "read-addresses $count" | "$program"
+echo "push-addresses $count" | "$program"
 echo "Rust:"
 "$work/addresses" "$count"

@@ -4,12 +4,12 @@
 set -eu
 top=$(cd "$(dirname "$0")/.." && pwd)
 count=${1:-100}
-(cd "$top/crates/ipam_bench" && rt run -- narrow-slots 1 >/dev/null 2>&1)
+program=$("$top/bench/built.sh" ipam_bench)
 for word in print-blocks read-blocks print-shared-blocks read-shared-blocks; do
     echo "$word:"
-    "$top/crates/ipam_bench/out/ipam_bench" "$word" "$count"
+    echo "$word $count" | "$program"
 done
 for blocks in 16384 65536; do
     echo "handle-texts:"
-    "$top/crates/ipam_bench/out/ipam_bench" handle-texts "$blocks"
+    echo "handle-texts $blocks" | "$program"
 done

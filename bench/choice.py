@@ -63,11 +63,11 @@ def told(program, rows, often):
     """What was chosen, and the nanoseconds of a choice of each kind in the fastest of three runs."""
     runs = []
     with tempfile.TemporaryFile("w+") as given:
-        given.write(row_lines(rows))
+        given.write(f"choose {often}\n{row_lines(rows)}")
         for _ in range(3):
             given.seek(0)
-            runs.append(subprocess.run([program, "node-0", str(often)], stdin=given, capture_output=True, text=True))
-    times = [[int(line.split()[1]) / often for line in run.stderr.splitlines()] for run in runs]
+            runs.append(subprocess.run([program], stdin=given, capture_output=True, text=True))
+    times = [[int(line.split()[0]) / often for line in run.stderr.splitlines()] for run in runs]
     return runs[0].stdout.splitlines(), [min(way) for way in zip(*times)]
 
 

@@ -3,10 +3,10 @@
 set -eu
 top=$(cd "$(dirname "$0")/.." && pwd)
 turns=${1:-1000000}
-(cd "$top/crates/lock_bench" && rt run -- turn-lock 1 1 >/dev/null 2>&1)
+program=$("$top/bench/built.sh" ipam_bench)
 for lock in turn-lock mutex; do
     for threads in 1 4 16; do
         echo "$lock, $threads threads:"
-        "$top/crates/lock_bench/out/lock_bench" "$lock" "$threads" $((turns / threads))
+        echo "$lock $threads $((turns / threads))" | "$program"
     done
 done

@@ -4,10 +4,10 @@
 set -eu
 top=$(cd "$(dirname "$0")/.." && pwd)
 turns=${1:-1000000}
-(cd "$top/crates/shared_bench" && rt run -- kept 1 1 >/dev/null 2>&1)
+program=$("$top/bench/built.sh" ipam_shared_tests)
 echo "kept, alone:"
-"$top/crates/shared_bench/out/shared_bench" kept 1 "$turns"
+echo "kept $turns" | "$program"
 for passes in 1 4 16; do
     echo "shared, $passes passes:"
-    "$top/crates/shared_bench/out/shared_bench" shared "$passes" $((turns / passes))
+    echo "turns $((passes - 1)) $((turns / passes))" | "$program"
 done

@@ -4,8 +4,8 @@
 set -eu
 top=$(cd "$(dirname "$0")/.." && pwd)
 count=${1:-1000000}
-(cd "$top/crates/ipam_bench" && rt run -- narrow-slots 1 >/dev/null 2>&1)
+program=$("$top/bench/built.sh" ipam_bench)
 for word in narrow-slots wide-slots; do
     echo "$word:"
-    "$top/crates/ipam_bench/out/ipam_bench" "$word" "$count"
+    echo "$word $count" | "$program"
 done

@@ -5,14 +5,14 @@ set -eu
 top=$(cd "$(dirname "$0")/.." && pwd)
 gets=${1:-10000000}
 rows=${2:-100000}
-(cd "$top/crates/ipam_bench" && rt run -- get-from-1000 1 >/dev/null 2>&1)
-for word in get-from-1000 get-from-100000; do
-    echo "$word:"
-    "$top/crates/ipam_bench/out/ipam_bench" "$word" "$gets"
+program=$("$top/bench/built.sh" ipam_bench)
+for count in 1000 "$rows"; do
+    echo "get-rows of $count:"
+    echo "get-rows $gets $count" | "$program"
 done
 for word in create-ascending create-descending create-random; do
     for count in 1000 "$rows"; do
         echo "$word:"
-        "$top/crates/ipam_bench/out/ipam_bench" "$word" "$count"
+        echo "$word $count" | "$program"
     done
 done

@@ -1,10 +1,11 @@
+use crate::times;
 use ipam_addr::{Addr, Cidr, Family, cidr};
 use ipam_block::{Attributes, Block};
 use ipam_block_text::{block_of, block_text};
 use ipam_text::{Seq, Text};
 use std::alloc::{AllocError, Global};
 use std::io;
-use std::time::Instant;
+use std::time::{Clock, Instant};
 
 /// The first address of 10.0.0.0/20, which is the block.
 const FIRST: u128 = 0x0a00_0000;
@@ -35,21 +36,36 @@ pub enum Holders {
 }
 
 /// Prints a full block, this often.
-pub fn print_all(rt: &HostRuntime, holders: Holders, count: u32) -> io::Result<()> {
-    let block = full_block(rt.alloc(), holders)?;
+pub fn print_all<R: Clock + Eprint>(
+    rt: &R,
+    alloc: Global,
+    holders: Holders,
+    count: u32,
+) -> io::Result<String> {
+    let block = full_block(alloc, holders)?;
     let start = Instant::now(rt)?;
-    let bytes = bytes_printed(rt.alloc(), &block, count)?;
-    crate::tell(rt, &start)?;
-    println!(rt; "printed {count} blocks, {bytes} bytes")
+    let bytes = bytes_printed(alloc, &block, count)?;
+    times::tell(rt, &start)?;
+    Ok(format!(in alloc; "printed {count} blocks, {bytes} bytes")?)
 }
 
 /// Reads the body of a full block, this often.
-pub fn read_all(rt: &HostRuntime, holders: Holders, count: u32) -> io::Result<()> {
-    let body = block_text(rt.alloc(), &full_block(rt.alloc(), holders)?)?;
+pub fn read_all<R: Clock + Eprint>(
+    rt: &R,
+    alloc: Global,
+    holders: Holders,
+    count: u32,
+) -> io::Result<String> {
+    let body = full_body(alloc, holders)?;
     let start = Instant::now(rt)?;
-    let held = held_read(rt.alloc(), body.as_str(), count);
-    crate::tell(rt, &start)?;
-    println!(rt; "read {count} blocks, {held} held")
+    let held = held_read(alloc, body.as_str(), count);
+    times::tell(rt, &start)?;
+    Ok(format!(in alloc; "read {count} blocks, {held} held")?)
+}
+
+fn full_body(alloc: Global, holders: Holders) -> Result<String, AllocError> {
+    let block = full_block(alloc, holders)?;
+    block_text(alloc, &block)
 }
 
 fn bytes_printed(alloc: Global, block: &Block, count: u32) -> Result<u64, AllocError> {
@@ -71,7 +87,7 @@ fn held_read(alloc: Global, body: &str, count: u32) -> u64 {
     held
 }
 
-fn full_block(alloc: Global, holders: Holders) -> Result<Block, AllocError> {
+fn full_block(alloc: Global, holders: Holders) -> Result<Box<Block>, AllocError> {
     let mut block = written_block(alloc)?;
     for ordinal in 0..ADDRESSES {
         hold(alloc, &mut block, ordinal, holders)?;
@@ -79,13 +95,20 @@ fn full_block(alloc: Global, holders: Holders) -> Result<Block, AllocError> {
     Ok(block)
 }
 
-/// The block at its first write.
-fn written_block(alloc: Global) -> Result<Block, AllocError> {
+/// The block at its first write. In a box, since a block that a function drops itself is dear to check.
+fn written_block(alloc: Global) -> Result<Box<Block>, AllocError> {
     let cidr = block_cidr()?;
     if cidr.last().number - cidr.base().number >= u128::from(ADDRESSES) {
         return Err(AllocError);
     }
-    Block::fresh(alloc, cidr, Some("a"))?.next()
+    boxed(alloc, Block::fresh(alloc, cidr, Some("a"))?.next()?)
+}
+
+fn boxed(alloc: Global, block: Block) -> Result<Box<Block>, AllocError> {
+    match Box::new(alloc, block) {
+        Ok(boxed) => Ok(boxed),
+        Err(_) => Err(AllocError),
+    }
 }
 
 fn block_cidr() -> Result<Cidr, AllocError> {

@@ -1,10 +1,11 @@
+use crate::times;
 use ipam_addr::{Addr, Cidr, Family, cidr};
 use ipam_handle::Handle;
 use ipam_record_text::{handle_of, handle_text};
 use ipam_text::Text;
 use std::alloc::{AllocError, Global};
 use std::io;
-use std::time::Instant;
+use std::time::{Clock, Instant};
 
 /// The first address of the first block, 10.0.0.0/26.
 const FIRST: u128 = 0x0a00_0000;
@@ -15,16 +16,20 @@ const PREFIX: u8 = 26;
 const ADDRESSES: u128 = 64;
 
 /// Prints a handle with a count in each of so many blocks, and reads it.
-pub fn print_and_read(rt: &HostRuntime, count: u32) -> io::Result<()> {
-    let handle = counted_handle(rt.alloc(), count)?;
+pub fn print_and_read<R: Clock + Eprint>(rt: &R, alloc: Global, count: u32) -> io::Result<String> {
+    let handle = counted_handle(alloc, count)?;
     let start = Instant::now(rt)?;
-    let body = handle_text(rt.alloc(), &handle)?;
-    crate::tell(rt, &start)?;
+    let body = handle_text(alloc, &handle)?;
+    times::tell(rt, &start)?;
     let start = Instant::now(rt)?;
-    let found = handle_of(rt.alloc(), body.as_str()).is_ok();
-    crate::tell(rt, &start)?;
+    let found = is_read(alloc, body.as_str());
+    times::tell(rt, &start)?;
     let bytes = body.len();
-    println!(rt; "printed {count} counts, {bytes} bytes, read: {found}")
+    Ok(format!(in alloc; "printed {count} counts, {bytes} bytes, read: {found}")?)
+}
+
+fn is_read(alloc: Global, body: &str) -> bool {
+    handle_of(alloc, body).is_ok()
 }
 
 fn counted_handle(alloc: Global, count: u32) -> Result<Handle, AllocError> {

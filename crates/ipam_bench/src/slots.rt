@@ -1,7 +1,10 @@
+use crate::times;
 use ipam_addr::{Addr, Cidr, Family, cidr};
 use ipam_reserve::{Reservation, Reserved};
 use ipam_text::{Seq, Text};
 use std::alloc::{AllocError, Global};
+use std::io;
+use std::time::{Clock, Instant};
 
 /// How many reservations there are, and how many CIDRs each has.
 const RESERVATIONS: u32 = 256;
@@ -14,8 +17,22 @@ const STEP: u128 = 1 << 82;
 /// The prefix of a slot.
 const SLOT: u8 = 122;
 
+/// Asks this often for the next slot with room past reserved CIDRs of this prefix.
+pub fn next_slots<R: Clock + Eprint>(
+    rt: &R,
+    alloc: Global,
+    count: u32,
+    prefix: u8,
+) -> io::Result<String> {
+    let reserved = reserved(alloc, prefix)?;
+    let start = Instant::now(rt)?;
+    let sum = sum_of_slots(&reserved, count);
+    times::tell(rt, &start)?;
+    Ok(format!(in alloc; "found {count} slots, sum {sum}")?)
+}
+
 /// 16,384 reserved CIDRs of this prefix, one at the beginning of each /46 of the pool.
-pub fn reserved(alloc: Global, prefix: u8) -> Result<Reserved, AllocError> {
+fn reserved(alloc: Global, prefix: u8) -> Result<Reserved, AllocError> {
     let mut list = Vec::new(alloc);
     for number in 0..RESERVATIONS {
         let cidrs = reserved_cidrs(alloc, number, prefix)?;
@@ -51,7 +68,7 @@ fn cidr_at(offset: u128, prefix: u8) -> Option<Cidr> {
 
 /// Asks this often for the next slot with room, from each of the reserved CIDRs on in turn, and
 /// adds what the numbers end in.
-pub fn sum_of_slots(reserved: &Reserved, count: u32) -> u64 {
+fn sum_of_slots(reserved: &Reserved, count: u32) -> u64 {
     let Some(pool) = cidr_at(0, 32) else {
         return 0;
     };

@@ -5,7 +5,7 @@ ghost use Rattle.ipam_store.specs.AlwaysSound.{IsSoundCall};
 ghost use Rattle.std.proofs.Props.{props};
 
 use crate::draws::Draws;
-use crate::tell;
+use crate::times;
 use ipam_addr::{Cidr, is_handle_id, read_cidr};
 use ipam_handle::Handle;
 use ipam_records::{Call, Key, Record, Reply, Write};
@@ -13,7 +13,7 @@ use ipam_store::Store;
 use ipam_text::{Seq, Text};
 use std::alloc::{AllocError, Global};
 use std::io;
-use std::time::Instant;
+use std::time::{Clock, Instant};
 
 /// The order in which rows are created, by their keys.
 #[derive(Clone, Copy)]
@@ -31,27 +31,47 @@ struct Fresh {
 }
 
 /// Asks this often for one of as many handles, in random order.
-pub fn get_rows(rt: &HostRuntime, count: u32, rows: u32) -> io::Result<()> {
-    let alloc = rt.alloc();
-    let mut store = Store::new(alloc, 0);
-    create_all(&mut store, fresh_handles(alloc, rows, Order::Ascending)?)?;
+pub fn get_rows<R: Clock + Eprint>(
+    rt: &R,
+    alloc: Global,
+    count: u32,
+    rows: u32,
+) -> io::Result<String> {
+    let store = created(alloc, fresh_handles(alloc, rows, Order::Ascending)?)?;
     let calls = get_calls(alloc, rows)?;
     let start = Instant::now(rt)?;
     let sum = sum_of_revisions(&store, &calls, count);
-    tell(rt, &start)?;
-    println!(rt; "got {count} of {rows} rows, sum {sum}")
+    times::tell(rt, &start)?;
+    Ok(format!(in alloc; "got {count} of {rows} rows, sum {sum}")?)
 }
 
 /// Creates as many handles, of which each is asked for, granted and applied.
-pub fn create_rows(rt: &HostRuntime, count: u32, order: Order) -> io::Result<()> {
-    let alloc = rt.alloc();
-    let mut store = Store::new(alloc, 0);
+pub fn create_rows<R: Clock + Eprint>(
+    rt: &R,
+    alloc: Global,
+    count: u32,
+    order: Order,
+) -> io::Result<String> {
     let handles = fresh_handles(alloc, count, order)?;
     let start = Instant::now(rt)?;
-    create_all(&mut store, handles)?;
-    tell(rt, &start)?;
+    let store = created(alloc, handles)?;
+    times::tell(rt, &start)?;
     let (rows, counter) = (store.rows(), store.counter());
-    println!(rt; "created {rows} rows, counter {counter}")
+    Ok(format!(in alloc; "created {rows} rows, counter {counter}")?)
+}
+
+/// A store of these handles alone. In a box, since a store that a function drops itself is dear to check.
+fn created(alloc: Global, handles: Vec<Fresh>) -> Result<Box<Store>, AllocError> {
+    let mut store = new_store(alloc)?;
+    create_all(&mut store, handles)?;
+    Ok(store)
+}
+
+fn new_store(alloc: Global) -> Result<Box<Store>, AllocError> {
+    match Box::new(alloc, Store::new(alloc, 0)) {
+        Ok(store) => Ok(store),
+        Err(_) => Err(AllocError),
+    }
 }
 
 /// The numbers below this one in this order.

@@ -1,104 +1,129 @@
-//! Threads that ask for addresses.
-ghost use Rattle.std.specs.Prelude.{◌≡◌, ◌+◌, ◌*◌, ◌-◌, IfSome};
+// What one pass does among many.
+ghost use Rattle.std.specs.Prelude.{◌≡◌};
 ghost use Rattle.ipam_model.specs.SoundRequest.{IsSoundRequest};
-ghost use Rattle.atomic_table.specs.Seated.{TableId};
-ghost use denote.Param.Send.{IsSync};
 
-use crate::requests::{add, del, given, run};
+use crate::passes::{Turned, begin, finish, run, turn};
+use crate::requests;
+use crate::two::given;
 use ipam_addr::Addr;
-use ipam_keeper::MemoryKeeper;
-use ipam_model::{Answer, Request};
+use ipam_keeper::Keeper;
+use ipam_model::Request;
 use ipam_shared::{Pass, Shared};
 use std::alloc::{AllocError, Global};
 use std::sync::Wait;
-use std::thread::{Threads, join};
+
+/// 1,024 addresses in blocks of 16.
+pub const MANY: &str =
+    r#"{"pools":[{"blockSize":28,"cidr":"10.0.0.0/22","disabled":false,"name":"p"}]}"#;
 
 /// How often a DEL is asked for that is not answered.
 const MOST_TRIES: u32 = 40;
 
-/// An address that a handle was given, and whether it was given back since.
+/// What each pass does.
 #[derive(Clone, Copy)]
-pub(crate) struct Grant {
-    pub(crate) slot: u8,
-    pub(crate) number: u32,
-    pub(crate) address: Addr,
-    pub(crate) is_deleted: bool,
+pub enum Job {
+    /// So many handles ask for an address each.
+    Grants(u32),
+    /// So many turns are taken, of ADDs and DELs of one handle.
+    Turns(u32),
 }
 
-/// The handle with this number of those that are asked for in this slot.
-pub(crate) fn handle_of(alloc: Global, slot: u8, number: u32) -> Result<String, AllocError> {
-    format!(in alloc; "n.s{slot}x{number}")
+/// An address that a handle was given, and whether it was given back since.
+#[derive(Clone, Copy)]
+pub struct Grant {
+    pub slot: u8,
+    pub number: u32,
+    pub address: Addr,
+    pub is_deleted: bool,
 }
 
 /// A pass, and what came of the requests that were made by it.
 #[derive(Drop)]
-pub(crate) struct Worked {
-    pub(crate) pass: Pass,
-    pub(crate) grants: Vec<Grant>,
+pub struct Worked {
+    pub pass: Pass,
+    pub grants: Vec<Grant>,
     /// How many ADDs were not answered an address.
-    pub(crate) failed: u32,
+    pub failed: u32,
     /// How many handles could not be deleted, or were not asked for since there was no memory.
-    pub(crate) lost: u32,
+    pub lost: u32,
+    /// How many turns were taken.
+    pub turns: u64,
 }
 
-/// Gives back what the handle holds, and says whether that was answered.
-fn give_back<R: Wait>(
+/// The handle with this number of those that are asked for in this slot.
+pub fn handle_of(alloc: Global, slot: u8, number: u32) -> Result<String, AllocError> {
+    format!(in alloc; "n.s{slot}x{number}")
+}
+
+/// Does the job by the pass.
+pub fn work<R: Wait, D: Keeper>(
     rt: &R,
     alloc: Global,
-    shared: &Shared<MemoryKeeper>,
-    pass: &mut Pass,
-    handle: &str,
-) -> bool
-    requires { pass.old.lock ≡ shared.now }
-    ensures { pass.new.lock ≡ pass.old.lock }
+    shared: &Shared<D>,
+    pass: Pass,
+    job: Job,
+) -> Worked
+    requires { pass.lock ≡ shared.now }
+    ensures { result.pass.lock ≡ shared.now }
 {
-    match del(alloc, handle) {
-        Some(request) => delete(rt, alloc, shared, pass, &request),
-        None => false,
+    match job {
+        Job::Grants(count) => ask_all(rt, alloc, shared, pass, count),
+        Job::Turns(count) => take_all(rt, alloc, shared, pass, count),
     }
 }
 
-/// Asks for the deletion until it is answered, and says whether it was.
-fn delete<R: Wait>(
+fn ask_all<R: Wait, D: Keeper>(
     rt: &R,
     alloc: Global,
-    shared: &Shared<MemoryKeeper>,
-    pass: &mut Pass,
-    request: &Request,
-) -> bool
-    requires lock { pass.old.lock ≡ shared.now }
-    requires sound { IsSoundRequest request.now }
-    ensures { pass.new.lock ≡ pass.old.lock }
+    shared: &Shared<D>,
+    pass: Pass,
+    count: u32,
+) -> Worked
+    requires { pass.lock ≡ shared.now }
+    ensures { result.pass.lock ≡ shared.now }
 {
-    for _ in 0..MOST_TRIES {
-        if let Some(Answer::Deleted(_)) = run(rt, alloc, shared, pass, request) {
-            return true;
+    let mut worked = Worked {
+        pass,
+        grants: Vec::new(alloc),
+        failed: 0,
+        lost: 0,
+        turns: 0,
+    };
+    for number in 0..count {
+        if ask_once(rt, alloc, shared, &mut worked, number).is_none() {
+            worked.lost = worked.lost.wrapping_add(1);
         }
     }
-    false
+    worked
 }
 
-/// Asks for an address. Two slots have one node, so they race for its blocks.
-fn ask<R: Wait>(
+fn take_all<R: Wait, D: Keeper>(
     rt: &R,
     alloc: Global,
-    shared: &Shared<MemoryKeeper>,
-    pass: &mut Pass,
-    handle: &str,
-) -> Option<Addr>
-    requires { pass.old.lock ≡ shared.now }
-    ensures { pass.new.lock ≡ pass.old.lock }
+    shared: &Shared<D>,
+    mut pass: Pass,
+    count: u32,
+) -> Worked
+    requires { pass.lock ≡ shared.now }
+    ensures { result.pass.lock ≡ shared.now }
 {
-    let request = add(alloc, pass.slot() / 2, handle)?;
-    given(&run(rt, alloc, shared, pass, &request))
+    let turns = made_turns(rt, alloc, shared, &mut pass, count);
+    finish(rt, alloc, shared, &mut pass);
+    Worked {
+        pass,
+        grants: Vec::new(alloc),
+        failed: 0,
+        lost: 0,
+        turns,
+    }
 }
 
 /// One handle asks for an address. Each second one gives it back, and so does one that was not given
 /// any, since a part of it may be recorded. None where that was not answered.
-fn work_once<R: Wait>(
+fn ask_once<R: Wait, D: Keeper>(
     rt: &R,
     alloc: Global,
-    shared: &Shared<MemoryKeeper>,
+    shared: &Shared<D>,
     worked: &mut Worked,
     number: u32,
 ) -> Option<()>
@@ -125,32 +150,135 @@ fn work_once<R: Wait>(
     worked.grants.push(grant).ok()
 }
 
-fn work<R: Wait>(
+/// Asks for an address. Two slots have one node, so they race for its blocks.
+fn ask<R: Wait, D: Keeper>(
     rt: &R,
     alloc: Global,
-    shared: &Shared<MemoryKeeper>,
-    pass: Pass,
-    count: u32,
-) -> Worked
-    requires { pass.lock ≡ shared.now }
-    ensures { result.pass.lock ≡ shared.now }
+    shared: &Shared<D>,
+    pass: &mut Pass,
+    handle: &str,
+) -> Option<Addr>
+    requires { pass.old.lock ≡ shared.now }
+    ensures { pass.new.lock ≡ pass.old.lock }
 {
-    let mut worked = Worked {
-        pass,
-        grants: Vec::new(alloc),
-        failed: 0,
-        lost: 0,
-    };
-    for number in 0..count {
-        if work_once(rt, alloc, shared, &mut worked, number).is_none() {
-            worked.lost = worked.lost.wrapping_add(1);
+    match requests::add(alloc, pass.slot() / 2, handle) {
+        Some(request) => given(run(rt, alloc, shared, pass, &request)),
+        None => None,
+    }
+}
+
+/// Gives back what the handle holds, and says whether that was answered.
+fn give_back<R: Wait, D: Keeper>(
+    rt: &R,
+    alloc: Global,
+    shared: &Shared<D>,
+    pass: &mut Pass,
+    handle: &str,
+) -> bool
+    requires { pass.old.lock ≡ shared.now }
+    ensures { pass.new.lock ≡ pass.old.lock }
+{
+    match requests::del(alloc, handle) {
+        Some(request) => delete(rt, alloc, shared, pass, &request),
+        None => false,
+    }
+}
+
+/// Asks for the deletion until it is answered, and says whether it was.
+fn delete<R: Wait, D: Keeper>(
+    rt: &R,
+    alloc: Global,
+    shared: &Shared<D>,
+    pass: &mut Pass,
+    request: &Request,
+) -> bool
+    requires lock { pass.old.lock ≡ shared.now }
+    requires sound { IsSoundRequest request.now }
+    ensures { pass.new.lock ≡ pass.old.lock }
+{
+    for _ in 0..MOST_TRIES {
+        if matches!(run(rt, alloc, shared, pass, request), Turned::Deleted) {
+            return true;
         }
     }
-    worked
+    false
+}
+
+/// How many of so many turns were made, by ADDs and DELs of one handle. The last one may still run.
+fn made_turns<R: Wait, D: Keeper>(
+    rt: &R,
+    alloc: Global,
+    shared: &Shared<D>,
+    pass: &mut Pass,
+    turns: u32,
+) -> u64
+    requires { pass.old.lock ≡ shared.now }
+    ensures { pass.new.lock ≡ pass.old.lock }
+{
+    let slot = pass.slot();
+    let Ok(handle) = handle_of(alloc, slot, 0) else {
+        return 0;
+    };
+    match (
+        requests::add(alloc, slot, handle.as_str()),
+        requests::del(alloc, handle.as_str()),
+    ) {
+        (Some(add), Some(del)) => take(rt, alloc, shared, pass, &add, &del, turns),
+        _ => 0,
+    }
+}
+
+fn take<R: Wait, D: Keeper>(
+    rt: &R,
+    alloc: Global,
+    shared: &Shared<D>,
+    pass: &mut Pass,
+    add: &Request,
+    del: &Request,
+    turns: u32,
+) -> u64
+    requires lock { pass.old.lock ≡ shared.now }
+    requires add { IsSoundRequest add.now }
+    requires del { IsSoundRequest del.now }
+    ensures { pass.new.lock ≡ pass.old.lock }
+{
+    let mut made = 0u64;
+    let mut adds = true;
+    for _ in 0..turns {
+        let is_idle = !pass.running();
+        made = made.wrapping_add(u64::from(go_on(rt, alloc, shared, pass, add, del, adds)));
+        adds = adds != is_idle;
+    }
+    made
+}
+
+/// Takes the next turn of what runs in the pass's slot, or begins one of the two requests where nothing
+/// does, and says whether it could.
+fn go_on<R: Wait, D: Keeper>(
+    rt: &R,
+    alloc: Global,
+    shared: &Shared<D>,
+    pass: &mut Pass,
+    add: &Request,
+    del: &Request,
+    adds: bool,
+) -> bool
+    requires lock { pass.old.lock ≡ shared.now }
+    requires add { IsSoundRequest add.now }
+    requires del { IsSoundRequest del.now }
+    ensures { pass.new.lock ≡ pass.old.lock }
+{
+    if pass.running() {
+        !matches!(turn(rt, alloc, shared, pass), Turned::Nothing)
+    } else if adds {
+        begin(rt, alloc, shared, pass, add)
+    } else {
+        begin(rt, alloc, shared, pass, del)
+    }
 }
 
 /// What both did. The other's pass is joined, where nothing runs in its slot.
-fn both(shared: &Shared<MemoryKeeper>, mut worked: Worked, other: Worked) -> Worked
+pub fn both<D: Keeper>(shared: &Shared<D>, mut worked: Worked, other: Worked) -> Worked
     requires worked { worked.pass.lock ≡ shared.now }
     requires other { other.pass.lock ≡ shared.now }
     ensures { result.pass.lock ≡ shared.now }
@@ -160,102 +288,16 @@ fn both(shared: &Shared<MemoryKeeper>, mut worked: Worked, other: Worked) -> Wor
         grants,
         failed,
         lost,
+        turns,
     } = other;
     if !pass.running() {
         shared.join(&mut worked.pass, pass);
     }
     worked.failed = worked.failed.wrapping_add(failed);
     worked.lost = worked.lost.wrapping_add(lost);
+    worked.turns = worked.turns.wrapping_add(turns);
     if worked.grants.extend_from_slice(grants.as_slice()).is_err() {
         worked.lost = worked.lost.wrapping_add(1);
     }
     worked
-}
-
-/// What workers share. Threads are started for any of these, so that it is shown apart from them that a
-/// shared cluster may be used by many.
-pub(crate) trait Works {
-    /// The lock whose passes these are.
-    ghost id: { Self → TableId };
-
-    /// Splits off a pass, where there is one left.
-    fn split_off(&self, pass: &mut Pass) -> Option<Pass>
-        requires own { pass.old.lock ≡ id self.now }
-        ensures own { pass.new.lock ≡ pass.old.lock }
-        ensures other { IfSome result (λ other. other.lock ≡ id self.now) };
-
-    /// Asks for so many addresses by the pass.
-    fn work<R: Wait>(&self, rt: &R, alloc: Global, pass: Pass, count: u32) -> Worked
-        requires { pass.lock ≡ id self.now }
-        ensures { result.pass.lock ≡ id self.now };
-
-    /// What both did. The other's pass is joined, where nothing runs in its slot.
-    fn both(&self, worked: Worked, other: Worked) -> Worked
-        requires worked { worked.pass.lock ≡ id self.now }
-        requires other { other.pass.lock ≡ id self.now }
-        ensures { result.pass.lock ≡ id self.now };
-}
-
-impl Works for Shared<MemoryKeeper> {
-    ghost id = { λ shared. shared };
-
-    fn split_off(&self, pass: &mut Pass) -> Option<Pass> {
-        self.split(pass)
-    }
-
-    fn work<R: Wait>(&self, rt: &R, alloc: Global, pass: Pass, count: u32) -> Worked {
-        work(rt, alloc, self, pass, count)
-    }
-
-    fn both(&self, worked: Worked, other: Worked) -> Worked {
-        both(self, worked, other)
-    }
-}
-
-/// Splits off `others` passes, and asks for so many addresses with each pass, in a thread of its own.
-fn spread<R: Threads + Wait + Sync, S: Works + Sync>(
-    rt: &R,
-    alloc: Global,
-    shared: &S,
-    mut pass: Pass,
-    others: u32,
-    count: u32,
-) -> Worked
-    requires { pass.lock ≡ S.id shared.now }
-    ensures { result.pass.lock ≡ S.id shared.now }
-{
-    if others == 0 {
-        return shared.work(rt, alloc, pass, count);
-    }
-    let Some(other) = shared.split_off(&mut pass) else {
-        return shared.work(rt, alloc, pass, count);
-    };
-    let more = others - 1;
-    let (worked, other) = join(
-        rt,
-        move || -> Worked
-            requires { IsSync R.row × IsSync S.row × (pass.lock ≡ S.id shared.now) }
-            ensures { result.pass.lock ≡ S.id shared.entry.now }
-        { spread(rt, alloc, shared, pass, more, count) },
-        move || -> Worked
-            requires { IsSync R.row × (other.lock ≡ S.id shared.now) }
-            ensures { result.pass.lock ≡ S.id shared.entry.now }
-        { shared.work(rt, alloc, other, count) },
-    );
-    shared.both(worked, other)
-}
-
-/// This thread and so many others, each with a pass of its own, ask for so many addresses each.
-pub(crate) fn work_all<R: Threads + Wait + Sync>(
-    rt: &R,
-    alloc: Global,
-    shared: &Shared<MemoryKeeper>,
-    pass: Pass,
-    others: u32,
-    count: u32,
-) -> Worked
-    requires { pass.lock ≡ shared.now }
-    ensures { result.pass.lock ≡ shared.now }
-{
-    spread(rt, alloc, shared, pass, others, count)
 }

@@ -1,5 +1,0 @@
-//! Tests of a cluster near its last entry.
-#![tactic(auto)]
-
-#[cfg(test)]
-mod worn;
