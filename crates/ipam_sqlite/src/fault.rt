@@ -16,7 +16,8 @@ pub enum StorageFault {
     /// What has the name is a folder, a device, a pipe or a link that leads nowhere, or the name is
     /// none of a file.
     NotAFile,
-    /// The file is no database, is damaged, or is of a kind that is not read.
+    /// The file is no database, is damaged, has rows that break its own tables, or is of a kind that is not
+    /// read.
     NotADatabase,
     /// The table `rows` is there, and of another shape.
     OtherShape,
@@ -49,7 +50,8 @@ impl fmt::Display for StorageFault {
             StorageFault::NoPermission =>
                 "no permission to read and write the database file and its log, or to make them in their folder",
             StorageFault::NotAFile => "this is the name of no regular file",
-            StorageFault::NotADatabase => "the file is no SQLite database, or it is damaged",
+            StorageFault::NotADatabase =>
+                "the file is no SQLite database, is damaged, or has rows that break its own tables",
             StorageFault::OtherShape =>
                 "its table rows is not rows(key TEXT PRIMARY KEY, revision INTEGER NOT NULL, body TEXT NOT NULL)",
             StorageFault::NoTable => "the file is not new, and it has no table rows",

@@ -1,10 +1,10 @@
 //! Scripts over a keeper and its files.
 use crate::stock::stock;
 use ipam_keeper::{KeepFault, Keeper, Row};
-use ipam_sqlite::{FileKeeper, SqliteKeeper};
+use ipam_sqlite::{FileKeeper, SqliteKeeper, StorageFault};
 use std::alloc::{AllocError, Global};
 use std::os::unix::fs::{MetadataExt, symlink};
-use std::{fmt, fs, io};
+use std::{fs, io};
 
 /// Plays the script over the keeper of the file `db`, and answers what is told of each line.
 ///
@@ -93,7 +93,7 @@ pub(crate) fn again(rt: &HostRuntime, told: &mut String) -> Result<(), AllocErro
 }
 
 /// Appends why a keeper failed.
-pub(crate) fn tell_why<F: fmt::Debug>(told: &mut String, why: Option<F>) -> Result<(), AllocError> {
+pub(crate) fn tell_why(told: &mut String, why: Option<StorageFault>) -> Result<(), AllocError> {
     let alloc = *told.allocator();
     match why {
         Some(fault) => told.push_str(format!(in alloc; " {fault:?}")?.as_str()),

@@ -56,7 +56,7 @@ const KEPT: [Case; 6] = [
     ),
 ];
 
-const REFUSED: [Case; 9] = [
+const REFUSED: [Case; 10] = [
     (
         Kind::New,
         "write db words",
@@ -65,15 +65,21 @@ const REFUSED: [Case; 9] = [
     ),
     (
         Kind::Open,
-        "stock db rows TEXT   ",
+        "stock db rows NUMERIC",
         "load; remove a",
-        "failed; failed OtherShape | failed OtherShape | 0",
+        "failed; failed OtherShape | failed OtherShape | 41",
+    ),
+    (
+        Kind::Open,
+        "stock db rows TEXT   ",
+        "load",
+        "failed NotADatabase | failed NotADatabase | 41",
     ),
     (
         Kind::New,
         "stock db rowz",
         "load; put a 1 x",
-        "failed; failed NoTable | failed NoTable | 0",
+        "failed; failed NoTable | failed NoTable | 41",
     ),
     (
         Kind::New,
@@ -175,7 +181,7 @@ const READ: [Case; 4] = [
         Kind::Reader,
         "stock db rowz",
         "load",
-        "failed NoTable | failed NoTable | 0",
+        "failed NoTable | failed NoTable | 41",
     ),
 ];
 
