@@ -1,5 +1,5 @@
 #!/usr/bin/env python3
-"""Tries the program over database files: damaged, locked, of another shape, and left by a program that
+"""Tries the program over database files: damaged, locked, of another shape or mode, and left by a program that
 was killed, or that failed, at each of its writes.
 
     tools/database_files.py [PROGRAM]        else release/ipam
@@ -15,10 +15,12 @@ import random
 import resource
 import shutil
 import signal
+import socket
 import sqlite3
 import subprocess
 import sys
 import tempfile
+import time
 
 HERE = os.path.dirname(os.path.abspath(__file__))
 PROGRAM = os.path.abspath(sys.argv[1]) if len(sys.argv) > 1 else os.path.join(HERE, "../release/ipam")
@@ -43,16 +45,20 @@ POOL = row("'pools'", 1, f"'{POOLS}'")
 
 # How the file was made, and how `get`, and an `apply` of one more reservation, end over it.
 SHAPES = [
-    ("a file without a table", ["pragma user_version = 1"], DONE, DONE),
+    ("a file without a table", ["pragma user_version = 1"], KEEPER, KEEPER),
+    ("a file whose table was dropped", [TABLE, POOL, "drop table rows", "vacuum"], KEEPER, KEEPER),
+    ("a file of another table", ["create table other(a)"], KEEPER, KEEPER),
     ("a table without rows", [TABLE], DONE, DONE),
     ("a row", [TABLE, POOL], DONE, DONE),
     ("another table beside it", [TABLE, POOL, "create table other(a)", "insert into other values(1)"], DONE, DONE),
-    ("one more column", [TABLE.replace(")", ", more TEXT)"), POOL], DONE, DONE),
-    ("a strict table", [TABLE + " STRICT", POOL], DONE, DONE),
+    ("the same table in other letters", ["Create Table ROWS ( Key text primary key,\n revision integer NOT NULL, body TEXT not null )", POOL], DONE, DONE),
+    ("one more column", [TABLE.replace(")", ", more TEXT)"), POOL], KEEPER, KEEPER),
+    ("a strict table", [TABLE + " STRICT", POOL], KEEPER, KEEPER),
+    ("revisions of text", [TABLE.replace("revision INTEGER", "revision TEXT")], KEEPER, KEEPER),
     ("pages of 512 bytes", ["pragma page_size = 512", TABLE, POOL], DONE, DONE),
     ("pages of 65,536 bytes", ["pragma page_size = 65536", TABLE, POOL], DONE, DONE),
     ("a log of SQLite's", ["pragma journal_mode = wal", TABLE, POOL], DONE, DONE),
-    ("a check that new rows break", [TABLE.replace("INTEGER NOT NULL", "INTEGER NOT NULL CHECK (revision < 2)"), POOL], DONE, KEEPER),
+    ("a table with a check", [TABLE.replace("INTEGER NOT NULL", "INTEGER NOT NULL CHECK (revision < 2)"), POOL], KEEPER, KEEPER),
     ("the last revision", [TABLE, row("'pools'", 2**62, f"'{NONE}'")], DONE, REFUSED),
     ("the revision 0", [TABLE, row("'pools'", 0, f"'{NONE}'")], RULES, RULES),
     ("a revision above the last", [TABLE, row("'pools'", 2**62 + 1, f"'{NONE}'")], RULES, RULES),
@@ -182,10 +188,10 @@ def fault_over(tally, case, path, **more):
     tally.check(f"{case}, cni", is_code, got)
 
 
-def cni(path, command, **more):
+def cni(path, command, words=(), **more):
     conf = {"cniVersion": "1.0.0", "name": "n", "type": "calico", "nodename": "a", "ipam": {"type": "calico-ipam"}}
     env = {"CNI_COMMAND": command, "CNI_CONTAINERID": "c1", "CNI_NETNS": "/n", "CNI_IFNAME": "eth0", "CNI_PATH": "/"}
-    return run(path, [], json.dumps(conf).encode(), env=env, **more)
+    return run(path, list(words), json.dumps(conf).encode(), env=env, **more)
 
 
 def places(tally, folder):
@@ -217,6 +223,74 @@ def places(tally, folder):
     tally.check("a folder for a log", len(rows_of(log)) == 1, "other rows")
 
 
+def names(tally, folder):
+    """A second name, a log without its file, and a name that leads nowhere."""
+    second = os.path.join(folder, "second.db")
+    make(second, [TABLE, POOL])
+    os.link(second, second + ".other")
+    fault_over(tally, "a hard link", second)
+    os.unlink(second + ".other")
+    tally.check("no hard link", run(second, ["get"]).returncode == DONE, "refused")
+    alone = os.path.join(folder, "alone.db")
+    got = killed(alone)
+    tally.check("a killed daemon", got.returncode == DONE and len(rows_of(alone)) > 1, f"{got} {rows_of(alone)}")
+    os.unlink(alone)
+    fault_over(tally, "a log without its file", alone)
+    tally.check("a log without its file", not os.path.exists(alone), "a file was made")
+    lost = os.path.join(folder, "lost.db")
+    os.symlink("nowhere.db", lost)
+    fault_over(tally, "a link that leads nowhere", lost)
+
+
+def killed(path):
+    """A file whose last rows are in its log, since the program was killed: those of one address."""
+    make(path, [TABLE, POOL])
+    held, address = holder(path)
+    for _ in range(100):
+        got = cni(path, "ADD", words=["call", address])
+        if got.returncode == DONE:
+            break
+        time.sleep(0.05)
+    let_go(held)
+    return got
+
+
+def folded(tally, folder):
+    """A file that is copied without its log, once the program has ended."""
+    path = os.path.join(folder, "folded.db")
+    for words, given in ((["apply"], ONE_MORE), (["get"], b"")):
+        tally.check("folded", run(path, words, given).returncode == DONE, words)
+        copy = path + ".copy"
+        shutil.copyfile(path, copy)
+        tally.check(f"a copy without its log after {words[0]}", names_of(rows_of(copy)) == ["r"], rows_of(copy))
+        os.unlink(copy)
+
+
+def modes(tally, folder):
+    """What the program makes has one mode, whatever the mask."""
+    for mask in (0o000, 0o022, 0o077):
+        path = os.path.join(folder, f"mask{mask}.db")
+        got = run(path, ["apply"], ONE_MORE, umask=mask)
+        found = [oct(os.stat(path + end).st_mode & 0o7777) for end in ("", "-wal")]
+        tally.check(f"mask {mask:o}", got.returncode == DONE and found == ["0o640", "0o640"], found)
+
+
+def untouched(tally, folder):
+    """Commands that need no database, or only look, make none."""
+    for at, (words, given, env, status) in enumerate([
+        (["get"], b"", {}, DONE),
+        (["routes", "a"], b"", {}, DONE),
+        (["audit", "1"], b"", {}, DONE),
+        (["nonsense"], b"", {}, 2),
+        ([], b'{"cniVersion":"1.0.0"}', {"CNI_COMMAND": "VERSION"}, DONE),
+        ([], b"{", {"CNI_COMMAND": "ADD"}, REFUSED),
+    ]):
+        path = os.path.join(folder, f"untouched{at}.db")
+        got = run(path, words, given, env=env)
+        left = [it for it in os.listdir(folder) if it.startswith(f"untouched{at}.")]
+        tally.check(f"no file for {words} {env}", got.returncode == status and not left, f"{left} {got}")
+
+
 def rights(tally, folder):
     """A file, and a folder, that the program may only read."""
     if os.geteuid() == 0:
@@ -239,12 +313,20 @@ def rights(tally, folder):
 
 
 def holder(path):
-    """A program that has the file, and waits for its input."""
+    """A daemon that has the file, and its address."""
+    with socket.socket() as found:
+        found.bind(("127.0.0.1", 0))
+        address = "127.0.0.1:%d" % found.getsockname()[1]
     env = {"IPAM_DB": path}
-    held = subprocess.Popen([PROGRAM, "apply"], env=env, stdin=subprocess.PIPE, stdout=subprocess.PIPE)
+    held = subprocess.Popen([PROGRAM, "serve", address, "1"], env=env, stdout=subprocess.PIPE, stderr=subprocess.DEVNULL)
     while held.poll() is None and f"{os.path.realpath(path)}-wal" not in files_of(held.pid):
         pass
-    return held
+    return held, address
+
+
+def let_go(held):
+    held.send_signal(signal.SIGKILL)
+    held.communicate()
 
 
 def files_of(pid):
@@ -255,13 +337,10 @@ def files_of(pid):
 def locks(tally, folder):
     path = os.path.join(folder, "locked.db")
     make(path, [TABLE, POOL])
-    held = holder(path)
+    run(path, ["apply"], ONE_MORE)
+    held, _ = holder(path)
     fault_over(tally, "locked by the program", path)
-    output, _ = held.communicate(ONE_MORE)
-    tally.check("the program that has the file", held.returncode == DONE and told_names(output) == ["r"], output)
-    held = holder(path)
-    held.send_signal(signal.SIGKILL)
-    held.communicate()
+    let_go(held)
     tally.check("a killed program's lock", run(path, ["get"]).returncode == DONE, "not free")
     for begin in ("begin exclusive", "begin immediate", "begin"):
         conn = sqlite3.connect(path, isolation_level=None)
@@ -381,6 +460,10 @@ def main():
         os.mkdir(folder)
         shapes(tally, folder)
         places(tally, folder)
+        names(tally, folder)
+        folded(tally, folder)
+        modes(tally, folder)
+        untouched(tally, folder)
         rights(tally, folder)
         locks(tally, folder)
         stopped_sqlite(tally, folder)

@@ -1,3 +1,4 @@
 -- What is known of a keeper over a file.
-pub mod Opened
+pub mod Answers
+pub mod Known
 pub mod Order

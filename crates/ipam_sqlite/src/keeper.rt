@@ -1,103 +1,90 @@
-//! The keeper, its file and its statements.
+//! The keeper over a database that is opened at once.
 ghost use Rattle.std.specs.Prelude.{◌≡◌, ◌≤◌, Err, None, IfOk, IfSome};
 ghost use Rattle.ipam_io.specs.Counts.{next_count};
 ghost use Rattle.ipam_keeper.specs.Rows.{Ascend};
 ghost use Rattle.ipam_keeper.specs.Keeping.{OnFailed, UnlessFailed};
-ghost use Rattle.ipam_sqlite.specs.Opened.{faults_of, unopened};
+ghost use Rattle.ipam_sqlite.specs.Known.{faults_of, unopened};
+ghost use Rattle.ipam_sqlite.specs.Answers.{answer_of};
 
-use crate::loading::{fault_of, load_rows};
+use crate::fault::{StorageFault, Trouble};
+use crate::opened::Opened;
+use crate::opening::{Aim, open_database};
+use crate::tally::Tally;
 use ipam_keeper::{KeepFault, Keeper, Row};
-use sqlite::types::ValueRef;
-use sqlite::{Alter, Connection, File, FileStore, params};
+use sqlite::{Alter, File, FileStore};
 use std::alloc::Global;
-use std::rt::HostRuntime;
-
-const MAKE_TABLE: &str =
-    "CREATE TABLE IF NOT EXISTS rows(key TEXT PRIMARY KEY, revision INTEGER NOT NULL, body TEXT NOT NULL)";
-
-const PUT: &str =
-    "INSERT INTO rows(key, revision, body) VALUES (?1, ?2, ?3) ON CONFLICT(key) DO UPDATE SET revision = excluded.revision, body = excluded.body";
-
-const REMOVE: &str = "DELETE FROM rows WHERE key = ?1";
 
 /// A keeper over the table `rows(key TEXT PRIMARY KEY, revision INTEGER NOT NULL, body TEXT NOT
-/// NULL)` of a store. It does not tell its rows.
+/// NULL)` of a database file. It does not tell its rows.
 ///
-/// Each change is committed, and on the disk, before its call answers. Every refusal of a
-/// statement but want of memory is a fault.
+/// Each change is committed, and on the disk, before its call answers. Each refusal but want of
+/// memory is a fault. Before and after each change the names of the file and its log are looked at:
+/// where one of them no longer leads to the file that was opened, this call and all later ones fail.
 pub struct SqliteKeeper<S: Alter> {
-    conn: Result<Connection<S>, KeepFault>,
-    faults: u64,
+    opened: Result<Opened<S>, Trouble>,
+    tally: Tally,
     alloc: Global,
 }
 
 impl<S: Alter + Drop> Drop for SqliteKeeper<S> {
     fn drop(self) {
         let SqliteKeeper {
-            conn: _,
-            faults: _,
+            opened: _,
+            tally: _,
             alloc: _,
         } = self;
     }
 }
 
 impl SqliteKeeper<FileStore<File>> {
-    /// Opens the file, or makes it, and makes the table where there is none. The file is locked
-    /// while the keeper is there, so a second one on the same file is refused.
+    /// Opens the file, or makes it with the mode 0640 and its table. The file is locked while the
+    /// keeper is there, so a second one on the same file is refused.
     ///
     /// Where this finds no memory, each call answers `Memory`. Where it fails otherwise, each call
-    /// counts a fault and answers `Failed`.
+    /// counts a fault and answers `Failed`, and `why` tells the cause.
     pub fn open(rt: &HostRuntime, path: &str) -> SqliteKeeper<FileStore<File>>
         ensures { faults_of result ≡ 0 }
     {
+        let opened = match open_database(rt, path, Aim::Keep) {
+            Ok(Some(opened)) => Ok(opened),
+            Ok(None) => Err(Trouble::Fault(StorageFault::NoFile)),
+            Err(trouble) => Err(trouble),
+        };
         SqliteKeeper {
-            conn: open_table(rt, path),
-            faults: 0,
+            opened,
+            tally: Tally::new(),
             alloc: rt.alloc(),
         }
     }
 }
 
-fn open_table(rt: &HostRuntime, path: &str) -> Result<Connection<FileStore<File>>, KeepFault> {
-    match Connection::open(rt, path) {
-        Ok(conn) => with_table(conn),
-        Err(error) => Err(fault_of(error)),
+impl<S: Alter> SqliteKeeper<S> {
+    /// Why the file was not opened, or why the last call that failed did so. No contract speaks of it.
+    pub fn why(&self) -> Option<StorageFault> {
+        match &self.opened {
+            Err(Trouble::Fault(fault)) => Some(*fault),
+            _ => self.tally.why,
+        }
     }
 }
 
-fn with_table<S: Alter + Drop>(mut conn: Connection<S>) -> Result<Connection<S>, KeepFault> {
-    match run(&mut conn, MAKE_TABLE, &[]) {
-        Ok(()) => Ok(conn),
-        Err(fault) => Err(fault),
+impl<S: Alter + Drop> SqliteKeeper<S> {
+    /// Counts the answer of a change. Where the files are gone, they are let go, and no later call
+    /// does anything.
+    fn changed(&mut self, answer: Result<(), Trouble>) -> Result<(), KeepFault>
+        ensures answer { result ≡ answer_of answer }
+        ensures fault { OnFailed result (faults_of self.new ≡ next_count (faults_of self.old)) }
+        ensures no_fault { UnlessFailed result (faults_of self.new ≡ faults_of self.old) }
+        ensures never_falls { faults_of self.old ≤ faults_of self.new }
+    {
+        if answer == Err(Trouble::Fault(StorageFault::FileGone)) {
+            self.opened = Err(Trouble::Fault(StorageFault::FileGone));
+        }
+        self.tally.counted(answer)
     }
 }
 
-// The statements are texts: the connection compiles each once, and keeps what it compiled.
-fn run<S: Alter>(
-    conn: &mut Connection<S>,
-    sql: &str,
-    values: &[ValueRef<'_>],
-) -> Result<(), KeepFault> {
-    match conn.execute(sql, values) {
-        Ok(_) => Ok(()),
-        Err(error) => Err(fault_of(error)),
-    }
-}
-
-// A column holds no number from 2^63 on.
-fn put_row<S: Alter>(
-    conn: &mut Connection<S>,
-    key: &str,
-    revision: u64,
-    body: &str,
-) -> Result<(), KeepFault> {
-    match i64::try_from(revision) {
-        Ok(revision) => run(conn, PUT, params![key, revision, body]),
-        Err(_) => Err(KeepFault::Failed),
-    }
-}
-
-impl<S: Alter> Keeper for SqliteKeeper<S> {
+impl<S: Alter + Drop> Keeper for SqliteKeeper<S> {
     ghost rows = { λ _. None };
 
     ghost faults = { faults_of };
@@ -111,11 +98,11 @@ impl<S: Alter> Keeper for SqliteKeeper<S> {
         ensures no_fault { UnlessFailed result (faults_of self.new ≡ faults_of self.old) }
         ensures never_falls { faults_of self.old ≤ faults_of self.new }
     {
-        let answer = match &mut self.conn {
-            Ok(conn) => load_rows(conn, self.alloc),
-            Err(fault) => Err(*fault),
+        let answer = match &mut self.opened {
+            Ok(opened) => opened.rows(self.alloc),
+            Err(trouble) => Err(*trouble),
         };
-        counted(&mut self.faults, answer)
+        self.tally.counted(answer)
     }
 
     fn put(&mut self, key: &str, revision: u64, body: &str) -> Result<(), KeepFault>
@@ -124,11 +111,11 @@ impl<S: Alter> Keeper for SqliteKeeper<S> {
         ensures no_fault { UnlessFailed result (faults_of self.new ≡ faults_of self.old) }
         ensures never_falls { faults_of self.old ≤ faults_of self.new }
     {
-        let answer = match &mut self.conn {
-            Ok(conn) => put_row(conn, key, revision, body),
-            Err(fault) => Err(*fault),
+        let answer = match &mut self.opened {
+            Ok(opened) => opened.put(key, revision, body),
+            Err(trouble) => Err(*trouble),
         };
-        counted(&mut self.faults, answer)
+        self.changed(answer)
     }
 
     fn remove(&mut self, key: &str) -> Result<(), KeepFault>
@@ -137,23 +124,10 @@ impl<S: Alter> Keeper for SqliteKeeper<S> {
         ensures no_fault { UnlessFailed result (faults_of self.new ≡ faults_of self.old) }
         ensures never_falls { faults_of self.old ≤ faults_of self.new }
     {
-        let answer = match &mut self.conn {
-            Ok(conn) => run(conn, REMOVE, params![key]),
-            Err(fault) => Err(*fault),
+        let answer = match &mut self.opened {
+            Ok(opened) => opened.remove(key),
+            Err(trouble) => Err(*trouble),
         };
-        counted(&mut self.faults, answer)
+        self.changed(answer)
     }
-}
-
-// Counts an answer that is a fault.
-fn counted<T>(faults: &mut u64, answer: Result<T, KeepFault>) -> Result<T, KeepFault>
-    ensures answer { result ≡ answer }
-    ensures fault { OnFailed result (faults.new ≡ next_count faults.old) }
-    ensures no_fault { UnlessFailed result (faults.new ≡ faults.old) }
-    ensures never_falls { faults.old ≤ faults.new }
-{
-    if matches!(&answer, Err(KeepFault::Failed)) {
-        *faults = faults.saturating_add(1);
-    }
-    answer
 }

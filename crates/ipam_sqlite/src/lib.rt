@@ -1,7 +1,15 @@
 //! A keeper of rows over one table of a SQLite file.
 #![tactic(auto)]
 
+mod fault;
 mod keeper;
+mod lazy;
 mod loading;
+mod names;
+mod opened;
+mod opening;
+mod tally;
 
+pub use fault::StorageFault;
 pub use keeper::SqliteKeeper;
+pub use lazy::{FileKeeper, settle};

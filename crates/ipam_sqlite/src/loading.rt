@@ -3,35 +3,26 @@ ghost use Rattle.std.specs.Prelude.{IfOk, IsTrue};
 ghost use Rattle.ipam_keeper.specs.Rows.{Ascend};
 ghost use Rattle.ipam_sqlite.specs.Order.{IsAboveAll};
 
-use ipam_keeper::{KeepFault, Row};
+use crate::fault::{StorageFault, Trouble};
+use ipam_keeper::Row;
 use ipam_text::Text;
-use sqlite::{Alter, Connection, Error, ErrorCode, Rows};
+use sqlite::{Alter, Connection, Error, Rows};
 use std::alloc::Global;
 
 const LOAD: &str = "SELECT key, revision, body FROM rows ORDER BY key";
-
-const NO_MEMORY: Error = Error::SqliteFailure(ErrorCode::OutOfMemory);
-
-pub(crate) fn fault_of(error: Error) -> KeepFault {
-    if error == NO_MEMORY {
-        KeepFault::Memory
-    } else {
-        KeepFault::Failed
-    }
-}
 
 /// All rows. It is a fault that a row is no text, whole number and text, that its revision is
 /// negative, or that its key is not above the one before it.
 pub(crate) fn load_rows<S: Alter>(
     conn: &mut Connection<S>,
     alloc: Global,
-) -> Result<Vec<Row>, KeepFault>
+) -> Result<Vec<Row>, Trouble>
     ensures { IfOk result (λ loaded. Ascend loaded.items) }
 {
     let mut loaded = Vec::new(alloc);
     let mut rows = match conn.query(LOAD, &[]) {
         Ok(rows) => rows,
-        Err(error) => return Err(fault_of(error)),
+        Err(error) => return Err(Trouble::from(error)),
     };
     'rows: for _ in 0..u64::MAX {
         match next_row(&mut rows) {
@@ -40,19 +31,19 @@ pub(crate) fn load_rows<S: Alter>(
             Err(fault) => return Err(fault),
         }
     }
-    Err(KeepFault::Failed)
+    Err(Trouble::Fault(StorageFault::BadRow))
 }
 
-fn next_row<S: Alter>(rows: &mut Rows<'_, S>) -> Result<Option<Row>, KeepFault> {
+fn next_row<S: Alter>(rows: &mut Rows<'_, S>) -> Result<Option<Row>, Trouble> {
     if let Err(error) = rows.advance() {
-        return Err(fault_of(error));
+        return Err(Trouble::from(error));
     }
     let Some(row) = rows.get() else {
         return Ok(None);
     };
     match read_row(row) {
         Ok(row) => Ok(Some(row)),
-        Err(error) => Err(fault_of(error)),
+        Err(error) => Err(Trouble::from(error)),
     }
 }
 
@@ -64,16 +55,16 @@ fn read_row(row: &sqlite::Row) -> Result<Row, Error> {
     })
 }
 
-fn push_row(rows: &mut Vec<Row>, row: Row) -> Result<(), KeepFault>
+fn push_row(rows: &mut Vec<Row>, row: Row) -> Result<(), Trouble>
     requires { Ascend rows.old.items }
     ensures { Ascend rows.new.items }
 {
     if !is_above_all(rows, &row) {
-        return Err(KeepFault::Failed);
+        return Err(Trouble::Fault(StorageFault::BadRow));
     }
     match rows.push(row) {
         Ok(()) => Ok(()),
-        Err(_) => Err(KeepFault::Memory),
+        Err(_) => Err(Trouble::Memory),
     }
 }
 

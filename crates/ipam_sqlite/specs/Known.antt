@@ -1,13 +1,14 @@
--- What is known of a keeper over a file: how many calls failed, and what they answer where it was not opened.
+-- What is known of a keeper over a file: how many calls failed, and what they answer where the file is not open.
 use Rattle.std.specs.Prelude.{ℕ, Option}
 use Rattle.std.specs.Result.{result_err}
 use Rattle.ipam_keeper.specs.declared.keeper.KeepFault.{KeepFault}
 use Rattle.ipam_sqlite.specs.declared.keeper.SqliteKeeper.{SqliteKeeper}
+use Rattle.ipam_sqlite.specs.Answers.{answer_of}
 
 -- how many calls failed
 abbrev pub faults_of : {S : Type 0} → SqliteKeeper S → ℕ
-faults_of keeper = keeper.faults
+faults_of keeper = keeper.tally.faults
 
--- what each call answers, where the file could not be opened
+-- what each call answers, where the file was not opened or is gone
 abbrev pub unopened : {S : Type 0} → SqliteKeeper S → Option KeepFault
-unopened keeper = result_err keeper.conn
+unopened keeper = result_err (answer_of keeper.opened)

@@ -1,0 +1,12 @@
+-- What a keeper answers of a step that did not end well.
+use Rattle.std.specs.Prelude.{Result, Ok, Err}
+use Rattle.ipam_keeper.specs.declared.keeper.KeepFault.{KeepFault}
+use Rattle.ipam_keeper.specs.declared.keeper.KeepFault.TheVariants as kept
+use Rattle.ipam_sqlite.specs.declared.fault.Trouble.{Trouble}
+use Rattle.ipam_sqlite.specs.declared.fault.Trouble.TheVariants.{Memory, Fault}
+
+-- want of memory is told as such, and every other cause as a failure
+abbrev pub answer_of : {T : Type 0} → Result T Trouble → Result T KeepFault
+answer_of (Ok value) = Ok value
+answer_of (Err Memory) = Err kept.Memory
+answer_of (Err (Fault cause)) = Err kept.Failed

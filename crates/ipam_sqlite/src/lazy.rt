@@ -1,0 +1,244 @@
+//! The keeper over a file that is opened by the first call that needs it.
+ghost use Rattle.std.specs.Prelude.{◌≡◌, ◌≤◌, None, IfOk};
+ghost use Rattle.ipam_io.specs.Counts.{next_count};
+ghost use Rattle.ipam_keeper.specs.Rows.{Ascend};
+ghost use Rattle.ipam_keeper.specs.Keeping.{OnFailed, UnlessFailed};
+
+use crate::fault::{StorageFault, Trouble};
+use crate::opened::Opened;
+use crate::opening::{Aim, fold, open_database};
+use crate::tally::Tally;
+use ipam_keeper::{KeepFault, Keeper, Row};
+use ipam_text::Text;
+use sqlite::{File, FileStore};
+use std::mem;
+
+/// Whether a file is open.
+enum State {
+    Closed,
+    Open(Opened<FileStore<File>>),
+    /// Each call fails.
+    Refused(StorageFault),
+}
+
+impl Drop for State {
+    fn drop(self) {
+        match self {
+            State::Open(_opened) => {}
+            State::Closed | State::Refused(_) => {}
+        }
+    }
+}
+
+impl State {
+    /// Folds the log into the file, where it is open, and closes both. Where another file has its name
+    /// by now, the log is left as it is, for whoever finds the file.
+    fn fold(self) -> Result<(), Trouble> {
+        match self {
+            State::Open(opened) => match opened.into_own() {
+                Some(conn) => fold(conn),
+                None => Err(Trouble::Fault(StorageFault::FileGone)),
+            },
+            State::Closed | State::Refused(_) => Ok(()),
+        }
+    }
+}
+
+/// A keeper as `SqliteKeeper`, whose file the first load, put or removal opens. It does not tell its
+/// rows.
+///
+/// Where a call finds no memory to open the file, it answers `Memory`, and the next one tries again.
+/// Where the opening fails otherwise, or the file or its log is gone, that call and all later ones count
+/// a fault and answer `Failed`, and `why` tells the cause. A keeper that is dropped folds the log into
+/// the file, as far as that can be done.
+pub struct FileKeeper {
+    rt: HostRuntime,
+    path: Option<Text>,
+    aim: Aim,
+    state: State,
+    tally: Tally,
+}
+
+impl Drop for FileKeeper {
+    fn drop(self) {
+        let FileKeeper {
+            rt: _,
+            path: _,
+            aim: _,
+            state,
+            tally: _,
+        } = self;
+        let _ = state.fold();
+    }
+}
+
+impl FileKeeper {
+    /// A keeper over the file at this path, which is made with the mode 0640 and its table where it is
+    /// not there.
+    pub fn new(rt: &HostRuntime, path: &str) -> FileKeeper
+        ensures { result.tally.faults ≡ 0 }
+    {
+        FileKeeper::closed(rt, path, Aim::Keep)
+    }
+
+    /// A keeper for a caller that only looks: a file that is not there, or has no byte, is read as no
+    /// rows, and is not made. There a put and a removal fail.
+    pub fn reader(rt: &HostRuntime, path: &str) -> FileKeeper
+        ensures { result.tally.faults ≡ 0 }
+    {
+        FileKeeper::closed(rt, path, Aim::Look)
+    }
+
+    fn closed(rt: &HostRuntime, path: &str, aim: Aim) -> FileKeeper
+        ensures { result.tally.faults ≡ 0 }
+    {
+        FileKeeper {
+            rt: *rt,
+            path: Text::copied(rt.alloc(), path).ok(),
+            aim,
+            state: State::Closed,
+            tally: Tally::new(),
+        }
+    }
+
+    /// Why the last call that failed did so. No contract speaks of it.
+    pub fn why(&self) -> Option<StorageFault> {
+        self.tally.why
+    }
+
+    /// Folds the log into the file and closes both. The next call opens them again.
+    pub fn close(&mut self) -> Result<(), KeepFault>
+        ensures fault { OnFailed result (self.new.tally.faults ≡ next_count self.old.tally.faults) }
+        ensures no_fault { UnlessFailed result (self.new.tally.faults ≡ self.old.tally.faults) }
+    {
+        let answer = match &self.state {
+            State::Refused(fault) => Err(Trouble::Fault(*fault)),
+            _ => mem::replace(&mut self.state, State::Closed).fold(),
+        };
+        self.tally.counted(answer)
+    }
+
+    /// Opens the file, unless it is open.
+    fn ready(&mut self) -> Result<(), Trouble>
+        ensures tally { self.new.tally ≡ self.old.tally }
+    {
+        match &self.state {
+            State::Open(_) => return Ok(()),
+            State::Refused(fault) => return Err(Trouble::Fault(*fault)),
+            State::Closed => {}
+        }
+        match self.opened() {
+            Ok(state) => self.state = state,
+            Err(Trouble::Memory) => return Err(Trouble::Memory),
+            Err(Trouble::Fault(fault)) => {
+                self.state = State::Refused(fault);
+                return Err(Trouble::Fault(fault));
+            }
+        }
+        Ok(())
+    }
+
+    fn opened(&self) -> Result<State, Trouble> {
+        let Some(path) = &self.path else {
+            return Err(Trouble::Memory);
+        };
+        match open_database(&self.rt, path.as_str(), self.aim)? {
+            Some(opened) => Ok(State::Open(opened)),
+            None => Ok(State::Closed),
+        }
+    }
+
+    /// The rows of the file, and none where a reader found no file.
+    fn rows(&mut self) -> Result<Vec<Row>, Trouble>
+        ensures ascending { IfOk result (λ loaded. Ascend loaded.items) }
+        ensures tally { self.new.tally ≡ self.old.tally }
+    {
+        self.ready()?;
+        match &mut self.state {
+            State::Open(opened) => opened.rows(self.rt.alloc()),
+            _ => Ok(Vec::new(self.rt.alloc())),
+        }
+    }
+
+    /// The answer of a change. Where the files are gone, they are let go, and no later call does anything.
+    fn changed(&mut self, answer: Result<(), Trouble>) -> Result<(), KeepFault>
+        ensures fault { OnFailed result (self.new.tally.faults ≡ next_count self.old.tally.faults) }
+        ensures no_fault { UnlessFailed result (self.new.tally.faults ≡ self.old.tally.faults) }
+        ensures never_falls { self.old.tally.faults ≤ self.new.tally.faults }
+    {
+        if answer == Err(Trouble::Fault(StorageFault::FileGone)) {
+            let _ = mem::replace(&mut self.state, State::Refused(StorageFault::FileGone)).fold();
+        }
+        self.tally.counted(answer)
+    }
+
+    fn put_row(&mut self, key: &str, revision: u64, body: &str) -> Result<(), Trouble>
+        ensures tally { self.new.tally ≡ self.old.tally }
+    {
+        self.ready()?;
+        match &mut self.state {
+            State::Open(opened) => opened.put(key, revision, body),
+            _ => Err(Trouble::Fault(StorageFault::NoFile)),
+        }
+    }
+
+    fn remove_row(&mut self, key: &str) -> Result<(), Trouble>
+        ensures tally { self.new.tally ≡ self.old.tally }
+    {
+        self.ready()?;
+        match &mut self.state {
+            State::Open(opened) => opened.remove(key),
+            _ => Err(Trouble::Fault(StorageFault::NoFile)),
+        }
+    }
+}
+
+impl Keeper for FileKeeper {
+    ghost rows = { λ _. None };
+
+    ghost faults = { λ keeper. keeper.tally.faults };
+
+    ghost name = { λ _. 0 };
+
+    fn load(&mut self) -> Result<Vec<Row>, KeepFault>
+        ensures ascending { IfOk result (λ loaded. Ascend loaded.items) }
+        ensures fault { OnFailed result (self.new.tally.faults ≡ next_count self.old.tally.faults) }
+        ensures no_fault { UnlessFailed result (self.new.tally.faults ≡ self.old.tally.faults) }
+        ensures never_falls { self.old.tally.faults ≤ self.new.tally.faults }
+    {
+        let answer = self.rows();
+        self.tally.counted(answer)
+    }
+
+    fn put(&mut self, key: &str, revision: u64, body: &str) -> Result<(), KeepFault>
+        ensures fault { OnFailed result (self.new.tally.faults ≡ next_count self.old.tally.faults) }
+        ensures no_fault { UnlessFailed result (self.new.tally.faults ≡ self.old.tally.faults) }
+        ensures never_falls { self.old.tally.faults ≤ self.new.tally.faults }
+    {
+        let answer = self.put_row(key, revision, body);
+        self.changed(answer)
+    }
+
+    fn remove(&mut self, key: &str) -> Result<(), KeepFault>
+        ensures fault { OnFailed result (self.new.tally.faults ≡ next_count self.old.tally.faults) }
+        ensures no_fault { UnlessFailed result (self.new.tally.faults ≡ self.old.tally.faults) }
+        ensures never_falls { self.old.tally.faults ≤ self.new.tally.faults }
+    {
+        let answer = self.remove_row(key);
+        self.changed(answer)
+    }
+}
+
+/// Opens the file, folds its log into it and closes both. Where there is no file it does nothing.
+pub fn settle(rt: &HostRuntime, path: &str) -> Result<(), StorageFault> {
+    let mut keeper = FileKeeper::reader(rt, path);
+    match keeper.ready() {
+        Ok(()) => {}
+        Err(Trouble::Memory) => return Ok(()),
+        Err(Trouble::Fault(fault)) => return Err(fault),
+    }
+    match mem::replace(&mut keeper.state, State::Closed).fold() {
+        Err(Trouble::Fault(fault)) => Err(fault),
+        _ => Ok(()),
+    }
+}
