@@ -1,3 +1,2 @@
 pub mod DoLemmas
-pub mod WordLemmas
 pub mod CallLemmas

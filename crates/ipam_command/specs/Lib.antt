@@ -1,5 +1,0 @@
--- What the commands of the program do.
-pub mod Statuses
-pub mod Outside
-pub mod CniCalls
-pub mod Commands

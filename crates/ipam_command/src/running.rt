@@ -1,24 +1,25 @@
 //! A command is run.
 ghost use Rattle.std.specs.Prelude.{◌≡◌, Some, map, string_bytes};
-ghost use Rattle.ipam_words.specs.Words.{asked_by, command_named};
-ghost use Rattle.ipam_command.specs.Commands.{Does, IsSound, TellsUnknown};
+ghost use Rattle.ipam_words.specs.Words.{IsSound, asked_by, command_named};
+ghost use Rattle.ipam_command.specs.Commands.{Does, Says, unknown_text};
 
 use crate::statuses::{code_of_gen, code_of_play};
 use ipam_apply::apply;
 use ipam_cni::cni;
-use ipam_commands::{UNKNOWN_WORDS, WRITE_FAULT, get, release, routes};
+use ipam_commands::{DONE, UNKNOWN_WORDS, WRITE_FAULT, get, release, routes};
 use ipam_gen::generate;
 use ipam_io::{Sink, Source};
 use ipam_keeper::Keeper;
 use ipam_play_run::play;
 use ipam_text::Text;
-use ipam_words::{Command, read_words};
+use ipam_words::{Command, HELP, VERSION, read_words};
 use std::alloc::Global;
 
 /// Runs the command that the words name, and answers the exit status. It always returns.
 ///
 /// The source is read by `play`, `apply` and `cni` alone, the environment is looked at by `cni` alone, and the
-/// keeper is not asked by `play` and `gen`. Words that name no command are answered `unknown words`.
+/// keeper is not asked by `play` and `gen`. Words that name no command are answered `unknown words`; so are
+/// those of an audit, of the daemon and of its client, which are run by `run_audit`, `serve` and `call`.
 pub fn run_command<S: Source, K: Sink, D: Keeper>(
     alloc: Global,
     words: &[String],
@@ -91,16 +92,27 @@ fn run<S: Source, K: Sink, D: Keeper>(
         Command::Release(node, block) => release(alloc, sink, keeper, node, block).code(),
         Command::Cni => cni(alloc, env, source, sink, keeper),
         Command::Apply => apply(alloc, source, sink, keeper).code(),
+        Command::Help => say(sink, HELP, DONE),
+        Command::Version => say(sink, VERSION, DONE),
+        Command::Audit(_) | Command::Serve(_, _) | Command::Call(_) => unknown(sink),
     }
 }
 
-/// The words name no command.
+/// The words name no command that is run here.
 fn unknown<K: Sink>(sink: &mut K) -> u8
-    ensures told { TellsUnknown (K.written sink.old) (K.written sink.new) (K.write_faults sink.old) (K.write_faults sink.new) result }
+    ensures said { Says unknown_text UNKNOWN_WORDS (K.written sink.old) (K.written sink.new) (K.write_faults sink.old) (K.write_faults sink.new) result }
     ensures rest { K.write_rest sink.new ≡ K.write_rest sink.old }
 {
-    match sink.write("unknown words\n".as_bytes()) {
-        Ok(()) => UNKNOWN_WORDS,
+    say(sink, "unknown words\n", UNKNOWN_WORDS)
+}
+
+/// Writes the text, and answers its status.
+fn say<K: Sink>(sink: &mut K, text: &str, own: u8) -> u8
+    ensures said { Says text.now own (K.written sink.old) (K.written sink.new) (K.write_faults sink.old) (K.write_faults sink.new) result }
+    ensures rest { K.write_rest sink.new ≡ K.write_rest sink.old }
+{
+    match sink.write(text.as_bytes()) {
+        Ok(()) => own,
         Err(_) => WRITE_FAULT,
     }
 }
