@@ -1,2 +1,4 @@
 pub mod DoLemmas
 pub mod CallLemmas
+pub mod Causes
+pub mod Complete

@@ -1,7 +1,10 @@
 //! A command is run.
-ghost use Rattle.std.specs.Prelude.{◌≡◌, Some, map, string_bytes};
-ghost use Rattle.ipam_words.specs.Words.{IsSound, asked_by, command_named};
+ghost use Rattle.std.specs.Prelude.{◌≡◌, Some, false, map, string_bytes, true};
+ghost use Rattle.std.specs.Io.KnownBytes.{IsAtEnd};
+ghost use Rattle.ipam_io.specs.Counts.{Rose};
+ghost use Rattle.ipam_words.specs.Words.{IsSound, Play, asked_by, command_named};
 ghost use Rattle.ipam_command.specs.Commands.{Does, Says, unknown_text};
+ghost use Rattle.ipam_command.specs.Rules.{CompleteLaw, asks_keeper, reads};
 
 use crate::statuses::{code_of_gen, code_of_play};
 use ipam_apply::apply;
@@ -20,7 +23,72 @@ use std::alloc::Global;
 /// The source is read by `play`, `apply` and `cni` alone, the environment is looked at by `cni` alone, and the
 /// keeper is not asked by `play` and `gen`. Words that name no command are answered `unknown words`; so are
 /// those of an audit, of the daemon and of its client, which are run by `run_audit`, `serve` and `call`.
+///
+/// `does` says all of it. The other clauses follow from it, each a rule by itself: which status has which
+/// cause, what is left as it was, and that nothing is left unsaid.
 pub fn run_command<S: Source, K: Sink, D: Keeper>(
+    alloc: Global,
+    words: &[String],
+    env: &[(Text, Text)],
+    source: &mut S,
+    sink: &mut K,
+    keeper: &mut D,
+) -> u8
+    ensures does { Does env.now (command_named (map string_bytes words.now))
+        (record {
+          left = S.left source.old;
+          read_faults = S.read_faults source.old;
+          written = K.written sink.old;
+          write_faults = K.write_faults sink.old;
+          rows = D.rows keeper.old;
+          keeper_faults = D.faults keeper.old;
+        })
+        (record {
+          left = S.left source.new;
+          read_faults = S.read_faults source.new;
+          written = K.written sink.new;
+          write_faults = K.write_faults sink.new;
+          rows = D.rows keeper.new;
+          keeper_faults = D.faults keeper.new;
+        }) result }
+
+    ensures status_0 { result ≡ 0 → reads (command_named (map string_bytes words.now)) ≡ true → IsAtEnd (S.left source.new) }
+    ensures status_2_source { result ≡ 2 → (S.left source.new ≡ S.left source.old) × (S.read_faults source.new ≡ S.read_faults source.old) }
+    ensures status_2_keeper { result ≡ 2 → (D.rows keeper.new ≡ D.rows keeper.old) × (D.faults keeper.new ≡ D.faults keeper.old) }
+    ensures status_3 { result ≡ 3 → Rose (S.read_faults source.old) (S.read_faults source.new) }
+    ensures status_4 { result ≡ 4 → Rose (K.write_faults sink.old) (K.write_faults sink.new) }
+    ensures status_5 { result ≡ 5 → Rose (D.faults keeper.old) (D.faults keeper.new) }
+    ensures status_7 { result ≡ 7 → D.rows keeper.new ≡ D.rows keeper.old }
+    ensures status_8 { result ≡ 8 → command_named (map string_bytes words.now) ≡ Some Play }
+
+    ensures unread { reads (command_named (map string_bytes words.now)) ≡ false → (S.left source.new ≡ S.left source.old) × (S.read_faults source.new ≡ S.read_faults source.old) }
+    ensures unasked { asks_keeper (command_named (map string_bytes words.now)) ≡ false → (D.rows keeper.new ≡ D.rows keeper.old) × (D.faults keeper.new ≡ D.faults keeper.old) }
+    ensures complete { CompleteLaw env.now (command_named (map string_bytes words.now))
+        (record {
+          left = S.left source.old;
+          read_faults = S.read_faults source.old;
+          written = K.written sink.old;
+          write_faults = K.write_faults sink.old;
+          rows = D.rows keeper.old;
+          keeper_faults = D.faults keeper.old;
+        })
+        (record {
+          left = S.left source.new;
+          read_faults = S.read_faults source.new;
+          written = K.written sink.new;
+          write_faults = K.write_faults sink.new;
+          rows = D.rows keeper.new;
+          keeper_faults = D.faults keeper.new;
+        }) result }
+
+    ensures source_rest { S.read_rest source.new ≡ S.read_rest source.old }
+    ensures sink_rest { K.write_rest sink.new ≡ K.write_rest sink.old }
+{
+    run_named(alloc, words, env, source, sink, keeper)
+}
+
+/// Runs the command that the words name.
+fn run_named<S: Source, K: Sink, D: Keeper>(
     alloc: Global,
     words: &[String],
     env: &[(Text, Text)],
