@@ -6,7 +6,7 @@ ghost use Rattle.ipam_model.specs.Owners.{owners};
 ghost use Rattle.ipam_opening.specs.Opening.{IsFaultOf};
 ghost use Rattle.ipam_audit.specs.Reported.{report_of};
 ghost use Rattle.ipam_audit.specs.Parts.{IsReportOf};
-ghost use Rattle.ipam_audit.specs.declared.words.TheConstants.{MOST_WORKERS};
+ghost use Rattle.ipam_words.specs.declared.reading.TheConstants.{MOST_WORKERS};
 
 use crate::affinities::{stale, stray};
 use crate::counted::owners;

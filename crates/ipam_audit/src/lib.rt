@@ -18,4 +18,3 @@ pub use ipam_cluster::Base;
 pub use ipam_opening::OpenFault as AuditFault;
 pub use report::{Excess, Report};
 pub use run::run_audit;
-pub use words::{MOST_WORKERS, workers_asked};

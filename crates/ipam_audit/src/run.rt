@@ -10,7 +10,7 @@ ghost use Rattle.ipam_audit.specs.Printed.{report_text};
 ghost use Rattle.ipam_audit.specs.Reported.{report_of};
 ghost use Rattle.ipam_audit.specs.Run.{EndsSo, IsReportTold, unknown_line};
 ghost use Rattle.ipam_audit.specs.Words.{workers_asked};
-ghost use Rattle.ipam_audit.specs.declared.words.TheConstants.{MOST_WORKERS};
+ghost use Rattle.ipam_words.specs.declared.reading.TheConstants.{MOST_WORKERS};
 
 use crate::auditing::audit;
 use crate::printed::report_text;
@@ -29,7 +29,7 @@ use std::thread::Threads;
 /// Runs the words `audit N` over the rows of a keeper, with N workers from 1 to 16, and answers the
 /// exit status: 0 where the report was written, 2 where the words have not this form, 4 and 5 where
 /// the sink or the keeper failed, 6 where there was no memory, 7 where the rows may not be opened. The
-/// rows stay.
+/// rows stay. The lines for other words and for a keeper that failed take no memory.
 pub fn run_audit<R: Threads + Sync, K: Sink, D: Keeper>(
     rt: &R,
     alloc: Global,

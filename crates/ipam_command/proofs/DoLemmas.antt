@@ -4,8 +4,8 @@ use Rattle.std.specs.Prelude.{IfSome}
 use Rattle.ipam_play.specs.Readings.{readings}
 use Rattle.ipam_play.specs.Script.{script_of}
 use Rattle.ipam_play_run.specs.Writing as play_run
-use Rattle.ipam_headline.specs.Headline.{HasWrittenRight}
-use Rattle.ipam_headline.proofs.Generating.{summary_right}
+use Rattle.ipam_headline.specs.Headline.{HasWrittenRight, script_in}
+use Rattle.ipam_headline.proofs.Generating.{counted_right}
 use Rattle.ipam_headline.proofs.Writing.{written_right}
 use Rattle.cni_types.specs.Reading.{Pair}
 use Rattle.ipam_records.specs.declared.call.Row.{Row as RowText}
@@ -18,7 +18,7 @@ use Rattle.ipam_apply.specs.Applied.{ApplyEnds, DocumentEnds, Input, Read, ReadF
 use Rattle.ipam_apply.specs.Outside as apply_outside
 use Rattle.ipam_commands.specs.declared.status.Status.{Status}
 use Rattle.ipam_commands.specs.Telling.{Tells, Writes}
-use Rattle.ipam_command.specs.Commands.{Does, DoesGen, DoesPlay, DoesTell, IsPlayed, TellsUnknown}
+use Rattle.ipam_command.specs.Commands.{Does, DoesGen, DoesPlay, DoesTell, IsPlayed, Says, unknown_text}
 use Rattle.ipam_command.specs.Outside.{LeavesKeeper, LeavesSource, Outside}
 use Rattle.ipam_commands.specs.Statuses.{code_of}
 use Rattle.ipam_command.specs.Statuses.{code_of_gen, code_of_play}
@@ -28,9 +28,9 @@ pub asked : (env : List Pair) (one other : Option Asked) (old new : Outside) (st
 asked env one other old new status is does = subst (λ (a : Option Asked). Does env a old new status) (sym is) does
 
 -- words that name no command
-pub does-unknown : (env : List Pair) (words : Option Asked) (old new : Outside) (status : ℕ) → words ≡ None → TellsUnknown old.written new.written old.write_faults new.write_faults status
+pub does-unknown : (env : List Pair) (words : Option Asked) (old new : Outside) (status : ℕ) → words ≡ None → Says unknown_text 2 old.written new.written old.write_faults new.write_faults status
     → LeavesSource old new → LeavesKeeper old new → Does env words old new status
-does-unknown env words old new status is told source keeper = asked env words None old new status is (record { told = told; source = source; keeper = keeper })
+does-unknown env words old new status is told source keeper = asked env words None old new status is (record { said = told; source = source; keeper = keeper })
 
 pub does-play : (old new : Outside) (ending : PlayEnd) (status : ℕ) → status ≡ code_of_play ending → IsPlayed old new ending → LeavesKeeper old new → DoesPlay old new status
 does-play old new ending status is played keeper = record { ending = ending; has_status = is; played = played; keeper = keeper }
@@ -38,7 +38,7 @@ does-play old new ending status is played keeper = record { ending = ending; has
 pub does-gen : (count : ℕ) (old new : Outside) (ending : GenEnd) (status : ℕ) → status ≡ code_of_gen ending → gen.HasWritten ending count old.written new.written
     → gen.CountsFaults ending old.write_faults new.write_faults → LeavesSource old new → LeavesKeeper old new → DoesGen count old new status
 does-gen count old new ending status is written faults source keeper =
-    record { ending = ending; has_status = is; written = written; right = summary_right count; faults = faults; source = source; keeper = keeper }
+    record { ending = ending; has_status = is; written = counted_right count ending old.written new.written written; faults = faults; source = source; keeper = keeper }
 
 pub does-tell : (text : List RowText → Datastore → List ℕ) (old new : Outside) (ending : Status) (status : ℕ) → status ≡ code_of ending
     → Tells old.rows old.keeper_faults new.keeper_faults text (λ said own. Writes old.written new.written old.write_faults new.write_faults said own ending)
@@ -63,6 +63,6 @@ apply-ends weaker (NoInput faults same untold) = NoInput faults (weaker same) un
 
 pub written-right : (left : Option (List ℕ)) (ending : PlayEnd) (first now : Option (List ℕ))
     → IfSome left (λ bytes. play_run.HasWritten ending (script_of (readings bytes)) first now)
-    → IfSome left (λ bytes. HasWrittenRight ending (script_of (readings bytes)) first now)
+    → IfSome left (λ bytes. HasWrittenRight ending (script_in bytes) first now)
 written-right (Some bytes) ending first now written = written_right bytes ending first now written
 written-right None ending first now written = written

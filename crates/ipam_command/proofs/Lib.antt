@@ -1,3 +1,4 @@
 pub mod DoLemmas
-pub mod WordLemmas
 pub mod CallLemmas
+pub mod Causes
+pub mod Complete

@@ -5,17 +5,14 @@ use Rattle.ipam_io.specs.Counts.{Rose}
 use Rattle.ipam_io.specs.Streams.{AppendsPrefix}
 use Rattle.ipam_records.specs.declared.call.Row.{Row as RowText}
 use Rattle.ipam_records.specs.Datastore.{Datastore}
-use Rattle.ipam_records.specs.Sound.{IsName}
-use Rattle.ipam_words.specs.Words.{Asked, Cni, Play, Apply, Get, Routes, Release, Gen}
-use Rattle.ipam_play.specs.Readings.{readings}
-use Rattle.ipam_play.specs.Script.{script_of}
+use Rattle.ipam_words.specs.Words.{Asked, Audit, Call, Cni, Play, Apply, Get, Help, Routes, Release, Gen, Serve, Version}
+use Rattle.ipam_words.specs.declared.texts.TheConstants.{HELP, VERSION}
 use Rattle.ipam_play_run.specs.declared.end.PlayEnd.{PlayEnd}
 use Rattle.ipam_play_run.specs.declared.end.PlayEnd.TheVariants as play
-use Rattle.ipam_play_run.specs.Writing as play_run
 use Rattle.ipam_gen.specs.declared.end.GenEnd.{GenEnd}
 use Rattle.ipam_gen.specs.Summary as gen
-use Rattle.ipam_headline.specs.Headline.{HasWrittenRight}
-use Rattle.ipam_headline.specs.Generating.{IsRightSummary}
+use Rattle.ipam_headline.specs.Headline.{HasWrittenRight, script_in}
+use Rattle.ipam_headline.specs.Generating.{HasCountedRight}
 use Rattle.ipam_commands.specs.declared.status.Status.{Status}
 use Rattle.ipam_commands.specs.Telling.{Tells, Writes}
 use Rattle.ipam_commands.specs.Texts.{rows_text, routes_text}
@@ -37,28 +34,32 @@ use Rattle.ipam_command.specs.Outside.{LeavesKeeper, LeavesSource, Outside, side
 use Rattle.ipam_commands.specs.Statuses.{code_of}
 use Rattle.ipam_command.specs.Statuses.{code_of_gen, code_of_play}
 
--- ---- words that name no command
+-- ---- a fixed text, which takes no memory
+
+-- the text was written, with this status, or a front part of it where the sink failed
+pub data Says (text : List ℕ) (own : ℕ) (old new : Option (List ℕ)) (faults faults' : ℕ) : (status : ℕ) → Type 0 where
+  Told : new ≡ append_known old text → faults' ≡ faults → Says text own old new faults faults' own
+  Cut : AppendsPrefix old new text → Rose faults faults' → Says text own old new faults faults' 4
+
+-- the text is said, and nothing is asked of the source and the keeper
+pub record DoesSay (text : List ℕ) (own : ℕ) (old new : Outside) (status : ℕ) : Type 0 where
+  pub said : Says text own old.written new.written old.write_faults new.write_faults status
+  pub source : LeavesSource old new
+  pub keeper : LeavesKeeper old new
 
 abbrev pub unknown_text : List ℕ
 unknown_text = codes "unknown words\n"
 
--- the text was written, or a front part of it where the sink failed
-pub data TellsUnknown (old new : Option (List ℕ)) (faults faults' : ℕ) : (status : ℕ) → Type 0 where
-  Told : new ≡ append_known old unknown_text → faults' ≡ faults → TellsUnknown old new faults faults' 2
-  Cut : AppendsPrefix old new unknown_text → Rose faults faults' → TellsUnknown old new faults faults' 4
-
-pub record IsUnknown (old new : Outside) (status : ℕ) : Type 0 where
-  pub told : TellsUnknown old.written new.written old.write_faults new.write_faults status
-  pub source : LeavesSource old new
-  pub keeper : LeavesKeeper old new
+-- the words name no command that is run here
+abbrev pub IsUnknown : (old new : Outside) → (status : ℕ) → Type 0
+IsUnknown old new status = DoesSay unknown_text 2 old new status
 
 -- ---- `play`
 
--- the script that the source has was played to this end, what was written tells of a right history, and
--- each fault has its cause
+-- the script that the source has was played to this end, what was written tells of entries that are a
+-- right history, and each fault has its cause
 pub record IsPlayed (old new : Outside) (ending : PlayEnd) : Type 0 where
-  pub written : IfSome old.left (λ bytes. play_run.HasWritten ending (script_of (readings bytes)) old.written new.written)
-  pub right : IfSome old.left (λ bytes. HasWrittenRight ending (script_of (readings bytes)) old.written new.written)
+  pub written : IfSome old.left (λ bytes. HasWrittenRight ending (script_in bytes) old.written new.written)
   pub at_end : ending ≡ play.Done → IsAtEnd new.left
   pub read_fault : ending ≡ play.ReadFault → Rose old.read_faults new.read_faults
   pub no_read_fault : ending ≢ play.ReadFault → ending ≢ play.WriteFault → new.read_faults ≡ old.read_faults
@@ -77,8 +78,7 @@ pub record DoesPlay (old new : Outside) (status : ℕ) : Type 0 where
 pub record DoesGen (count : ℕ) (old new : Outside) (status : ℕ) : Type 0 where
   pub ending : GenEnd
   pub has_status : status ≡ code_of_gen ending
-  pub written : gen.HasWritten ending count old.written new.written
-  pub right : (text : List ℕ) → gen.IsSummaryText count text → IsRightSummary count text
+  pub written : HasCountedRight ending count old.written new.written
   pub faults : gen.CountsFaults ending old.write_faults new.write_faults
   pub source : LeavesSource old new
   pub keeper : LeavesKeeper old new
@@ -102,7 +102,8 @@ pub record DoesRelease (node : List ℕ) (cidr : CidrValue) (old new : Outside) 
   pub ending : Status
   pub has_status : status ≡ code_of ending
   pub ends : ReleaseEnds (request.Release node cidr) came old.rows new.rows old.keeper_faults new.keeper_faults
-  pub writes : ReleaseWrites (λ said own. Writes old.written new.written old.write_faults new.write_faults said own ending) came
+  pub writes : ReleaseWrites (λ said own. Writes old.written new.written old.write_faults new.write_faults said own ending)
+      (ending ≢ status_of.NoMemory) came
   pub source : LeavesSource old new
 
 -- ---- `apply`
@@ -143,12 +144,8 @@ pub record DoesCni (env : List Pair) (old new : Outside) (status : ℕ) : Type 0
 
 -- ---- all
 
--- the node that is named has a name's form
-abbrev pub IsSound : Asked → Type 0
-IsSound (Release node cidr) = IsName node
-IsSound _ = Unit {0}
-
--- what is done, by what the words ask
+-- What is done, by what the words ask. An audit, the daemon and its client are run by others; here their
+-- words name no command.
 abbrev pub Does : (env : List Pair) → Option Asked → (old new : Outside) → (status : ℕ) → Type 0
 Does env (Some Cni) old new status = DoesCni env old new status
 Does env (Some Play) old new status = DoesPlay old new status
@@ -157,4 +154,9 @@ Does env (Some (Get kind)) old new status = DoesTell (λ rows store. rows_text k
 Does env (Some (Routes node)) old new status = DoesTell (λ rows store. routes_text node store) old new status
 Does env (Some (Release node cidr)) old new status = DoesRelease node cidr old new status
 Does env (Some Apply) old new status = DoesApply old new status
+Does env (Some Help) old new status = DoesSay HELP 0 old new status
+Does env (Some Version) old new status = DoesSay VERSION 0 old new status
+Does env (Some (Audit workers)) old new status = IsUnknown old new status
+Does env (Some (Serve address workers)) old new status = IsUnknown old new status
+Does env (Some (Call address)) old new status = IsUnknown old new status
 Does env None old new status = IsUnknown old new status

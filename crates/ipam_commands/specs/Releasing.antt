@@ -40,10 +40,11 @@ abbrev pub outcome_status : ReleaseOutcome → Status
 outcome_status outcome.Released = status.Done
 outcome_status _ = status.Refused
 
--- what is written, by what the release came to
-abbrev pub ReleaseWrites : (writes : List ℕ → Status → Type 0) → Result ReleaseOutcome KeptFault → Type 0
-ReleaseWrites writes (Ok found) = writes (outcome_line found) (outcome_status found)
-ReleaseWrites writes (Err why) = FaultWrites writes why
+-- What is written, by what the release came to. The line of an outcome takes no memory: `told` says that
+-- the end is not want of it.
+abbrev pub ReleaseWrites : (writes : List ℕ → Status → Type 0) → (told : Type 0) → Result ReleaseOutcome KeptFault → Type 0
+ReleaseWrites writes told (Ok found) = writes (outcome_line found) (outcome_status found) × told
+ReleaseWrites writes told (Err why) = FaultWrites writes why
 
 -- ---- a request over a datastore
 

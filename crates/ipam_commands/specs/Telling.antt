@@ -24,9 +24,10 @@ abbrev pub IsSaid : Status → Type 0
 IsSaid status.NoMemory = ⊥
 IsSaid _ = Unit {0}
 
--- what a command that ends so writes takes memory to be made; the line of a fault of the source or of
--- the keeper does not
+-- what a command that ends so writes takes memory to be made; the line for unknown words, or for a fault of
+-- the source or of the keeper, does not
 abbrev pub IsMade : Status → Type 0
+IsMade status.UnknownWords = ⊥
 IsMade status.ReadFault = ⊥
 IsMade status.KeeperFault = ⊥
 IsMade _ = Unit {0}

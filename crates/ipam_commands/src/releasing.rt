@@ -1,5 +1,5 @@
 //! `release NODE CIDR`: a node gives up a block.
-ghost use Rattle.std.specs.Prelude.{◌≡◌, [], IfOk, IsSome, Some, None, Result};
+ghost use Rattle.std.specs.Prelude.{◌≡◌, ◌≢◌, [], IfOk, IsSome, Some, None, Result};
 ghost use Rattle.ipam_records.specs.Sound.{IsName};
 ghost use Rattle.ipam_model.specs.declared.request.Request.TheVariants.{Release};
 ghost use Rattle.ipam_model.specs.SoundRequest.{IsSoundRequest};
@@ -35,7 +35,7 @@ pub fn release<K: Sink, D: Keeper>(
     ensures released { (came : Result Outcome Fault)
         × ReleaseEnds (Release node.now block) came (D.rows keeper.old) (D.rows keeper.new) (D.faults keeper.old) (D.faults keeper.new)
         × ReleaseWrites (λ text own. Writes (K.written sink.old) (K.written sink.new)
-        (K.write_faults sink.old) (K.write_faults sink.new) text own result) came }
+        (K.write_faults sink.old) (K.write_faults sink.new) text own result) (result ≢ Status.NoMemory) came }
     ensures rest { K.write_rest sink.new ≡ K.write_rest sink.old }
 {
     match come_to(alloc, keeper, node, block) {

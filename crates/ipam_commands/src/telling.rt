@@ -1,5 +1,5 @@
 //! What a command has to say, and how it ends.
-ghost use Rattle.std.specs.Prelude.{◌≡◌, ℕ, List, IfOk, string_bytes};
+ghost use Rattle.std.specs.Prelude.{◌≡◌, ◌≢◌, ℕ, List, IfOk, string_bytes};
 ghost use Rattle.ipam_commands.specs.Telling.{FaultWrites, IsMade, IsSaid, Writes};
 
 use crate::status::Status;
@@ -7,11 +7,12 @@ use ipam_io::Sink;
 use ipam_kept::{KeptFault, broken_line};
 use std::alloc::{AllocError, Global};
 
-/// Ends with this text and its status.
+/// Ends with this text and its status. That takes no memory.
 pub fn tell<K: Sink>(sink: &mut K, text: &str, own: Status) -> Status
     requires { IsSaid own }
     ensures written { Writes (K.written sink.old) (K.written sink.new)
         (K.write_faults sink.old) (K.write_faults sink.new) text.now own result }
+    ensures told { result ≢ Status.NoMemory }
     ensures rest { K.write_rest sink.new ≡ K.write_rest sink.old }
 {
     match sink.write(text.as_bytes()) {

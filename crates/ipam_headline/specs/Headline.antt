@@ -1,19 +1,15 @@
 -- What is written of a script tells of a right history.
-use Rattle.std.specs.Prelude.{◌≡◌, ◌≢◌, ℕ, ◌++◌, List, [], reverse, Option}
-use Rattle.std.specs.Io.KnownBytes.{append_known}
-use Rattle.ipam_io.specs.Streams.{AppendsPrefix}
+use Rattle.std.specs.Prelude.{◌≢◌, ℕ, List, [], reverse, Option}
 use Rattle.ipam_records.specs.Datastore.{Datastore}
 use Rattle.ipam_model.specs.declared.entry.Entry.{Entry}
 use Rattle.ipam_model.specs.Right.{IsRight}
-use Rattle.ipam_play.specs.declared.refusal.LineRefusal.{LineRefusal}
-use Rattle.ipam_play.specs.Output.{ending_text, journal_text}
-use Rattle.ipam_play.specs.Played.{Ending, IsPlayed, Whole, LineRefused, NotOpened, base_of}
+use Rattle.ipam_play.specs.Played.{Ending, IsPlayed, base_of}
 use Rattle.ipam_play.specs.Player.{IsOpened}
 use Rattle.ipam_play.specs.Readings.{readings}
 use Rattle.ipam_play.specs.Script.{Script, script_of}
 use Rattle.ipam_play_run.specs.declared.end.PlayEnd.{PlayEnd}
 use Rattle.ipam_play_run.specs.declared.end.PlayEnd.TheVariants as end
-use Rattle.ipam_play_run.specs.Writing.{HasWritten, read_fault_text}
+use Rattle.ipam_play_run.specs.Writing.{HasWritten, IsRefusedBase, IsRefusedLine, IsText, IsWhole, OfAll, OfFront, WritesAll, WritesFront, WritesPart, read_fault_text}
 
 -- the script that these bytes are
 abbrev pub script_in : List ℕ → Script
@@ -35,35 +31,26 @@ PlayedRightLaw =
 
 -- ---- what is written
 
--- the journal of a right history was written, and after it this
-pub record WroteRight (script : Script) (first now : Option (List ℕ)) (last : List ℕ) : Type 0 where
-  pub entries : List Entry
-  pub right : IsRightOf script entries
-  pub written : now ≡ append_known first (journal_text entries ++ last)
+-- the entries of the text are right
+abbrev pub IsRightText : (script : Script) (text : List ℕ) → IsText script text → Type 0
+IsRightText script _ (OfAll entries ending is_played) = IsRightOf script entries
+IsRightText script _ (OfFront done is_front) = IsRightOf script done
 
--- the last line is none, that of an ending, or that of a fault of the source
-pub data IsLast : List ℕ → Type 0 where
-  OfEnding : (ending : Ending) → IsLast (ending_text ending)
-  OfReadFault : IsLast read_fault_text
-
--- a front part of such a text was written
-pub record WrotePartRight (script : Script) (first now : Option (List ℕ)) : Type 0 where
-  pub entries : List Entry
-  pub right : IsRightOf script entries
-  pub last : List ℕ
-  pub is_last : IsLast last
-  pub written : AppendsPrefix first now (journal_text entries ++ last)
-
--- What a run that ends so has written, all of it but where the sink failed.
+-- What a run that ends so has written, as `HasWritten` says, is the journal of these entries with the
+-- last line of its ending, and these entries are right. Where the source failed or memory was wanted,
+-- they are the entries so far; where the sink failed, a front part was written.
 abbrev pub HasWrittenRight : PlayEnd → Script → (first now : Option (List ℕ)) → Type 0
-HasWrittenRight end.Done script first now = WroteRight script first now (ending_text Whole)
+HasWrittenRight end.Done script first now =
+    (w : WritesAll script first now IsWhole) × IsRightOf script w.entries
 HasWrittenRight end.LineRefused script first now =
-    (number : ℕ) × (why : LineRefusal) × WroteRight script first now (ending_text (LineRefused number why))
+    (w : WritesAll script first now IsRefusedLine) × IsRightOf script w.entries
 HasWrittenRight end.NotOpened script first now =
-    (rule : ℕ) × (about : List ℕ) × WroteRight script first now (ending_text (NotOpened rule about))
-HasWrittenRight end.ReadFault script first now = WroteRight script first now read_fault_text
-HasWrittenRight end.NoMemory script first now = WroteRight script first now []
-HasWrittenRight end.WriteFault script first now = WrotePartRight script first now
+    (w : WritesAll script first now IsRefusedBase) × IsRightOf script w.entries
+HasWrittenRight end.ReadFault script first now =
+    (w : WritesFront script first now read_fault_text) × IsRightOf script w.done
+HasWrittenRight end.NoMemory script first now = (w : WritesFront script first now []) × IsRightOf script w.done
+HasWrittenRight end.WriteFault script first now =
+    (w : WritesPart script first now) × IsRightText script w.text w.is_text
 
 abbrev pub WrittenRightLaw : Type 0
 WrittenRightLaw =

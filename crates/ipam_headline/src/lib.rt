@@ -3,7 +3,7 @@
 #![tactic(auto)]
 
 ghost use Rattle.ipam_headline.specs.Headline.{PlayedRightLaw, WrittenRightLaw};
-ghost use Rattle.ipam_headline.specs.Generating.{GeneratedRightLaw, SummaryRightLaw};
+ghost use Rattle.ipam_headline.specs.Generating.{CountedRightLaw, GeneratedRightLaw};
 
 /// Whatever bytes a script has, and however it ends: the entries that are played are, over what its
 /// base opens as, a history that is right in all that the model says of records, owners, counts,
@@ -13,9 +13,9 @@ pub fn what_is_played_is_right()
     ensures { PlayedRightLaw }
 {}
 
-/// What `play` has written is the journal of a right history, with the last line of its ending. Where
-/// the source failed or memory was wanted, it is one of the entries so far; where the sink failed, a
-/// front part was written of the journal of a right history.
+/// What `play` has written is the journal of these entries, with the last line of its ending, and these
+/// entries are a right history. Where the source failed or memory was wanted, they are the entries so
+/// far; where the sink failed, a front part of the journal was written.
 pub fn what_play_writes_tells_of_a_right_history()
     ensures { WrittenRightLaw }
 {}
@@ -25,7 +25,8 @@ pub fn what_is_generated_is_right()
     ensures { GeneratedRightLaw }
 {}
 
-/// The summary that the generator has to write is counted on a right history.
+/// The summary that the generator has written is counted on this course of its events, which is a right
+/// history.
 pub fn what_gen_writes_is_counted_on_a_right_history()
-    ensures { SummaryRightLaw }
+    ensures { CountedRightLaw }
 {}

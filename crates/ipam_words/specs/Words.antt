@@ -1,5 +1,5 @@
 -- The commands that words name.
-use Rattle.std.specs.Prelude.{ℕ, ◌^◌, nat_le, nat_lt, List, [], ◌∷◌, codes, bytes_eq, Option, Some, None, option_and_then, option_map, Result, Ok, Err, if◌then◌else◌}
+use Rattle.std.specs.Prelude.{◌≡◌, ℕ, ◌^◌, ◌<◌, ◌≤◌, nat_le, nat_lt, List, [], ◌∷◌, ◌&&◌, true, codes, bytes_eq, Option, Some, None, option_and_then, option_map, Result, Ok, Err, if◌then◌else◌}
 use Rattle.std.specs.Str.Parse.{digits_value}
 use Rattle.ipam_json.specs.Path.{is_index}
 use Rattle.ipam_addr.specs.declared.cidrs.AddrFault.{AddrFault}
@@ -9,7 +9,7 @@ use Rattle.ipam_addr.specs.Text.{cidr_reading}
 use Rattle.ipam_words.specs.declared.command.Command.{Command}
 use Rattle.ipam_words.specs.declared.command.Command.TheVariants as command
 use Rattle.ipam_words.specs.declared.kind.RowKind.{RowKind}
-use Rattle.ipam_words.specs.declared.reading.TheConstants.{MOST_GENERATED}
+use Rattle.ipam_words.specs.declared.reading.TheConstants.{MOST_GENERATED, MOST_WORKERS}
 use Rattle.ipam_words.specs.Kinds.{kind_named}
 
 -- what is asked, as `Command` has it, with the name itself in place of a loan
@@ -21,6 +21,11 @@ pub data Asked : Type 0 where
   Routes : List ℕ → Asked
   Release : List ℕ → CidrValue → Asked
   Gen : ℕ → Asked
+  Audit : ℕ → Asked
+  Serve : List ℕ → ℕ → Asked
+  Call : List ℕ → Asked
+  Help : Asked
+  Version : Asked
 
 abbrev pub asked_by : Command → Asked
 asked_by command.Cni = Cni
@@ -30,6 +35,11 @@ asked_by (command.Get kind) = Get kind
 asked_by (command.Routes node) = Routes node.now
 asked_by (command.Release node cidr) = Release node.now cidr
 asked_by (command.Gen count) = Gen count
+asked_by (command.Audit workers) = Audit workers
+asked_by (command.Serve address workers) = Serve address.now workers
+asked_by (command.Call address) = Call address.now
+asked_by command.Help = Help
+asked_by command.Version = Version
 
 -- ---- one word
 
@@ -39,7 +49,9 @@ word_named word =
     else (if bytes_eq word (codes "play") then Some Play
     else (if bytes_eq word (codes "apply") then Some Apply
     else (if bytes_eq word (codes "get") then Some (Get None)
-    else None)))
+    else (if bytes_eq word (codes "--help") then Some Help
+    else (if bytes_eq word (codes "--version") then Some Version
+    else None)))))
 
 -- ---- two words
 
@@ -70,12 +82,24 @@ count_of word = option_and_then count_in (number_of word)
 abbrev pub count_named : List ℕ → Option Asked
 count_named word = option_map Gen (count_of word)
 
+-- as many workers as there may be
+abbrev pub workers_within : ℕ → Option ℕ
+workers_within n = if nat_le 1 n && nat_le n MOST_WORKERS then Some n else None
+
+abbrev pub workers_of : List ℕ → Option ℕ
+workers_of word = option_and_then workers_within (number_of word)
+
+abbrev pub audit_named : List ℕ → Option Asked
+audit_named word = option_map Audit (workers_of word)
+
 unfoldable pub first_named : (word first : List ℕ) → Option Asked
 first_named word first =
     if bytes_eq word (codes "get") then get_named first
     else (if bytes_eq word (codes "routes") then routes_named first
     else (if bytes_eq word (codes "gen") then count_named first
-    else None))
+    else (if bytes_eq word (codes "audit") then audit_named first
+    else (if bytes_eq word (codes "call") then Some (Call first)
+    else None))))
 
 -- ---- three words
 
@@ -86,8 +110,14 @@ release_of node (Err fault) = None
 unfoldable pub release_named : (node block : List ℕ) → Option Asked
 release_named node block = if is_name_text node then release_of node (cidr_reading block) else None
 
+abbrev pub serve_named : (address word : List ℕ) → Option Asked
+serve_named address word = option_map (Serve address) (workers_of word)
+
 unfoldable pub second_named : (word first second : List ℕ) → Option Asked
-second_named word first second = if bytes_eq word (codes "release") then release_named first second else None
+second_named word first second =
+    if bytes_eq word (codes "release") then release_named first second
+    else (if bytes_eq word (codes "serve") then serve_named first second
+    else None)
 
 -- ---- all words
 
@@ -98,3 +128,16 @@ command_named (word ∷ []) = word_named word
 command_named (word ∷ first ∷ []) = first_named word first
 command_named (word ∷ first ∷ second ∷ []) = second_named word first second
 command_named (word ∷ first ∷ second ∷ other ∷ more) = None
+
+-- ---- what is so of whatever is asked
+
+-- there is a worker, and there are no more than there may be
+abbrev pub AreWorkers : ℕ → Type 0
+AreWorkers workers = (0 < workers) × (workers ≤ MOST_WORKERS)
+
+-- a node that gives up a block has a name's form, and workers are as many as there may be
+abbrev pub IsSound : Asked → Type 0
+IsSound (Release node cidr) = is_name_text node ≡ true
+IsSound (Audit workers) = AreWorkers workers
+IsSound (Serve address workers) = AreWorkers workers
+IsSound _ = Unit {0}

@@ -18,4 +18,14 @@ pub enum Command<'a> {
     Release(&'a str, Cidr),
     /// So many requests are generated and run.
     Gen(u32),
+    /// The rows are audited by so many workers.
+    Audit(u8),
+    /// The daemon serves at the address, by so many workers.
+    Serve(&'a str, u8),
+    /// One call of a container's network is made of the daemon at the address.
+    Call(&'a str),
+    /// The words are told.
+    Help,
+    /// The version is told.
+    Version,
 }

@@ -4,7 +4,9 @@
 mod command;
 mod kind;
 mod reading;
+mod texts;
 
 pub use command::Command;
 pub use kind::RowKind;
-pub use reading::{MOST_GENERATED, read_words};
+pub use reading::{MOST_GENERATED, MOST_WORKERS, read_words};
+pub use texts::{HELP, VERSION};

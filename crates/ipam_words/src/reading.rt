@@ -1,5 +1,5 @@
-ghost use Rattle.std.specs.Prelude.{◌≡◌, option_map, map, string_bytes};
-ghost use Rattle.ipam_words.specs.Words.{asked_by, command_named, count_named, count_of, first_named, get_named, number_of, release_named, routes_named, second_named, word_named};
+ghost use Rattle.std.specs.Prelude.{◌≡◌, IfSome, option_map, map, string_bytes};
+ghost use Rattle.ipam_words.specs.Words.{IsSound, asked_by, audit_named, command_named, count_named, count_of, first_named, get_named, number_of, release_named, routes_named, second_named, serve_named, word_named, workers_of};
 
 use crate::command::Command;
 use crate::kind::RowKind;
@@ -9,9 +9,16 @@ use ipam_json::is_index;
 /// The most requests that are generated.
 pub const MOST_GENERATED: u32 = 65_536;
 
+/// The most workers of an audit and of the daemon.
+pub const MOST_WORKERS: u8 = 16;
+
 /// The command that the words name. None where they have no command's form. Takes no memory.
+///
+/// What follows the command's word is read exactly: a number is decimal, with no sign and no zero before
+/// another digit; a node is a name; a block is written as `Cidr` writes it. An address is any text.
 pub fn read_words(words: &[String]) -> Option<Command<'_>>
-    ensures { option_map asked_by result ≡ command_named (map string_bytes words.now) }
+    ensures named { option_map asked_by result ≡ command_named (map string_bytes words.now) }
+    ensures sound { IfSome result (λ command. IsSound (asked_by command)) }
 {
     match words {
         [] => Some(Command::Cni),
@@ -31,6 +38,8 @@ fn word_named<'a>(word: &'a str) -> Option<Command<'a>>
         "play" => Some(Command::Play),
         "apply" => Some(Command::Apply),
         "get" => Some(Command::Get(None)),
+        "--help" => Some(Command::Help),
+        "--version" => Some(Command::Version),
         _ => None,
     }
 }
@@ -43,6 +52,8 @@ fn first_named<'a>(word: &str, first: &'a str) -> Option<Command<'a>>
         "get" => kind_named(first),
         "routes" => routes_named(first),
         "gen" => count_named(first),
+        "audit" => audit_named(first),
+        "call" => Some(Command::Call(first)),
         _ => None,
     }
 }
@@ -67,14 +78,32 @@ fn routes_named<'a>(node: &'a str) -> Option<Command<'a>>
     }
 }
 
+fn count_named<'a>(word: &str) -> Option<Command<'a>>
+    ensures { option_map asked_by result ≡ count_named word.now }
+{
+    match count_of(word) {
+        Some(count) => Some(Command::Gen(count)),
+        None => None,
+    }
+}
+
+fn audit_named<'a>(word: &str) -> Option<Command<'a>>
+    ensures { option_map asked_by result ≡ audit_named word.now }
+{
+    match workers_of(word) {
+        Some(workers) => Some(Command::Audit(workers)),
+        None => None,
+    }
+}
+
 #[tactic(auto, unfolding(crate::specs::Words::second_named))]
 fn second_named<'a>(word: &str, first: &'a str, second: &str) -> Option<Command<'a>>
     ensures { option_map asked_by result ≡ second_named word.now first.now second.now }
 {
-    if word == "release" {
-        release_named(first, second)
-    } else {
-        None
+    match word {
+        "release" => release_named(first, second),
+        "serve" => serve_named(first, second),
+        _ => None,
     }
 }
 
@@ -91,11 +120,11 @@ fn release_named<'a>(node: &'a str, block: &str) -> Option<Command<'a>>
     }
 }
 
-fn count_named<'a>(word: &str) -> Option<Command<'a>>
-    ensures { option_map asked_by result ≡ count_named word.now }
+fn serve_named<'a>(address: &'a str, word: &str) -> Option<Command<'a>>
+    ensures { option_map asked_by result ≡ serve_named address.now word.now }
 {
-    match count_of(word) {
-        Some(count) => Some(Command::Gen(count)),
+    match workers_of(word) {
+        Some(workers) => Some(Command::Serve(address, workers)),
         None => None,
     }
 }
@@ -107,6 +136,18 @@ fn count_of(word: &str) -> Option<u32>
     let count = number_of(word)?;
     if count <= MOST_GENERATED {
         Some(count)
+    } else {
+        None
+    }
+}
+
+/// The number that the word writes in decimal, where there may be so many workers.
+fn workers_of(word: &str) -> Option<u8>
+    ensures { result ≡ workers_of word.now }
+{
+    let workers = number_of(word)?;
+    if 1 <= workers && workers <= MOST_WORKERS as u32 {
+        Some(workers as u8)
     } else {
         None
     }

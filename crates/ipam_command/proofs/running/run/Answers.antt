@@ -1,8 +1,7 @@
 use Rattle.std.proofs.Common.{Some, refl, ap, rules, subst}
 use Rattle.ipam_words.specs.declared.command.Command.{Command}
-use Rattle.ipam_words.specs.Words.{Cni, Play, Apply, Get, Routes, Release, Gen, asked_by}
+use Rattle.ipam_words.specs.Words.{Cni, Play, Apply, Get, Help, IsSound, Routes, Release, Gen, Version, asked_by}
 use Rattle.ipam_commands.specs.Texts.{rows_text, routes_text}
-use Rattle.ipam_command.specs.Commands.{IsSound}
 use Rattle.ipam_command.proofs.CallLemmas.{call_by_records, leaves_spared, never_says_try_again, tells_of_add}
 use Rattle.ipam_command.proofs.DoLemmas.{apply-ends, asked, does-gen, does-play, does-tell, written-right}
 use Rattle.ipam_command.proofs.running.run.Goals as goal
@@ -15,8 +14,7 @@ returns-in-Play-clause-does g c =
     asked c.args.env.now _ (Some Play) _ _ _ (ap (λ (x : Command). Some (asked_by x)) c.in-Play.is)
     (does-play _ _ c.play.result _ c.code_of_play.ensures
     (record {
-      written = c.play.ensures.written;
-      right = written-right _ _ _ _ c.play.ensures.written;
+      written = written-right _ _ _ _ c.play.ensures.written;
       at_end = c.play.ensures.read;
       read_fault = c.play.ensures.read_fault;
       no_read_fault = c.play.ensures.no_read_fault;
@@ -79,3 +77,13 @@ returns-in-Apply-clause-does g c =
       ends = apply-ends (λ same. record { rows = search rules; keeper_faults = search rules }) c.apply.ensures.applied;
       at_end = c.apply.ensures.whole;
     })
+
+pub returns-in-Help-clause-does : goal.returns-in-Help-clause-does
+returns-in-Help-clause-does g c =
+    asked c.args.env.now _ (Some Help) _ _ _ (ap (λ (x : Command). Some (asked_by x)) c.in-Help.is)
+    (record { said = c.say.ensures.said; source = record { left = refl; read_faults = refl }; keeper = record { rows = refl; keeper_faults = refl } })
+
+pub returns-in-Version-clause-does : goal.returns-in-Version-clause-does
+returns-in-Version-clause-does g c =
+    asked c.args.env.now _ (Some Version) _ _ _ (ap (λ (x : Command). Some (asked_by x)) c.in-Version.is)
+    (record { said = c.say-in-Version.ensures.said; source = record { left = refl; read_faults = refl }; keeper = record { rows = refl; keeper_faults = refl } })

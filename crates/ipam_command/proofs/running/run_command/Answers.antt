@@ -1,16 +1,40 @@
-use Rattle.std.proofs.Common.{refl, sym}
-use Rattle.ipam_words.specs.Words.{asked_by}
-use Rattle.ipam_command.proofs.DoLemmas.{asked, does-unknown}
-use Rattle.ipam_command.proofs.WordLemmas.{sound-asked}
+use Rattle.ipam_command.proofs.Causes as rules
+use Rattle.ipam_command.proofs.Complete.{complete}
 use Rattle.ipam_command.proofs.running.run_command.Goals as goal
 
-pub run-requires : goal.run-requires
-run-requires g c = sound-asked _ (asked_by c.in-Some.command) c.in-Some.ensures
+pub returns-clause-status_0 : goal.returns-clause-status_0
+returns-clause-status_0 g c = rules.at_end c.args.env.now _ _ _ _ c.run_named.ensures.does
 
-pub returns-in-Some-clause-does : goal.returns-in-Some-clause-does
-returns-in-Some-clause-does g c = asked c.args.env.now _ _ _ _ _ (sym c.in-Some.ensures) c.run.ensures.does
+pub returns-clause-status_2_source : goal.returns-clause-status_2_source
+returns-clause-status_2_source g c =
+    λ is. let left = (rules.unknown c.args.env.now _ _ _ _ c.run_named.ensures.does is).0 in (left.left, left.read_faults)
 
-pub returns-in-None-clause-does : goal.returns-in-None-clause-does
-returns-in-None-clause-does g c =
-    does-unknown c.args.env.now _ _ _ _ (sym c.in-None.ensures) c.unknown.ensures.told
-    (record { left = refl; read_faults = refl }) (record { rows = refl; keeper_faults = refl })
+pub returns-clause-status_2_keeper : goal.returns-clause-status_2_keeper
+returns-clause-status_2_keeper g c =
+    λ is. let left = (rules.unknown c.args.env.now _ _ _ _ c.run_named.ensures.does is).1 in (left.rows, left.keeper_faults)
+
+pub returns-clause-status_3 : goal.returns-clause-status_3
+returns-clause-status_3 g c = rules.read_rose c.args.env.now _ _ _ _ c.run_named.ensures.does
+
+pub returns-clause-status_4 : goal.returns-clause-status_4
+returns-clause-status_4 g c = rules.write_rose c.args.env.now _ _ _ _ c.run_named.ensures.does
+
+pub returns-clause-status_5 : goal.returns-clause-status_5
+returns-clause-status_5 g c = rules.keeper_rose c.args.env.now _ _ _ _ c.run_named.ensures.does
+
+pub returns-clause-status_7 : goal.returns-clause-status_7
+returns-clause-status_7 g c = rules.broken_stay c.args.env.now _ _ _ _ c.run_named.ensures.does
+
+pub returns-clause-status_8 : goal.returns-clause-status_8
+returns-clause-status_8 g c = rules.only_play c.args.env.now _ _ _ _ c.run_named.ensures.does
+
+pub returns-clause-unread : goal.returns-clause-unread
+returns-clause-unread g c =
+    λ quiet. let left = rules.leaves_source c.args.env.now _ _ _ _ c.run_named.ensures.does quiet in (left.left, left.read_faults)
+
+pub returns-clause-unasked : goal.returns-clause-unasked
+returns-clause-unasked g c =
+    λ quiet. let left = rules.leaves_keeper c.args.env.now _ _ _ _ c.run_named.ensures.does quiet in (left.rows, left.keeper_faults)
+
+pub returns-clause-complete : goal.returns-clause-complete
+returns-clause-complete g c = complete c.args.env.now _ _ _ _ c.run_named.ensures.does

@@ -1,7 +1,7 @@
 use Rattle.std.proofs.Common.{ap, ◌∙◌, subst}
 use Rattle.std.specs.Io.KnownBytes.{append_known}
 use Rattle.ipam_io.specs.Streams.{AppendsPrefix}
-use Rattle.ipam_commands.specs.Telling.{Cut, Whole}
+use Rattle.ipam_commands.specs.Telling.{Cut, IsSaid, Whole}
 use Rattle.ipam_commands.proofs.telling.tell.Goals as goal
 
 pub returns-in-Ok-clause-written : goal.returns-in-Ok-clause-written
@@ -11,3 +11,6 @@ returns-in-Ok-clause-written g c =
 pub returns-in-Err-clause-written : goal.returns-in-Err-clause-written
 returns-in-Err-clause-written g c =
     Cut c.requires (subst (AppendsPrefix (g.K.Sink.written c.args.sink.now) (g.K.Sink.written c.write.new.self)) c.as_bytes.ensures.value c.in-Err.ensures.part) c.in-Err.ensures.fault
+
+pub returns-in-Ok-clause-told : goal.returns-in-Ok-clause-told
+returns-in-Ok-clause-told g c = λ none. subst IsSaid none c.requires

@@ -1,0 +1,228 @@
+-- Where no count of faults rose, a command writes its whole text, or there was no memory.
+use Rattle.std.proofs.Common.{◌≡◌, ◌≢◌, ℕ, ◌⊎◌, inl, inr, List, [], ◌++◌, Option, Some, None, Result, Ok, Err, refl, sym, ap, ◌∙◌, subst, append_assoc}
+use Rattle.std.specs.Prelude.{IfSome}
+use Rattle.std.specs.Io.KnownBytes.{append_known}
+use Rattle.ipam_records.specs.declared.call.Row.{Row as RowText}
+use Rattle.ipam_records.specs.Datastore.{Datastore}
+use Rattle.ipam_addr.specs.Shape.{CidrValue}
+use Rattle.ipam_model.specs.declared.request.Request.TheVariants as request
+use Rattle.ipam_kept.specs.Broken.{broken_line}
+use Rattle.ipam_kept.specs.declared.kept.KeptFault.{KeptFault}
+use Rattle.ipam_kept.specs.declared.kept.KeptFault.TheVariants as fault
+use Rattle.ipam_words.specs.declared.texts.TheConstants.{HELP, VERSION}
+use Rattle.ipam_words.specs.Words.{Asked, Audit, Call, Cni, Play, Apply, Get, Help, Routes, Release, Gen, Serve, Version}
+use Rattle.ipam_play_run.specs.declared.end.PlayEnd.{PlayEnd}
+use Rattle.ipam_play_run.specs.declared.end.PlayEnd.TheVariants as play
+use Rattle.ipam_play_run.specs.Writing.{WritesAll}
+use Rattle.ipam_play.specs.Played.{Whole as WholeScript, LineRefused, NotOpened as NotOpenedBase}
+use Rattle.ipam_gen.specs.declared.end.GenEnd.{GenEnd}
+use Rattle.ipam_gen.specs.declared.end.GenEnd.TheVariants as gen
+use Rattle.ipam_gen.specs.Summary.{CountsFaults, WritesSummary}
+use Rattle.ipam_headline.specs.Generating.{HasCountedRight}
+use Rattle.ipam_headline.specs.Headline.{HasWrittenRight, script_in}
+use Rattle.ipam_commands.specs.declared.outcome.ReleaseOutcome.{ReleaseOutcome}
+use Rattle.ipam_commands.specs.declared.status.Status.{Status}
+use Rattle.ipam_commands.specs.declared.status.Status.TheVariants as status
+use Rattle.ipam_commands.specs.Releasing.{ReleaseEnds, ReleaseWrites, outcome_line, outcome_status}
+use Rattle.ipam_commands.specs.Statuses.{code_of}
+use Rattle.ipam_commands.specs.Telling.{AreOpened, Cut, NotOpened, Opened, Tells, Untold, Whole, Writes, keeper_line}
+use Rattle.ipam_commands.specs.Texts.{rows_text, routes_text}
+use Rattle.ipam_resources.specs.declared.resource.Resource.{Resource}
+use Rattle.ipam_resources.specs.Documents.{document_reading}
+use Rattle.ipam_resources.specs.Printed.{applied_line, fault_line, refused_line}
+use Rattle.ipam_apply.specs.Applied as apply
+use Rattle.ipam_apply.specs.Applying as applying
+use Rattle.ipam_apply.specs.Inputs.{IsInput as IsDocument}
+use Rattle.ipam_apply.specs.Outside as apply_outside
+use Rattle.cni_types.specs.Reading.{Pair}
+use Rattle.ipam_cni.specs.declared.end.CniEnd.{CniEnd}
+use Rattle.ipam_cni.specs.declared.end.CniEnd.TheVariants.{Told, Failed}
+use Rattle.ipam_cni.specs.declared.end.CniFault.TheVariants as cni_fault
+use Rattle.ipam_cni.specs.Calls as cni
+use Rattle.ipam_cni.specs.Ends as cni_ends
+use Rattle.ipam_command.specs.Commands as does
+use Rattle.ipam_command.specs.Commands.{Does, Says, input_of, kept_of, unknown_text}
+use Rattle.ipam_command.specs.Outside.{LeavesKeeper, Outside, sides_of}
+use Rattle.ipam_command.specs.Rules as rules
+use Rattle.ipam_command.specs.Rules.{CompleteLaw, IsWhole, NoFault, ending_status}
+use Rattle.ipam_command.specs.Statuses.{code_of_gen, code_of_play}
+
+or-else : {A B C : Type 0} → (B → C) → A ⊎ B → A ⊎ C
+or-else f (inl a) = inl a
+or-else f (inr b) = inr (f b)
+
+append-twice : (bytes : Option (List ℕ)) (front text : List ℕ) → append_known (append_known bytes front) text ≡ append_known bytes (front ++ text)
+append-twice None front text = refl
+append-twice (Some xs) front text = rw append_assoc
+
+if-some : (P Q : List ℕ → Type 0) (left : Option (List ℕ)) → ((bytes : List ℕ) → P bytes → Q bytes) → IfSome left P → IfSome left Q
+if-some P Q None f h = h
+if-some P Q (Some bytes) f h = f bytes h
+
+module _ (old new : Outside) (well : NoFault old new) (code : ℕ) where
+  -- ---- what is written
+
+  -- after what was written before it
+  by-writes : (front text : List ℕ) (own ending : Status) → code ≡ code_of ending
+      → Writes (append_known old.written front) new.written old.write_faults new.write_faults text own ending
+      → (code ≡ 6) ⊎ IsWhole (front ++ text) (code_of own) old new code
+  by-writes front text own _ has (Whole is none) = inr (is ∙ append-twice old.written front text, has)
+  by-writes front text own _ has (Cut said is rose) = absurd (well.sink rose)
+  by-writes front text own _ has (Untold made same none) = inl has
+
+  at-once : (text : List ℕ) (own ending : Status) → code ≡ code_of ending
+      → Writes old.written new.written old.write_faults new.write_faults text own ending
+      → (code ≡ 6) ⊎ IsWhole text (code_of own) old new code
+  at-once text own _ has (Whole is none) = inr (is, has)
+  at-once text own _ has (Cut said is rose) = absurd (well.sink rose)
+  at-once text own _ has (Untold made same none) = inl has
+
+  not-done : (first : Option (List ℕ)) (text : List ℕ) (ending : Status) → code ≡ code_of ending
+      → Writes first new.written old.write_faults new.write_faults text status.Done ending → ending ≢ status.Done → code ≡ 6
+  not-done first text _ has (Whole is none) other = absurd (other refl)
+  not-done first text _ has (Cut said is rose) other = absurd (well.sink rose)
+  not-done first text _ has (Untold made same none) other = has
+
+  no-memory : (ending : Status) → code ≡ code_of ending → Writes old.written new.written old.write_faults new.write_faults [] status.NoMemory ending → code ≡ 6
+  no-memory _ has (Whole is none) = has
+  no-memory _ has (Cut said is rose) = absurd (well.sink rose)
+  no-memory _ has (Untold made same none) = has
+
+  said : (text : List ℕ) (own : ℕ) → Says text own old.written new.written old.write_faults new.write_faults code → (code ≡ 6) ⊎ IsWhole text own old new code
+  said text own s = by code s refl
+    where
+      by : (n : ℕ) → Says text own old.written new.written old.write_faults new.write_faults n → code ≡ n → (code ≡ 6) ⊎ IsWhole text own old new code
+      by _ (does.Told is none) has = inr (is, has)
+      by _ (does.Cut is rose) has = absurd (well.sink rose)
+
+  -- ---- the rows
+
+  told-rows : (says : List RowText → Datastore → List ℕ) (ending : Status) → code ≡ code_of ending
+      → Tells old.rows old.keeper_faults new.keeper_faults says (λ text own. Writes old.written new.written old.write_faults new.write_faults text own ending)
+      → (code ≡ 6) ⊎ rules.OfRows old.rows says (λ text own. IsWhole text own old new code)
+  told-rows says ending has (Opened rows store is none w) =
+      or-else (λ whole. rules.Opened rows store is whole) (at-once (says rows store) status.Done ending has w)
+  told-rows says ending has (NotOpened fault.Keeper is w) = absurd (well.keeper is)
+  told-rows says ending has (NotOpened (fault.Refused number about) is w) =
+      or-else (λ whole. rules.Broken number about is.0 whole) (at-once (broken_line number about) status.BrokenRows ending has w)
+  told-rows says ending has (NotOpened fault.Memory is w) = inl (no-memory ending has w)
+
+  released : (node : List ℕ) (cidr : CidrValue) (came : Result ReleaseOutcome KeptFault) (ending : Status) (told : Type 0) → code ≡ code_of ending
+      → ReleaseEnds (request.Release node cidr) came old.rows new.rows old.keeper_faults new.keeper_faults
+      → ReleaseWrites (λ text own. Writes old.written new.written old.write_faults new.write_faults text own ending) told came
+      → (code ≡ 6) ⊎ rules.OfRelease node cidr old new (λ text own. IsWhole text own old new code)
+  released node cidr (Ok found) ending told has ends w =
+      or-else (λ whole. rules.Came found ends.1 whole) (at-once (outcome_line found) (outcome_status found) ending has w.0)
+  released node cidr (Err fault.Keeper) ending told has ends w = absurd (well.keeper ends.0)
+  released node cidr (Err (fault.Refused number about)) ending told has ends w =
+      or-else (λ whole. rules.NotCome number about ends.1 whole) (at-once (broken_line number about) status.BrokenRows ending has w)
+  released node cidr (Err fault.Memory) ending told has ends w = inl (no-memory ending has w)
+
+  -- ---- a document
+
+  module _ (ending : Status) (has : code ≡ code_of ending) where
+    abbrev IsComplete : Type 0
+    IsComplete = (code ≡ 6) ⊎ rules.OfApply old new (λ text own. IsWhole text own old new code)
+
+    untold : ending ≡ status.NoMemory → code ≡ 6
+    untold is = has ∙ ap code_of is
+
+    module _ (document : List ℕ) (resources : List Resource) (input : IsDocument old.left new.left document) (is_good : document_reading document ≡ Ok resources) where
+      run : (rows : List RowText) (store : Datastore) → AreOpened old.rows rows store → applying.RunEnds store resources (kept_of old) (kept_of new) ending → IsComplete
+      run rows store opens (applying.All left applied is took done) =
+          inr (rules.All document resources rows store left input is_good opens applied (took.written, has ∙ ap code_of done))
+      run rows store opens (applying.UpTo front one rest before split applied (applying.Refused why is left says)) =
+          or-else (λ whole. rules.UpTo document resources front one rest rows store before why input is_good opens split applied is whole)
+          (by-writes (applying.applied_lines front) (refused_line one why) status.Refused ending has says)
+      run rows store opens (applying.UpTo front one rest before split applied (applying.Untold is left says not_done)) =
+          inl (not-done _ (applied_line one) ending has says not_done)
+      run rows store opens (applying.UpTo front one rest before split applied (applying.KeeperFailed first course rose says)) = absurd (well.keeper rose)
+      run rows store opens (applying.UpTo front one rest before split applied (applying.Stopped first course none same)) = inl (untold none.no_memory)
+
+      resources-end : apply.ResourcesEnd resources (kept_of old) (kept_of new) ending → IsComplete
+      resources-end (apply.Opened rows store opens ends) = run rows store opens ends
+      resources-end (apply.NotOpened fault.Keeper is same w) = absurd (well.keeper is)
+      resources-end (apply.NotOpened (fault.Refused number about) is same w) =
+          or-else (λ whole. rules.NotApplied document resources number about input is_good is.0 whole) (at-once (broken_line number about) status.BrokenRows ending has w)
+      resources-end (apply.NotOpened fault.Memory is same w) = inl (no-memory ending has w)
+
+    document-end : (same : Type 0) (document : List ℕ) → IsDocument old.left new.left document → apply.DocumentEnds same document (kept_of old) (kept_of new) ending → IsComplete
+    document-end same document input (apply.Good resources is ends) = resources-end document resources input is ends
+    document-end same document input (apply.Bad why is unasked says) =
+        or-else (λ whole. rules.Bad document why input is whole) (at-once (fault_line why) status.Refused ending has says)
+    document-end same document input (apply.NoRoom unasked none) = inl (untold none.no_memory)
+
+    applied : (same : Type 0) → apply.ApplyEnds same (input_of old) (input_of new) (kept_of old) (kept_of new) ending → IsComplete
+    applied same (apply.Read document input faults ends) = document-end same document input ends
+    applied same (apply.ReadFailed rose unasked says) = absurd (well.source rose)
+    applied same (apply.NoInput faults unasked none) = inl (untold none.no_memory)
+
+  -- ---- a script, and the generator
+
+  abbrev AllWritten : List ℕ → Type 0
+  AllWritten bytes = WritesAll (script_in bytes) old.written new.written (λ ending. code ≡ ending_status ending)
+
+  abbrev WrittenAs : PlayEnd → List ℕ → Type 0
+  WrittenAs ending bytes = HasWrittenRight ending (script_in bytes) old.written new.written
+
+  played : (ending : PlayEnd) → code ≡ code_of_play ending → does.IsPlayed old new ending → (code ≡ 6) ⊎ IfSome old.left AllWritten
+  played play.Done has is = inr (if-some (WrittenAs play.Done) AllWritten old.left (λ bytes w. record {
+    entries = w.0.entries;
+    ending = w.0.ending;
+    is_played = w.0.is_played;
+    written = w.0.written;
+    is_ending = has ∙ ap ending_status (sym w.0.is_ending);
+  }) is.written)
+  played play.LineRefused has is = inr (if-some (WrittenAs play.LineRefused) AllWritten old.left (λ bytes w. record {
+    entries = w.0.entries;
+    ending = w.0.ending;
+    is_played = w.0.is_played;
+    written = w.0.written;
+    is_ending = let (number, (why, e)) = w.0.is_ending in has ∙ ap ending_status (sym e);
+  }) is.written)
+  played play.NotOpened has is = inr (if-some (WrittenAs play.NotOpened) AllWritten old.left (λ bytes w. record {
+    entries = w.0.entries;
+    ending = w.0.ending;
+    is_played = w.0.is_played;
+    written = w.0.written;
+    is_ending = let (rule, (about, e)) = w.0.is_ending in has ∙ ap ending_status (sym e);
+  }) is.written)
+  played play.ReadFault has is = absurd (well.source (is.read_fault refl))
+  played play.WriteFault has is = absurd (well.sink (is.write_fault refl))
+  played play.NoMemory has is = inl has
+
+  generated : (count : ℕ) (ending : GenEnd) → code ≡ code_of_gen ending → HasCountedRight ending count old.written new.written → CountsFaults ending old.write_faults new.write_faults
+      → (code ≡ 6) ⊎ (WritesSummary count old.written new.written × (code ≡ 0))
+  generated count gen.Done has w faults = inr (w.0, has)
+  generated count gen.WriteFault has w faults = absurd (well.sink faults)
+  generated count gen.NoMemory has w faults = inl has
+
+  -- ---- a CNI call
+
+  called : (env : List Pair) (ending : CniEnd) → cni.Went env ending (sides_of old) (sides_of new) → cni_ends.Tells ending old.written new.written old.write_faults new.write_faults code
+      → (code ≡ 6) ⊎ rules.OfCall env old new code
+  called env (Told own text) went (inl (is, same)) =
+      inr (rules.Replied went.stdin (own, text) went.input went.ends.1 (record { text = is.bytes; has_status = same }))
+  called env (Told own text) went (inr (is, same)) = absurd (well.sink is.fault)
+  called env (Failed version cni_fault.Read) went tells = absurd (well.source went.input_faults)
+  called env (Failed version cni_fault.Keeper) went tells = absurd (well.keeper went.ends.0)
+  called env (Failed version cni_fault.Memory) went (inl (inl (is, same))) = inr (rules.NoMemory version (record { text = is.bytes; has_status = same }))
+  called env (Failed version cni_fault.Memory) went (inl (inr (is, same))) = absurd (well.sink is.fault)
+  called env (Failed version cni_fault.Memory) went (inr (is, same)) = inl same
+
+-- ---- all
+
+pub complete : (env : List Pair) (asked : Option Asked) (old new : Outside) (code : ℕ) → Does env asked old new code → CompleteLaw env asked old new code
+complete env (Some Cni) old new code d well = called old new well code env d.ending d.went d.tells
+complete env (Some Play) old new code d well = played old new well code d.ending d.has_status d.played
+complete env (Some (Gen count)) old new code d well = generated old new well code count d.ending d.has_status d.written d.faults
+complete env (Some (Get kind)) old new code d well = told-rows old new well code (λ rows store. rows_text kind rows) d.ending d.has_status d.tells
+complete env (Some (Routes node)) old new code d well = told-rows old new well code (λ rows store. routes_text node store) d.ending d.has_status d.tells
+complete env (Some (Release node cidr)) old new code d well = released old new well code node cidr d.came d.ending _ d.has_status d.ends d.writes
+complete env (Some Apply) old new code d well = applied old new well code d.ending d.has_status (LeavesKeeper old new) d.ends
+complete env (Some Help) old new code d well = said old new well code HELP 0 d.said
+complete env (Some Version) old new code d well = said old new well code VERSION 0 d.said
+complete env (Some (Audit workers)) old new code d well = said old new well code unknown_text 2 d.said
+complete env (Some (Serve address workers)) old new code d well = said old new well code unknown_text 2 d.said
+complete env (Some (Call address)) old new code d well = said old new well code unknown_text 2 d.said
+complete env None old new code d well = said old new well code unknown_text 2 d.said

@@ -1,0 +1,4 @@
+-- What the environment says.
+pub mod Values
+pub mod Call
+pub mod Database

@@ -1,0 +1,114 @@
+-- What words ask is sound.
+use Rattle.std.proofs.Common.{◌≡◌, ℕ, ◌<◌, ◌≤◌, ◌&&◌, Bool, true, false, List, [], ◌∷◌, Option, Some, None, refl, sym, subst}
+use Rattle.std.specs.Prelude.{bytes_eq, codes, nat_le, option_map, option_and_then, IfSome, Result, Ok, Err, if◌then◌else◌}
+use Rattle.std.proofs.lemmas.Bool.{leb-true}
+use Rattle.ipam_addr.specs.declared.cidrs.AddrFault.{AddrFault}
+use Rattle.ipam_addr.specs.Names.{is_name_text}
+use Rattle.ipam_addr.specs.Shape.{CidrValue}
+use Rattle.ipam_addr.specs.Text.{cidr_reading}
+use Rattle.ipam_words.specs.declared.command.Command.{Command}
+use Rattle.ipam_words.specs.declared.kind.RowKind.{RowKind}
+use Rattle.ipam_words.specs.declared.reading.TheConstants.{MOST_WORKERS}
+use Rattle.ipam_words.specs.Kinds.{kind_named}
+use Rattle.ipam_words.specs.Words.{AreWorkers, Asked, Cni, Play, Apply, Get, Routes, Gen, Audit, Serve, Call, Help, Version, IsSound, asked_by, audit_named, command_named, count_named, count_of, first_named, get_named, get_of, number_of, release_named, release_of, routes_named, second_named, serve_named, word_named, workers_of, workers_within}
+
+-- what is asked, if anything, is sound
+abbrev AllSound : Option Asked → Type 0
+AllSound None = Unit {0}
+AllSound (Some asked) = IsSound asked
+
+if-sound : (b : Bool) (one other : Option Asked) → AllSound one → AllSound other → AllSound (if b then one else other)
+if-sound true one other h k = h
+if-sound false one other h k = k
+
+one-word : (word : List ℕ) → AllSound (word_named word)
+unfolding word_named
+one-word word =
+    if-sound (bytes_eq word (codes "cni")) (Some Cni) _ tt
+    (if-sound (bytes_eq word (codes "play")) (Some Play) _ tt
+    (if-sound (bytes_eq word (codes "apply")) (Some Apply) _ tt
+    (if-sound (bytes_eq word (codes "get")) (Some (Get None)) _ tt
+    (if-sound (bytes_eq word (codes "--help")) (Some Help) _ tt
+    (if-sound (bytes_eq word (codes "--version")) (Some Version) None tt tt)))))
+
+get-sound : (kind : Option RowKind) → AllSound (get_of kind)
+get-sound None = tt
+get-sound (Some kind) = tt
+
+gen-sound : (count : Option ℕ) → AllSound (option_map Gen count)
+gen-sound None = tt
+gen-sound (Some count) = tt
+
+routes-sound : (node : List ℕ) → AllSound (routes_named node)
+unfolding routes_named
+routes-sound node = if-sound (is_name_text node) (Some (Routes node)) None tt tt
+
+-- ---- workers
+
+abbrev AllWorkers : Option ℕ → Type 0
+AllWorkers None = Unit {0}
+AllWorkers (Some n) = AreWorkers n
+
+within : (n : ℕ) → AllWorkers (workers_within n)
+within n = by (nat_le 1 n) (nat_le n MOST_WORKERS) refl refl
+  where
+    by : (some few : Bool) → nat_le 1 n ≡ some → nat_le n MOST_WORKERS ≡ few → AllWorkers (if some && few then Some n else None)
+    by true true some few = (leb-true 1 n some, leb-true n MOST_WORKERS few)
+    by true false some few = tt
+    by false few some is = tt
+
+number-workers : (number : Option ℕ) → AllWorkers (option_and_then workers_within number)
+number-workers None = tt
+number-workers (Some n) = within n
+
+audit-sound : (workers : Option ℕ) → AllWorkers workers → AllSound (option_map Audit workers)
+audit-sound None h = tt
+audit-sound (Some n) h = h
+
+serve-sound : (address : List ℕ) (workers : Option ℕ) → AllWorkers workers → AllSound (option_map (Serve address) workers)
+serve-sound address None h = tt
+serve-sound address (Some n) h = h
+
+-- ---- two words, and three
+
+two-words : (word first : List ℕ) → AllSound (first_named word first)
+unfolding first_named
+two-words word first =
+    if-sound (bytes_eq word (codes "get")) (get_named first) _ (get-sound (kind_named first))
+    (if-sound (bytes_eq word (codes "routes")) (routes_named first) _ (routes-sound first)
+    (if-sound (bytes_eq word (codes "gen")) (count_named first) _ (gen-sound (count_of first))
+    (if-sound (bytes_eq word (codes "audit")) (audit_named first) _ (audit-sound (workers_of first) (number-workers (number_of first)))
+    (if-sound (bytes_eq word (codes "call")) (Some (Call first)) None tt tt))))
+
+block-sound : (node : List ℕ) (read : Result CidrValue AddrFault) → is_name_text node ≡ true → AllSound (release_of node read)
+block-sound node (Ok cidr) named = named
+block-sound node (Err fault) named = tt
+
+release-sound : (node block : List ℕ) → AllSound (release_named node block)
+unfolding release_named
+release-sound node block = by (is_name_text node) refl
+  where
+    by : (b : Bool) → is_name_text node ≡ b → AllSound (if b then release_of node (cidr_reading block) else None)
+    by true named = block-sound node (cidr_reading block) named
+    by false named = tt
+
+three-words : (word first second : List ℕ) → AllSound (second_named word first second)
+unfolding second_named
+three-words word first second =
+    if-sound (bytes_eq word (codes "release")) (release_named first second) _ (release-sound first second)
+    (if-sound (bytes_eq word (codes "serve")) (serve_named first second) None (serve-sound first (workers_of second) (number-workers (number_of second))) tt)
+
+-- ---- what was read
+
+if-some : (read : Option Command) (named : Option Asked) → option_map asked_by read ≡ named → AllSound named → IfSome read (λ command. IsSound (asked_by command))
+if-some None named is h = tt
+if-some (Some command) named is h = subst (λ (o : Option Asked). AllSound o) (sym is) h
+
+pub one_sound : (word : List ℕ) (read : Option Command) → option_map asked_by read ≡ word_named word → IfSome read (λ command. IsSound (asked_by command))
+one_sound word read is = if-some read (word_named word) is (one-word word)
+
+pub two_sound : (word first : List ℕ) (read : Option Command) → option_map asked_by read ≡ first_named word first → IfSome read (λ command. IsSound (asked_by command))
+two_sound word first read is = if-some read (first_named word first) is (two-words word first)
+
+pub three_sound : (word first second : List ℕ) (read : Option Command) → option_map asked_by read ≡ second_named word first second → IfSome read (λ command. IsSound (asked_by command))
+three_sound word first second read is = if-some read (second_named word first second) is (three-words word first second)

@@ -1,0 +1,27 @@
+/// What `--help` tells.
+pub const HELP: &str = "\
+Pod addresses, handed out once.
+
+  ipam                 makes one CNI call; so does ipam cni
+  ipam play < SCRIPT   plays a script of datastore calls, and writes the journal of what happened
+  ipam gen N           runs N drawn requests and a collection, and writes a summary
+  ipam apply < FILE    applies an IPPool, an IPReservation, an IPAMConfiguration or a list of them, in JSON
+  ipam get             writes every row of the database: its key, its revision and its body
+  ipam get KIND        the same of one kind: config, pools, reservations, block, affinity or handle
+  ipam routes NODE     writes the blocks that are confirmed to the node
+  ipam release NODE CIDR
+                       releases the node's affinity to the block
+  ipam audit N         opens the database with N workers, 1 to 16, and writes which counts and affinities are
+                       left over; docs/OPERATING.md says what to do about them
+  ipam serve ADDRESS N serves CNI calls and requests at HOST:PORT, by N workers (1 to 16)
+  ipam call ADDRESS    makes one CNI call of the daemon at HOST:PORT
+  ipam --help          writes this
+  ipam --version       writes the version
+
+The database is the file that IPAM_DB names, else ipam.db.
+
+Example: ipam play < examples/first-run.script
+";
+
+/// What `--version` tells.
+pub const VERSION: &str = "ipam 0.1.0\n";

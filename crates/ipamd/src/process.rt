@@ -1,0 +1,69 @@
+//! What the process was given: its words and its environment.
+use ipam_text::Seq;
+use std::alloc::AllocError;
+use std::env::FillError;
+use std::io::ErrorKind;
+use std::rt::Env;
+use std::{env, io};
+
+/// Stands for words of which one is no text. It names no command.
+const NO_TEXT: &str = "\u{fffd}";
+
+/// The bytes that an entry of the environment is first read into.
+const FIRST_ROOM: usize = 256;
+
+/// The words after the program's name.
+pub(crate) fn words_of(rt: &HostRuntime) -> Result<Vec<String>, AllocError> {
+    match env::args(rt) {
+        Ok(args) => after_name(rt, args),
+        Err(error) => unread(rt, &error),
+    }
+}
+
+fn after_name(rt: &HostRuntime, args: env::Args) -> Result<Vec<String>, AllocError> {
+    let mut words = Vec::new(rt.alloc());
+    for word in args.skip(1) {
+        words.push(word)?;
+    }
+    Ok(words)
+}
+
+/// The words that weren't read, since one is no text or there was no memory.
+fn unread(rt: &HostRuntime, error: &io::Error) -> Result<Vec<String>, AllocError> {
+    if error.kind() != ErrorKind::InvalidData {
+        return Err(AllocError);
+    }
+    let mut words = Vec::new(rt.alloc());
+    words.push(String::from_str(rt.alloc(), NO_TEXT)?)?;
+    Ok(words)
+}
+
+/// The entries of the environment, in their order.
+pub(crate) fn entries_of(rt: &HostRuntime) -> Result<Vec<Seq<u8>>, AllocError> {
+    let mut entries = Vec::new(rt.alloc());
+    for number in 0..usize::MAX {
+        match entry_at(rt, number)? {
+            Some(entry) => entries.push(entry)?,
+            None => break,
+        }
+    }
+    Ok(entries)
+}
+
+/// The entry of this number. None where there are no more.
+fn entry_at(rt: &HostRuntime, number: usize) -> Result<Option<Seq<u8>>, AllocError> {
+    let mut room = FIRST_ROOM;
+    for _ in 0..usize::BITS {
+        let mut entry = Vec::new(rt.alloc());
+        entry.resize(room, 0u8)?;
+        match rt.var_at(number, entry.as_mut_slice()) {
+            Ok(length) => {
+                entry.truncate(length);
+                return Ok(Some(Seq::of(entry)));
+            }
+            Err(FillError::TooLong) => room = room.saturating_mul(2),
+            Err(FillError::NotPresent) => return Ok(None),
+        }
+    }
+    Err(AllocError)
+}

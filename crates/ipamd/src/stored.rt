@@ -1,0 +1,73 @@
+//! Commands over the database.
+use crate::no_file::NoFile;
+use crate::telling::{tell_no_path, tell_why};
+use ipam_audit::run_audit;
+use ipam_command::run_command;
+use ipam_io::{StdSink, StdSource};
+use ipam_keeper::Keeper;
+use ipam_sqlite::FileKeeper;
+use ipam_text::Text;
+use ipam_words::{Command, read_words};
+use std::io;
+use std::thread::Threads;
+
+/// What a command does with the database.
+#[derive(Clone, Copy)]
+pub(crate) enum Use {
+    /// It reads and writes it, and makes it where it is not there.
+    Keep,
+    /// It reads it.
+    Look,
+}
+
+/// Runs the command over the database file at the path, which is opened once the command asks for its
+/// rows. `threads` is the runtime too: what makes threads.
+pub(crate) fn run_at<R: Threads + Sync>(
+    rt: &HostRuntime,
+    threads: &R,
+    words: &[String],
+    variables: &[(Text, Text)],
+    path: &str,
+    aim: Use,
+) -> u8 {
+    let mut keeper = match aim {
+        Use::Keep => FileKeeper::new(rt, path),
+        Use::Look => FileKeeper::reader(rt, path),
+    };
+    let status = run_over(rt, threads, words, variables, &mut keeper);
+    if let Some(why) = keeper.why() {
+        tell_why(rt, path, why);
+    }
+    status
+}
+
+/// The same where the environment names a database and no path of one: what asks for its rows fails.
+pub(crate) fn run_at_none<R: Threads + Sync>(
+    rt: &HostRuntime,
+    threads: &R,
+    words: &[String],
+    variables: &[(Text, Text)],
+) -> u8 {
+    let mut keeper = NoFile::new();
+    let status = run_over(rt, threads, words, variables, &mut keeper);
+    if keeper.was_asked() {
+        tell_no_path(rt);
+    }
+    status
+}
+
+/// Runs the command over standard input and output and the keeper.
+fn run_over<R: Threads + Sync, D: Keeper>(
+    rt: &HostRuntime,
+    threads: &R,
+    words: &[String],
+    variables: &[(Text, Text)],
+    keeper: &mut D,
+) -> u8 {
+    let mut source = StdSource::new(rt.stdin());
+    let mut sink = StdSink::new(io::writer(rt));
+    match read_words(words) {
+        Some(Command::Audit(_)) => run_audit(threads, rt.alloc(), words, &mut sink, keeper),
+        _ => run_command(rt.alloc(), words, variables, &mut source, &mut sink, keeper),
+    }
+}

@@ -1,0 +1,44 @@
+//! What is told on standard error: a line for the cause of what standard output tells shortly. Where it
+//! can't be written, nothing else changes.
+use ipam_sqlite::StorageFault;
+
+/// The words that begin a command.
+const FIRST_WORDS: [&str; 12] = [
+    "cni",
+    "play",
+    "gen",
+    "apply",
+    "get",
+    "routes",
+    "release",
+    "audit",
+    "serve",
+    "call",
+    "--help",
+    "--version",
+];
+
+/// Tells which of the words is unknown, or that the command doesn't take those that follow it.
+pub(crate) fn tell_unknown(rt: &HostRuntime, words: &[String]) {
+    let first = match words {
+        [first, ..] => first.as_str(),
+        [] => "",
+    };
+    let _ = if first == "\u{fffd}" {
+        eprintln!(rt; "ipam: a word is no UTF-8; ipam --help tells the words")
+    } else if FIRST_WORDS.contains(&first) {
+        eprintln!(rt; "ipam: {first} does not take these words; ipam --help tells the words")
+    } else {
+        eprintln!(rt; "ipam: unknown word {first:?}; ipam --help tells the words")
+    };
+}
+
+/// Tells why the database failed.
+pub(crate) fn tell_why(rt: &HostRuntime, path: &str, why: StorageFault) {
+    let _ = eprintln!(rt; "ipam: {path}: {why}");
+}
+
+/// Tells that `IPAM_DB` names no file.
+pub(crate) fn tell_no_path(rt: &HostRuntime) {
+    let _ = eprintln!(rt; "ipam: IPAM_DB is empty or no UTF-8, so it names no file");
+}
