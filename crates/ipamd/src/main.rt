@@ -17,6 +17,7 @@ use log::Log;
 use process::{entries_of, words_of};
 use serving::serve_database;
 use std::alloc::AllocError;
+use std::fs::Files;
 use std::io;
 use std::net::{Net, TcpListener, TcpStream};
 use std::process::ExitCode;
@@ -39,6 +40,7 @@ fn run<
         + Wait
         + Log
         + Clock
+        + Files
         + Net<Listener = TcpListener, Stream = TcpStream>
         + Copy
         + Send

@@ -9,6 +9,7 @@ use ipam_text::Seq;
 use log::Log;
 use sqlite::Alter;
 use std::alloc::{AllocError, Global};
+use std::fs::Files;
 use std::io;
 use std::net::{Net, TcpListener, TcpStream};
 use std::rt::Clock;
@@ -22,6 +23,7 @@ pub(crate) fn serve_database<
         + Wait
         + Log
         + Clock
+        + Files
         + Net<Listener = TcpListener, Stream = TcpStream>
         + Copy
         + Send
@@ -50,6 +52,7 @@ fn serve_at<
         + Wait
         + Log
         + Clock
+        + Files
         + Net<Listener = TcpListener, Stream = TcpStream>
         + Copy
         + Send
@@ -72,6 +75,7 @@ fn serve_stored<
         + Wait
         + Log
         + Clock
+        + Files
         + Net<Listener = TcpListener, Stream = TcpStream>
         + Copy
         + Send
