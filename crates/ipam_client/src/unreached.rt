@@ -2,7 +2,7 @@
 ghost use Rattle.std.specs.Prelude.{◌≡◌};
 ghost use Rattle.ipam_call.specs.declared.end.CallEnd.{CallEnd as End};
 ghost use Rattle.ipam_call.specs.Ends.{Tells, IsStatus};
-ghost use Rattle.ipam_client.specs.Unreached.{IsUnreached};
+ghost use Rattle.ipam_client.specs.Unreached.{IsUnreached, unreached_fault};
 
 use cni_types::Version;
 use ipam_call::{CallEnd, CallFault, call_daemon, tell_end};
@@ -16,7 +16,7 @@ struct NoLink {
 }
 
 impl Source for NoLink {
-    ghost use Rattle.std.specs.Prelude.{Some, []};
+    ghost use Rattle.std.specs.Prelude.{None, Some, []};
 
     ghost left = { λ _. Some [] };
 
@@ -30,7 +30,7 @@ impl Source for NoLink {
 }
 
 impl Sink for NoLink {
-    ghost use Rattle.std.specs.Prelude.{None};
+    ghost use Rattle.std.specs.Prelude.{None, Some, []};
 
     ghost written = { λ _. None };
 
