@@ -162,7 +162,7 @@ module _ (asked : Option Asked) (old new : Outside) (ending : Status) (at_end : 
   no-memory is = subst (λ (s : Status). Causes asked old new s) (sym is) tt
 
   at-cause : (store : Datastore) (one : Resource) (front : List ℕ) → applying.EndsAt store one (apply_outside.with_text (kept_of old) front) (kept_of new) ending → Causes asked old new ending
-  at-cause store one front (applying.Refused why is left says) = by-writes asked old new _ (refused_line one why) status.Refused ending says (λ e. tt)
+  at-cause store one front (applying.Refused why is course left says) = by-writes asked old new _ (refused_line one why) status.Refused ending says (λ e. tt)
   at-cause store one front (applying.Untold is left says not_done) = by-writes asked old new _ (applied_line one) status.Done ending says (λ e. absurd (not_done e))
   at-cause store one front (applying.KeeperFailed first course rose says) = by-writes asked old new _ keeper_line status.KeeperFault ending says (λ e. rose)
   at-cause store one front (applying.Stopped first course untold none) = no-memory untold.no_memory
@@ -250,7 +250,7 @@ reply-small (Failure code details) = omega arith
 
 request-small : (asked : Request) (version : versions.Version) (old new : Option (List RowText)) (reply : replies.Reply) → replies.RequestComesTo asked version old new reply → reply.0 ≤ 1
 request-small asked version old new _ (replies.BadRows loaded number about is refused same) = omega arith
-request-small asked version old new _ (replies.Answered loaded store reply is opens told rows) = reply-small reply
+request-small asked version old new _ (replies.Answered loaded store reply is opens told rows course) = reply-small reply
 
 comes-small : (env : List Pair) (stdin : List ℕ) (old new : Option (List RowText)) (reply : replies.Reply) → replies.ComesTo env stdin old new reply → reply.0 ≤ 1
 comes-small env stdin old new _ (replies.Refused error is same) = omega arith

@@ -131,7 +131,7 @@ module _ (old new : Outside) (well : NoFault old new) (code : ℕ) where
       run : (rows : List RowText) (store : Datastore) → AreOpened old.rows rows store → applying.RunEnds store resources (kept_of old) (kept_of new) ending → IsComplete
       run rows store opens (applying.All left applied is took done) =
           inr (rules.All document resources rows store left input is_good opens applied (took.written, has ∙ ap code_of done))
-      run rows store opens (applying.UpTo front one rest before split applied (applying.Refused why is left says)) =
+      run rows store opens (applying.UpTo front one rest before split applied (applying.Refused why is course left says)) =
           or-else (λ whole. rules.UpTo document resources front one rest rows store before why input is_good opens split applied is whole)
           (by-writes (applying.applied_lines front) (refused_line one why) status.Refused ending has says)
       run rows store opens (applying.UpTo front one rest before split applied (applying.Untold is left says not_done)) =
