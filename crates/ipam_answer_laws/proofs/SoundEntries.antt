@@ -36,11 +36,11 @@ use Rattle.ipam_laws.proofs.SoundSteps.{row-there}
 use Rattle.ipam_laws.proofs.StoreSteps.{replies}
 use Rattle.ipam_answer_laws.specs.Answers.{FitsIn64, IsSoundAnswer}
 use Rattle.ipam_answer_laws.specs.Limits.{IsSoundName, IsSoundTold}
-use Rattle.ipam_answer_laws.specs.Entries.{HasTime, IsSoundEnding, IsSoundEntry, IsSoundWritten}
+use Rattle.ipam_answer_laws.specs.Entries.{HasSoundName, HasTime, IsSoundEnding, IsSoundEntry, IsSoundWritten}
 use Rattle.ipam_answer_laws.proofs.Tells.{IsSoundRow, IsSoundSaid, Tells}
 use Rattle.ipam_answer_laws.proofs.TellsRequests.{word-tells}
 
--- ---- what a sound datastore within its limits says
+-- ---- what a sound datastore says
 
 row-fits : (counter : ℕ) (row : StoredRecord) → counter ≤ last_revision → IsRow counter row → IsSoundRow row
 row-fits counter row most h = let given = h.given in (h.is_record, omega (arith, most, given))
@@ -101,25 +101,73 @@ changed-sound store revision k sound = from (row_of k store.rows) refl
     from None e = tt
     from (Some row) e = same row e (row.0 == revision)
 
-said-sound : (store : Datastore) (asked : Call) → IsDatastore store → IsWithinLimits store → IsSoundSaid (reply_of store asked)
-said-sound store (Get k) sound limits = found-sound store k sound
-said-sound store (ListAll kind) sound limits =
+said-sound : (store : Datastore) (asked : Call) → IsDatastore store → IsSoundSaid (reply_of store asked)
+said-sound store (Get k) sound = found-sound store k sound
+said-sound store (ListAll kind) sound =
+    rows-sound store.counter store.rows sound.counted (recursion_from_All (IsRow store.counter) store.rows sound.rows) kind
+said-sound store (Create new) sound = created-sound store (key_of new) sound
+said-sound store (Update new revision) sound = changed-sound store revision (key_of new) sound
+said-sound store (Delete k revision) sound = changed-sound store revision k sound
+
+-- ---- how many rows are listed
+
+-- a list has so few rows that 64 bits hold their number
+abbrev AreFew : Said → Type 0
+AreFew (Found revision found) = Unit {0}
+AreFew Missing = Unit {0}
+AreFew (Listed rows) = FitsIn64 (length rows)
+AreFew (Can revision) = Unit {0}
+AreFew (Exists revision) = Unit {0}
+AreFew (Conflict revision) = Unit {0}
+AreFew Full = Unit {0}
+AreFew Spent = Unit {0}
+
+granted-few : (store : Datastore) → AreFew (granted store)
+granted-few store = from (nat_lt store.counter last_revision)
+  where
+    from : (b : Bool) → AreFew (cond b (Can (store.counter + 1)) Spent)
+    from true = tt
+    from false = tt
+
+created-few : (store : Datastore) (k : Key) (o : Option StoredRecord) → AreFew (reply_to_create store k o)
+created-few store k (Some row) = tt
+created-few store k None = from (has_room store k)
+  where
+    from : (b : Bool) → AreFew (cond b (granted store) Full)
+    from true = granted-few store
+    from false = tt
+
+changed-few : (store : Datastore) (revision : ℕ) (o : Option StoredRecord) → AreFew (reply_to_change store revision o)
+changed-few store revision None = tt
+changed-few store revision (Some row) = from (row.0 == revision)
+  where
+    from : (b : Bool) → AreFew (cond b (granted store) (Conflict row.0))
+    from true = granted-few store
+    from false = tt
+
+found-few : (o : Option StoredRecord) → AreFew (reply_to_get o)
+found-few None = tt
+found-few (Some row) = tt
+
+said-few : (store : Datastore) (asked : Call) → IsWithinLimits store → AreFew (reply_of store asked)
+said-few store (Get k) limits = found-few (row_of k store.rows)
+said-few store (ListAll kind) limits =
     let fewer = no-more (λ row. is_of_kind kind (row_key row)) store.rows in
     let few = limits.few_rows in
-    (rows-sound store.counter store.rows sound.counted (recursion_from_All (IsRow store.counter) store.rows sound.rows) kind, omega (arith, fewer, few))
-said-sound store (Create new) sound limits = created-sound store (key_of new) sound
-said-sound store (Update new revision) sound limits = changed-sound store revision (key_of new) sound
-said-sound store (Delete k revision) sound limits = changed-sound store revision k sound
+    omega (arith, fewer, few)
+said-few store (Create new) limits = created-few store (key_of new) (row_of (key_of new) store.rows)
+said-few store (Update new revision) limits = changed-few store revision (row_of (key_of new) store.rows)
+said-few store (Delete k revision) limits = changed-few store revision (row_of k store.rows)
 
-told-sound : (said : Said) → IsSoundSaid said → IsSoundTold (told_of said)
-told-sound (Found revision found) h = h.1
-told-sound Missing h = tt
-told-sound (Listed rows) h = h.1
-told-sound (Can revision) h = h
-told-sound (Exists revision) h = h
-told-sound (Conflict revision) h = h
-told-sound Full h = tt
-told-sound Spent h = tt
+told-sound : (said : Said) → IsSoundSaid said → AreFew said → IsSoundTold (told_of said)
+told-sound (Found revision found) h few = h.1
+told-sound Missing h few = tt
+told-sound (Listed rows) h few = few
+told-sound (Can revision) h few = h
+told-sound (Exists revision) h few = h
+told-sound (Conflict revision) h few = h
+told-sound Full h few = tt
+told-sound Spent h few = tt
 
 -- ---- what runs in a slot
 
@@ -136,36 +184,36 @@ fed-slot : (live : List (List ℕ)) (o : Option Running) → OfSlot o → OfSlot
 fed-slot live None h = tt
 fed-slot live (Some running) h = fed-word live running.word h
 
-heard-word : (store : Datastore) (moment : ℕ) (w : Word Answer) → FitsIn64 moment → IsDatastore store → IsWithinLimits store → Tells IsSoundAnswer w → Tells IsSoundAnswer (word_after_reply store moment w)
-heard-word store moment (Ends answer) fits sound limits h = h
-heard-word store moment (Asks label asked next) fits sound limits h = h.1 moment (reply_of store asked) fits (said-sound store asked sound limits)
-heard-word store moment (Waits next) fits sound limits h = h
+heard-word : (store : Datastore) (moment : ℕ) (w : Word Answer) → FitsIn64 moment → IsDatastore store → Tells IsSoundAnswer w → Tells IsSoundAnswer (word_after_reply store moment w)
+heard-word store moment (Ends answer) fits sound h = h
+heard-word store moment (Asks label asked next) fits sound h = h.1 moment (reply_of store asked) fits (said-sound store asked sound)
+heard-word store moment (Waits next) fits sound h = h
 
-goes-slot : (store : Datastore) (moment : ℕ) (answer : Option Answer) (o : Option Running) → FitsIn64 moment → IsDatastore store → IsWithinLimits store → OfSlot o → OfSlot (goes_on store moment answer o)
-goes-slot store moment (Some answer) o fits sound limits h = tt
-goes-slot store moment None None fits sound limits h = tt
-goes-slot store moment None (Some running) fits sound limits h = heard-word store moment running.word fits sound limits h
+goes-slot : (store : Datastore) (moment : ℕ) (answer : Option Answer) (o : Option Running) → FitsIn64 moment → IsDatastore store → OfSlot o → OfSlot (goes_on store moment answer o)
+goes-slot store moment (Some answer) o fits sound h = tt
+goes-slot store moment None None fits sound h = tt
+goes-slot store moment None (Some running) fits sound h = heard-word store moment running.word fits sound h
 
-slots-tell : (base : Base) (history : List Entry) → IsDatastore base.store → IsWithinLimits base.store → Lawful base history → (slot : ℕ) → OfSlot ((cluster_at base history).slots slot)
+slots-tell : (base : Base) (history : List Entry) → IsDatastore base.store → Lawful base history → (slot : ℕ) → OfSlot ((cluster_at base history).slots slot)
 unfolding cluster_at after Lawful
-slots-tell base [] sound limits h slot = tt
-slots-tell base (entry.Began other request ∷ history) sound limits h slot =
+slots-tell base [] sound h slot = tt
+slots-tell base (entry.Began other request ∷ history) sound h slot =
     slot-is OfSlot other slot (fresh_run request) (cluster_at base history).slots
-    (λ own. word-tells request h.1.sound) (λ differ. slots-tell base history sound limits h.0 slot)
-slots-tell base (entry.Fed other at live ∷ history) sound limits h slot =
+    (λ own. word-tells request h.1.sound) (λ differ. slots-tell base history sound h.0 slot)
+slots-tell base (entry.Fed other at live ∷ history) sound h slot =
     slot-is OfSlot other slot (run_after_feed live ((cluster_at base history).slots other)) (cluster_at base history).slots
-    (λ own. fed-slot live ((cluster_at base history).slots other) (slots-tell base history sound limits h.0 other))
-    (λ differ. slots-tell base history sound limits h.0 slot)
-slots-tell base (entry.Stopped other ∷ history) sound limits h slot =
+    (λ own. fed-slot live ((cluster_at base history).slots other) (slots-tell base history sound h.0 other))
+    (λ differ. slots-tell base history sound h.0 slot)
+slots-tell base (entry.Stopped other ∷ history) sound h slot =
     slot-is OfSlot other slot None (cluster_at base history).slots
-    (λ own. tt) (λ differ. slots-tell base history sound limits h.0 slot)
-slots-tell base (entry.Called c ∷ history) sound limits h slot =
+    (λ own. tt) (λ differ. slots-tell base history sound h.0 slot)
+slots-tell base (entry.Called c ∷ history) sound h slot =
     let store = (cluster_at base history).store in
     let moment = (cluster_at base history).entries in
     let few = h.1.turn.not_worn in
     slot-is OfSlot c.slot slot (goes_on store moment c.answer ((cluster_at base history).slots c.slot)) (cluster_at base history).slots
-    (λ own. goes-slot store moment c.answer ((cluster_at base history).slots c.slot) (omega (arith, few)) (sound_law base history sound h.0) (limits_law base history sound limits h.0) (slots-tell base history sound limits h.0 c.slot))
-    (λ differ. slots-tell base history sound limits h.0 slot)
+    (λ own. goes-slot store moment c.answer ((cluster_at base history).slots c.slot) (omega (arith, few)) (sound_law base history sound h.0) (slots-tell base history sound h.0 c.slot))
+    (λ differ. slots-tell base history sound h.0 slot)
 
 -- ---- calls
 
@@ -178,20 +226,20 @@ ending-sound (Waits next) h = tt
 abbrev IsToldSoundly : Called → Type 0
 IsToldSoundly c = IsSoundName c.call × IsSoundTold c.reply × IsSoundEnding c.answer
 
-made-sound : (slot : ℕ) (fate : Fate) (asked : Call) (reply : Said) (answer : Option Answer) → IsSoundName (name_of asked) → IsSoundSaid reply → IsSoundEnding answer → IsToldSoundly (call_made slot fate asked reply answer)
-made-sound slot Well asked reply answer name told ends = (name, told-sound reply told, ends)
-made-sound slot After asked reply answer name told ends = (name, told-sound reply told, tt)
-made-sound slot Before asked reply answer name told ends = (name, tt, tt)
+made-sound : (slot : ℕ) (fate : Fate) (asked : Call) (reply : Said) (answer : Option Answer) → IsSoundName (name_of asked) → IsSoundSaid reply → AreFew reply → IsSoundEnding answer → IsToldSoundly (call_made slot fate asked reply answer)
+made-sound slot Well asked reply answer name told few ends = (name, told-sound reply told few, ends)
+made-sound slot After asked reply answer name told few ends = (name, told-sound reply told few, tt)
+made-sound slot Before asked reply answer name told few ends = (name, tt, tt)
 
 call-sound : (slot : ℕ) (fate : Fate) (store : Datastore) (moment : ℕ) (w : Word Answer) (c : Called) → FitsIn64 moment → IsDatastore store → IsWithinLimits store → Tells IsSoundAnswer w → call_entry slot fate store moment w ≡ Some c → IsToldSoundly c
 call-sound slot fate store moment (Ends answer) c fits sound limits h e = absurd (cc e)
 call-sound slot fate store moment (Waits next) c fits sound limits h e = absurd (cc e)
 call-sound slot fate store moment (Asks label asked next) c fits sound limits h e =
     let reply = reply_of store asked in
-    let told = said-sound store asked sound limits in
+    let told = said-sound store asked sound in
     let is : call_made slot fate asked (reply_of store asked) (answer_in (next moment (reply_of store asked))) ≡ c = cc e in
     subst (λ (x : Called). IsToldSoundly x) is
-    (made-sound slot fate asked reply (answer_in (next moment reply)) h.0 told (ending-sound (next moment reply) (h.1 moment reply fits told)))
+    (made-sound slot fate asked reply (answer_in (next moment reply)) h.0 told (said-few store asked limits) (ending-sound (next moment reply) (h.1 moment reply fits told)))
 
 -- ---- what was written
 
@@ -244,8 +292,34 @@ history_sound base (entry.Called c ∷ history) sound limits h times =
     let may = h.1 in
     let few = may.turn.not_worn in
     let cluster = cluster_at base history in
-    let tells : OfSlot (Some may.running) = subst (λ (o : Option Running). OfSlot o) may.runs (slots-tell base history sound limits h.0 c.slot) in
+    let tells : OfSlot (Some may.running) = subst (λ (o : Option Running). OfSlot o) may.runs (slots-tell base history sound h.0 c.slot) in
     let told = call-sound c.slot c.fate cluster.store cluster.entries may.running.word c (omega (arith, few)) (sound_law base history sound h.0) (limits_law base history sound limits h.0) tells may.is_called in (
       record { call = told.0; reply = told.1; written = written-sound base history c sound h; answer = told.2 },
       history_sound base history sound limits h.0 times.1,
     )
+
+-- ---- names
+
+call-named : (slot : ℕ) (fate : Fate) (store : Datastore) (moment : ℕ) (w : Word Answer) (c : Called) → Tells IsSoundAnswer w → call_entry slot fate store moment w ≡ Some c → IsSoundName c.call
+call-named slot fate store moment (Ends answer) c h e = absurd (cc e)
+call-named slot fate store moment (Waits next) c h e = absurd (cc e)
+call-named slot fate store moment (Asks label asked next) c h e =
+    let is : call_made slot fate asked (reply_of store asked) (answer_in (next moment (reply_of store asked))) ≡ c = cc e in
+    subst (λ (x : Called). IsSoundName x.call) is (made-named slot fate asked (reply_of store asked) (answer_in (next moment (reply_of store asked))) h.0)
+  where
+    made-named : (slot : ℕ) (fate : Fate) (asked : Call) (reply : Said) (answer : Option Answer) → IsSoundName (name_of asked) → IsSoundName (call_made slot fate asked reply answer).call
+    made-named slot Well asked reply answer name = name
+    made-named slot After asked reply answer name = name
+    made-named slot Before asked reply answer name = name
+
+pub history_named : (base : Base) (history : List Entry) → IsDatastore base.store → Lawful base history → AllByRecursion HasSoundName history
+unfolding Lawful
+history_named base [] sound h = tt
+history_named base (entry.Began slot request ∷ history) sound h = (tt, history_named base history sound h.0)
+history_named base (entry.Fed slot at live ∷ history) sound h = (tt, history_named base history sound h.0)
+history_named base (entry.Stopped slot ∷ history) sound h = (tt, history_named base history sound h.0)
+history_named base (entry.Called c ∷ history) sound h =
+    let may = h.1 in
+    let cluster = cluster_at base history in
+    let tells : OfSlot (Some may.running) = subst (λ (o : Option Running). OfSlot o) may.runs (slots-tell base history sound h.0 c.slot) in
+    (call-named c.slot c.fate cluster.store cluster.entries may.running.word c tells may.is_called, history_named base history sound h.0)

@@ -1,5 +1,5 @@
 -- Words that call by sound names and end with sound answers, whatever sound replies they hear.
-use Rattle.std.proofs.Common.{ℕ, zero, suc, ◌-◌, List, length, Option, Some, None, arith}
+use Rattle.std.proofs.Common.{ℕ, zero, suc, ◌-◌, List, Option, Some, None, arith}
 use Rattle.std.specs.List.{AllByRecursion}
 use Rattle.ipam_block.specs.Sound.{IsBlockRecord}
 use Rattle.ipam_affinity.specs.declared.record.Affinity.{Affinity}
@@ -27,11 +27,11 @@ use Rattle.ipam_answer_laws.specs.Limits.{IsSoundName}
 abbrev pub IsSoundRow : StoredRecord → Type 0
 IsSoundRow row = IsRecord row.1 × FitsIn64 row.0
 
--- every record that is told of is sound, and every revision and every count fits 64 bits
+-- every record that is told of is sound, and every revision fits 64 bits
 abbrev pub IsSoundSaid : Said → Type 0
 IsSoundSaid (Found revision found) = IsRecord found × FitsIn64 revision
 IsSoundSaid Missing = Unit {0}
-IsSoundSaid (Listed rows) = AllByRecursion IsSoundRow rows × FitsIn64 (length rows)
+IsSoundSaid (Listed rows) = AllByRecursion IsSoundRow rows
 IsSoundSaid (Can revision) = FitsIn64 revision
 IsSoundSaid (Exists revision) = FitsIn64 revision
 IsSoundSaid (Conflict revision) = FitsIn64 revision
@@ -193,7 +193,7 @@ affinity_said-sound Full told = tt
 affinity_said-sound Spent told = tt
 
 pub rows_said-sound : (said : Said) → IsSoundSaid said → AllByRecursion IsSoundRow (rows_said said)
-rows_said-sound (Listed rows) told = told.0
+rows_said-sound (Listed rows) told = told
 rows_said-sound (Found revision found) told = tt
 rows_said-sound Missing told = tt
 rows_said-sound (Can revision) told = tt

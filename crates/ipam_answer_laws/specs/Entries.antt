@@ -50,3 +50,10 @@ HasTime (entry.Began slot request) = ⊤
 HasTime (entry.Fed slot at live) = FitsIn64 at
 HasTime (entry.Called c) = ⊤
 HasTime (entry.Stopped slot) = ⊤
+
+-- a call is about a sound key, at a revision that fits 64 bits
+abbrev pub HasSoundName : Entry → Type 0
+HasSoundName (entry.Began slot request) = ⊤
+HasSoundName (entry.Fed slot at live) = ⊤
+HasSoundName (entry.Called c) = IsSoundName c.call
+HasSoundName (entry.Stopped slot) = ⊤

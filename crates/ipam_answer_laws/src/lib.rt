@@ -13,7 +13,7 @@ ghost use Rattle.ipam_model.specs.Consistent.{IsWithinLimits};
 ghost use Rattle.ipam_model.specs.History.{Base, Lawful};
 ghost use Rattle.ipam_answer_text.specs.Answers.{answer_text};
 ghost use Rattle.ipam_answer_laws.specs.Answers.{IsSoundAnswer};
-ghost use Rattle.ipam_answer_laws.specs.Entries.{HasTime, IsSoundEntry};
+ghost use Rattle.ipam_answer_laws.specs.Entries.{HasSoundName, HasTime, IsSoundEntry};
 
 /// No two sound answers have one text.
 #[tactic(auto, using(crate::proofs::AnswerTexts::answer_told))]
@@ -27,6 +27,14 @@ pub fn each_sound_answer_has_a_text_of_its_own()
 pub fn each_sound_record_of_a_key_has_a_body_of_its_own()
     ensures { (r s : Record) → IsRecord r → IsRecord s → key_of r ≡ key_of s
         → body_of r ≡ body_of s → r ≡ s }
+{}
+
+/// Over a sound datastore, each call of a lawful history is about a sound key, and a revision that it names
+/// fits 64 bits.
+#[tactic(auto, using(crate::proofs::SoundEntries::history_named))]
+pub fn each_call_of_a_lawful_history_has_a_sound_name()
+    ensures { (base : Base) (history : List Entry) → IsDatastore base.store → Lawful base history
+        → AllByRecursion HasSoundName history }
 {}
 
 /// Over a sound datastore within its limits, each entry of a lawful history is sound, where the times

@@ -7,7 +7,6 @@ use Rattle.std.proofs.lemmas.Fmt.{decimal_injective, decimal_is_IsNumeral}
 use Rattle.std.proofs.lemmas.List.{append_cancel_left, append_cancel_right}
 use Rattle.std.proofs.lemmas.Str.Parse.{digit_from_value}
 use Rattle.ipam_records.specs.declared.key.Key.{Key}
-use Rattle.ipam_records.specs.declared.key.Key.TheVariants as key
 use Rattle.ipam_records.specs.declared.key.Kind.{Kind}
 use Rattle.ipam_records.specs.declared.key.Kind.TheVariants as kind
 use Rattle.ipam_records.specs.KeyText.{IsKey, key_bytes}
@@ -27,7 +26,7 @@ use Rattle.ipam_request_text.proofs.Lives.{live_reads_back}
 use Rattle.ipam_request_text.proofs.ReadBack.{request_reads_back}
 use Rattle.ipam_answer_text.specs.Entries.{kind_text, call_text, told_text, at_text, at_text_unless, began_line, fed_line}
 use Rattle.ipam_answer_laws.specs.Limits.{IsSoundName, IsSoundTold}
-use Rattle.ipam_journal_laws.specs.Names.{HasName}
+use Rattle.ipam_journal_laws.proofs.NamedHistories.{HasName-key}
 use Rattle.ipam_journal_laws.proofs.Plain.{visible-decimal}
 use Rattle.ipam_journal_laws.proofs.PlainKeys.{key-visible}
 use Rattle.ipam_journal_laws.proofs.WholeLines.{first_of}
@@ -81,14 +80,6 @@ fed_told slot other at later live further small few h k same =
     (times.0, cc)
 
 -- ---- names of calls
-
-HasName-key : (k : Key) → IsKey k → HasName k
-HasName-key key.Config h = tt
-HasName-key key.Pools h = tt
-HasName-key key.Reservations h = tt
-HasName-key (key.Block cidr) h = tt
-HasName-key (key.Affinity node cidr) h = h.0
-HasName-key (key.Handle id) h = h
 
 kind-told : (one other : Kind) → kind_text one ≡ kind_text other → one ≡ other
 kind-told kind.Block kind.Block e = refl

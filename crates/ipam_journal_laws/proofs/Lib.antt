@@ -4,8 +4,6 @@ pub mod PlainJson
 pub mod PlainKeys
 pub mod WholeLines
 pub mod EntryLines
-pub mod NamedParts
-pub mod NamedRequests
 pub mod NamedHistories
 pub mod Journals
 pub mod EntriesTold
