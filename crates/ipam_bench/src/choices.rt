@@ -1,7 +1,7 @@
 use crate::opened::opened;
 use crate::times;
 use ipam_addr::Family;
-use ipam_choice::{Choice, Confirmed, Known, View, Wanted, choose, pick_known};
+use ipam_choice::{Candidate, Choice, Confirmed, Known, Picked, View, Wanted, choose, pick_known};
 use ipam_parts::{listing_in, reservations_in};
 use ipam_pool::PoolTable;
 use ipam_records::{Call, Config, Key, Kind, Record, Reply};
@@ -92,9 +92,21 @@ fn picked(view: &View<'_>, confirmed: &Confirmed, count: u32) -> Choice {
     let wanted = wanted();
     let mut choice = Choice::Nothing;
     for _ in 0..count {
-        choice = pick_known(&wanted, &known).choice();
+        choice = picked_once(&wanted, &known);
     }
     choice
+}
+
+fn picked_once(wanted: &Wanted, known: &Known) -> Choice {
+    match pick_known(wanted, known) {
+        Picked::NoPool(place) => Choice::NoPool(place),
+        Picked::Nothing => Choice::Nothing,
+        Picked::Slot(candidate) => choice_at(&candidate),
+    }
+}
+
+fn choice_at(candidate: &Candidate) -> Choice {
+    candidate.choice()
 }
 
 /// What a choice reads: the configuration, the pools, the reservations, the affinities and the blocks.
