@@ -1,0 +1,2 @@
+-- What is opened is kept.
+pub mod Opened

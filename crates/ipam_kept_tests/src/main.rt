@@ -1,0 +1,34 @@
+//! Tests of a kept cluster of which a write fails, and of one call that stands alone. Each line of the
+//! input has a kind and a question; the output has the answer after them.
+#![tactic(auto)]
+
+mod freed;
+mod kept;
+mod told;
+
+use std::alloc::{AllocError, Global};
+use std::io;
+
+/// What is answered to the question, which is of the kind that the word tells.
+fn answer(alloc: Global, kind: &str, text: &str) -> Result<String, AllocError> {
+    match kind {
+        "kept" => kept::kept_text(alloc, text),
+        "free" => freed::free_text(alloc, text),
+        _ => Err(AllocError),
+    }
+}
+
+/// The line, and after it the answer to its question.
+fn answered(alloc: Global, line: &str) -> Result<String, AllocError> {
+    let (kind, question) = line.split_once('|').unwrap_or((line, ""));
+    let answer = answer(alloc, kind, question)?;
+    format!(in alloc; "{line}|{answer}")
+}
+
+fn main(rt: HostRuntime) -> io::Result<()> {
+    for line in rt.lines(rt.alloc()) {
+        let answered = answered(rt.alloc(), line?.as_str())?;
+        println!(rt; "{answered}")?;
+    }
+    Ok(())
+}
