@@ -1,5 +1,5 @@
 -- Each status has its cause.
-use Rattle.std.proofs.Common.{◌≡◌, ◌≢◌, ℕ, zero, suc, ◌≤◌, ◌==◌, inl, inr, Bool, true, false, List, [], Option, Some, None, Result, Ok, Err, refl, sym, ap, ◌∙◌, subst, arith}
+use Rattle.std.proofs.Common.{◌≡◌, ℕ, zero, suc, ◌≤◌, ◌==◌, inl, inr, true, false, List, [], Option, Some, None, Result, Ok, Err, refl, sym, ap, ◌∙◌, subst, arith}
 use Rattle.std.specs.Prelude.{if◌then◌else◌}
 use Rattle.std.specs.Io.KnownBytes.{IsAtEnd}
 use Rattle.ipam_io.specs.Counts.{Rose}
@@ -285,8 +285,8 @@ has-cause env (Some (Get kind)) old new code d = tell-cause (Some (Get kind)) (�
 has-cause env (Some (Routes node)) old new code d = tell-cause (Some (Routes node)) (λ rows store. routes_text node store) old new code refl d
 has-cause env (Some (Release node cidr)) old new code d = release-cause (Some (Release node cidr)) node cidr old new code refl d
 has-cause env (Some Apply) old new code d = applied-cause (Some Apply) old new code d
-has-cause env (Some Help) old new code d = said-cause (Some Help) HELP status.Done old new code (unread (Some Help) old new refl) d.said
-has-cause env (Some Version) old new code d = said-cause (Some Version) VERSION status.Done old new code (unread (Some Version) old new refl) d.said
+has-cause env (Some Help) old new code d = said-cause (Some Help) HELP.now status.Done old new code (unread (Some Help) old new refl) d.said
+has-cause env (Some Version) old new code d = said-cause (Some Version) VERSION.now status.Done old new code (unread (Some Version) old new refl) d.said
 has-cause env (Some (Audit workers)) old new code d = unknown-cause (Some (Audit workers)) old new code d
 has-cause env (Some (Serve address workers)) old new code d = unknown-cause (Some (Serve address workers)) old new code d
 has-cause env (Some (Call address)) old new code d = unknown-cause (Some (Call address)) old new code d

@@ -1,5 +1,5 @@
 -- Where no count of faults rose, a command writes its whole text, or there was no memory.
-use Rattle.std.proofs.Common.{◌≡◌, ◌≢◌, ℕ, ◌⊎◌, inl, inr, List, [], ◌++◌, Option, Some, None, Result, Ok, Err, refl, sym, ap, ◌∙◌, subst, append_assoc}
+use Rattle.std.proofs.Common.{◌≡◌, ◌≢◌, ℕ, ◌⊎◌, inl, inr, List, [], ◌++◌, Option, Some, None, Result, Ok, Err, refl, sym, ap, ◌∙◌, append_assoc}
 use Rattle.std.specs.Prelude.{IfSome}
 use Rattle.std.specs.Io.KnownBytes.{append_known}
 use Rattle.ipam_records.specs.declared.call.Row.{Row as RowText}
@@ -14,7 +14,6 @@ use Rattle.ipam_words.specs.Words.{Asked, Audit, Call, Cni, Play, Apply, Get, He
 use Rattle.ipam_play_run.specs.declared.end.PlayEnd.{PlayEnd}
 use Rattle.ipam_play_run.specs.declared.end.PlayEnd.TheVariants as play
 use Rattle.ipam_play_run.specs.Writing.{WritesAll}
-use Rattle.ipam_play.specs.Played.{Whole as WholeScript, LineRefused, NotOpened as NotOpenedBase}
 use Rattle.ipam_gen.specs.declared.end.GenEnd.{GenEnd}
 use Rattle.ipam_gen.specs.declared.end.GenEnd.TheVariants as gen
 use Rattle.ipam_gen.specs.Summary.{CountsFaults, WritesSummary}
@@ -25,7 +24,7 @@ use Rattle.ipam_commands.specs.declared.status.Status.{Status}
 use Rattle.ipam_commands.specs.declared.status.Status.TheVariants as status
 use Rattle.ipam_commands.specs.Releasing.{ReleaseEnds, ReleaseWrites, outcome_line, outcome_status}
 use Rattle.ipam_commands.specs.Statuses.{code_of}
-use Rattle.ipam_commands.specs.Telling.{AreOpened, Cut, NotOpened, Opened, Tells, Untold, Whole, Writes, keeper_line}
+use Rattle.ipam_commands.specs.Telling.{AreOpened, Cut, NotOpened, Opened, Tells, Untold, Whole, Writes}
 use Rattle.ipam_commands.specs.Texts.{rows_text, routes_text}
 use Rattle.ipam_resources.specs.declared.resource.Resource.{Resource}
 use Rattle.ipam_resources.specs.Documents.{document_reading}
@@ -33,7 +32,6 @@ use Rattle.ipam_resources.specs.Printed.{applied_line, fault_line, refused_line}
 use Rattle.ipam_apply.specs.Applied as apply
 use Rattle.ipam_apply.specs.Applying as applying
 use Rattle.ipam_apply.specs.Inputs.{IsInput as IsDocument}
-use Rattle.ipam_apply.specs.Outside as apply_outside
 use Rattle.cni_types.specs.Reading.{Pair}
 use Rattle.ipam_cni.specs.declared.end.CniEnd.{CniEnd}
 use Rattle.ipam_cni.specs.declared.end.CniEnd.TheVariants.{Told, Failed}
@@ -220,8 +218,8 @@ complete env (Some (Get kind)) old new code d well = told-rows old new well code
 complete env (Some (Routes node)) old new code d well = told-rows old new well code (λ rows store. routes_text node store) d.ending d.has_status d.tells
 complete env (Some (Release node cidr)) old new code d well = released old new well code node cidr d.came d.ending _ d.has_status d.ends d.writes
 complete env (Some Apply) old new code d well = applied old new well code d.ending d.has_status (LeavesKeeper old new) d.ends
-complete env (Some Help) old new code d well = said old new well code HELP 0 d.said
-complete env (Some Version) old new code d well = said old new well code VERSION 0 d.said
+complete env (Some Help) old new code d well = said old new well code HELP.now 0 d.said
+complete env (Some Version) old new code d well = said old new well code VERSION.now 0 d.said
 complete env (Some (Audit workers)) old new code d well = said old new well code unknown_text 2 d.said
 complete env (Some (Serve address workers)) old new code d well = said old new well code unknown_text 2 d.said
 complete env (Some (Call address)) old new code d well = said old new well code unknown_text 2 d.said

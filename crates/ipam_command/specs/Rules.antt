@@ -1,5 +1,5 @@
 -- The rules of a command in words that each stand alone.
-use Rattle.std.specs.Prelude.{◌≡◌, ℕ, ◌++◌, ◌∷◌, ◌⊎◌, List, Bool, true, false, Option, Some, None, Result, Ok, Err}
+use Rattle.std.specs.Prelude.{◌≡◌, ℕ, ◌++◌, ◌∷◌, ◌⊎◌, List, Bool, true, false, Option, Some, None, Ok, Err}
 use Rattle.std.specs.Io.KnownBytes.{append_known}
 use Rattle.ipam_io.specs.Counts.{Rose}
 use Rattle.ipam_addr.specs.Shape.{CidrValue}
@@ -125,8 +125,8 @@ IsComplete env (Some (Routes node)) old new status =
 IsComplete env (Some (Release node cidr)) old new status =
     OfRelease node cidr old new (λ text own. IsWhole text own old new status)
 IsComplete env (Some Apply) old new status = OfApply old new (λ text own. IsWhole text own old new status)
-IsComplete env (Some Help) old new status = IsWhole HELP 0 old new status
-IsComplete env (Some Version) old new status = IsWhole VERSION 0 old new status
+IsComplete env (Some Help) old new status = IsWhole HELP.now 0 old new status
+IsComplete env (Some Version) old new status = IsWhole VERSION.now 0 old new status
 IsComplete env (Some (Audit workers)) old new status = IsWhole unknown_text 2 old new status
 IsComplete env (Some (Serve address workers)) old new status = IsWhole unknown_text 2 old new status
 IsComplete env (Some (Call address)) old new status = IsWhole unknown_text 2 old new status
