@@ -13,11 +13,12 @@ Pod addresses, handed out once.
                        releases the node's affinity to the block
   ipam audit N         opens the database with N workers, 1 to 16, and writes which counts and affinities are
                        left over; docs/OPERATING.md says what to do about them
-  ipam serve ADDRESS N serves CNI calls and requests at HOST:PORT, by N workers (1 to 16)
-  ipam call ADDRESS    makes one CNI call of the daemon at HOST:PORT
+  ipam serve ADDRESS N serves CNI calls and requests at ADDRESS, by N workers (1 to 16)
+  ipam call ADDRESS    makes one CNI call of the daemon at ADDRESS
   ipam --help          writes this
   ipam --version       writes the version
 
+ADDRESS is the path of a socket file, from /, or HOST:PORT for TCP.
 The database is the file that IPAM_DB names, else ipam.db.
 
 Example: ipam play < examples/first-run.script
