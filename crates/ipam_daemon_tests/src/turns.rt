@@ -5,6 +5,7 @@ ghost use Rattle.ipam_shared.specs.Passes.{IsNewlyKept, runs_in};
 use crate::flags::{Flag, WaitingGate};
 use ipam_daemon::Serves;
 use ipam_io::{Gate, ListClock, MemoryLink, OpenGate};
+use ipam_serve::Sleeps;
 use ipam_shared::{Keeper, Kept, Pass, Shared};
 use std::alloc::{AllocError, Global};
 use std::str;
@@ -42,7 +43,8 @@ fn served<R: Wait, S: Serves, G: Gate>(
     let bytes = Vec::from_slice(alloc, lines.as_bytes())?;
     let mut link = MemoryLink::new(alloc, bytes, ROOM, Vec::new(alloc))?;
     let mut clock = ListClock::new(Vec::new(alloc));
-    let end = shared.session(rt, alloc, pass, gate, &mut clock, &mut link);
+    let mut patience = Sleeps::new(pass.slot());
+    let end = shared.session(rt, alloc, pass, gate, &mut clock, &mut patience, &mut link);
     let written = str::from_utf8(link.written()).unwrap_or("no text");
     format!(in alloc; "{written}{end:?}")
 }
