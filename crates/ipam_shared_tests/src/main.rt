@@ -7,6 +7,7 @@ mod cases;
 mod keepers;
 mod passes;
 mod requests;
+mod team;
 mod threads;
 mod turns;
 mod two;

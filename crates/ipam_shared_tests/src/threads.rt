@@ -1,10 +1,11 @@
 // Many passes, each in a thread of its own.
 ghost use Rattle.std.specs.Prelude.{◌≡◌, ◌+◌, ◌*◌, ◌-◌};
-ghost use denote.Param.Send.{IsSend, IsSync};
+ghost use denote.Param.Send.{IsSync};
 
 use crate::keepers;
 use crate::passes::has;
-use crate::workers::{Grant, Job, MANY, Worked, both, handle_of, work};
+use crate::team::Team;
+use crate::workers::{Grant, Job, MANY, Worked, handle_of};
 use ipam_addr::Addr;
 use ipam_keeper::{Keeper, MemoryKeeper};
 use ipam_shared::{Pass, Shared};
@@ -98,36 +99,36 @@ fn done_over<R: Threads + Wait + Sync, D: Keeper + Drop + Send>(
 
 /// Does the job by this pass and by each of `others` passes that are split off, each in a thread of its own
 /// that is joined.
-fn spread<R: Threads + Wait + Sync, D: Keeper + Send>(
+fn spread<R: Threads + Wait + Sync, T: Team + Sync>(
     rt: &R,
     alloc: Global,
-    shared: &Shared<D>,
+    team: &T,
     mut pass: Pass,
     others: u32,
     job: Job,
 ) -> Worked
-    requires { pass.lock ≡ shared.now }
-    ensures { result.pass.lock ≡ shared.now }
+    requires { pass.lock ≡ T.id team.now }
+    ensures { result.pass.lock ≡ T.id team.now }
 {
     if others == 0 {
-        return work(rt, alloc, shared, pass, job);
+        return team.work(rt, alloc, pass, job);
     }
-    let Some(other) = shared.split(&mut pass) else {
-        return work(rt, alloc, shared, pass, job);
+    let Some(other) = team.split_off(&mut pass) else {
+        return team.work(rt, alloc, pass, job);
     };
     let more = others - 1;
     let (worked, other) = join(
         rt,
         move || -> Worked
-            requires { IsSync R.row × IsSend D.row × (pass.lock ≡ shared.now) }
-            ensures { result.pass.lock ≡ shared.entry.now }
-        { spread(rt, alloc, shared, pass, more, job) },
+            requires { IsSync R.row × IsSync T.row × (pass.lock ≡ T.id team.now) }
+            ensures { result.pass.lock ≡ T.id team.entry.now }
+        { spread(rt, alloc, team, pass, more, job) },
         move || -> Worked
-            requires { IsSync R.row × (other.lock ≡ shared.now) }
-            ensures { result.pass.lock ≡ shared.entry.now }
-        { work(rt, alloc, shared, other, job) },
+            requires { IsSync R.row × (other.lock ≡ T.id team.now) }
+            ensures { result.pass.lock ≡ T.id team.entry.now }
+        { team.work(rt, alloc, other, job) },
     );
-    both(shared, worked, other)
+    team.both(worked, other)
 }
 
 fn told_done<R: Wait, D: Keeper + Drop>(
