@@ -1,5 +1,5 @@
 -- How counts of connections and workers go on by one.
-use Rattle.std.proofs.Common.{◌≡◌, ◌⊎◌, inl, inr, ℕ, suc, ◌+◌, refl, ap, sym, ◌∙◌, arith}
+use Rattle.std.proofs.Common.{◌≡◌, inl, inr, ℕ, suc, ◌+◌, refl, ap, ◌∙◌, arith}
 use Rattle.ipam_io.specs.Counts.{next_count}
 use Rattle.ipam_daemon.specs.Handing.{raised, IsEachServed, IsOneHandedOver, IsHandedOver}
 

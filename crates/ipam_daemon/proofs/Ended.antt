@@ -1,5 +1,5 @@
 -- How the daemon ends, and what its listener's count of faults comes to.
-use Rattle.std.proofs.Common.{◌≡◌, ◌⊎◌, inl, inr, ℕ, refl, sym, subst}
+use Rattle.std.proofs.Common.{◌≡◌, ◌⊎◌, inr, ℕ, sym, subst}
 use Rattle.ipam_kept.specs.declared.kept.Kept.{Kept}
 use Rattle.ipam_kept.specs.declared.kept.KeptFault.{KeptFault}
 use Rattle.ipam_kept.specs.declared.kept.KeptFault.TheVariants.{Keeper, Refused, Memory}
@@ -7,7 +7,7 @@ use Rattle.ipam_kept.specs.Kept.{Tells}
 use Rattle.ipam_kept.specs.Opening.{IsOpened}
 use Rattle.ipam_daemon.specs.declared.served.Served.{Served}
 use Rattle.ipam_daemon.specs.declared.served.Served.TheVariants.{NoMemory, ListenFault}
-use Rattle.ipam_daemon.specs.Opening.{IsEnd, IsServedOut, IsUnopened, end_of}
+use Rattle.ipam_daemon.specs.Opening.{IsEnd, IsUnopened, end_of}
 use Rattle.ipam_daemon.specs.Served.{ListenFaults}
 
 pub served_out : {D : Type 0} (tells : Tells D) (faults name : D → ℕ) (keeper : D) (kept : Kept D) (served : Served)

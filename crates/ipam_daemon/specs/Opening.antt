@@ -1,5 +1,5 @@
 -- How the daemon ends where the keeper's rows are not opened.
-use Rattle.std.specs.Prelude.{◌≡◌, ◌⊎◌, ℕ, Option, List}
+use Rattle.std.specs.Prelude.{◌≡◌, ◌⊎◌, ℕ}
 use Rattle.ipam_kept.specs.declared.kept.Kept.{Kept}
 use Rattle.ipam_kept.specs.declared.kept.KeptFault.{KeptFault}
 use Rattle.ipam_kept.specs.declared.kept.KeptFault.TheVariants.{Keeper, Refused, Memory}

@@ -1,5 +1,5 @@
 -- How serving ends, and what is written of it.
-use Rattle.std.specs.Prelude.{◌≡◌, ℕ, List, [], codes, Option}
+use Rattle.std.specs.Prelude.{◌≡◌, ◌⊎◌, ℕ, List, codes, Option}
 use Rattle.std.specs.Io.KnownBytes.{append_known}
 use Rattle.ipam_io.specs.Counts.{Rose}
 use Rattle.ipam_io.specs.Streams.{AppendsPrefix}
@@ -7,28 +7,25 @@ use Rattle.ipam_kept.specs.Broken.{broken_line}
 use Rattle.ipam_daemon.specs.declared.served.Served.{Served}
 use Rattle.ipam_daemon.specs.declared.served.Served.TheVariants.{KeeperFault, NoMemory, BrokenRows, ListenFault}
 
-abbrev pub served_line : Served → List ℕ
-served_line KeeperFault = codes "keeper fault\n"
-served_line NoMemory = []
-served_line (BrokenRows number about) = broken_line number about
-served_line ListenFault = codes "listen fault\n"
-
-abbrev pub served_status : Served → ℕ
-served_status KeeperFault = 5
-served_status NoMemory = 6
-served_status (BrokenRows number about) = 7
-served_status ListenFault = 9
-
 -- What a sink took of a line, what its count of faults came to, and the status: all of it, with the
--- line's own status; or a front part, since the sink failed; or nothing, since there was no memory.
+-- line's own status; or a front part, since the sink failed.
 pub data Writes (old new : Option (List ℕ)) (faults faults' : ℕ) (line : List ℕ) (own : ℕ) : ℕ → Type 0 where
   Whole : new ≡ append_known old line → faults' ≡ faults → Writes old new faults faults' line own own
   Cut : AppendsPrefix old new line → Rose faults faults' → Writes old new faults faults' line own 4
-  Untold : new ≡ old → faults' ≡ faults → Writes old new faults faults' line own 6
+
+-- nothing is written, since there was no memory
+pub record IsUntold (old new : Option (List ℕ)) (faults faults' status : ℕ) : Type 0 where
+  pub same : new ≡ old
+  pub well : faults' ≡ faults
+  pub own : status ≡ 6
 
 -- what is written of an end, and the exit status
 abbrev pub Tells : Served → (old new : Option (List ℕ)) (faults faults' : ℕ) → ℕ → Type 0
-Tells served old new faults faults' status = Writes old new faults faults' (served_line served) (served_status served) status
+Tells KeeperFault old new faults faults' status = Writes old new faults faults' (codes "keeper fault\n") 5 status
+Tells NoMemory old new faults faults' status = IsUntold old new faults faults' status
+Tells (BrokenRows number about) old new faults faults' status =
+    Writes old new faults faults' (broken_line number about) 7 status ⊎ IsUntold old new faults faults' status
+Tells ListenFault old new faults faults' status = Writes old new faults faults' (codes "listen fault\n") 9 status
 
 -- the count of faults of the listener: it rises where listening failed, and else not
 abbrev pub ListenFaults : Served → (faults faults' : ℕ) → Type 0

@@ -1,6 +1,6 @@
 //! How serving ends.
-ghost use Rattle.std.specs.Prelude.{◌≡◌, ℕ, List, IfOk, string_bytes};
-ghost use Rattle.ipam_daemon.specs.Served.{Tells, Writes};
+ghost use Rattle.std.specs.Prelude.{◌≡◌, ◌⊎◌, ℕ, List, IfOk, string_bytes};
+ghost use Rattle.ipam_daemon.specs.Served.{IsUntold, Tells, Writes};
 
 use ipam_io::Sink;
 use ipam_kept::broken_line;
@@ -66,7 +66,9 @@ fn tell<K: Sink>(sink: &mut K, line: &str, own: u8) -> u8
 fn tell_made<K: Sink>(sink: &mut K, line: Result<String, AllocError>, own: u8) -> u8
     ensures written { (said : List ℕ) → IfOk line (λ made. string_bytes made ≡ said)
         → Writes (K.written sink.old) (K.written sink.new)
-        (K.write_faults sink.old) (K.write_faults sink.new) said own result }
+        (K.write_faults sink.old) (K.write_faults sink.new) said own result
+        ⊎ IsUntold (K.written sink.old) (K.written sink.new)
+        (K.write_faults sink.old) (K.write_faults sink.new) result }
     ensures rest { K.write_rest sink.new ≡ K.write_rest sink.old }
 {
     match line {
