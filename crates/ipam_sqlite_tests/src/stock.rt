@@ -45,17 +45,17 @@ pub(crate) fn stock(alloc: Global, name: &str, kind: &str) -> Result<Vec<u8>, Al
         for _ in 0..zeros {
             bytes.push(0)?;
         }
-        bytes.extend_from_slice(part_for(part, name, kind))?;
+        push_part(&mut bytes, part, name, kind)?;
     }
     Ok(bytes)
 }
 
-fn part_for<'a>(part: &'a [u8], name: &'a str, kind: &'a str) -> &'a [u8] {
+fn push_part(bytes: &mut Vec<u8>, part: &[u8], name: &str, kind: &str) -> Result<(), AllocError> {
     if part == b"rows".as_slice() {
-        return name.as_bytes();
+        bytes.extend_from_slice(name.as_bytes())
+    } else if part == b"INTEGER".as_slice() {
+        bytes.extend_from_slice(kind.as_bytes())
+    } else {
+        bytes.extend_from_slice(part)
     }
-    if part == b"INTEGER".as_slice() {
-        return kind.as_bytes();
-    }
-    part
 }
