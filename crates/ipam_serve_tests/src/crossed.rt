@@ -31,7 +31,6 @@ struct Crossing<'a, R: Wait, D: Keeper> {
     /// How many passes there are until then.
     passes_left: u32,
     ghost own: { pass.lock ≡ shared.now },
-    ghost idle: { runs_in pass ≡ None },
 }
 
 impl<'a, R: Wait, D: Keeper> Gate for Crossing<'a, R, D> {
@@ -41,7 +40,7 @@ impl<'a, R: Wait, D: Keeper> Gate for Crossing<'a, R, D> {
 
     fn pass(&mut self, _point: Point) -> Passed {
         self.passes_left = self.passes_left.wrapping_sub(1);
-        if self.passes_left == 0 {
+        if self.passes_left == 0 && !self.pass.running() {
             let served = session(
                 self.rt,
                 self.alloc,
@@ -110,7 +109,6 @@ fn both<R: Wait, D: Keeper>(
     requires lock { pass.old.lock ≡ shared.now }
     requires idle { runs_in pass.old ≡ None }
     requires others { others.lock ≡ shared.now }
-    requires others_idle { runs_in others ≡ None }
 {
     let mut gate = Crossing {
         rt,
