@@ -7,7 +7,7 @@ import cni_table
 from changes import changed_json, changed_text
 from links import Daemon, Seeming
 from second_records import compact
-from second_session import Sessions, error, line_of_call, taken
+from second_session import VARIABLES, Sessions, error, line_of_call, taken
 
 MEGABYTE = 2**20
 PATIENCE = 60
@@ -171,7 +171,9 @@ def try_replies(program, draw, count):
             status, told = error("1.1.0" if command in ("GC", "STATUS") else "1.0.0", 111, "link")
             wanted = status, told.encode()
         found = client(program, seeming, reply, env, encoded(stdin), is_reset)
-        program.want("replies", repr(reply), found, (wanted, line_of_call(env, stdin)))
+        # (the program makes its call of all variables, with an empty text for each that is not there)
+        seen = {**dict.fromkeys(VARIABLES, ""), **env}
+        program.want("replies", repr(reply), found, (wanted, line_of_call(seen, stdin)))
 
 
 # ---- long input
@@ -240,7 +242,10 @@ def try_long_lines(compared, program, place):
         return (came == (compact(LINE) + "\n").encode() * len(data), end), took
 
     def shown(name, make, sizes, reply, end):
-        compared(program, "serve", name, make, sizes, runs, (reply, end))
+        # (over TCP the first byte of all has to be one that a line can begin with)
+        begins = make(sizes[0])[:1] in (b"{", b" ", b"\t", b"\r", b"\n")
+        wanted = (reply, end) if begins else (b"", "connection closed: it did not begin as a session does")
+        compared(program, "serve", name, make, sizes, runs, wanted)
 
     for name, make, reply in LONG_LINES:
         shown(name, ended_line(make), SHORT, compact(reply).encode() + b"\n", "session closed")

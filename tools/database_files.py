@@ -128,6 +128,13 @@ def make(path, statements):
     conn.close()
 
 
+def is_told(got):
+    """A line on standard error tells why, where the keeper failed, and there is none else."""
+    if got.returncode != KEEPER:
+        return not got.stderr
+    return got.stderr.startswith(b"ipam: ") and got.stderr.count(b"\n") == 1
+
+
 def rows_of(path):
     """All that SQLite finds in a copy of the file and its log, or why it finds nothing."""
     with tempfile.TemporaryDirectory() as folder:
@@ -142,7 +149,7 @@ def rows_of(path):
         try:
             if conn.execute("pragma integrity_check").fetchall() != [(b"ok",)]:
                 return "damaged"
-            if not conn.execute("select 1 from sqlite_master where name = 'rows' and type <> 'index'").fetchall():
+            if not conn.execute("select 1 from sqlite_master where lower(name) = 'rows' and type <> 'index'").fetchall():
                 return []
             return conn.execute("select * from rows order by 1").fetchall()
         except sqlite3.Error as error:
@@ -168,21 +175,25 @@ def shapes(tally, folder):
         before = rows_of(path)
         got = run(path, ["get"])
         right = got.returncode == on_get and (on_get != KEEPER or got.stdout == FAULT)
-        tally.check(case, right and not got.stderr, f"get: {got}")
+        tally.check(case, right and is_told(got), f"get: {got}")
         tally.check(case, rows_of(path) == before, "other rows after get")
         got = run(path, ["apply"], ONE_MORE)
-        tally.check(case, got.returncode == on_apply and not got.stderr, f"apply: {got}")
+        tally.check(case, got.returncode == on_apply and is_told(got), f"apply: {got}")
         after = rows_of(path)
         kept = [it for it in after if it[0] != b"reservations"]
         tally.check(case, kept == before, "other rows after apply")
         tally.check(case, (names_of(after) == ["r"]) == (on_apply == DONE) or after == before and on_apply != DONE, f"rows {after}")
 
 
-def fault_over(tally, case, path, **more):
+READERS = [["get"], ["routes", "a"]]
+WRITERS = [["release", "a", "10.0.0.0/26"], ["apply"]]
+
+
+def fault_over(tally, case, path, commands=tuple(READERS + WRITERS), **more):
     """Each command is to tell of a fault of the keeper, and a CNI call of code 5."""
-    for words in (["get"], ["routes", "a"], ["release", "a", "10.0.0.0/26"], ["apply"]):
+    for words in commands:
         got = run(path, words, ONE_MORE, **more)
-        tally.check(f"{case}, {words[0]}", got.returncode == KEEPER and got.stdout == FAULT and not got.stderr, got)
+        tally.check(f"{case}, {words[0]}", got.returncode == KEEPER and got.stdout == FAULT and is_told(got), got)
     got = cni(path, "ADD", **more)
     is_code = got.returncode == REFUSED and json.loads(got.stdout)["code"] == 5
     tally.check(f"{case}, cni", is_code, got)
@@ -210,9 +221,10 @@ def places(tally, folder):
     log = os.path.join(folder, "log.db")
     make(log, [TABLE, POOL])
     os.mkdir(log + "-wal")
+    # (who only looks finds no rows where there is no file)
+    fault_over(tally, "a name in no folder", os.path.join(folder, "none/x.db"), WRITERS)
     for case, path in {
         "a folder": here,
-        "a name in no folder": os.path.join(folder, "none/x.db"),
         "an empty name": "",
         "a name of SQLite's": ":memory:",
         "a pipe": os.path.join(folder, "fifo.db"),
@@ -450,7 +462,7 @@ def damage(tally, folder):
                 file.write(bytes([draw.randrange(256)]))
         for words in (["get"], ["apply"]):
             got = run(path, words, ONE_MORE)
-            tally.check(f"damage {number}, {words[0]}", got.returncode in (DONE, REFUSED, KEEPER, RULES) and not got.stderr, got)
+            tally.check(f"damage {number}, {words[0]}", got.returncode in (DONE, REFUSED, KEEPER, RULES) and is_told(got), got)
 
 
 def main():
