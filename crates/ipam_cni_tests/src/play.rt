@@ -1,5 +1,5 @@
 //! A scenario is played: calls over a keeper in memory, and what is told of them.
-use ipam_cni::cni;
+use ipam_command::run_command;
 use ipam_io::{MemorySink, MemorySource};
 use ipam_keeper::{Keeper, MemoryKeeper, Row};
 use ipam_text::Text;
@@ -151,8 +151,23 @@ fn call(
     let env = environment(alloc, common, env)?;
     let mut source = source_of(alloc, failing, stdin)?;
     let mut sink = sink_of(alloc, failing)?;
-    let status = cni(alloc, env.as_slice(), &mut source, &mut sink, keeper);
+    let words = words_of(alloc)?;
+    let status = run_command(
+        alloc,
+        words.as_slice(),
+        env.as_slice(),
+        &mut source,
+        &mut sink,
+        keeper,
+    );
     push_reply(alloc, status, sink.written(), told)
+}
+
+/// The words of a CNI call.
+fn words_of(alloc: Global) -> Result<Vec<String>, AllocError> {
+    let mut words = Vec::new(alloc);
+    words.push(String::from_str(alloc, "cni")?)?;
+    Ok(words)
 }
 
 fn environment(alloc: Global, common: &str, text: &str) -> Result<Vec<(Text, Text)>, AllocError> {

@@ -37,7 +37,7 @@ pub(crate) fn told(alloc: Global, scenario: &str) -> Result<(String, String), Al
 }
 
 /// What should be told: the lines that begin with `= `.
-fn wanted(alloc: Global, scenario: &str) -> Result<String, AllocError> {
+pub(crate) fn wanted(alloc: Global, scenario: &str) -> Result<String, AllocError> {
     let mut wanted = String::new(alloc);
     for line in scenario.lines() {
         if let Some(told) = line.strip_prefix("= ") {
@@ -129,9 +129,9 @@ fn push_cut(
 }
 
 /// Runs the command of a line `WORDS⇒ENVIRONMENT⇒INPUT`, and appends its status and what it wrote.
-fn push_run(
+pub(crate) fn push_run<D: Keeper>(
     alloc: Global,
-    keeper: &mut MemoryKeeper,
+    keeper: &mut D,
     failing: Failing,
     line: &str,
     told: &mut String,
@@ -157,9 +157,9 @@ fn lines_of(alloc: Global, text: &str) -> Result<String, AllocError> {
 
 /// Runs the command with the words, the environment and the input, and tells its status and what it
 /// wrote. Where this doesn't end with a line feed, `|` stands at its end.
-pub(crate) fn run(
+pub(crate) fn run<D: Keeper>(
     alloc: Global,
-    keeper: &mut MemoryKeeper,
+    keeper: &mut D,
     failing: Failing,
     words: &str,
     env: &str,

@@ -144,3 +144,48 @@ do cni⇒CNI_COMMAND=DEL¦CNI_CONTAINERID=c1⇒{"cniVersion":"0.4.0","name":"n",
 = 1 {"cniVersion":"0.4.0","code":106,"details":"OR8 affinity/a/10.0.0.0/30","msg":"bad datastore"}
 room 9 routes a⇒⇒
 = 4 datastore|"#;
+
+/// What the generator counts, for six numbers.
+pub(crate) const GENERATED: &str = r#"fail 0
+unread gen 0⇒⇒
+= 0 requests 0
+= entries 4
+= owners 0
+= again 0
+= exhausted 0
+= freed 0
+unread gen 1⇒⇒
+= 0 requests 1
+= entries 22
+= owners 1
+= again 0
+= exhausted 0
+= freed 0
+unread gen 2⇒⇒
+= 0 requests 2
+= entries 44
+= owners 1
+= again 0
+= exhausted 0
+= freed 1
+unread gen 64⇒⇒
+= 0 requests 64
+= entries 918
+= owners 25
+= again 0
+= exhausted 0
+= freed 14
+unread gen 4096⇒⇒
+= 0 requests 4096
+= entries 52072
+= owners 1646
+= again 0
+= exhausted 0
+= freed 819
+unread gen 16384⇒⇒
+= 0 requests 16384
+= entries 205067
+= owners 6528
+= again 0
+= exhausted 0
+= freed 3265"#;

@@ -1,5 +1,5 @@
-//! Tests of what failing calls leave: commands of which a read, a write or a call of the keeper fails;
-//! and requests that race, with a stop or a failure in the place of each of their turns.
+//! Tests of commands. A read, a write or a call of the keeper fails, or a command has a real file. And
+//! requests race, with a stop or a failure in the place of each of their turns.
 #![tactic(auto)]
 
 #[cfg(test)]
@@ -8,6 +8,8 @@ mod commands;
 mod doubt_table;
 #[cfg(test)]
 mod fault_table;
+#[cfg(test)]
+mod filed;
 #[cfg(test)]
 mod long;
 #[cfg(test)]

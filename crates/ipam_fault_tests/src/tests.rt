@@ -1,6 +1,7 @@
-use crate::commands::told;
+use crate::commands::{told, wanted};
 use crate::doubt_table::DOUBTS;
-use crate::fault_table::FAULTS;
+use crate::fault_table::{FAULTS, GENERATED};
+use crate::filed::{FIVE_ADDRESSES, told_over_file};
 use crate::long::{repeated, told_of};
 use crate::stop_table::RUNS;
 use crate::stops::leaves_no_owner;
@@ -27,9 +28,24 @@ fn each_failure_is_told_by_its_cause(rt: HostRuntime) -> Result<(), Fail> {
 }
 
 #[test]
+fn the_generator_counts_these(rt: HostRuntime) -> Result<(), Fail> {
+    let count = run_all(&rt, rt.alloc(), GENERATED)?;
+    assert_eq!(rt; count, 1);
+    Ok(())
+}
+
+#[test]
 fn rows_in_doubt_are_opened_again(rt: HostRuntime) -> Result<(), Fail> {
     let count = run_all(&rt, rt.alloc(), DOUBTS)?;
     assert_eq!(rt; count, 14);
+    Ok(())
+}
+
+#[test]
+fn commands_that_open_one_file_in_turn_go_on_from_each_other(rt: HostRuntime) -> Result<(), Fail> {
+    let told = told_over_file(&rt, FIVE_ADDRESSES)?;
+    let wanted = wanted(rt.alloc(), FIVE_ADDRESSES)?;
+    assert_eq!(rt; told.as_str(), wanted.as_str());
     Ok(())
 }
 
