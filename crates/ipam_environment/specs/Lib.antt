@@ -2,3 +2,4 @@
 pub mod Values
 pub mod Call
 pub mod Database
+pub mod Daemon

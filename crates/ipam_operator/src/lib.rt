@@ -1,0 +1,18 @@
+//! The operator's words over a session of the daemon. Each word asks by lines of a session, and writes
+//! what the same word writes over a database file.
+#![tactic(auto)]
+
+mod answer;
+mod applying;
+mod asking;
+mod end;
+mod releasing;
+mod routing;
+mod telling;
+
+pub use answer::OperatorAnswer;
+pub use applying::apply;
+pub use asking::AskFault;
+pub use end::End;
+pub use releasing::release;
+pub use routing::routes;
