@@ -1,0 +1,118 @@
+//! A word is asked of a daemon.
+use ipam_io::{MemoryLink, MemorySink, MemorySource};
+use ipam_operator::{End, apply, release, routes};
+use ipam_words::{Command, read_words};
+use std::alloc::{AllocError, Global};
+
+/// How many bytes may be sent or written where nothing else is said.
+const ROOM: usize = 65_536;
+
+/// What fails: the call of the source, or of the link, of this number; and how many bytes may be written.
+#[derive(Clone, Copy)]
+struct Failing {
+    source: u64,
+    link: u64,
+    room: usize,
+}
+
+/// The line, and after it what the word came to.
+pub(crate) fn asked(alloc: Global, line: &str) -> Result<String, AllocError> {
+    let (words, rest) = line.split_once('|').unwrap_or((line, ""));
+    let (input, rest) = rest.split_once('|').unwrap_or((rest, ""));
+    let (failing, replies) = rest.split_once('|').unwrap_or((rest, ""));
+    let failing = failing_of(failing);
+    let mut source = source_of(alloc, input, failing)?;
+    let mut sink = MemorySink::new(alloc, failing.room, Vec::new(alloc))?;
+    let mut link = link_of(alloc, replies, failing)?;
+    let status = run(alloc, words, &mut source, &mut sink, &mut link)?;
+    let sent = shown(alloc, link.written())?;
+    let written = shown(alloc, sink.written())?;
+    format!(in alloc; "{line}|{status}|{sent}|{written}")
+}
+
+/// What a text as `link 2` says that fails.
+fn failing_of(text: &str) -> Failing {
+    let (what, number) = text.split_once(' ').unwrap_or((text, ""));
+    let number: u64 = number.parse().unwrap_or(0);
+    let mut failing = Failing {
+        source: 0,
+        link: 0,
+        room: ROOM,
+    };
+    match what {
+        "source" => failing.source = number,
+        "link" => failing.link = number,
+        "room" => failing.room = (number % 65_536) as usize,
+        _ => {}
+    }
+    failing
+}
+
+fn source_of(alloc: Global, input: &str, failing: Failing) -> Result<MemorySource, AllocError> {
+    let bytes = lines_of(alloc, input)?;
+    Ok(MemorySource::new(bytes, vec![in alloc; failing.source]?))
+}
+
+fn link_of(alloc: Global, replies: &str, failing: Failing) -> Result<MemoryLink, AllocError> {
+    let bytes = lines_of(alloc, replies)?;
+    let failing = vec![in alloc; failing.link]?;
+    MemoryLink::new(alloc, bytes, ROOM, failing)
+}
+
+/// The bytes of the text, with a line feed for each `␤`.
+fn lines_of(alloc: Global, text: &str) -> Result<Vec<u8>, AllocError> {
+    let mut bytes = Vec::new(alloc);
+    for (number, part) in text.split('␤').enumerate() {
+        if number > 0 {
+            bytes.push(b'\n')?;
+        }
+        bytes.extend_from_slice(part.as_bytes())?;
+    }
+    Ok(bytes)
+}
+
+/// The bytes as a text on one line.
+fn shown(alloc: Global, bytes: &[u8]) -> Result<String, AllocError> {
+    let mut shown = String::new(alloc);
+    let text = str::from_utf8(bytes).unwrap_or("no text");
+    for (number, part) in text.split('\n').enumerate() {
+        if number > 0 {
+            shown.push_str("␤")?;
+        }
+        shown.push_str(part)?;
+    }
+    Ok(shown)
+}
+
+/// The exit status of the words, or `unknown`.
+fn run(
+    alloc: Global,
+    words: &str,
+    source: &mut MemorySource,
+    sink: &mut MemorySink,
+    link: &mut MemoryLink,
+) -> Result<String, AllocError> {
+    let mut list = Vec::new(alloc);
+    for word in words.split(' ') {
+        list.push(String::from_str(alloc, word)?)?;
+    }
+    match end_of(alloc, list.as_slice(), source, sink, link) {
+        Some(end) => format!(in alloc; "{}", end.code()),
+        None => String::from_str(alloc, "unknown"),
+    }
+}
+
+fn end_of(
+    alloc: Global,
+    words: &[String],
+    source: &mut MemorySource,
+    sink: &mut MemorySink,
+    link: &mut MemoryLink,
+) -> Option<End> {
+    match read_words(words)? {
+        Command::Apply => Some(apply(alloc, source, sink, link)),
+        Command::Routes(node) => Some(routes(alloc, sink, link, node)),
+        Command::Release(node, block) => Some(release(alloc, sink, link, node, block)),
+        _ => None,
+    }
+}
