@@ -16,3 +16,4 @@ pub use asking::AskFault;
 pub use end::End;
 pub use releasing::release;
 pub use routing::routes;
+pub use telling::unreached;

@@ -44,3 +44,12 @@ pub(crate) fn tell_fault<K: Sink>(sink: &mut K, fault: AskFault) -> End
         AskFault::Memory => End::NoMemory,
     }
 }
+
+/// Ends where nobody answers at the daemon's address: `link fault`.
+pub fn unreached<K: Sink>(sink: &mut K) -> End
+    ensures told { Writes (K.written sink.old) (K.written sink.new)
+        (K.write_faults sink.old) (K.write_faults sink.new) (fault_line AskFault.Link) End.LinkFault result }
+    ensures rest { K.write_rest sink.new ≡ K.write_rest sink.old }
+{
+    tell(sink, "link fault\n", End::LinkFault)
+}

@@ -19,7 +19,8 @@ Pod addresses, handed out once.
   ipam --version       writes the version
 
 ADDRESS is the path of a socket file, from /, or HOST:PORT for TCP.
-The database is the file that IPAM_DB names, else ipam.db.
+The database is the file that IPAM_DB names, else ipam.db. While a daemon holds it, apply, routes and release
+ask that daemon: ipam --daemon ADDRESS WORDS, or with IPAM_DAEMON=ADDRESS in the environment.
 
 Example: ipam play < examples/first-run.script
 ";

@@ -1,12 +1,14 @@
 //! The program: its commands over standard input and output, and over a database file, and its daemon.
 #![tactic(auto)]
 
+mod asking;
 mod no_file;
 mod process;
 mod serving;
 mod stored;
 mod telling;
 
+use asking::{ask, asked_of};
 use ipam_client::call;
 use ipam_command::NO_MEMORY;
 use ipam_environment::{Database, call_variables, database_named};
@@ -50,6 +52,9 @@ fn run<
 >(rt: &HostRuntime, threads: R) -> Result<u8, AllocError> {
     let words = words_of(rt)?;
     let entries = entries_of(rt)?;
+    if let Some((address, asked)) = asked_of(&words, &entries) {
+        return Ok(ask(rt, address, asked));
+    }
     match read_words(&words) {
         Some(Command::Serve(address, workers)) => serve_database(
             rt, threads, &entries, address, workers,

@@ -42,3 +42,15 @@ pub(crate) fn tell_why(rt: &HostRuntime, path: &str, why: StorageFault) {
 pub(crate) fn tell_no_path(rt: &HostRuntime) {
     let _ = eprintln!(rt; "ipam: IPAM_DB is empty or no UTF-8, so it names no file");
 }
+
+/// Tells that no daemon is asked these words.
+pub(crate) fn tell_unasked(rt: &HostRuntime) {
+    let _ = eprintln!(rt;
+        "ipam: a daemon is asked apply, routes NODE and release NODE CIDR; ipam --help tells the words"
+    );
+}
+
+/// Tells that nobody answers at the address.
+pub(crate) fn tell_unreached(rt: &HostRuntime, address: &str) {
+    let _ = eprintln!(rt; "ipam: no daemon answers at {address:?}");
+}
