@@ -109,10 +109,10 @@ fn end_of(
     sink: &mut MemorySink,
     link: &mut MemoryLink,
 ) -> Option<End> {
-    match read_words(words)? {
-        Command::Apply => Some(apply(alloc, source, sink, link)),
-        Command::Routes(node) => Some(routes(alloc, sink, link, node)),
-        Command::Release(node, block) => Some(release(alloc, sink, link, node, block)),
+    match read_words(words) {
+        Some(Command::Apply) => Some(apply(alloc, source, sink, link)),
+        Some(Command::Routes(node)) => Some(routes(alloc, sink, link, node)),
+        Some(Command::Release(node, block)) => Some(release(alloc, sink, link, node, block)),
         _ => None,
     }
 }
