@@ -110,9 +110,22 @@ fn end_of(
     link: &mut MemoryLink,
 ) -> Option<End> {
     match read_words(words) {
-        Some(Command::Apply) => Some(apply(alloc, source, sink, link)),
-        Some(Command::Routes(node)) => Some(routes(alloc, sink, link, node)),
-        Some(Command::Release(node, block)) => Some(release(alloc, sink, link, node, block)),
+        Some(command) => ask(alloc, &command, source, sink, link),
+        None => None,
+    }
+}
+
+fn ask(
+    alloc: Global,
+    command: &Command<'_>,
+    source: &mut MemorySource,
+    sink: &mut MemorySink,
+    link: &mut MemoryLink,
+) -> Option<End> {
+    match command {
+        Command::Apply => Some(apply(alloc, source, sink, link)),
+        Command::Routes(node) => Some(routes(alloc, sink, link, node)),
+        Command::Release(node, block) => Some(release(alloc, sink, link, node, *block)),
         _ => None,
     }
 }

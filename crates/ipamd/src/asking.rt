@@ -33,23 +33,23 @@ pub(crate) fn asked_of<'a>(
 /// Whether a daemon can be asked the words.
 fn is_asked(words: &[String]) -> bool {
     match read_words(words) {
-        Some(Command::Apply | Command::Routes(_) | Command::Release(_, _)) => true,
+        Some(command) => is_of_daemon(&command),
+        None => false,
+    }
+}
+
+fn is_of_daemon(command: &Command<'_>) -> bool {
+    match command {
+        Command::Apply | Command::Routes(_) | Command::Release(_, _) => true,
         _ => false,
     }
 }
 
 /// Asks the daemon at the address, and answers the exit status.
 pub(crate) fn ask(rt: &HostRuntime, address: &str, words: &[String]) -> u8 {
-    if !is_asked(words) {
-        return unasked(rt);
-    }
-    let mut connector = Connector::new(rt, Address::of(address), Limits::of_call());
-    match connector.connect() {
-        Some(mut link) => ask_over(rt, words, &mut link).code(),
-        None => {
-            tell_unreached(rt, address);
-            unreached(&mut StdSink::new(io::writer(rt))).code()
-        }
+    match read_words(words) {
+        Some(command) => ask_at(rt, address, &command),
+        None => unasked(rt),
     }
 }
 
@@ -62,12 +62,27 @@ fn unasked(rt: &HostRuntime) -> u8 {
     }
 }
 
+/// Asks the daemon at the address what the command asks.
+fn ask_at(rt: &HostRuntime, address: &str, command: &Command<'_>) -> u8 {
+    if !is_of_daemon(command) {
+        return unasked(rt);
+    }
+    let mut connector = Connector::new(rt, Address::of(address), Limits::of_call());
+    match connector.connect() {
+        Some(mut link) => ask_over(rt, command, &mut link).code(),
+        None => {
+            tell_unreached(rt, address);
+            unreached(&mut StdSink::new(io::writer(rt))).code()
+        }
+    }
+}
+
 /// Asks over the link.
-fn ask_over<L: Link>(rt: &HostRuntime, words: &[String], link: &mut L) -> End {
+fn ask_over<L: Link>(rt: &HostRuntime, command: &Command<'_>, link: &mut L) -> End {
     let mut sink = StdSink::new(io::writer(rt));
-    match read_words(words) {
-        Some(Command::Routes(node)) => routes(rt.alloc(), &mut sink, link, node),
-        Some(Command::Release(node, block)) => release(rt.alloc(), &mut sink, link, node, block),
+    match command {
+        Command::Routes(node) => routes(rt.alloc(), &mut sink, link, node),
+        Command::Release(node, block) => release(rt.alloc(), &mut sink, link, node, *block),
         _ => apply(rt.alloc(), &mut StdSource::new(rt.stdin()), &mut sink, link),
     }
 }
