@@ -1,4 +1,4 @@
-/// What `--help` tells.
+/// The text that `--help` writes.
 pub const HELP: &str = "\
 Pod addresses, handed out once.
 
@@ -24,5 +24,5 @@ The database is the file that IPAM_DB names, else ipam.db.
 Example: ipam play < examples/first-run.script
 ";
 
-/// What `--version` tells.
+/// The text that `--version` writes: the program and its version, with a line feed.
 pub const VERSION: &str = "ipam 0.1.0\n";
