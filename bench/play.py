@@ -62,7 +62,7 @@ class Bench:
 
 def tell_small(bench):
     """Small scripts of the kinds of the large ones, by the second allocator."""
-    sys.path.insert(0, f"{TOP}/tools")
+    sys.path.insert(0, f"{TOP}/tools/second")
     from second_allocator import play
 
     adds = [scripts.add(number) for number in range(40)]

@@ -8,7 +8,8 @@ import sys
 import tempfile
 from pathlib import Path
 
-sys.path.insert(0, str(Path(__file__).resolve().parent.parent / "tools"))
+TOOLS = Path(__file__).resolve().parents[1] / "tools"
+sys.path += [str(TOOLS / "second"), str(TOOLS / "tables")]
 
 from second_opening import first_fault  # noqa: E402
 from second_records import Block, Cidr, address_text  # noqa: E402

@@ -1,4 +1,4 @@
-// Written by tools/broken_calls.py: change that, and not this file.
+// Written by tools/tables/broken_calls.py: change that, and not this file.
 // Scenarios: rows, calls with one thing broken each, and what is told of them.
 
 pub(crate) const SCENARIOS: usize = 65;

@@ -1,17 +1,23 @@
 ghost use Rattle.std.specs.Prelude.{◌≡◌};
 ghost use Rattle.ipam_environment.specs.Call.{stand_in, variable_name};
 
-/// A variable of a CNI call.
+/// A variable of a CNI call, after the specification of CNI 1.0.0.
 #[derive(Clone, Copy, Debug, PartialEq, Eq)]
 pub enum Variable {
+    /// What is asked: ADD, DEL, CHECK, GC, STATUS or VERSION.
     Command,
+    /// The id of the container.
     ContainerId,
+    /// The path of the container's network namespace.
     Netns,
+    /// The name of the interface in the container.
     Ifname,
+    /// Pairs of a key and a value, as `IP=10.0.0.1;K8S_POD_NAME=web-0`.
     Args,
 }
 
 impl Variable {
+    /// The name in the environment, as `CNI_COMMAND`.
     pub fn name(self) -> &'static str
         ensures { result.now ≡ variable_name self }
     {

@@ -1,4 +1,4 @@
-// Written by tools/fault_table.py: change that, and not this file.
+// Written by tools/tables/fault_table.py: change that, and not this file.
 // Calls by themselves, a write of which fails.
 
 pub(crate) const DOUBTS: &str = "\

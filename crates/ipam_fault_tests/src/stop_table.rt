@@ -1,4 +1,4 @@
-// Written by tools/fault_table.py: change that, and not this file.
+// Written by tools/tables/fault_table.py: change that, and not this file.
 // Runs with a stop in the place of each turn, a sign for each line.
 
 pub(crate) const BEGUN: &str = "\

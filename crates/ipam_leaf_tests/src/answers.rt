@@ -1,18 +1,22 @@
 //! The answer to a question of each kind.
 use crate::{addresses as addr, pools, reservations as reserved, streams};
+use ipam_table::Answers;
 use std::alloc::{AllocError, Global};
 
-/// What is answered to the question, which is of the kind that the word tells.
-pub(crate) fn answer(alloc: Global, kind: &str, text: &str) -> Result<String, AllocError> {
-    match kind {
-        "addr" => addr::addr_text(alloc, text),
-        "cidr" => addr::cidr_text(alloc, text),
-        "name" => addr::name_text(alloc, text),
-        "length" => addr::length_text(alloc, text),
-        "slot" => addr::slot_text(alloc, text),
-        "overlap" => addr::overlap_text(alloc, text),
-        "state" => addr::state_text(alloc, text),
-        _ => pool_answer(alloc, kind, text),
+pub(crate) struct Leaves;
+
+impl Answers for Leaves {
+    fn answer(&self, alloc: Global, kind: &str, text: &str) -> Result<String, AllocError> {
+        match kind {
+            "addr" => addr::addr_text(alloc, text),
+            "cidr" => addr::cidr_text(alloc, text),
+            "name" => addr::name_text(alloc, text),
+            "length" => addr::length_text(alloc, text),
+            "slot" => addr::slot_text(alloc, text),
+            "overlap" => addr::overlap_text(alloc, text),
+            "state" => addr::state_text(alloc, text),
+            _ => pool_answer(alloc, kind, text),
+        }
     }
 }
 

@@ -8,21 +8,10 @@ mod pools;
 mod reservations;
 mod streams;
 
-use answers::answer;
-use std::alloc::{AllocError, Global};
+use answers::Leaves;
+use ipam_table::answer_lines;
 use std::io;
 
-/// The line, and after it the answer to its question.
-fn answered(alloc: Global, line: &str) -> Result<String, AllocError> {
-    let (kind, question) = line.split_once('|').unwrap_or((line, ""));
-    let answer = answer(alloc, kind, question)?;
-    format!(in alloc; "{line}|{answer}")
-}
-
 fn main(rt: HostRuntime) -> io::Result<()> {
-    for line in rt.lines(rt.alloc()) {
-        let answered = answered(rt.alloc(), line?.as_str())?;
-        println!(rt; "{answered}")?;
-    }
-    Ok(())
+    answer_lines(&rt, &Leaves)
 }

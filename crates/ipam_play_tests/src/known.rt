@@ -1,4 +1,4 @@
-// Written by tools/play_table.py: change that, and not this file.
+// Written by tools/tables/play_table.py: change that, and not this file.
 // Scripts, the status of each, and what is written of it.
 
 pub(crate) const KNOWN_1: &str = "\

@@ -1,4 +1,4 @@
-// Written by tools/play_table.py: change that, and not this file.
+// Written by tools/tables/play_table.py: change that, and not this file.
 // Scripts, the status of each, how many bytes are written of it, and their sum.
 
 pub(crate) const SUMMED: &str = "\

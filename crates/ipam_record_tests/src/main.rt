@@ -8,18 +8,22 @@ mod handles;
 mod keys;
 mod procedures;
 
+use ipam_table::{Answers, answer_lines};
 use std::alloc::{AllocError, Global};
 use std::io;
 
-/// What is answered to the question, which is of the kind that the word tells.
-fn answer(alloc: Global, kind: &str, text: &str) -> Result<String, AllocError> {
-    match kind {
-        "key" => keys::key_answer(alloc, text),
-        "record" => keys::record_answer(alloc, text),
-        "field" => fields::field_answer(alloc, text),
-        "written" => fields::written_answer(alloc, text),
-        "removal" => procedures::removal_answer(alloc),
-        _ => change_answer(alloc, kind, text),
+struct Records;
+
+impl Answers for Records {
+    fn answer(&self, alloc: Global, kind: &str, text: &str) -> Result<String, AllocError> {
+        match kind {
+            "key" => keys::key_answer(alloc, text),
+            "record" => keys::record_answer(alloc, text),
+            "field" => fields::field_answer(alloc, text),
+            "written" => fields::written_answer(alloc, text),
+            "removal" => procedures::removal_answer(alloc),
+            _ => change_answer(alloc, kind, text),
+        }
     }
 }
 
@@ -33,17 +37,6 @@ fn change_answer(alloc: Global, kind: &str, text: &str) -> Result<String, AllocE
     }
 }
 
-/// The line, and after it the answer to its question.
-fn answered(alloc: Global, line: &str) -> Result<String, AllocError> {
-    let (kind, question) = line.split_once('|').unwrap_or((line, ""));
-    let answer = answer(alloc, kind, question)?;
-    format!(in alloc; "{line}|{answer}")
-}
-
 fn main(rt: HostRuntime) -> io::Result<()> {
-    for line in rt.lines(rt.alloc()) {
-        let answered = answered(rt.alloc(), line?.as_str())?;
-        println!(rt; "{answered}")?;
-    }
-    Ok(())
+    answer_lines(&rt, &Records)
 }

@@ -1,4 +1,4 @@
-// Written by tools/request_table.py: change that, and not this file.
+// Written by tools/tables/request_table.py: change that, and not this file.
 use crate::tables::{LIVE, REQUESTS_1, REQUESTS_2, REQUESTS_3, REQUESTS_4};
 use ipam_model::Request;
 use ipam_request_text::{AskFault, is_sound, push_live, push_request, read_live, read_request};

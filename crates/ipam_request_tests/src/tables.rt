@@ -1,4 +1,4 @@
-// Written by tools/request_table.py: change that, and not this file.
+// Written by tools/tables/request_table.py: change that, and not this file.
 // Each row has a text, and the printed text of what it is read as, or that it is unreadable.
 
 pub(crate) const REQUESTS_1: &str = "\

@@ -5,31 +5,24 @@
 mod documents;
 mod refusals;
 
+use ipam_table::{Answers, answer_lines};
 use std::alloc::{AllocError, Global};
 use std::io;
 
-/// What is answered to the question, which is of the kind that the word tells.
-fn answer(alloc: Global, kind: &str, text: &str) -> Result<String, AllocError> {
-    match kind {
-        "document" => documents::document_text(alloc, text),
-        "byte" => documents::byte_text(alloc, text),
-        "bytes" => documents::bytes_text(alloc, text),
-        "refusal" => refusals::refusal_text(alloc, text),
-        _ => Err(AllocError),
-    }
-}
+struct Resources;
 
-/// The line, and after it the answer to its question.
-fn answered(alloc: Global, line: &str) -> Result<String, AllocError> {
-    let (kind, question) = line.split_once('|').unwrap_or((line, ""));
-    let answer = answer(alloc, kind, question)?;
-    format!(in alloc; "{line}|{answer}")
+impl Answers for Resources {
+    fn answer(&self, alloc: Global, kind: &str, text: &str) -> Result<String, AllocError> {
+        match kind {
+            "document" => documents::document_text(alloc, text),
+            "byte" => documents::byte_text(alloc, text),
+            "bytes" => documents::bytes_text(alloc, text),
+            "refusal" => refusals::refusal_text(alloc, text),
+            _ => Err(AllocError),
+        }
+    }
 }
 
 fn main(rt: HostRuntime) -> io::Result<()> {
-    for line in rt.lines(rt.alloc()) {
-        let answered = answered(rt.alloc(), line?.as_str())?;
-        println!(rt; "{answered}")?;
-    }
-    Ok(())
+    answer_lines(&rt, &Resources)
 }

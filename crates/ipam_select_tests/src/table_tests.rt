@@ -1,4 +1,4 @@
-// Written by tools/selector_table.py: change that, and not this file.
+// Written by tools/tables/selector_table.py: change that, and not this file.
 // Each line has a text, the printed form of what it is read as, and whether it admits each of three
 // lists of labels; or `form` or `long`, where the text is refused.
 use ipam_select::{SelectFault, Selector, push_selector};

@@ -1,4 +1,4 @@
-// Written by tools/session_table.py: change that, and not this file.
+// Written by tools/tables/session_table.py: change that, and not this file.
 // Each row has a line of a session and what it asks, or `line` where it asks nothing that is known.
 use ipam_model::Request;
 use ipam_request_text::{push_live, push_request};

@@ -1,31 +1,31 @@
 use crate::kind::RowKind;
 use ipam_addr::Cidr;
 
-/// What the words of the command line ask.
+/// What the words of a command line ask.
 #[derive(Clone, Copy, Debug)]
 pub enum Command<'a> {
-    /// One call of a container's network.
+    /// One CNI call, over the database.
     Cni,
-    /// A script is played.
+    /// Plays a script.
     Play,
-    /// A document of resources is applied.
+    /// Applies a document of resources.
     Apply,
-    /// The rows are told, or those of one kind.
+    /// Writes the rows, or those of one kind.
     Get(Option<RowKind>),
-    /// The blocks of a node are told.
+    /// Writes the blocks that are confirmed to the node. The name is one of a node.
     Routes(&'a str),
-    /// A node gives up a block.
+    /// The node gives up the block. The name is one of a node.
     Release(&'a str, Cidr),
-    /// So many requests are generated and run.
+    /// Generates so many requests, 0 to 65,536, and runs them.
     Gen(u32),
-    /// The rows are audited by so many workers.
+    /// Reports what is left over in the rows, by so many workers, 1 to 16.
     Audit(u8),
-    /// The daemon serves at the address, by so many workers.
+    /// Runs the daemon at the address, by so many workers, 1 to 16. The address is any text.
     Serve(&'a str, u8),
-    /// One call of a container's network is made of the daemon at the address.
+    /// One CNI call, which the daemon at the address makes. The address is any text.
     Call(&'a str),
-    /// The words are told.
+    /// Writes which words there are.
     Help,
-    /// The version is told.
+    /// Writes the version.
     Version,
 }

@@ -5,11 +5,17 @@ ghost use Rattle.ipam_words.specs.Kinds.{is_of_kind, is_slash, kind_named, kind_
 /// A kind of rows, as an operator names it.
 #[derive(Clone, Copy, Debug, PartialEq, Eq)]
 pub enum RowKind {
+    /// The one row of the configuration.
     Config,
+    /// The one row of all pools.
     Pools,
+    /// The one row of all reservations.
     Reservations,
+    /// The rows of blocks.
     Block,
+    /// The rows of affinities.
     Affinity,
+    /// The rows of handles.
     Handle,
 }
 
@@ -30,7 +36,7 @@ impl RowKind {
         }
     }
 
-    /// The kind of this word.
+    /// The kind of this word. None of a word that is no kind's.
     #[tactic(auto, unfolding(crate::specs::Kinds::kind_named))]
     pub fn of(word: &str) -> Option<RowKind>
         ensures value { result ≡ kind_named word.now }

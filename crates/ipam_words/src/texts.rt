@@ -1,4 +1,4 @@
-/// What `--help` tells.
+/// The text that `--help` writes.
 pub const HELP: &str = "\
 Pod addresses, handed out once.
 
@@ -25,5 +25,5 @@ ask that daemon: ipam --daemon ADDRESS WORDS, or with IPAM_DAEMON=ADDRESS in the
 Example: ipam play < examples/first-run.script
 ";
 
-/// What `--version` tells.
+/// The text that `--version` writes: the program and its version, with a line feed.
 pub const VERSION: &str = "ipam 0.1.0\n";

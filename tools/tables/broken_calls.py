@@ -2,11 +2,11 @@
 """Writes broken.rt and broken_rows.rt of crates/ipam_cni_tests/src: CNI calls with one thing broken each, and their replies.
 
 In each call one thing is broken: a member, a variable, a version or the input (the calls of
-tools/cni_table.py with code and details), the rows, or what the call asks of the rows. This script states
+tools/tables/cni_table.py with code and details), the rows, or what the call asks of the rows. This script states
 the code and the details of each reply and builds its bytes. It runs nothing of the program. Each command
 is also called with nothing broken, and succeeds.
 
-Run it from the top of the repository: python3 tools/broken_calls.py
+Run it from the top of the repository: python3 tools/tables/broken_calls.py
 """
 
 import json
@@ -14,7 +14,7 @@ from pathlib import Path
 
 from cni_table import GONE, good_config, good_env, stated_calls, text_of, with_member, with_variable
 
-OUT = Path(__file__).resolve().parent.parent / "crates/ipam_cni_tests/src"
+OUT = Path(__file__).resolve().parents[2] / "crates/ipam_cni_tests/src"
 
 MESSAGES = {
     1: "incompatible CNI version",
@@ -232,7 +232,7 @@ def scenario(title, lines):
 
 
 def stated_scenarios():
-    """The calls of tools/cni_table.py, those of one code together."""
+    """The calls of tools/tables/cni_table.py, those of one code together."""
     by_code = {}
     for env, stdin, want in stated_calls():
         word, version, code, details = want.split(" ", 3)
@@ -295,7 +295,7 @@ def main():
     print(f"{broken} calls with one thing broken, {len(GOOD_REPLIES)} without, and {len(over_rows)} over rows")
 
 
-TEMPLATE = """// Written by tools/broken_calls.py: change that, and not this file.
+TEMPLATE = """// Written by tools/tables/broken_calls.py: change that, and not this file.
 // Scenarios: rows, calls with one thing broken each, and what is told of them.
 
 pub(crate) const SCENARIOS: usize = {count};

@@ -5,9 +5,9 @@ Each line of the session has to get its own reply, or the session ends without i
 decides which rows may be left: those after the lines with a reply and a front part of the writes of the next
 line. A further session of the same daemon, with all its memory, then goes on from these rows. Usage:
 
-    tools/fail_session.py PROGRAM REFUSE FOLDER
+    tools/checks/fail_session.py PROGRAM REFUSE FOLDER
 
-REFUSE is the library that refuses one allocation (tools/fail_alloc.sh builds it). The file REFUSED has the
+REFUSE is the library that refuses one allocation (tools/checks/fail_alloc.sh builds it). The file REFUSED has the
 number of that allocation, and the library counts it down. The script puts its files into FOLDER.
 """
 
@@ -18,6 +18,9 @@ import sqlite3
 import sys
 from pathlib import Path
 
+TOOLS = Path(__file__).resolve().parents[1]
+sys.path += [str(TOOLS / "second"), str(TOOLS / "tables")]
+# pylint: disable=wrong-import-position
 import cni_table
 from links import Daemon
 from second_records import compact

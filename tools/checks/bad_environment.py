@@ -5,7 +5,7 @@ Each row runs the program in an empty folder with these words and exactly these 
 environment, and says what has to come of it: the status, standard output, whether standard error has a
 line, and which files are there afterwards. It also says which commands make no file.
 
-    tools/bad_environment.py [PROGRAM]      by ./ipam
+    tools/checks/bad_environment.py [PROGRAM]      by ./ipam
 """
 
 import ctypes
@@ -15,7 +15,7 @@ import sys
 import tempfile
 from pathlib import Path
 
-TOP = Path(__file__).resolve().parent.parent
+TOP = Path(__file__).resolve().parents[2]
 CONFIG = {"cniVersion": "1.0.0", "name": "net", "nodename": "n1", "type": "calico", "ipam": {"type": "calico-ipam"}}
 CALL = {b"CNI_CONTAINERID": b"c1", b"CNI_NETNS": b"/var/run/netns/x", b"CNI_IFNAME": b"eth0", b"CNI_ARGS": b""}
 LIBC = ctypes.CDLL(None, use_errno=True)

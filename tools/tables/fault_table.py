@@ -10,7 +10,7 @@ line of its script.
 Doubts: a call by itself of which a write fails, done or not. The table has its reply, the replies to the
 calls after it, and the rows that are left.
 
-Run it from the top of the repository: python3 tools/fault_table.py
+Run it from the top of the repository: python3 tools/tables/fault_table.py
 With --states FOLDER it writes an ADD there, and the rows after each front part of its writes.
 """
 
@@ -19,12 +19,14 @@ import sqlite3
 import sys
 from pathlib import Path
 
+TOP = Path(__file__).resolve().parents[2]
+sys.path.append(str(TOP / "tools/second"))
+# pylint: disable=wrong-import-position
 from play_table import POOLS, add, begin, delete
 from resource_table import escaped
 from second_allocator import Script, compact
 from second_records import Block
 
-TOP = Path(__file__).resolve().parent.parent
 OUT = TOP / "crates/ipam_fault_tests/src"
 LIVE = '["n.c2"]'
 
@@ -215,7 +217,7 @@ def constant(name, text):
 
 
 def write(name, about, text):
-    head = "// Written by tools/fault_table.py: change that, and not this file.\n"
+    head = "// Written by tools/tables/fault_table.py: change that, and not this file.\n"
     (OUT / f"{name}.rt").write_text(f"{head}// {about}\n{text}")
 
 

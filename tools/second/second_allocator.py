@@ -6,13 +6,16 @@ the line of a refusal. Its status is 0 or 8. It shares no code with the product,
 It reads sound scripts: it opens any rows, and reports `unreadable` only for lines that have no form at
 all. Usage:
 
-    tools/second_allocator.py < examples/first-run.script
-    tools/second_allocator.py --gen N
+    tools/second/second_allocator.py < examples/first-run.script
+    tools/second/second_allocator.py --gen N
 """
 
 import json
 import sys
+from pathlib import Path
 
+sys.path.append(str(Path(__file__).resolve().parents[1] / "tables"))
+# pylint: disable=wrong-import-position
 from second_records import Block, Cidr, Datastore, address_text, compact, key_of, read_address
 from second_requests import DEFAULTS, Stop, Tries, begun
 from selector_table import Parser, printed as selector_text

@@ -5,14 +5,14 @@ The parser, the printer and the matcher below were written only from the grammar
 the printed form of what it is read as, and `y` or `n` for each of three lists of labels. A text that is
 refused has `form` or `long` in place of these.
 
-Run it from the top of the repository: python3 tools/selector_table.py
+Run it from the top of the repository: python3 tools/tables/selector_table.py
 """
 
 import random
 import re
 from pathlib import Path
 
-OUT = Path(__file__).resolve().parent.parent / "crates/ipam_select_tests/src/table_tests.rt"
+OUT = Path(__file__).resolve().parents[2] / "crates/ipam_select_tests/src/table_tests.rt"
 RANDOM_LINES = 90
 KEY = re.compile(r"[A-Za-z0-9_./-]+")
 TEXT_MAX, KEY_MAX, VALUE_MAX, DEPTH_MAX = 1024, 317, 253, 32
@@ -501,7 +501,7 @@ def main():
     print(f"{len(lines)} lines, {good} of them good, {sum(l.endswith('⇒long') for l in lines)} long")
 
 
-TEMPLATE = """// Written by tools/selector_table.py: change that, and not this file.
+TEMPLATE = """// Written by tools/tables/selector_table.py: change that, and not this file.
 // Each line has a text, the printed form of what it is read as, and whether it admits each of three
 // lists of labels; or `form` or `long`, where the text is refused.
 use ipam_select::{SelectFault, Selector, push_selector};

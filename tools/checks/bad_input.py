@@ -2,13 +2,13 @@
 """Bad input for every reader of bytes that the program reaches, and long input for its times.
 
 For each reader the script makes a hundred inputs from good ones by random changes, and gives them to the
-program. The second readers of this folder and Python's `json` decide what the program has to answer. The
+program. The second readers of the tables and Python's `json` decide what the program has to answer. The
 seed is fixed, so two runs try the same. Lines of a session go to the daemon. The client reads the replies
 of a small server that imitates a daemon. Then come inputs that are deep, long or many, in two sizes each,
 with their times. The script reports an input that takes much longer than its added bytes explain.
 
-    tools/bad_input.py              by ./ipam, all of it
-    tools/bad_input.py PROGRAM [COUNT [SEED]]
+    tools/checks/bad_input.py              by ./ipam, all of it
+    tools/checks/bad_input.py PROGRAM [COUNT [SEED]]
 """
 
 import atexit
@@ -23,6 +23,9 @@ import sys
 import tempfile
 from pathlib import Path
 
+TOP = Path(__file__).resolve().parents[2]
+sys.path += [str(TOP / "tools/second"), str(TOP / "tools/tables")]
+# pylint: disable=wrong-import-position
 import cni_table
 import request_table
 import resource_table
@@ -33,7 +36,6 @@ from second_allocator import Refused, Script
 from second_opening import first_fault
 from second_records import compact
 
-TOP = Path(__file__).resolve().parent.parent
 PLACE = Path(tempfile.mkdtemp(prefix="ipam-bad-"))
 atexit.register(shutil.rmtree, PLACE, ignore_errors=True)
 DATABASE = PLACE / "rows.db"

@@ -6,7 +6,7 @@ what the call asks or `refused`, the version, the code and the details. The firs
 thing broken each, with the code and the details stated by hand; the script stops where its own
 reader says otherwise. The last lines have several things broken, so that the order shows.
 
-Run it from the top of the repository: python3 tools/cni_table.py
+Run it from the top of the repository: python3 tools/tables/cni_table.py
 """
 
 import copy
@@ -16,7 +16,7 @@ import random
 import re
 from pathlib import Path
 
-OUT = Path(__file__).resolve().parent.parent / "crates/cni_types_tests"
+OUT = Path(__file__).resolve().parents[2] / "crates/cni_types_tests"
 RANDOM_LINES = 90
 VERSIONS = ["0.3.0", "0.3.1", "0.4.0", "1.0.0", "1.1.0"]
 COMMANDS = ["ADD", "DEL", "CHECK", "VERSION", "GC", "STATUS"]

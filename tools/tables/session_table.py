@@ -4,7 +4,7 @@
 The reader below was written only from the format, over Python's own `json`. A row has a line and what
 it asks, or `line` if it asks for nothing that is known.
 
-Run it from the top of the repository: python3 tools/session_table.py
+Run it from the top of the repository: python3 tools/tables/session_table.py
 """
 
 import json
@@ -13,7 +13,7 @@ from pathlib import Path
 
 from resource_table import Fault, parsed
 
-OUT = Path(__file__).resolve().parent.parent / "crates/ipam_session_tests/src/table_tests.rt"
+OUT = Path(__file__).resolve().parents[2] / "crates/ipam_session_tests/src/table_tests.rt"
 NAME = re.compile(r"[A-Za-z0-9][A-Za-z0-9_.-]{0,252}")
 HANDLE = re.compile(r"[A-Za-z0-9][A-Za-z0-9_.-]{0,506}")
 
@@ -222,7 +222,7 @@ def main():
 
 
 SOURCE = """\
-// Written by tools/session_table.py: change that, and not this file.
+// Written by tools/tables/session_table.py: change that, and not this file.
 // Each row has a line of a session and what it asks, or `line` where it asks nothing that is known.
 use ipam_model::Request;
 use ipam_request_text::{push_live, push_request};

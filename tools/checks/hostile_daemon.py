@@ -1,7 +1,7 @@
 #!/usr/bin/env python3
 """Does to a built program what its surroundings may do to it, and prints what it saw.
 
-  tools/hostile_daemon.py [--quick] [--plugin PATH] PROGRAM [COUNT]
+  tools/checks/hostile_daemon.py [--quick] [--plugin PATH] PROGRAM [COUNT]
 
 PROGRAM is the built program, and COUNT how many calls are killed in each part that kills calls (1,000). PATH is the
 plugin as `install` makes it, without a daemon: 32 calls of it are made at once. Each line says what was tried and what
@@ -24,7 +24,7 @@ import tempfile
 import threading
 import time
 
-sys.path.insert(0, os.path.join(os.path.dirname(os.path.abspath(__file__)), "..", "bench"))
+sys.path.insert(0, os.path.join(os.path.dirname(os.path.abspath(__file__)), "..", "..", "bench"))
 from kill_client import line_of, owners  # noqa: E402
 
 PATIENCE = 30

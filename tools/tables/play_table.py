@@ -5,16 +5,19 @@ The second allocator gives what is expected. For scripts that are refused before
 script states it. Some scripts have lines that were worked out by hand, and the second allocator's journal
 has to contain them. For a long journal the table has only a sum of the expected bytes.
 
-Run it from the top of the repository: python3 tools/play_table.py
+Run it from the top of the repository: python3 tools/tables/play_table.py
 """
 
+import sys
 from pathlib import Path
 
+TOP = Path(__file__).resolve().parents[2]
+sys.path.append(str(TOP / "tools/second"))
+# pylint: disable=wrong-import-position
 from random_scripts import text_of
 from resource_table import escaped
 from second_allocator import play
 
-TOP = Path(__file__).resolve().parent.parent
 OUT = TOP / "crates/ipam_play_tests/src"
 RANDOM = 16
 ROWS = 14
@@ -334,7 +337,7 @@ def tables(name, rows):
 
 
 def write(name, about, text):
-    (OUT / f"{name}.rt").write_text(f"// Written by tools/play_table.py: change that, and not this file.\n// {about}\n{text}")
+    (OUT / f"{name}.rt").write_text(f"// Written by tools/tables/play_table.py: change that, and not this file.\n// {about}\n{text}")
 
 
 def main():

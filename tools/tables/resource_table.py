@@ -6,7 +6,7 @@ document `␤` stands for a line feed. What is told of it is, for each resource,
 the request that it becomes, or the line of the document's fault. The first documents are as
 `kubectl get .. -o json` prints them.
 
-Run it from the top of the repository: python3 tools/resource_table.py
+Run it from the top of the repository: python3 tools/tables/resource_table.py
 """
 
 import ipaddress
@@ -16,7 +16,7 @@ from pathlib import Path
 
 from selector_table import TEXT_MAX, Bad, Parser, printed
 
-OUT = Path(__file__).resolve().parent.parent / "crates/ipam_resources_tests"
+OUT = Path(__file__).resolve().parents[2] / "crates/ipam_resources_tests"
 NAME = re.compile(r"[A-Za-z0-9][A-Za-z0-9_.-]{0,252}")
 KINDS = ("IPPool", "IPReservation", "IPAMConfig", "IPAMConfiguration")
 LISTS = ("List", "IPPoolList", "IPReservationList")

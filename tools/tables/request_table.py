@@ -4,19 +4,23 @@
 The reader below was written only from the format, over Python's own `json` and `ipaddress`. A row
 has a text, and the printed text of what it is read as, or `unreadable`.
 
-Run it from the top of the repository: python3 tools/request_table.py
+Run it from the top of the repository: python3 tools/tables/request_table.py
 """
 
 import json
 import re
+import sys
 from pathlib import Path
 
+TOP = Path(__file__).resolve().parents[2]
+sys.path.append(str(TOP / "tools/second"))
+# pylint: disable=wrong-import-position
 from resource_table import Fault, address, below, cidr, escaped, levels, mode, name, of_type, selector, texts_of, truth
 from resource_table import constant, floating, whole
 from second_records import Cidr, address_text
 from selector_table import Bad
 
-OUT = Path(__file__).resolve().parent.parent / "crates/ipam_request_tests/src"
+OUT = TOP / "crates/ipam_request_tests/src"
 HANDLE = re.compile(r"[A-Za-z0-9][A-Za-z0-9_.-]{0,506}")
 LABEL = re.compile(r"[A-Za-z0-9_./-]{1,317}")
 LEVELS = 127
@@ -339,7 +343,7 @@ def main():
     print(f"{len(requests)} requests, {refused} refused; {len(LIVE)} live lists")
 
 
-HEAD = "// Written by tools/request_table.py: change that, and not this file.\n"
+HEAD = "// Written by tools/tables/request_table.py: change that, and not this file.\n"
 
 TABLES = """\
 // Each row has a text, and the printed text of what it is read as, or that it is unreadable.

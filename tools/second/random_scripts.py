@@ -5,9 +5,9 @@ Each script has a base of a few small pools. It then begins requests in some slo
 random turns, failures, stops and restarts, none of which is refused. The same number gives the same
 script. Usage:
 
-    tools/random_scripts.py NUMBER                    prints the script of this number
-    tools/random_scripts.py FIRST LAST PROGRAM ARG..  plays each by the program, and reports where the
-                                                      journal is not the second allocator's
+    tools/second/random_scripts.py NUMBER                    prints the script of this number
+    tools/second/random_scripts.py FIRST LAST PROGRAM ARG..  plays each by the program, and reports where the
+                                                             journal is not the second allocator's
 """
 
 import random

@@ -8,14 +8,14 @@ rule decides:
   zone    `ipaddress` takes a zone, as in `fe80::1%eth0`; ipam_addr refuses it.
   dotted  newer `ipaddress` prints an IPv4-mapped address in dots; ipam_addr prints hex groups.
 
-Run it from the top of the repository: python3 tools/address_table.py
+Run it from the top of the repository: python3 tools/tables/address_table.py
 """
 
 import ipaddress
 import random
 from pathlib import Path
 
-OUT = Path(__file__).resolve().parent.parent / "crates/ipam_leaf_tests"
+OUT = Path(__file__).resolve().parents[2] / "crates/ipam_leaf_tests"
 IPV6_LINES = 340
 IPV4_LINES = 120
 

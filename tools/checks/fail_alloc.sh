@@ -4,11 +4,11 @@
 # of memory, which a session does by its end; behind the ADD, and behind the session, the rows have to be those
 # behind a front part of what was asked, as the second allocator has them.
 #
-#   tools/fail_alloc.sh [PROGRAM]     PROGRAM is release/ipam where none is given; it needs cc and python3
+#   tools/checks/fail_alloc.sh [PROGRAM]     PROGRAM is release/ipam where none is given; it needs cc and python3
 #
 # FAIL_PARTS may name some of play, add and session, which are all tried where it is not set.
 set -eu
-top=$(cd "$(dirname "$(readlink -f "$0")")/.." && pwd)
+top=$(cd "$(dirname "$(readlink -f "$0")")/../.." && pwd)
 program=$(readlink -f "${1:-$top/release/ipam}")
 place=$(mktemp -d)
 trap 'rm -rf "$place"' EXIT
@@ -114,7 +114,7 @@ is_right_add() {
 try_add() {
     local number=1 whole=0 none=0
     export IPAM_DB=$place/rows.db CNI_COMMAND=ADD CNI_CONTAINERID=c1 CNI_NETNS=/x CNI_IFNAME=eth0
-    python3 "$top/tools/fault_table.py" --states "$place"
+    python3 "$top/tools/tables/fault_table.py" --states "$place"
     while rm -f "$IPAM_DB"* && cp "$place/base.db" "$IPAM_DB" && refuse "$number" cni <"$place/conf"; do
         is_right_add || tell_wrong ADD "$number"
         number=$((number + 1))
@@ -123,7 +123,7 @@ try_add() {
 }
 
 try_session() {
-    python3 "$top/tools/fail_session.py" "$program" "$place/refuse.so" "$place" || wrong=$((wrong + 1))
+    python3 "$top/tools/checks/fail_session.py" "$program" "$place/refuse.so" "$place" || wrong=$((wrong + 1))
 }
 
 for part in ${FAIL_PARTS:-play add session}; do

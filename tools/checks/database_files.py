@@ -2,7 +2,7 @@
 """Tries the program over database files: damaged, locked, of another shape or mode, and left by a program that
 was killed, or that failed, at each of its writes.
 
-    tools/database_files.py [PROGRAM]        else release/ipam
+    tools/checks/database_files.py [PROGRAM]        else release/ipam
 
 Whatever the file is, the program has to end with one of its statuses. Afterwards Python's SQLite has to
 find the rows from before, or those after a front part of what was asked, with everything that was reported
@@ -23,7 +23,7 @@ import tempfile
 import time
 
 HERE = os.path.dirname(os.path.abspath(__file__))
-PROGRAM = os.path.abspath(sys.argv[1]) if len(sys.argv) > 1 else os.path.join(HERE, "../release/ipam")
+PROGRAM = os.path.abspath(sys.argv[1]) if len(sys.argv) > 1 else os.path.join(HERE, "../../release/ipam")
 NOBODY = 65534
 DONE, REFUSED, KEEPER, RULES = 0, 1, 5, 7
 FAULT = b"keeper fault\n"

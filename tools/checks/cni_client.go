@@ -1,4 +1,4 @@
-// A CNI client over libcni, which container runtimes call plugins by. tools/cni_client builds and runs it.
+// A CNI client over libcni, which container runtimes call plugins by. tools/checks/cni_client builds and runs it.
 //
 //	cni_client versions                               the versions that this libcni knows
 //	cni_client plugin TYPE                            the versions that the plugin says it knows
