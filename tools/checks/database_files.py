@@ -46,6 +46,8 @@ POOL = row("'pools'", 1, f"'{POOLS}'")
 # How the file was made, and how `get`, and an `apply` of one more reservation, end over it.
 SHAPES = [
     ("a file without a table", ["pragma user_version = 1"], KEEPER, KEEPER),
+    ("an empty file of SQLite's", ["vacuum"], KEEPER, KEEPER),
+    ("an empty file with a log of SQLite's", ["pragma journal_mode = wal"], KEEPER, KEEPER),
     ("a file whose table was dropped", [TABLE, POOL, "drop table rows", "vacuum"], KEEPER, KEEPER),
     ("a file of another table", ["create table other(a)"], KEEPER, KEEPER),
     ("a table without rows", [TABLE], DONE, DONE),
@@ -278,6 +280,15 @@ def folded(tally, folder):
         os.unlink(copy)
 
 
+def dropped(tally, folder):
+    """A file of the program's whose table SQLite dropped is none whose making was stopped."""
+    for at, statements in enumerate([["drop table rows"], ["drop table rows", "vacuum"]]):
+        path = os.path.join(folder, f"dropped{at}.db")
+        tally.check("dropped", run(path, ["apply"], ONE_MORE).returncode == DONE, "apply failed")
+        make(path, statements)
+        fault_over(tally, "; ".join(statements), path)
+
+
 def modes(tally, folder):
     """What the program makes has one mode, whatever the mask."""
     for mask in (0o000, 0o022, 0o077):
@@ -474,6 +485,7 @@ def main():
         places(tally, folder)
         names(tally, folder)
         folded(tally, folder)
+        dropped(tally, folder)
         modes(tally, folder)
         untouched(tally, folder)
         rights(tally, folder)

@@ -81,8 +81,8 @@ impl FileKeeper {
         FileKeeper::closed(rt, path, Aim::Keep)
     }
 
-    /// A keeper for a caller that only looks: a file that is not there, or has no byte, is read as no
-    /// rows, and is not made. There a put and a removal fail.
+    /// A keeper for a caller that only looks: a file that is not there is read as no rows, and is not
+    /// made, and so is one whose making was stopped. There a put and a removal fail.
     pub fn reader(rt: &HostRuntime, path: &str) -> FileKeeper
         ensures { result.tally.faults ≡ 0 }
     {

@@ -2,6 +2,7 @@
 #![tactic(auto)]
 
 mod fault;
+mod header;
 mod keeper;
 mod lazy;
 mod loading;

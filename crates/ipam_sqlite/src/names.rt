@@ -45,15 +45,11 @@ impl Found {
 
     /// Whether no byte of a database is there.
     pub(crate) fn is_nothing(&self) -> bool {
-        self.is_new() && self.log <= LOG_WITHOUT_PAGES
-    }
-
-    /// Whether the database file is not there, or has no byte: it is new, or was being made.
-    pub(crate) fn is_new(&self) -> bool {
-        match self.file {
-            Some((_, length)) => length == 0,
-            None => true,
-        }
+        let length = match self.file {
+            Some((_, length)) => length,
+            None => 0,
+        };
+        length == 0 && self.log <= LOG_WITHOUT_PAGES
     }
 }
 

@@ -1,5 +1,6 @@
 //! A database file is opened, or made with its table.
 use crate::fault::{StorageFault, Trouble};
+use crate::header::is_as_made;
 use crate::names::{Found, Watch, look, make, why_closed};
 use crate::opened::Opened;
 use sqlite::{Alter, Connection, Error, ErrorCode, File, FileStore, Row};
@@ -36,14 +37,12 @@ pub(crate) fn open_database(
     if !found.is_there() {
         make(rt, path)?;
     }
-    let (conn, has_table) = examined(open_files(rt, path)?, &found)?;
-    if has_table {
-        return watched(rt, path, &found, conn);
+    let (conn, stage) = begun(rt, path, aim, open_files(rt, path)?)?;
+    match stage {
+        Stage::New => nothing(conn),
+        Stage::InLog => watched(rt, path, &found, folded(rt, path, conn)?),
+        Stage::Made => watched(rt, path, &found, conn),
     }
-    if aim == Aim::Look {
-        return nothing(conn);
-    }
-    watched(rt, path, &found, with_table(rt, path, conn)?)
 }
 
 fn open_files(rt: &HostRuntime, path: &str) -> Result<Connection<FileStore<File>>, Trouble> {
@@ -54,14 +53,14 @@ fn open_files(rt: &HostRuntime, path: &str) -> Result<Connection<FileStore<File>
     }
 }
 
-/// Makes the table, and folds it into the file at once: so a file that has been made is never again
+/// Folds the log, which has the table, into the file before any row is kept. So a file with rows is never
 /// taken for a new one, though it is copied without its log.
-fn with_table(
+fn folded(
     rt: &HostRuntime,
     path: &str,
     conn: Connection<FileStore<File>>,
 ) -> Result<Connection<FileStore<File>>, Trouble> {
-    fold(made(conn)?)?;
+    fold(conn)?;
     open_files(rt, path)
 }
 
@@ -69,13 +68,6 @@ fn with_table(
 pub(crate) fn fold(conn: Connection<FileStore<File>>) -> Result<(), Trouble> {
     match conn.close() {
         Ok(()) => Ok(()),
-        Err(error) => Err(Trouble::from(error)),
-    }
-}
-
-fn made<S: Alter + Drop>(mut conn: Connection<S>) -> Result<Connection<S>, Trouble> {
-    match conn.execute(MAKE_TABLE, &[]) {
-        Ok(_) => Ok(conn),
         Err(error) => Err(Trouble::from(error)),
     }
 }
@@ -95,19 +87,53 @@ fn nothing<S: Alter + Drop>(_conn: Connection<S>) -> Result<Option<Opened<S>>, T
     Ok(None)
 }
 
-/// The connection, and whether the table is there. It is a fault that the table has another shape, and
-/// that it is missing though the file was not new.
-fn examined<S: Alter + Drop>(
+/// How far the making of a database has come.
+#[derive(Clone, Copy, PartialEq, Eq)]
+enum Stage {
+    /// There is no table yet.
+    New,
+    /// The table is in the log alone.
+    InLog,
+    /// The table is in the file. Only now are rows kept.
+    Made,
+}
+
+/// The connection, with the table where the aim is to keep rows, and how far the making has come.
+fn begun<S: Alter + Drop>(
+    rt: &HostRuntime,
+    path: &str,
+    aim: Aim,
     mut conn: Connection<S>,
-    found: &Found,
-) -> Result<(Connection<S>, bool), Trouble> {
-    if has_table(&mut conn)? {
-        return Ok((conn, true));
+) -> Result<(Connection<S>, Stage), Trouble> {
+    let stage = stage_of(rt, path, &mut conn)?;
+    if stage != Stage::New || aim == Aim::Look {
+        return Ok((conn, stage));
     }
-    if !found.is_new() || has_objects(&mut conn)? {
+    match conn.execute(MAKE_TABLE, &[]) {
+        Ok(_) => Ok((conn, Stage::InLog)),
+        Err(error) => Err(Trouble::from(error)),
+    }
+}
+
+/// How far the making has come. It is a fault that the table has another shape, and that there is none
+/// though the file had one once, has something else, or was not made here.
+fn stage_of<S: Alter>(
+    rt: &HostRuntime,
+    path: &str,
+    conn: &mut Connection<S>,
+) -> Result<Stage, Trouble> {
+    let is_as_made = is_as_made(rt, path)?;
+    if has_table(conn)? {
+        return Ok(if is_as_made {
+            Stage::InLog
+        } else {
+            Stage::Made
+        });
+    }
+    if !is_as_made || has_objects(conn)? {
         return Err(Trouble::Fault(StorageFault::NoTable));
     }
-    Ok((conn, false))
+    Ok(Stage::New)
 }
 
 /// Whether the table is there. It is a fault that it has another shape, or that something else has
