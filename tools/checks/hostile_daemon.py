@@ -5,9 +5,10 @@
 
 PROGRAM is the built program, and COUNT how many calls are killed in each part that kills calls (1,000). PATH is the
 plugin as `install` makes it, without a daemon: 32 calls of it are made at once. Each line says what was tried and what
-was seen, and ends with `ok`, `FAILED` or, where the program has no such thing, `not supported`. The last line is
-`N passed, M failed`, and the status is 1 where one failed. It needs Python alone, and some minutes; what waits for a
-limit waits for as long as the program does (`--quick` leaves those out).
+was seen, and ends with `ok` or `FAILED`, with `not supported` where the program has no such thing, or with `not
+promised over TCP`, where a count is told that nothing bounds. The last line is `N passed, M failed`, and the status is
+1 where one failed. It needs Python alone, and some minutes; what waits for a limit waits for as long as the program
+does (`--quick` leaves those out).
 """
 
 import argparse
@@ -44,6 +45,13 @@ class Seen:
     def say(self, what, seen, is_right):
         self.passed, self.failed = self.passed + bool(is_right), self.failed + (not is_right)
         print(f"{what}: {seen}: {'ok' if is_right else 'FAILED'}", flush=True)
+
+    def say_promised(self, what, seen, is_right, over_tcp):
+        """The same of what is promised at a socket file alone. Over TCP it is neither right nor wrong."""
+        if over_tcp:
+            print(f"{what}: {seen}: not promised over TCP", flush=True)
+        else:
+            self.say(what, seen, is_right)
 
     @staticmethod
     def lacks(what):
@@ -222,8 +230,9 @@ def killed_while_busy(seen, program, count, over_tcp):
         connection.close()
     is_up = added(daemon, "last")
     kept = [who for who in daemon.held().values() if who != "last"]
-    seen.say(f"calls killed before their lines were begun, all workers busy, {where}",
-             f"{len(kept)} of {killed} kept an address", is_up and (over_tcp or not kept))
+    seen.say_promised(f"calls killed before their lines were begun, all workers busy, {where}",
+                      f"{len(kept)} of {killed} kept an address", not kept, over_tcp)
+    seen.say(f"an ADD after them, {where}", "answered" if is_up else "not answered", is_up)
 
 
 def killed_before_reading(seen, program, count):
@@ -273,10 +282,12 @@ def killed_at_any_moment(seen, program, count, over_tcp):
     with concurrent.futures.ThreadPoolExecutor(4) as pool:
         list(pool.map(one, range(count)))
     time.sleep(0.5)
+    is_up = added(daemon, "last")
     kept = [who for who in daemon.held().values() if who in gone]
-    seen.say(f"calls killed at any moment, each followed by its DEL, {where}",
-             f"{len(kept)} of {len(gone)} kept an address, {len(answered)} were answered before",
-             over_tcp or len(kept) * 1000 <= max(count, 1000))
+    seen.say_promised(f"calls killed at any moment, each followed by its DEL, {where}",
+                      f"{len(kept)} of {len(gone)} kept an address, {len(answered)} were answered before",
+                      len(kept) * 1000 <= max(count, 1000), over_tcp)
+    seen.say(f"an ADD after them, {where}", "answered" if is_up else "not answered", is_up)
 
 
 # ---- silent, slow and deaf clients

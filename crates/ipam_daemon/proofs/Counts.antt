@@ -37,10 +37,8 @@ handed_more n n' n'' h h' h'' a a' a'' s en (inr (eh, ea)) =
       attended = ea ∙ ap next_count s.attended;
     }
 
-pub hired_none : (h : ℕ) → h ≡ raised 0 h
-hired_none h = refl
+pub hired_none : (h : ℕ) → h ≡ h + 0
+hired_none h = omega arith
 
-pub hired_more : (count h h' h'' : ℕ) → h' ≡ raised count h → h'' ≡ next_count h' → h'' ≡ raised (count + 1) h
-hired_more count h h' h'' e e' =
-    let next : suc count ≡ count + 1 = grind arith in
-    e' ∙ ap next_count e ∙ ap (λ k. raised k h) next
+pub hired_more : (count h h' h'' : ℕ) → h' ≡ h + count → h'' ≡ h' + 1 → h'' ≡ h + (count + 1)
+hired_more count h h' h'' e e' = omega (arith, e, e')

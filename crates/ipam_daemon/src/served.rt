@@ -33,7 +33,7 @@ const LISTEN_FAULT: u8 = 9;
 
 /// Writes the line for this end, and gives the exit status: 5 where the keeper failed, 6 where
 /// there was no memory, for the daemon or for the line, 7 where the rows are broken, 9 where
-/// listening failed, and 4 where the sink did.
+/// listening failed, and 4 where the sink did. Only the line of broken rows takes memory.
 pub fn tell_served<K: Sink>(alloc: Global, sink: &mut K, served: &Served) -> u8
     ensures told { Tells served.now (K.written sink.old) (K.written sink.new)
         (K.write_faults sink.old) (K.write_faults sink.new) result }

@@ -4,18 +4,15 @@ ghost use Rattle.ipam_shared.specs.Passes.{IsNewlyKept};
 ghost use Rattle.ipam_daemon.specs.Opening.{IsEnd};
 ghost use Rattle.ipam_daemon.specs.Served.{ListenFaults};
 
+use crate::host::Host;
 use crate::opening::open_kept;
 use crate::served::Served;
-use crate::staff::engage;
+use crate::staff::{Leaving, engage};
 use ipam_kept::{Keeper, Kept};
 use ipam_socket::{Address, Failed, Limits, Listens, SocketListener, Stream};
-use log::Log;
 use std::alloc::Global;
 use std::fs::Files;
 use std::net::{Net, TcpListener, TcpStream};
-use std::sync::Wait;
-use std::thread::Threads;
-use std::time::Clock;
 
 /// Opens the keeper's rows and serves sessions at the address, by up to so many workers: at a socket
 /// file, where the address begins with a slash, and else at an IP address or the name of a host, a
@@ -23,33 +20,36 @@ use std::time::Clock;
 /// long as connections can be accepted; sessions that are served by then are left to end with the
 /// process. The socket file is removed at the end.
 pub fn serve<
-    R: Threads
-        + Wait
-        + Log
-        + Clock
-        + Files
-        + Net<Listener = TcpListener, Stream = TcpStream>
-        + Copy
-        + Send
-        + Drop
-        + 'static,
+    R: Host + Files + Net<Listener = TcpListener, Stream = TcpStream>,
     D: Keeper + Send + Drop + 'static,
 >(rt: R, alloc: Global, keeper: D, address: &str, workers: u8) -> Served
     ensures { IsEnd D.rows D.faults D.name keeper result }
 {
     let mut listener = SocketListener::new(&rt, alloc, Address::of(address));
     let limits = Limits::of_session();
-    serve_by(rt, alloc, keeper, &mut listener, workers, limits)
+    serve_by(
+        rt,
+        alloc,
+        keeper,
+        &mut listener,
+        workers,
+        limits,
+        Leaving::AtWork,
+    )
 }
 
-/// The same over this listener, and within these limits. It ends with a fault of listening exactly
-/// where the listener failed.
+/// The same over this listener, within these limits, and with this end. It ends with a fault of
+/// listening exactly where the listener failed.
 #[tactic(auto, using(crate::proofs::Ended::served_out, crate::proofs::Ended::unopened))]
-pub fn serve_by<
-    R: Threads + Wait + Log + Clock + Copy + Send + Drop + 'static,
-    D: Keeper + Send + Drop + 'static,
-    L: Listens<Stream>,
->(rt: R, alloc: Global, keeper: D, listener: &mut L, workers: u8, limits: Limits) -> Served
+pub fn serve_by<R: Host, D: Keeper + Send + Drop + 'static, L: Listens<Stream>>(
+    rt: R,
+    alloc: Global,
+    keeper: D,
+    listener: &mut L,
+    workers: u8,
+    limits: Limits,
+    leaving: Leaving,
+) -> Served
     ensures ended { IsEnd D.rows D.faults D.name keeper result }
     ensures listening { ListenFaults result (L.faults listener.old) (L.faults listener.new) }
 {
@@ -59,7 +59,7 @@ pub fn serve_by<
     };
     match listener.open() {
         Ok(()) => {
-            let served = serve_at(rt, alloc, kept, listener, workers, limits);
+            let served = serve_at(rt, alloc, kept, listener, workers, limits, leaving);
             listener.close();
             served
         }
@@ -71,11 +71,15 @@ pub fn serve_by<
 }
 
 /// Serves sessions at the listener.
-fn serve_at<
-    R: Threads + Wait + Log + Clock + Copy + Send + Drop + 'static,
-    D: Keeper + Send + Drop + 'static,
-    L: Listens<Stream>,
->(rt: R, alloc: Global, kept: Kept<D>, listener: &mut L, workers: u8, limits: Limits) -> Served
+fn serve_at<R: Host, D: Keeper + Send + Drop + 'static, L: Listens<Stream>>(
+    rt: R,
+    alloc: Global,
+    kept: Kept<D>,
+    listener: &mut L,
+    workers: u8,
+    limits: Limits,
+    leaving: Leaving,
+) -> Served
     requires { IsNewlyKept D.rows kept }
     ensures ended { (result ≡ Served.NoMemory) ⊎ (result ≡ Served.ListenFault) }
     ensures listening { ListenFaults result (L.faults listener.old) (L.faults listener.new) }
@@ -83,7 +87,7 @@ fn serve_at<
     match engage(rt, alloc, kept, workers, limits) {
         Ok(mut staff) => {
             staff.accept_all(&rt, listener);
-            drop(staff);
+            staff.leave(&rt, leaving);
             Served::ListenFault
         }
         Err(_) => Served::NoMemory,

@@ -1,6 +1,7 @@
 //! The workers.
 ghost use Rattle.std.specs.Prelude.{◌≡◌, None, IfOk, OnOk, OnErr};
 ghost use Rattle.std.specs.Arc.{arc_value};
+ghost use Rattle.std.specs.Vec.{vec_len};
 ghost use Rattle.ipam_io.specs.Counts.{Rose};
 ghost use Rattle.ipam_shared.specs.Passes.{IsNewlyKept, runs_in};
 ghost use Rattle.ipam_daemon.specs.Crews.{IsEngaged};
@@ -8,6 +9,7 @@ ghost use Rattle.ipam_daemon.specs.Crews.{IsEngaged};
 use crate::channel::{HandingEnd, channel};
 use crate::crew::{Crew, hire};
 use crate::handing::hand_over;
+use crate::host::Host;
 use crate::opening::share;
 use crate::serves::Serves;
 use crate::worker::Worker;
@@ -20,22 +22,30 @@ use std::sync::{Arc, Wait};
 use std::thread::{JoinHandle, Threads};
 use std::time::Clock;
 
+/// What becomes of the workers where serving ends.
+#[derive(Clone, Copy)]
+pub enum Leaving {
+    /// They are left with the sessions that they serve by then, which end with the process.
+    AtWork,
+    /// They are waited for until they have served all that was accepted.
+    Done,
+}
+
 /// Workers in threads of their own, and one more, who serves where none of them was started.
 #[derive(Drop)]
 pub struct Staff<S: Serves, R> {
     to: HandingEnd,
     threads: Vec<JoinHandle<()>>,
-    hired: u64,
     thread_faults: u64,
     own: Worker<S, R>,
 }
 
 impl<S: Serves + Drop, C: Clock + Copy + Drop> Staff<S, C> {
     /// How many workers have a thread of their own.
-    pub fn hired(&self) -> u64
-        ensures { result ≡ self.now.hired }
+    pub fn hired(&self) -> usize
+        ensures { result ≡ vec_len self.now.threads }
     {
-        self.hired
+        self.threads.len()
     }
 
     /// Has up to so many connections of the listener served, one by each worker at a time. It ends
@@ -67,6 +77,14 @@ impl<S: Serves + Drop, C: Clock + Copy + Drop> Staff<S, C> {
         drop(own);
     }
 
+    /// Leaves the workers so.
+    pub(crate) fn leave<R: Threads>(self, rt: &R, leaving: Leaving) {
+        match leaving {
+            Leaving::AtWork => drop(self),
+            Leaving::Done => self.dismiss(rt),
+        }
+    }
+
     /// Has connections served as `accept` does, until accepting fails.
     pub(crate) fn accept_all<R: Wait + Log + Clock, L: Listens<Stream>>(
         &mut self,
@@ -86,10 +104,7 @@ impl<S: Serves + Drop, C: Clock + Copy + Drop> Staff<S, C> {
 
 /// So many workers over the cluster, or fewer where the system makes no more threads or the cluster has
 /// no more slots.
-pub fn engage<
-    R: Threads + Wait + Log + Clock + Copy + Send + Drop + 'static,
-    D: Keeper + Send + Drop + 'static,
->(
+pub fn engage<R: Host, D: Keeper + Send + Drop + 'static>(
     rt: R,
     alloc: Global,
     kept: Kept<D>,
@@ -97,17 +112,14 @@ pub fn engage<
     limits: Limits,
 ) -> Result<Staff<Shared<D>, R>, AllocError>
     requires { IsNewlyKept D.rows kept }
-    ensures engaged { IfOk result (λ staff. IsEngaged workers 0 staff.hired 0 staff.thread_faults staff.own.desk.pass) }
+    ensures engaged { IfOk result (λ staff. IsEngaged workers 0 (vec_len staff.threads) 0 staff.thread_faults staff.own.desk.pass) }
 {
     let (shared, pass) = share(alloc, kept)?;
     engage_over(rt, alloc, shared, pass, workers, limits)
 }
 
 /// The same, over what may be used by many threads.
-fn engage_over<
-    R: Threads + Wait + Log + Clock + Copy + Send + Drop + 'static,
-    S: Serves + Send + Sync + Drop + 'static,
->(
+fn engage_over<R: Host, S: Serves + Send + Sync + Drop + 'static>(
     rt: R,
     alloc: Global,
     shared: S,
@@ -117,18 +129,17 @@ fn engage_over<
 ) -> Result<Staff<S, R>, AllocError>
     requires own { pass.lock ≡ S.id shared }
     requires idle { runs_in pass ≡ None }
-    ensures engaged { IfOk result (λ staff. IsEngaged workers 0 staff.hired 0 staff.thread_faults staff.own.desk.pass) }
+    ensures engaged { IfOk result (λ staff. IsEngaged workers 0 (vec_len staff.threads) 0 staff.thread_faults staff.own.desk.pass) }
 {
     let shared = Arc::new(alloc, shared)?;
     let (to, from) = channel(alloc)?;
     let mut crew = Crew::new(&rt, alloc, &from);
     hire_all(rt, alloc, &shared, &mut pass, &mut crew, workers, limits)?;
-    let (threads, hired, thread_faults) = crew.into_parts();
+    let (threads, thread_faults) = crew.into_parts();
     let own = Worker::new(alloc, shared, pass, rt, limits);
     Ok(Staff {
         to,
         threads,
-        hired,
         thread_faults,
         own,
     })
@@ -137,10 +148,7 @@ fn engage_over<
 /// Has up to so many workers work, each with a pass that is split off. A pass that was split off
 /// has too few turns to be split again, so this one makes them all.
 #[tactic(auto, using(crate::proofs::Counts::hired_none, crate::proofs::Counts::hired_more))]
-fn hire_all<
-    R: Threads + Wait + Log + Clock + Copy + Send + Drop + 'static,
-    S: Serves + Send + Sync + Drop + 'static,
->(
+fn hire_all<R: Host, S: Serves + Send + Sync + Drop + 'static>(
     rt: R,
     alloc: Global,
     shared: &Arc<S, Global>,
@@ -152,7 +160,7 @@ fn hire_all<
     requires own { pass.old.lock ≡ S.id (arc_value shared.now) }
     ensures own { pass.new.lock ≡ pass.old.lock }
     ensures same { runs_in pass.new ≡ runs_in pass.old }
-    ensures engaged { OnOk result (IsEngaged workers crew.old.hired crew.new.hired crew.old.faults crew.new.faults pass.new) }
+    ensures engaged { OnOk result (IsEngaged workers (vec_len crew.old.threads) (vec_len crew.new.threads) crew.old.faults crew.new.faults pass.new) }
 {
     for _ in 0..workers {
         let Some(other) = shared.split_off(pass) else {

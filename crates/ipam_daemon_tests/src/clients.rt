@@ -1,7 +1,10 @@
 //! Clients of the daemon, as a script has them.
 //!
 //! Each line of a script begins with the letter of a client, `a` for the first. `a > TEXT` sends a line,
-//! `a . TEXT` a text without a line feed, `a * TEXT` a line after the head of a web page's request, `a < TEXT` reads a line, which should be this, and `a !` closes.
+//! `a . TEXT` a text without a line feed, `a * TEXT` a line after the head of a web page's request.
+//! `a < TEXT` reads a line, which should be this. `a = COMMAND TEXT` makes a CNI call, whose status and
+//! output should be these. `a !` closes.
+use crate::calls::called_over;
 use crate::loopback::limits_of;
 use ipam_io::Sink;
 use ipam_lines::{Got, Lines, LinesFault};
@@ -53,6 +56,14 @@ impl<'a> Client<'a> {
             Ok(()) => Ok(()),
             Err(_) => told.push_str("not sent\n"),
         }
+    }
+
+    /// Makes the CNI call that the text begins with, and tells its status and output.
+    fn call(&mut self, alloc: Global, told: &mut String, text: &str) -> Result<(), AllocError> {
+        let (command, _) = text.split_once(' ').unwrap_or((text, ""));
+        let called = called_over(alloc, command, &mut self.link)?;
+        told.push_str(called.as_str().trim_end())?;
+        told.push_str("\n")
     }
 
     /// Reads the next line, and tells it, or that there is none.
@@ -130,6 +141,7 @@ fn act(
         "." => client.send(alloc, told, ("", text, "")),
         "*" => client.send(alloc, told, (HEAD, text, "\n")),
         "<" => client.receive(told),
+        "=" => client.call(alloc, told, text),
         _ => Ok(()),
     }
 }
@@ -145,12 +157,24 @@ fn place_of(name: &str) -> usize {
     }
 }
 
+/// The line that should be told after this act, if there is one.
+fn wanted_of(act: &str) -> Option<&str> {
+    match act.split_once(' ') {
+        Some(("<", text)) => Some(text),
+        Some(("=", call)) => match call.split_once(' ') {
+            Some((_, text)) => Some(text),
+            None => None,
+        },
+        _ => None,
+    }
+}
+
 /// The lines that should be read.
 pub(crate) fn wanted(alloc: Global, script: &str) -> Result<String, AllocError> {
     let mut wanted = String::new(alloc);
     for line in script.lines() {
         let (_, rest) = line.split_once(' ').unwrap_or((line, ""));
-        if let Some(text) = rest.strip_prefix("< ") {
+        if let Some(text) = wanted_of(rest) {
             wanted.push_str(text)?;
             wanted.push_str("\n")?;
         }

@@ -1,20 +1,16 @@
 //! What is written and logged at ends.
 use crate::calls::{called_with, input_of};
 use crate::loopback::{free, keeper_of, listening, reached};
-use ipam_daemon::{Keeper, Served, SessionEnd, log_end, serve, tell_served};
+use ipam_daemon::{Host, Keeper, Served, SessionEnd, log_end, serve, tell_served};
 use ipam_io::MemorySink;
 use ipam_keeper::MemoryKeeper;
 use ipam_text::Text;
-use log::Log;
 use log::sink::Memory;
 use std::alloc::{AllocError, Global};
 use std::fs::Files;
 use std::net::{Net, TcpListener, TcpStream};
 use std::str;
-use std::sync::Wait;
 use std::test::Fail;
-use std::thread::Threads;
-use std::time::Clock;
 
 const CLOSED: &str = "[INFO  ipam] session closed";
 
@@ -87,16 +83,7 @@ fn failing(alloc: Global) -> Result<MemoryKeeper, AllocError> {
 
 /// The status with which serving ends at once, and what is written of it.
 fn told_served<
-    R: Threads
-        + Wait
-        + Log
-        + Clock
-        + Files
-        + Net<Listener = TcpListener, Stream = TcpStream>
-        + Copy
-        + Send
-        + Drop
-        + 'static,
+    R: Host + Files + Net<Listener = TcpListener, Stream = TcpStream>,
     D: Keeper + Send + Drop + 'static,
 >(rt: R, alloc: Global, keeper: D, address: &str) -> Result<String, AllocError> {
     let served = serve(rt, alloc, keeper, address, 2);
@@ -104,18 +91,11 @@ fn told_served<
 }
 
 /// What serving at the address tells over rows that are sound, that can't be loaded, and that are broken.
-fn told_of_each<
-    R: Threads
-        + Wait
-        + Log
-        + Clock
-        + Files
-        + Net<Listener = TcpListener, Stream = TcpStream>
-        + Copy
-        + Send
-        + Drop
-        + 'static,
->(rt: R, alloc: Global, address: &str) -> Result<[String; 3], AllocError> {
+fn told_of_each<R: Host + Files + Net<Listener = TcpListener, Stream = TcpStream>>(
+    rt: R,
+    alloc: Global,
+    address: &str,
+) -> Result<[String; 3], AllocError> {
     Ok([
         told_served(rt, alloc, free(alloc)?, address)?,
         told_served(rt, alloc, failing(alloc)?, address)?,

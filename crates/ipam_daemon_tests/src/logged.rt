@@ -1,14 +1,11 @@
 //! A session is logged once, by its end.
 use crate::clients::connected;
 use crate::loopback::{free, limits_of, listening, reached};
-use ipam_daemon::{engage, open_kept};
+use ipam_daemon::{Host, engage, open_kept};
 use log::sink::{Lines, Memory};
-use log::{Level, Log, Logged};
+use log::{Level, Logged};
 use std::alloc::AllocError;
-use std::sync::Wait;
 use std::test::Fail;
-use std::thread::Threads;
-use std::time::Clock;
 
 /// What a client sends and how the session is logged that it has with that.
 const SESSIONS: [(&str, &str); 3] = [
@@ -22,11 +19,7 @@ const SESSIONS: [(&str, &str); 3] = [
 
 /// What is logged where a client of the address sends this text and closes, and is served by the
 /// thread that accepts it.
-fn logged<R: Threads + Wait + Clock + Log + Copy + Send + Drop + 'static>(
-    host: R,
-    rt: &HostRuntime,
-    text: &str,
-) -> Result<Lines, AllocError> {
+fn logged<R: Host>(host: R, rt: &HostRuntime, text: &str) -> Result<Lines, AllocError> {
     let alloc = rt.alloc();
     let log = Logged::new(host, Level::Info, Memory::new(alloc));
     let Some(mut listener) = listening(rt, "127.0.0.1:0") else {

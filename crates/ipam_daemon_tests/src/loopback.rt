@@ -1,13 +1,10 @@
 //! The daemon at a port of the loopback, or at a socket file.
-use ipam_daemon::{Address, Limits, Listens, SocketListener, Stream, engage, open_kept};
+use ipam_daemon::{Address, Host, Limits, Listens, SocketListener, Stream, engage, open_kept};
 use ipam_keeper::{KeepFault, Keeper, MemoryKeeper};
 use ipam_socket::Failed;
-use log::Log;
 use std::alloc::{AllocError, Global};
 use std::process;
-use std::sync::Wait;
-use std::thread::Threads;
-use std::time::{Clock, Duration};
+use std::time::Duration;
 
 /// A pool of eight addresses, and a block of the node `a` with none given out, as `REVISION KEY BODY`.
 const ROWS: &str =
@@ -126,11 +123,7 @@ pub(crate) fn socket_path(rt: &HostRuntime, name: &str) -> Result<String, AllocE
 
 /// Serves so many connections of the listener to their ends, by so many workers. False where the rows
 /// are not opened or there is no memory.
-pub(crate) fn serve_all<
-    R: Threads + Wait + Log + Clock + Copy + Send + Drop + 'static,
-    D: Keeper + Send + Drop + 'static,
-    L: Listens<Stream>,
->(
+pub(crate) fn serve_all<R: Host, D: Keeper + Send + Drop + 'static, L: Listens<Stream>>(
     rt: R,
     alloc: Global,
     keeper: D,

@@ -51,7 +51,13 @@ b !
 c > {"request":{"del":{"handle":"net.c1"}}}
 c < {"answer":{"deleted":{"k":16}}}
 c !
-d !"#;
+d !
+
+2 2 40000 two workers serve at once: one a call, while the other waits for a silent client
+b = ADD 0 {"cniVersion":"1.0.0","ips":[{"address":"10.0.0.0/32"}]}
+b !
+a = DEL 0
+a !"#;
 
 /// The same, at a socket file.
 pub(crate) const AT_A_FILE: &str =

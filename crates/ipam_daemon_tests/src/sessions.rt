@@ -1,20 +1,16 @@
 //! Sessions at once, one after another, and with no worker.
-use crate::calls::{called_at, called_over};
+use crate::calls::called_at;
 use crate::clients::{connected, play, wanted};
-use crate::flags::Flag;
 use crate::loopback::{Few, free, limits_of, listening, reached, serve_all, socket_path};
 use crate::scripts::{AT_A_FILE, CUT, EITHER, OVER_TCP};
 use crate::turns::two_sessions;
-use ipam_daemon::{Address, Listens, Served, SocketListener, open_kept, serve_by};
-use ipam_socket::{SocketLink, Stream, connect};
-use log::Log;
+use ipam_daemon::{Address, Host, Leaving, Listens, Served, SocketListener, open_kept, serve_by};
 use std::alloc::AllocError;
 use std::process::Abort;
-use std::sync::Wait;
 use std::test::Fail;
 use std::thread;
-use std::thread::{Threads, join};
-use std::time::{Clock, Duration};
+use std::thread::join;
+use std::time::Duration;
 
 /// A port of the loopback that the system chooses.
 const ANY_PORT: &str = "127.0.0.1:0";
@@ -40,7 +36,7 @@ fn counts_of(head: &str) -> (u8, u8, u64) {
 
 /// Has the script played by its clients against its workers at the address. Gives what is told, or
 /// nothing where nobody was served.
-fn played<R: Threads + Wait + Log + Clock + Copy + Send + Sync + Drop + 'static>(
+fn played<R: Host + Sync>(
     host: R,
     rt: &HostRuntime,
     address: &str,
@@ -73,7 +69,7 @@ fn played<R: Threads + Wait + Log + Clock + Copy + Send + Sync + Drop + 'static>
 }
 
 /// Plays each script at the address, and counts them.
-fn play_each<R: Threads + Wait + Log + Clock + Copy + Send + Sync + Drop + 'static + Abort>(
+fn play_each<R: Host + Sync + Abort>(
     host: R,
     rt: &HostRuntime,
     address: &str,
@@ -96,8 +92,8 @@ fn play_each<R: Threads + Wait + Log + Clock + Copy + Send + Sync + Drop + 'stat
 fn scripts_are_played(rt: HostRuntime) -> Result<(), Fail> {
     let path = socket_path(&rt, "scripts")?;
     let tables = [
-        (ANY_PORT, EITHER, 4),
-        (path.as_str(), EITHER, 4),
+        (ANY_PORT, EITHER, 5),
+        (path.as_str(), EITHER, 5),
         (path.as_str(), AT_A_FILE, 3),
         (ANY_PORT, OVER_TCP, 3),
         (ANY_PORT, CUT, 1),
@@ -106,59 +102,6 @@ fn scripts_are_played(rt: HostRuntime) -> Result<(), Fail> {
     for (address, scripts, count) in tables {
         assert_eq!(rt; play_each(rt, &rt, address, scripts)?, count, "{address}");
     }
-    Ok(())
-}
-
-/// Makes an ADD over the link, and raises the flag when it has its reply.
-fn add_and_tell(rt: &HostRuntime, address: &str, flag: &Flag) -> Result<String, AllocError> {
-    let told = called_at(rt, "ADD", address);
-    flag.raise();
-    told
-}
-
-/// Makes an ADD while the connection stays silent, and then a DEL over it. Nothing is told of the DEL
-/// where the ADD has no reply in time.
-fn call_both<R: Threads>(
-    host: &R,
-    rt: &HostRuntime,
-    address: &str,
-    silent: Stream,
-) -> Result<(String, String), AllocError> {
-    let alloc = rt.alloc();
-    let flag = Flag::new();
-    let (added, deleted) = join(
-        host,
-        || -> Result<String, AllocError> { add_and_tell(rt, address, &flag) },
-        || -> Result<String, AllocError> {
-            if !flag.is_raised_in_time() {
-                let told: Result<_, _> = String::from_str(
-                    alloc,
-                    "no reply beside a silent session",
-                );
-                return told;
-            }
-            let mut link = SocketLink::of_call(rt, silent, limits_of(LONG));
-            called_over(alloc, "DEL", &mut link)
-        },
-    );
-    Ok((added?, deleted?))
-}
-
-#[test]
-fn two_workers_serve_at_once(rt: HostRuntime) -> Result<(), Fail> {
-    let mut listener = listening(&rt, ANY_PORT).ok_or("no listener")?;
-    let address = reached(rt.alloc(), &listener, ANY_PORT)?;
-    let limit = Duration::from_secs(40);
-    let silent = connect(&rt, Address::of(address.as_str()), limit).ok_or("no connection")?;
-    let keeper = free(rt.alloc())?;
-    let (called, is_served) = join(
-        &rt,
-        || call_both(&rt, &rt, address.as_str(), silent),
-        || serve_all(rt, rt.alloc(), keeper, &mut listener, 2, 2, limits_of(LONG)),
-    );
-    let (added, deleted) = called?;
-    assert!(rt; is_served);
-    assert_eq!(rt; (added.as_str(), deleted.as_str()), (ADDED, DELETED));
     Ok(())
 }
 
@@ -193,7 +136,7 @@ fn called_soon(rt: &HostRuntime, command: &str, address: &str) -> Result<String,
 
 /// Serves so many connections at the address, and tells whether the end is that of a listener that
 /// failed.
-fn serve_few<R: Threads + Wait + Log + Clock + Copy + Send + Sync + Drop + 'static>(
+fn serve_few<R: Host + Sync>(
     host: R,
     rt: &HostRuntime,
     address: &str,
@@ -204,7 +147,15 @@ fn serve_few<R: Threads + Wait + Log + Clock + Copy + Send + Sync + Drop + 'stat
         SocketListener::new(rt, alloc, Address::of(address)),
         connections,
     );
-    let served = serve_by(host, alloc, free(alloc)?, &mut few, 2, limits_of(LONG));
+    let served = serve_by(
+        host,
+        alloc,
+        free(alloc)?,
+        &mut few,
+        2,
+        limits_of(LONG),
+        Leaving::Done,
+    );
     Ok(matches!(served, Served::ListenFault))
 }
 

@@ -11,11 +11,11 @@ mod telling;
 use asking::{ask, asked_of};
 use ipam_client::call;
 use ipam_command::NO_MEMORY;
+use ipam_daemon::Host;
 use ipam_environment::{Database, call_variables, database_named};
 use ipam_io::{StdSink, StdSource};
 use ipam_text::Seq;
 use ipam_words::{Command, read_words};
-use log::Log;
 use process::{entries_of, words_of};
 use serving::serve_database;
 use std::alloc::AllocError;
@@ -23,8 +23,6 @@ use std::fs::Files;
 use std::io;
 use std::net::{Net, TcpListener, TcpStream};
 use std::process::ExitCode;
-use std::rt::Clock;
-use std::sync::Wait;
 use std::thread::Threads;
 use stored::{Use, run_at, run_at_none};
 use telling::tell_unknown;
@@ -37,19 +35,10 @@ fn main(rt: HostRuntime) -> ExitCode {
 }
 
 /// Runs what the words ask, and answers the exit status. `threads` is the runtime too: what makes threads.
-fn run<
-    R: Threads
-        + Wait
-        + Log
-        + Clock
-        + Files
-        + Net<Listener = TcpListener, Stream = TcpStream>
-        + Copy
-        + Send
-        + Sync
-        + Drop
-        + 'static,
->(rt: &HostRuntime, threads: R) -> Result<u8, AllocError> {
+fn run<R: Host + Files + Net<Listener = TcpListener, Stream = TcpStream> + Sync>(
+    rt: &HostRuntime,
+    threads: R,
+) -> Result<u8, AllocError> {
     let words = words_of(rt)?;
     let entries = entries_of(rt)?;
     if let Some((address, asked)) = asked_of(&words, &entries) {

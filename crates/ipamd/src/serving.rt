@@ -1,35 +1,19 @@
 //! The daemon over the database.
-use crate::no_file::NoFile;
 use crate::telling::{tell_no_path, tell_why};
-use ipam_daemon::{Served, serve, tell_served};
+use ipam_daemon::{Host, Served, serve, tell_served};
 use ipam_environment::{Database, database_named};
 use ipam_io::StdSink;
 use ipam_sqlite::{SqliteKeeper, settle};
 use ipam_text::Seq;
-use log::Log;
 use sqlite::Alter;
 use std::alloc::{AllocError, Global};
 use std::fs::Files;
 use std::io;
 use std::net::{Net, TcpListener, TcpStream};
-use std::rt::Clock;
-use std::sync::Wait;
-use std::thread::Threads;
 
 /// Serves what the database has, and writes why it serves no more. The file is opened before anything
 /// listens. `threads` is the runtime too: what makes threads.
-pub(crate) fn serve_database<
-    R: Threads
-        + Wait
-        + Log
-        + Clock
-        + Files
-        + Net<Listener = TcpListener, Stream = TcpStream>
-        + Copy
-        + Send
-        + Drop
-        + 'static,
->(
+pub(crate) fn serve_database<R: Host + Files + Net<Listener = TcpListener, Stream = TcpStream>>(
     rt: &HostRuntime,
     threads: R,
     entries: &[Seq<u8>],
@@ -40,25 +24,20 @@ pub(crate) fn serve_database<
         Database::File(path) => serve_at(rt, threads, path.as_str(), address, workers),
         Database::NoPath => {
             tell_no_path(rt);
-            serve(threads, rt.alloc(), NoFile::new(), address, workers)
+            Served::KeeperFault
         }
     };
     let mut sink = StdSink::new(io::writer(rt));
     Ok(tell_served(rt.alloc(), &mut sink, &served))
 }
 
-fn serve_at<
-    R: Threads
-        + Wait
-        + Log
-        + Clock
-        + Files
-        + Net<Listener = TcpListener, Stream = TcpStream>
-        + Copy
-        + Send
-        + Drop
-        + 'static,
->(rt: &HostRuntime, threads: R, path: &str, address: &str, workers: u8) -> Served {
+fn serve_at<R: Host + Files + Net<Listener = TcpListener, Stream = TcpStream>>(
+    rt: &HostRuntime,
+    threads: R,
+    path: &str,
+    address: &str,
+    workers: u8,
+) -> Served {
     let keeper = SqliteKeeper::open(rt, path);
     if let Some(why) = keeper.why() {
         tell_why(rt, path, why);
@@ -71,16 +50,7 @@ fn serve_at<
 /// Serves what a keeper over this store has. Which store it is stays open here, since what a connection
 /// holds is looked through for each kind of store that a thread is handed.
 fn serve_stored<
-    R: Threads
-        + Wait
-        + Log
-        + Clock
-        + Files
-        + Net<Listener = TcpListener, Stream = TcpStream>
-        + Copy
-        + Send
-        + Drop
-        + 'static,
+    R: Host + Files + Net<Listener = TcpListener, Stream = TcpStream>,
     S: Alter + Drop + Send + 'static,
 >(threads: R, alloc: Global, keeper: SqliteKeeper<S>, address: &str, workers: u8) -> Served {
     serve(threads, alloc, keeper, address, workers)

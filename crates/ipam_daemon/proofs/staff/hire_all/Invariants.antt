@@ -1,8 +1,8 @@
--- A worker works for each round so far.
-use Rattle.std.proofs.Common.{◌≡◌, ◌≤◌}
+-- A worker has a thread for each round so far.
+use Rattle.std.proofs.Common.{◌≡◌, ◌≤◌, ◌+◌}
 use Rattle.std.specs.Arc.{arc_value}
+use Rattle.std.specs.Vec.{vec_len}
 use Rattle.ipam_shared.specs.Passes.{runs_in}
-use Rattle.ipam_daemon.specs.Handing.{raised}
 use Rattle.ipam_daemon.proofs.staff.hire_all.Given as goal
 
 abbrev pub invariant-loop : goal.invariant-loop
@@ -10,6 +10,6 @@ invariant-loop g l =
     (l.pass.lock ≡ g.S.Serves.id (arc_value l.shared))
     × (l.pass.lock ≡ l.initial.pass.lock)
     × (runs_in l.pass ≡ runs_in l.initial.pass)
-    × (l.crew.hired ≡ raised l.counter l.initial.crew.hired)
+    × (vec_len l.crew.threads ≡ vec_len l.initial.crew.threads + l.counter)
     × (l.crew.faults ≡ l.initial.crew.faults)
     × (l.counter ≤ l.workers)
