@@ -9,6 +9,7 @@ All keep their state in a temporary folder. Prints medians in milliseconds over 
 import json
 import os
 import shutil
+import socket
 import sqlite3
 import statistics
 import subprocess
@@ -16,11 +17,23 @@ import sys
 import tempfile
 import time
 
-from daemon_client import connect
-
 CALLS = 40
 NETWORK, NODE = "bench", "node-a"
 DAEMON = "127.0.0.1:9435"
+PATIENCE = 10
+
+
+def await_listener():
+    """Returns as soon as the daemon listens."""
+    host, port = DAEMON.split(":")
+    end = time.monotonic() + PATIENCE
+    while True:
+        try:
+            return socket.create_connection((host, int(port))).close()
+        except ConnectionRefusedError:
+            if time.monotonic() > end:
+                sys.exit("nobody listens")
+            time.sleep(0.02)
 
 
 def text(value):
@@ -86,7 +99,7 @@ def by_daemon(program, configuration, environment):
     quiet = {"stdout": subprocess.DEVNULL, "stderr": subprocess.DEVNULL}
     daemon = subprocess.Popen([program, "serve", DAEMON, "4"], env=environment, **quiet)
     try:
-        connect(int(DAEMON.split(":")[1])).close()
+        await_listener()
         return medians([program, "call", DAEMON], configuration, environment)
     finally:
         daemon.kill()

@@ -2,11 +2,13 @@
 # ADD and DEL through the daemon, over one connection and over sixteen, by one node and by a node for each
 # connection: calls a second, the median and the 99th percentile. First it uses a file in the folder for
 # temporary files (TMPDIR) and times its sync, and then a file in memory. The words are how many addresses each
-# run adds and deletes (2000) and the port (9431).
+# run adds and deletes (2000), the port (9431) and a program (the one that ./ipam runs): so two programs can be
+# compared at the same time of the same machine. The client is compiled by rustc.
 set -eu
 top=$(cd "$(dirname "$0")/.." && pwd)
 calls=${1:-2000}
 port=${2:-9431}
+program=${3:-$top/ipam}
 work=$(mktemp -d)
 memory=$(mktemp -d -p /dev/shm)
 daemon=
@@ -18,14 +20,15 @@ finish() {
     fi
 }
 trap 'finish; rm -rf "$work" "$memory"' EXIT
-"$top/ipam" --version >/dev/null
+"$program" --version >/dev/null
+rustc -O -o "$work/client" "$top/bench/daemon_client.rs"
 for folder in "$work" "$memory"; do
     for shape in "1 1" "16 1" "16 16"; do
         rm -f "$folder"/ipam.db*
-        IPAM_DB=$folder/ipam.db "$top/ipam" serve "127.0.0.1:$port" 16 >"$work/said" 2>"$work/log" &
+        IPAM_DB=$folder/ipam.db "$program" serve "127.0.0.1:$port" 16 >"$work/said" 2>"$work/log" &
         daemon=$!
         # shellcheck disable=SC2086
-        python3 "$top/bench/daemon_client.py" "$port" "$folder" "$calls" $shape || { cat "$work/said"; exit 1; }
+        "$work/client" "$port" "$folder" "$calls" $shape || { cat "$work/said"; exit 1; }
         finish
     done
 done
