@@ -11,9 +11,9 @@ use ipam_table::{Answers, answer_lines};
 use std::alloc::{AllocError, Global};
 use std::io;
 
-struct Calls;
+struct CallTable;
 
-impl Answers for Calls {
+impl Answers for CallTable {
     fn answer(&self, alloc: Global, kind: &str, text: &str) -> Result<String, AllocError> {
         match kind {
             "call" | "worked" => calls::call_text(alloc, text),
@@ -28,5 +28,5 @@ impl Answers for Calls {
 }
 
 fn main(rt: HostRuntime) -> io::Result<()> {
-    answer_lines(&rt, &Calls)
+    answer_lines(&rt, &CallTable)
 }
