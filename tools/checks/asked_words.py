@@ -1,0 +1,187 @@
+#!/usr/bin/env python3
+"""Runs the operator's words over a file and over a daemon that holds a copy of it, and compares them.
+
+Twenty datastores are made with pools, reservations and calls. On each, the same words run twice: over
+the file, and over a daemon at a socket file. Both must write the same bytes, end with the same status
+and leave the same rows, revisions aside. Then a few words run where nobody answers, or where something else does.
+
+    tools/checks/asked_words.py [PROGRAM] [BASES]
+
+The last line says how many comparisons passed and how many failed.
+"""
+
+import json
+import os
+import random
+import shutil
+import socket
+import subprocess
+import sys
+import tempfile
+import threading
+import time
+from pathlib import Path
+
+TOP = Path(__file__).resolve().parent.parent.parent
+CONFIGURATION = {"cniVersion": "1.0.0", "name": "n", "ipam": {"type": "calico-ipam"}}
+counts = {"passed": 0, "failed": 0}
+
+
+def compare(what, one, other):
+    if one == other:
+        counts["passed"] += 1
+    else:
+        counts["failed"] += 1
+        print(f"{what}\n  over the file:   {one!r}\n  over the daemon: {other!r}")
+
+
+def pool(name, cidr, size=None):
+    spec = {"cidr": cidr} if size is None else {"cidr": cidr, "blockSize": size}
+    return {"kind": "IPPool", "metadata": {"name": name}, "spec": spec}
+
+
+def reservation(name, cidrs):
+    return {"kind": "IPReservation", "metadata": {"name": name}, "spec": {"reservedCIDRs": cidrs}}
+
+
+def several(items):
+    return {"kind": "List", "apiVersion": "v1", "items": items}
+
+
+class Words:
+    """The program over a file, or over a daemon."""
+
+    def __init__(self, program, database, address=None):
+        self.program, self.address = program, address
+        self.environment = {"IPAM_DB": str(database), "PATH": "/usr/bin:/bin"}
+
+    def run(self, words, given="", by_environment=False, **more):
+        environment = {**self.environment, **more}
+        asked = []
+        if self.address and by_environment:
+            environment["IPAM_DAEMON"] = str(self.address)
+        elif self.address:
+            asked = ["--daemon", str(self.address)]
+        ran = subprocess.run([self.program, *asked, *words], input=given.encode(), env=environment, capture_output=True, timeout=60)
+        return ran.returncode, ran.stdout.decode()
+
+
+def make(program, database, draw):
+    """A datastore with pools and addresses."""
+    words = Words(program, database)
+    pools = [pool("p", "10.0.0.0/24", draw.choice([26, 28, 30])), pool("q", "fd00::/64")]
+    words.run(["apply"], json.dumps(several(pools[: draw.randint(1, 2)])))
+    if draw.random() < 0.5:
+        words.run(["apply"], json.dumps(reservation("r", ["10.0.0.0/30"])))
+    for number in range(draw.randint(0, 12)):
+        node = draw.choice("abc")
+        words.run(
+            [], json.dumps({**CONFIGURATION, "nodename": node}), CNI_COMMAND="ADD", CNI_CONTAINERID=f"c{number}",
+            CNI_NETNS="/n", CNI_IFNAME="eth0", CNI_PATH="/opt/cni/bin",
+        )
+
+
+def rows_of(program, database):
+    """Keys and bodies. Each word over a file opens it anew and goes on from its greatest revision, so a
+    deletion at the end of a word leaves no revision behind, as it does in a daemon."""
+    lines = Words(program, database).run(["get"])[1].splitlines()
+    return [(key, body) for key, _, body in (line.split(" ", 2) for line in lines)]
+
+
+def blocks_of(program, database):
+    told = Words(program, database).run(["get", "affinity"])[1]
+    return [line.split(" ")[0].split("/", 2)[1:] for line in told.splitlines()]
+
+
+def questions(draw, blocks):
+    """Words with their input."""
+    yield ["routes", "a"], ""
+    yield ["routes", "none"], ""
+    for node, cidr in blocks[:2]:
+        yield ["release", node, cidr], ""
+        yield ["release", node, cidr], ""
+        yield ["routes", node], ""
+    yield ["release", "a", "10.9.0.0/30"], ""
+    yield ["apply"], json.dumps(pool("s", f"10.{draw.randint(1, 9)}.0.0/24"))
+    yield ["apply"], json.dumps(several([pool("t", "10.20.0.0/24"), pool("u", "10.0.0.0/16"), pool("v", "10.30.0.0/24")]))
+    yield ["apply"], json.dumps(pool("p", "10.40.0.0/24"))
+    yield ["apply"], json.dumps(reservation("x", ["10.50.0.0/24", "10.0.0.9"]))
+    yield ["apply"], json.dumps(pool("w", "10.0.0.1/24"))
+    yield ["apply"], "{"
+    yield ["apply"], ""
+    yield ["routes", "b"], ""
+
+
+def serve(program, database, address):
+    daemon = subprocess.Popen(
+        [program, "serve", str(address), "2"], env={"IPAM_DB": str(database), "PATH": "/usr/bin:/bin"},
+        stdout=subprocess.DEVNULL, stderr=subprocess.DEVNULL,
+    )
+    for _ in range(500):
+        with socket.socket(socket.AF_UNIX) as link:
+            try:
+                link.connect(str(address))
+                return daemon
+            except OSError:
+                time.sleep(0.01)
+    sys.exit("the daemon does not answer")
+
+
+def try_base(program, folder, number):
+    draw = random.Random(number)
+    one, other, address = folder / f"one-{number}.db", folder / f"other-{number}.db", folder / f"{number}.sock"
+    make(program, one, draw)
+    Words(program, one).run(["get"])
+    for end in ("", "-wal"):
+        if os.path.exists(f"{one}{end}"):
+            shutil.copyfile(f"{one}{end}", f"{other}{end}")
+    daemon = serve(program, other, address)
+    try:
+        over_file, over_daemon = Words(program, one), Words(program, other, address)
+        for count, (words, given) in enumerate(questions(draw, blocks_of(program, one))):
+            compare(f"base {number}: {' '.join(words)}", over_file.run(words, given), over_daemon.run(words, given, count % 2 == 1))
+    finally:
+        daemon.kill()
+        daemon.wait()
+    compare(f"base {number}: the rows afterwards", rows_of(program, one), rows_of(program, other))
+
+
+def answer_once(server, reply):
+    link, _ = server.accept()
+    with link:
+        link.recv(65536)
+        link.sendall(reply)
+
+
+def try_strangers(program, folder):
+    """Nobody answers, or something else does."""
+    nobody = Words(program, folder / "none.db", folder / "none.sock")
+    compare("nobody answers", (10, "link fault\n"), nobody.run(["routes", "a"]))
+    compare("nobody answers apply", (10, "link fault\n"), nobody.run(["apply"], json.dumps(pool("p", "10.0.0.0/24"))))
+    compare("a word that no daemon is asked", (2, "unknown words\n"), nobody.run(["get"]))
+    compare("no word", (2, "unknown words\n"), nobody.run([]))
+    for number, reply in enumerate((b"", b"{}\n", b"HTTP/1.1 400 Bad Request\r\n\r\n", b'{"answer":"checked"}\n', b"\xff\n", b'{"answer":"released"}')):
+        address = folder / f"stranger-{number}.sock"
+        with socket.socket(socket.AF_UNIX) as server:
+            server.bind(str(address))
+            server.listen(1)
+            thread = threading.Thread(target=answer_once, args=(server, reply))
+            thread.start()
+            got = Words(program, folder / "none.db", address).run(["release", "a", "10.0.0.0/30"])
+            thread.join()
+        compare(f"a reply {reply!r}", (11, "reply fault\n"), got)
+
+
+def main():
+    program = os.path.abspath(sys.argv[1]) if len(sys.argv) > 1 else str(TOP / "release/ipam")
+    bases = int(sys.argv[2]) if len(sys.argv) > 2 else 20
+    with tempfile.TemporaryDirectory(prefix="ipam-asked-") as folder:
+        for number in range(bases):
+            try_base(program, Path(folder), number)
+        try_strangers(program, Path(folder))
+    print(f"{counts['passed']} passed, {counts['failed']} failed")
+    return 1 if counts["failed"] else 0
+
+
+if __name__ == "__main__":
+    sys.exit(main())
