@@ -12,12 +12,19 @@ use ipam_text::{Seq, Text};
 /// blocks (b), and the write of the block (w).
 #[derive(Clone, Copy, Debug, PartialEq, Eq)]
 pub struct Given {
+    /// The address, which the write at `w` assigned to the request's handle.
     pub address: Addr,
+    /// The moment of the read of the configuration.
     pub c: u64,
+    /// The moment of the read of the pools.
     pub p: u64,
+    /// The moment of the read of the reservations.
     pub r: u64,
+    /// The moment of the list of affinities.
     pub f: u64,
+    /// The moment of the list of blocks.
     pub b: u64,
+    /// The moment of the write of the block, which comes after `b`.
     pub w: u64,
 }
 
@@ -25,29 +32,43 @@ pub struct Given {
 /// (c), the pools (p) and the block (b), and of the write of the block (w).
 #[derive(Clone, Copy, Debug, PartialEq, Eq)]
 pub struct GivenThis {
+    /// The address, which the write at `w` assigned to the request's handle.
     pub address: Addr,
+    /// The moment of the read of the configuration.
     pub c: u64,
+    /// The moment of the read of the pools.
     pub p: u64,
+    /// The moment of the read of the block that has the address.
     pub b: u64,
+    /// The moment of the write of the block, which comes after `b`.
     pub w: u64,
 }
 
 /// What was looked at for a family, with the moments of the five reads.
 #[derive(Clone, Copy, Debug, PartialEq, Eq)]
 pub struct Scan {
+    /// The family for which an address was looked for.
     pub family: Family,
+    /// The moment of the read of the configuration.
     pub c: u64,
+    /// The moment of the read of the pools.
     pub p: u64,
+    /// The moment of the read of the reservations.
     pub r: u64,
+    /// The moment of the list of affinities.
     pub f: u64,
+    /// The moment of the list of blocks.
     pub b: u64,
 }
 
 /// An address that was held by a handle that is not live.
 #[derive(Debug, Drop)]
 pub struct Item {
+    /// The address that was held.
     pub address: Addr,
+    /// The id of the handle that held it.
     pub handle: Text,
+    /// The stamp of the allocation: the sequence number of the block when the allocation was made.
     pub stamp: u64,
     /// Whether the collection freed it itself.
     pub freed: bool,
@@ -56,8 +77,12 @@ pub struct Item {
 /// What a collection found, with the moments of its two lists of blocks.
 #[derive(Debug, Drop)]
 pub struct Collected {
+    /// The moment of the list of blocks before the second list of live handles.
     pub b1: u64,
+    /// The moment of the list of blocks after the second list of live handles.
     pub b2: u64,
+    /// The leaks, ascending by family and address. When the collection answers, none of them is
+    /// held any more.
     pub items: Seq<Item>,
 }
 
@@ -65,22 +90,34 @@ pub struct Collected {
 /// nothing else is said.
 #[derive(Debug, Drop)]
 pub enum Answer {
+    /// One address for each wanted family, IPv4 first.
     Added(Seq<Given>),
+    /// The address that was asked for.
     AddedThis(GivenThis),
     /// No candidate was left for this family.
     Exhausted(Scan),
     /// This name matches no enabled pool of its family.
     NoPool(Text, u64),
+    /// No pool that the request may use has the address. The moment is that of the read of the
+    /// pools.
     NotInPool(u64),
     /// The handle that holds the address.
     Taken(Text, u64),
     /// The block of another node, or of none.
     NotAffine(Cidr, u64),
+    /// The handle was read at this moment. It holds nothing any more of what it held then. A handle
+    /// that was missing is answered likewise.
     Deleted(u64),
+    /// The handle held each address when the address's block was read.
     Checked,
+    /// The first address that the handle did not hold. The moment is that of the read of its block,
+    /// or of the pools where no pool has the address.
     NotRecorded(Addr, u64),
+    /// The affinity was deleted, and the block does not have the node.
     Released,
+    /// The node had no affinity to the block.
     NoAffinity(u64),
+    /// The collection is over. No leak that it found is held any more.
     Collected(Collected),
     /// The revision of the write.
     Done(u64),

@@ -31,10 +31,15 @@ pub enum SlotState {
 /// The name of a call: what it is about, without the record that it writes.
 #[derive(Debug, Drop)]
 pub enum CallName {
+    /// Reads the record of this key.
     Get(Key),
+    /// Lists the records of this kind.
     List(Kind),
+    /// Creates a record under this key.
     Create(Key),
+    /// Replaces the record of this key if it has this revision.
     Update(Key, u64),
+    /// Deletes the record of this key if it has this revision.
     Delete(Key, u64),
 }
 
@@ -45,23 +50,32 @@ pub enum Told {
     Nothing,
     /// The revision that was found.
     Found(u64),
+    /// There is no record of the key. This answers a read, an update or a deletion.
     Missing,
     /// How many rows there are.
     Listed(u64),
     /// The revision that the write took.
     Done(u64),
+    /// The record that was to be created is there already, at this revision.
     Exists(u64),
+    /// The record has this revision, and not the one that the call named.
     Conflict(u64),
+    /// The record was not created: there is no room for one more row, or for one more block.
     Full,
+    /// The write was refused: the last revision has been used.
     Spent,
 }
 
 /// A call that was made for the request of a slot.
 #[derive(Debug, Drop)]
 pub struct Called {
+    /// The number of the slot, from 0 to 63.
     pub slot: u8,
+    /// The call, without the record that it writes.
     pub call: CallName,
+    /// Whether the call was answered, or failed before or after it was done.
     pub fate: Fate,
+    /// What the datastore answered. `Nothing` where the call failed before that.
     pub reply: Told,
     /// The record that was created or updated.
     pub written: Option<Record>,
@@ -72,10 +86,13 @@ pub struct Called {
 /// One thing that happened, in a slot.
 #[derive(Debug, Drop)]
 pub enum Entry {
+    /// The request began in this slot, which was idle.
     Began(u8, Request),
     /// A second list of live handles, with the time at which it was made.
     Fed(u8, u64, Seq<Text>),
+    /// One call of the datastore was made for the request of a slot.
     Called(Called),
+    /// The request of this slot was stopped, without an answer.
     Stopped(u8),
 }
 

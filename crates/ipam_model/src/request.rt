@@ -11,10 +11,13 @@ use std::alloc::AllocError;
 /// An address for each family that is wanted, or one address that is asked for.
 #[derive(Debug, Drop)]
 pub struct AddRequest {
+    /// The name of the node that the address is for.
     pub node: Text,
     /// What the address is recorded with, the handle among it.
     pub attributes: Attributes,
+    /// Whether an IPv4 address is wanted.
     pub ipv4: bool,
+    /// Whether an IPv6 address is wanted.
     pub ipv6: bool,
     /// The labels of the node, the keys ascending by their bytes and distinct.
     pub labels: Seq<(Text, Text)>,
@@ -48,11 +51,17 @@ impl Clone for AddRequest {
 /// Whether an address of each family could be given.
 #[derive(Debug, Drop)]
 pub struct ProbeRequest {
+    /// The name of the node that an address would be for.
     pub node: Text,
+    /// The labels of the node, the keys ascending by their bytes and distinct.
     pub labels: Seq<(Text, Text)>,
+    /// Whether an IPv4 address is wanted. A sound request wants at least one family.
     pub ipv4: bool,
+    /// Whether an IPv6 address is wanted.
     pub ipv6: bool,
+    /// The IPv4 pools that are named, by their names or CIDRs. With no name any pool is meant.
     pub pools4: Seq<Text>,
+    /// The IPv6 pools that are named, likewise.
     pub pools6: Seq<Text>,
 }
 
@@ -99,12 +108,14 @@ pub enum Admin {
     Reserve(Reservation),
     /// Removes the reservation of this name.
     Unreserve(Text),
+    /// Writes this configuration in place of the one that is there, if any.
     Config(Config),
 }
 
 /// What the allocator is asked.
 #[derive(Debug, Drop)]
 pub enum Request {
+    /// An address for each wanted family, of which a sound request has at least one.
     Add(AddRequest),
     /// The address that is wanted and no other. The flags of the families are not read.
     AddThis(AddRequest, Addr),
@@ -114,7 +125,11 @@ pub enum Request {
     Check(Text, Seq<Addr>),
     /// Takes the affinity of the block from the node.
     Release(Text, Cidr),
+    /// Frees the addresses in its scope that two lists of blocks show as held by one allocation, where
+    /// the handle is live in neither list of handles.
     Collect(CollectRequest),
+    /// Changes the pools, the reservations or the configuration.
     Admin(Admin),
+    /// Asks whether an address of each wanted family could be given, and writes nothing.
     Probe(ProbeRequest),
 }
