@@ -9,7 +9,9 @@ use ipam_model::Choice;
 /// A block as it was listed, with its revision.
 #[derive(Clone, Copy)]
 pub struct Listed<'a> {
+    /// The revision of the block's row.
     pub revision: u64,
+    /// The block, borrowed from the row.
     pub block: &'a Block,
 }
 
@@ -29,7 +31,9 @@ pub enum Rank<'a> {
 /// A slot that a node may take an address from.
 #[derive(Clone, Copy)]
 pub struct Candidate<'a> {
+    /// The CIDR of the slot.
     pub slot: Cidr,
+    /// Why the slot is a candidate.
     pub rank: Rank<'a>,
 }
 

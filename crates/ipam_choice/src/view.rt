@@ -15,6 +15,7 @@ use ipam_text::Text;
 pub struct Wanted<'a> {
     /// The node that the address is for.
     pub node: &'a str,
+    /// The family that the address is to have.
     pub family: Family,
     /// The pools of the family that are named, by their names or CIDRs. None means any.
     pub names: &'a [Text],
@@ -27,10 +28,15 @@ pub struct Wanted<'a> {
 /// What was read.
 #[derive(Clone, Copy)]
 pub struct View<'a> {
+    /// How addresses are given out.
     pub config: Config,
+    /// The table of all pools.
     pub pools: &'a PoolTable,
+    /// The addresses that the reservations hold.
     pub reserved: &'a Reserved,
+    /// The affinities of all nodes.
     pub affinities: Listing<'a>,
+    /// The blocks of all nodes and of none.
     pub blocks: Listing<'a>,
 }
 
@@ -38,10 +44,15 @@ pub struct View<'a> {
 /// that were listed.
 #[derive(Clone, Copy)]
 pub struct Known<'a, 's> {
+    /// How addresses are given out.
     pub config: Config,
+    /// The table of all pools.
     pub pools: &'s PoolTable,
+    /// The addresses that the reservations hold.
     pub reserved: &'s Reserved,
+    /// The blocks whose affinity to the node is confirmed.
     pub confirmed: &'s Confirmed,
+    /// The blocks of all nodes and of none.
     pub blocks: Listing<'a>,
 }
 

@@ -125,8 +125,8 @@ pub enum Request {
     Check(Text, Seq<Addr>),
     /// Takes the affinity of the block from the node.
     Release(Text, Cidr),
-    /// Frees the addresses in its scope that two lists of blocks show as held by one allocation, where
-    /// the handle is live in neither list of handles.
+    /// Frees the addresses in its scope whose handles are live in neither list. Two lists of blocks
+    /// have to show the same allocation.
     Collect(CollectRequest),
     /// Changes the pools, the reservations or the configuration.
     Admin(Admin),

@@ -10,10 +10,15 @@ use ipam_text::Text;
 /// to have there.
 #[derive(Debug, Drop)]
 pub enum Call {
+    /// Reads the record of this key.
     Get(Key),
+    /// Lists the records of this kind.
     List(Kind),
+    /// Writes this record where there is none of its key.
     Create(Record),
+    /// Replaces the record of this key where that has this revision.
     Update(Record, u64),
+    /// Deletes the record of this key where it has this revision.
     Delete(Key, u64),
 }
 
@@ -38,6 +43,7 @@ pub enum Reply<'a> {
     Found(u64, &'a Record),
     /// There is no such record.
     Missing,
+    /// The rows of the kind, ascending by their keys.
     Listed(Listing<'a>),
     /// The write may be applied, and takes this revision.
     Can(u64),
@@ -54,21 +60,28 @@ pub enum Reply<'a> {
 /// A write, with the revision that it takes.
 #[derive(Debug, Drop)]
 pub enum Write {
+    /// The record with this revision, new or in place of the one of its key.
     Put(u64, Record),
+    /// The record of this key goes. The removal takes this revision, too.
     Remove(u64, Key),
 }
 
 /// A record as texts, as it is kept outside of the process.
 #[derive(Debug, Drop)]
 pub struct Row {
+    /// The text of the record's key.
     pub key: Text,
+    /// The revision of the record.
     pub revision: u64,
+    /// The text of the record itself.
     pub body: Text,
 }
 
 /// A reply, and the moment of its call: the number of entries before the call's own.
 #[derive(Clone, Copy)]
 pub struct Heard<'a> {
+    /// What the datastore answered.
     pub reply: Reply<'a>,
+    /// How many entries there were before the call's own.
     pub moment: u64,
 }

@@ -7,8 +7,11 @@ use std::alloc::AllocError;
 /// What a record is found by.
 #[derive(Debug, Drop)]
 pub enum Key {
+    /// The configuration, of which there is one record at most.
     Config,
+    /// The table of all pools, which is one record.
     Pools,
+    /// The list of all reservations, which is one record.
     Reservations,
     /// The block of this CIDR.
     Block(Cidr),
@@ -36,7 +39,10 @@ impl Clone for Key {
 /// The records that are listed together.
 #[derive(Clone, Copy, Debug, PartialEq, Eq)]
 pub enum Kind {
+    /// Blocks, listed by family, base and prefix.
     Block,
+    /// Affinities, listed by node and then by block.
     Affinity,
+    /// Handles, listed by id.
     Handle,
 }

@@ -13,8 +13,11 @@ use std::cmp::Ordering;
 /// A key that borrows its texts, so that making one takes no memory.
 #[derive(Clone, Copy, Debug)]
 pub enum KeyRef<'a> {
+    /// The configuration, of which there is one record at most.
     Config,
+    /// The table of all pools, which is one record.
     Pools,
+    /// The list of all reservations, which is one record.
     Reservations,
     /// The block of this CIDR.
     Block(Cidr),

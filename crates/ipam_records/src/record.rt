@@ -14,11 +14,17 @@ use std::alloc::{AllocError, Global};
 /// What the datastore keeps under a key.
 #[derive(Debug, Drop)]
 pub enum Record {
+    /// How addresses are given out.
     Config(Config),
+    /// The table of all pools.
     Pools(PoolTable),
+    /// All reservations.
     Reservations(Seq<Reservation>),
+    /// A block: its node if any, and its addresses, held or free.
     Block(Block),
+    /// The affinity of a node to a block, with its state.
     Affinity(Affinity),
+    /// A handle, with its count for each block.
     Handle(Handle),
 }
 
