@@ -5,7 +5,9 @@ use std::marker::Model;
 /// The version of the Internet Protocol that an address belongs to.
 #[derive(Clone, Copy, Debug, PartialEq, Eq, PartialOrd, Ord)]
 pub enum Family {
+    /// IPv4, whose addresses have 32 bits.
     V4,
+    /// IPv6, whose addresses have 128 bits.
     V6,
 }
 
@@ -26,7 +28,9 @@ impl Family {
 /// An address, as its family and its bits read as one number, the first bit the most significant.
 #[derive(Clone, Copy, Debug, PartialEq, Eq, PartialOrd, Ord)]
 pub struct Addr {
+    /// The version of the Internet Protocol.
     pub family: Family,
+    /// The bits as a number: below 2^32 for IPv4, below 2^128 for IPv6.
     pub number: u128,
 }
 

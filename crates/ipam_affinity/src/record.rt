@@ -8,8 +8,11 @@ use std::alloc::AllocError;
 /// The affinity of a node to the block of this CIDR.
 #[derive(Debug, Drop)]
 pub struct Affinity {
+    /// The name of the node.
     pub node: Text,
+    /// The CIDR of the block.
     pub cidr: Cidr,
+    /// How far the claim has come.
     pub state: State,
 }
 

@@ -7,7 +7,10 @@ use std::alloc::AllocError;
 /// of a key and a value, the keys ascending by their bytes and distinct.
 #[derive(Debug, Drop)]
 pub struct Attributes {
+    /// The id of the handle. In a sound record it has 1 to 507 bytes.
     pub handle: Text,
+    /// The pairs. A sound record has at most 8. Each key has 1 to 63 bytes there, and each value at
+    /// most 253.
     pub secondary: Seq<(Text, Text)>,
 }
 
@@ -25,8 +28,12 @@ impl Clone for Attributes {
 /// stamp of its assignment, by which a later assignment of the same address differs from it.
 #[derive(Debug, Drop)]
 pub struct Allocation {
+    /// The number of the address in the block. In a block it is at most 4,095.
     pub ordinal: u16,
+    /// The handle that holds the address, and the pairs kept with it.
     pub attributes: Attributes,
+    /// The sequence number of the block when the allocation was made. In a block it is at least 1,
+    /// and at most the block's present sequence number.
     pub stamp: u64,
 }
 
@@ -46,6 +53,7 @@ impl Clone for Allocation {
 /// The ordinal that was asked for is held. The attributes come back to the caller.
 #[derive(Debug, Drop)]
 pub struct Held {
+    /// The attributes that the caller gave, unchanged.
     pub attributes: Attributes,
 }
 

@@ -5,6 +5,7 @@ pub enum BeginFault {
     SlotBusy,
     /// There were too many entries.
     Worn,
+    /// There was no memory.
     Memory,
 }
 
@@ -17,6 +18,7 @@ pub enum FeedFault {
     TooSoon { at: u64, grace: u64 },
     /// There were too many entries.
     Worn,
+    /// There was no memory.
     Memory,
 }
 
@@ -29,5 +31,6 @@ pub enum PrepareFault {
     Waiting,
     /// There were too many entries.
     Worn,
+    /// There was no memory.
     Memory,
 }

@@ -76,6 +76,7 @@ impl Handle {
         }
     }
 
+    /// The id of the handle.
     pub fn id(&self) -> &str
         ensures { result.now ≡ self.now.id }
     {
@@ -90,6 +91,7 @@ impl Handle {
         self.counts.as_slice()
     }
 
+    /// Whether no block has a count. Such a handle is not kept as a record.
     pub fn is_empty(&self) -> bool
         ensures { IsTrue result ↔ (self.now.counts ≡ []) }
     {

@@ -27,6 +27,7 @@ pub enum KeptFault {
     /// The rows break this one of the ten rules, and none of a lower number. The text is the first key
     /// that breaks it.
     Refused(u8, Text),
+    /// There was no memory.
     Memory,
 }
 
@@ -230,6 +231,7 @@ impl<D> Kept<D> {
         }
     }
 
+    /// The cluster, without its keeper.
     pub fn cluster(&self) -> &Cluster
         ensures { result.now ≡ self.now.cluster }
     {

@@ -6,6 +6,7 @@ use ipam_text::Text;
 /// What a keeper is given of a write.
 #[derive(Debug, Drop)]
 pub enum RowWrite {
+    /// The row is put in, in place of the one of its key if there is one.
     Put(Row),
     /// The row of this key is taken out.
     Remove(Text),

@@ -11,7 +11,7 @@ use std::alloc::AllocError;
 /// An address for each family that is wanted, or one address that is asked for.
 #[derive(Debug, Drop)]
 pub struct AddRequest {
-    /// The name of the node that the address is for.
+    /// The name of the node that the address is for. In a sound request it has 1 to 253 bytes.
     pub node: Text,
     /// What the address is recorded with, the handle among it.
     pub attributes: Attributes,
@@ -51,9 +51,10 @@ impl Clone for AddRequest {
 /// Whether an address of each family could be given.
 #[derive(Debug, Drop)]
 pub struct ProbeRequest {
-    /// The name of the node that an address would be for.
+    /// The name of the node that an address would be for. In a sound request it has 1 to 253 bytes.
     pub node: Text,
-    /// The labels of the node, the keys ascending by their bytes and distinct.
+    /// The labels of the node, the keys ascending by their bytes and distinct. In a sound request
+    /// there are at most 64.
     pub labels: Seq<(Text, Text)>,
     /// Whether an IPv4 address is wanted. A sound request wants at least one family.
     pub ipv4: bool,

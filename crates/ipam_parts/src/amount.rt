@@ -19,6 +19,7 @@ impl Model for Amount {
 }
 
 impl Amount {
+    /// The amount of this many addresses.
     pub fn of(count: u32) -> Amount
         requires { 0 < count }
         ensures { result ≡ count }
@@ -26,6 +27,7 @@ impl Amount {
         Amount { count }
     }
 
+    /// The number of addresses, which is at least 1.
     pub fn get(&self) -> u32
         ensures value { result ≡ self.now }
         ensures some { 0 < result }

@@ -39,12 +39,14 @@ impl FoundBlock {
         Ok(FoundBlock { revision, block })
     }
 
+    /// The revision that the block had when it was read.
     pub fn revision(&self) -> u64
         ensures { result ≡ self.now.0 }
     {
         self.revision
     }
 
+    /// The block as it was read.
     pub fn block(&self) -> &Block
         ensures { result.now ≡ self.now.1 }
     {
@@ -79,6 +81,7 @@ impl Model for BlockCidr {
 }
 
 impl BlockCidr {
+    /// The CIDR, which must have at most 4,096 addresses.
     pub fn of(cidr: Cidr) -> BlockCidr
         requires { cidr_size cidr ≤ ADDRESSES_MAX }
         ensures { result ≡ cidr }
@@ -86,6 +89,7 @@ impl BlockCidr {
         BlockCidr { cidr }
     }
 
+    /// The CIDR, which has at most 4,096 addresses.
     pub fn get(&self) -> Cidr
         ensures value { result ≡ self.now }
         ensures small { cidr_size result ≤ ADDRESSES_MAX }

@@ -19,12 +19,15 @@ pub enum Mode {
 /// A CIDR whose addresses are given out, cut into slots of one size.
 #[derive(Debug, Drop)]
 pub struct Pool {
+    /// The name. No other pool of the same table has it.
     pub name: Text,
+    /// The addresses of the pool. No other pool of the same table has any of them.
     pub cidr: Cidr,
     /// The prefix of each of its slots.
     pub size: u8,
     /// Whether no address of it is to be given any more. What is recorded stays.
     pub disabled: bool,
+    /// Whether a request must name the pool, or ask for an address in it, to be given one.
     pub mode: Mode,
     /// Which nodes it is for.
     pub selector: NodeSelector,

@@ -62,12 +62,14 @@ impl Reservation {
         Ok(Reservation { name, cidrs })
     }
 
+    /// The name of the reservation.
     pub fn name(&self) -> &str
         ensures { result.now ≡ self.now.name }
     {
         self.name.as_str()
     }
 
+    /// The reserved CIDRs, at most 64, in the order in which they were given.
     pub fn cidrs(&self) -> &[Cidr]
         ensures value { result.now ≡ self.now.cidrs }
         ensures few { length result.now ≤ MOST_CIDRS }

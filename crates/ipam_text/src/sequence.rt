@@ -44,18 +44,21 @@ impl<T> Seq<T> {
         self.vec
     }
 
+    /// The items, borrowed.
     pub fn as_slice(&self) -> &[T]
         ensures { result.now ≡ self.now }
     {
         self.vec.as_slice()
     }
 
+    /// How many items there are.
     pub fn len(&self) -> usize
         ensures { result ≡ length self.now }
     {
         self.vec.len()
     }
 
+    /// Appends the item. Where there is no memory for it, the sequence is as it was.
     pub fn push(&mut self, item: T) -> Result<(), AllocError>
     where
         T: Drop,
