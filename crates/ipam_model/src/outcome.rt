@@ -82,10 +82,10 @@ pub enum AddThisAnswer {
 pub enum DelAnswer {
     /// The handle was read at this moment. It holds nothing any more of what it held then.
     Deleted(u64),
-    /// The 64th race was lost. The number counts the lost races. Some of the addresses may be
+    /// The 64th race was lost. The number counts the lost races. Some of the addresses may have been
     /// freed.
     Again(u32),
-    /// There are no more revisions.
+    /// There are no more revisions. Some of the addresses may have been freed.
     Spent,
 }
 
@@ -117,9 +117,10 @@ pub enum CheckAnswer {
 pub enum CollectAnswer {
     /// The leaks that were found. None of them is held any more.
     Collected(Collected),
-    /// The 64th race was lost. The number counts the lost races. Some of the leaks may be freed.
+    /// The 64th race was lost. The number counts the lost races. Some of the leaks may have been
+    /// freed.
     Again(u32),
-    /// There are no more revisions.
+    /// There are no more revisions. Some of the leaks may have been freed.
     Spent,
 }
 
@@ -130,9 +131,10 @@ pub enum AdminAnswer {
     Done(u64),
     /// The change was refused, and nothing was written. The number gives the cause. 1: a pool has
     /// the name, with another CIDR or size. 2: the pool shares addresses with another one. 3: the
-    /// family has no slots of the size. 4: the pool is smaller than one slot. 5: there are 64
-    /// pools. 6: no pool has the name. 7: there are 256 reservations. 8: no reservation has the
-    /// name. The text is the name that the change gives; for 2 it is the name of the other pool.
+    /// family has no slots of the size. 4: the pool is smaller than one slot. 5: there are 64 pools
+    /// already. 6: no pool has the name. 7: there are 256 reservations already. 8: no reservation
+    /// has the name. The text is the name that the change gives; for 2 it is the name of the other
+    /// pool.
     Refused(u8, Text),
     /// The 64th race was lost. The number counts the lost races.
     Again(u32),

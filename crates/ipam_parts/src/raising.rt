@@ -55,8 +55,8 @@ pub struct RaisingTurned {
 }
 
 impl Raising {
-    /// The raising of a handle's count of this block by one. It may lose the races of `left`. The
-    /// handle's id is given at each call.
+    /// The raising of a handle's count of this block by one. `left` bounds the races that it may
+    /// lose. The handle's id is given at each call.
     #[tactic(auto, using(crate::proofs::RaisingLemmas::begins))]
     pub fn new(cidr: Cidr, left: Left) -> Raising
         ensures { (id : List ℕ) → raising_rest id result ≡ raise id cidr left }
