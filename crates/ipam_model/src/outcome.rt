@@ -82,8 +82,8 @@ pub enum AddThisAnswer {
 pub enum DelAnswer {
     /// The handle was read at this moment. It holds nothing any more of what it held then.
     Deleted(u64),
-    /// The 64th race was lost. The number counts the lost races. Some of the addresses may have been
-    /// freed.
+    /// The 64th race was lost. The number counts the lost races. Some of the addresses may have
+    /// been freed.
     Again(u32),
     /// There are no more revisions. Some of the addresses may have been freed.
     Spent,

@@ -58,8 +58,8 @@ pub struct LoweringTurned {
 }
 
 impl Lowering {
-    /// The lowering of a handle's count of this block by this amount. `left` bounds the races that it
-    /// may lose. The handle's id is given at each call.
+    /// The lowering of a handle's count of this block by this amount. `left` bounds the races that
+    /// it may lose. The handle's id is given at each call.
     #[tactic(auto, using(crate::proofs::LoweringLemmas::begins))]
     pub fn new(cidr: Cidr, amount: Amount, left: Left) -> Lowering
         ensures { (id : List ℕ) → lowering_rest id result ≡ lower (credit_of id cidr amount) left }
