@@ -15,17 +15,25 @@ pub enum Code {
     InvalidConfiguration,
     /// Others were quicker too often.
     TryAgain,
+    /// An ADD found no address that it could give in a wanted family. The details name the family.
     NoAddress,
+    /// There was no memory for the call.
     WantOfMemory,
     /// The handle has not this address.
     NotRecorded,
+    /// A record could not be created: there are 262,144 rows, or 16,384 blocks.
     DatastoreFull,
+    /// An ADD found the handle's count of the block at its limit, 2^32 - 1.
     HandleCountFull,
+    /// There are no more revisions: the datastore's counter has reached 2^62.
     RevisionsSpent,
+    /// The rows break one of the ten rules of opening. The details are its number and a key.
     BadDatastore,
+    /// An ADD names a pool that matches no enabled pool of its family. The details are that name.
     NoSuchPool,
     /// No usable pool has the address.
     NotUsable,
+    /// A handle already holds the address. It may be the call's own. The details are its id.
     AddressTaken,
     /// The address lies in a block that is not the node's.
     NotAffine,
@@ -38,6 +46,7 @@ pub enum Code {
 impl Code {
     ghost use Rattle.cni_types.specs.Code.{code_number, message};
 
+    /// The number in the text of an error: 1 to 11 are CNI's, 100 to 112 this plugin's.
     pub fn number(self) -> u32
         ensures { result ≡ code_number self }
     {

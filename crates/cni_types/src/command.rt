@@ -5,11 +5,17 @@ use crate::version::Version;
 /// What a runtime may ask of a plugin.
 #[derive(Clone, Copy, Debug, PartialEq, Eq)]
 pub enum Command {
+    /// Asks for addresses for a container. Each version has it.
     Add,
+    /// Gives back the addresses of a container. Each version has it.
     Del,
+    /// Asks whether a container still has its addresses. It came with 0.4.0.
     Check,
+    /// Asks which versions the plugin supports. Each version has it.
     Version,
+    /// Gives back what no valid attachment of the network holds on the node. It came with 1.1.0.
     Gc,
+    /// Asks whether an ADD could be served. It came with 1.1.0.
     Status,
 }
 

@@ -7,6 +7,7 @@ use ipam_text::Text;
 pub struct CniError {
     /// The configuration's version where it is supported, else 1.0.0.
     pub version: Version,
+    /// The cause, which gives the error's number and message.
     pub code: Code,
     /// What the code is about, such as a variable's name or a member's path.
     pub details: Text,

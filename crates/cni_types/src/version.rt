@@ -3,10 +3,15 @@ ghost use Rattle.std.specs.Prelude.{◌≡◌};
 /// A version of CNI that is supported.
 #[derive(Clone, Copy, Debug, PartialEq, Eq)]
 pub enum Version {
+    /// CNI 0.3.0.
     V0_3_0,
+    /// CNI 0.3.1.
     V0_3_1,
+    /// CNI 0.4.0, which adds CHECK.
     V0_4_0,
+    /// CNI 1.0.0, whose results no longer have the family beside an address.
     V1_0_0,
+    /// CNI 1.1.0, which adds GC and STATUS.
     V1_1_0,
 }
 
