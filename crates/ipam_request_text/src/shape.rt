@@ -9,17 +9,30 @@ use serde_json::{Map, Value};
 /// the scope of a collection.
 #[derive(Clone, Copy)]
 pub enum Shape {
+    /// `add`: `address`, `handle`, `ipv4`, `ipv6`, `labels`, `node`, `pools4`, `pools6` and
+    /// `secondary`.
     Add,
+    /// `del`: `handle`.
     Del,
+    /// `check`: `addresses` and `handle`.
     Check,
+    /// `release`: `cidr` and `node`.
     Release,
+    /// `collect`: `at`, `grace`, `live` and `scope`.
     Collect,
+    /// `probe`: `ipv4`, `ipv6`, `labels`, `node`, `pools4` and `pools6`.
     Probe,
+    /// `pool`: `cidr`, `disabled`, `mode`, `name`, `selector` and `size`.
     Pool,
+    /// `disable`: `disabled` and `name`.
     Disable,
+    /// `reserve`: `cidrs` and `name`.
     Reserve,
+    /// `unreserve`: `name`.
     Unreserve,
+    /// `config`: `autoAllocateBlocks`, `maxBlocksPerHost` and `strictAffinity`.
     Config,
+    /// `scope` of a collection: `network` and `node`. No request has this name.
     Scope,
 }
 
