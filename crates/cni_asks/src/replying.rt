@@ -188,6 +188,7 @@ fn about_cidr(alloc: Global, code: Code, cidr: Cidr) -> Result<Option<CniReply>,
     Ok(Some(CniReply::Failure(code, Text::of(details))))
 }
 
+/// The name of the family in the details of an error: `IPv4` or `IPv6`.
 pub fn family_name(family: Family) -> &'static str
     ensures { result.now ≡ family_name family }
 {

@@ -28,6 +28,7 @@ pub enum CallFault {
 /// How a call ends.
 #[derive(Debug, Drop)]
 pub enum CallEnd {
+    /// The daemon replied, with success or with an error of the call.
     Replied(DaemonReply),
     /// The error is told in this version.
     Failed(Version, CallFault),

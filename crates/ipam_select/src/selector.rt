@@ -3,11 +3,13 @@ use ipam_text::Text;
 /// Which nodes a pool is for.
 #[derive(Drop)]
 pub enum Selector {
+    /// Every node, whatever its labels.
     All,
     /// The key is there.
     Has(Text),
     /// The key is there with this value.
     Is(Text, Text),
+    /// The nodes that this selector does not admit.
     Not(Box<Selector>),
     /// The key is there with one of these values, which ascend and differ.
     In(Text, Vec<Text>),

@@ -16,6 +16,7 @@ pub enum Refusal {
 impl Refusal {
     ghost use Rattle.ipam_session.specs.Replies.{refusal_name};
 
+    /// The name of the refusal in a reply: `waiting`, `not waiting`, `too soon` or `line`.
     pub fn name(self) -> &'static str
         ensures { result.now ≡ refusal_name self }
     {

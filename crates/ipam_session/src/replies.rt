@@ -25,9 +25,11 @@ pub enum Reply {
     Waiting,
     /// The collection that waited is stopped.
     Stopped,
+    /// The line is refused, for this reason.
     Refused(Refusal),
     /// The datastore's revision, and all routes.
     Routes(u64, Seq<Route>),
+    /// What became of the routes after the revision that the line names.
     RoutesSince(Since),
 }
 

@@ -6,6 +6,7 @@ use ipam_text::{Seq, Text};
 pub enum Wish {
     /// A CNI call with this environment and this standard input.
     Cni(Seq<(Text, Text)>, Text),
+    /// This request begins. A collection may not have `at`, the time of its first list.
     Request(Request),
     /// The collection that waits is fed this second list.
     Feed(Seq<Text>),
