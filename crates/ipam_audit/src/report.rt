@@ -4,9 +4,13 @@ use ipam_text::{Seq, Text};
 /// A handle's count of a block that is above what the handle owns there.
 #[derive(Debug, Drop)]
 pub struct Excess {
+    /// The handle's id.
     pub handle: Text,
+    /// The block's CIDR.
     pub cidr: Cidr,
+    /// How many addresses of the block the handle's record counts.
     pub count: u32,
+    /// How many addresses of the block the handle owns: 0 where there is no such block.
     pub owned: u32,
 }
 
@@ -19,7 +23,10 @@ pub struct Report {
     pub stale: Seq<(Text, Cidr)>,
     /// The pending affinities whose block is missing or has not their node, in the same order.
     pub stray: Seq<(Text, Cidr)>,
+    /// How many blocks there are.
     pub blocks: u64,
+    /// How many addresses are owned, in all blocks.
     pub owners: u64,
+    /// How many handles there are.
     pub handles: u64,
 }

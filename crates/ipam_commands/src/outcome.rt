@@ -7,6 +7,7 @@ use crate::status::Status;
 /// What a release came to.
 #[derive(Clone, Copy, Debug, PartialEq, Eq)]
 pub enum ReleaseOutcome {
+    /// The node's affinity to the block was deleted.
     Released,
     /// The node has no affinity to the block.
     NoAffinity,

@@ -19,5 +19,6 @@ pub enum PlayFault {
     Worn,
     /// The base breaks this one of the ten rules, which is told of this key.
     Open(u8, Text),
+    /// There was no memory.
     Memory,
 }

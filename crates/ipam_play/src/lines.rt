@@ -20,6 +20,7 @@ const LINE_LIMIT: usize = MOST_LINE_BYTES + 1;
 /// What comes next in a script.
 #[derive(Debug, Drop)]
 pub enum Next {
+    /// A line that has a line end.
     Line(Line),
     /// A last line that has no line end.
     Last(Line),
@@ -34,6 +35,7 @@ pub enum Next {
 pub enum ScriptFault {
     /// A read of the source failed.
     Read,
+    /// There was no memory.
     Memory,
 }
 

@@ -3,6 +3,7 @@ use ipam_model::Answer;
 /// What became of a request that ran.
 #[derive(Debug, Drop)]
 pub enum Ran {
+    /// It came to this answer.
     Answered(Answer),
     /// It is a collection, which waits for its second list.
     Waits,

@@ -12,7 +12,9 @@ use std::time::Duration;
 /// A connection over a Unix stream socket or over TCP. It may be read and written by `&`.
 #[derive(Debug, Drop)]
 pub enum Stream {
+    /// A connection over a socket file.
     File(UnixStream),
+    /// A connection over TCP.
     Host(TcpStream),
 }
 

@@ -8,7 +8,7 @@ use atomic_table::{Join, Play, Split, TableRule};
 use std::marker::{Brand, PhantomData};
 use std::snapshot::Snapshot;
 
-// The rule of a lock's table.
+/// The rule of a lock's table.
 pub struct InTurn;
 
 impl<T: Booked> TableRule<T, View<T::Origin, T::Entry>, Snapshot<T>> for InTurn {
