@@ -23,11 +23,21 @@ use std::mem;
 
 /// An ADD without an address: an address of each family that is wanted, IPv4 first. Where IPv6 has
 /// none, that of IPv4 is freed.
-#[derive(Debug, Drop)]
+#[derive(Debug)]
 pub struct AddProc {
     request: AddRequest,
     turn: Turn,
     stage: Stage,
+}
+
+impl Drop for AddProc {
+    fn drop(self) {
+        let AddProc {
+            request: _,
+            turn: _,
+            stage: _,
+        } = self;
+    }
 }
 
 /// Which of the wanted families is served.

@@ -16,11 +16,21 @@ use std::alloc::{AllocError, Global};
 
 /// A change of the pools, the reservations or the configuration: the record is read, changed and
 /// written, even if the change makes no difference.
-#[derive(Debug, Drop)]
+#[derive(Debug)]
 pub struct AdminProc {
     request: Admin,
     left: Left,
     stage: Stage,
+}
+
+impl Drop for AdminProc {
+    fn drop(self) {
+        let AdminProc {
+            request: _,
+            left: _,
+            stage: _,
+        } = self;
+    }
 }
 
 /// The call that is made next.

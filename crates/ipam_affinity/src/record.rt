@@ -6,7 +6,7 @@ use ipam_text::Text;
 use std::alloc::AllocError;
 
 /// The affinity of a node to the block of this CIDR.
-#[derive(Debug, Drop)]
+#[derive(Debug)]
 pub struct Affinity {
     /// The name of the node.
     pub node: Text,
@@ -14,6 +14,16 @@ pub struct Affinity {
     pub cidr: Cidr,
     /// How far the claim has come.
     pub state: State,
+}
+
+impl Drop for Affinity {
+    fn drop(self) {
+        let Affinity {
+            node: _,
+            cidr: _,
+            state: _,
+        } = self;
+    }
 }
 
 impl Affinity {

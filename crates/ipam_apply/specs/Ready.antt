@@ -2,8 +2,6 @@
 use Rattle.std.specs.Prelude.{◌≡◌, [], None}
 use Rattle.ipam_model.specs.declared.request.Admin.{Admin}
 use Rattle.ipam_model.specs.declared.request.Admin.TheVariants as change
-use Rattle.ipam_model.specs.declared.request.Request.{Request}
-use Rattle.ipam_model.specs.declared.request.Request.TheVariants as request
 use Rattle.ipam_model.specs.SoundRequest.{IsSoundChange}
 use Rattle.ipam_resources.specs.declared.resource.Resource.{Resource}
 use Rattle.ipam_kept.specs.declared.kept.Kept.{Kept}
@@ -30,10 +28,6 @@ IsOfDocument (change.Config config) = Unit {0}
 pub record IsFit (one : Resource) : Type 0 where
   pub sound : IsSoundChange one.change
   pub of_document : IsOfDocument one.change
-
-abbrev pub IsChange : Request → Type 0
-IsChange (request.Admin one) = Unit {0}
-IsChange _ = ⊥
 
 -- a fact where the resource was applied
 abbrev pub OnApplied : Step → Type 0 → Type 0

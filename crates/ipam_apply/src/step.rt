@@ -1,15 +1,14 @@
 //! One resource is applied.
 ghost use Rattle.std.specs.Prelude.{◌≡◌};
-ghost use Rattle.ipam_model.specs.declared.request.Request.TheVariants.{Admin as Change};
 ghost use Rattle.ipam_apply.specs.Applying.{StepEnds, alone_on};
-ghost use Rattle.ipam_apply.specs.Ready.{IsChange, IsFit, IsReady, OnApplied};
+ghost use Rattle.ipam_apply.specs.Ready.{IsFit, IsReady, OnApplied};
 
 use crate::telling::tell_answer;
 use ipam_commands::Status;
 use ipam_io::Sink;
 use ipam_keeper::Keeper;
 use ipam_kept::Kept;
-use ipam_model::{Admin, Answer, Request};
+use ipam_model::{Answer, Request};
 use ipam_resources::Resource;
 use ipam_solo::run_alone;
 use std::alloc::{AllocError, Global};
@@ -54,21 +53,10 @@ pub(crate) fn apply_one<K: Sink, D: Keeper>(
     let request = Request::Admin(change);
     match run_alone(alloc, kept, &request) {
         Ok(answer) => {
-            let change = change_of(request);
+            let change = request.into_change();
             let resource = Resource { kind, name, change };
             tell_answer(alloc, sink, &resource, &answer)
         }
         Err(AllocError) => Step::Ended(Status::NoMemory),
-    }
-}
-
-/// What the request changes.
-fn change_of(request: Request) -> Admin
-    requires { IsChange request }
-    ensures { request ≡ Change result }
-{
-    match request {
-        Request::Admin(change) => change,
-        _ => unreachable!(),
     }
 }

@@ -35,13 +35,25 @@ use ipam_records::{Call, Config, Heard, Key, Procedure, Record, Reply};
 use std::alloc::{AllocError, Global};
 
 /// An ADD of one address.
-#[derive(Debug, Drop)]
+#[derive(Debug)]
 pub struct AddThisProc {
     request: AddRequest,
     address: Addr,
     rounds: Rounds,
     left: Left,
     stage: Stage,
+}
+
+impl Drop for AddThisProc {
+    fn drop(self) {
+        let AddThisProc {
+            request: _,
+            address: _,
+            rounds: _,
+            left: _,
+            stage: _,
+        } = self;
+    }
 }
 
 /// The call that is made next.

@@ -17,12 +17,22 @@ use std::alloc::{AllocError, Global};
 
 /// An address of a block is assigned to a handle: the handle's count is raised, then the block is
 /// written. Where that is lost, the count is lowered again. The handle's id is lent to each call.
-#[derive(Debug, Drop)]
+#[derive(Debug)]
 pub struct Assigning {
     /// The block as it is to be written, at the revision at which it was read.
     block: Block,
     revision: u64,
     stage: Stage,
+}
+
+impl Drop for Assigning {
+    fn drop(self) {
+        let Assigning {
+            block: _,
+            revision: _,
+            stage: _,
+        } = self;
+    }
 }
 
 #[derive(Debug, Drop)]

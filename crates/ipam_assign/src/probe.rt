@@ -18,11 +18,21 @@ use ipam_text::{Seq, Text};
 use std::alloc::{AllocError, Global};
 
 /// A probe: whether an address of each wanted family could be given, IPv4 first. It writes nothing.
-#[derive(Debug, Drop)]
+#[derive(Debug)]
 pub struct ProbeProc {
     request: ProbeRequest,
     turn: Turn,
     scanning: Scanning,
+}
+
+impl Drop for ProbeProc {
+    fn drop(self) {
+        let ProbeProc {
+            request: _,
+            turn: _,
+            scanning: _,
+        } = self;
+    }
 }
 
 /// Which of the wanted families is looked at.

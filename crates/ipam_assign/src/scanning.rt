@@ -23,9 +23,15 @@ use std::mem;
 
 /// The five reads of a round: the configuration, the pools and the reservations are read, and the
 /// affinities and the blocks are listed.
-#[derive(Debug, Drop)]
+#[derive(Debug)]
 pub struct Scanning {
     stage: Stage,
+}
+
+impl Drop for Scanning {
+    fn drop(self) {
+        let Scanning { stage: _ } = self;
+    }
 }
 
 /// The read that is next, with what was read before.

@@ -5,13 +5,22 @@ use std::alloc::AllocError;
 
 /// What is kept of an assignment beside its address: the handle that it is recorded to, and pairs
 /// of a key and a value, the keys ascending by their bytes and distinct.
-#[derive(Debug, Drop)]
+#[derive(Debug)]
 pub struct Attributes {
     /// The id of the handle. In a sound record it has 1 to 507 bytes.
     pub handle: Text,
     /// The pairs. A sound record has at most 8. Each key has 1 to 63 bytes there, and each value at
     /// most 253.
     pub secondary: Seq<(Text, Text)>,
+}
+
+impl Drop for Attributes {
+    fn drop(self) {
+        let Attributes {
+            handle: _,
+            secondary: _,
+        } = self;
+    }
 }
 
 impl Clone for Attributes {
@@ -26,7 +35,7 @@ impl Clone for Attributes {
 
 /// One held address of a block: its ordinal, counted from the block's first address as 0, and the
 /// stamp of its assignment, by which a later assignment of the same address differs from it.
-#[derive(Debug, Drop)]
+#[derive(Debug)]
 pub struct Allocation {
     /// The number of the address in the block. In a block it is at most 4,095.
     pub ordinal: u16,
@@ -35,6 +44,16 @@ pub struct Allocation {
     /// The sequence number of the block when the allocation was made. In a block it is at least 1,
     /// and at most the block's present sequence number.
     pub stamp: u64,
+}
+
+impl Drop for Allocation {
+    fn drop(self) {
+        let Allocation {
+            ordinal: _,
+            attributes: _,
+            stamp: _,
+        } = self;
+    }
 }
 
 impl Clone for Allocation {

@@ -18,13 +18,25 @@ use std::marker::Model;
 
 /// The record of one block of addresses. It always owns the memory for all of its ordinals, so that
 /// assigning and freeing take none.
-#[derive(Debug, Drop)]
+#[derive(Debug)]
 pub struct Block {
     cidr: Cidr,
     node: Option<Text>,
     held: Vec<Allocation>,
     queue: VecDeque<u16>,
     sequence: u64,
+}
+
+impl Drop for Block {
+    fn drop(self) {
+        let Block {
+            cidr: _,
+            node: _,
+            held: _,
+            queue: _,
+            sequence: _,
+        } = self;
+    }
 }
 
 impl Model for Block {

@@ -54,12 +54,23 @@ pub struct ClaimTurned {
 }
 
 /// A claim of a block by a node. The block was read before. A lost race ends the claim.
-#[derive(Debug, Drop)]
+#[derive(Debug)]
 pub struct ClaimProc {
     node: Text,
     cidr: BlockCidr,
     read: Option<FoundBlock>,
     stage: Stage,
+}
+
+impl Drop for ClaimProc {
+    fn drop(self) {
+        let ClaimProc {
+            node: _,
+            cidr: _,
+            read: _,
+            stage: _,
+        } = self;
+    }
 }
 
 impl ClaimProc {

@@ -76,12 +76,23 @@ pub struct ReleaseTurned {
 }
 
 /// The release of a node's affinity to a block.
-#[derive(Debug, Drop)]
+#[derive(Debug)]
 pub struct ReleaseAffinityProc {
     node: Text,
     cidr: BlockCidr,
     left: Left,
     stage: Stage,
+}
+
+impl Drop for ReleaseAffinityProc {
+    fn drop(self) {
+        let ReleaseAffinityProc {
+            node: _,
+            cidr: _,
+            left: _,
+            stage: _,
+        } = self;
+    }
 }
 
 impl ReleaseAffinityProc {

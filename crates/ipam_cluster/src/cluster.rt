@@ -29,13 +29,22 @@ use std::alloc::{AllocError, Global};
 pub const MOST_ENTRIES: u64 = 0x4000_0000_0000_0000;
 
 /// The datastore, how many entries there were, and what runs in each slot.
-#[derive(Drop)]
 pub struct Cluster {
     pub(crate) store: Store,
     pub(crate) entries: u64,
     pub(crate) slots: Vec<Option<Running>>,
     ghost all_slots: { length slots.items ≡ SLOTS },
     ghost room: { entries + busy_count slots.items ≤ 2 ^ 62 + SLOTS },
+}
+
+impl Drop for Cluster {
+    fn drop(self) {
+        let Cluster {
+            store: _,
+            entries: _,
+            slots: _,
+        } = self;
+    }
 }
 
 impl Cluster {

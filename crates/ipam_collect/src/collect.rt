@@ -22,10 +22,19 @@ use std::mem;
 
 /// A collection of the addresses whose handles are in neither of two lists of live ones. Between
 /// its two listings of the blocks it waits for the second list.
-#[derive(Debug, Drop)]
+#[derive(Debug)]
 pub struct CollectProc {
     request: CollectRequest,
     stage: Stage,
+}
+
+impl Drop for CollectProc {
+    fn drop(self) {
+        let CollectProc {
+            request: _,
+            stage: _,
+        } = self;
+    }
 }
 
 /// When a collection's first list was made, and its grace, both in seconds.

@@ -12,10 +12,16 @@ use std::mem;
 
 /// What is told of the leaks that are done with, and the leaks that are left, the first of which is
 /// being freed. There is memory to tell of them all.
-#[derive(Debug, Drop)]
+#[derive(Debug)]
 pub struct Tally {
     items: Vec<Item>,
     left: VecDeque<Suspect>,
+}
+
+impl Drop for Tally {
+    fn drop(self) {
+        let Tally { items: _, left: _ } = self;
+    }
 }
 
 impl Model for Tally {

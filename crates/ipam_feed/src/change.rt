@@ -8,12 +8,22 @@ use ipam_records::{Key, Record, Write};
 use std::alloc::AllocError;
 
 /// That a write of this revision gave a route or took it.
-#[derive(Debug, Drop)]
+#[derive(Debug)]
 pub struct Change {
     pub revision: u64,
     pub route: Route,
     /// Whether the route came, and did not go.
     pub up: bool,
+}
+
+impl Drop for Change {
+    fn drop(self) {
+        let Change {
+            revision: _,
+            route: _,
+            up: _,
+        } = self;
+    }
 }
 
 impl Clone for Change {

@@ -14,7 +14,6 @@ use std::collections::VecDeque;
 use std::marker::Model;
 
 /// The routes of a datastore, and the last changes of them.
-#[derive(Drop)]
 pub struct Ring {
     routes: Vec<Route>,
     /// The newest first.
@@ -25,6 +24,18 @@ pub struct Ring {
     counter: u64,
     /// Where a write was prepared, what it changes, if it changes anything.
     ready: Option<Option<NextChange>>,
+}
+
+impl Drop for Ring {
+    fn drop(self) {
+        let Ring {
+            routes: _,
+            changes: _,
+            floor: _,
+            counter: _,
+            ready: _,
+        } = self;
+    }
 }
 
 impl Model for Ring {

@@ -13,10 +13,16 @@ use std::alloc::AllocError;
 use std::cmp::Ordering;
 
 /// That a node's addresses lie in the block of this CIDR.
-#[derive(Debug, Drop)]
+#[derive(Debug)]
 pub struct Route {
     pub node: Text,
     pub cidr: Cidr,
+}
+
+impl Drop for Route {
+    fn drop(self) {
+        let Route { node: _, cidr: _ } = self;
+    }
 }
 
 impl Clone for Route {

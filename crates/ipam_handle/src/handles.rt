@@ -31,10 +31,16 @@ impl From<AllocError> for RaiseFault {
 }
 
 /// How many addresses are held under one id, by block. A block with none has no count.
-#[derive(Debug, Drop)]
+#[derive(Debug)]
 pub struct Handle {
     id: Text,
     counts: Vec<(Cidr, u32)>,
+}
+
+impl Drop for Handle {
+    fn drop(self) {
+        let Handle { id: _, counts: _ } = self;
+    }
 }
 
 impl Model for Handle {

@@ -32,7 +32,6 @@ pub enum KeptFault {
 }
 
 /// A cluster, and the keeper that has its rows.
-#[derive(Drop)]
 pub struct Kept<D> {
     pub(crate) cluster: Cluster,
     pub(crate) keeper: D,
@@ -41,6 +40,17 @@ pub struct Kept<D> {
     pub(crate) doubt: Option<RowWrite>,
     /// The feed of the cluster's routes.
     pub(crate) ring: Ring,
+}
+
+impl<D: Drop> Drop for Kept<D> {
+    fn drop(self) {
+        let Kept {
+            cluster: _,
+            keeper: _,
+            doubt: _,
+            ring: _,
+        } = self;
+    }
 }
 
 impl<D: Keeper> Kept<D> {
@@ -242,7 +252,13 @@ impl<D> Kept<D> {
     pub fn into_keeper(self) -> D
         ensures { result ≡ self.keeper }
     {
-        self.keeper
+        let Kept {
+            cluster: _,
+            keeper,
+            doubt: _,
+            ring: _,
+        } = self;
+        keeper
     }
 }
 

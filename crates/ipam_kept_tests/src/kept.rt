@@ -85,8 +85,11 @@ fn ran<D: Keeper>(alloc: Global, kept: &mut Kept<D>, text: &str) -> Result<Strin
 fn change_of(alloc: Global, text: &str) -> Result<Admin, AllocError>
     ensures { IfOk result IsSoundChange }
 {
-    match read_request(alloc, text.as_bytes()) {
-        Ok(Request::Admin(change)) => Ok(change),
+    let Ok(request) = read_request(alloc, text.as_bytes()) else {
+        return Err(AllocError);
+    };
+    match &request {
+        Request::Admin(_) => Ok(request.into_change()),
         _ => Err(AllocError),
     }
 }

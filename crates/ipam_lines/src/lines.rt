@@ -36,10 +36,15 @@ pub enum LinesFault {
 
 /// The bytes that were read of a source and not yet given in a line. A line has at most `LIMIT` bytes,
 /// its line feed among them.
-#[derive(Drop)]
 pub struct Lines<const LIMIT: usize> {
     bytes: Vec<u8>,
     given: usize,
+}
+
+impl<const LIMIT: usize> Drop for Lines<LIMIT> {
+    fn drop(self) {
+        let Lines { bytes: _, given: _ } = self;
+    }
 }
 
 impl<const LIMIT: usize> Model for Lines<LIMIT> {

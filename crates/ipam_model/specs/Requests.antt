@@ -11,6 +11,11 @@ use Rattle.ipam_model.specs.Look.{check_word, probe_word}
 use Rattle.ipam_model.specs.Remove.{del_word, collect_word}
 use Rattle.ipam_model.specs.Told.{of_add, of_add_this, of_del, of_check, of_release, of_collect, of_admin, of_probe}
 
+-- the request changes a pool, a reservation or the configuration
+abbrev pub IsChange : Request → Type 0
+IsChange (Admin one) = Unit {0}
+IsChange _ = ⊥
+
 -- the word with its answers told so
 abbrev pub told_as : {A : Type 0} → (A → Answer) → Word A → Word Answer
 told_as of_one word = bound word (λ one. Ends (of_one one))

@@ -62,7 +62,7 @@ pub struct Scan {
 }
 
 /// An address that was held by a handle that is not live.
-#[derive(Debug, Drop)]
+#[derive(Debug)]
 pub struct Item {
     /// The address that was held.
     pub address: Addr,
@@ -74,8 +74,19 @@ pub struct Item {
     pub freed: bool,
 }
 
+impl Drop for Item {
+    fn drop(self) {
+        let Item {
+            address: _,
+            handle: _,
+            stamp: _,
+            freed: _,
+        } = self;
+    }
+}
+
 /// What a collection found, with the moments of its two lists of blocks.
-#[derive(Debug, Drop)]
+#[derive(Debug)]
 pub struct Collected {
     /// The moment of the list of blocks before the second list of live handles.
     pub b1: u64,
@@ -86,9 +97,19 @@ pub struct Collected {
     pub items: Seq<Item>,
 }
 
+impl Drop for Collected {
+    fn drop(self) {
+        let Collected {
+            b1: _,
+            b2: _,
+            items: _,
+        } = self;
+    }
+}
+
 /// What a request is answered. A bare number is the moment of the read that decided it, where
 /// nothing else is said.
-#[derive(Debug, Drop)]
+#[derive(Debug)]
 pub enum Answer {
     /// One address for each wanted family, IPv4 first.
     Added(Seq<Given>),
@@ -135,6 +156,34 @@ pub enum Answer {
     Fault,
     /// An address could be given in each wanted family.
     Ready(Seq<Scan>),
+}
+
+impl Drop for Answer {
+    fn drop(self) {
+        match self {
+            Answer::Added(_)
+            | Answer::AddedThis(_)
+            | Answer::Exhausted(_)
+            | Answer::NoPool(_, _)
+            | Answer::NotInPool(_)
+            | Answer::Taken(_, _)
+            | Answer::NotAffine(_, _)
+            | Answer::Deleted(_)
+            | Answer::Checked
+            | Answer::NotRecorded(_, _)
+            | Answer::Released
+            | Answer::NoAffinity(_)
+            | Answer::Collected(_)
+            | Answer::Done(_)
+            | Answer::Refused(_, _)
+            | Answer::Again(_, _)
+            | Answer::Full
+            | Answer::CountFull(_)
+            | Answer::Spent
+            | Answer::Fault
+            | Answer::Ready(_) => {}
+        }
+    }
 }
 
 impl From<AddAnswer> for Answer {

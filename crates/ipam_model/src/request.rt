@@ -9,7 +9,7 @@ use ipam_text::{Seq, Text};
 use std::alloc::AllocError;
 
 /// An address for each family that is wanted, or one address that is asked for.
-#[derive(Debug, Drop)]
+#[derive(Debug)]
 pub struct AddRequest {
     /// The name of the node that the address is for. In a sound request it has 1 to 253 bytes.
     pub node: Text,
@@ -25,6 +25,20 @@ pub struct AddRequest {
     pub pools4: Seq<Text>,
     /// The IPv6 pools that are named, likewise.
     pub pools6: Seq<Text>,
+}
+
+impl Drop for AddRequest {
+    fn drop(self) {
+        let AddRequest {
+            node: _,
+            attributes: _,
+            ipv4: _,
+            ipv6: _,
+            labels: _,
+            pools4: _,
+            pools6: _,
+        } = self;
+    }
 }
 
 impl Clone for AddRequest {
@@ -86,7 +100,7 @@ impl Clone for ProbeRequest {
 }
 
 /// A collection of the addresses whose handles are live in neither of two lists.
-#[derive(Debug, Drop)]
+#[derive(Debug)]
 pub struct CollectRequest {
     /// The first list of live handles.
     pub live: Seq<Text>,
@@ -96,6 +110,17 @@ pub struct CollectRequest {
     pub grace: u64,
     /// The network and the node whose addresses alone are collected.
     pub scope: Option<(Text, Text)>,
+}
+
+impl Drop for CollectRequest {
+    fn drop(self) {
+        let CollectRequest {
+            live: _,
+            at: _,
+            grace: _,
+            scope: _,
+        } = self;
+    }
 }
 
 /// A change of the pools, the reservations or the configuration.
@@ -114,7 +139,7 @@ pub enum Admin {
 }
 
 /// What the allocator is asked.
-#[derive(Debug, Drop)]
+#[derive(Debug)]
 pub enum Request {
     /// An address for each wanted family, of which a sound request has at least one.
     Add(AddRequest),
@@ -133,4 +158,35 @@ pub enum Request {
     Admin(Admin),
     /// Asks whether an address of each wanted family could be given, and writes nothing.
     Probe(ProbeRequest),
+}
+
+impl Drop for Request {
+    fn drop(self) {
+        match self {
+            Request::Add(_)
+            | Request::AddThis(_, _)
+            | Request::Del(_)
+            | Request::Check(_, _)
+            | Request::Release(_, _)
+            | Request::Collect(_)
+            | Request::Admin(_)
+            | Request::Probe(_) => {}
+        }
+    }
+}
+
+impl Request {
+    ghost use Rattle.ipam_model.specs.Requests.{IsChange};
+    ghost use Rattle.ipam_model.specs.declared.request.Request.TheVariants.{Admin as Change};
+
+    /// The change that an administrative request asks for.
+    pub fn into_change(self) -> Admin
+        requires { IsChange self }
+        ensures { self ≡ Change result }
+    {
+        match self {
+            Request::Admin(change) => change,
+            _ => unreachable!(),
+        }
+    }
 }

@@ -2,8 +2,6 @@
 use Rattle.std.specs.Prelude.{◌≡◌, ◌≢◌, ℕ, List, [], ◌∷◌, ◌++◌, ◌+◌, ◌≤◌, length, codes, Option, Some, None, Result, Ok, Err}
 use Rattle.std.specs.Io.KnownBytes.{prepend_known, IsAtEnd}
 use Rattle.ipam_io.specs.Counts.{Rose}
-use Rattle.ipam_model.specs.declared.request.Request.{Request}
-use Rattle.ipam_model.specs.declared.request.Request.TheVariants as request
 use Rattle.ipam_model.specs.declared.request.Request.TheVariants.{Admin}
 use Rattle.ipam_resources.specs.declared.fault.DocumentFault.{DocumentFault}
 use Rattle.ipam_resources.specs.declared.fault.DocumentFault.TheVariants as document_fault
@@ -112,9 +110,3 @@ pub data ApplyEnds (left left' : Option (List ℕ)) (faults faults' : ℕ) (old 
       → Writes old.written new.written old.write_faults new.write_faults (codes "read fault\n") end.ReadFault last
       → ApplyEnds left left' faults faults' old new last
   NoInput : faults' ≡ faults → new ≡ old → last ≡ end.NoMemory → ApplyEnds left left' faults faults' old new last
-
--- ---- requests
-
-abbrev pub IsChange : Request → Type 0
-IsChange (request.Admin one) = Unit {0}
-IsChange _ = ⊥

@@ -1,10 +1,9 @@
 //! `apply`: the resources of a document, one after another.
 ghost use Rattle.std.specs.Prelude.{◌≡◌, ◌≤◌, ℕ, List, Ok, Result, IfOk, IfErr, IfSome, OnOk, length, string_bytes};
 ghost use Rattle.std.specs.Io.KnownBytes.{IsAtEnd, prepend_known};
-ghost use Rattle.ipam_model.specs.declared.request.Request.TheVariants.{Admin as Change};
 ghost use Rattle.ipam_resources.specs.Printed.{applied_line, fault_line as document_line, numbered_refusal, refused_line};
 ghost use Rattle.ipam_operator.specs.Answers.{answer_of_line};
-ghost use Rattle.ipam_operator.specs.Applying.{ApplyEnds, DocumentEnds, DocumentSays, IsChange, IsTold, RunEnds, again_line, end_of_refusal, item_end, item_line, line_of_refusal};
+ghost use Rattle.ipam_operator.specs.Applying.{ApplyEnds, DocumentEnds, DocumentSays, IsTold, RunEnds, again_line, end_of_refusal, item_end, item_line, line_of_refusal};
 ghost use Rattle.ipam_operator.specs.Asking.{Asks, request_line};
 ghost use Rattle.ipam_operator.specs.Telling.{Says};
 ghost use Rattle.ipam_operator.specs.declared.answer.OperatorAnswer.{OperatorAnswer as Found};
@@ -16,7 +15,7 @@ use crate::end::End;
 use crate::telling::{tell, tell_fault, tell_made};
 use ipam_io::{Link, Sink, Source};
 use ipam_lines::{InputFault, Lines, SESSION_LINE_BYTES, read_whole};
-use ipam_model::{Admin, Answer, Request};
+use ipam_model::{Answer, Request};
 use ipam_resources::{
     DOCUMENT_MAX, DocumentFault, Refusal, Resource, push_applied, push_document_fault,
     push_refused, read_resources,
@@ -199,20 +198,9 @@ fn apply_one<K: Sink, L: Link>(
     let Resource { kind, name, change } = resource;
     let request = Request::Admin(change);
     let came = ask_request(alloc, link, lines, &request);
-    let change = change_of(request);
+    let change = request.into_change();
     let resource = Resource { kind, name, change };
     tell_item(alloc, sink, &resource, came)
-}
-
-/// What the request changes.
-fn change_of(request: Request) -> Admin
-    requires { IsChange request }
-    ensures { request ≡ Change result }
-{
-    match request {
-        Request::Admin(change) => change,
-        _ => unreachable!(),
-    }
 }
 
 /// Writes what became of the resource.

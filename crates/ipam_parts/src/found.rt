@@ -12,10 +12,19 @@ use std::alloc::AllocError;
 use std::marker::Model;
 
 /// A block as it was read, with its revision. It may be written once more.
-#[derive(Debug, Drop)]
+#[derive(Debug)]
 pub struct FoundBlock {
     revision: u64,
     block: Block,
+}
+
+impl Drop for FoundBlock {
+    fn drop(self) {
+        let FoundBlock {
+            revision: _,
+            block: _,
+        } = self;
+    }
 }
 
 impl Model for FoundBlock {

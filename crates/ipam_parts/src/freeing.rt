@@ -32,12 +32,23 @@ pub enum Picks {
 
 /// Addresses of a block are freed that a handle holds, and its count is lowered: the call that is
 /// made next. The handle's id is lent to each call.
-#[derive(Debug, Drop)]
+#[derive(Debug)]
 pub struct Freeing {
     cidr: Cidr,
     picks: Picks,
     left: Left,
     stage: Stage,
+}
+
+impl Drop for Freeing {
+    fn drop(self) {
+        let Freeing {
+            cidr: _,
+            picks: _,
+            left: _,
+            stage: _,
+        } = self;
+    }
 }
 
 #[derive(Debug, Drop)]

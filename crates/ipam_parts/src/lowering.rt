@@ -19,12 +19,23 @@ use std::alloc::{AllocError, Global};
 
 /// A handle's count of a block is lowered, by as much as the handle is known to have: the call that
 /// is made next. The handle's id is lent to each call.
-#[derive(Debug, Drop)]
+#[derive(Debug)]
 pub struct Lowering {
     cidr: Cidr,
     amount: Amount,
     left: Left,
     stage: Stage,
+}
+
+impl Drop for Lowering {
+    fn drop(self) {
+        let Lowering {
+            cidr: _,
+            amount: _,
+            left: _,
+            stage: _,
+        } = self;
+    }
 }
 
 #[derive(Debug, Drop)]

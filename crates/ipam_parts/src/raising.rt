@@ -18,11 +18,21 @@ use std::alloc::{AllocError, Global};
 
 /// A handle's count of a block is raised by one: the call that is made next. The handle's id is
 /// lent to each call.
-#[derive(Debug, Drop)]
+#[derive(Debug)]
 pub struct Raising {
     cidr: Cidr,
     left: Left,
     stage: Stage,
+}
+
+impl Drop for Raising {
+    fn drop(self) {
+        let Raising {
+            cidr: _,
+            left: _,
+            stage: _,
+        } = self;
+    }
 }
 
 #[derive(Debug, Drop)]

@@ -17,7 +17,7 @@ pub enum Mode {
 }
 
 /// A CIDR whose addresses are given out, cut into slots of one size.
-#[derive(Debug, Drop)]
+#[derive(Debug)]
 pub struct Pool {
     /// The name. No other pool of the same table has it.
     pub name: Text,
@@ -31,6 +31,19 @@ pub struct Pool {
     pub mode: Mode,
     /// Which nodes it is for.
     pub selector: NodeSelector,
+}
+
+impl Drop for Pool {
+    fn drop(self) {
+        let Pool {
+            name: _,
+            cidr: _,
+            size: _,
+            disabled: _,
+            mode: _,
+            selector: _,
+        } = self;
+    }
 }
 
 impl Pool {

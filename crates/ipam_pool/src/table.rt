@@ -15,9 +15,15 @@ use std::marker::Model;
 pub const MOST_POOLS: usize = 64;
 
 /// Pools with names of their own that share no address, in the order in which they were added.
-#[derive(Debug, Drop)]
+#[derive(Debug)]
 pub struct PoolTable {
     pools: Vec<Pool>,
+}
+
+impl Drop for PoolTable {
+    fn drop(self) {
+        let PoolTable { pools: _ } = self;
+    }
 }
 
 impl Model for PoolTable {

@@ -67,7 +67,7 @@ pub enum Write {
 }
 
 /// A record as texts, as it is kept outside of the process.
-#[derive(Debug, Drop)]
+#[derive(Debug)]
 pub struct Row {
     /// The text of the record's key.
     pub key: Text,
@@ -75,6 +75,16 @@ pub struct Row {
     pub revision: u64,
     /// The text of the record itself.
     pub body: Text,
+}
+
+impl Drop for Row {
+    fn drop(self) {
+        let Row {
+            key: _,
+            revision: _,
+            body: _,
+        } = self;
+    }
 }
 
 /// A reply, and the moment of its call: the number of entries before the call's own.

@@ -5,7 +5,7 @@ use ipam_text::Text;
 use std::alloc::AllocError;
 
 /// What a record is found by.
-#[derive(Debug, Drop)]
+#[derive(Debug)]
 pub enum Key {
     /// The configuration, of which there is one record at most.
     Config,
@@ -19,6 +19,19 @@ pub enum Key {
     Affinity(Text, Cidr),
     /// The handle of this id.
     Handle(Text),
+}
+
+impl Drop for Key {
+    fn drop(self) {
+        match self {
+            Key::Config
+            | Key::Pools
+            | Key::Reservations
+            | Key::Block(_)
+            | Key::Affinity(_, _)
+            | Key::Handle(_) => {}
+        }
+    }
 }
 
 impl Clone for Key {

@@ -12,7 +12,7 @@ use ipam_text::Seq;
 use std::alloc::{AllocError, Global};
 
 /// What the datastore keeps under a key.
-#[derive(Debug, Drop)]
+#[derive(Debug)]
 pub enum Record {
     /// How addresses are given out.
     Config(Config),
@@ -26,6 +26,19 @@ pub enum Record {
     Affinity(Affinity),
     /// A handle, with its count for each block.
     Handle(Handle),
+}
+
+impl Drop for Record {
+    fn drop(self) {
+        match self {
+            Record::Config(_)
+            | Record::Pools(_)
+            | Record::Reservations(_)
+            | Record::Block(_)
+            | Record::Affinity(_)
+            | Record::Handle(_) => {}
+        }
+    }
 }
 
 impl Record {

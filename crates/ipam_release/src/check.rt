@@ -21,10 +21,16 @@ use std::alloc::{AllocError, Global};
 use std::collections::VecDeque;
 
 /// A CHECK of a handle and of addresses that it is to hold.
-#[derive(Debug, Drop)]
+#[derive(Debug)]
 pub struct CheckProc {
     id: Text,
     stage: Stage,
+}
+
+impl Drop for CheckProc {
+    fn drop(self) {
+        let CheckProc { id: _, stage: _ } = self;
+    }
 }
 
 /// The call that a CHECK makes next.

@@ -16,10 +16,16 @@ use std::alloc::{AllocError, Global};
 use std::collections::VecDeque;
 
 /// A DEL of a handle: all that it holds is freed, block by block.
-#[derive(Debug, Drop)]
+#[derive(Debug)]
 pub struct DelProc {
     id: Text,
     stage: Stage,
+}
+
+impl Drop for DelProc {
+    fn drop(self) {
+        let DelProc { id: _, stage: _ } = self;
+    }
 }
 
 /// The call that a DEL makes next.

@@ -17,10 +17,16 @@ use ipam_text::Text;
 use std::alloc::{AllocError, Global};
 
 /// The freeing of one assignment: of an address that is recorded to a handle with a stamp.
-#[derive(Debug, Drop)]
+#[derive(Debug)]
 pub struct FreeProc {
     id: Text,
     freeing: Freeing,
+}
+
+impl Drop for FreeProc {
+    fn drop(self) {
+        let FreeProc { id: _, freeing: _ } = self;
+    }
 }
 
 /// Where a reply led the freeing of one assignment.

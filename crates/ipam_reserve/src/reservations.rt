@@ -15,10 +15,16 @@ pub const MOST_CIDRS: usize = 64;
 pub const MOST_RESERVATIONS: usize = 256;
 
 /// CIDRs that are reserved under one name.
-#[derive(Debug, Drop)]
+#[derive(Debug)]
 pub struct Reservation {
     name: Text,
     cidrs: Seq<Cidr>,
+}
+
+impl Drop for Reservation {
+    fn drop(self) {
+        let Reservation { name: _, cidrs: _ } = self;
+    }
 }
 
 impl Model for Reservation {

@@ -11,10 +11,16 @@ use std::alloc::{AllocError, Global};
 use std::marker::Model;
 
 /// The set of all addresses that reservations hold.
-#[derive(Debug, Drop)]
+#[derive(Debug)]
 pub struct Reserved {
     v4: Vec<Span>,
     v6: Vec<Span>,
+}
+
+impl Drop for Reserved {
+    fn drop(self) {
+        let Reserved { v4: _, v6: _ } = self;
+    }
 }
 
 impl Model for Reserved {

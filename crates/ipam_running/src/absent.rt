@@ -13,10 +13,16 @@ use std::alloc::{AllocError, Global};
 
 /// The release of a node's affinity to a CIDR that is too large for a block. No node has one, so its
 /// one read decides.
-#[derive(Debug, Drop)]
+#[derive(Debug)]
 pub struct AbsentRelease {
     node: Text,
     cidr: LargeCidr,
+}
+
+impl Drop for AbsentRelease {
+    fn drop(self) {
+        let AbsentRelease { node: _, cidr: _ } = self;
+    }
 }
 
 /// The read of a release that finds no affinity.

@@ -23,9 +23,15 @@ use ipam_text::Text;
 use std::alloc::{AllocError, Global};
 
 /// A request that runs: the procedure that serves it, whichever it is.
-#[derive(Debug, Drop)]
+#[derive(Debug)]
 pub struct Running {
     pub(crate) kept: Kept,
+}
+
+impl Drop for Running {
+    fn drop(self) {
+        let Running { kept: _ } = self;
+    }
 }
 
 /// The procedure of a request.
@@ -44,9 +50,24 @@ pub(crate) enum Kept {
 }
 
 /// Where a reply led what runs.
-#[derive(Debug, Drop)]
+#[derive(Debug)]
 pub struct RunningTurned {
     pub(crate) turned: Turned,
+}
+
+impl Drop for RunningTurned {
+    fn drop(self) {
+        let RunningTurned { turned: _ } = self;
+    }
+}
+
+impl RunningTurned {
+    fn into_turned(self) -> Turned
+        ensures { result ≡ self.turned }
+    {
+        let RunningTurned { turned } = self;
+        turned
+    }
 }
 
 /// Where a reply led the procedure.
@@ -136,7 +157,7 @@ impl Procedure for Running {
         ensures on { IfNone result (running_rest self.new ≡ running_leaves self.old turned) }
         ensures grace { running_grace self.new ≡ running_grace self.old }
     {
-        goes(&mut self.kept, turned.turned)
+        goes(&mut self.kept, turned.into_turned())
     }
 }
 

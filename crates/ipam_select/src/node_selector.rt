@@ -13,10 +13,18 @@ use std::marker::Model;
 
 /// A selector with what its copies are made in, which contracts see as the formula that it stands
 /// for.
-#[derive(Drop)]
 pub struct NodeSelector {
     selector: Selector,
     alloc: Global,
+}
+
+impl Drop for NodeSelector {
+    fn drop(self) {
+        let NodeSelector {
+            selector: _,
+            alloc: _,
+        } = self;
+    }
 }
 
 impl Model for NodeSelector {

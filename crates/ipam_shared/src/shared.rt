@@ -34,9 +34,14 @@ use std::sync::Wait;
 use turn_lock::TurnLock;
 
 /// A kept cluster that up to 64 holders of passes share. Contracts see which lock it is.
-#[derive(Drop)]
 pub struct Shared<D: Keeper> {
     lock: TurnLock<Locked<D>>,
+}
+
+impl<D: Keeper + Drop> Drop for Shared<D> {
+    fn drop(self) {
+        let Shared { lock: _ } = self;
+    }
 }
 
 impl<D: Keeper> Model for Shared<D> {

@@ -20,10 +20,15 @@ use std::marker::Model;
 
 /// The rows of blocks in the order of their keys, and the lists of blocks, which each write brings
 /// up to date.
-#[derive(Drop)]
 pub(crate) struct Blocks {
     rows: Pages,
     index: BlockIndex,
+}
+
+impl Drop for Blocks {
+    fn drop(self) {
+        let Blocks { rows: _, index: _ } = self;
+    }
 }
 
 impl Model for Blocks {

@@ -11,11 +11,20 @@ use std::alloc::{AllocError, Global};
 use std::marker::Model;
 
 /// The lists of blocks that are kept beside their rows, each by family, base and prefix.
-#[derive(Drop)]
 pub(crate) struct BlockIndex {
     owned: NodeLists,
     unowned: Vec<Cidr>,
     roomy: Vec<Cidr>,
+}
+
+impl Drop for BlockIndex {
+    fn drop(self) {
+        let BlockIndex {
+            owned: _,
+            unowned: _,
+            roomy: _,
+        } = self;
+    }
 }
 
 impl Model for BlockIndex {

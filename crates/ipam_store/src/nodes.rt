@@ -14,13 +14,22 @@ use std::marker::Model;
 const FIRST_ROOM: usize = 4;
 
 /// The blocks of each node that has one, under the bytes of its name and in their order.
-#[derive(Drop)]
 pub(crate) struct NodeLists {
     lists: Vec<(Vec<u8>, Vec<Cidr>)>,
     /// The name and the list of the next node, both empty, with the memory for them.
     next: Option<(Vec<u8>, Vec<Cidr>)>,
     /// Whether each list is known to have room for one more block.
     all_roomy: bool,
+}
+
+impl Drop for NodeLists {
+    fn drop(self) {
+        let NodeLists {
+            lists: _,
+            next: _,
+            all_roomy: _,
+        } = self;
+    }
 }
 
 impl Model for NodeLists {

@@ -23,12 +23,21 @@ const HALF: usize = 64;
 
 /// Rows in the order of their keys. They stand in pages, so that few of them move when one is put
 /// in.
-#[derive(Drop)]
 pub(crate) struct Pages {
     pages: Vec<Vec<(u64, Record)>>,
     /// An empty page for the next split.
     ready: Option<Vec<(u64, Record)>>,
     count: usize,
+}
+
+impl Drop for Pages {
+    fn drop(self) {
+        let Pages {
+            pages: _,
+            ready: _,
+            count: _,
+        } = self;
+    }
 }
 
 impl Model for Pages {

@@ -30,13 +30,24 @@ impl From<AllocError> for LoadFault {
 }
 
 /// The datastore in memory: rows in the order of their keys, and the revision of the last write.
-#[derive(Drop)]
 pub struct Store {
     singles: Pages,
     blocks: Blocks,
     affinities: Pages,
     handles: Pages,
     counter: u64,
+}
+
+impl Drop for Store {
+    fn drop(self) {
+        let Store {
+            singles: _,
+            blocks: _,
+            affinities: _,
+            handles: _,
+            counter: _,
+        } = self;
+    }
 }
 
 impl Model for Store {

@@ -30,13 +30,13 @@ pub fn record_of(alloc: Global, key: Key) -> Result<Record, AllocError>
     requires { IsKey key }
     ensures { IfOk result IsRecord }
 {
-    match key {
+    match &key {
         Key::Config => Ok(config_record()),
         Key::Pools => Ok(Record::Pools(PoolTable::new(alloc))),
         Key::Reservations => Ok(Record::Reservations(Seq::new(alloc))),
-        Key::Block(cidr) => block_record(alloc, cidr),
-        Key::Affinity(node, cidr) => affinity_record(node, cidr),
-        Key::Handle(id) => handle_record(alloc, id),
+        Key::Block(cidr) => block_record(alloc, *cidr),
+        Key::Affinity(node, cidr) => affinity_record(node.clone()?, *cidr),
+        Key::Handle(id) => handle_record(alloc, id.clone()?),
     }
 }
 

@@ -5,9 +5,16 @@ use std::alloc::{AllocError, Global};
 use std::marker::Model;
 
 /// A sequence of items, which contracts see as the list of them.
-#[derive(Debug, Drop)]
+#[derive(Debug)]
 pub struct Seq<T> {
     vec: Vec<T>,
+}
+
+// Written out, as for a text.
+impl<T: Drop> Drop for Seq<T> {
+    fn drop(self) {
+        let Seq { vec: _ } = self;
+    }
 }
 
 impl<T> Model for Seq<T> {
@@ -41,7 +48,8 @@ impl<T> Seq<T> {
     pub fn into_vec(self) -> Vec<T>
         ensures { result.items ≡ self }
     {
-        self.vec
+        let Seq { vec } = self;
+        vec
     }
 
     /// The items, borrowed.

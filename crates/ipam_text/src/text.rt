@@ -8,9 +8,16 @@ use std::cmp::Ordering;
 use std::marker::Model;
 
 /// A text, which contracts see as the list of its bytes.
-#[derive(Debug, Drop)]
+#[derive(Debug)]
 pub struct Text {
     string: String,
+}
+
+// Written out, so that it is proved once here and not in each crate that lets a text go.
+impl Drop for Text {
+    fn drop(self) {
+        let Text { string: _ } = self;
+    }
 }
 
 impl Model for Text {
@@ -58,7 +65,8 @@ impl Text {
     pub fn into_string(self) -> String
         ensures { string_bytes result ≡ self }
     {
-        self.string
+        let Text { string } = self;
+        string
     }
 }
 

@@ -19,9 +19,14 @@ use std::sync::Wait;
 
 /// A value under a lock. Contracts see which lock it is.
 /// Where the value is `Drop`, so is the lock; else it has to be closed.
-#[derive(Drop)]
 pub struct TurnLock<T: Booked> {
     table: Table<T, View<T::Origin, T::Entry>, Snapshot<T>, InTurn, Global>,
+}
+
+impl<T: Booked + Drop> Drop for TurnLock<T> {
+    fn drop(self) {
+        let TurnLock { table: _ } = self;
+    }
 }
 
 impl<T: Booked> Model for TurnLock<T> {

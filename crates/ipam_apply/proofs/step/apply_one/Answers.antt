@@ -23,7 +23,7 @@ returns-in-Ok-clause-ended g c =
     let f' = g.K.Sink.write_faults c.tell_answer.new.sink in
     step-ends g.D.Keeper.rows g.D.Keeper.faults c.args.resource c.requires.fit c.args.kept.now c.run_alone.new.kept c.requires.ready
     w w' f f' c.in-Ok.answer c.tell_answer.result
-    (told-again c.args.resource c.change_of-change.result c.change_of-change.ensures c.in-Ok.answer
+    (told-again c.args.resource c.into_change-change.result c.into_change-change.ensures c.in-Ok.answer
     (λ text own end. Writes w w' f f' text own end) c.tell_answer.result c.tell_answer.ensures.told)
     c.in-Ok.ensures.answered
 
@@ -35,7 +35,7 @@ returns-in-Ok-clause-store g c =
     let f' = g.K.Sink.write_faults c.tell_answer.new.sink in
     step-store g.D.Keeper.rows g.D.Keeper.faults c.args.resource c.requires.fit c.args.kept.now c.run_alone.new.kept c.requires.ready
     w w' f f' c.in-Ok.answer c.tell_answer.result
-    (told-again c.args.resource c.change_of-change.result c.change_of-change.ensures c.in-Ok.answer
+    (told-again c.args.resource c.into_change-change.result c.into_change-change.ensures c.in-Ok.answer
     (λ text own end. Writes w w' f f' text own end) c.tell_answer.result c.tell_answer.ensures.told)
     c.in-Ok.ensures.answered
 
@@ -47,6 +47,6 @@ returns-in-Ok-clause-ready g c =
     let f' = g.K.Sink.write_faults c.tell_answer.new.sink in
     step-ready g.D.Keeper.rows g.D.Keeper.faults c.args.resource c.requires.fit c.args.kept.now c.run_alone.new.kept c.requires.ready
     w w' f f' c.in-Ok.answer c.tell_answer.result
-    (told-again c.args.resource c.change_of-change.result c.change_of-change.ensures c.in-Ok.answer
+    (told-again c.args.resource c.into_change-change.result c.into_change-change.ensures c.in-Ok.answer
     (λ text own end. Writes w w' f f' text own end) c.tell_answer.result c.tell_answer.ensures.told)
     c.in-Ok.ensures.answered c.in-Ok.ensures.kept c.in-Ok.ensures.idle
