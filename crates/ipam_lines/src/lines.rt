@@ -12,6 +12,9 @@ use std::marker::Model;
 // How many bytes a read asks for.
 pub(crate) const CHUNK: usize = 4096;
 
+// The most bytes of room that stay after a line.
+const MOST_ROOM: usize = 65_536;
+
 /// What comes next.
 #[derive(Debug, PartialEq, Eq, Drop)]
 pub enum Got {
@@ -35,7 +38,7 @@ pub enum LinesFault {
 }
 
 /// The bytes that were read of a source and not yet given in a line. A line has at most `LIMIT` bytes,
-/// its line feed among them.
+/// its line feed among them. Once a line over 65,536 bytes is given, its room is given back.
 pub struct Lines<const LIMIT: usize> {
     bytes: Vec<u8>,
     given: usize,
@@ -101,7 +104,19 @@ impl<const LIMIT: usize> Lines<LIMIT> {
         let alloc = *self.bytes.allocator();
         let line = Vec::from_slice(alloc, &self.held()[..place])?;
         self.given += place + 1;
+        self.give_back();
         Ok(line)
+    }
+
+    // Gives back the room that a long line took.
+    fn give_back(&mut self)
+        ensures { self.new ≡ self.old }
+    {
+        if self.bytes.capacity() > MOST_ROOM {
+            drop_front(&mut self.bytes, self.given);
+            self.given = 0;
+            self.bytes.shrink_to(CHUNK);
+        }
     }
 
     /// The next line, which ends by a line feed. It is given without a read where it is held, and
