@@ -5,7 +5,7 @@ ghost use Rattle.ipam_io.specs.Readings.{prepend_known_readings};
 ghost use Rattle.ipam_records.specs.Sound.{IsHandleId};
 ghost use Rattle.ipam_model.specs.SoundRequest.{IsSoundRequest};
 ghost use Rattle.ipam_model.specs.CanAnswer.{CanAnswer};
-ghost use Rattle.ipam_session.specs.Calls.{call_told, is_of_call};
+ghost use Rattle.ipam_session.specs.Calls.{IsOfCall, IsSoundBegun, call_begun, call_told, is_of_call};
 ghost use Rattle.ipam_session.specs.Lines.{called};
 ghost use Rattle.ipam_session.specs.Wishes.{IsSoundWish};
 ghost use Rattle.ipam_serve.specs.Spans.{Calls, IsTimeless};
@@ -26,11 +26,12 @@ use ipam_model::{Answer, Request};
 use ipam_session::{AskFault, CallBegun, Refusal, Reply, Wish, begin_call, read_wish, tell_call};
 use ipam_shared::{Keeper, Pass, Shared};
 use ipam_text::{Seq, Text};
-use std::alloc::Global;
+use std::alloc::{AllocError, Global};
 use std::sync::Wait;
 
 /// Does what the line asks, in the pass's slot, and gives its reply. What is begun goes on to its
-/// answer, or until a collection waits. On `Err` what was begun still runs.
+/// answer, or until a collection waits. The line's bytes are let go before anything begins. On `Err` what
+/// was begun still runs.
 pub fn answer_line<R: Wait, D: Keeper, G: Gate, C: Clock, P: Patience>(
     rt: &R,
     alloc: Global,
@@ -39,25 +40,34 @@ pub fn answer_line<R: Wait, D: Keeper, G: Gate, C: Clock, P: Patience>(
     gate: &mut G,
     clock: &mut C,
     patience: &mut P,
-    line: &[u8],
+    line: Vec<u8>,
 ) -> Result<Reply, Broken>
     requires lock { pass.old.lock ≡ shared.now }
     requires rests { IsAtRest (runs_in pass.old) }
-    ensures replied { IfOk result (λ reply. Replies (asked_by line.now) reply
+    ensures replied { IfOk result (λ reply. Replies (asked_by line.items) reply
         (server_at pass.old (G.turns gate.old) (C.ahead clock.old))
         (server_at pass.new (G.turns gate.new) (C.ahead clock.new))) }
-    ensures broken { OnErr result (Breaks (asked_by line.now)
+    ensures broken { OnErr result (Breaks (asked_by line.items)
         (server_at pass.old (G.turns gate.old) (C.ahead clock.old))
         (server_at pass.new (G.turns gate.new) (C.ahead clock.new))) }
     ensures rests { OnOk result (IsAtRest (runs_in pass.new)) }
-    ensures worn { OnWorn result (WearsOut (asked_by line.now) pass.old pass.new) }
+    ensures worn { OnWorn result (WearsOut (asked_by line.items) pass.old pass.new) }
     ensures stops { Halts result (G.stops gate.old) (G.stops gate.new) }
 {
-    match read_wish(alloc, line) {
+    match wish_in(alloc, line) {
         Ok(wish) => answer_wish(rt, alloc, shared, pass, gate, clock, patience, wish),
         Err(AskFault::Unreadable) => Ok(Reply::Refused(Refusal::Line)),
         Err(AskFault::Memory) => Err(Broken::Memory),
     }
+}
+
+/// What the line asks. Its bytes are let go.
+fn wish_in(alloc: Global, line: Vec<u8>) -> Result<Wish, AskFault>
+    ensures read { IfOk result (λ asked. asked_by line.items ≡ Some asked) }
+    ensures unreadable { result ≡ Err AskFault.Unreadable → asked_by line.items ≡ None }
+    ensures sound { IfOk result IsSoundWish }
+{
+    read_wish(alloc, line.as_slice())
 }
 
 fn answer_wish<R: Wait, D: Keeper, G: Gate, C: Clock, P: Patience>(
@@ -84,17 +94,9 @@ fn answer_wish<R: Wait, D: Keeper, G: Gate, C: Clock, P: Patience>(
     ensures stops { Halts result (G.stops gate.old) (G.stops gate.new) }
 {
     match wish {
-        Wish::Cni(env, stdin) => answer_call(
-            rt,
-            alloc,
-            shared,
-            pass,
-            gate,
-            clock,
-            patience,
-            env.as_slice(),
-            stdin.as_str(),
-        ),
+        Wish::Cni(env, stdin) => {
+            answer_call(rt, alloc, shared, pass, gate, clock, patience, env, stdin)
+        }
         Wish::Request(mut request) => {
             let reply = answer_request(
                 rt,
@@ -134,31 +136,40 @@ fn answer_call<R: Wait, D: Keeper, G: Gate, C: Clock, P: Patience>(
     gate: &mut G,
     clock: &mut C,
     patience: &mut P,
-    env: &[(Text, Text)],
-    stdin: &str,
+    env: Seq<(Text, Text)>,
+    stdin: Text,
 ) -> Result<Reply, Broken>
     requires lock { pass.old.lock ≡ shared.now }
     requires rests { IsAtRest (runs_in pass.old) }
-    ensures replied { IfOk result (λ reply. Replies (Some (wish.Cni env.now stdin.now)) reply
+    ensures replied { IfOk result (λ reply. Replies (Some (wish.Cni env stdin)) reply
         (server_at pass.old (G.turns gate.old) (C.ahead clock.old))
         (server_at pass.new (G.turns gate.new) (C.ahead clock.new))) }
-    ensures broken { OnErr result (Breaks (Some (wish.Cni env.now stdin.now))
+    ensures broken { OnErr result (Breaks (Some (wish.Cni env stdin))
         (server_at pass.old (G.turns gate.old) (C.ahead clock.old))
         (server_at pass.new (G.turns gate.new) (C.ahead clock.new))) }
     ensures rests { OnOk result (IsAtRest (runs_in pass.new)) }
-    ensures worn { OnWorn result (WearsOut (Some (wish.Cni env.now stdin.now)) pass.old pass.new) }
+    ensures worn { OnWorn result (WearsOut (Some (wish.Cni env stdin)) pass.old pass.new) }
     ensures stops { Halts result (G.stops gate.old) (G.stops gate.new) }
 {
     if pass.running() {
         return Ok(Reply::Refused(Refusal::Waiting));
     }
-    match begin_call(alloc, env, stdin) {
+    match begin_of(alloc, env, stdin) {
         Ok(CallBegun::Told(status, text)) => Ok(Reply::Called(status, text)),
         Ok(CallBegun::Runs(request, version)) => {
             tell_run(rt, alloc, shared, pass, gate, patience, &request, version)
         }
         Err(_) => Err(Broken::Memory),
     }
+}
+
+/// What a CNI call begins. Its environment and its standard input are let go.
+fn begin_of(alloc: Global, env: Seq<(Text, Text)>, stdin: Text) -> Result<CallBegun, AllocError>
+    ensures begun { IfOk result (λ begun. call_begun env stdin ≡ Some begun) }
+    ensures sound { IfOk result IsSoundBegun }
+    ensures of_call { IfOk result IsOfCall }
+{
+    begin_call(alloc, env.as_slice(), stdin.as_str())
 }
 
 /// A request.

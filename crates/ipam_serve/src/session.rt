@@ -110,17 +110,7 @@ fn exchange<R: Wait, D: Keeper, G: Gate, C: Clock, P: Patience, L: Link>(
 {
     match read_line(gate, link, lines) {
         Ok(line) => {
-            let told = answer_line(
-                rt,
-                alloc,
-                shared,
-                pass,
-                gate,
-                clock,
-                patience,
-                line.as_slice(),
-            );
-            drop(line);
+            let told = answer_line(rt, alloc, shared, pass, gate, clock, patience, line);
             match told {
                 Ok(reply) => write_reply(alloc, link, reply),
                 Err(broken) => Err(end_of(broken)),
