@@ -57,7 +57,7 @@ module _ {T O E : Type 0} (stands : T → O → List E → Type 0) (by : E → �
   Views = List (View O E)
 
   abbrev KnowsAs : List E → View O E → Type 0
-  KnowsAs log v = Knows by o log v.live v.holds v.number v.spare v.origin v.seen v.other
+  KnowsAs log v = Knows by o log v.live v.holds v.number v.spare v.origin v.root v.seen v.other
 
   home_set : (log : List E) (homes : List (Option T)) (vs vs' : Views) → total held vs' ≡ total held vs → Home stands o log homes vs → Home stands o log homes vs'
   home_set log homes vs vs' e h = ⊎_elim (λ t. inl (e ∙ t.0, t.1)) (λ t. inr (e ∙ t.0, t.1)) h
@@ -159,6 +159,7 @@ module _ {T O E : Type 0} (stands : T → O → List E → Type 0) (by : E → �
           knows = each_set (λ j u. KnowsAs k.log u) s.views id w
               (record {
                 same = knew.same;
+                rooted = knew.rooted;
                 later = [];
                 grew = λ _. refl;
                 others = λ _. tt;
@@ -224,6 +225,7 @@ module _ {T O E : Type 0} (stands : T → O → List E → Type 0) (by : E → �
           knows = each_set (λ j u. KnowsAs log u) s.views id w
               (record {
                 same = knew.same;
+                rooted = knew.rooted;
                 later = [];
                 grew = λ _. ap (λ (l : List E). added ++ l) whole;
                 others = λ _. tt;
@@ -236,6 +238,7 @@ module _ {T O E : Type 0} (stands : T → O → List E → Type 0) (by : E → �
               let numbers = k.numbered.each j u a in
               record {
                 same = ku.same;
+                rooted = ku.rooted;
                 later = added ++ ku.later;
                 grew = λ l. ap (λ (x : List E). added ++ x) (ku.grew l) ∙ sym (append_assoc added ku.later u.seen);
                 others = λ l. none_append by u.number added ku.later
@@ -290,6 +293,7 @@ module _ {T O E : Type 0} (stands : T → O → List E → Type 0) (by : E → �
           knows = each_set (λ j u. KnowsAs k.log u) s.views id w
               (record {
                 same = knew.same;
+                rooted = knew.rooted;
                 later = knew.later;
                 grew = knew.grew;
                 others = knew.others;
@@ -391,6 +395,7 @@ module _ {T O E : Type 0} (stands : T → O → List E → Type 0) (by : E → �
         numbers_step s k id v w k.next at (refl, refl, refl) more
             (record {
               same = knew.same;
+              rooted = knew.rooted;
               later = knew.later;
               grew = knew.grew;
               others = knew.others;
@@ -435,6 +440,7 @@ module _ {T O E : Type 0} (stands : T → O → List E → Type 0) (by : E → �
         knows = each_snoc (λ j x. KnowsAs k.log x) (set s.views id l) r
             (λ _. record {
               same = knew.same;
+              rooted = knew.rooted;
               later = knew.later;
               grew = knew.grew;
               others = λ h. none_newer by number knew.later u.seen (subst (NoneBy by number) (knew.grew h) (knew.unused some_number));
@@ -445,6 +451,7 @@ module _ {T O E : Type 0} (stands : T → O → List E → Type 0) (by : E → �
             (each_set (λ j x. KnowsAs k.log x) s.views id l
             (record {
               same = knew.same;
+              rooted = knew.rooted;
               later = knew.later;
               grew = knew.grew;
               others = knew.others;
@@ -482,6 +489,7 @@ module _ {T O E : Type 0} (stands : T → O → List E → Type 0) (by : E → �
         knows = each_set (λ j x. KnowsAs k.log x) vs other spent
             (record {
               same = λ h. absurd (omega arith);
+              rooted = λ h. absurd (omega arith);
               later = [];
               grew = λ h. absurd (omega arith);
               others = λ h. absurd (omega arith);
@@ -492,6 +500,7 @@ module _ {T O E : Type 0} (stands : T → O → List E → Type 0) (by : E → �
             (λ j x _. each_set (λ i y. KnowsAs k.log y) s.views id b
             (record {
               same = knew.same;
+              rooted = λ _. knew'.same lives;
               later = knew.later;
               grew = knew.grew;
               others = knew.others;
@@ -529,6 +538,7 @@ module _ {T O E : Type 0} (stands : T → O → List E → Type 0) (by : E → �
           knows = each_set (λ j u. KnowsAs k.log u) s.views id w
               (record {
                 same = knew.same;
+                rooted = knew.rooted;
                 later = [];
                 grew = λ _. refl;
                 others = λ _. tt;
@@ -547,6 +557,7 @@ module _ {T O E : Type 0} (stands : T → O → List E → Type 0) (by : E → �
           now = refl;
           mine = (knew.later, knew.grew live, knew.others live);
           theirs = knew.beside live;
+          one = knew.rooted live ∙ sym (knew.same live);
           few = owns_few k.next s.views id v at k.numbered;
           stood = λ from e. (k.stood.0, subst (λ (x : O). stands k.stood.0 x k.log) (let ps = sym (knew.same live) ∙ e in ap (λ (l : List O). head_or o l) ps) k.stood.1);
         },
@@ -570,6 +581,7 @@ module _ {T O E : Type 0} (stands : T → O → List E → Type 0) (by : E → �
         knows = each_snoc (λ j u. KnowsAs [] u) [] v
             (λ _. record {
               same = λ _. refl;
+              rooted = λ _. refl;
               later = [];
               grew = λ _. refl;
               others = λ _. tt;

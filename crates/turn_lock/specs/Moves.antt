@@ -27,6 +27,7 @@ module _ {O E : Type 0} where
     made = 1;
     owns = 0 ∷ [];
     origin = o ∷ [];
+    root = o ∷ [];
     seen = [];
     other = [];
   }
@@ -45,6 +46,7 @@ module _ {O E : Type 0} where
     made = 0;
     owns = [];
     origin = [];
+    root = [];
     seen = [];
     other = [];
   }
@@ -80,7 +82,7 @@ module _ {O E : Type 0} where
 
   -- a pass that another was joined into
   abbrev pub both : View O E → View O E → View O E
-  both v w = record v { tries = v.tries + w.tries; made = max v.made w.made; owns = v.owns ++ w.owns; other = w.seen }
+  both v w = record v { tries = v.tries + w.tries; made = max v.made w.made; owns = v.owns ++ w.owns; root = w.origin; other = w.seen }
 
   abbrev pub knowing : List E → View O E → View O E
   knowing log v = record v { seen = log; other = [] }
@@ -135,6 +137,7 @@ module _ {O E : Type 0} where
         pub now : n ≡ (knowing log m.0, m.1)
         pub mine : GrewPast by m.0.number m.0.seen log
         pub theirs : Grew m.0.other log
+        pub one : m.0.root ≡ m.0.origin
         pub few : length m.0.owns ≤ MOST_PASSES
         pub stood : (o : O) → m.0.origin ≡ o ∷ [] → (value : T) × stands value o log
 

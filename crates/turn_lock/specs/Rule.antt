@@ -59,8 +59,9 @@ module _ {O E : Type 0} where
 
   module _ (by : E → ℕ) where
     -- what a pass knows of the history
-    pub record Knows (origin : O) (log : List E) (live holds number spare : ℕ) (from : List O) (seen other : List E) : Type 0 where
+    pub record Knows (origin : O) (log : List E) (live holds number spare : ℕ) (from root : List O) (seen other : List E) : Type 0 where
       pub same : live ≡ 1 → from ≡ origin ∷ []
+      pub rooted : live ≡ 1 → root ≡ origin ∷ []
       pub later : List E
       pub grew : live ≡ 1 → log ≡ later ++ seen
       pub others : live ≡ 1 → NoneBy by number later
@@ -85,7 +86,7 @@ module _ {O E : Type 0} where
       pub apart : (t : ℕ) → total (waiting t) s.views ≤ 1
       pub to_come : (t : ℕ) → ticket ≤ t → total (waiting t) s.views ≡ 0
       pub queue : (j : ℕ) (v : View O E) → get_elem? s.views j ≡ some v → v.holds ≤ times serving v.waits
-      pub knows : (j : ℕ) (v : View O E) → get_elem? s.views j ≡ some v → Knows by origin log v.live v.holds v.number v.spare v.origin v.seen v.other
+      pub knows : (j : ℕ) (v : View O E) → get_elem? s.views j ≡ some v → Knows by origin log v.live v.holds v.number v.spare v.origin v.root v.seen v.other
       pub home : Home stands origin log s.homes s.views
       pub stood : (value : T) × stands value origin log
       pub numbered : Numbered next s.views

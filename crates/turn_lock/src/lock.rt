@@ -157,7 +157,8 @@ impl<T: Booked> TurnLock<T> {
         }
     }
 
-    /// Ends the other pass, whose turns are given up. `into` has then seen all that both had seen.
+    /// Ends the other pass, whose turns are given up. Both had seen a history with one start, and `into`
+    /// has then seen all that both had seen.
     pub fn join(&self, into: &mut Turns<T::Origin, T::Entry>, other: Turns<T::Origin, T::Entry>)
         requires into { into.old.lock ≡ self.now }
         requires other { other.lock ≡ self.now }
@@ -166,6 +167,7 @@ impl<T: Booked> TurnLock<T> {
         ensures joined { into.new.joined ≡ into.old.joined + other.joined + 1 }
         ensures seen { GrewPast T.by into.old.number into.old.seen into.new.seen }
         ensures others { Grew other.seen into.new.seen }
+        ensures origin { other.origin ≡ into.new.origin }
         ensures stood { Stood T.stands into.new.origin into.new.seen }
     {
         let Turns {

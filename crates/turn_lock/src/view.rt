@@ -24,6 +24,8 @@ pub struct View<O, E> {
     // its number, those of the passes that were joined into it, and the spare one
     pub ghost owns: { List ℕ },
     pub ghost origin: { List O } by { coded_list O.code },
+    // where the history of the pass starts that was joined into it last, or else its own
+    pub ghost root: { List O } by { coded_list O.code },
     pub ghost seen: { List E } by { coded_list E.code },
     // what a pass that was just joined into it had seen
     pub ghost other: { List E } by { coded_list E.code },
