@@ -6,6 +6,11 @@ use Rattle.ipam_keeper.specs.declared.keeper.KeepFault.{KeepFault}
 use Rattle.ipam_keeper.specs.declared.keeper.KeepFault.TheVariants.{Failed, Memory}
 use Rattle.ipam_keeper.specs.Rows.{rows_with, rows_without}
 
+-- what a keeper is given: a row to put in, or the key of one to take out
+pub data Change : Type 0 where
+  PutIn : Row → Change
+  TakeOut : (key : List ℕ) → Change
+
 -- these are the rows, where they are told
 abbrev pub IsTold : Option (List Row) → List Row → Type 0
 IsTold known rows = IfSome known (λ told. rows ≡ told)

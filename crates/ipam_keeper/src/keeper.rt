@@ -3,7 +3,7 @@ ghost use Rattle.std.specs.Prelude.{◌≡◌, ℕ, ◌≤◌, List, Option, IfO
 ghost use Rattle.ipam_io.specs.Counts.{Rose};
 ghost use Rattle.ipam_records.specs.declared.call.Row.{Row as KeptRow};
 ghost use Rattle.ipam_keeper.specs.Rows.{Ascend, row_with};
-ghost use Rattle.ipam_keeper.specs.Keeping.{IsTold, known_with, known_without, IsOldOrNew, OnFailed, OnMemory, UnlessFailed};
+ghost use Rattle.ipam_keeper.specs.Keeping.{Change, PutIn, TakeOut, IsTold, known_with, known_without, IsOldOrNew, OnFailed, OnMemory, UnlessFailed};
 
 use ipam_records::Row;
 
@@ -27,6 +27,10 @@ pub trait Keeper {
     /// Which keeper it is, where it is lent. No call changes it.
     ghost name: { Self → ℕ };
 
+    /// What is so of it before and after a call that failed, where the call gave it this change. A caller
+    /// that has this of a change gave it to the keeper: only `put` and `remove` state it.
+    ghost given: { Self → Change → Self → Type 0 };
+
     /// All rows, by ascending bytes of their keys, each key once.
     fn load(&mut self) -> Result<Vec<Row>, KeepFault>
         ensures ascending { IfOk result (λ loaded. Ascend loaded.items) }
@@ -45,6 +49,8 @@ pub trait Keeper {
             (rows self.new ≡ known_with (row_with key.now revision body.now) (rows self.old)) }
         ensures old_or_new { OnFailed result (IsOldOrNew (rows self.old)
             (known_with (row_with key.now revision body.now) (rows self.old)) (rows self.new)) }
+        ensures given { OnFailed result
+            (given self.old (PutIn (row_with key.now revision body.now)) self.new) }
         ensures unchanged { OnMemory result (rows self.new ≡ rows self.old) }
 
         ensures fault { OnFailed result (Rose (faults self.old) (faults self.new)) }
@@ -58,6 +64,7 @@ pub trait Keeper {
         ensures done { OnOk result (rows self.new ≡ known_without key.now (rows self.old)) }
         ensures old_or_new { OnFailed result (IsOldOrNew (rows self.old)
             (known_without key.now (rows self.old)) (rows self.new)) }
+        ensures given { OnFailed result (given self.old (TakeOut key.now) self.new) }
         ensures unchanged { OnMemory result (rows self.new ≡ rows self.old) }
 
         ensures fault { OnFailed result (Rose (faults self.old) (faults self.new)) }
@@ -74,6 +81,8 @@ impl<K: Keeper> Keeper for &mut K {
     ghost faults = { λ keeper. K.faults keeper.now };
 
     ghost name = { λ keeper. keeper.ghost_name };
+
+    ghost given = { λ before change after. K.given before.now change after.now };
 
     fn load(&mut self) -> Result<Vec<Row>, KeepFault> {
         Keeper::load(&mut **self)

@@ -64,6 +64,8 @@ impl Keeper for MemoryKeeper {
 
     ghost name = { λ _. 0 };
 
+    ghost given = { λ before change after. after.writes ≡ next_count before.writes };
+
     fn load(&mut self) -> Result<Vec<Row>, KeepFault>
         ensures fails { (result ≡ Err KeepFault.Failed) ↔ IsSome (listed_of self.old.failing 0) }
         ensures ascending { IfOk result (λ loaded. Ascend loaded.items) }

@@ -1,5 +1,5 @@
 -- What is given to a keeper keeps its rows those of the datastore.
-use Rattle.std.proofs.Common.{◌≡◌, inl, inr, List, Option, Some, None, Err, refl, sym, ap, ◌∙◌, subst}
+use Rattle.std.proofs.Common.{◌≡◌, inl, inr, List, Option, Some, None, Result, Ok, Err, refl, sym, ap, ◌∙◌, subst}
 use Rattle.ipam_records.specs.declared.call.Row.{Row as RowText}
 use Rattle.ipam_records.specs.declared.call.Write.{Write}
 use Rattle.ipam_records.specs.Datastore.{Datastore}
@@ -75,3 +75,16 @@ failed-of {P} e is h = subst (λ (x : KeepFault). OnFailed {T = Unit {0}} (Err x
 
 pub memory-of : {P : Type 0} (e : KeepFault) → e ≡ Memory → OnMemory {T = Unit {0}} (Err e) P → P
 memory-of {P} e is h = subst (λ (x : KeepFault). OnMemory {T = Unit {0}} (Err x) P) is h
+
+-- what follows of a call that failed
+failed-then : {P Q : Type 0} (e : KeepFault) → OnFailed {T = Unit {0}} (Err e) P → (P → Q) → OnFailed {T = Unit {0}} (Err e) Q
+failed-then Failed h so = so h
+failed-then Memory h so = tt
+
+pub on-failed : {P Q : Type 0} (r : Result (Unit {0}) KeepFault) (e : KeepFault) → r ≡ Err e → OnFailed {T = Unit {0}} (Err e) P → (P → Q) → OnFailed r Q
+on-failed {P} {Q} r e is h so = subst (λ (x : Result (Unit {0}) KeepFault). OnFailed x Q) (sym is) (failed-then e h so)
+
+pub failed-both : {A B Q : Type 0} (r : Result (Unit {0}) KeepFault) → OnFailed r A → OnFailed r B → (A → B → Q) → OnFailed r Q
+failed-both (Ok done) a b so = tt
+failed-both (Err Failed) a b so = so a b
+failed-both (Err Memory) a b so = tt

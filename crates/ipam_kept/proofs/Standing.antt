@@ -31,10 +31,10 @@ use Rattle.ipam_kept.specs.declared.kept.Kept.{Kept}
 use Rattle.ipam_kept.specs.declared.write.RowWrite.{RowWrite}
 use Rattle.ipam_kept.specs.Doubt.{FailedIn, IsDoubt}
 use Rattle.ipam_kept.specs.Feed.{counter_with}
-use Rattle.ipam_kept.specs.Giving.{FailsWith, StayKept, WereGiven, known_after, known_written}
+use Rattle.ipam_kept.specs.Giving.{FailsWith, Gives, StayKept, WereGiven, known_after, known_written}
 use Rattle.ipam_kept.specs.Kept.{IsKept, KeepsWith, KeptFor, LeavesKeeper, Stays, Tells}
-use Rattle.ipam_kept.specs.Rows.{AreTextsOf, AreToldKept, rows_after, texts_loaded, texts_written}
-use Rattle.ipam_kept.specs.Turning.{ComesInDoubt, StaysInDoubt}
+use Rattle.ipam_kept.specs.Rows.{AreTextsOf, AreToldKept, change_of, key_written, row_back, rows_after, texts_loaded, texts_written}
+use Rattle.ipam_kept.specs.Turning.{ComesInDoubt, IsDone, IsFailed, StaysInDoubt}
 use Rattle.ipam_kept.proofs.Doubts.{DoneInstead, done-instead, doubt-later, failed-in}
 use Rattle.ipam_kept.proofs.Fed.{counter-with}
 use Rattle.ipam_kept.proofs.StoreTexts.{opened-stand, stand-after, stand-texts, texts-stand}
@@ -217,8 +217,8 @@ module _ {D : Type 0} (tells : Tells D) (old new : Kept D) (prepared : Prepared)
           subst (λ (t : Option (List RowText)). AreToldKept t new.cluster.store.store None) (sym rows) (rows-written done e between are)
 
   -- one that failed
-  pub keeps-failed : IsTurn prepared.slot Before told → new.cluster.store.store ≡ old.cluster.store.store → StayKept old.cluster.store.store (tells old.keeper) old.doubt (tells new.keeper) new.doubt → FailsWith prepared.write old.doubt new.doubt → new.ring.counter ≡ old.ring.counter → KeepsWith tells old new told
-  keeps-failed turn stores stay fails counter base history h =
+  pub keeps-failed : (gives : Gives D) → IsTurn prepared.slot Before told → new.cluster.store.store ≡ old.cluster.store.store → StayKept old.cluster.store.store (tells old.keeper) old.doubt (tells new.keeper) new.doubt → FailsWith gives prepared.write old.cluster.store.store old.doubt new.doubt old.keeper new.keeper → new.ring.counter ≡ old.ring.counter → KeepsWith tells old new told
+  keeps-failed gives turn stores stay fails counter base history h =
       let behind = adds base history h.cluster in
       let same = same-store old.cluster new.cluster base history told h.cluster behind stores in
       record {
@@ -228,20 +228,60 @@ module _ {D : Type 0} (tells : Tells D) (old new : Kept D) (prepared : Prepared)
         counter = counter ∙ (h.counter ∙ ap (λ (s : Datastore). s.counter) (sym stores));
       }
     where
-      by : store_at base (told ∷ history) ≡ store_at base history → FailsWith prepared.write old.doubt new.doubt → IsDoubt new.doubt base (told ∷ history)
-      by same (inl (some, left)) = subst (λ (d : Option RowWrite). IsDoubt d base (told ∷ history)) (sym left) (doubt-later old.doubt base history told same h.doubt)
-      by same (inr (done, writes, left)) =
-          let other = instead old.cluster new.cluster prepared is done writes told turn.told turn.is_called turn.own adds base history h.cluster in
+      by : store_at base (told ∷ history) ≡ store_at base history → FailsWith gives prepared.write old.cluster.store.store old.doubt new.doubt old.keeper new.keeper → IsDoubt new.doubt base (told ∷ history)
+      by same (inl back) = subst (λ (d : Option RowWrite). IsDoubt d base (told ∷ history)) (sym back.same) (doubt-later old.doubt base history told same h.doubt)
+      by same (inr own) =
+          let other = instead old.cluster new.cluster prepared is own.done own.asked told turn.told turn.is_called turn.own adds base history h.cluster in
           let stored : store_at base (entry.Called turn.told ∷ history) ≡ store_at base history = subst (λ (e : Entry). store_at base (e ∷ history) ≡ store_at base history) turn.is_called same in
-          let failed = failed-in base history turn.told done h.cluster.stands.consistent h.cluster.stands.lawful turn.has_fate stored other in
-          subst (λ (d : Option RowWrite). IsDoubt d base (told ∷ history)) (sym left) (subst (λ (e : Entry). FailedIn (texts_written done) base (e ∷ history)) (sym turn.is_called) failed)
+          let failed = failed-in base history turn.told own.done h.cluster.stands.consistent h.cluster.stands.lawful turn.has_fate stored other in
+          subst (λ (d : Option RowWrite). IsDoubt d base (told ∷ history)) (sym own.now) (subst (λ (e : Entry). FailedIn (texts_written own.done) base (e ∷ history)) (sym turn.is_called) failed)
 
   -- what is in doubt then
-  pub in-doubt : IsKept tells old → IsTurn prepared.slot Before told → FailsWith prepared.write old.doubt new.doubt → StaysInDoubt old new ⊎ ComesInDoubt new told
-  in-doubt kept turn (inl (some, left)) = inl (record { some = some; same = left })
-  in-doubt (base, (history, h)) turn (inr (done, writes, left)) =
-      let other = instead old.cluster new.cluster prepared is done writes told turn.told turn.is_called turn.own adds base history h.cluster in
-      inr (record { write = texts_written done; doubt = left; call = turn.told; is_called = turn.is_called; own = other.own })
+  pub in-doubt : (gives : Gives D) → IsKept tells old → IsTurn prepared.slot Before told → FailsWith gives prepared.write old.cluster.store.store old.doubt new.doubt old.keeper new.keeper
+      → StaysInDoubt gives old new ⊎ ComesInDoubt gives prepared.slot old new told
+  in-doubt gives kept turn (inl back) = inl (record { write = back.write; was = back.was; same = back.same; given = back.given })
+  in-doubt gives (base, (history, h)) turn (inr own) =
+      let other = instead old.cluster new.cluster prepared is own.done own.asked told turn.told turn.is_called turn.own adds base history h.cluster in
+      inr (record {
+        write = own.done;
+        asked = sym is.write ∙ own.asked;
+        doubt = own.now;
+        between = own.between;
+        first = own.first;
+        given = own.given;
+        call = turn.told;
+        is_called = turn.is_called;
+        own = other.own;
+      })
+
+-- what a call did on a cluster that is the same as another
+module _ {D : Type 0} (gives : Gives D) (faults : D → ℕ) (slot : ℕ) (old : Kept D) (cluster : Cluster) (same : IsUnchanged old.cluster cluster) (new : Kept D) (told : Entry) where
+  abbrev between : Kept D
+  between = record { cluster = cluster; keeper = old.keeper; doubt = old.doubt; ring = old.ring }
+
+  doubt-over : StaysInDoubt gives between new ⊎ ComesInDoubt gives slot between new told → StaysInDoubt gives old new ⊎ ComesInDoubt gives slot old new told
+  doubt-over (inl stays) = inl (record {
+    write = stays.write;
+    was = stays.was;
+    same = stays.same;
+    given = subst (λ (s : Datastore). gives old.keeper (change_of (row_back (key_written stays.write) s)) new.keeper) same.store stays.given;
+  })
+  doubt-over (inr comes) = inr (record {
+    write = comes.write;
+    asked = subst (λ (s : Datastore). write_next (slot_of old.cluster slot) s ≡ Some comes.write) same.store
+        (subst (λ (r : Option Running). write_next r cluster.store.store ≡ Some comes.write) (same.slots slot) comes.asked);
+    doubt = comes.doubt;
+    between = comes.between;
+    first = comes.first;
+    given = comes.given;
+    call = comes.call;
+    is_called = comes.is_called;
+    own = comes.own;
+  })
+
+  pub turned-over : IsDone faults slot between new told ⊎ IsFailed gives faults slot between new told → IsDone faults slot old new told ⊎ IsFailed gives faults slot old new told
+  turned-over (inl done) = inl (record { turn = done.turn; no_fault = done.no_fault; sure = done.sure })
+  turned-over (inr failed) = inr (record { turn = failed.turn; fault = failed.fault; doubt = doubt-over failed.doubt })
 
 -- ---- opening
 

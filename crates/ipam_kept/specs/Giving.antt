@@ -1,12 +1,13 @@
 -- What is given to a keeper for a call, and what that makes of its rows.
-use Rattle.std.specs.Prelude.{◌≡◌, ◌⊎◌, List, Option, Some, None, IsSome}
+use Rattle.std.specs.Prelude.{◌≡◌, ◌⊎◌, List, Option, Some, None}
 use Rattle.std.specs.Option.{option_map}
 use Rattle.ipam_records.specs.declared.call.Row.{Row as RowText}
 use Rattle.ipam_records.specs.declared.call.Write.{Write}
 use Rattle.ipam_records.specs.Datastore.{Datastore}
 use Rattle.ipam_records.specs.Sound.{IsDatastore}
+use Rattle.ipam_keeper.specs.Keeping.{Change}
 use Rattle.ipam_kept.specs.declared.write.RowWrite.{RowWrite}
-use Rattle.ipam_kept.specs.Rows.{AreToldKept, rows_after, texts_written}
+use Rattle.ipam_kept.specs.Rows.{AreToldKept, change_of, key_written, row_back, rows_after, texts_written}
 
 -- the rows once the write is done, where they are told
 abbrev pub known_after : RowWrite → Option (List RowText) → Option (List RowText)
@@ -27,7 +28,29 @@ WereGiven write store told doubt new =
     IsDatastore store → AreToldKept told store doubt
     → (between : Option (List RowText)) × AreToldKept between store None × (new ≡ known_written write between)
 
--- what was in doubt still is, or now the call's own write is
-abbrev pub FailsWith : Option Write → (doubt left : Option RowWrite) → Type 0
-FailsWith write doubt left =
-    (IsSome doubt × (left ≡ doubt)) ⊎ ((done : Write) × (write ≡ Some done) × (left ≡ Some (texts_written done)))
+-- ---- what a keeper was given by a call that failed
+
+-- of a keeper before, a change and the keeper after, whether it was given the change and failed
+abbrev pub Gives : Type 0 → Type 1
+Gives D = D → Change → D → Type 0
+
+module _ {D : Type 0} (gives : Gives D) where
+  -- it was given back the row in doubt, which stays in doubt
+  pub record FailsBack (store : Datastore) (doubt left : Option RowWrite) (before after : D) : Type 0 where
+    pub write : RowWrite
+    pub was : doubt ≡ Some write
+    pub same : left ≡ doubt
+    pub given : gives before (change_of (row_back (key_written write) store)) after
+
+  -- It was given the call's own write, which is in doubt now. Where nothing was in doubt, that was all.
+  pub record FailsOwn (write : Option Write) (doubt left : Option RowWrite) (before after : D) : Type 0 where
+    pub done : Write
+    pub asked : write ≡ Some done
+    pub now : left ≡ Some (texts_written done)
+    pub between : D
+    pub first : doubt ≡ None → between ≡ before
+    pub given : gives between (change_of (texts_written done)) after
+
+  abbrev pub FailsWith : Option Write → Datastore → (doubt left : Option RowWrite) → (before after : D) → Type 0
+  FailsWith write store doubt left before after =
+      FailsBack store doubt left before after ⊎ FailsOwn write doubt left before after

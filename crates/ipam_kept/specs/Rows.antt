@@ -7,6 +7,7 @@ use Rattle.ipam_records.specs.declared.call.Write.TheVariants as write
 use Rattle.ipam_records.specs.Datastore.{Datastore, row_of}
 use Rattle.ipam_records.specs.declared.key.Key.{Key}
 use Rattle.ipam_records.specs.KeyText.{key_bytes, key_read}
+use Rattle.ipam_keeper.specs.Keeping.{Change, PutIn, TakeOut}
 use Rattle.ipam_keeper.specs.Rows.{rows_with, rows_without}
 use Rattle.ipam_model.specs.Opened.{AreByKey, Texts, text_of, texts_of}
 use Rattle.ipam_model.specs.Reads.{StoredRecord}
@@ -28,6 +29,11 @@ texts_written (write.Remove revision key) = Remove (key_bytes key)
 abbrev pub key_written : RowWrite → List ℕ
 key_written (Put row) = row.key
 key_written (Remove key) = key
+
+-- the change that a keeper is given of it
+abbrev pub change_of : RowWrite → Change
+change_of (Put row) = PutIn row
+change_of (Remove key) = TakeOut key
 
 -- the rows once the write is done
 abbrev pub rows_after : RowWrite → List RowText → List RowText

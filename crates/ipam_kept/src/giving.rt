@@ -1,13 +1,13 @@
 //! What is given to a keeper for a call: first what was in doubt is put back, then what the call writes.
-ghost use Rattle.std.specs.Prelude.{◌≡◌, ◌⊎◌, ◌≤◌, Some, None, IsSome, IfOk, OnOk, OnErr};
+ghost use Rattle.std.specs.Prelude.{◌≡◌, ◌⊎◌, ◌≤◌, Some, None, IfOk, OnOk, OnErr};
 ghost use Rattle.std.specs.Option.{option_copied};
 ghost use Rattle.ipam_io.specs.Counts.{Rose};
 ghost use Rattle.ipam_keeper.specs.Keeping.{IsOldOrNew, OnFailed, OnMemory, UnlessFailed};
 ghost use Rattle.ipam_model.specs.Opened.{text_of};
 ghost use Rattle.ipam_records.specs.Datastore.{row_of};
 ghost use Rattle.ipam_records.specs.KeyText.{key_bytes};
-ghost use Rattle.ipam_kept.specs.Giving.{FailsWith, StayKept, WereGiven, known_after};
-ghost use Rattle.ipam_kept.specs.Rows.{putting_back, row_back, row_read, texts_written};
+ghost use Rattle.ipam_kept.specs.Giving.{FailsBack, FailsWith, StayKept, WereGiven, known_after};
+ghost use Rattle.ipam_kept.specs.Rows.{change_of, putting_back, row_back, row_read, texts_written};
 
 use crate::write::RowWrite;
 use ipam_keeper::{KeepFault, Keeper};
@@ -17,7 +17,7 @@ use ipam_text::Text;
 use std::alloc::{AllocError, Global};
 
 /// Gives the keeper all that it needs for a call that writes this, if anything. Where the keeper fails,
-/// something is in doubt.
+/// the write that it was given last is in doubt.
 pub(crate) fn give<D: Keeper>(
     alloc: Global,
     store: &Store,
@@ -28,7 +28,8 @@ pub(crate) fn give<D: Keeper>(
     ensures sure { OnOk result (doubt.new ≡ None) }
     ensures given { OnOk result (WereGiven (option_copied write.entry) store.now.store (D.rows keeper.old) doubt.old (D.rows keeper.new)) }
     ensures kept { OnErr result (StayKept store.now.store (D.rows keeper.old) doubt.old (D.rows keeper.new) doubt.new) }
-    ensures failed { OnFailed result (FailsWith (option_copied write.entry) doubt.old doubt.new) }
+    ensures failed { OnFailed result (FailsWith D.given (option_copied write.entry) store.now.store
+        doubt.old doubt.new keeper.old keeper.new) }
     ensures memory { OnMemory result ((doubt.new ≡ doubt.old) ⊎ (doubt.new ≡ None)) }
 
     ensures fault { OnFailed result (Rose (D.faults keeper.old) (D.faults keeper.new)) }
@@ -50,7 +51,8 @@ fn put_back<D: Keeper>(
     doubt: &mut Option<RowWrite>,
 ) -> Result<(), KeepFault>
     ensures sure { OnOk result (doubt.new ≡ None) }
-    ensures doubt { OnErr result (IsSome doubt.old) }
+    ensures nothing { doubt.old ≡ None → keeper.new ≡ keeper.old }
+    ensures failed { OnFailed result (FailsBack D.given store.now.store doubt.old doubt.new keeper.old keeper.new) }
     ensures still { OnErr result (doubt.new ≡ doubt.old) }
     ensures kept { StayKept store.now.store (D.rows keeper.old) doubt.old (D.rows keeper.new) doubt.new }
 
@@ -82,6 +84,7 @@ fn give_write<D: Keeper>(
         (known_after (texts_written write.now) (D.rows keeper.old)) (D.rows keeper.new)) }
     ensures unchanged { OnMemory result (D.rows keeper.new ≡ D.rows keeper.old) }
     ensures failed { OnFailed result (doubt.new ≡ Some (texts_written write.now)) }
+    ensures given { OnFailed result (D.given keeper.old (change_of (texts_written write.now)) keeper.new) }
     ensures sure { UnlessFailed result (doubt.new ≡ None) }
 
     ensures fault { OnFailed result (Rose (D.faults keeper.old) (D.faults keeper.new)) }
@@ -103,6 +106,7 @@ fn give_row<D: Keeper>(keeper: &mut D, write: &RowWrite) -> Result<(), KeepFault
     ensures done { OnOk result (D.rows keeper.new ≡ known_after write.now (D.rows keeper.old)) }
     ensures old_or_new { OnFailed result (IsOldOrNew (D.rows keeper.old)
         (known_after write.now (D.rows keeper.old)) (D.rows keeper.new)) }
+    ensures given { OnFailed result (D.given keeper.old (change_of write.now) keeper.new) }
     ensures unchanged { OnMemory result (D.rows keeper.new ≡ D.rows keeper.old) }
 
     ensures fault { OnFailed result (Rose (D.faults keeper.old) (D.faults keeper.new)) }

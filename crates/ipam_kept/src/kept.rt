@@ -139,7 +139,7 @@ impl<D: Keeper> Kept<D> {
         ensures idle { (result ≡ Err PrepareFault.SlotIdle) ↔ (slot_of self.old.cluster slot ≡ None) }
         ensures waiting { (result ≡ Err PrepareFault.Waiting) ↔ (state_in (slot_of self.old.cluster slot) ≡ state.Waiting) }
         ensures worn { (result ≡ Err PrepareFault.Worn) ↔ (2 ^ 62 ≤ self.old.cluster.entries × state_in (slot_of self.old.cluster slot) ≡ state.Running) }
-        ensures turned { IfOk result (λ told. IsDone D.faults slot self.old self.new told ⊎ IsFailed D.faults slot self.old self.new told) }
+        ensures turned { IfOk result (λ told. IsDone D.faults slot self.old self.new told ⊎ IsFailed D.given D.faults slot self.old self.new told) }
         ensures keeps { IfOk result (KeepsWith D.rows self.old self.new) }
         ensures feeds { IfOk result (FedWith D.rows self.old self.new) }
         ensures others { (other : ℕ) → ¬ (other ≡ slot) → slot_of self.new.cluster other ≡ slot_of self.old.cluster other }
@@ -158,7 +158,7 @@ impl<D: Keeper> Kept<D> {
         requires prepared { IsPrepared self.old.cluster prepared }
         requires kept { IsKept D.rows self.old }
         ensures memory { IfErr result (λ e. e ≡ PrepareFault.Memory) }
-        ensures turned { IfOk result (λ told. IsDone D.faults prepared.slot self.old self.new told ⊎ IsFailed D.faults prepared.slot self.old self.new told) }
+        ensures turned { IfOk result (λ told. IsDone D.faults prepared.slot self.old self.new told ⊎ IsFailed D.given D.faults prepared.slot self.old self.new told) }
         ensures keeps { IfOk result (KeepsWith D.rows self.old self.new) }
         ensures feeds { IfOk result (FedWith D.rows self.old self.new) }
         ensures others { IfOk result (λ told. (other : ℕ) → ¬ (other ≡ prepared.slot) → slot_of self.new.cluster other ≡ slot_of self.old.cluster other) }
@@ -262,7 +262,8 @@ impl<D> Kept<D> {
     }
 }
 
-fn not_loaded(fault: KeepFault) -> KeptFault
+/// Why rows were not opened that the keeper did not load. A failed load is no want of memory.
+pub fn not_loaded(fault: KeepFault) -> KeptFault
     ensures { result ≡ not_loaded fault }
 {
     match fault {
@@ -271,7 +272,8 @@ fn not_loaded(fault: KeepFault) -> KeptFault
     }
 }
 
-fn not_opened(fault: OpenFault) -> KeptFault
+/// Why rows were not opened, as opening them told it. Takes no memory, so that a refusal stays one.
+pub fn not_opened(fault: OpenFault) -> KeptFault
     ensures { result ≡ not_opened fault }
 {
     match fault {

@@ -14,7 +14,7 @@ pub use broken::broken_line;
 pub use ipam_cluster::{BeginFault, Cluster, FeedFault, PrepareFault};
 pub use ipam_feed::{Change, Route, SinceFault};
 pub use ipam_keeper::Keeper;
-pub use kept::{Kept, KeptFault};
+pub use kept::{Kept, KeptFault, not_loaded, not_opened};
 pub use laws::what_is_kept_may_be_opened;
 pub use loaded::greatest_revision;
 pub use std::alloc::AllocError as Memory;

@@ -11,6 +11,7 @@ use Rattle.ipam_model.specs.CanAnswer.{CanAnswer}
 use Rattle.ipam_model.specs.Cluster.{state_of}
 use Rattle.ipam_model.specs.History.{Lawful}
 use Rattle.ipam_kept.specs.declared.kept.Kept.{Kept}
+use Rattle.ipam_kept.specs.Giving.{Gives}
 use Rattle.ipam_kept.specs.Turning.{IsDone, IsFailed}
 use Rattle.ipam_shared.specs.declared.faults.SharedFault.{SharedFault}
 use Rattle.ipam_shared.specs.declared.faults.SharedFault.TheVariants.{Inner, SpentPass}
@@ -76,11 +77,11 @@ called-as old new told c is own same sees left enough lawful =
     subst (λ (e : Entry). Called old (answer_told e) new) (sym is)
     (called-done old new c own same (subst (λ (e : Entry). SeesNext old (e ∷ []) new) is sees) lawful took)
 
-pub called-so : {D : Type 0} (faults : D → ℕ) (before after : Kept D) (old new : PassValue) (told : Entry) → IsDone faults old.slot before after told ⊎ IsFailed faults old.slot before after told
+pub called-so : {D : Type 0} (gives : Gives D) (faults : D → ℕ) (before after : Kept D) (old new : PassValue) (told : Entry) → IsDone faults old.slot before after told ⊎ IsFailed gives faults old.slot before after told
     → IsSamePass old new → SeesNext old (told ∷ []) new → new.left + 1 ≡ old.left → 2 ≤ old.left → Lawful new.base new.seen → Called old (answer_told told) new
-called-so faults before after old new told (inl d) same sees left enough lawful =
+called-so gives faults before after old new told (inl d) same sees left enough lawful =
     called-as old new told d.turn.told d.turn.is_called d.turn.own same sees left enough lawful
-called-so faults before after old new told (inr f) same sees left enough lawful =
+called-so gives faults before after old new told (inr f) same sees left enough lawful =
     called-as old new told f.turn.told f.turn.is_called f.turn.own same sees left enough lawful
 
 -- what waited still does

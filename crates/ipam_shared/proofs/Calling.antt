@@ -15,6 +15,7 @@ use Rattle.ipam_cluster.specs.declared.faults.FeedFault.TheVariants as feed_faul
 use Rattle.ipam_cluster.specs.declared.faults.PrepareFault.{PrepareFault}
 use Rattle.ipam_cluster.specs.declared.faults.PrepareFault.TheVariants as prepare_fault
 use Rattle.ipam_kept.specs.declared.kept.Kept.{Kept}
+use Rattle.ipam_kept.specs.Giving.{Gives}
 use Rattle.ipam_kept.specs.Kept.{LeavesKeeper, Tells}
 use Rattle.ipam_kept.specs.Turning.{IsDone, IsFailed, IsRefused}
 use Rattle.ipam_shared.specs.declared.faults.SharedFault.{SharedFault}
@@ -103,9 +104,9 @@ module _ {D : Type 0} (tells : Tells D) (live : List (List ℕ)) (at : ℕ) (old
 
 -- ---- a call
 
-module _ {D : Type 0} (tells : Tells D) (faults : D → ℕ) (old new : PassValue) (answer : Option (Result Entry PrepareFault)) (result : Result Entry (SharedFault PrepareFault))
+module _ {D : Type 0} (tells : Tells D) (gives : Gives D) (faults : D → ℕ) (old new : PassValue) (answer : Option (Result Entry PrepareFault)) (result : Result Entry (SharedFault PrepareFault))
     (is : result ≡ answer_of answer) (spent : IsNone answer ↔ (old.left ≡ 0))
-    (turned : IfSome answer (λ given. HadTurn tells (λ before after. Calls old.slot before faults given after) old (told_by given) new)) where
+    (turned : IfSome answer (λ given. HadTurn tells (λ before after. Calls old.slot before gives faults given after) old (told_by given) new)) where
   pub turn-idle : (result ≡ Err (Inner prepare_fault.SlotIdle)) ↔ (0 < old.left × runs_in old ≡ None)
   turn-idle = refuses answer result prepare_fault.SlotIdle old.left (λ told. runs_in old ≡ None) is spent (IfSome_then answer turned (λ given h.
       let none = same-none _ _ (slot-before h) in
@@ -130,32 +131,32 @@ module _ {D : Type 0} (tells : Tells D) (faults : D → ℕ) (old new : PassValu
         ),
       ))))
 
-abbrev pub Done : {D : Type 0} → (D → ℕ) → (slot : ℕ) → Entry → Kept D → Kept D → Type 0
-Done faults slot told before after = IsDone faults slot before after told ⊎ IsFailed faults slot before after told
+abbrev pub Done : {D : Type 0} → Gives D → (D → ℕ) → (slot : ℕ) → Entry → Kept D → Kept D → Type 0
+Done gives faults slot told before after = IsDone faults slot before after told ⊎ IsFailed gives faults slot before after told
 
 -- a call was made, and did what an answered one does
-turned-by : {D : Type 0} (tells : Tells D) (faults : D → ℕ) (old new : PassValue) (answer : Option (Result Entry PrepareFault))
-    → IfSome answer (λ given. HadTurn tells (λ before after. Calls old.slot before faults given after) old (told_by given) new)
-    → IfOk (answer_of answer) (λ told. WasDone tells (Done faults old.slot told) (told_by (answer_of answer)) new)
-turned-by tells faults old new None h = tt
-turned-by tells faults old new (Some (Ok told)) h = done-as (λ before after d. d.turned) h.done
-turned-by tells faults old new (Some (Err fault)) h = tt
+turned-by : {D : Type 0} (tells : Tells D) (gives : Gives D) (faults : D → ℕ) (old new : PassValue) (answer : Option (Result Entry PrepareFault))
+    → IfSome answer (λ given. HadTurn tells (λ before after. Calls old.slot before gives faults given after) old (told_by given) new)
+    → IfOk (answer_of answer) (λ told. WasDone tells (Done gives faults old.slot told) (told_by (answer_of answer)) new)
+turned-by tells gives faults old new None h = tt
+turned-by tells gives faults old new (Some (Ok told)) h = done-as (λ before after d. d.turned) h.done
+turned-by tells gives faults old new (Some (Err fault)) h = tt
 
-refused-by : {D : Type 0} (tells : Tells D) (faults : D → ℕ) (old new : PassValue) (answer : Option (Result Entry PrepareFault))
-    → IfSome answer (λ given. HadTurn tells (λ before after. Calls old.slot before faults given after) old (told_by given) new)
+refused-by : {D : Type 0} (tells : Tells D) (gives : Gives D) (faults : D → ℕ) (old new : PassValue) (answer : Option (Result Entry PrepareFault))
+    → IfSome answer (λ given. HadTurn tells (λ before after. Calls old.slot before gives faults given after) old (told_by given) new)
     → IfErr (answer_of answer) (λ fault. UnlessSpent (answer_of answer) (WasDone tells (IsRefused faults) (told_by (answer_of answer)) new))
-refused-by tells faults old new None h = tt
-refused-by tells faults old new (Some (Ok told)) h = tt
-refused-by tells faults old new (Some (Err fault)) h = done-as (λ before after d. d.refused) h.done
+refused-by tells gives faults old new None h = tt
+refused-by tells gives faults old new (Some (Ok told)) h = tt
+refused-by tells gives faults old new (Some (Err fault)) h = done-as (λ before after d. d.refused) h.done
 
-module _ {D : Type 0} (tells : Tells D) (faults : D → ℕ) (old new : PassValue) (answer : Option (Result Entry PrepareFault)) (result : Result Entry (SharedFault PrepareFault))
+module _ {D : Type 0} (tells : Tells D) (gives : Gives D) (faults : D → ℕ) (old new : PassValue) (answer : Option (Result Entry PrepareFault)) (result : Result Entry (SharedFault PrepareFault))
     (is : result ≡ answer_of answer)
-    (turned : IfSome answer (λ given. HadTurn tells (λ before after. Calls old.slot before faults given after) old (told_by given) new)) where
-  pub turn-turned : IfOk result (λ told. WasDone tells (Done faults old.slot told) (told_by result) new)
-  turn-turned = subst (λ r. IfOk r (λ told. WasDone tells (Done faults old.slot told) (told_by r) new)) (sym is) (turned-by tells faults old new answer turned)
+    (turned : IfSome answer (λ given. HadTurn tells (λ before after. Calls old.slot before gives faults given after) old (told_by given) new)) where
+  pub turn-turned : IfOk result (λ told. WasDone tells (Done gives faults old.slot told) (told_by result) new)
+  turn-turned = subst (λ r. IfOk r (λ told. WasDone tells (Done gives faults old.slot told) (told_by r) new)) (sym is) (turned-by tells gives faults old new answer turned)
 
   pub turn-refused : IfErr result (λ fault. UnlessSpent result (WasDone tells (IsRefused faults) (told_by result) new))
-  turn-refused = subst (λ r. IfErr r (λ fault. UnlessSpent r (WasDone tells (IsRefused faults) (told_by r) new))) (sym is) (refused-by tells faults old new answer turned)
+  turn-refused = subst (λ r. IfErr r (λ fault. UnlessSpent r (WasDone tells (IsRefused faults) (told_by r) new))) (sym is) (refused-by tells gives faults old new answer turned)
 
 -- ---- a stop
 

@@ -20,6 +20,7 @@ use Rattle.ipam_cluster.specs.declared.faults.PrepareFault.TheVariants as prepar
 use Rattle.ipam_cluster.specs.Cluster.{slot_of, state_in, WaitsWith}
 use Rattle.ipam_kept.specs.declared.kept.Kept.{Kept}
 use Rattle.ipam_kept.specs.Feed.{AreChanges, AreRoutes, FedFor, IsAhead, IsCompacted}
+use Rattle.ipam_kept.specs.Giving.{Gives}
 use Rattle.ipam_kept.specs.Kept.{LeavesKeeper, Tells}
 use Rattle.ipam_kept.specs.Turning.{IsDone, IsFailed, IsRefused}
 
@@ -51,11 +52,11 @@ module _ {D : Type 0} (slot : ℕ) (before : Kept D) where
     pub keeper : LeavesKeeper before after
 
   -- a call was made, done or not, or was not
-  pub record Calls (faults : D → ℕ) (answer : Result Entry PrepareFault) (after : Kept D) : Type 0 where
+  pub record Calls (gives : Gives D) (faults : D → ℕ) (answer : Result Entry PrepareFault) (after : Kept D) : Type 0 where
     pub idle : (answer ≡ Err prepare_fault.SlotIdle) ↔ (slot_of before.cluster slot ≡ None)
     pub waiting : (answer ≡ Err prepare_fault.Waiting) ↔ (state_in (slot_of before.cluster slot) ≡ state.Waiting)
     pub worn : (answer ≡ Err prepare_fault.Worn) ↔ (2 ^ 62 ≤ before.cluster.entries × state_in (slot_of before.cluster slot) ≡ state.Running)
-    pub turned : IfOk answer (λ told. IsDone faults slot before after told ⊎ IsFailed faults slot before after told)
+    pub turned : IfOk answer (λ told. IsDone faults slot before after told ⊎ IsFailed gives faults slot before after told)
     pub refused : IfErr answer (λ fault. IsRefused faults before after)
 
   -- what ran was stopped, or nothing did

@@ -67,7 +67,7 @@ impl<D: Keeper> Deed<D> for Call {
 
     ghost can = { λ deed. Unit {0} };
 
-    ghost does = { λ deed slot before answer after. Calls slot before D.faults answer after };
+    ghost does = { λ deed slot before answer after. Calls slot before D.given D.faults answer after };
 
     ghost told = { told_by };
 

@@ -106,8 +106,8 @@ impl<D: Keeper> Shared<D> {
         })
     }
 
-    /// Ends the other pass, in whose slot nothing runs and whose turns are given up. `into` has then seen
-    /// all that both had seen.
+    /// Ends the other pass, in whose slot nothing runs and whose turns are given up. Both had seen a history
+    /// of one base, and `into` has then seen all that both had seen.
     pub fn join(&self, into: &mut Pass, other: Pass)
         requires into { into.old.lock ≡ self.now }
         requires other { other.lock ≡ self.now }
@@ -117,6 +117,7 @@ impl<D: Keeper> Shared<D> {
         ensures joined { into.new.joined ≡ into.old.joined + other.joined + 1 }
         ensures seen { GrewPast slot_of_entry into.old.slot into.old.seen into.new.seen }
         ensures others { Grew other.seen into.new.seen }
+        ensures base { other.base ≡ into.new.base }
         ensures lawful { IsLawfulPass into.new }
         ensures slot { runs_in into.new ≡ runs_in into.old }
     {
@@ -237,7 +238,7 @@ impl<D: Keeper> Shared<D> {
         ensures worn { (result ≡ Err (SharedFault.Inner PrepareFault.Worn))
             ↔ (0 < pass.old.left × 2 ^ 62 ≤ moment_met (told_by result) pass.new × state_of (runs_in pass.old) ≡ state.Running) }
         ensures turned { IfOk result (λ told. WasDone D.rows (λ before after.
-            IsDone D.faults pass.old.slot before after told ⊎ IsFailed D.faults pass.old.slot before after told) (told_by result) pass.new) }
+            IsDone D.faults pass.old.slot before after told ⊎ IsFailed D.given D.faults pass.old.slot before after told) (told_by result) pass.new) }
         ensures refused { IfErr result (λ fault. UnlessSpent result (WasDone D.rows (IsRefused D.faults) (told_by result) pass.new)) }
     {
         answered(self.take_turn(rt, pass, Call { alloc }))

@@ -9,6 +9,7 @@ use Rattle.ipam_model.specs.declared.request.Request.TheVariants.{Collect}
 use Rattle.ipam_cluster.specs.Turns.{IsTurn}
 use Rattle.ipam_model.specs.declared.entry.Fate.TheVariants.{Well, Before}
 use Rattle.ipam_kept.specs.declared.kept.Kept.{Kept}
+use Rattle.ipam_kept.specs.Giving.{Gives}
 use Rattle.ipam_kept.specs.Kept.{IsKept, KeepsWith, LeavesKeeper, Tells}
 use Rattle.ipam_kept.specs.Turning.{IsDone, IsFailed}
 use Rattle.ipam_solo.specs.Steps.{CountsOne, IsDoneCall, IsFailedCall, IsFed, answer_told}
@@ -26,8 +27,8 @@ module _ {D : Type 0} (tells : Tells D) (faults : D → ℕ) (old new : Kept D) 
     sure = done.sure;
   }
 
-  failed-call : IsKept tells old → IsFailed faults 0 old new told → KeepsWith tells old new told → IsFailedCall tells faults old new (answer_told told)
-  failed-call kept failed keeps =
+  failed-call : (gives : Gives D) → IsKept tells old → IsFailed gives faults 0 old new told → KeepsWith tells old new told → IsFailedCall tells faults old new (answer_told told)
+  failed-call gives kept failed keeps =
       let now = subst (λ (e : Entry). KeepsWith tells old new e) failed.turn.is_called keeps in
       let is = ap answer_told failed.turn.is_called in
       record {
@@ -40,10 +41,10 @@ module _ {D : Type 0} (tells : Tells D) (faults : D → ℕ) (old new : Kept D) 
         fault = failed.fault;
       }
 
-  pub is-called : IsKept tells old → IsDone faults 0 old new told ⊎ IsFailed faults 0 old new told → KeepsWith tells old new told
+  pub is-called : (gives : Gives D) → IsKept tells old → IsDone faults 0 old new told ⊎ IsFailed gives faults 0 old new told → KeepsWith tells old new told
       → IsDoneCall tells faults old new (answer_told told) ⊎ IsFailedCall tells faults old new (answer_told told)
-  is-called kept (inl done) keeps = inl (done-call done keeps)
-  is-called kept (inr failed) keeps = inr (failed-call kept failed keeps)
+  is-called gives kept (inl done) keeps = inl (done-call done keeps)
+  is-called gives kept (inr failed) keeps = inr (failed-call gives kept failed keeps)
 
   -- there was room, since it was not refused, and there is one entry more
   pub counts-one : IsKept tells old → KeepsWith tells old new told → ¬ (2 ^ 62 ≤ old.cluster.entries) → CountsOne old new

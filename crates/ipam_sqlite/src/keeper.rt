@@ -91,6 +91,8 @@ impl<S: Alter + Drop> Keeper for SqliteKeeper<S> {
 
     ghost name = { λ _. 0 };
 
+    ghost given = { λ before change after. Unit {0} };
+
     fn load(&mut self) -> Result<Vec<Row>, KeepFault>
         ensures ascending { IfOk result (λ loaded. Ascend loaded.items) }
         ensures unopened { IfSome (unopened self.old) (λ fault. result ≡ Err fault) }

@@ -200,6 +200,8 @@ impl Keeper for FileKeeper {
 
     ghost name = { λ _. 0 };
 
+    ghost given = { λ before change after. Unit {0} };
+
     fn load(&mut self) -> Result<Vec<Row>, KeepFault>
         ensures ascending { IfOk result (λ loaded. Ascend loaded.items) }
         ensures fault { OnFailed result (self.new.tally.faults ≡ next_count self.old.tally.faults) }

@@ -27,6 +27,8 @@ impl Keeper for NoFile {
 
     ghost name = { λ _. 0 };
 
+    ghost given = { λ before change after. Unit {0} };
+
     fn load(&mut self) -> Result<Vec<Row>, KeepFault> {
         self.faults = self.faults.saturating_add(1);
         Err(KeepFault::Failed)

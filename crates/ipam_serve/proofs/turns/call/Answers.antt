@@ -10,7 +10,7 @@ pub returns-in-Ok-clause-called : goal.returns-in-Ok-clause-called
 returns-in-Ok-clause-called g c =
     let enough : 2 ≤ c.args.pass.now.left = rw (← c.left.ensures) c.if-left-lt2.false in
     rw c.told.ensures
-    (called-so g.D.Keeper.faults c.in-Ok.ensures.turned.before c.in-Ok.ensures.turned.after c.args.pass.now c.turn.new.pass c.in-Ok.entry
+    (called-so g.D.Keeper.given g.D.Keeper.faults c.in-Ok.ensures.turned.before c.in-Ok.ensures.turned.after c.args.pass.now c.turn.new.pass c.in-Ok.entry
     c.in-Ok.ensures.turned.deed c.in-Ok.ensures.same c.in-Ok.ensures.seen c.in-Ok.ensures.left enough c.in-Ok.ensures.lawful.lawful)
 
 pub returns-in-Err-clause-called : goal.returns-in-Err-clause-called

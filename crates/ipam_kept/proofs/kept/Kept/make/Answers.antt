@@ -49,13 +49,15 @@ returns-in-Ok-give-clause-feeds g c =
 pub returns-in-Err-Failed-clause-turned : goal.returns-in-Err-Failed-clause-turned
 returns-in-Err-Failed-clause-turned g c =
     let old = c.args.self.now in
+    let store : c.store.result.now.store ≡ old.cluster.store.store = ap (λ (s : StoreValue). s.store) c.store.ensures in
     let failed : c.in-Err-Failed.field-0 ≡ Failed = cc (c.in-Err-Failed.field-0-is) in
-    let fails = subst (λ (w : Option Write). FailsWith w old.doubt c.give.new.doubt) c.write-2.ensures (failed-of c.in-Err-Failed.field-0 failed c.in-Err-Failed.ensures.failed) in
+    let fails = subst (λ (s : Datastore). FailsWith g.D.Keeper.given c.args.prepared.write s old.doubt c.give.new.doubt old.keeper c.give.new.keeper) store
+    (subst (λ (w : Option Write). FailsWith g.D.Keeper.given w c.store.result.now.store old.doubt c.give.new.doubt old.keeper c.give.new.keeper) c.write-2.ensures (failed-of c.in-Err-Failed.field-0 failed c.in-Err-Failed.ensures.failed)) in
     inr (record {
       turn = c.commit-in-Err-Failed.ensures.entry;
       fault = failed-of c.in-Err-Failed.field-0 failed c.in-Err-Failed.ensures.fault;
       doubt = in-doubt g.D.Keeper.rows old (record { cluster = c.commit-in-Err-Failed.new.self; keeper = c.give.new.keeper; doubt = c.give.new.doubt; ring = c.prepare.new.ring }) c.args.prepared c.requires.prepared c.commit-in-Err-Failed.result c.commit-in-Err-Failed.ensures.adds
-          c.requires.kept c.commit-in-Err-Failed.ensures.entry fails;
+          g.D.Keeper.given c.requires.kept c.commit-in-Err-Failed.ensures.entry fails;
     })
 
 pub returns-in-Err-Failed-clause-keeps : goal.returns-in-Err-Failed-clause-keeps
@@ -65,9 +67,10 @@ returns-in-Err-Failed-clause-keeps g c =
     let store : c.store.result.now.store ≡ old.cluster.store.store = ap (λ (s : StoreValue). s.store) c.store.ensures in
     let kept = subst (λ (s : Datastore). StayKept s (tells old.keeper) old.doubt (tells c.give.new.keeper) c.give.new.doubt) store c.in-Err-Failed.ensures.kept in
     let failed : c.in-Err-Failed.field-0 ≡ Failed = cc (c.in-Err-Failed.field-0-is) in
-    let fails = subst (λ (w : Option Write). FailsWith w old.doubt c.give.new.doubt) c.write-2.ensures (failed-of c.in-Err-Failed.field-0 failed c.in-Err-Failed.ensures.failed) in
+    let fails = subst (λ (s : Datastore). FailsWith g.D.Keeper.given c.args.prepared.write s old.doubt c.give.new.doubt old.keeper c.give.new.keeper) store
+    (subst (λ (w : Option Write). FailsWith g.D.Keeper.given w c.store.result.now.store old.doubt c.give.new.doubt old.keeper c.give.new.keeper) c.write-2.ensures (failed-of c.in-Err-Failed.field-0 failed c.in-Err-Failed.ensures.failed)) in
     keeps-failed tells old (record { cluster = c.commit-in-Err-Failed.new.self; keeper = c.give.new.keeper; doubt = c.give.new.doubt; ring = c.prepare.new.ring }) c.args.prepared c.requires.prepared c.commit-in-Err-Failed.result c.commit-in-Err-Failed.ensures.adds
-    c.commit-in-Err-Failed.ensures.entry c.commit-in-Err-Failed.ensures.store kept fails c.prepare.ensures.counter
+    g.D.Keeper.given c.commit-in-Err-Failed.ensures.entry c.commit-in-Err-Failed.ensures.store kept fails c.prepare.ensures.counter
 
 pub returns-in-Err-Failed-clause-feeds : goal.returns-in-Err-Failed-clause-feeds
 returns-in-Err-Failed-clause-feeds g c =

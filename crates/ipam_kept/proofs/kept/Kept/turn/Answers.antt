@@ -1,9 +1,14 @@
-use Rattle.std.proofs.Common.{Ok, Err, Result, refl}
+use Rattle.std.proofs.Common.{◌≡◌, ◌⊎◌, ℕ, Ok, Err, Result, refl, subst}
 use Rattle.std.specs.Prelude.{IfOk}
 use Rattle.ipam_model.specs.declared.entry.Entry.{Entry}
+use Rattle.ipam_cluster.specs.declared.cluster.Cluster.{Cluster}
+use Rattle.ipam_cluster.specs.declared.faults.PrepareFault.{PrepareFault}
+use Rattle.ipam_cluster.specs.Cluster.{IsUnchanged}
 use Rattle.ipam_kept.specs.declared.kept.Kept.{Kept}
+use Rattle.ipam_kept.specs.Giving.{Gives}
 use Rattle.ipam_kept.specs.Kept.{KeepsWith, Stays, Tells}
-use Rattle.ipam_kept.proofs.Standing.{keeps-over, stays-left}
+use Rattle.ipam_kept.specs.Turning.{IsDone, IsFailed}
+use Rattle.ipam_kept.proofs.Standing.{keeps-over, stays-left, turned-over}
 use Rattle.ipam_kept.proofs.kept.Kept.turn.Goals as goal
 
 -- what is prepared leaves the cluster as it was
@@ -16,3 +21,17 @@ returns-clause-keeps g c =
     made-over g.D.Keeper.rows c.args.self.now (record { cluster = c.prepare.new.self; keeper = c.args.self.now.keeper; doubt = c.args.self.now.doubt; ring = c.args.self.now.ring }) c.make.new.self
     (stays-left g.D.Keeper.rows c.args.self.now (record { cluster = c.prepare.new.self; keeper = c.args.self.now.keeper; doubt = c.args.self.now.doubt; ring = c.args.self.now.ring }) c.prepare.ensures.unchanged (record { keeper = refl; doubt = refl }) refl)
     c.make.result c.make.ensures.keeps
+
+done-over : {D : Type 0} (gives : Gives D) (faults : D → ℕ) (slot at : ℕ) (old : Kept D) (cluster : Cluster) (new : Kept D) → IsUnchanged old.cluster cluster → at ≡ slot
+    → (result : Result Entry PrepareFault)
+    → IfOk result (λ told. IsDone faults at (record { cluster = cluster; keeper = old.keeper; doubt = old.doubt; ring = old.ring }) new told ⊎ IsFailed gives faults at (record { cluster = cluster; keeper = old.keeper; doubt = old.doubt; ring = old.ring }) new told)
+    → IfOk result (λ told. IsDone faults slot old new told ⊎ IsFailed gives faults slot old new told)
+done-over gives faults slot at old cluster new unchanged own (Ok told) turned =
+    turned-over gives faults slot old cluster unchanged new told
+    (subst (λ n. IsDone faults n (record { cluster = cluster; keeper = old.keeper; doubt = old.doubt; ring = old.ring }) new told ⊎ IsFailed gives faults n (record { cluster = cluster; keeper = old.keeper; doubt = old.doubt; ring = old.ring }) new told) own turned)
+done-over gives faults slot at old cluster new unchanged own (Err e) turned = tt
+
+pub returns-clause-turned : goal.returns-clause-turned
+returns-clause-turned g c =
+    done-over g.D.Keeper.given g.D.Keeper.faults c.args.slot c.in_ok-prepared.prepared.slot c.args.self.now c.prepare.new.self c.make.new.self
+    c.prepare.ensures.unchanged c.in_ok-prepared.ensures.slot c.make.result c.make.ensures.turned
