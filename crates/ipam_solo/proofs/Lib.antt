@@ -1,5 +1,6 @@
 pub mod Histories
 pub mod Standing
 pub mod Ending
+pub mod StepLemmas
 pub mod Calls
 pub mod Courses

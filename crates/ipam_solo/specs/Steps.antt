@@ -11,9 +11,10 @@ use Rattle.ipam_model.specs.declared.request.Request.{Request}
 use Rattle.ipam_model.specs.Alone.{IsFirstList}
 use Rattle.ipam_model.specs.History.{Base, cluster_at}
 use Rattle.ipam_model.specs.Moments.{request_in}
+use Rattle.ipam_model.specs.SoundRequest.{IsSoundRequest}
 use Rattle.ipam_kept.specs.declared.kept.Kept.{Kept}
-use Rattle.ipam_kept.specs.Kept.{KeptFor, KeepsWith, LeavesKeeper, Tells}
-use Rattle.ipam_solo.specs.Solo.{KeepsWithAll, NoMoreDoubt}
+use Rattle.ipam_kept.specs.Kept.{KeptFor, KeepsWith, LeavesKeeper, Stays, Tells}
+use Rattle.ipam_solo.specs.Solo.{HasNoGrace, KeepsWithAll, NoMoreDoubt}
 
 -- slot 0 runs the request
 pub record Runs {D : Type 0} (tells : Tells D) (request : Request) (kept : Kept D) : Type 0 where
@@ -113,3 +114,30 @@ pub record Faults {D : Type 0} (tells : Tells D) (faults : D → ℕ) (request :
 abbrev pub Ends : {D : Type 0} → Tells D → (D → ℕ) → Request → (old new : Kept D) → Answer → Type 0
 Ends tells faults request old new told =
     Answers tells faults request old new told ⊎ Faults tells faults request old new told
+
+-- ---- a request that goes on
+
+-- slot 0 runs the request, which is sound and may be fed at once
+pub record MayGoOn {D : Type 0} (tells : Tells D) (request : Request) (kept : Kept D) : Type 0 where
+  pub sound : IsSoundRequest request
+  pub no_grace : HasNoGrace request
+  pub runs : Runs tells request kept
+
+module _ {D : Type 0} (tells : Tells D) (faults name : D → ℕ) (request : Request) where
+  -- it went on, over the same keeper
+  pub record WentOn (old new : Kept D) : Type 0 where
+    pub far : SoFar tells faults request old new
+    pub same : name new.keeper ≡ name old.keeper
+
+  -- it went on to its answer
+  pub record CameToEnd (old new : Kept D) (told : Answer) : Type 0 where
+    pub ends : Ends tells faults request old new told
+    pub same : name new.keeper ≡ name old.keeper
+
+  -- It went on, and then a step found no memory, of which nothing came.
+  pub record Wants (old new : Kept D) : Type 0 where
+    pub before : Kept D
+    pub went : WentOn old before
+    pub unchanged : Stays tells before new
+    pub no_step : IsNoStep faults before new
+    pub same : name new.keeper ≡ name before.keeper

@@ -1,6 +1,7 @@
 //! One request by itself, in a kept cluster in which nothing runs.
 #![tactic(auto)]
 
+mod going;
 mod solo;
 mod steps;
 

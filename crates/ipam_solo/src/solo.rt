@@ -5,9 +5,9 @@ ghost use Rattle.ipam_model.specs.CanAnswer.{CanAnswer};
 ghost use Rattle.ipam_model.specs.SoundRequest.{IsSoundRequest};
 ghost use Rattle.ipam_kept.specs.Kept.{IsKept, KeepsWith, LeavesKeeper, Stays};
 ghost use Rattle.ipam_solo.specs.Solo.{HasNoGrace, IsAnswered, IsFaulted, IsStopped, NothingRuns};
-ghost use Rattle.ipam_solo.specs.Steps.{Ends, Runs, SoFar};
 
-use crate::steps::step;
+use crate::going::go_on;
+use crate::steps::Alone;
 use ipam_kept::{BeginFault, Keeper, Kept};
 use ipam_model::{Answer, Request};
 use std::alloc::{AllocError, Global};
@@ -35,7 +35,7 @@ pub fn run_alone<D: Keeper>(
     ensures same { D.name kept.new.keeper ≡ D.name kept.old.keeper }
 {
     begin(alloc, kept, request)?;
-    match go_on(alloc, kept, request) {
+    match go_on(&Alone { alloc, request }, kept) {
         Ok(answer) => Ok(answer),
         Err(AllocError) => {
             let _stopped = kept.stop(0);
@@ -56,25 +56,5 @@ fn begin<D: Keeper>(alloc: Global, kept: &mut Kept<D>, request: &Request) -> Res
         Ok(_) => Ok(()),
         Err(BeginFault::SlotBusy) => unreachable!(),
         Err(BeginFault::Worn | BeginFault::Memory) => Err(AllocError),
-    }
-}
-
-/// Goes on with the request up to its answer. On `Err` it still runs.
-fn go_on<D: Keeper>(
-    alloc: Global,
-    kept: &mut Kept<D>,
-    request: &Request,
-) -> Result<Answer, AllocError>
-    requires sound { IsSoundRequest request.now }
-    requires no_grace { HasNoGrace request.now }
-    requires runs { Runs D.rows request.now kept.old }
-    ensures ended { IfOk result (Ends D.rows D.faults request.now kept.old kept.new) }
-    ensures runs { OnErr result (SoFar D.rows D.faults request.now kept.old kept.new) }
-    ensures same { D.name kept.new.keeper ≡ D.name kept.old.keeper }
-{
-    loop {
-        if let Some(answer) = step(alloc, kept, request)? {
-            return Ok(answer);
-        }
     }
 }

@@ -1,20 +1,44 @@
 //! One step of the request that runs by itself in slot 0.
-ghost use Rattle.std.specs.Prelude.{◌≡◌, ◌⊎◌, IfOk, OnOk, OnErr};
+ghost use Rattle.std.specs.Prelude.{◌≡◌, ◌-◌, ◌^◌, ◌⊎◌, IfOk, OnOk, OnErr};
 ghost use Rattle.ipam_model.specs.declared.entry.SlotState.TheVariants as state;
 ghost use Rattle.ipam_model.specs.SoundRequest.{IsSoundCollect, IsSoundRequest};
 ghost use Rattle.ipam_model.specs.declared.request.Request.TheVariants.{Collect};
 ghost use Rattle.ipam_cluster.specs.Cluster.{WaitsWith, slot_of, state_in};
 ghost use Rattle.ipam_kept.specs.Kept.{IsKept, LeavesKeeper, Stays};
 ghost use Rattle.ipam_solo.specs.Solo.{HasNoGrace};
-ghost use Rattle.ipam_solo.specs.Steps.{CountsOne, IsDoneCall, IsFailedCall, IsFed, IsNoStep, IsStep, Runs, answer_told};
+ghost use Rattle.ipam_solo.specs.Steps.{CameToEnd, CountsOne, IsDoneCall, IsFailedCall, IsFed, IsNoStep, IsStep, MayGoOn, Runs, Wants, WentOn, answer_told};
 
+use crate::going::Going;
 use ipam_kept::{FeedFault, Keeper, Kept, PrepareFault};
 use ipam_model::{Answer, CollectRequest, Entry, Request, SlotState};
 use std::alloc::{AllocError, Global};
 
+/// A request that goes on by itself in slot 0.
+#[derive(Drop)]
+pub(crate) struct Alone<'a> {
+    pub(crate) alloc: Global,
+    pub(crate) request: &'a Request,
+}
+
+impl<'a, D: Keeper> Going<Kept<D>> for Alone<'a> {
+    ghost runs = { λ alone kept. MayGoOn D.rows alone.request.now kept };
+
+    ghost goes = { λ alone start now. WentOn D.rows D.faults D.name alone.request.now start now };
+
+    ghost ends = { λ alone start now answer. CameToEnd D.rows D.faults D.name alone.request.now start now answer };
+
+    ghost wants = { λ alone start now. Wants D.rows D.faults D.name alone.request.now start now };
+
+    ghost left = { λ alone kept. 2 ^ 62 - kept.cluster.entries };
+
+    fn step(&self, kept: &mut Kept<D>) -> Result<Option<Answer>, AllocError> {
+        step(self.alloc, kept, self.request)
+    }
+}
+
 /// Makes the next call, or feeds the collection that waits its own first list; with the answer, once
 /// there is one. On `Err` the cluster is as it was.
-pub(crate) fn step<D: Keeper>(
+fn step<D: Keeper>(
     alloc: Global,
     kept: &mut Kept<D>,
     request: &Request,
