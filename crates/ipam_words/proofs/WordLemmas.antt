@@ -1,5 +1,5 @@
 -- What words ask is sound.
-use Rattle.std.proofs.Common.{◌≡◌, ℕ, ◌<◌, ◌≤◌, ◌&&◌, Bool, true, false, List, [], ◌∷◌, Option, Some, None, refl, sym, subst}
+use Rattle.std.proofs.Common.{◌≡◌, ℕ, ◌&&◌, Bool, true, false, List, Option, Some, None, refl, sym, subst}
 use Rattle.std.specs.Prelude.{bytes_eq, codes, nat_le, option_map, option_and_then, IfSome, Result, Ok, Err, if◌then◌else◌}
 use Rattle.std.proofs.lemmas.Bool.{leb-true}
 use Rattle.ipam_addr.specs.declared.cidrs.AddrFault.{AddrFault}
@@ -10,7 +10,7 @@ use Rattle.ipam_words.specs.declared.command.Command.{Command}
 use Rattle.ipam_words.specs.declared.kind.RowKind.{RowKind}
 use Rattle.ipam_words.specs.declared.reading.TheConstants.{MOST_WORKERS}
 use Rattle.ipam_words.specs.Kinds.{kind_named}
-use Rattle.ipam_words.specs.Words.{AreWorkers, Asked, Cni, Play, Apply, Get, Routes, Gen, Audit, Serve, Call, Help, Version, IsSound, asked_by, audit_named, command_named, count_named, count_of, first_named, get_named, get_of, number_of, release_named, release_of, routes_named, second_named, serve_named, word_named, workers_of, workers_within}
+use Rattle.ipam_words.specs.Words.{AreWorkers, Asked, Cni, Play, Apply, Get, Routes, Gen, Audit, Serve, Call, Help, Version, IsSound, asked_by, audit_named, count_named, count_of, first_named, get_named, get_of, number_of, release_named, release_of, routes_named, second_named, serve_named, word_named, workers_of, workers_within}
 
 -- what is asked, if anything, is sound
 abbrev AllSound : Option Asked → Type 0

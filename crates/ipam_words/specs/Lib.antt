@@ -1,3 +1,4 @@
 -- What words name.
 pub mod Kinds
 pub mod Words
+pub mod Daemon

@@ -2,11 +2,13 @@
 #![tactic(auto)]
 
 mod command;
+mod daemon;
 mod kind;
 mod reading;
 mod texts;
 
 pub use command::Command;
+pub use daemon::{DaemonAsk, daemon_asked};
 pub use kind::RowKind;
 pub use reading::{MOST_GENERATED, MOST_WORKERS, read_words};
 pub use texts::{HELP, VERSION};
