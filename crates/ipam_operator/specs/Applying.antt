@@ -9,9 +9,10 @@ use Rattle.ipam_resources.specs.declared.fault.TheConstants.{DOCUMENT_MAX}
 use Rattle.ipam_resources.specs.declared.refusal.Refusal.{Refusal}
 use Rattle.ipam_resources.specs.declared.refusal.Refusal.TheVariants as refusal
 use Rattle.ipam_resources.specs.declared.resource.Resource.{Resource}
-use Rattle.ipam_resources.specs.Documents.{document_reading}
+use Rattle.ipam_resources.specs.Documents.{IsReadable, document_reading}
 use Rattle.ipam_resources.specs.Printed.{numbered_refusal, resource_text, applied_line, refused_line, fault_line as document_line}
 use Rattle.ipam_operator.specs.declared.asking.AskFault.{AskFault}
+use Rattle.ipam_operator.specs.declared.asking.AskFault.TheVariants as ask_fault
 use Rattle.ipam_operator.specs.declared.answer.OperatorAnswer.{OperatorAnswer}
 use Rattle.ipam_operator.specs.declared.answer.OperatorAnswer.TheVariants as answer
 use Rattle.ipam_operator.specs.declared.end.End.{End}
@@ -58,6 +59,26 @@ item_end (Ok answer.Again) = end.Refused
 item_end (Ok answer.Fault) = end.KeeperFault
 item_end (Err why) = fault_end why
 
+-- the line of a refusal that is known has the resource in it
+abbrev pub IsKnown : Option Refusal → Type 0
+IsKnown (Some why) = Unit {0}
+IsKnown None = ⊥
+
+-- What is written takes memory: a line that has the resource in it does. Where the asking ended in want of
+-- memory there is nothing to write. `keeper fault`, `link fault` and `reply fault` take none.
+abbrev pub TakesMemory : Result OperatorAnswer AskFault → Type 0
+TakesMemory (Ok answer.Done) = Unit {0}
+TakesMemory (Ok answer.Released) = ⊥
+TakesMemory (Ok answer.NoAffinity) = ⊥
+TakesMemory (Ok (answer.Refused number name)) = IsKnown (numbered_refusal number name)
+TakesMemory (Ok answer.Full) = Unit {0}
+TakesMemory (Ok answer.Spent) = Unit {0}
+TakesMemory (Ok answer.Again) = Unit {0}
+TakesMemory (Ok answer.Fault) = ⊥
+TakesMemory (Err ask_fault.Link) = ⊥
+TakesMemory (Err ask_fault.Reply) = ⊥
+TakesMemory (Err ask_fault.Memory) = Unit {0}
+
 -- ---- one resource
 
 -- what there is outside
@@ -67,10 +88,11 @@ pub record Outside : Type 0 where
   pub written : Option (List ℕ)
   pub write_faults : ℕ
 
--- The resource's request was asked, and what it came to is told. Where there was no memory nothing is.
+-- The resource's request was asked, and what it came to is told. Where that takes memory and there was none,
+-- nothing is.
 pub record IsTold (one : Resource) (came : Result OperatorAnswer AskFault) (old new : Outside) (last : End) : Type 0 where
   pub asked : Asks answer_of_line (request_line (Admin one.change)) came old.wire new.wire
-  pub told : Says (Unit {0}) old.written new.written old.write_faults new.write_faults (item_line one came) (item_end came) last
+  pub told : Says (TakesMemory came) old.written new.written old.write_faults new.write_faults (item_line one came) (item_end came) last
 
 -- ---- all of them
 
@@ -87,16 +109,24 @@ pub data RunEnds (resources : List Resource) (old new : Outside) : End → Type 
       → resources ≡ front ++ one ∷ rest → AreApplied front old between
       → IsTold one came between new last → last ≢ end.Done → RunEnds resources old new last
 
--- what is written of a document that was not read; with no memory nothing is
+-- What is written of a document that was not read: `refused: long` and `refused: not JSON` take no memory.
+-- With no memory nothing is.
 abbrev pub DocumentSays : DocumentFault → (old new : Option (List ℕ)) → (faults faults' : ℕ) → End → Type 0
+DocumentSays document_fault.Long old new faults faults' last =
+    Writes old new faults faults' (document_line document_fault.Long) end.Refused last
+DocumentSays document_fault.NotJson old new faults faults' last =
+    Writes old new faults faults' (document_line document_fault.NotJson) end.Refused last
+DocumentSays (document_fault.Member place) old new faults faults' last =
+    Says (Unit {0}) old new faults faults' (document_line (document_fault.Member place)) end.Refused last
 DocumentSays document_fault.Memory old new faults faults' last = (new ≡ old) × (faults' ≡ faults) × (last ≡ end.NoMemory)
-DocumentSays why old new faults faults' last = Says (Unit {0}) old new faults faults' (document_line why) end.Refused last
 
 -- How a document ends. All of it is read first: a bad one is refused by its first fault, and nothing is asked.
+-- One that is too long or no text is refused whether or not there is memory.
 pub data DocumentEnds (document : List ℕ) (old new : Outside) (last : End) : Type 0 where
   Good : (resources : List Resource) → document_reading document ≡ Ok resources
       → RunEnds resources old new last → DocumentEnds document old new last
-  Bad : (why : DocumentFault) → (why ≢ document_fault.Memory → document_reading document ≡ Err why) → new.wire ≡ old.wire
+  Bad : (why : DocumentFault) → (why ≢ document_fault.Memory → document_reading document ≡ Err why)
+      → (why ≡ document_fault.Memory → IsReadable document) → new.wire ≡ old.wire
       → DocumentSays why old.written new.written old.write_faults new.write_faults last
       → DocumentEnds document old new last
 

@@ -3,7 +3,7 @@ ghost use Rattle.std.specs.Prelude.{◌≡◌, ◌≤◌, ℕ, List, Ok, Result,
 ghost use Rattle.std.specs.Io.KnownBytes.{IsAtEnd, prepend_known};
 ghost use Rattle.ipam_resources.specs.Printed.{applied_line, fault_line as document_line, numbered_refusal, refused_line};
 ghost use Rattle.ipam_operator.specs.Answers.{answer_of_line};
-ghost use Rattle.ipam_operator.specs.Applying.{ApplyEnds, DocumentEnds, DocumentSays, IsTold, RunEnds, again_line, end_of_refusal, item_end, item_line, line_of_refusal};
+ghost use Rattle.ipam_operator.specs.Applying.{ApplyEnds, DocumentEnds, DocumentSays, IsKnown, IsTold, RunEnds, TakesMemory, again_line, end_of_refusal, item_end, item_line, line_of_refusal};
 ghost use Rattle.ipam_operator.specs.Asking.{Asks, request_line};
 ghost use Rattle.ipam_operator.specs.Telling.{Says};
 ghost use Rattle.ipam_operator.specs.declared.answer.OperatorAnswer.{OperatorAnswer as Found};
@@ -15,7 +15,7 @@ use crate::end::End;
 use crate::telling::{tell, tell_fault, tell_made};
 use ipam_io::{Link, Sink, Source};
 use ipam_lines::{InputFault, Lines, SESSION_LINE_BYTES, read_whole};
-use ipam_model::{Answer, Request};
+use ipam_model::Request;
 use ipam_resources::{
     DOCUMENT_MAX, DocumentFault, Refusal, Resource, push_applied, push_document_fault,
     push_refused, read_resources,
@@ -105,14 +105,17 @@ fn apply_document<K: Sink, L: Link>(
 }
 
 /// Writes why the document was not read.
+#[tactic(auto, unfolding(ipam_resources::specs::Printed::fault_line))]
 fn tell_document<K: Sink>(alloc: Global, sink: &mut K, fault: DocumentFault) -> End
     ensures told { DocumentSays fault (K.written sink.old) (K.written sink.new)
         (K.write_faults sink.old) (K.write_faults sink.new) result }
     ensures rest { K.write_rest sink.new ≡ K.write_rest sink.old }
 {
     match fault {
+        DocumentFault::Long => tell(sink, "refused: long\n", End::Refused),
+        DocumentFault::NotJson => tell(sink, "refused: not JSON\n", End::Refused),
+        DocumentFault::Member(_) => tell_made(sink, fault_line(alloc, fault), End::Refused),
         DocumentFault::Memory => End::NoMemory,
-        why => tell_made(sink, fault_line(alloc, why), End::Refused),
     }
 }
 
@@ -210,7 +213,7 @@ fn tell_item<K: Sink>(
     resource: &Resource,
     came: Result<OperatorAnswer, AskFault>,
 ) -> End
-    ensures told { Says (Unit {0}) (K.written sink.old) (K.written sink.new)
+    ensures told { Says (TakesMemory came) (K.written sink.old) (K.written sink.new)
         (K.write_faults sink.old) (K.write_faults sink.new) (item_line resource.now came) (item_end came) result }
     ensures rest { K.write_rest sink.new ≡ K.write_rest sink.old }
 {
@@ -267,7 +270,7 @@ fn tell_refused<K: Sink>(alloc: Global, sink: &mut K, resource: &Resource, why: 
     tell_made(sink, text, End::Refused)
 }
 
-/// Writes the refusal of this number, about the pool of this name.
+/// Writes the refusal of this number, about the pool of this name. No memory is taken where none has the number.
 fn tell_numbered<K: Sink>(
     alloc: Global,
     sink: &mut K,
@@ -275,21 +278,29 @@ fn tell_numbered<K: Sink>(
     number: u8,
     name: Text,
 ) -> End
-    ensures told { Says (Unit {0}) (K.written sink.old) (K.written sink.new)
+    ensures told { Says (IsKnown (numbered_refusal number name)) (K.written sink.old) (K.written sink.new)
         (K.write_faults sink.old) (K.write_faults sink.new)
         (line_of_refusal resource.now (numbered_refusal number name)) (end_of_refusal (numbered_refusal number name)) result }
     ensures rest { K.write_rest sink.new ≡ K.write_rest sink.old }
 {
     match numbered(number, name) {
-        Ok(Some(why)) => tell_refused(alloc, sink, resource, &why),
-        Ok(None) => tell(sink, "reply fault\n", End::ReplyFault),
-        Err(AllocError) => End::NoMemory,
+        Some(why) => tell_refused(alloc, sink, resource, &why),
+        None => tell(sink, "reply fault\n", End::ReplyFault),
     }
 }
 
-fn numbered(number: u8, name: Text) -> Result<Option<Refusal>, AllocError>
-    ensures { IfOk result (λ found. found ≡ numbered_refusal number name) }
+/// The refusal of this number.
+#[tactic(auto, unfolding(ipam_resources::specs::Printed::numbered_refusal))]
+fn numbered(number: u8, name: Text) -> Option<Refusal>
+    ensures { result ≡ numbered_refusal number name }
 {
-    let answer = Answer::Refused(number, name);
-    Refusal::of(&answer)
+    match number {
+        1 => Some(Refusal::NameTaken),
+        2 => Some(Refusal::Overlaps(name)),
+        3 => Some(Refusal::BlockSize),
+        4 => Some(Refusal::Prefix),
+        5 => Some(Refusal::TooManyPools),
+        7 => Some(Refusal::TooManyReservations),
+        _ => None,
+    }
 }

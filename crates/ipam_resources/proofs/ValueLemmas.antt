@@ -42,6 +42,9 @@ pub json_of_text : (bytes : List ℕ) → IsUtf8 bytes → json_of bytes ≡ rea
 unfolding json_of
 json_of_text bytes h = rw (is_utf8-from_IsUtf8 bytes h) refl
 
+pub text_is_utf8 : (bytes : List ℕ) → IsUtf8 bytes → is_utf8 bytes ≡ true
+text_is_utf8 bytes h = is_utf8-from_IsUtf8 bytes h
+
 pub json_of_bytes : (bytes : List ℕ) → ¬ (IsUtf8 bytes) → json_of bytes ≡ None
 unfolding json_of
 json_of_bytes bytes h = elim (cases_Bool (is_utf8 bytes)) [

@@ -1,5 +1,5 @@
 -- A document: the resources that it holds, or else its first fault.
-use Rattle.std.specs.Prelude.{ℕ, List, [], ◌∷◌, ◌++◌, length, nat_lt, Option, Some, None, is_some, option_and_then, Result, Ok, Err, if◌then◌else◌}
+use Rattle.std.specs.Prelude.{◌≡◌, ◌≤◌, ℕ, List, [], ◌∷◌, ◌++◌, length, nat_lt, true, Option, Some, None, is_some, option_and_then, Result, Ok, Err, if◌then◌else◌}
 use Rattle.std.specs.Str.{is_utf8}
 use Rattle.serde_json.specs.Data.{Data, Items, no_items, item}
 use Rattle.serde_json.specs.Find.{as_str, as_array, as_object}
@@ -70,3 +70,7 @@ object_reading (Some d) =
 unfoldable pub document_reading : List ℕ → Result (List Resource) DocumentFault
 document_reading bytes =
     if nat_lt DOCUMENT_MAX (length bytes) then Err fault.Long else object_reading (json_of bytes)
+
+-- The bytes are not too many, and a text. Those of any other document are refused at once, without memory.
+abbrev pub IsReadable : List ℕ → Type 0
+IsReadable bytes = (length bytes ≤ DOCUMENT_MAX) × (is_utf8 bytes ≡ true)

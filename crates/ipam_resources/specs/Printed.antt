@@ -1,5 +1,5 @@
 -- The lines that tell of resources.
-use Rattle.std.specs.Prelude.{ℕ, ◌==◌, List, ◌++◌, codes, Option, Some, None, if◌then◌else◌}
+use Rattle.std.specs.Prelude.{ℕ, ◌==◌, List, ◌++◌, codes, Option, Some, None, ⊤, if◌then◌else◌}
 use Rattle.ipam_model.specs.declared.answer.Answer.{Answer}
 use Rattle.ipam_model.specs.declared.answer.Answer.TheVariants as answer
 use Rattle.ipam_resources.specs.declared.fault.DocumentFault.{DocumentFault}
@@ -59,3 +59,10 @@ fault_text fault.Memory = codes "want of memory"
 
 unfoldable pub fault_line : DocumentFault → List ℕ
 fault_line why = codes "refused: " ++ (fault_text why ++ codes "\n")
+
+-- the line is the same for each document with this fault, so it takes no memory
+abbrev pub HasFixedLine : DocumentFault → Type 0
+HasFixedLine fault.Long = ⊤
+HasFixedLine fault.NotJson = ⊤
+HasFixedLine (fault.Member place) = ⊥
+HasFixedLine fault.Memory = ⊥

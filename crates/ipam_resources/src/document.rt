@@ -1,9 +1,10 @@
 ghost use Rattle.std.specs.Result.{result_map_both};
-ghost use Rattle.std.specs.Prelude.{◌≡◌, ◌≢◌, Ok, Err, IfOk, IfErr, All, Some, option_and_then, option_map};
+ghost use Rattle.std.specs.Prelude.{◌≡◌, ◌≢◌, Ok, Err, IfOk, IfErr, OnErr, All, Some, true, option_and_then, option_map};
+ghost use Rattle.std.specs.Str.{is_utf8};
 ghost use Rattle.serde_json.specs.Find.{as_array};
 ghost use Rattle.serde_json.specs.View.{view};
 ghost use Rattle.ipam_model.specs.SoundRequest.{IsSoundChange};
-ghost use Rattle.ipam_resources.specs.Documents.{bad, alone, resources_of, kind_said, json_of, object_reading, document_reading};
+ghost use Rattle.ipam_resources.specs.Documents.{IsReadable, bad, alone, resources_of, kind_said, json_of, object_reading, document_reading};
 ghost use Rattle.ipam_resources.specs.declared.member.Member.TheVariants as member_of;
 ghost use Rattle.ipam_resources.specs.Members.{found_at};
 ghost use Rattle.ipam_resources.specs.Resources.{resource_in};
@@ -21,11 +22,14 @@ use std::str;
 
 /// The resources of a document, in order: a JSON object of one resource, or of a list of them.
 /// Members that say nothing of addresses are passed over.
+///
+/// A document that is too long or no UTF-8 is refused at once, without memory.
 #[tactic(auto, using(crate::proofs::SoundChanges::document_sound))]
 pub fn read_resources(alloc: Global, document: &[u8]) -> Result<Seq<Resource>, DocumentFault>
     ensures read { IfOk result (λ resources. document_reading document.now ≡ Ok resources) }
     ensures refused { IfErr result
         (λ fault. fault ≢ DocumentFault.Memory → document_reading document.now ≡ Err fault) }
+    ensures memory { IfErr result (λ fault. fault ≡ DocumentFault.Memory → IsReadable document.now) }
     ensures sound { IfOk result (λ resources. All (λ r. IsSoundChange r.change) resources) }
 {
     match document_reading(alloc, document) {
@@ -40,8 +44,9 @@ fn document_reading(
     alloc: Global,
     document: &[u8],
 ) -> Result<Result<Vec<Resource>, DocumentFault>, AllocError>
-    ensures { IfOk result (λ found. result_map_both (λ v. v.items) (λ fault. fault) found
+    ensures read { IfOk result (λ found. result_map_both (λ v. v.items) (λ fault. fault) found
         ≡ document_reading document.now) }
+    ensures memory { OnErr result (IsReadable document.now) }
 {
     if document.len() > DOCUMENT_MAX {
         return Ok(Err(DocumentFault::Long));
@@ -53,9 +58,10 @@ fn document_reading(
 }
 
 /// The JSON that the bytes are the text of.
-#[tactic(auto, using(crate::proofs::ValueLemmas::json_of_text, crate::proofs::ValueLemmas::json_of_bytes))]
+#[tactic(auto, using(crate::proofs::ValueLemmas::json_of_text, crate::proofs::ValueLemmas::json_of_bytes, crate::proofs::ValueLemmas::text_is_utf8))]
 fn json_of(alloc: Global, document: &[u8]) -> Result<Option<Value>, AllocError>
-    ensures { IfOk result (λ o. option_map view o ≡ json_of document.now) }
+    ensures found { IfOk result (λ o. option_map view o ≡ json_of document.now) }
+    ensures memory { OnErr result (is_utf8 document.now ≡ true) }
 {
     match str::from_utf8(document) {
         Ok(text) => ipam_json::json_of(alloc, text),

@@ -12,6 +12,6 @@ returns-in-Ok-clause-ended g c = (
 
 pub returns-in-Err : goal.returns-in-Err
 returns-in-Err g c = record {
-  ended = ([], Bad c.in-Err.fault c.in-Err.ensures.refused (wire-anew _ _ _ _) c.tell_document.ensures.told);
+  ended = ([], Bad c.in-Err.fault c.in-Err.ensures.refused c.in-Err.ensures.memory (wire-anew _ _ _ _) c.tell_document.ensures.told);
   rest = c.tell_document.ensures.rest;
 }

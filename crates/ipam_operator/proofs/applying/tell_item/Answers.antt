@@ -1,5 +1,5 @@
 use Rattle.ipam_operator.specs.Telling.{Said}
-use Rattle.ipam_operator.proofs.Saying.{any_says}
+use Rattle.ipam_operator.proofs.Saying.{fault_says}
 use Rattle.ipam_operator.proofs.applying.tell_item.Goals as goal
 
 pub returns-in-Ok-Fault-clause-told : goal.returns-in-Ok-Fault-clause-told
@@ -16,4 +16,4 @@ returns-in-Ok-NoAffinity-clause-told g c =
 
 pub returns-in-Err-clause-told : goal.returns-in-Err-clause-told
 returns-in-Err-clause-told g c =
-    rw c.in-Err.is (any_says _ _ _ _ _ _ _ c.tell_fault.ensures.told)
+    rw c.in-Err.is (fault_says _ _ _ _ _ _ _ _ c.tell_fault.ensures.told)
