@@ -11,7 +11,7 @@ use Rattle.ipam_model.specs.Course.{Course, Event, Refusal, after_all, course, b
 use Rattle.ipam_model.specs.History.{Base, cluster_at}
 use Rattle.ipam_laws.proofs.CourseParts.{course-append, joined, later}
 use Rattle.ipam_cluster.specs.declared.cluster.Cluster.{Cluster}
-use Rattle.ipam_cluster.specs.Cluster.{StandsFor}
+use Rattle.ipam_cluster.specs.Cluster.{StandsFor, Stood}
 use Rattle.ipam_play.specs.declared.fault.PlayFault.{PlayFault}
 use Rattle.ipam_play.specs.Events.{ComesOf, Happens, IsCause, Keeps, Makes, Plays, Stops, onto}
 
@@ -110,6 +110,10 @@ happens_then old mid new before between after first second h k = record {
   plays = plays_then old mid new first second h.made k.made h.plays k.plays;
 }
 
+-- it still stands for some history
+pub happens_stood : (old new : Cluster) (before after : List Entry) (events : List Event) → Stood old → Happens old new before after events → Stood new
+happens_stood old new before after events (base, (history, h)) k = (base, (onto k.made history, k.plays.stands base history h))
+
 -- the event did not happen, and nothing changed
 pub one_stops : (old new : Cluster) (before after : List Entry) (event : Event) (told : PlayFault) → Keeps old new → after ≡ before → IsCause old [] event told → Stops old new before after (event ∷ []) told
 one_stops old new before after event told keeps same cause = record {
@@ -132,7 +136,12 @@ exit_stops result old new before after event told is keeps same cause =
 cause-behind : (old mid : Cluster) (made more : List Entry) (event : Event) (told : PlayFault)
     → ((base : Base) (history : List Entry) → StandsFor old base history → StandsFor mid base (onto made history))
     → IsCause mid more event told → IsCause old (made ++ more) event told
-cause-behind old mid made more event told stands (inl memory) = inl memory
+cause-behind old mid made more event told stands (inl (memory, may)) = inl (
+  memory,
+  λ base history h.
+      subst (λ (entries : List Entry). (most : List Entry) × (entries_of (cluster_at base entries) event ≡ Ok most)) (sym (onto-append made more history))
+      (may base (onto made history) (stands base history h)),
+)
 cause-behind old mid made more event told stands (inr is) = inr (record {
   refusal = is.refusal;
   is_told = is.is_told;

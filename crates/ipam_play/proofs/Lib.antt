@@ -7,3 +7,6 @@ pub mod Gatherings
 pub mod LineKinds
 pub mod Players
 pub mod Steps
+pub mod Takings
+pub mod Timings
+pub mod MayHappen

@@ -18,7 +18,7 @@ use Rattle.ipam_play.specs.declared.player.Player.{Player}
 use Rattle.ipam_play.specs.declared.player.Stage.TheVariants as stage
 use Rattle.ipam_play.specs.Events.{ComesOf, IsCause, Keeps, Stops, onto}
 use Rattle.ipam_play.specs.Played.{base_of}
-use Rattle.ipam_play.specs.Player.{HasHappened, IsBegunWith, IsCauseAtFirst, IsGathering, IsOpened, IsPlaying, IsRefusal, cluster_of, journal_of}
+use Rattle.ipam_play.specs.Player.{HasHappened, IsBegunWith, IsCauseAtFirst, IsGathering, IsOpened, IsPlaying, IsRefusal, IsWanting, cluster_of, journal_of}
 use Rattle.ipam_play.specs.Script.{Gathered, events_of}
 use Rattle.ipam_play.proofs.Happenings.{course-cons, course_from, course-nothing, onto-append}
 
@@ -64,8 +64,14 @@ module _ (old new : Player) (o n : OpenCluster) (was : old.stage ≡ stage.Playi
     cause = by comes.cause;
   }
     where
-      by : IsCause o.cluster comes.made comes.next told → (told ≡ fault.Memory) ⊎ IsRefusal (cluster_of store (past ++ journal_of new)) comes.next told
-      by (inl memory) = inl memory
+      by : IsCause o.cluster comes.made comes.next told → IsWanting (cluster_of store (past ++ journal_of new)) comes.next told ⊎ IsRefusal (cluster_of store (past ++ journal_of new)) comes.next told
+      by (inl (memory, may)) =
+          let made = may (base_of store) (onto (past ++ journal_of old) []) (stood-at old o base store past was h) in
+          inl (record {
+            is_told = memory;
+            would_make = made.0;
+            makes = subst (λ (c : model.Cluster). entries_of c comes.next ≡ Ok made.0) (behind-all store past (journal_of old) comes.made (journal_of new) comes.added) made.1;
+          })
       by (inr because) = inr (record {
         refusal = because.refusal;
         is_told = because.is_told;
@@ -154,7 +160,7 @@ module _ (base : Gathered) (store : Datastore) (o n : OpenCluster) (before after
       }
     where
       by : stops.made ≡ [] → IsCause o.cluster stops.made stops.next told → (told ≡ fault.Memory) ⊎ IsRefusal (cluster_of store []) stops.next told
-      by nothing (inl memory) = inl memory
+      by nothing (inl (memory, may)) = inl memory
       by nothing (inr because) = inr (record {
         refusal = because.refusal;
         is_told = because.is_told;

@@ -1,5 +1,5 @@
 -- What a cluster refuses is refused in each history that it stands for, and what it makes is made there.
-use Rattle.std.proofs.Common.{◌≡◌, ℕ, ◌+◌, ◌^◌, ◌<◌, ◌≤◌, List, [], ◌∷◌, refl, subst, inr}
+use Rattle.std.proofs.Common.{◌≡◌, ℕ, ◌+◌, ◌^◌, ◌<◌, ◌≤◌, List, [], ◌∷◌, refl, subst, sym, inr}
 use Rattle.std.specs.Prelude.{◌↔◌, Result, Ok, Err}
 use Rattle.ipam_model.specs.declared.entry.Entry.{Entry}
 use Rattle.ipam_model.specs.declared.entry.Fate.{Fate}
@@ -15,7 +15,7 @@ use Rattle.ipam_cluster.specs.Turns.{IsTurn}
 use Rattle.ipam_cluster.proofs.Events as cluster_events
 use Rattle.ipam_cluster.proofs.Standing.{unchanged_stands}
 use Rattle.ipam_play.specs.declared.fault.PlayFault.TheVariants as fault
-use Rattle.ipam_play.specs.Events.{IsCause, Makes}
+use Rattle.ipam_play.specs.Events.{IsToldOrMemory, Makes}
 
 pub makes : (old new : Cluster) (event : Event) (made : Entry) → event_of made ≡ event → AddsTo old new made → Makes old new event made
 makes old new event made is adds = record {
@@ -23,6 +23,9 @@ makes old new event made is adds = record {
   made_by = λ base history h. subst (λ (e : Event). entries_of (cluster_at base history) e ≡ Ok (made ∷ [])) is
       (cluster_events.made new base history made (adds base history h));
 }
+
+pub makes_known : (old new : Cluster) (event : Event) (made known : Entry) → made ≡ known → event_of known ≡ event → AddsTo old new known → Makes old new event made
+makes_known old new event made known is of adds = subst (λ (e : Entry). Makes old new event e) (sym is) (makes old new event known of adds)
 
 -- a call that was prepared, and then made
 pub turn_made : (old mid new : Cluster) (slot prepared : ℕ) (fate : Fate) (made : Entry) → prepared ≡ slot → IsUnchanged old mid → IsTurn prepared fate made → AddsTo mid new made
@@ -33,7 +36,7 @@ turn_made old mid new slot prepared fate made same unchanged is adds = record {
       (cluster_events.turn_made new base history prepared fate made is (adds base history (unchanged_stands old mid unchanged base history h)));
 }
 
-pub turn_told : (cluster : Cluster) (slot : ℕ) (fate : Fate) → (2 ^ 62 ≤ cluster.entries) × (state_in (slot_of cluster slot) ≡ state.Running) → IsCause cluster [] (Turn slot fate) fault.Worn
+pub turn_told : (cluster : Cluster) (slot : ℕ) (fate : Fate) → (2 ^ 62 ≤ cluster.entries) × (state_in (slot_of cluster slot) ≡ state.Running) → IsToldOrMemory cluster (Turn slot fate) fault.Worn
 turn_told cluster slot fate facts = inr (record {
   refusal = Worn;
   is_told = refl;
@@ -42,7 +45,7 @@ turn_told cluster slot fate facts = inr (record {
 
 pub feed_told : (cluster : Cluster) (slot at : ℕ) (live : List (List ℕ)) (result : Result Entry FeedFault)
     → ((since grace : ℕ) → (result ≡ Err (feed.TooSoon since grace)) ↔ (WaitsWith (slot_of cluster slot) (record { at = since; grace = grace }) × at < since + grace))
-    → (since grace : ℕ) → result ≡ Err (feed.TooSoon since grace) → IsCause cluster [] (Feed slot at live) fault.TooSoon
+    → (since grace : ℕ) → result ≡ Err (feed.TooSoon since grace) → IsToldOrMemory cluster (Feed slot at live) fault.TooSoon
 feed_told cluster slot at live result exactly since grace is =
     let facts = (exactly since grace).0 is in
     inr (record {

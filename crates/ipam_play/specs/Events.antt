@@ -43,9 +43,19 @@ pub record IsToldBy (cluster : Cluster) (made : List Entry) (event : Event) (tol
   pub refuses : (base : Base) (history : List Entry) → StandsFor cluster base history
       → entries_of (cluster_at base (onto made history)) event ≡ Err refusal
 
--- why an event did not happen; want of memory may come at any time
+-- after these entries the event happens, wherever the cluster stands, if there is memory for it
+abbrev pub MayMake : Cluster → List Entry → Event → Type 0
+MayMake cluster made event =
+    (base : Base) (history : List Entry) → StandsFor cluster base history
+    → (more : List Entry) × (entries_of (cluster_at base (onto made history)) event ≡ Ok more)
+
+-- why an event did not happen: it is refused, or it would happen and there was no memory for it
 abbrev pub IsCause : Cluster → List Entry → Event → PlayFault → Type 0
-IsCause cluster made event told = (told ≡ fault.Memory) ⊎ IsToldBy cluster made event told
+IsCause cluster made event told = ((told ≡ fault.Memory) × MayMake cluster made event) ⊎ IsToldBy cluster made event told
+
+-- the same of a call that takes memory, whatever it finds
+abbrev pub IsToldOrMemory : Cluster → Event → PlayFault → Type 0
+IsToldOrMemory cluster event told = (told ≡ fault.Memory) ⊎ IsToldBy cluster [] event told
 
 -- what the one stands for, the other stands for
 abbrev pub Keeps : (old new : Cluster) → Type 0

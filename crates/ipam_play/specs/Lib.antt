@@ -6,4 +6,5 @@ pub mod Output
 pub mod Gathering
 pub mod SoundLine
 pub mod Events
+pub mod Times
 pub mod Player

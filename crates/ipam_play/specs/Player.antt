@@ -6,7 +6,7 @@ use Rattle.ipam_model.specs.Cluster as model
 use Rattle.ipam_model.specs.Course.{Event, Refusal, course, entries_of}
 use Rattle.ipam_model.specs.History.{cluster_at}
 use Rattle.ipam_model.specs.Opened.{IsRefusedBy, OpensAs, Texts}
-use Rattle.ipam_cluster.specs.Cluster.{StandsFor, Stood}
+use Rattle.ipam_cluster.specs.Cluster.{StandsFor}
 use Rattle.ipam_play.specs.declared.fault.PlayFault.{PlayFault}
 use Rattle.ipam_play.specs.declared.fault.PlayFault.TheVariants as fault
 use Rattle.ipam_play.specs.declared.gathering.GatherFault.{GatherFault}
@@ -19,6 +19,7 @@ use Rattle.ipam_play.specs.declared.player.Stage.TheVariants as stage
 use Rattle.ipam_play.specs.Events.{fault_of, onto}
 use Rattle.ipam_play.specs.Gathering.{Gathers}
 use Rattle.ipam_play.specs.Played.{AreTextsOf, base_of}
+use Rattle.ipam_play.specs.Times.{StandsTimed}
 use Rattle.ipam_play.specs.Script.{Gathered, Place, OfBase, Again, Happens}
 
 -- the entries that were not forgotten
@@ -46,7 +47,7 @@ pub record IsBroken (base : Gathered) (rule : ℕ) (about : List ℕ) : Type 0 w
 -- what is opened stands for some history
 abbrev pub IsStandingStage : Stage → Type 0
 IsStandingStage (stage.Gathering gathering) = ⊤
-IsStandingStage (stage.Playing opened) = Stood opened.cluster
+IsStandingStage (stage.Playing opened) = StandsTimed opened
 
 abbrev pub IsStanding : Player → Type 0
 IsStanding player = IsStandingStage player.stage
@@ -73,13 +74,19 @@ pub record IsRefusal (cluster : model.Cluster) (event : Event) (told : PlayFault
   pub is_told : told ≡ fault_of refusal
   pub refuses : entries_of cluster event ≡ Err refusal
 
+-- there was no memory for the event, which is not refused
+pub record IsWanting (cluster : model.Cluster) (event : Event) (told : PlayFault) : Type 0 where
+  pub is_told : told ≡ fault.Memory
+  pub would_make : List Entry
+  pub makes : entries_of cluster event ≡ Ok would_make
+
 -- all of the events happened
 pub record AllHappened (old new : Player) (store : Datastore) (past : List Entry) (events : List Event) : Type 0 where
   pub made : List Entry
   pub added : journal_of new ≡ journal_of old ++ made
   pub made_by : course (cluster_of store (past ++ journal_of old)) events ≡ record { entries = made; refused = None }
 
--- those before one happened that did not: it is refused, or there was no memory for it
+-- Those before one happened that did not: it is refused, or it is not and there was no memory for it.
 pub record SomeHappened (old new : Player) (store : Datastore) (past : List Entry) (events : List Event) (told : PlayFault) : Type 0 where
   pub first : List Event
   pub next : Event
@@ -88,7 +95,7 @@ pub record SomeHappened (old new : Player) (store : Datastore) (past : List Entr
   pub made : List Entry
   pub added : journal_of new ≡ journal_of old ++ made
   pub made_by : course (cluster_of store (past ++ journal_of old)) first ≡ record { entries = made; refused = None }
-  pub cause : (told ≡ fault.Memory) ⊎ IsRefusal (cluster_of store (past ++ journal_of new)) next told
+  pub cause : IsWanting (cluster_of store (past ++ journal_of new)) next told ⊎ IsRefusal (cluster_of store (past ++ journal_of new)) next told
 
 abbrev pub HasHappened : {T : Type 0} → Result T PlayFault → (old new : Player) → Datastore → (past : List Entry) → List Event → Type 0
 HasHappened (Ok done) old new store past events = AllHappened old new store past events

@@ -1,9 +1,10 @@
 -- What the bytes of a script are read as, line by line.
-use Rattle.std.specs.Prelude.{◌≡◌, ℕ, ⊤, List, [], ◌∷◌, map, Option, Some, None, option_map, Result, Ok, Err}
+use Rattle.std.specs.Prelude.{◌≡◌, ℕ, ◌+◌, ⊤, ◌⊎◌, List, [], ◌∷◌, ◌++◌, length, map, Option, Some, None, option_map, Result, Ok, Err}
 use Rattle.std.specs.Io.KnownBytes.{prepend_known}
 use Rattle.std.specs.List.{slice_split}
+use Rattle.ipam_lines.specs.Feeds.{HasNoFeed}
 use Rattle.ipam_script.specs.declared.line.Line.{Line}
-use Rattle.ipam_script.specs.Lines.{ScriptLine, Whole, Long as LongLine, is_line_end, lines_of, placed, without_empty_end}
+use Rattle.ipam_script.specs.Lines.{ScriptLine, Whole, Long as LongLine, is_line_end, lines_of, placed, told, without_empty_end}
 use Rattle.ipam_script.specs.Reading.{line_reading}
 use Rattle.ipam_play.specs.declared.refusal.LineRefusal.{LineRefusal}
 use Rattle.ipam_play.specs.declared.refusal.LineRefusal.TheVariants.{Long, Unreadable}
@@ -95,3 +96,51 @@ OnEnd (Ok (next.Last line)) p = p
 OnEnd (Ok (next.Refused why)) p = ⊤
 OnEnd (Ok next.End) p = p
 OnEnd (Err fault) p = ⊤
+
+-- ---- what was taken of the bytes to come
+
+-- the bytes of this line and its line end were taken
+pub record TakesLine (line : Line) (old new : ScriptLines) (was left : Option (List ℕ)) : Type 0 where
+  pub bytes : List ℕ
+  pub no_feed : HasNoFeed bytes
+  pub is_line : reading_of (told old.before.bytes bytes) ≡ Ok line
+  pub behind : new.before.bytes ≡ old.before.bytes + length bytes + 1
+  pub taken : prepend_known old.lines was ≡ prepend_known (bytes ++ 10 ∷ new.lines) left
+
+-- nothing was taken, and what is held is a part of a line
+pub record TakesNone (old new : ScriptLines) (was left : Option (List ℕ)) : Type 0 where
+  pub no_feed : HasNoFeed new.lines
+  pub taken : prepend_known old.lines was ≡ prepend_known new.lines left
+
+-- nothing, or lines that each have their line end
+abbrev pub AreWholeLines : List ℕ → Type 0
+AreWholeLines bytes = (bytes ≡ []) ⊎ ((front : List ℕ) × (bytes ≡ front ++ 10 ∷ []))
+
+-- These lines were read whole, and after them a part of a line or nothing.
+pub record AreReadWhole (lines : List ℕ) (was left : Option (List ℕ)) : Type 0 where
+  pub are_whole : AreWholeLines lines
+  pub part : List ℕ
+  pub no_feed : HasNoFeed part
+  pub read : was ≡ prepend_known (lines ++ part) left
+
+-- the bytes end, or a line ends before them
+abbrev pub IsLineEnd : List ℕ → Type 0
+IsLineEnd rest = (rest ≡ []) ⊎ ((more : List ℕ) × (rest ≡ 10 ∷ more))
+
+-- A line is wanted. As far as its bytes were read, it is not too long.
+pub record WantsLine (old : ScriptLines) (was left : Option (List ℕ)) : Type 0 where
+  pub bytes : List ℕ
+  pub rest : List ℕ
+  pub no_feed : HasNoFeed bytes
+  pub is_rest : IsLineEnd rest
+  pub not_long : told old.before.bytes bytes ≡ Whole bytes
+  pub taken : prepend_known old.lines was ≡ prepend_known (bytes ++ rest) left
+
+-- what an answer takes of the bytes to come
+abbrev pub Takes : Answer → (old new : ScriptLines) → (was left : Option (List ℕ)) → Type 0
+Takes (Ok (next.Line line)) old new was left = TakesLine line old new was left
+Takes (Ok (next.Last line)) old new was left = ⊤
+Takes (Ok (next.Refused why)) old new was left = ⊤
+Takes (Ok next.End) old new was left = ⊤
+Takes (Err Read) old new was left = TakesNone old new was left
+Takes (Err Memory) old new was left = WantsLine old was left

@@ -1,10 +1,11 @@
 //! The lines of a script, read of a source one after another.
-ghost use Rattle.std.specs.Prelude.{◌≡◌, ◌+◌, ◌<◌, ◌≤◌, [], length, IfOk, IfErr};
+ghost use Rattle.std.specs.Prelude.{◌≡◌, ◌+◌, ◌++◌, ◌<◌, ◌≤◌, [], List, ℕ, true, length, slice_index, take, IfOk, IfErr, IfNone, IfSome, OnErr, OnOk};
 ghost use Rattle.ipam_io.specs.Counts.{Rose};
-ghost use Rattle.ipam_script.specs.Lines.{told};
+ghost use Rattle.ipam_lines.specs.Feeds.{HasNoFeed};
+ghost use Rattle.ipam_script.specs.Lines.{Whole, is_long, told};
 ghost use Rattle.ipam_script.specs.declared.limits.TheConstants.{MOST_SCRIPT_BYTES};
 ghost use Rattle.std.specs.Io.KnownBytes.{IsAtEnd};
-ghost use Rattle.ipam_play.specs.Readings.{reading_of, coming, IfLine, IsNextOf, IsTold, IsLastTold, OnEnd, OnLine, UnlessRead};
+ghost use Rattle.ipam_play.specs.Readings.{reading_of, coming, IfLine, IsLineEnd, IsNextOf, IsTold, IsLastTold, OnEnd, OnLine, Takes, UnlessRead};
 ghost use Rattle.ipam_play.specs.SoundLine.{IsSoundLine};
 
 use crate::offset::Offset;
@@ -61,8 +62,11 @@ impl ScriptLines {
 
     /// The next line, or that the script ended. A line that is refused, and a fault, end the reading:
     /// nothing is said of what comes after them.
+    ///
+    /// There is no memory only for a line that, as far as its bytes were read, is not too long.
     pub fn next<S: Source>(&mut self, alloc: Global, source: &mut S) -> Result<Next, ScriptFault>
         ensures next { IsNextOf result (coming self.old (S.left source.old)) (coming self.new (S.left source.new)) }
+        ensures takes { Takes result self.old self.new (S.left source.old) (S.left source.new) }
         ensures sound { IfLine result IsSoundLine }
         ensures end { OnEnd result (IsAtEnd (S.left source.new)) }
         ensures onward { OnLine result (self.old.before.bytes < self.new.before.bytes) }
@@ -80,8 +84,23 @@ impl ScriptLines {
             Ok(Got::End) => Ok(Next::End),
             Err(LinesFault::TooLong) => Ok(Next::Refused(LineRefusal::Long)),
             Err(LinesFault::Read) => Err(ScriptFault::Read),
-            Err(LinesFault::Memory) => Err(ScriptFault::Memory),
+            Err(LinesFault::Memory) => self.wanting(),
         }
+    }
+
+    /// There was no memory for the next line. It is refused where the bytes of it that are held are too
+    /// many already.
+    fn wanting(&self) -> Result<Next, ScriptFault>
+        ensures refused { IfOk result (λ n. n ≡ Next.Refused LineRefusal.Long) }
+        ensures fault { IfErr result (λ e. e ≡ ScriptFault.Memory) }
+        ensures cut { (bytes rest : List ℕ) × (self.now.lines ≡ bytes ++ rest) × IsLineEnd rest × HasNoFeed bytes
+            × OnOk result (is_long self.now.before.bytes bytes ≡ true)
+            × OnErr result (told self.now.before.bytes bytes ≡ Whole bytes) }
+    {
+        if is_long(self.before, line_part(self.lines.held())) {
+            return Ok(Next::Refused(LineRefusal::Long));
+        }
+        Err(ScriptFault::Memory)
     }
 
     /// What the line of these bytes asks.
@@ -92,6 +111,7 @@ impl ScriptLines {
         ensures lines { self.new.lines ≡ self.old.lines }
         ensures before { OnLine result (self.new.before.bytes ≡ self.old.before.bytes + length bytes.now + 1) }
         ensures within { OnLine result (self.new.before.bytes ≤ 67108865) }
+        ensures not_long { OnErr result (told self.old.before.bytes bytes.now ≡ Whole bytes.now) }
     {
         match asked(alloc, self.before, bytes) {
             Ok(Ok(line)) => {
@@ -108,6 +128,7 @@ impl ScriptLines {
         requires { length self.now.lines < LINE_LIMIT }
         ensures told { IsLastTold result (reading_of (told self.now.before.bytes self.now.lines)) }
         ensures sound { IfLine result IsSoundLine }
+        ensures not_long { OnErr result (told self.now.before.bytes self.now.lines ≡ Whole self.now.lines) }
     {
         match asked(alloc, self.before, self.lines.held()) {
             Ok(Ok(line)) => Ok(Next::Last(line)),
@@ -128,6 +149,7 @@ fn asked(
     ensures reading { IfOk result (λ r. r ≡ reading_of (told before.bytes bytes.now)) }
     ensures sound { IfOk result (λ r. IfOk r IsSoundLine) }
     ensures in_time { IfOk result (λ r. IfOk r (λ line. before.bytes + length bytes.now ≤ MOST_SCRIPT_BYTES)) }
+    ensures not_long { OnErr result (told before.bytes bytes.now ≡ Whole bytes.now) }
 {
     if bytes.is_empty() {
         return Ok(Err(LineRefusal::Unreadable));
@@ -140,4 +162,35 @@ fn asked(
         Err(LineFault::Unreadable) => Ok(Err(LineRefusal::Unreadable)),
         Err(LineFault::Memory) => Err(AllocError),
     }
+}
+
+/// Whether a line that has these bytes, before which so many stand in the script, is too long.
+fn is_long(before: Offset, bytes: &[u8]) -> bool
+    ensures { result ≡ is_long before.bytes bytes.now }
+{
+    if bytes.len() > MOST_LINE_BYTES {
+        return true;
+    }
+    !bytes.is_empty() && before.bytes + bytes.len() as u64 > MOST_SCRIPT_BYTES
+}
+
+/// The bytes before the first line end, or all of them.
+fn line_part(bytes: &[u8]) -> &[u8]
+    ensures no_feed { HasNoFeed result.now }
+    ensures cut { (rest : List ℕ) × (bytes.now ≡ result.now ++ rest) × IsLineEnd rest }
+{
+    match first_end(bytes) {
+        Some(place) => &bytes[..place],
+        None => bytes,
+    }
+}
+
+/// The place of the first line end.
+fn first_end(bytes: &[u8]) -> Option<usize>
+    ensures within { IfSome result (λ place. place < length bytes.now) }
+    ensures found { IfSome result (λ place. slice_index bytes.now place ≡ 10) }
+    ensures before { IfSome result (λ place. HasNoFeed (take place bytes.now)) }
+    ensures none { IfNone result (HasNoFeed bytes.now) }
+{
+    bytes.iter().position(|byte| *byte == b'\n')
 }

@@ -7,7 +7,8 @@ ghost use Rattle.ipam_play.specs.SoundLine.{IsSoundLine};
 ghost use Rattle.ipam_play.specs.Gathering.{Gathers};
 ghost use Rattle.ipam_play.specs.Played.{base_of};
 ghost use Rattle.ipam_play.specs.Player.{IsOpened, IsNotOpened, IsBegunWith, IsCauseAtFirst, told_of};
-ghost use Rattle.ipam_cluster.specs.Cluster.{StandsFor, Stood};
+ghost use Rattle.ipam_cluster.specs.Cluster.{StandsFor};
+ghost use Rattle.ipam_play.specs.Times.{StandsTimed};
 ghost use Rattle.ipam_model.specs.Course.{Event};
 
 use crate::cluster::OpenCluster;
@@ -53,6 +54,9 @@ impl Player {
     ///
     /// Where a `Turn` does not make all of its calls, those that it made stay. On any other `Err`
     /// nothing changes.
+    ///
+    /// Once the base is open there is no memory only for an event that is not refused: a slot that is busy,
+    /// idle or waits, a second list that is too soon, and too many entries are told without memory.
     pub fn step(&mut self, alloc: Global, line: &Line) -> Result<(), PlayFault>
         requires sound { IsSoundLine line.now }
         requires standing { IsStanding self.old }
@@ -123,7 +127,7 @@ fn opened(alloc: Global, gathering: &Gathering) -> Result<OpenCluster, PlayFault
         × IsOpened base store × StandsFor opened.cluster (base_of store) []) }
     ensures fault { (base : Gathered) → Gathers gathering.now base → IfErr result (λ told.
         (told ≡ PlayFault.Memory) ⊎ IsNotOpened base told) }
-    ensures stood { IfOk result (λ opened. Stood opened.cluster) }
+    ensures standing { IfOk result StandsTimed }
 {
     let Ok(base) = gathering.base(alloc) else {
         return Err(PlayFault::Memory);
@@ -147,7 +151,7 @@ fn first_line(
         → IfOk result (λ opened. IsBegunWith opened journal.old.items journal.new.items base events) }
     ensures cause { (base : Gathered) (events : List Event) → Gathers gathering.now base → events_of line.now ≡ Some events
         → IfErr result (IsCauseAtFirst base events) }
-    ensures stood { IfOk result (λ opened. Stood opened.cluster) }
+    ensures standing { IfOk result StandsTimed }
     ensures kept { (base : Gathered) → Gathers gathering.now base → OnErr result (journal.new.items ≡ journal.old.items) }
 {
     let mut cluster = opened(alloc, gathering)?;

@@ -6,10 +6,10 @@ ghost use Rattle.ipam_records.specs.Sound.{IsHandleId};
 ghost use Rattle.ipam_model.specs.Course as event;
 ghost use Rattle.ipam_model.specs.SoundRequest.{IsSoundRequest};
 ghost use Rattle.ipam_model.specs.declared.entry.Fate.TheVariants.{Well};
-ghost use Rattle.ipam_cluster.specs.Cluster.{Stood};
 ghost use Rattle.ipam_play.specs.Script.{events_of};
 ghost use Rattle.ipam_play.specs.SoundLine.{IsSoundLine};
 ghost use Rattle.ipam_play.specs.Events.{ComesOf, Keeps};
+ghost use Rattle.ipam_play.specs.Times.{IsTimed, StandsTimed};
 
 use crate::cluster::OpenCluster;
 use crate::fault::PlayFault;
@@ -26,7 +26,8 @@ pub(crate) fn play_line(
     line: &Line,
 ) -> Result<(), PlayFault>
     requires sound { IsSoundLine line.now }
-    requires stood { Stood cluster.old.cluster }
+    requires standing { StandsTimed cluster.old }
+    ensures timed { IsTimed cluster.new }
     ensures events { IfSome (events_of line.now)
         (ComesOf result cluster.old.cluster cluster.new.cluster journal.old.items journal.new.items) }
     ensures of_base { events_of line.now ≡ None → result ≡ Err PlayFault.Base }
@@ -54,9 +55,12 @@ fn begin(
 ) -> Result<(), PlayFault>
     requires slot { slot < SLOTS }
     requires sound { IsSoundRequest request.now }
-    ensures { ComesOf result cluster.old.cluster cluster.new.cluster journal.old.items journal.new.items
+    requires standing { StandsTimed cluster.old }
+    ensures comes { ComesOf result cluster.old.cluster cluster.new.cluster journal.old.items journal.new.items
         (event.Begin slot request.now ∷ []) }
+    ensures timed { IsTimed cluster.new }
 {
+    cluster.may_begin(slot)?;
     make_room(journal, 1)?;
     let entry = cluster.begin(alloc, slot, request)?;
     note(journal, entry);
@@ -71,10 +75,12 @@ fn turn(
     fate: Fate,
 ) -> Result<(), PlayFault>
     requires slot { slot < SLOTS }
-    requires stood { Stood cluster.old.cluster }
-    ensures { ComesOf result cluster.old.cluster cluster.new.cluster journal.old.items journal.new.items
+    requires standing { StandsTimed cluster.old }
+    ensures comes { ComesOf result cluster.old.cluster cluster.new.cluster journal.old.items journal.new.items
         (event.Turn slot fate ∷ []) }
+    ensures timed { IsTimed cluster.new }
 {
+    cluster.may_turn(slot)?;
     make_room(journal, 1)?;
     let entry = cluster.turn(alloc, slot, fate)?;
     note(journal, entry);
@@ -90,9 +96,10 @@ fn turns(
     count: u32,
 ) -> Result<(), PlayFault>
     requires slot { slot < SLOTS }
-    requires stood { Stood cluster.old.cluster }
-    ensures { ComesOf result cluster.old.cluster cluster.new.cluster journal.old.items journal.new.items
+    requires standing { StandsTimed cluster.old }
+    ensures comes { ComesOf result cluster.old.cluster cluster.new.cluster journal.old.items journal.new.items
         (replicate count (event.Turn slot Well)) }
+    ensures timed { IsTimed cluster.new }
 {
     for done in 0..count {
         turn(alloc, cluster, journal, slot, Fate::Well)?;
@@ -110,9 +117,12 @@ fn feed(
 ) -> Result<(), PlayFault>
     requires slot { slot < SLOTS }
     requires sound { All IsHandleId live.now }
-    ensures { ComesOf result cluster.old.cluster cluster.new.cluster journal.old.items journal.new.items
+    requires standing { StandsTimed cluster.old }
+    ensures comes { ComesOf result cluster.old.cluster cluster.new.cluster journal.old.items journal.new.items
         (event.Feed slot at live.now ∷ []) }
+    ensures timed { IsTimed cluster.new }
 {
+    cluster.may_feed(slot, at)?;
     make_room(journal, 1)?;
     let entry = cluster.feed(alloc, slot, at, live)?;
     note(journal, entry);
@@ -120,10 +130,13 @@ fn feed(
 }
 
 fn stop(cluster: &mut OpenCluster, journal: &mut Vec<Entry>, slot: u8) -> Result<(), PlayFault>
-    requires { slot < SLOTS }
-    ensures { ComesOf result cluster.old.cluster cluster.new.cluster journal.old.items journal.new.items
+    requires slot { slot < SLOTS }
+    requires timed { IsTimed cluster.old }
+    ensures comes { ComesOf result cluster.old.cluster cluster.new.cluster journal.old.items journal.new.items
         (event.Stop slot ∷ []) }
+    ensures timed { IsTimed cluster.new }
 {
+    cluster.may_stop(slot)?;
     make_room(journal, 1)?;
     let entry = cluster.stop(slot)?;
     note(journal, entry);
@@ -133,8 +146,10 @@ fn stop(cluster: &mut OpenCluster, journal: &mut Vec<Entry>, slot: u8) -> Result
 /// Stops whatever runs, slot by slot. The rows are not read again: what would be opened of them is
 /// what is there.
 fn restart(cluster: &mut OpenCluster, journal: &mut Vec<Entry>) -> Result<(), PlayFault>
-    ensures { ComesOf result cluster.old.cluster cluster.new.cluster journal.old.items journal.new.items
+    requires { IsTimed cluster.old }
+    ensures comes { ComesOf result cluster.old.cluster cluster.new.cluster journal.old.items journal.new.items
         (event.Restart ∷ []) }
+    ensures timed { IsTimed cluster.new }
 {
     make_room(journal, SLOTS)?;
     for slot in 0..SLOTS {

@@ -24,5 +24,6 @@ returns-clause-begun c = λ base events h is.
     rw c.in_ok-play_line.was at (first_begins base store c.in_ok-cluster.cluster c.play_line.new.cluster _ _ opened stands c.play_line.result events
     (comes_of _ _ _ _ _ c.args.line.now events is c.play_line.ensures.events))
 
-pub returns-clause-stood : goal.returns-clause-stood
-returns-clause-stood c = still_stood c.play_line.result _ _ _ _ _ c.play_line.ensures.events c.play_line.ensures.kept c.in_ok-cluster.ensures.stood
+pub returns-clause-standing : goal.returns-clause-standing
+returns-clause-standing c =
+    (still_stood c.play_line.result _ _ _ _ _ c.play_line.ensures.events c.play_line.ensures.kept c.in_ok-cluster.ensures.standing.0, c.play_line.ensures.timed)

@@ -1,4 +1,7 @@
-use Rattle.std.proofs.Common.{rules}
+use Rattle.std.proofs.Common.{refl, rules}
+use Rattle.ipam_model.specs.declared.entry.Entry.TheVariants as entry
+use Rattle.ipam_play.specs.declared.cluster.OpenCluster.{OpenCluster}
+use Rattle.ipam_play.proofs.Timings.{begins_none, timed_on, timed_unchanged}
 use Rattle.ipam_play.proofs.Refusing.{feed_told, makes}
 use Rattle.ipam_play.proofs.cluster.OpenCluster.feed.Goals as goal
 
@@ -8,3 +11,28 @@ returns-in-Ok-clause-made c = makes _ _ _ _ (search rules) (search rules)
 pub returns-in-Err-TooSoon-clause-refused : goal.returns-in-Err-TooSoon-clause-refused
 returns-in-Err-TooSoon-clause-refused c =
     feed_told _ _ _ _ c.feed.result c.feed.ensures.too_soon c.in-Err-TooSoon.field-0-0 c.in-Err-TooSoon.field-0-1 (rw c.in-Err-TooSoon.field-0-is at c.in-Err-TooSoon.is)
+
+pub returns-in-Ok-clause-timed : goal.returns-in-Ok-clause-timed
+returns-in-Ok-clause-timed c =
+    let new : OpenCluster = record { cluster = c.feed.new.self; at = c.args.self.now.at; grace = c.args.self.now.grace } in
+    timed_on c.args.self.now new c.in-Ok.entry c.requires.standing c.in-Ok.ensures.adds (begins_none c.in-Ok.entry (entry.Fed c.args.slot c.args.at c.args.live.now) c.in-Ok.ensures.entry tt) refl refl
+
+pub returns-in-Err-NotWaiting-clause-timed : goal.returns-in-Err-NotWaiting-clause-timed
+returns-in-Err-NotWaiting-clause-timed c =
+    let new : OpenCluster = record { cluster = c.feed.new.self; at = c.args.self.now.at; grace = c.args.self.now.grace } in
+    timed_unchanged c.args.self.now new c.requires.standing.1 c.in-Err-NotWaiting.ensures.unchanged refl refl
+
+pub returns-in-Err-TooSoon-clause-timed : goal.returns-in-Err-TooSoon-clause-timed
+returns-in-Err-TooSoon-clause-timed c =
+    let new : OpenCluster = record { cluster = c.feed.new.self; at = c.args.self.now.at; grace = c.args.self.now.grace } in
+    timed_unchanged c.args.self.now new c.requires.standing.1 c.in-Err-TooSoon.ensures.unchanged refl refl
+
+pub returns-in-Err-Worn-clause-timed : goal.returns-in-Err-Worn-clause-timed
+returns-in-Err-Worn-clause-timed c =
+    let new : OpenCluster = record { cluster = c.feed.new.self; at = c.args.self.now.at; grace = c.args.self.now.grace } in
+    timed_unchanged c.args.self.now new c.requires.standing.1 c.in-Err-Worn.ensures.unchanged refl refl
+
+pub returns-in-Err-Memory-clause-timed : goal.returns-in-Err-Memory-clause-timed
+returns-in-Err-Memory-clause-timed c =
+    let new : OpenCluster = record { cluster = c.feed.new.self; at = c.args.self.now.at; grace = c.args.self.now.grace } in
+    timed_unchanged c.args.self.now new c.requires.standing.1 c.in-Err-Memory.ensures.unchanged refl refl

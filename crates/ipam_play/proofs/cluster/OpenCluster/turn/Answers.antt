@@ -1,4 +1,8 @@
-use Rattle.std.proofs.Common.{rules}
+use Rattle.std.proofs.Common.{refl, rules}
+use Rattle.ipam_model.specs.declared.entry.Entry.TheVariants as entry
+use Rattle.ipam_cluster.proofs.Standing.{unchanged_stood}
+use Rattle.ipam_play.specs.declared.cluster.OpenCluster.{OpenCluster}
+use Rattle.ipam_play.proofs.Timings.{begins_none, timed_on, timed_unchanged}
 use Rattle.ipam_play.proofs.Refusing.{turn_made, turn_told}
 use Rattle.ipam_play.proofs.cluster.OpenCluster.turn.Goals as goal
 
@@ -7,3 +11,32 @@ returns-in-Ok-clause-made c = turn_made _ c.prepare.new.self _ _ c.in-Ok.prepare
 
 pub returns-in-Err-Worn-clause-refused : goal.returns-in-Err-Worn-clause-refused
 returns-in-Err-Worn-clause-refused c = turn_told _ _ _ (c.prepare.ensures.worn.0 (search rules))
+
+pub returns-in-Ok-clause-timed : goal.returns-in-Ok-clause-timed
+returns-in-Ok-clause-timed c =
+    let mid : OpenCluster = record { cluster = c.prepare.new.self; at = c.args.self.now.at; grace = c.args.self.now.grace } in
+    let new : OpenCluster = record { cluster = c.commit.new.self; at = c.args.self.now.at; grace = c.args.self.now.grace } in
+    let stood = unchanged_stood c.args.self.now.cluster c.prepare.new.self c.prepare.ensures.unchanged c.requires.standing.0 in
+    let timed = timed_unchanged c.args.self.now mid c.requires.standing.1 c.prepare.ensures.unchanged refl refl in
+    let told = c.commit.ensures.entry in
+    timed_on mid new c.commit.result (stood, timed) c.commit.ensures.adds (begins_none c.commit.result (entry.Called told.told) told.is_called tt) refl refl
+
+pub returns-in-Err-SlotIdle-clause-timed : goal.returns-in-Err-SlotIdle-clause-timed
+returns-in-Err-SlotIdle-clause-timed c =
+    let new : OpenCluster = record { cluster = c.prepare.new.self; at = c.args.self.now.at; grace = c.args.self.now.grace } in
+    timed_unchanged c.args.self.now new c.requires.standing.1 c.prepare.ensures.unchanged refl refl
+
+pub returns-in-Err-Waiting-clause-timed : goal.returns-in-Err-Waiting-clause-timed
+returns-in-Err-Waiting-clause-timed c =
+    let new : OpenCluster = record { cluster = c.prepare.new.self; at = c.args.self.now.at; grace = c.args.self.now.grace } in
+    timed_unchanged c.args.self.now new c.requires.standing.1 c.prepare.ensures.unchanged refl refl
+
+pub returns-in-Err-Worn-clause-timed : goal.returns-in-Err-Worn-clause-timed
+returns-in-Err-Worn-clause-timed c =
+    let new : OpenCluster = record { cluster = c.prepare.new.self; at = c.args.self.now.at; grace = c.args.self.now.grace } in
+    timed_unchanged c.args.self.now new c.requires.standing.1 c.prepare.ensures.unchanged refl refl
+
+pub returns-in-Err-Memory-clause-timed : goal.returns-in-Err-Memory-clause-timed
+returns-in-Err-Memory-clause-timed c =
+    let new : OpenCluster = record { cluster = c.prepare.new.self; at = c.args.self.now.at; grace = c.args.self.now.grace } in
+    timed_unchanged c.args.self.now new c.requires.standing.1 c.prepare.ensures.unchanged refl refl

@@ -1,9 +1,11 @@
-use Rattle.std.proofs.Common.{rules, ◌≡◌, ◌≢◌, ◌+◌, ◌∙◌, [], ◌++◌, ◌∷◌, length, List, ℕ, sym, ap, subst}
+use Rattle.std.proofs.Common.{◌≡◌, ◌≢◌, ◌+◌, [], ◌++◌, ◌∷◌, length, List, ℕ, subst}
 use Rattle.std.specs.Io.KnownBytes.{prepend_known, IsAtEnd}
-use Rattle.ipam_lines.specs.Feeds.{HasNoFeed, IsLine, IsTooLong}
+use Rattle.ipam_lines.specs.Feeds.{IsLine, IsTooLong}
 use Rattle.ipam_script.specs.Lines.{told}
+use Rattle.std.specs.Prelude.{OnErr}
+use Rattle.ipam_script.specs.Lines.{Whole}
 use Rattle.ipam_play.specs.Readings.{reading_of, IsTold, OnLine}
-use Rattle.ipam_play.proofs.ReadingLemmas.{line_comes, last_comes, end_comes, long_comes}
+use Rattle.ipam_play.proofs.ReadingLemmas.{line_comes, last_comes, end_comes, long_comes, takes_last, takes_line, wanting_comes, wanting_takes}
 use Rattle.ipam_play.proofs.lines.ScriptLines.next.Goals as goal
 
 pub returns-in-Ok-Line-clause-next : goal.returns-in-Ok-Line-clause-next
@@ -36,3 +38,34 @@ returns-in-Err-TooLong-clause-next g c =
     ≡ prepend_known c.next.new.self (g.S.Source.left c.next.new.source) = c.in-Err-TooLong.ensures.bytes in
     let long : IsTooLong 1048577 c.next.new.self = rw c.in-Err-TooLong.field-0-is at c.in-Err-TooLong.ensures.too_long in
     long_comes c.args.self.now.before.bytes _ (g.S.Source.left c.next.new.source) c.next.new.self same long
+
+pub returns-in-Ok-Line-clause-takes : goal.returns-in-Ok-Line-clause-takes
+returns-in-Ok-Line-clause-takes g c =
+    let asks = subst (λ (b : List ℕ). IsTold c.line.result (reading_of (told c.args.self.now.before.bytes b))) c.deref.ensures.value c.line.ensures.told in
+    let at : OnLine c.line.result (c.line.new.self.before.bytes ≡ c.args.self.now.before.bytes + length c.in-Ok-Line.bytes.items + 1) =
+    rw c.deref.ensures.value at c.line.ensures.before in
+    let short = subst (λ (b : List ℕ). OnErr c.line.result (told c.args.self.now.before.bytes b ≡ Whole b)) c.deref.ensures.value c.line.ensures.not_long in
+    let same : prepend_known c.args.self.now.lines (g.S.Source.left c.args.source.now)
+    ≡ prepend_known ((c.in-Ok-Line.bytes.items ++ 10 ∷ []) ++ c.next.new.self) (g.S.Source.left c.next.new.source) = rw c.in-Ok-Line.field-0-is at c.in-Ok-Line.ensures.bytes in
+    let line : IsLine 1048577 c.in-Ok-Line.bytes.items = rw c.in-Ok-Line.field-0-is at c.in-Ok-Line.ensures.line in
+    takes_line c.line.result c.args.self.now c.line.new.self (g.S.Source.left c.args.source.now) (g.S.Source.left c.next.new.source) c.in-Ok-Line.bytes.items c.next.new.self line.0 asks at short c.line.ensures.lines same
+
+pub returns-in-Ok-Cut-clause-takes : goal.returns-in-Ok-Cut-clause-takes
+returns-in-Ok-Cut-clause-takes g c =
+    let same : prepend_known c.args.self.now.lines (g.S.Source.left c.args.source.now)
+    ≡ prepend_known c.next.new.self (g.S.Source.left c.next.new.source) = rw c.in-Ok-Cut.field-0-is at c.in-Ok-Cut.ensures.bytes in
+    let cut : IsLine 1048577 c.next.new.self × (c.next.new.self ≢ []) × IsAtEnd (g.S.Source.left c.next.new.source) = rw c.in-Ok-Cut.field-0-is at c.in-Ok-Cut.ensures.cut in
+    takes_last c.last.result c.args.self.now _ (g.S.Source.left c.args.source.now) (g.S.Source.left c.next.new.source) c.next.new.self cut.0.0 c.last.ensures.told c.last.ensures.not_long same
+
+pub returns-in-Err-Read-clause-takes : goal.returns-in-Err-Read-clause-takes
+returns-in-Err-Read-clause-takes g c =
+    let none : IsLine 1048577 c.next.new.self = rw c.in-Err-Read.field-0-is at c.in-Err-Read.ensures.read_fault in
+    record { no_feed = none.0; taken = c.in-Err-Read.ensures.bytes }
+
+pub returns-in-Err-Memory-clause-next : goal.returns-in-Err-Memory-clause-next
+returns-in-Err-Memory-clause-next g c =
+    wanting_comes c.wanting.result c.args.self.now.before.bytes _ (g.S.Source.left c.next.new.source) c.next.new.self c.in-Err-Memory.ensures.bytes c.wanting.ensures.cut c.wanting.ensures.refused
+
+pub returns-in-Err-Memory-clause-takes : goal.returns-in-Err-Memory-clause-takes
+returns-in-Err-Memory-clause-takes g c =
+    wanting_takes c.wanting.result c.args.self.now _ (g.S.Source.left c.args.source.now) (g.S.Source.left c.next.new.source) c.next.new.self c.in-Err-Memory.ensures.bytes c.wanting.ensures.cut c.wanting.ensures.refused c.wanting.ensures.fault

@@ -1,6 +1,7 @@
 use Rattle.std.proofs.Common.{refl, sym, subst}
 use Rattle.std.proofs.lemmas.Result.{err_from_is_err_and}
 use Rattle.ipam_play.specs.Player.{IsStandingStage}
+use Rattle.ipam_play.specs.Times.{StandsTimed}
 use Rattle.ipam_play.proofs.LineKinds.{some_events}
 use Rattle.ipam_play.proofs.Steps.{counter_line, line_begins, line_plays, line_refused, line_stays, never_both, row_line, still_stood}
 use Rattle.ipam_play.proofs.player.Player.step.Goals as goal
@@ -31,7 +32,7 @@ pub returns-in_ok-cluster-in_default : goal.returns-in_ok-cluster-in_default
 returns-in_ok-cluster-in_default c =
     let (events, is) = some_events c.args.line.now c.in_default.not-Row c.in_default.not-Counter in
     record {
-      standing = c.in_ok-cluster-in_default.ensures.stood;
+      standing = c.in_ok-cluster-in_default.ensures.standing;
       gathered = line_begins c.args.self.now _ c.in-Gathering.gathering c.in_ok-cluster-in_default.cluster c.in-Gathering.is refl c.args.line.now events is
           c.in_ok-cluster-in_default.ensures.begun;
       played = λ base store past h. absurd (never_both c.args.self.now c.in-Gathering.gathering base store past c.in-Gathering.is h);
@@ -40,7 +41,8 @@ returns-in_ok-cluster-in_default c =
 
 pub returns-in-Playing-clause-standing : goal.returns-in-Playing-clause-standing
 returns-in-Playing-clause-standing c =
-    still_stood c.play_line.result _ _ _ _ _ c.play_line.ensures.events c.play_line.ensures.kept (subst IsStandingStage c.in-Playing.is c.requires.standing)
+    let was : StandsTimed c.in-Playing.cluster = subst IsStandingStage c.in-Playing.is c.requires.standing in
+    (still_stood c.play_line.result _ _ _ _ _ c.play_line.ensures.events c.play_line.ensures.kept was.0, c.play_line.ensures.timed)
 
 pub returns-in-Playing-clause-played : goal.returns-in-Playing-clause-played
 returns-in-Playing-clause-played c =
