@@ -21,8 +21,8 @@ use Rattle.ipam_play_run.specs.declared.game.Game.{Game}
 use Rattle.ipam_play_run.specs.declared.halt.Halt.{Halt}
 use Rattle.ipam_play_run.specs.declared.halt.Halt.TheVariants as halt
 use Rattle.ipam_play_run.specs.Halting.{CountsWrites, IsHalted, IsOn, halt_of, held_by}
-use Rattle.ipam_play_run.specs.Writing.{CountsEnd, HasWritten, IsFront, IsRefusedBase, IsRefusedLine, IsWhole, Wrote, WritesFront, ended_so, read_fault_text}
-use Rattle.ipam_play_run.proofs.Endings.{front_stays, played_front, writes_all, writes_fault, writes_fault_part, writes_part}
+use Rattle.ipam_play_run.specs.Writing.{CountsEnd, HasWritten, IsFront, IsRefusedBase, IsRefusedLine, IsSoFar, IsWhole, Opened, Unopened, Wrote, WritesFront, WroteSoFar, ended_so, read_fault_text}
+use Rattle.ipam_play_run.proofs.Endings.{all-lines, front_stays, played_front, writes_all, writes_fault, writes_fault_part, writes_part}
 use Rattle.ipam_play_run.proofs.Games.{follows_front}
 use Rattle.ipam_play_run.proofs.Outcomes.{follows_end, played_stopped}
 
@@ -80,6 +80,34 @@ fault_ends (Ok done) script first now after game number more on wrote part =
 fault_ends (Err e) script first now after game number more on wrote part =
     let s = on_stands script first now game number more on in
     writes_fault_part script first now after (held_by game) s.past s.wrote s.is_front part
+
+-- the entries so far, where no line is to come
+pub record StandsSoFar (script : Script) (first now : Option (List ℕ)) (held : List ℕ) : Type 0 where
+  pub past : List Entry
+  pub wrote : Wrote first now held past
+  pub is_so_far : IsSoFar script past
+
+pub on_so_far : (script : Script) (first now : Option (List ℕ)) (game : Game) (number : ℕ) → IsOn script first now game number [] → StandsSoFar script first now (held_by game)
+unfolding script_from steps_from
+on_so_far script first now game number (inl before) =
+    let is : script ≡ stopped before.gathering.base Ended = before.gathering.is_script in
+    record { past = []; wrote = before.wrote; is_so_far = Unopened (ap (λ (s : Script). s.steps) is) (ap (λ (s : Script). s.stops) is) }
+on_so_far script first now game number (inr going) = record {
+  past = going.past;
+  wrote = going.wrote;
+  is_so_far = Opened going.past (played_stopped script going.playing.store going.past (stopped script.base Ended) going.playing.follows refl);
+}
+
+pub fault_so_far : {T E : Type 0} (written : Result T E) (script : Script) (first now after : Option (List ℕ)) (game : Game) (number : ℕ) → IsOn script first now game number []
+    → OnOk written (after ≡ append_known now (held_by game ++ read_fault_text)) → ended_so written end.ReadFault ≡ end.ReadFault → WroteSoFar script first after
+fault_so_far (Ok done) script first now after game number on wrote is =
+    let s = on_so_far script first now game number on in
+    record {
+      entries = s.past;
+      is_so_far = s.is_so_far;
+      written = wrote ∙ all-lines first now (held_by game) s.past read_fault_text s.wrote;
+    }
+fault_so_far (Err e) script first now after game number on wrote is = absurd (cc is)
 
 -- want of memory
 pub memory_stays : (why : Halt) (script : Script) (first now : Option (List ℕ)) (game : Game) (number : ℕ) → why ≢ halt.Write → IsHalted why script first now game number → WritesFront script first now []

@@ -1,5 +1,5 @@
 -- A script is read and played line by line.
-use Rattle.std.proofs.Common.{◌≡◌, ℕ, List, [], ◌∷◌, ◌++◌, Option, Some, None, refl, sym, ap, ◌∙◌, subst, inl}
+use Rattle.std.proofs.Common.{◌≡◌, ℕ, ◌+◌, List, [], ◌∷◌, ◌++◌, Option, Some, None, refl, sym, ap, ◌∙◌, subst, append_assoc, append-nil, inl}
 use Rattle.std.specs.Prelude.{Ok, IfSome, option_map}
 use Rattle.std.specs.Io.KnownBytes.{prepend_known}
 use Rattle.ipam_script.specs.declared.line.Line.{Line}
@@ -8,8 +8,9 @@ use Rattle.ipam_play.specs.declared.lines.Next.TheVariants as next
 use Rattle.ipam_play.specs.declared.lines.ScriptLines.{ScriptLines}
 use Rattle.ipam_play.specs.declared.refusal.LineRefusal.{LineRefusal}
 use Rattle.ipam_play.specs.Player.{IsGathering}
-use Rattle.ipam_play.specs.Readings.{Answer, IsNext, IsNextOf, Reading, coming, readings, readings_from}
+use Rattle.ipam_play.specs.Readings.{Answer, AreReadWhole, IsNext, IsNextOf, Reading, TakesLine, TakesNone, coming, readings, readings_from}
 use Rattle.ipam_play.specs.Script.{Script, nothing_gathered, script_of}
+use Rattle.ipam_play.proofs.Takings.{HasTaken, all_readings, taken_all, taken_line, taken_none}
 use Rattle.ipam_play_run.specs.declared.game.Game.{Game}
 use Rattle.ipam_play_run.specs.declared.halt.Halt.TheVariants as halt
 use Rattle.ipam_play_run.specs.Halting.{IsOn, IsHalted, held_by}
@@ -76,3 +77,47 @@ if_known (Some x) P each = each x refl
 
 pub answers_known : {answer known : Answer} (after : Option (List Reading)) (script : Script) (first now : Option (List ℕ)) (game : Game) (number : ℕ) → answer ≡ known → Answers answer after script first now game number → Answers known after script first now game number
 answers_known after script first now game number is a = subst (λ (k : Answer). Answers k after script first now game number) is a
+
+-- ---- what came before, whatever is to come
+
+-- the lines that were taken were played, and any others may follow
+pub record PlayedSoFar (lines : ScriptLines) (was left first now : Option (List ℕ)) (game : Game) (number : ℕ) : Type 0 where
+  pub done : List Reading
+  pub taken : HasTaken lines was left done
+  pub on : (more : List Reading) → IsOn (script_of (done ++ more)) first now game number more
+
+pub first_so_far : (lines : ScriptLines) (left first : Option (List ℕ)) (game : Game) → lines.lines ≡ [] → lines.before.bytes ≡ 0 → IsGathering game.player nothing_gathered → held_by game ≡ []
+    → PlayedSoFar lines left left first first game 1
+first_so_far lines left first game none start gathering held = record {
+  done = [];
+  taken = taken_none lines left none start;
+  on = λ more. inl (record {
+    wrote = subst (λ (l : List ℕ). Wrote first first l []) (sym held) (wrote_none first);
+    gathering = record { base = nothing_gathered; gathering = gathering; is_script = refl };
+  });
+}
+
+pub line_so_far : (line : Line) (old new : ScriptLines) (was mid left first now after : Option (List ℕ)) (before game : Game) (number : ℕ) → PlayedSoFar old was mid first now before number → TakesLine line old new mid left
+    → ((script : Script) (more : List Reading) → IsOn script first now before number (Ok line ∷ more) → IsOn script first after game (number + 1) more)
+    → PlayedSoFar new was left first after game (number + 1)
+line_so_far line old new was mid left first now after before game number so_far takes goes = record {
+  done = so_far.done ++ Ok line ∷ [];
+  taken = taken_line line old new was mid left so_far.done so_far.taken takes;
+  on = λ more.
+      let same = append_assoc so_far.done (Ok line ∷ []) more in
+      goes (script_of ((so_far.done ++ Ok line ∷ []) ++ more)) more
+      (subst (λ (l : List Reading). IsOn (script_of l) first now before number (Ok line ∷ more)) (sym same) (so_far.on (Ok line ∷ more)));
+}
+
+-- where no line is to come, the lines that were read whole are the script
+pub record AllSoFar (was left first now : Option (List ℕ)) (game : Game) (number : ℕ) : Type 0 where
+  pub lines : List ℕ
+  pub are_read : AreReadWhole lines was left
+  pub on : IsOn (script_of (readings lines)) first now game number []
+
+pub all_so_far : (old new : ScriptLines) (was mid left first now : Option (List ℕ)) (game : Game) (number : ℕ) → PlayedSoFar old was mid first now game number → TakesNone old new mid left → AllSoFar was left first now game number
+all_so_far old new was mid left first now game number so_far takes = record {
+  lines = so_far.taken.bytes;
+  are_read = taken_all old new was mid left so_far.done so_far.taken takes;
+  on = subst (λ (l : List Reading). IsOn (script_of l) first now game number []) (append-nil so_far.done ∙ sym (all_readings old was mid so_far.done so_far.taken)) (so_far.on []);
+}

@@ -14,7 +14,7 @@ use Rattle.ipam_play.specs.declared.player.Player.{Player}
 use Rattle.ipam_play.specs.declared.refusal.LineRefusal.TheVariants as refusal
 use Rattle.ipam_play.specs.Events.{fault_of}
 use Rattle.ipam_play.specs.Played.{BaseRefused, IsPlayed, LineRefused, NotOpened, RefusedAtOnce, ending_of_stops, refusal_of}
-use Rattle.ipam_play.specs.Player.{HasHappened, IsCauseAtFirst, IsGatheredLine, IsGathering, IsPlayedLine, IsPlaying, IsRefusal, cluster_of, journal_of}
+use Rattle.ipam_play.specs.Player.{HasHappened, IsCauseAtFirst, IsGatheredLine, IsGathering, IsPlayedLine, IsPlaying, IsRefusal, IsWanting, cluster_of, journal_of}
 use Rattle.ipam_play.specs.Readings.{Reading}
 use Rattle.ipam_play.specs.Script.{Again, Broken, Gathered, Happens, OfBase, Place, Script, Stops, events_of, has_key, place_of, script_from, steps_from, with_counter, with_row}
 use Rattle.ipam_play.proofs.Happenings.{course-cons, course_from, course-nothing}
@@ -101,8 +101,8 @@ module _ (script : Script) (number : ℕ) (event : Event) (events : List Event) 
       let empty : journal_of new ≡ [] = has.added ∙ ap (λ (l : List Entry). l ++ has.made) none ∙ nothing in
       by same empty has.cause
     where
-      by : event ≡ has.next → journal_of new ≡ [] → (told ≡ fault.Memory) ⊎ IsRefusal (cluster_of store (past ++ journal_of new)) has.next told → IsEnded (halt_of told) script past number
-      by same empty (inl memory) = memory-ends script past number told memory
+      by : event ≡ has.next → journal_of new ≡ [] → IsWanting (cluster_of store (past ++ journal_of new)) has.next told ⊎ IsRefusal (cluster_of store (past ++ journal_of new)) has.next told → IsEnded (halt_of told) script past number
+      by same empty (inl wanting) = memory-ends script past number told wanting.is_told
       by same empty (inr because) =
           let at : cluster_of store (past ++ journal_of new) ≡ cluster_of store past = ap (λ (l : List Entry). cluster_of store (past ++ l)) empty ∙ ap (cluster_of store) (append-nil past) in
           let refuses : entries_of (cluster_of store past) event ≡ Err because.refusal =

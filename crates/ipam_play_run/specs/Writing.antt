@@ -1,12 +1,13 @@
 -- What is written of a script.
-use Rattle.std.specs.Prelude.{◌≡◌, ℕ, List, [], ◌++◌, ◌⊎◌, Option, Result, Ok, Err, codes, string_bytes}
+use Rattle.std.specs.Prelude.{◌≡◌, ℕ, ◌<◌, List, [], ◌++◌, ◌⊎◌, length, Option, Result, Ok, Err, codes, string_bytes}
 use Rattle.std.specs.Io.KnownBytes.{append_known}
 use Rattle.ipam_io.specs.Counts.{Rose}
 use Rattle.ipam_io.specs.Streams.{AppendsPrefix}
 use Rattle.ipam_model.specs.declared.entry.Entry.{Entry}
 use Rattle.ipam_play.specs.Output.{journal_text, output_text}
 use Rattle.ipam_play.specs.Played.{Ending, IsPlayed, Whole, LineRefused, NotOpened}
-use Rattle.ipam_play.specs.Script.{Script}
+use Rattle.ipam_play.specs.Readings.{AreReadWhole, readings}
+use Rattle.ipam_play.specs.Script.{Ended, Script, script_of}
 use Rattle.ipam_play.specs.declared.refusal.LineRefusal.{LineRefusal}
 use Rattle.ipam_play_run.specs.declared.end.PlayEnd.{PlayEnd}
 use Rattle.ipam_play_run.specs.declared.output.Output.{Output}
@@ -15,6 +16,10 @@ use Rattle.ipam_play_run.specs.declared.end.PlayEnd.TheVariants as end
 -- the lines that are held to be written
 abbrev pub held_in : Output → List ℕ
 held_in output = string_bytes output.text
+
+-- so few bytes are not worth a write: fewer than 65,536
+abbrev pub AreFew : List ℕ → Type 0
+AreFew held = length held < 65536
 
 -- the lines of these entries were written, or are held to be written
 pub record Wrote (first now : Option (List ℕ)) (held : List ℕ) (past : List Entry) : Type 0 where
@@ -61,6 +66,26 @@ pub record WritesFront (script : Script) (first now : Option (List ℕ)) (last :
 
 abbrev pub read_fault_text : List ℕ
 read_fault_text = codes "read fault\n"
+
+-- ---- what is written where a read of the source fails
+
+-- What a script comes to as far as it was read: nothing before its base is opened, and then all that its
+-- lines ask, of which none is refused.
+pub data IsSoFar (script : Script) : List Entry → Type 0 where
+  Unopened : script.steps ≡ [] → script.stops ≡ Ended → IsSoFar script []
+  Opened : (entries : List Entry) → IsPlayed script entries Whole → IsSoFar script entries
+
+-- the lines of all entries so far were written, and after them the fault
+pub record WroteSoFar (script : Script) (first now : Option (List ℕ)) : Type 0 where
+  pub entries : List Entry
+  pub is_so_far : IsSoFar script entries
+  pub written : now ≡ append_known first (journal_text entries ++ read_fault_text)
+
+-- the same of the lines that were read whole of the source
+pub record WritesSoFar (was left first now : Option (List ℕ)) : Type 0 where
+  pub lines : List ℕ
+  pub are_read : AreReadWhole lines was left
+  pub wrote : WroteSoFar (script_of (readings lines)) first now
 
 -- what a run that ended without a fault of the sink may have to write
 pub data IsText (script : Script) : List ℕ → Type 0 where

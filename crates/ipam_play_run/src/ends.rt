@@ -7,7 +7,7 @@ ghost use Rattle.ipam_play.specs.Player.{IsStanding};
 ghost use Rattle.ipam_play.specs.Readings.{Reading};
 ghost use Rattle.ipam_play.specs.Script.{Script};
 ghost use Rattle.ipam_play.specs.SoundLine.{IsSoundLine};
-ghost use Rattle.ipam_play_run.specs.Writing.{CountsEnd, HasWritten, ended_so};
+ghost use Rattle.ipam_play_run.specs.Writing.{CountsEnd, HasWritten, WroteSoFar, ended_so};
 
 use crate::end::PlayEnd;
 use crate::game::Game;
@@ -125,10 +125,12 @@ impl Game {
         output.end(sink, line)
     }
 
-    /// A read of the source failed.
+    /// A read of the source failed. The lines of all entries so far are written, and the fault after them.
     pub(crate) fn read_fault<K: Sink>(self, sink: &mut K) -> PlayEnd
         ensures written { (script : Script) (first : Option (List ℕ)) (number : ℕ) (more : List Reading) → IsOn script first (K.written sink.old) self number more
             → HasWritten result script first (K.written sink.new) }
+        ensures so_far { (script : Script) (first : Option (List ℕ)) (number : ℕ) → IsOn script first (K.written sink.old) self number []
+            → result ≡ PlayEnd.ReadFault → WroteSoFar script first (K.written sink.new) }
         ensures faults { (result ≡ PlayEnd.ReadFault) ⊎ (result ≡ PlayEnd.WriteFault) }
         ensures counts { CountsEnd result (K.write_faults sink.old) (K.write_faults sink.new) }
         ensures rest { K.write_rest sink.new ≡ K.write_rest sink.old }

@@ -13,7 +13,7 @@ ghost use Rattle.ipam_play.specs.Script.{Broken, Gathered, Script, events_of, no
 ghost use Rattle.ipam_play.specs.SoundLine.{IsSoundLine};
 ghost use Rattle.ipam_play.specs.declared.refusal.LineRefusal.TheVariants as refusal;
 ghost use Rattle.ipam_play_run.specs.Outcome.{line_then};
-ghost use Rattle.ipam_play_run.specs.Writing.{Wrote};
+ghost use Rattle.ipam_play_run.specs.Writing.{AreFew, Wrote};
 
 use crate::halt::Halt;
 use crate::output::Output;
@@ -44,7 +44,7 @@ impl Game {
         }
     }
 
-    /// Plays the line.
+    /// Plays the line. Fewer than 65,536 bytes of the journal are held after it.
     pub(crate) fn line<K: Sink>(
         &mut self,
         alloc: Global,
@@ -57,6 +57,7 @@ impl Game {
         ensures on { (script : Script) (first : Option (List ℕ)) (number : ℕ) (more : List Reading)
             → IsOn script first (K.written sink.old) self.old number (Ok line.now ∷ more)
             → IsOnOr result script first (K.written sink.new) self.new number more }
+        ensures few { OnOk result (AreFew (held_by self.new)) }
         ensures counts { CountsWrites result (K.write_faults sink.old) (K.write_faults sink.new) }
         ensures rest { K.write_rest sink.new ≡ K.write_rest sink.old }
     {
@@ -81,6 +82,7 @@ impl Game {
         ensures turns { (script : Script) (first : Option (List ℕ)) (number : ℕ) (rest : Script)
             → IsAt script first (K.written sink.old) self.old (line_then number (replicate count (Turn slot Well)) rest)
             → IsAtOr result script first (K.written sink.new) self.new number (line_then number [] rest) }
+        ensures few { OnOk result (AreFew (held_by self.new)) }
         ensures counts { CountsWrites result (K.write_faults sink.old) (K.write_faults sink.new) }
         ensures rest { K.write_rest sink.new ≡ K.write_rest sink.old }
     {
@@ -90,7 +92,7 @@ impl Game {
         Ok(())
     }
 
-    /// Plays one turn.
+    /// Plays one turn. Fewer than 65,536 bytes of the journal are held after it.
     fn turn<K: Sink>(&mut self, alloc: Global, sink: &mut K, slot: u8) -> Result<(), Halt>
         requires slot { slot < SLOTS }
         requires standing { IsStanding self.old.player }
@@ -98,6 +100,7 @@ impl Game {
         ensures turn { (script : Script) (first : Option (List ℕ)) (number : ℕ) (events : List Event) (rest : Script)
             → IsAt script first (K.written sink.old) self.old (line_then number (Turn slot Well ∷ events) rest)
             → IsAtOr result script first (K.written sink.new) self.new number (line_then number events rest) }
+        ensures few { OnOk result (AreFew (held_by self.new)) }
         ensures counts { CountsWrites result (K.write_faults sink.old) (K.write_faults sink.new) }
         ensures rest { K.write_rest sink.new ≡ K.write_rest sink.old }
     {
@@ -124,6 +127,7 @@ impl Game {
             → events_of line.now ≡ None → rest.steps ≡ [] → rest.stops ≡ Broken number refusal.Base
             → IsGoing script first (K.written sink.old) self.old rest
             → IsLate result script first (K.written sink.new) self.new number }
+        ensures few { OnOk result (AreFew (held_by self.new)) }
         ensures counts { CountsWrites result (K.write_faults sink.old) (K.write_faults sink.new) }
         ensures rest { K.write_rest sink.new ≡ K.write_rest sink.old }
     {
@@ -146,6 +150,7 @@ impl Game {
         ensures gathering { (base : Gathered) → IsGathering self.old.player base → OnOk result (IsGathering self.new.player base) }
         ensures playing { (base : Gathered) (store : Datastore) (past : List Entry) → IsPlaying self.old.player base store past
             → OnOk result (IsPlaying self.new.player base store (past ++ journal_of self.old.player)) }
+        ensures few { OnOk result (AreFew (held_by self.new)) }
         ensures counts { CountsWrites result (K.write_faults sink.old) (K.write_faults sink.new) }
         ensures rest { K.write_rest sink.new ≡ K.write_rest sink.old }
     {

@@ -5,7 +5,7 @@ ghost use Rattle.ipam_io.specs.Counts.{Rose};
 ghost use Rattle.ipam_io.specs.Streams.{AppendsPrefix};
 ghost use Rattle.ipam_model.specs.declared.entry.Entry.{Entry};
 ghost use Rattle.ipam_play.specs.Output.{journal_text};
-ghost use Rattle.ipam_play_run.specs.Writing.{Wrote};
+ghost use Rattle.ipam_play_run.specs.Writing.{AreFew, Wrote};
 
 use ipam_answer_text::push_entry;
 use ipam_io::{Failed, Sink};
@@ -47,6 +47,7 @@ impl Output {
     pub(crate) fn write_large<K: Sink>(&mut self, sink: &mut K) -> Result<(), Failed>
         ensures wrote { (first : Option (List ℕ)) (past : List Entry) → Wrote first (K.written sink.old) (held_in self.old) past
             → OnOk result (Wrote first (K.written sink.new) (held_in self.new) past) }
+        ensures few { OnOk result (AreFew (held_in self.new)) }
         ensures part { OnErr result (AppendsPrefix (K.written sink.old) (K.written sink.new) (held_in self.old)) }
         ensures fault { OnErr result (Rose (K.write_faults sink.old) (K.write_faults sink.new)) }
         ensures no_fault { OnOk result (K.write_faults sink.new ≡ K.write_faults sink.old) }

@@ -4,7 +4,7 @@ ghost use Rattle.std.specs.Io.KnownBytes.{IsAtEnd};
 ghost use Rattle.ipam_io.specs.Counts.{Rose};
 ghost use Rattle.ipam_play.specs.Readings.{readings};
 ghost use Rattle.ipam_play.specs.Script.{script_of};
-ghost use Rattle.ipam_play_run.specs.Writing.{HasWritten};
+ghost use Rattle.ipam_play_run.specs.Writing.{HasWritten, WritesSoFar};
 
 use crate::end::PlayEnd;
 use crate::game::Game;
@@ -13,10 +13,16 @@ use ipam_io::{Sink, Source};
 use ipam_play::{Next, ScriptFault, ScriptLines};
 use std::alloc::Global;
 
-/// Plays the script that the source gives, and writes its journal to the sink.
+/// Plays the script that the source gives, and writes its journal to the sink. After each line fewer than
+/// 65,536 bytes of the journal are held.
+///
+/// Where a read fails, the lines of all entries so far are written, and the fault after them: of each line
+/// that was read whole, whichever read it is.
 pub fn play<S: Source, K: Sink>(alloc: Global, source: &mut S, sink: &mut K) -> PlayEnd
     ensures written { IfSome (S.left source.old) (λ bytes.
         HasWritten result (script_of (readings bytes)) (K.written sink.old) (K.written sink.new)) }
+    ensures so_far { result ≡ PlayEnd.ReadFault
+        → WritesSoFar (S.left source.old) (S.left source.new) (K.written sink.old) (K.written sink.new) }
     ensures read { result ≡ PlayEnd.Done → IsAtEnd (S.left source.new) }
     ensures read_fault { result ≡ PlayEnd.ReadFault → Rose (S.read_faults source.old) (S.read_faults source.new) }
     ensures no_read_fault { result ≢ PlayEnd.ReadFault → result ≢ PlayEnd.WriteFault

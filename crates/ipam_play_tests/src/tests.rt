@@ -146,6 +146,30 @@ fn a_failing_source_or_sink_ends_the_run(rt: HostRuntime) -> Result<(), Fail> {
     Ok(())
 }
 
+/// The script, and after it a line of so many bytes that has no end.
+fn with_unended(alloc: Global, count: usize) -> Result<String, AllocError> {
+    let mut script = String::from_str(alloc, SCRIPT)?;
+    for _ in 0..count {
+        script.push('x')?;
+    }
+    Ok(script)
+}
+
+/// A read gives at most 4,096 bytes, so each of these scripts takes more reads than one.
+#[test]
+fn a_later_read_that_fails_leaves_all_lines_so_far(rt: HostRuntime) -> Result<(), Fail> {
+    let alloc = rt.alloc();
+    let want = format!(in alloc; "{}read fault\n", JOURNAL)?;
+    for read in [2, 3] {
+        let script = with_unended(alloc, 12_000)?;
+        let reads = Vec::from_slice(alloc, &[read])?;
+        let found = run_script(alloc, script.as_str(), reads, Vec::new(alloc))?;
+        assert_eq!(&rt; found.status, "3");
+        assert!(&rt; found.sink.written() == want.as_bytes(), "{read}");
+    }
+    Ok(())
+}
+
 /// A line of so many bytes that is read as none, after a line that is played.
 fn with_line_of(alloc: Global, count: usize) -> Result<String, AllocError> {
     let mut script = String::from_str(alloc, "restart\n")?;

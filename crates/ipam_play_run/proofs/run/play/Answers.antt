@@ -1,16 +1,17 @@
 use Rattle.std.proofs.Common.{◌∙◌, ◌<◌, ◌≤◌, ap, refl, arith}
 use Rattle.std.specs.Prelude.{Ok}
-use Rattle.ipam_play.specs.Readings.{coming, readings}
+use Rattle.ipam_play.specs.Readings.{TakesLine, TakesNone, coming, readings}
 use Rattle.ipam_play.specs.Script.{script_of}
 use Rattle.ipam_play_run.specs.declared.end.PlayEnd.TheVariants as end
 use Rattle.ipam_play_run.specs.Writing.{HasWritten}
 use Rattle.ipam_play_run.proofs.Closing.{fault_is_told, fault_not_done, on_front}
-use Rattle.ipam_play_run.proofs.Runs.{answered, answers_known, end_on_next, goes_first, if_known, last_on_next, line_on_next, refused_on_next}
+use Rattle.ipam_play_run.proofs.Runs.{all_so_far, answered, answers_known, end_on_next, first_so_far, goes_first, if_known, last_on_next, line_on_next, line_so_far, refused_on_next}
 use Rattle.ipam_play_run.proofs.run.play.Goals as goal
 
 pub loop-line-init : goal.loop-line-init
 loop-line-init g c = record {
   goes = λ bytes is. goes_first c.new-lines.result (g.S.Source.left c.args.source.now) (g.K.Sink.written c.args.sink.now) bytes c.new-game.result c.new-lines.ensures.held c.new-lines.ensures.before c.new-game.ensures.gathering c.new-game.ensures.held is;
+  so_far = first_so_far c.new-lines.result (g.S.Source.left c.args.source.now) (g.K.Sink.written c.args.sink.now) c.new-game.result c.new-lines.ensures.held c.new-lines.ensures.before c.new-game.ensures.gathering c.new-game.ensures.held;
   standing = c.new-game.ensures.standing;
   few = omega arith;
   reads = refl;
@@ -33,6 +34,10 @@ loop-line-preserved g c = record {
         known = a.is_after;
         on = c.in_default.ensures.on script first c.loop-line.number a.behind (line_on_next c.in-Ok-Line.line after script first now c.loop-line.game c.loop-line.number a);
       };
+  so_far =
+      let takes : TakesLine c.in-Ok-Line.line c.loop-line.lines c.next.new.self (g.S.Source.left c.loop-line.source) (g.S.Source.left c.next.new.source) = rw c.in-Ok-Line.field-0-is at c.in-Ok-Line.ensures.takes in
+      line_so_far c.in-Ok-Line.line c.loop-line.lines c.next.new.self _ (g.S.Source.left c.loop-line.source) (g.S.Source.left c.next.new.source) (g.K.Sink.written c.args.sink.now) (g.K.Sink.written c.loop-line.sink) _ c.loop-line.game _ c.loop-line.number
+      c.loop-line.invariant.so_far takes (λ script more on. c.in_default.ensures.on script (g.K.Sink.written c.args.sink.now) c.loop-line.number more on);
   standing = c.line-played.ensures.standing;
   few =
       let up : c.loop-line.lines.before.bytes < c.next.new.self.before.bytes = rw c.in-Ok-Line.field-0-is at c.in-Ok-Line.ensures.onward in
@@ -130,3 +135,14 @@ returns-in-Err-Read-clause-read g c = λ is. absurd (fault_not_done c.read_fault
 
 pub returns-in-Err-Read-clause-no_read_fault : goal.returns-in-Err-Read-clause-no_read_fault
 returns-in-Err-Read-clause-no_read_fault g c = λ not_read not_write. absurd (fault_is_told c.read_fault.result c.read_fault.ensures.faults not_read not_write)
+
+pub returns-in-Err-Read-clause-so_far : goal.returns-in-Err-Read-clause-so_far
+returns-in-Err-Read-clause-so_far g c = λ is.
+    let takes : TakesNone c.loop-line.lines c.next.new.self (g.S.Source.left c.loop-line.source) (g.S.Source.left c.next.new.source) = rw c.in-Err-Read.field-0-is at c.in-Err-Read.ensures.takes in
+    let all = all_so_far c.loop-line.lines c.next.new.self (g.S.Source.left c.args.source.now) (g.S.Source.left c.loop-line.source) (g.S.Source.left c.next.new.source) (g.K.Sink.written c.args.sink.now) (g.K.Sink.written c.loop-line.sink)
+    c.loop-line.game c.loop-line.number c.loop-line.invariant.so_far takes in
+    record {
+      lines = all.lines;
+      are_read = all.are_read;
+      wrote = c.read_fault.ensures.so_far _ (g.K.Sink.written c.args.sink.now) c.loop-line.number all.on is;
+    }

@@ -1,8 +1,8 @@
-use Rattle.std.proofs.Common.{◌≡◌, subst, sym, ◌⊎◌}
+use Rattle.std.proofs.Common.{◌≡◌, ◌∙◌, subst, sym, ◌⊎◌}
 use Rattle.ipam_play_run.specs.declared.end.PlayEnd.{PlayEnd}
 use Rattle.ipam_play_run.specs.declared.end.PlayEnd.TheVariants as end
 use Rattle.ipam_play_run.specs.Writing.{CountsEnd, HasWritten}
-use Rattle.ipam_play_run.proofs.Closing.{counts_end, fault_ends, fault_or_write}
+use Rattle.ipam_play_run.proofs.Closing.{counts_end, fault_ends, fault_or_write, fault_so_far}
 use Rattle.ipam_play_run.proofs.game.Game.read_fault.Goals as goal
 
 pub returns-clause-written : goal.returns-clause-written
@@ -18,3 +18,7 @@ returns-clause-counts g c =
 
 pub returns-clause-faults : goal.returns-clause-faults
 returns-clause-faults g c = subst (λ (e : PlayEnd). (e ≡ end.ReadFault) ⊎ (e ≡ end.WriteFault)) (sym c.ended.ensures) (fault_or_write c.end.result)
+
+pub returns-clause-so_far : goal.returns-clause-so_far
+returns-clause-so_far g c = λ script first number on is.
+    fault_so_far c.end.result script first (g.K.Sink.written c.args.sink.now) (g.K.Sink.written c.end.new.sink) c.args.self number on c.end.ensures.wrote (sym c.ended.ensures ∙ is)

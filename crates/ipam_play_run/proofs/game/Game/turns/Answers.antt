@@ -11,6 +11,7 @@ pub loop-done-init : goal.loop-done-init
 loop-done-init g c = record {
   turned = λ script first number rest at. none_turned script first (g.K.Sink.written c.args.sink.now) c.args.self.now number c.args.slot c.args.count rest at;
   standing = c.requires.standing;
+  few = λ some. absurd (omega arith);
   faults = refl;
   rest = refl;
 }
@@ -23,6 +24,7 @@ loop-done-preserved g c = record {
       (next_turn script first (g.K.Sink.written c.loop-done.sink) c.loop-done.self number c.args.slot c.args.count c.loop-done.done rest c.loop-done-test.true
       (c.loop-done.invariant.turned script first number rest at)));
   standing = c.turn.ensures.standing;
+  few = λ some. c.in_ok-turn.ensures.few;
   faults = c.in_ok-turn.ensures.counts ∙ c.loop-done.invariant.faults;
   rest = c.turn.ensures.rest ∙ c.loop-done.invariant.rest;
 }
@@ -41,3 +43,8 @@ returns-in_err-turn-clause-turns g c = λ script first number rest at.
     (c.in_err-turn.ensures.turn script first number (replicate (c.args.count - (c.loop-done.done + 1)) (Turn c.args.slot Well)) rest
     (next_turn script first (g.K.Sink.written c.loop-done.sink) c.loop-done.self number c.args.slot c.args.count c.loop-done.done rest c.loop-done-test.true
     (c.loop-done.invariant.turned script first number rest at)))
+
+pub returns-clause-few : goal.returns-clause-few
+returns-clause-few g c =
+    let some : 0 < c.loop-done.done = omega arith in
+    c.loop-done.invariant.few some
