@@ -63,7 +63,7 @@ impl ScriptLines {
     /// The next line, or that the script ended. A line that is refused, and a fault, end the reading:
     /// nothing is said of what comes after them.
     ///
-    /// There is no memory only for a line that, as far as its bytes were read, is not too long.
+    /// `Memory` is returned only for a line that, as far as its bytes were read, is not too long.
     pub fn next<S: Source>(&mut self, alloc: Global, source: &mut S) -> Result<Next, ScriptFault>
         ensures next { IsNextOf result (coming self.old (S.left source.old)) (coming self.new (S.left source.new)) }
         ensures takes { Takes result self.old self.new (S.left source.old) (S.left source.new) }

@@ -55,8 +55,8 @@ impl Player {
     /// Where a `Turn` does not make all of its calls, those that it made stay. On any other `Err`
     /// nothing changes.
     ///
-    /// Once the base is open there is no memory only for an event that is not refused: a slot that is busy,
-    /// idle or waits, a second list that is too soon, and too many entries are told without memory.
+    /// Once the base is open, `Memory` is returned only for an event that is not refused. `Busy`, `Idle`,
+    /// `Waiting`, `NotWaiting`, `TooSoon` and `Worn` take no memory.
     pub fn step(&mut self, alloc: Global, line: &Line) -> Result<(), PlayFault>
         requires sound { IsSoundLine line.now }
         requires standing { IsStanding self.old }
