@@ -43,14 +43,14 @@ use Rattle.ipam_cni.specs.Ends as cni_ends
 use Rattle.ipam_cni.specs.Replies as replies
 use Rattle.ipam_command.specs.Commands as does
 use Rattle.ipam_command.specs.Commands.{Does, DoesApply, DoesCni, DoesGen, DoesPlay, DoesRelease, DoesSay, DoesTell, Says, input_of, kept_of, unknown_text}
-use Rattle.ipam_command.specs.Outside.{LeavesKeeper, LeavesSource, Outside, sides_of}
+use Rattle.ipam_command.specs.Outside.{LeavesKeeper, LeavesSource, CommandOutside, sides_of}
 use Rattle.ipam_command.specs.Rules.{asks_keeper, reads}
 use Rattle.ipam_command.specs.Statuses.{code_of_gen, code_of_play}
 
 -- ---- statuses
 
 -- what is so where a command ends in this way
-abbrev Causes : (asked : Option Asked) → (old new : Outside) → Status → Type 0
+abbrev Causes : (asked : Option Asked) → (old new : CommandOutside) → Status → Type 0
 Causes asked old new status.Done = reads asked ≡ true → IsAtEnd new.left
 Causes asked old new status.Refused = Unit {0}
 Causes asked old new status.UnknownWords = LeavesSource old new × LeavesKeeper old new
@@ -62,7 +62,7 @@ Causes asked old new status.BrokenRows = new.rows ≡ old.rows
 Causes asked old new status.LineRefused = asked ≡ Some Play
 
 -- the status is that of an end with its cause
-record HasCause (asked : Option Asked) (old new : Outside) (code : ℕ) : Type 0 where
+record HasCause (asked : Option Asked) (old new : CommandOutside) (code : ℕ) : Type 0 where
   ending : Status
   has_code : code ≡ code_of ending
   cause : Causes asked old new ending
@@ -86,21 +86,21 @@ status-of-code status.BrokenRows = refl
 status-of-code status.LineRefused = refl
 
 -- the cause of a status
-cause-of : (asked : Option Asked) (old new : Outside) (code : ℕ) (other : Status) → HasCause asked old new code → code ≡ code_of other → Causes asked old new other
+cause-of : (asked : Option Asked) (old new : CommandOutside) (code : ℕ) (other : Status) → HasCause asked old new code → code ≡ code_of other → Causes asked old new other
 cause-of asked old new code other h is =
     subst (λ (s : Status). Causes asked old new s)
     (sym (status-of-code h.ending) ∙ ap status_at (sym h.has_code ∙ is) ∙ status-of-code other) h.cause
 
 -- ---- what is written
 
-by-writes : (asked : Option Asked) (old new : Outside) (first : Option (List ℕ)) (text : List ℕ) (own ending : Status)
+by-writes : (asked : Option Asked) (old new : CommandOutside) (first : Option (List ℕ)) (text : List ℕ) (own ending : Status)
     → Writes first new.written old.write_faults new.write_faults text own ending
     → (ending ≡ own → Causes asked old new own) → Causes asked old new ending
 by-writes asked old new first text own _ (Whole is none) h = h refl
 by-writes asked old new first text own _ (Cut said is rose) h = rose
 by-writes asked old new first text own _ (Untold made same none) h = tt
 
-by-fault : (asked : Option Asked) (old new : Outside) (why : KeptFault) (ending : Status)
+by-fault : (asked : Option Asked) (old new : CommandOutside) (why : KeptFault) (ending : Status)
     → FaultWrites (λ text own. Writes old.written new.written old.write_faults new.write_faults text own ending) why
     → IsNotLoaded old.rows old.keeper_faults new.keeper_faults why → new.rows ≡ old.rows → Causes asked old new ending
 by-fault asked old new fault.Keeper ending w is same = by-writes asked old new old.written keeper_line status.KeeperFault ending w (λ e. is)
@@ -108,19 +108,19 @@ by-fault asked old new (fault.Refused number about) ending w is same = by-writes
 by-fault asked old new fault.Memory ending w is same = by-writes asked old new old.written [] status.NoMemory ending w (λ e. tt)
 
 -- a command that reads no source may be done
-unread : (asked : Option Asked) (old new : Outside) → reads asked ≡ false → Causes asked old new status.Done
+unread : (asked : Option Asked) (old new : CommandOutside) → reads asked ≡ false → Causes asked old new status.Done
 unread asked old new quiet = λ yes. absurd (cc (quiet, yes))
 
 -- ---- `get` and `routes`
 
-tells-cause : (asked : Option Asked) (old new : Outside) (says : List RowText → Datastore → List ℕ) (ending : Status) → reads asked ≡ false → new.rows ≡ old.rows
+tells-cause : (asked : Option Asked) (old new : CommandOutside) (says : List RowText → Datastore → List ℕ) (ending : Status) → reads asked ≡ false → new.rows ≡ old.rows
     → Tells old.rows old.keeper_faults new.keeper_faults says (λ said own. Writes old.written new.written old.write_faults new.write_faults said own ending)
     → Causes asked old new ending
 tells-cause asked old new says ending quiet same (Opened rows store is none w) =
     by-writes asked old new old.written (says rows store) status.Done ending w (λ e. unread asked old new quiet)
 tells-cause asked old new says ending quiet same (NotOpened why is w) = by-fault asked old new why ending w is same
 
-tell-cause : (asked : Option Asked) (says : List RowText → Datastore → List ℕ) (old new : Outside) (code : ℕ) → reads asked ≡ false → DoesTell says old new code → HasCause asked old new code
+tell-cause : (asked : Option Asked) (says : List RowText → Datastore → List ℕ) (old new : CommandOutside) (code : ℕ) → reads asked ≡ false → DoesTell says old new code → HasCause asked old new code
 tell-cause asked says old new code quiet d = record {
   ending = d.ending;
   has_code = d.has_status;
@@ -129,13 +129,13 @@ tell-cause asked says old new code quiet d = record {
 
 -- ---- `release`
 
-outcome-cause : (asked : Option Asked) (old new : Outside) (found : ReleaseOutcome) → reads asked ≡ false → Causes asked old new (outcome_status found)
+outcome-cause : (asked : Option Asked) (old new : CommandOutside) (found : ReleaseOutcome) → reads asked ≡ false → Causes asked old new (outcome_status found)
 outcome-cause asked old new outcome.Released quiet = unread asked old new quiet
 outcome-cause asked old new outcome.NoAffinity quiet = tt
 outcome-cause asked old new outcome.Full quiet = tt
 outcome-cause asked old new outcome.Spent quiet = tt
 
-came-cause : (asked : Option Asked) (old new : Outside) (made : Request) (came : Result ReleaseOutcome KeptFault) (ending : Status) (told : Type 0) → reads asked ≡ false
+came-cause : (asked : Option Asked) (old new : CommandOutside) (made : Request) (came : Result ReleaseOutcome KeptFault) (ending : Status) (told : Type 0) → reads asked ≡ false
     → ReleaseEnds made came old.rows new.rows old.keeper_faults new.keeper_faults
     → ReleaseWrites (λ said own. Writes old.written new.written old.write_faults new.write_faults said own ending) told came
     → Causes asked old new ending
@@ -148,7 +148,7 @@ came-cause asked old new made (Err (fault.Refused number about)) ending told qui
 came-cause asked old new made (Err fault.Memory) ending told quiet ends w =
     by-writes asked old new old.written [] status.NoMemory ending w (λ e. tt)
 
-release-cause : (asked : Option Asked) (node : List ℕ) (cidr : CidrValue) (old new : Outside) (code : ℕ) → reads asked ≡ false → DoesRelease node cidr old new code → HasCause asked old new code
+release-cause : (asked : Option Asked) (node : List ℕ) (cidr : CidrValue) (old new : CommandOutside) (code : ℕ) → reads asked ≡ false → DoesRelease node cidr old new code → HasCause asked old new code
 release-cause asked node cidr old new code quiet d = record {
   ending = d.ending;
   has_code = d.has_status;
@@ -157,7 +157,7 @@ release-cause asked node cidr old new code quiet d = record {
 
 -- ---- `apply`
 
-module _ (asked : Option Asked) (old new : Outside) (ending : Status) (at_end : ending ≡ status.Done → IsAtEnd new.left) where
+module _ (asked : Option Asked) (old new : CommandOutside) (ending : Status) (at_end : ending ≡ status.Done → IsAtEnd new.left) where
   no-memory : ending ≡ status.NoMemory → Causes asked old new ending
   no-memory is = subst (λ (s : Status). Causes asked old new s) (sym is) tt
 
@@ -186,7 +186,7 @@ module _ (asked : Option Asked) (old new : Outside) (ending : Status) (at_end : 
   apply-cause same (apply.ReadFailed rose unasked says) = by-writes asked old new old.written apply.read_line status.ReadFault ending says (λ e. rose)
   apply-cause same (apply.NoInput faults unasked untold) = no-memory untold.no_memory
 
-applied-cause : (asked : Option Asked) (old new : Outside) (code : ℕ) → DoesApply old new code → HasCause asked old new code
+applied-cause : (asked : Option Asked) (old new : CommandOutside) (code : ℕ) → DoesApply old new code → HasCause asked old new code
 applied-cause asked old new code d = record {
   ending = d.ending;
   has_code = d.has_status;
@@ -211,7 +211,7 @@ play-code play.NoMemory = refl
 play-code play.NotOpened = refl
 play-code play.LineRefused = refl
 
-play-end : (old new : Outside) (ending : PlayEnd) → does.IsPlayed old new ending → LeavesKeeper old new → Causes (Some Play) old new (status_of_play ending)
+play-end : (old new : CommandOutside) (ending : PlayEnd) → does.PlayEnds old new ending → LeavesKeeper old new → Causes (Some Play) old new (status_of_play ending)
 play-end old new play.Done is keeper = λ yes. is.at_end refl
 play-end old new play.ReadFault is keeper = is.read_fault refl
 play-end old new play.WriteFault is keeper = is.write_fault refl
@@ -219,26 +219,26 @@ play-end old new play.NoMemory is keeper = tt
 play-end old new play.NotOpened is keeper = keeper.rows
 play-end old new play.LineRefused is keeper = refl
 
-play-cause : (old new : Outside) (code : ℕ) → DoesPlay old new code → HasCause (Some Play) old new code
+play-cause : (old new : CommandOutside) (code : ℕ) → DoesPlay old new code → HasCause (Some Play) old new code
 play-cause old new code d = record {
   ending = status_of_play d.ending;
   has_code = d.has_status ∙ play-code d.ending;
   cause = play-end old new d.ending d.played d.keeper;
 }
 
-gen-end : (asked : Option Asked) (old new : Outside) (code : ℕ) (ending : GenEnd) → reads asked ≡ false → code ≡ code_of_gen ending → CountsFaults ending old.write_faults new.write_faults → HasCause asked old new code
+gen-end : (asked : Option Asked) (old new : CommandOutside) (code : ℕ) (ending : GenEnd) → reads asked ≡ false → code ≡ code_of_gen ending → CountsFaults ending old.write_faults new.write_faults → HasCause asked old new code
 gen-end asked old new code gen.Done quiet is faults = record { ending = status.Done; has_code = is; cause = unread asked old new quiet }
 gen-end asked old new code gen.WriteFault quiet is faults = record { ending = status.WriteFault; has_code = is; cause = faults }
 gen-end asked old new code gen.NoMemory quiet is faults = record { ending = status.NoMemory; has_code = is; cause = tt }
 
 -- ---- a fixed text
 
-said-cause : (asked : Option Asked) (text : List ℕ) (own : Status) (old new : Outside) (code : ℕ) → Causes asked old new own
+said-cause : (asked : Option Asked) (text : List ℕ) (own : Status) (old new : CommandOutside) (code : ℕ) → Causes asked old new own
     → Says text (code_of own) old.written new.written old.write_faults new.write_faults code → HasCause asked old new code
 said-cause asked text own old new _ h (does.Told is none) = record { ending = own; has_code = refl; cause = h }
 said-cause asked text own old new _ h (does.Cut is rose) = record { ending = status.WriteFault; has_code = refl; cause = rose }
 
-unknown-cause : (asked : Option Asked) (old new : Outside) (code : ℕ) → DoesSay unknown_text 2 old new code → HasCause asked old new code
+unknown-cause : (asked : Option Asked) (old new : CommandOutside) (code : ℕ) → DoesSay unknown_text 2 old new code → HasCause asked old new code
 unknown-cause asked old new code d = said-cause asked unknown_text status.UnknownWords old new code (d.source, d.keeper) d.said
 
 -- ---- a CNI call
@@ -257,15 +257,15 @@ comes-small env stdin old new _ (replies.Refused error is same) = omega arith
 comes-small env stdin old new _ (replies.AtOnce look text is begins same) = omega arith
 comes-small env stdin old new _ (replies.Asked look asked version reply is begins comes) = request-small asked version old new reply comes
 
-small-cause : (asked : Option Asked) (old new : Outside) (code : ℕ) → code ≤ 1 → (code ≡ 0 → IsAtEnd new.left) → HasCause asked old new code
+small-cause : (asked : Option Asked) (old new : CommandOutside) (code : ℕ) → code ≤ 1 → (code ≡ 0 → IsAtEnd new.left) → HasCause asked old new code
 small-cause asked old new zero small at_end = record { ending = status.Done; has_code = refl; cause = λ yes. at_end refl }
 small-cause asked old new (suc zero) small at_end = record { ending = status.Refused; has_code = refl; cause = tt }
 small-cause asked old new (suc (suc n)) small at_end = absurd (omega arith)
 
-cut-cause : (asked : Option Asked) (old new : Outside) (code : ℕ) → Rose old.write_faults new.write_faults → code ≡ 4 → HasCause asked old new code
+cut-cause : (asked : Option Asked) (old new : CommandOutside) (code : ℕ) → Rose old.write_faults new.write_faults → code ≡ 4 → HasCause asked old new code
 cut-cause asked old new code rose is = record { ending = status.WriteFault; has_code = is; cause = rose }
 
-call-cause : (asked : Option Asked) (env : List Pair) (ending : CniEnd) (old new : Outside) (code : ℕ) → (code ≡ 0 → IsAtEnd new.left)
+call-cause : (asked : Option Asked) (env : List Pair) (ending : CniEnd) (old new : CommandOutside) (code : ℕ) → (code ≡ 0 → IsAtEnd new.left)
     → cni.Went env ending (sides_of old) (sides_of new) → cni_ends.Tells ending old.written new.written old.write_faults new.write_faults code → HasCause asked old new code
 call-cause asked env (Told own text) old new code at_end went (inl (is, same)) =
     small-cause asked old new code
@@ -277,7 +277,7 @@ call-cause asked env (Failed version why) old new code at_end went (inr (is, sam
 
 -- ---- all
 
-has-cause : (env : List Pair) (asked : Option Asked) (old new : Outside) (code : ℕ) → Does env asked old new code → HasCause asked old new code
+has-cause : (env : List Pair) (asked : Option Asked) (old new : CommandOutside) (code : ℕ) → Does env asked old new code → HasCause asked old new code
 has-cause env (Some Cni) old new code d = call-cause (Some Cni) env d.ending old new code d.at_end d.went d.tells
 has-cause env (Some Play) old new code d = play-cause old new code d
 has-cause env (Some (Gen count)) old new code d = gen-end (Some (Gen count)) old new code d.ending refl d.has_status d.faults
@@ -292,7 +292,7 @@ has-cause env (Some (Serve address workers)) old new code d = unknown-cause (Som
 has-cause env (Some (Call address)) old new code d = unknown-cause (Some (Call address)) old new code d
 has-cause env None old new code d = unknown-cause None old new code d
 
-module _ (env : List Pair) (asked : Option Asked) (old new : Outside) (code : ℕ) (d : Does env asked old new code) where
+module _ (env : List Pair) (asked : Option Asked) (old new : CommandOutside) (code : ℕ) (d : Does env asked old new code) where
   causes-at : (other : Status) → code ≡ code_of other → Causes asked old new other
   causes-at other is = cause-of asked old new code other (has-cause env asked old new code d) is
 
@@ -319,7 +319,7 @@ module _ (env : List Pair) (asked : Option Asked) (old new : Outside) (code : �
 
 -- ---- what is left as it was
 
-pub leaves_source : (env : List Pair) (asked : Option Asked) (old new : Outside) (code : ℕ) → Does env asked old new code → reads asked ≡ false → LeavesSource old new
+pub leaves_source : (env : List Pair) (asked : Option Asked) (old new : CommandOutside) (code : ℕ) → Does env asked old new code → reads asked ≡ false → LeavesSource old new
 leaves_source env (Some Cni) old new code d quiet = absurd cc
 leaves_source env (Some Play) old new code d quiet = absurd cc
 leaves_source env (Some (Gen count)) old new code d quiet = d.source
@@ -334,7 +334,7 @@ leaves_source env (Some (Serve address workers)) old new code d quiet = d.source
 leaves_source env (Some (Call address)) old new code d quiet = d.source
 leaves_source env None old new code d quiet = d.source
 
-pub leaves_keeper : (env : List Pair) (asked : Option Asked) (old new : Outside) (code : ℕ) → Does env asked old new code → asks_keeper asked ≡ false → LeavesKeeper old new
+pub leaves_keeper : (env : List Pair) (asked : Option Asked) (old new : CommandOutside) (code : ℕ) → Does env asked old new code → asks_keeper asked ≡ false → LeavesKeeper old new
 leaves_keeper env (Some Cni) old new code d quiet = absurd cc
 leaves_keeper env (Some Play) old new code d quiet = d.keeper
 leaves_keeper env (Some (Gen count)) old new code d quiet = d.keeper

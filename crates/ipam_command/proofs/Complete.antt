@@ -40,7 +40,7 @@ use Rattle.ipam_cni.specs.Calls as cni
 use Rattle.ipam_cni.specs.Ends as cni_ends
 use Rattle.ipam_command.specs.Commands as does
 use Rattle.ipam_command.specs.Commands.{Does, Says, input_of, kept_of, unknown_text}
-use Rattle.ipam_command.specs.Outside.{LeavesKeeper, Outside, sides_of}
+use Rattle.ipam_command.specs.Outside.{LeavesKeeper, CommandOutside, sides_of}
 use Rattle.ipam_command.specs.Rules as rules
 use Rattle.ipam_command.specs.Rules.{CompleteLaw, IsWhole, NoFault, ending_status}
 use Rattle.ipam_command.specs.Statuses.{code_of_gen, code_of_play}
@@ -57,7 +57,7 @@ if-some : (P Q : List ℕ → Type 0) (left : Option (List ℕ)) → ((bytes : L
 if-some P Q None f h = h
 if-some P Q (Some bytes) f h = f bytes h
 
-module _ (old new : Outside) (well : NoFault old new) (code : ℕ) where
+module _ (old new : CommandOutside) (well : NoFault old new) (code : ℕ) where
   -- ---- what is written
 
   -- after what was written before it
@@ -163,7 +163,7 @@ module _ (old new : Outside) (well : NoFault old new) (code : ℕ) where
   abbrev WrittenAs : PlayEnd → List ℕ → Type 0
   WrittenAs ending bytes = HasWrittenRight ending (script_in bytes) old.written new.written
 
-  played : (ending : PlayEnd) → code ≡ code_of_play ending → does.IsPlayed old new ending → (code ≡ 6) ⊎ IfSome old.left AllWritten
+  played : (ending : PlayEnd) → code ≡ code_of_play ending → does.PlayEnds old new ending → (code ≡ 6) ⊎ IfSome old.left AllWritten
   played play.Done has is = inr (if-some (WrittenAs play.Done) AllWritten old.left (λ bytes w. record {
     entries = w.0.entries;
     ending = w.0.ending;
@@ -210,7 +210,7 @@ module _ (old new : Outside) (well : NoFault old new) (code : ℕ) where
 
 -- ---- all
 
-pub complete : (env : List Pair) (asked : Option Asked) (old new : Outside) (code : ℕ) → Does env asked old new code → CompleteLaw env asked old new code
+pub complete : (env : List Pair) (asked : Option Asked) (old new : CommandOutside) (code : ℕ) → Does env asked old new code → CompleteLaw env asked old new code
 complete env (Some Cni) old new code d well = called old new well code env d.ending d.went d.tells
 complete env (Some Play) old new code d well = played old new well code d.ending d.has_status d.played
 complete env (Some (Gen count)) old new code d well = generated old new well code count d.ending d.has_status d.written d.faults

@@ -18,29 +18,29 @@ use Rattle.ipam_apply.specs.Applied.{ApplyEnds, DocumentEnds, Input, Read, ReadF
 use Rattle.ipam_apply.specs.Outside as apply_outside
 use Rattle.ipam_commands.specs.declared.status.Status.{Status}
 use Rattle.ipam_commands.specs.Telling.{Tells, Writes}
-use Rattle.ipam_command.specs.Commands.{Does, DoesGen, DoesPlay, DoesTell, IsPlayed, Says, unknown_text}
-use Rattle.ipam_command.specs.Outside.{LeavesKeeper, LeavesSource, Outside}
+use Rattle.ipam_command.specs.Commands.{Does, DoesGen, DoesPlay, DoesTell, PlayEnds, Says, unknown_text}
+use Rattle.ipam_command.specs.Outside.{LeavesKeeper, LeavesSource, CommandOutside}
 use Rattle.ipam_commands.specs.Statuses.{code_of}
 use Rattle.ipam_command.specs.Statuses.{code_of_gen, code_of_play}
 
 -- what is done of what is asked
-pub asked : (env : List Pair) (one other : Option Asked) (old new : Outside) (status : ℕ) → one ≡ other → Does env other old new status → Does env one old new status
+pub asked : (env : List Pair) (one other : Option Asked) (old new : CommandOutside) (status : ℕ) → one ≡ other → Does env other old new status → Does env one old new status
 asked env one other old new status is does = subst (λ (a : Option Asked). Does env a old new status) (sym is) does
 
 -- words that name no command
-pub does-unknown : (env : List Pair) (words : Option Asked) (old new : Outside) (status : ℕ) → words ≡ None → Says unknown_text 2 old.written new.written old.write_faults new.write_faults status
+pub does-unknown : (env : List Pair) (words : Option Asked) (old new : CommandOutside) (status : ℕ) → words ≡ None → Says unknown_text 2 old.written new.written old.write_faults new.write_faults status
     → LeavesSource old new → LeavesKeeper old new → Does env words old new status
 does-unknown env words old new status is told source keeper = asked env words None old new status is (record { said = told; source = source; keeper = keeper })
 
-pub does-play : (old new : Outside) (ending : PlayEnd) (status : ℕ) → status ≡ code_of_play ending → IsPlayed old new ending → LeavesKeeper old new → DoesPlay old new status
+pub does-play : (old new : CommandOutside) (ending : PlayEnd) (status : ℕ) → status ≡ code_of_play ending → PlayEnds old new ending → LeavesKeeper old new → DoesPlay old new status
 does-play old new ending status is played keeper = record { ending = ending; has_status = is; played = played; keeper = keeper }
 
-pub does-gen : (count : ℕ) (old new : Outside) (ending : GenEnd) (status : ℕ) → status ≡ code_of_gen ending → gen.HasWritten ending count old.written new.written
+pub does-gen : (count : ℕ) (old new : CommandOutside) (ending : GenEnd) (status : ℕ) → status ≡ code_of_gen ending → gen.HasWritten ending count old.written new.written
     → gen.CountsFaults ending old.write_faults new.write_faults → LeavesSource old new → LeavesKeeper old new → DoesGen count old new status
 does-gen count old new ending status is written faults source keeper =
     record { ending = ending; has_status = is; written = counted_right count ending old.written new.written written; faults = faults; source = source; keeper = keeper }
 
-pub does-tell : (text : List RowText → Datastore → List ℕ) (old new : Outside) (ending : Status) (status : ℕ) → status ≡ code_of ending
+pub does-tell : (text : List RowText → Datastore → List ℕ) (old new : CommandOutside) (ending : Status) (status : ℕ) → status ≡ code_of ending
     → Tells old.rows old.keeper_faults new.keeper_faults text (λ said own. Writes old.written new.written old.write_faults new.write_faults said own ending)
     → LeavesSource old new → new.rows ≡ old.rows → DoesTell text old new status
 does-tell text old new ending status is tells source rows = record { ending = ending; has_status = is; tells = tells; source = source; same_rows = rows }

@@ -11,7 +11,7 @@ use Rattle.ipam_play_run.specs.declared.end.PlayEnd.{PlayEnd}
 use Rattle.ipam_play_run.specs.declared.end.PlayEnd.TheVariants as play
 use Rattle.ipam_gen.specs.declared.end.GenEnd.{GenEnd}
 use Rattle.ipam_gen.specs.Summary as gen
-use Rattle.ipam_headline.specs.Headline.{HasWrittenRight, script_in}
+use Rattle.ipam_headline.specs.Headline.{HasWrittenRight, HasWrittenSoFarRight, script_in}
 use Rattle.ipam_headline.specs.Generating.{HasCountedRight}
 use Rattle.ipam_commands.specs.declared.status.Status.{Status}
 use Rattle.ipam_commands.specs.Telling.{Tells, Writes}
@@ -30,7 +30,7 @@ use Rattle.ipam_cni.specs.Calls as cni
 use Rattle.ipam_call.specs.Ends.{IsStatus}
 use Rattle.ipam_cni.specs.Ends as cni_ends
 use Rattle.ipam_command.specs.CniCalls.{IsCallByRecords, LeavesWhatIsSpared, NeverSaysTryAgain, TellsOfAdd}
-use Rattle.ipam_command.specs.Outside.{LeavesKeeper, LeavesSource, Outside, sides_of}
+use Rattle.ipam_command.specs.Outside.{LeavesKeeper, LeavesSource, CommandOutside, sides_of}
 use Rattle.ipam_commands.specs.Statuses.{code_of}
 use Rattle.ipam_command.specs.Statuses.{code_of_gen, code_of_play}
 
@@ -42,7 +42,7 @@ pub data Says (text : List ℕ) (own : ℕ) (old new : Option (List ℕ)) (fault
   Cut : AppendsPrefix old new text → Rose faults faults' → Says text own old new faults faults' 4
 
 -- the text is said, and nothing is asked of the source and the keeper
-pub record DoesSay (text : List ℕ) (own : ℕ) (old new : Outside) (status : ℕ) : Type 0 where
+pub record DoesSay (text : List ℕ) (own : ℕ) (old new : CommandOutside) (status : ℕ) : Type 0 where
   pub said : Says text own old.written new.written old.write_faults new.write_faults status
   pub source : LeavesSource old new
   pub keeper : LeavesKeeper old new
@@ -51,31 +51,32 @@ abbrev pub unknown_text : List ℕ
 unknown_text = codes "unknown words\n"
 
 -- the words name no command that is run here
-abbrev pub IsUnknown : (old new : Outside) → (status : ℕ) → Type 0
+abbrev pub IsUnknown : (old new : CommandOutside) → (status : ℕ) → Type 0
 IsUnknown old new status = DoesSay unknown_text 2 old new status
 
 -- ---- `play`
 
 -- the script that the source has was played to this end, what was written tells of entries that are a
 -- right history, and each fault has its cause
-pub record IsPlayed (old new : Outside) (ending : PlayEnd) : Type 0 where
+pub record PlayEnds (old new : CommandOutside) (ending : PlayEnd) : Type 0 where
   pub written : IfSome old.left (λ bytes. HasWrittenRight ending (script_in bytes) old.written new.written)
+  pub so_far : ending ≡ play.ReadFault → HasWrittenSoFarRight old.left new.left old.written new.written
   pub at_end : ending ≡ play.Done → IsAtEnd new.left
   pub read_fault : ending ≡ play.ReadFault → Rose old.read_faults new.read_faults
   pub no_read_fault : ending ≢ play.ReadFault → ending ≢ play.WriteFault → new.read_faults ≡ old.read_faults
   pub write_fault : ending ≡ play.WriteFault → Rose old.write_faults new.write_faults
   pub no_write_fault : ending ≢ play.WriteFault → new.write_faults ≡ old.write_faults
 
-pub record DoesPlay (old new : Outside) (status : ℕ) : Type 0 where
+pub record DoesPlay (old new : CommandOutside) (status : ℕ) : Type 0 where
   pub ending : PlayEnd
   pub has_status : status ≡ code_of_play ending
-  pub played : IsPlayed old new ending
+  pub played : PlayEnds old new ending
   pub keeper : LeavesKeeper old new
 
 -- ---- `gen N`
 
 -- the numbers are those that are counted on the generator's course, which is a right history
-pub record DoesGen (count : ℕ) (old new : Outside) (status : ℕ) : Type 0 where
+pub record DoesGen (count : ℕ) (old new : CommandOutside) (status : ℕ) : Type 0 where
   pub ending : GenEnd
   pub has_status : status ≡ code_of_gen ending
   pub written : HasCountedRight ending count old.written new.written
@@ -86,7 +87,7 @@ pub record DoesGen (count : ℕ) (old new : Outside) (status : ℕ) : Type 0 whe
 -- ---- `get`, `get KIND` and `routes NODE`
 
 -- this text is told of the keeper's rows, which stay as they are
-pub record DoesTell (text : List RowText → Datastore → List ℕ) (old new : Outside) (status : ℕ) : Type 0 where
+pub record DoesTell (text : List RowText → Datastore → List ℕ) (old new : CommandOutside) (status : ℕ) : Type 0 where
   pub ending : Status
   pub has_status : status ≡ code_of ending
   pub tells : Tells old.rows old.keeper_faults new.keeper_faults text
@@ -97,7 +98,7 @@ pub record DoesTell (text : List RowText → Datastore → List ℕ) (old new : 
 -- ---- `release NODE CIDR`
 
 -- the release runs alone over the keeper's rows
-pub record DoesRelease (node : List ℕ) (cidr : CidrValue) (old new : Outside) (status : ℕ) : Type 0 where
+pub record DoesRelease (node : List ℕ) (cidr : CidrValue) (old new : CommandOutside) (status : ℕ) : Type 0 where
   pub came : Result ReleaseOutcome KeptFault
   pub ending : Status
   pub has_status : status ≡ code_of ending
@@ -108,10 +109,10 @@ pub record DoesRelease (node : List ℕ) (cidr : CidrValue) (old new : Outside) 
 
 -- ---- `apply`
 
-abbrev pub input_of : Outside → apply.Input
+abbrev pub input_of : CommandOutside → apply.Input
 input_of outside = record { left = outside.left; faults = outside.read_faults }
 
-abbrev pub kept_of : Outside → apply_outside.Outside
+abbrev pub kept_of : CommandOutside → apply_outside.Outside
 kept_of outside = record {
   written = outside.written;
   write_faults = outside.write_faults;
@@ -120,7 +121,7 @@ kept_of outside = record {
 }
 
 -- the source's document is applied over the keeper's rows, which stay where nothing of it is
-pub record DoesApply (old new : Outside) (status : ℕ) : Type 0 where
+pub record DoesApply (old new : CommandOutside) (status : ℕ) : Type 0 where
   pub ending : Status
   pub has_status : status ≡ code_of ending
   pub ends : apply.ApplyEnds (LeavesKeeper old new) (input_of old) (input_of new) (kept_of old) (kept_of new) ending
@@ -131,7 +132,7 @@ pub record DoesApply (old new : Outside) (status : ℕ) : Type 0 where
 -- The call of this environment is made over the keeper's rows. Where it goes well it is never said that
 -- the call may be made again later. Where it goes well and the rows have spare, what it writes and leaves is as the function of the records says, what GC leaves is known by its
 -- owners, and STATUS tells of the ADD that asks for the same.
-pub record DoesCni (env : List Pair) (old new : Outside) (status : ℕ) : Type 0 where
+pub record DoesCni (env : List Pair) (old new : CommandOutside) (status : ℕ) : Type 0 where
   pub ending : CniEnd
   pub went : cni.Went env ending (sides_of old) (sides_of new)
   pub tells : cni_ends.Tells ending old.written new.written old.write_faults new.write_faults status
@@ -146,7 +147,7 @@ pub record DoesCni (env : List Pair) (old new : Outside) (status : ℕ) : Type 0
 
 -- What is done, by what the words ask. An audit, the daemon and its client are run by others; here their
 -- words name no command.
-abbrev pub Does : (env : List Pair) → Option Asked → (old new : Outside) → (status : ℕ) → Type 0
+abbrev pub Does : (env : List Pair) → Option Asked → (old new : CommandOutside) → (status : ℕ) → Type 0
 Does env (Some Cni) old new status = DoesCni env old new status
 Does env (Some Play) old new status = DoesPlay old new status
 Does env (Some (Gen count)) old new status = DoesGen count old new status

@@ -6,7 +6,7 @@ use Rattle.ipam_cni.specs.Calls as cni
 -- What a command finds outside, and leaves there: the bytes that the source has left and how many of its
 -- reads failed, the bytes that the sink took and how many of its writes failed, the keeper's rows and
 -- how many of its calls failed.
-pub record Outside : Type 0 where
+pub record CommandOutside : Type 0 where
   pub left : Option (List ℕ)
   pub read_faults : ℕ
   pub written : Option (List ℕ)
@@ -15,17 +15,17 @@ pub record Outside : Type 0 where
   pub keeper_faults : ℕ
 
 -- the source and its count of faults are as they were
-pub record LeavesSource (old new : Outside) : Type 0 where
+pub record LeavesSource (old new : CommandOutside) : Type 0 where
   pub left : new.left ≡ old.left
   pub read_faults : new.read_faults ≡ old.read_faults
 
 -- the keeper's rows and its count of faults are as they were
-pub record LeavesKeeper (old new : Outside) : Type 0 where
+pub record LeavesKeeper (old new : CommandOutside) : Type 0 where
   pub rows : new.rows ≡ old.rows
   pub keeper_faults : new.keeper_faults ≡ old.keeper_faults
 
 -- what a call finds and leaves, but for what it writes
-abbrev pub sides_of : Outside → cni.Sides
+abbrev pub sides_of : CommandOutside → cni.Sides
 sides_of outside = record {
   input = outside.left;
   input_faults = outside.read_faults;

@@ -35,7 +35,7 @@ use Rattle.ipam_cni.specs.Ends.{fault_error}
 use Rattle.ipam_cni.specs.Replies.{ComesTo, Reply}
 use Rattle.ipam_command.specs.CniCalls.{IsSaid}
 use Rattle.ipam_command.specs.Commands.{unknown_text}
-use Rattle.ipam_command.specs.Outside.{Outside}
+use Rattle.ipam_command.specs.Outside.{CommandOutside}
 
 -- ---- which commands use what
 
@@ -58,13 +58,13 @@ asks_keeper _ = false
 -- ---- completeness
 
 -- no count of faults rose
-pub record NoFault (old new : Outside) : Type 0 where
+pub record NoFault (old new : CommandOutside) : Type 0 where
   pub source : ¬ (Rose old.read_faults new.read_faults)
   pub sink : ¬ (Rose old.write_faults new.write_faults)
   pub keeper : ¬ (Rose old.keeper_faults new.keeper_faults)
 
 -- the text was written, all of it, with this status
-abbrev pub IsWhole : (text : List ℕ) (own : ℕ) (old new : Outside) (status : ℕ) → Type 0
+abbrev pub IsWhole : (text : List ℕ) (own : ℕ) (old new : CommandOutside) (status : ℕ) → Type 0
 IsWhole text own old new status = (new.written ≡ append_known old.written text) × (status ≡ own)
 
 -- what is so of the text and the status that a command comes to
@@ -77,7 +77,7 @@ pub data OfRows (told : Option (List RowText)) (says : List RowText → Datastor
   Broken : (number : ℕ) (about : List ℕ) → AreBroken told number about → written (broken_line number about) 7 → OfRows told says written
 
 -- the outcome of the release over the rows that open, or the first rule that they break
-pub data OfRelease (node : List ℕ) (cidr : CidrValue) (old new : Outside) (written : Written) : Type 0 where
+pub data OfRelease (node : List ℕ) (cidr : CidrValue) (old new : CommandOutside) (written : Written) : Type 0 where
   Came : (found : ReleaseOutcome) → OpenedSo old.rows (λ store. IsReleased store (request.Release node cidr) found new.rows)
       → written (outcome_line found) (code_of (outcome_status found)) → OfRelease node cidr old new written
   NotCome : (number : ℕ) (about : List ℕ) → AreBroken old.rows number about
@@ -85,7 +85,7 @@ pub data OfRelease (node : List ℕ) (cidr : CidrValue) (old new : Outside) (wri
 
 -- the lines of a document's resources up to the first that is refused, or its first fault, or the first
 -- rule that the rows break
-pub data OfApply (old new : Outside) (written : Written) : Type 0 where
+pub data OfApply (old new : CommandOutside) (written : Written) : Type 0 where
   Bad : (document : List ℕ) (fault : DocumentFault) → IsDocument old.left new.left document → document_reading document ≡ Err fault
       → written (fault_line fault) 1 → OfApply old new written
   NotApplied : (document : List ℕ) (resources : List Resource) (number : ℕ) (about : List ℕ)
@@ -100,7 +100,7 @@ pub data OfApply (old new : Outside) (written : Written) : Type 0 where
       → written (applied_lines front ++ refused_line one why) 1 → OfApply old new written
 
 -- what the call comes to with what was read of the source; or that there was no memory
-pub data OfCall (env : List Pair) (old new : Outside) (status : ℕ) : Type 0 where
+pub data OfCall (env : List Pair) (old new : CommandOutside) (status : ℕ) : Type 0 where
   Replied : (stdin : List ℕ) (reply : Reply) → IsInput stdin old.left new.left → ComesTo env stdin old.rows new.rows reply
       → IsSaid reply old new status → OfCall env old new status
   NoMemory : (version : versions.Version) → IsSaid (1, error_text (fault_error version Memory)) old new status
@@ -113,7 +113,7 @@ ending_status (LineRefused number why) = 8
 ending_status (NotOpened rule about) = 7
 
 -- What a command writes is its whole text, with its status.
-abbrev pub IsComplete : List Pair → Option Asked → (old new : Outside) → (status : ℕ) → Type 0
+abbrev pub IsComplete : List Pair → Option Asked → (old new : CommandOutside) → (status : ℕ) → Type 0
 IsComplete env (Some Cni) old new status = OfCall env old new status
 IsComplete env (Some Play) old new status =
     IfSome old.left (λ bytes. WritesAll (script_in bytes) old.written new.written (λ ending. status ≡ ending_status ending))
@@ -133,5 +133,5 @@ IsComplete env (Some (Call address)) old new status = IsWhole unknown_text 2 old
 IsComplete env None old new status = IsWhole unknown_text 2 old new status
 
 -- where no count of faults rose, it is complete, or the status is that of no memory
-abbrev pub CompleteLaw : List Pair → Option Asked → (old new : Outside) → (status : ℕ) → Type 0
+abbrev pub CompleteLaw : List Pair → Option Asked → (old new : CommandOutside) → (status : ℕ) → Type 0
 CompleteLaw env asked old new status = NoFault old new → (status ≡ 6) ⊎ IsComplete env asked old new status

@@ -2,9 +2,10 @@
 use Rattle.std.proofs.Common.{ℕ, inl, inr, List, sym, subst}
 use Rattle.std.specs.Prelude.{◌++◌}
 use Rattle.ipam_model.specs.declared.entry.Entry.{Entry}
+use Rattle.ipam_play.specs.Played.{Whole}
 use Rattle.ipam_play_run.specs.declared.end.PlayEnd.TheVariants as end
-use Rattle.ipam_play_run.specs.Writing.{IsFront, IsText, OfAll, OfFront}
-use Rattle.ipam_headline.specs.Headline.{IsRightOf, IsRightText, WrittenRightLaw, script_in}
+use Rattle.ipam_play_run.specs.Writing.{IsFront, IsSoFar, IsText, OfAll, OfFront, Opened, Unopened}
+use Rattle.ipam_headline.specs.Headline.{IsRightOf, IsRightText, SoFarRightLaw, WrittenRightLaw, script_in}
 use Rattle.ipam_headline.proofs.Playing.{front_lawful, lawful_right, nothing_right, played_lawful, played_right}
 
 front-right : (bytes : List ℕ) (done : List Entry) → IsFront (script_in bytes) done → IsRightOf (script_in bytes) done
@@ -24,3 +25,10 @@ written_right bytes end.NotOpened first now w = (w, played_right bytes w.entries
 written_right bytes end.ReadFault first now w = (w, front-right bytes w.done w.is_front)
 written_right bytes end.NoMemory first now w = (w, front-right bytes w.done w.is_front)
 written_right bytes end.WriteFault first now w = (w, text-right bytes w.text w.is_text)
+
+so-far-right : (bytes : List ℕ) (entries : List Entry) → IsSoFar (script_in bytes) entries → IsRightOf (script_in bytes) entries
+so-far-right bytes _ (Unopened none stops) = nothing_right (script_in bytes)
+so-far-right bytes _ (Opened entries is_played) = played_right bytes entries Whole is_played
+
+pub so_far_right : SoFarRightLaw
+so_far_right was left first now w = (w, so-far-right w.lines w.wrote.entries w.wrote.is_so_far)

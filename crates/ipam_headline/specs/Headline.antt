@@ -9,7 +9,7 @@ use Rattle.ipam_play.specs.Readings.{readings}
 use Rattle.ipam_play.specs.Script.{Script, script_of}
 use Rattle.ipam_play_run.specs.declared.end.PlayEnd.{PlayEnd}
 use Rattle.ipam_play_run.specs.declared.end.PlayEnd.TheVariants as end
-use Rattle.ipam_play_run.specs.Writing.{HasWritten, IsRefusedBase, IsRefusedLine, IsText, IsWhole, OfAll, OfFront, WritesAll, WritesFront, WritesPart, read_fault_text}
+use Rattle.ipam_play_run.specs.Writing.{HasWritten, IsRefusedBase, IsRefusedLine, IsText, IsWhole, OfAll, OfFront, WritesAll, WritesFront, WritesPart, WritesSoFar, read_fault_text}
 
 -- the script that these bytes are
 abbrev pub script_in : List ℕ → Script
@@ -56,3 +56,13 @@ abbrev pub WrittenRightLaw : Type 0
 WrittenRightLaw =
     (bytes : List ℕ) (ending : PlayEnd) (first now : Option (List ℕ))
     → HasWritten ending (script_in bytes) first now → HasWrittenRight ending (script_in bytes) first now
+
+-- ---- what is written where a read of the source fails
+
+-- The lines that were read whole were played, all of their entries were written with the fault after them, and
+-- these entries are right.
+abbrev pub HasWrittenSoFarRight : (was left first now : Option (List ℕ)) → Type 0
+HasWrittenSoFarRight was left first now = (w : WritesSoFar was left first now) × IsRightOf (script_in w.lines) w.wrote.entries
+
+abbrev pub SoFarRightLaw : Type 0
+SoFarRightLaw = (was left first now : Option (List ℕ)) → WritesSoFar was left first now → HasWrittenSoFarRight was left first now

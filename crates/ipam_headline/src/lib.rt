@@ -2,7 +2,7 @@
 //! contract is the law.
 #![tactic(auto)]
 
-ghost use Rattle.ipam_headline.specs.Headline.{PlayedRightLaw, WrittenRightLaw};
+ghost use Rattle.ipam_headline.specs.Headline.{PlayedRightLaw, SoFarRightLaw, WrittenRightLaw};
 ghost use Rattle.ipam_headline.specs.Generating.{CountedRightLaw, GeneratedRightLaw};
 
 /// Whatever bytes a script has, and however it ends: the entries that are played are, over what its
@@ -18,6 +18,12 @@ pub fn what_is_played_is_right()
 /// far; where the sink failed, a front part of the journal was written.
 pub fn what_play_writes_tells_of_a_right_history()
     ensures { WrittenRightLaw }
+{}
+
+/// What `play` has written where a read of the source failed: the lines of all entries so far, which are
+/// those of the lines that were read whole, and after them the fault. These entries are a right history.
+pub fn what_play_writes_before_a_read_fault_tells_of_a_right_history()
+    ensures { SoFarRightLaw }
 {}
 
 /// The course of the generator's events is a right history, whatever number of requests is asked for.

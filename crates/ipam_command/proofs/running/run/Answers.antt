@@ -2,6 +2,7 @@ use Rattle.std.proofs.Common.{Some, refl, ap, rules, subst}
 use Rattle.ipam_words.specs.declared.command.Command.{Command}
 use Rattle.ipam_words.specs.Words.{Cni, Play, Apply, Get, Help, IsSound, Routes, Release, Gen, Version, asked_by}
 use Rattle.ipam_commands.specs.Texts.{rows_text, routes_text}
+use Rattle.ipam_headline.proofs.Writing.{so_far_right}
 use Rattle.ipam_command.proofs.CallLemmas.{call_by_records, leaves_spared, never_says_try_again, tells_of_add}
 use Rattle.ipam_command.proofs.DoLemmas.{apply-ends, asked, does-gen, does-play, does-tell, written-right}
 use Rattle.ipam_command.proofs.running.run.Goals as goal
@@ -15,6 +16,7 @@ returns-in-Play-clause-does g c =
     (does-play _ _ c.play.result _ c.code_of_play.ensures
     (record {
       written = written-right _ _ _ _ c.play.ensures.written;
+      so_far = λ is. so_far_right _ _ _ _ (c.play.ensures.so_far is);
       at_end = c.play.ensures.read;
       read_fault = c.play.ensures.read_fault;
       no_read_fault = c.play.ensures.no_read_fault;
