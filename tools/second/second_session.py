@@ -1,6 +1,8 @@
 """Sessions of the daemon by the second allocator: the reply to each line, written only from the rules and
 formats. One session runs at a time, and its requests run to their answers."""
 
+import re
+
 import cni_table
 import request_table
 from resource_table import Fault, parsed
@@ -10,6 +12,9 @@ from selector_table import Bad
 
 LIVE = request_table.list_of(request_table.handle)
 MOST_CHANGES = 1024
+
+# the text of an opening of the datastore: seconds and a random word
+OPENED = re.compile(r"[0-9]+-[0-9a-f]{16}")
 
 # a grace that no session outlasts
 LONG_GRACE = 60
@@ -181,7 +186,7 @@ def wish(line):
             return "feed", LIVE(inner)
         if name == "routesSince" and type(inner) is int and inner >= 0:
             return "since", inner
-        if name in ("stop", "routes") and inner is True:
+        if name in ("stop", "routes", "opened") and inner is True:
             return name, None
     except (ValueError, RecursionError, Bad, Fault):
         pass
@@ -193,6 +198,7 @@ class Sessions:
 
     def __init__(self, rows, has_routes, counter=0):
         self.cluster, self.slot, self.has_routes = Cluster(Routes(dict(rows), counter)), 0, has_routes
+        self.opened = None
 
     def waiting(self):
         return self.cluster.slots.get(self.slot)
@@ -260,6 +266,13 @@ class Sessions:
         if not self.has_routes:
             return self.refused("line")
         return {"revision": self.cluster.store.counter, "routes": self.cluster.store.routes()}
+
+    def reply_to_opened(self, _, found):
+        """The text of the opening, which the daemon draws: what was found first, where it has the form, and always that."""
+        text = str((found or {}).get("opened"))
+        if self.opened is None and OPENED.fullmatch(text):
+            self.opened = text
+        return {"opened": self.opened}
 
     def reply_to_since(self, revision, _):
         return self.cluster.store.since(revision) if self.has_routes else self.refused("line")

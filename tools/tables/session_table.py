@@ -107,6 +107,7 @@ ONE = {
     "feed": lambda value: "feed " + compact(handles(value)),
     "stop": flag("stop"),
     "routes": flag("routes"),
+    "opened": flag("opened"),
     "routesSince": lambda value: f"since {whole(value)}",
 }
 
@@ -139,6 +140,7 @@ GOOD = [
     '{"routes":true}',
     '{"routesSince":0}',
     '{"routesSince":18446744073709551615}',
+    '{"opened":true}',
 ]
 SPELLINGS = [
     (' { "stop" : true } '),
@@ -156,7 +158,7 @@ BAD = [
     "", " ", "{}", "[]", "null", "true", '"stop"', "0", "{", '{"stop"}', '{"stop":true', '{"stop":true}}',
     '{"stop":true} x', '{"stop":tru}', '{"Stop":true}', '{"stop":false}', '{"stop":1}', '{"stop":"true"}',
     '{"stop":null}', '{"stop":true,"stop":false}', '{"stop":true,"routes":true}', '{"routes":false}',
-    '{"routes":[]}', '{"routes":true,"x":0}', '{"routesSince":-1}', '{"routesSince":1.0}',
+    '{"routes":[]}', '{"routes":true,"x":0}', '{"opened":false}', '{"opened":1}', '{"routesSince":-1}', '{"routesSince":1.0}',
     '{"routesSince":1e2}', '{"routesSince":-0}', '{"routesSince":18446744073709551616}',
     '{"routesSince":"1"}', '{"routesSince":01}', '{"routesSince":true}', '{"routesSince":null}',
     '{"feed":{}}', '{"feed":"a"}', '{"feed":[1]}', '{"feed":[""]}', '{"feed":["a b"]}', '{"feed":["-a"]}',
@@ -253,6 +255,7 @@ fn asked(alloc: Global, wish: &Wish) -> Result<String, AllocError> {
         Wish::Stop => String::from_str(alloc, "stop"),
         Wish::Routes => String::from_str(alloc, "routes"),
         Wish::RoutesSince(revision) => format!(in alloc; "since {revision}"),
+        Wish::Opened => String::from_str(alloc, "opened"),
     }
 }
 

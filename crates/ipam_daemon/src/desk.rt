@@ -8,8 +8,8 @@ ghost use Rattle.ipam_serve.specs.Lines.{server_at};
 ghost use Rattle.ipam_serve.specs.Sessions.{RoseIf, Session, is_halted, is_read_fault, is_write_fault, talk_at};
 
 use crate::serves::Serves;
-use ipam_io::{Gate, Link, SystemClock};
-use ipam_serve::{SessionEnd, Sleeps};
+use ipam_io::{Link, SystemClock};
+use ipam_serve::{Opening, SessionEnd, SessionGate, Sleeps};
 use ipam_shared::Pass;
 use std::alloc::Global;
 use std::sync::{Arc, Wait};
@@ -21,6 +21,7 @@ use std::time::Clock;
 pub(crate) struct Desk<S: Serves, C> {
     alloc: Global,
     shared: Arc<S, Global>,
+    opening: Arc<Opening, Global>,
     pass: Pass,
     clock: SystemClock<C>,
     patience: Sleeps,
@@ -30,18 +31,26 @@ pub(crate) struct Desk<S: Serves, C> {
 }
 
 impl<S: Serves, C: Clock> Desk<S, C> {
-    /// A desk that serves by this pass, and has served no session.
+    /// A desk that serves sessions of this opening by this pass, and has served none.
     #[tactic(auto, using(crate::proofs::Idle::is_idle))]
-    pub(crate) fn new(alloc: Global, shared: Arc<S, Global>, pass: Pass, clock: C) -> Desk<S, C>
+    pub(crate) fn new(
+        alloc: Global,
+        shared: Arc<S, Global>,
+        opening: Arc<Opening, Global>,
+        pass: Pass,
+        clock: C,
+    ) -> Desk<S, C>
         requires own { pass.lock ≡ S.id (arc_value shared) }
         requires idle { runs_in pass ≡ None }
         ensures pass { result.pass ≡ pass }
+        ensures opening { result.opening ≡ opening }
         ensures sessions { result.sessions ≡ 0 }
     {
         let patience = Sleeps::new(pass.slot());
         Desk {
             alloc,
             shared,
+            opening,
             pass,
             patience,
             clock: SystemClock::new(clock),
@@ -52,25 +61,27 @@ impl<S: Serves, C: Clock> Desk<S, C> {
     /// Serves a session over the link to its end, as `serve_session` does. What the client began and
     /// didn't see the end of is stopped by then.
     #[tactic(auto, using(crate::proofs::Idle::is_idle, crate::proofs::Idle::none_runs))]
-    pub(crate) fn serve<R: Wait, G: Gate, L: Link>(
+    pub(crate) fn serve<R: Wait, G: SessionGate, L: Link>(
         &mut self,
         rt: &R,
         gate: &mut G,
         link: &mut L,
     ) -> SessionEnd
-        ensures served { (held : List ℕ) × Session result
-            (talk_at (server_at self.old.pass (G.turns gate.old) None) (L.left link.old) (L.written link.old))
-            (talk_at (server_at self.new.pass (G.turns gate.new) None) (prepend_known held (L.left link.new)) (L.written link.new)) }
+        ensures served { (held : List ℕ) × Session S.came result
+            (talk_at (server_at self.old.pass (G.turns gate.old) None) (arc_value self.old.opening) (G.lines gate.old) (L.left link.old) (L.written link.old))
+            (talk_at (server_at self.new.pass (G.turns gate.new) None) (arc_value self.old.opening) (G.lines gate.new) (prepend_known held (L.left link.new)) (L.written link.new)) }
         ensures same { IsSamePass self.old.pass self.new.pass }
         ensures reads { RoseIf (is_read_fault result) (L.read_faults link.old) (L.read_faults link.new) }
         ensures writes { RoseIf (is_write_fault result) (L.write_faults link.old) (L.write_faults link.new) }
         ensures stops { RoseIf (is_halted result) (G.stops gate.old) (G.stops gate.new) }
+        ensures opening { self.new.opening ≡ self.old.opening }
         ensures counted { self.new.sessions ≡ next_count self.old.sessions }
     {
         self.sessions = self.sessions.saturating_add(1);
         self.shared.session(
             rt,
             self.alloc,
+            &self.opening,
             &mut self.pass,
             gate,
             &mut self.clock,

@@ -4,6 +4,7 @@
 //! after another. The thread that accepts connections hands them over through a channel.
 #![tactic(auto)]
 
+mod asking;
 mod channel;
 mod crew;
 mod desk;
@@ -20,9 +21,9 @@ mod worker;
 pub use ending::log_end;
 pub use handing::{Attends, Hands, Takes, hand_over, work};
 pub use host::Host;
-pub use ipam_serve::{Keeper, SessionEnd};
+pub use ipam_serve::{Keeper, Opening, SessionEnd};
 pub use ipam_socket::{Address, Limits, Listens, SocketListener, Stream};
-pub use opening::open_kept;
+pub use opening::{new_opening, open_kept};
 pub use served::{Served, tell_served};
 pub use serves::Serves;
 pub use serving::{serve, serve_by};

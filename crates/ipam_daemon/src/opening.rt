@@ -6,8 +6,12 @@ ghost use Rattle.ipam_daemon.specs.Opening.{IsUnopened, end_of};
 
 use crate::served::Served;
 use ipam_kept::{Keeper, Kept, KeptFault};
+use ipam_serve::Opening;
 use ipam_shared::{Pass, Shared};
+use ipam_text::Text;
 use std::alloc::{AllocError, Global};
+use std::random::RandomSource;
+use std::time::{Clock, Duration};
 
 /// Opens the keeper's rows, with their history yet to be written.
 pub fn open_kept<D: Keeper + Drop>(alloc: Global, keeper: D) -> Result<Kept<D>, Served>
@@ -29,6 +33,19 @@ fn end_of(fault: KeptFault) -> Served
         KeptFault::Refused(number, about) => Served::BrokenRows(number, about),
         KeptFault::Memory => Served::NoMemory,
     }
+}
+
+/// An opening with a text of its own: the seconds since the start of 1970, a hyphen and 16 random hex
+/// digits. Where the system gives no random bytes, the digits are of the clock's nanoseconds.
+pub fn new_opening<R: Clock + RandomSource>(rt: &R, alloc: Global) -> Result<Opening, AllocError> {
+    let time = rt.since_1970().unwrap_or(Duration::ZERO);
+    let mut bytes = [0u8; 8];
+    let word = match rt.fill_bytes(&mut bytes) {
+        Ok(()) => u64::from_le_bytes(bytes),
+        Err(_) => u64::from(time.subsec_nanos()),
+    };
+    let text = format!(in alloc; "{}-{word:016x}", time.as_secs())?;
+    Ok(Opening::of(alloc, Text::of(text)))
 }
 
 /// The cluster for many threads, and its first pass.

@@ -1,14 +1,17 @@
 //! What workers serve over.
-ghost use Rattle.std.specs.Prelude.{◌≡◌, ℕ, List, None, IfSome, IfNone};
+ghost use Rattle.std.specs.Prelude.{◌≡◌, ℕ, List, Option, None, IfSome, IfNone};
 ghost use Rattle.std.specs.Io.KnownBytes.{prepend_known};
 ghost use Rattle.atomic_table.specs.Seated.{TableId};
+ghost use Rattle.ipam_model.specs.declared.answer.Answer.{Answer};
+ghost use Rattle.ipam_shared.specs.PassValue.{PassValue};
 ghost use Rattle.ipam_shared.specs.Passes.{IsSamePass, runs_in};
+ghost use Rattle.ipam_serve.specs.Keeping.{CameOf};
 ghost use Rattle.ipam_serve.specs.Lines.{server_at};
 ghost use Rattle.ipam_serve.specs.Sessions.{RoseIf, Session, is_halted, is_read_fault, is_write_fault, talk_at};
 ghost use Rattle.ipam_daemon.specs.Crews.{IsSpent};
 
-use ipam_io::{Clock, Gate, Link};
-use ipam_serve::{Patience, SessionEnd, serve_session};
+use ipam_io::{Clock, Link};
+use ipam_serve::{Opening, Patience, SessionEnd, SessionGate, serve_session};
 use ipam_shared::{Keeper, Pass, Shared};
 use std::alloc::Global;
 use std::sync::Wait;
@@ -19,6 +22,9 @@ pub trait Serves {
     /// The lock whose passes these are.
     ghost id: { Self → TableId };
 
+    /// What came at the keeper of a line with this answer, or with none, from the one pass to the other.
+    ghost came: { Option Answer → PassValue → PassValue → Type 0 };
+
     /// Splits off a pass with a slot of its own, where there is one left.
     fn split_off(&self, pass: &mut Pass) -> Option<Pass>
         requires own { pass.old.lock ≡ id self.now }
@@ -28,12 +34,13 @@ pub trait Serves {
         ensures idle { IfSome result (λ other. runs_in other ≡ None) }
         ensures none { IfNone result (IsSpent pass.new) };
 
-    /// Serves a session over the link to its end, as `serve_session` does. Where a race was lost it lets
-    /// others finish.
-    fn session<R: Wait, L: Link, G: Gate, C: Clock, P: Patience>(
+    /// Serves a session of this opening over the link to its end, as `serve_session` does. Where a race was
+    /// lost it lets others finish.
+    fn session<R: Wait, L: Link, G: SessionGate, C: Clock, P: Patience>(
         &self,
         rt: &R,
         alloc: Global,
+        opening: &Opening,
         pass: &mut Pass,
         gate: &mut G,
         clock: &mut C,
@@ -42,9 +49,9 @@ pub trait Serves {
     ) -> SessionEnd
         requires own { pass.old.lock ≡ id self.now }
         requires idle { runs_in pass.old ≡ None }
-        ensures served { (held : List ℕ) × Session result
-            (talk_at (server_at pass.old (G.turns gate.old) (C.ahead clock.old)) (L.left link.old) (L.written link.old))
-            (talk_at (server_at pass.new (G.turns gate.new) (C.ahead clock.new)) (prepend_known held (L.left link.new)) (L.written link.new)) }
+        ensures served { (held : List ℕ) × Session came result
+            (talk_at (server_at pass.old (G.turns gate.old) (C.ahead clock.old)) opening.now (G.lines gate.old) (L.left link.old) (L.written link.old))
+            (talk_at (server_at pass.new (G.turns gate.new) (C.ahead clock.new)) opening.now (G.lines gate.new) (prepend_known held (L.left link.new)) (L.written link.new)) }
         ensures idle { runs_in pass.new ≡ None }
         ensures same { IsSamePass pass.old pass.new }
         ensures reads { RoseIf (is_read_fault result) (L.read_faults link.old) (L.read_faults link.new) }
@@ -55,20 +62,23 @@ pub trait Serves {
 impl<D: Keeper> Serves for Shared<D> {
     ghost id = { λ shared. shared };
 
+    ghost came = { CameOf D.rows D.given D.faults };
+
     fn split_off(&self, pass: &mut Pass) -> Option<Pass> {
         self.split(pass)
     }
 
-    fn session<R: Wait, L: Link, G: Gate, C: Clock, P: Patience>(
+    fn session<R: Wait, L: Link, G: SessionGate, C: Clock, P: Patience>(
         &self,
         rt: &R,
         alloc: Global,
+        opening: &Opening,
         pass: &mut Pass,
         gate: &mut G,
         clock: &mut C,
         patience: &mut P,
         link: &mut L,
     ) -> SessionEnd {
-        serve_session(rt, alloc, self, pass, gate, clock, patience, link)
+        serve_session(rt, alloc, self, opening, pass, gate, clock, patience, link)
     }
 }

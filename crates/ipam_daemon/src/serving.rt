@@ -9,20 +9,21 @@ use crate::opening::open_kept;
 use crate::served::Served;
 use crate::staff::{Leaving, engage};
 use ipam_kept::{Keeper, Kept};
+use ipam_serve::Opening;
 use ipam_socket::{Address, Failed, Limits, Listens, SocketListener, Stream};
 use std::alloc::Global;
 use std::fs::Files;
 use std::net::{Net, TcpListener, TcpStream};
 
-/// Opens the keeper's rows and serves sessions at the address, by up to so many workers: at a socket
-/// file, where the address begins with a slash, and else at an IP address or the name of a host, a
-/// colon and a port. It ends where the rows are not opened or listening fails, and else goes on as
-/// long as connections can be accepted; sessions that are served by then are left to end with the
+/// Opens the keeper's rows and serves sessions of this opening at the address, by up to so many workers:
+/// at a socket file, where the address begins with a slash, and else at an IP address or the name of a
+/// host, a colon and a port. It ends where the rows are not opened or listening fails, and else goes on
+/// as long as connections can be accepted; sessions that are served by then are left to end with the
 /// process. The socket file is removed at the end.
 pub fn serve<
     R: Host + Files + Net<Listener = TcpListener, Stream = TcpStream>,
     D: Keeper + Send + Drop + 'static,
->(rt: R, alloc: Global, keeper: D, address: &str, workers: u8) -> Served
+>(rt: R, alloc: Global, keeper: D, opening: Opening, address: &str, workers: u8) -> Served
     ensures { IsEnd D.rows D.faults D.name keeper result }
 {
     let mut listener = SocketListener::new(&rt, alloc, Address::of(address));
@@ -31,6 +32,7 @@ pub fn serve<
         rt,
         alloc,
         keeper,
+        opening,
         &mut listener,
         workers,
         limits,
@@ -45,6 +47,7 @@ pub fn serve_by<R: Host, D: Keeper + Send + Drop + 'static, L: Listens<Stream>>(
     rt: R,
     alloc: Global,
     keeper: D,
+    opening: Opening,
     listener: &mut L,
     workers: u8,
     limits: Limits,
@@ -59,7 +62,7 @@ pub fn serve_by<R: Host, D: Keeper + Send + Drop + 'static, L: Listens<Stream>>(
     };
     match listener.open() {
         Ok(()) => {
-            let served = serve_at(rt, alloc, kept, listener, workers, limits, leaving);
+            let served = serve_at(rt, alloc, kept, opening, listener, workers, limits, leaving);
             listener.close();
             served
         }
@@ -75,6 +78,7 @@ fn serve_at<R: Host, D: Keeper + Send + Drop + 'static, L: Listens<Stream>>(
     rt: R,
     alloc: Global,
     kept: Kept<D>,
+    opening: Opening,
     listener: &mut L,
     workers: u8,
     limits: Limits,
@@ -84,7 +88,7 @@ fn serve_at<R: Host, D: Keeper + Send + Drop + 'static, L: Listens<Stream>>(
     ensures ended { (result ≡ Served.NoMemory) ⊎ (result ≡ Served.ListenFault) }
     ensures listening { ListenFaults result (L.faults listener.old) (L.faults listener.new) }
 {
-    match engage(rt, alloc, kept, workers, limits) {
+    match engage(rt, alloc, kept, opening, workers, limits) {
         Ok(mut staff) => {
             staff.accept_all(&rt, listener);
             staff.leave(&rt, leaving);

@@ -14,6 +14,7 @@ use crate::opening::share;
 use crate::serves::Serves;
 use crate::worker::Worker;
 use ipam_kept::{Keeper, Kept};
+use ipam_serve::Opening;
 use ipam_shared::{Pass, Shared};
 use ipam_socket::{Failed, Limits, Listens, Stream};
 use log::Log;
@@ -102,12 +103,13 @@ impl<S: Serves + Drop, C: Clock + Copy + Drop> Staff<S, C> {
     }
 }
 
-/// So many workers over the cluster, or fewer where the system makes no more threads or the cluster has
+/// So many workers over this opening of the cluster, or fewer where the system makes no more threads or the cluster has
 /// no more slots.
 pub fn engage<R: Host, D: Keeper + Send + Drop + 'static>(
     rt: R,
     alloc: Global,
     kept: Kept<D>,
+    opening: Opening,
     workers: u8,
     limits: Limits,
 ) -> Result<Staff<Shared<D>, R>, AllocError>
@@ -115,7 +117,7 @@ pub fn engage<R: Host, D: Keeper + Send + Drop + 'static>(
     ensures engaged { IfOk result (λ staff. IsEngaged workers 0 (vec_len staff.threads) 0 staff.thread_faults staff.own.desk.pass) }
 {
     let (shared, pass) = share(alloc, kept)?;
-    engage_over(rt, alloc, shared, pass, workers, limits)
+    engage_over(rt, alloc, shared, opening, pass, workers, limits)
 }
 
 /// The same, over what may be used by many threads.
@@ -123,6 +125,7 @@ fn engage_over<R: Host, S: Serves + Send + Sync + Drop + 'static>(
     rt: R,
     alloc: Global,
     shared: S,
+    opening: Opening,
     mut pass: Pass,
     workers: u8,
     limits: Limits,
@@ -132,11 +135,14 @@ fn engage_over<R: Host, S: Serves + Send + Sync + Drop + 'static>(
     ensures engaged { IfOk result (λ staff. IsEngaged workers 0 (vec_len staff.threads) 0 staff.thread_faults staff.own.desk.pass) }
 {
     let shared = Arc::new(alloc, shared)?;
+    let opening = Arc::new(alloc, opening)?;
     let (to, from) = channel(alloc)?;
     let mut crew = Crew::new(&rt, alloc, &from);
-    hire_all(rt, alloc, &shared, &mut pass, &mut crew, workers, limits)?;
+    hire_all(
+        rt, alloc, &shared, &opening, &mut pass, &mut crew, workers, limits,
+    )?;
     let (threads, thread_faults) = crew.into_parts();
-    let own = Worker::new(alloc, shared, pass, rt, limits);
+    let own = Worker::new(alloc, shared, opening, pass, rt, limits);
     Ok(Staff {
         to,
         threads,
@@ -152,6 +158,7 @@ fn hire_all<R: Host, S: Serves + Send + Sync + Drop + 'static>(
     rt: R,
     alloc: Global,
     shared: &Arc<S, Global>,
+    opening: &Arc<Opening, Global>,
     pass: &mut Pass,
     crew: &mut Crew<'_, R>,
     workers: u8,
@@ -166,7 +173,8 @@ fn hire_all<R: Host, S: Serves + Send + Sync + Drop + 'static>(
         let Some(other) = shared.split_off(pass) else {
             return Ok(());
         };
-        let worker = Worker::new(alloc, Arc::try_clone(shared)?, other, rt, limits);
+        let (shared, opening) = (Arc::try_clone(shared)?, Arc::try_clone(opening)?);
+        let worker = Worker::new(alloc, shared, opening, other, rt, limits);
         if !hire(crew, worker)? {
             return Ok(());
         }

@@ -4,12 +4,14 @@ ghost use Rattle.std.specs.Arc.{arc_value};
 ghost use Rattle.ipam_io.specs.Counts.{next_count};
 ghost use Rattle.ipam_shared.specs.Passes.{runs_in};
 
+use crate::asking::Asking;
 use crate::desk::Desk;
 use crate::ending::{log_end, log_refused};
 use crate::handing::Attends;
 use crate::serves::Serves;
+use ipam_serve::Opening;
 use ipam_shared::Pass;
-use ipam_socket::{Limits, PeerGate, SocketLink, Stream, StreamPeer};
+use ipam_socket::{Limits, SocketLink, Stream, StreamPeer};
 use log::Log;
 use std::alloc::Global;
 use std::sync::{Arc, Wait};
@@ -24,10 +26,11 @@ pub(crate) struct Worker<S: Serves, C> {
 }
 
 impl<S: Serves, C: Clock + Copy> Worker<S, C> {
-    /// A worker that serves by this pass, within these limits.
+    /// A worker that serves sessions of this opening by this pass, within these limits.
     pub(crate) fn new(
         alloc: Global,
         shared: Arc<S, Global>,
+        opening: Arc<Opening, Global>,
         pass: Pass,
         clock: C,
         limits: Limits,
@@ -38,7 +41,7 @@ impl<S: Serves, C: Clock + Copy> Worker<S, C> {
         ensures sessions { result.desk.sessions ≡ 0 }
     {
         Worker {
-            desk: Desk::new(alloc, shared, pass, clock),
+            desk: Desk::new(alloc, shared, opening, pass, clock),
             clock,
             limits,
         }
@@ -49,7 +52,7 @@ impl<S: Serves, C: Clock + Copy> Worker<S, C> {
         ensures { self.new.desk.sessions ≡ next_count self.old.desk.sessions }
     {
         let mut link = SocketLink::of_session(self.clock, stream, self.limits);
-        let mut gate = PeerGate::new(StreamPeer::new(stream));
+        let mut gate = Asking::new(StreamPeer::new(stream));
         let end = self.desk.serve(rt, &mut gate, &mut link);
         if link.is_refused() {
             log_refused(rt);

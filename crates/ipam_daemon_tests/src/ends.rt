@@ -1,6 +1,6 @@
 //! What is written and logged at ends.
 use crate::calls::{called_with, input_of};
-use crate::loopback::{free, keeper_of, listening, reached};
+use crate::loopback::{OPENED, free, keeper_of, listening, opening, reached};
 use ipam_daemon::{Host, Keeper, Served, SessionEnd, log_end, serve, tell_served};
 use ipam_io::MemorySink;
 use ipam_keeper::MemoryKeeper;
@@ -86,7 +86,7 @@ fn told_served<
     R: Host + Files + Net<Listener = TcpListener, Stream = TcpStream>,
     D: Keeper + Send + Drop + 'static,
 >(rt: R, alloc: Global, keeper: D, address: &str) -> Result<String, AllocError> {
-    let served = serve(rt, alloc, keeper, address, 2);
+    let served = serve(rt, alloc, keeper, opening(alloc, OPENED)?, address, 2);
     told(alloc, &served, 64)
 }
 

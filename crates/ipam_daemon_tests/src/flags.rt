@@ -1,5 +1,6 @@
 //! One thread tells another that something is done.
-use ipam_io::{Gate, Passed, Point};
+use ipam_io::{Passed, Point};
+use ipam_serve::SessionGate;
 use std::sync::atomic::{AtomicU64, Ordering};
 use std::thread;
 
@@ -57,12 +58,14 @@ impl WaitingGate<'_> {
     }
 }
 
-impl Gate for WaitingGate<'_> {
-    ghost use Rattle.std.specs.Prelude.{Some};
+impl SessionGate for WaitingGate<'_> {
+    ghost use Rattle.std.specs.Prelude.{None, Some};
 
     ghost stops = { λ gate. gate.stops };
 
     ghost turns = { λ gate. Some gate.turns };
+
+    ghost lines = { λ _. None };
 
     fn pass(&mut self, point: Point) -> Passed {
         if point == Point::Line {

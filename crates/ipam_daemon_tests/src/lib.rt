@@ -16,6 +16,8 @@ mod logged;
 #[cfg(test)]
 mod loopback;
 #[cfg(test)]
+mod openings;
+#[cfg(test)]
 mod scripts;
 #[cfg(test)]
 mod sessions;

@@ -1,6 +1,6 @@
 //! A session is logged once, by its end.
 use crate::clients::connected;
-use crate::loopback::{free, limits_of, listening, reached};
+use crate::loopback::{OPENED, free, limits_of, listening, opening, reached};
 use ipam_daemon::{Host, engage, open_kept};
 use log::sink::{Lines, Memory};
 use log::{Level, Logged};
@@ -36,7 +36,14 @@ fn logged<R: Host>(host: R, rt: &HostRuntime, text: &str) -> Result<Lines, Alloc
     let Ok(kept) = open_kept(alloc, free(alloc)?) else {
         return Ok(log.into_parts().1.into_lines());
     };
-    let mut staff = engage(host, alloc, kept, 0, limits_of(40_000))?;
+    let mut staff = engage(
+        host,
+        alloc,
+        kept,
+        opening(alloc, OPENED)?,
+        0,
+        limits_of(40_000),
+    )?;
     let _ = staff.accept(&log, &mut listener, 1);
     staff.dismiss(&host);
     Ok(log.into_parts().1.into_lines())

@@ -1,7 +1,10 @@
 //! The daemon at a port of the loopback, or at a socket file.
-use ipam_daemon::{Address, Host, Limits, Listens, SocketListener, Stream, engage, open_kept};
+use ipam_daemon::{
+    Address, Host, Limits, Listens, Opening, SocketListener, Stream, engage, open_kept,
+};
 use ipam_keeper::{KeepFault, Keeper, MemoryKeeper};
 use ipam_socket::Failed;
+use ipam_text::Text;
 use std::alloc::{AllocError, Global};
 use std::process;
 use std::time::Duration;
@@ -11,6 +14,14 @@ const ROWS: &str =
     r#"1 pools {"pools":[{"blockSize":30,"cidr":"10.0.0.0/29","disabled":false,"name":"p"}]}
 2 affinity/a/10.0.0.0/30 {"cidr":"10.0.0.0/30","node":"a","state":"confirmed"}
 3 block/10.0.0.0/30 {"affinity":"host:a","allocations":[null,null,null,null],"attributes":[],"cidr":"10.0.0.0/30","sequenceNumber":0,"sequenceNumberForAllocation":{},"unallocated":[0,1,2,3]}"#;
+
+/// The text of the opening that is served.
+pub(crate) const OPENED: &str = "7-00000000000000fe";
+
+/// The opening with this text.
+pub(crate) fn opening(alloc: Global, text: &str) -> Result<Opening, AllocError> {
+    Ok(Opening::of(alloc, Text::copied(alloc, text)?))
+}
 
 /// A keeper of rows in which each address of the pool is free.
 pub(crate) fn free(alloc: Global) -> Result<MemoryKeeper, AllocError> {
@@ -135,7 +146,10 @@ pub(crate) fn serve_all<R: Host, D: Keeper + Send + Drop + 'static, L: Listens<S
     let Ok(kept) = open_kept(alloc, keeper) else {
         return false;
     };
-    match engage(rt, alloc, kept, workers, limits) {
+    let Ok(opening) = opening(alloc, OPENED) else {
+        return false;
+    };
+    match engage(rt, alloc, kept, opening, workers, limits) {
         Ok(mut staff) => {
             let _ = staff.accept(&rt, listener, connections);
             staff.dismiss(&rt);

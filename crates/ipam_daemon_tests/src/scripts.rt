@@ -8,6 +8,8 @@ a > {"request":{"add":{"handle":"n.c1","node":"a"}}}
 a < {"answer":{"added":[{"address":"10.0.0.0","b":5,"c":1,"f":4,"p":2,"r":3,"w":8}]}}
 a > {"env":{"CNI_COMMAND":"ADD","CNI_CONTAINERID":"c2","CNI_IFNAME":"eth0","CNI_NETNS":"/x"},"stdin":"{\"cniVersion\":\"1.0.0\",\"name\":\"net\",\"nodename\":\"a\",\"ipam\":{\"type\":\"calico-ipam\"}}"}
 a < {"status":0,"stdout":"{\"cniVersion\":\"1.0.0\",\"ips\":[{\"address\":\"10.0.0.1/32\"}]}\n"}
+a > {"opened":true}
+a < {"opened":"7-00000000000000fe"}
 a > {"feed":[]}
 a > no request
 a > {"request":{"check":{"addresses":["10.0.0.0"],"handle":"n.c1"}}}

@@ -1,7 +1,9 @@
 //! Sessions at once, one after another, and with no worker.
 use crate::calls::called_at;
 use crate::clients::{connected, play, wanted};
-use crate::loopback::{Few, free, limits_of, listening, reached, serve_all, socket_path};
+use crate::loopback::{
+    Few, OPENED, free, limits_of, listening, opening, reached, serve_all, socket_path,
+};
 use crate::scripts::{AT_A_FILE, CUT, EITHER, OVER_TCP};
 use crate::turns::two_sessions;
 use ipam_daemon::{Address, Host, Leaving, Listens, Served, SocketListener, open_kept, serve_by};
@@ -151,6 +153,7 @@ fn serve_few<R: Host + Sync>(
         host,
         alloc,
         free(alloc)?,
+        opening(alloc, OPENED)?,
         &mut few,
         2,
         limits_of(LONG),

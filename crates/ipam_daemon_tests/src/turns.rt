@@ -3,9 +3,10 @@ ghost use Rattle.std.specs.Prelude.{◌≡◌, None};
 ghost use Rattle.ipam_shared.specs.Passes.{IsNewlyKept, runs_in};
 
 use crate::flags::{Flag, WaitingGate};
+use crate::loopback::opening;
 use ipam_daemon::Serves;
-use ipam_io::{Gate, ListClock, MemoryLink, OpenGate};
-use ipam_serve::Sleeps;
+use ipam_io::{ListClock, MemoryLink, OpenGate};
+use ipam_serve::{SessionGate, Sleeps};
 use ipam_shared::{Keeper, Kept, Pass, Shared};
 use std::alloc::{AllocError, Global};
 use std::str;
@@ -29,7 +30,7 @@ const WAITS_AT: u64 = 3;
 const ROOM: usize = 4096;
 
 /// Serves a session of these lines, and tells what it writes and how it ends.
-fn served<R: Wait, S: Serves, G: Gate>(
+fn served<R: Wait, S: Serves, G: SessionGate>(
     rt: &R,
     alloc: Global,
     shared: &S,
@@ -44,7 +45,17 @@ fn served<R: Wait, S: Serves, G: Gate>(
     let mut link = MemoryLink::new(alloc, bytes, ROOM, Vec::new(alloc))?;
     let mut clock = ListClock::new(Vec::new(alloc));
     let mut patience = Sleeps::new(pass.slot());
-    let end = shared.session(rt, alloc, pass, gate, &mut clock, &mut patience, &mut link);
+    let opening = opening(alloc, "7-0")?;
+    let end = shared.session(
+        rt,
+        alloc,
+        &opening,
+        pass,
+        gate,
+        &mut clock,
+        &mut patience,
+        &mut link,
+    );
     let written = str::from_utf8(link.written()).unwrap_or("no text");
     format!(in alloc; "{written}{end:?}")
 }

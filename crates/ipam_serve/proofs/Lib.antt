@@ -2,6 +2,7 @@
 pub mod Entries
 pub mod Slots
 pub mod Turning
+pub mod Keeping
 pub mod Coming
 pub mod Running
 pub mod Going

@@ -63,11 +63,12 @@ reads-none None = refl
 reads-none (Some ahead) = refl
 
 module _ (server : Server) where
-  nothing : (asked : Option Wish) (one : Reply) → deed_of asked (runs_in server.taker.pass) 0 ≡ Nothing → reads_clock asked (runs_in server.taker.pass) ≡ false
-      → TakesTurn asked server.taker.pass server.taker.pass → reply_unless_unread asked (standing server.taker.pass server.taker.pass 0 None) ≡ Some one → Replies asked one server server
-  nothing asked one deed reads turned replied = record {
+  nothing : (asked : Option Wish) (one : Reply) (opened : List ℕ) → deed_of asked (runs_in server.taker.pass) 0 ≡ Nothing → reads_clock asked (runs_in server.taker.pass) ≡ false
+      → TakesTurn asked server.taker.pass server.taker.pass → reply_unless_unread asked (standing server.taker.pass server.taker.pass 0 None opened) ≡ Some one → Replies asked one server server
+  nothing asked one opened deed reads turned replied = record {
     at = 0;
     answer = None;
+    opened = opened;
     does = subst (λ (d : Deed). Does server.taker d None 1 server.taker) (sym deed) (does-nothing server.taker);
     reads = subst (λ (b : Bool). server.ahead ≡ prepend_known_readings (reading b 0) server.ahead) (sym reads) (reads-none server.ahead);
     turned = turned;
@@ -75,19 +76,22 @@ module _ (server : Server) where
   }
 
   pub unread : Replies None (reply.Refused refusal.Line) server server
-  unread = nothing None (reply.Refused refusal.Line) refl refl tt refl
+  unread = nothing None (reply.Refused refusal.Line) [] refl refl tt refl
 
   pub call-waiting : (env : List Pair) (stdin : List ℕ) → is_waiting (runs_in server.taker.pass) ≡ true → Replies (Some (wish.Cni env stdin)) (reply.Refused refusal.Waiting) server server
-  call-waiting env stdin waits = nothing (Some (wish.Cni env stdin)) (reply.Refused refusal.Waiting) (rw waits refl) refl tt (rw waits refl)
+  call-waiting env stdin waits = nothing (Some (wish.Cni env stdin)) (reply.Refused refusal.Waiting) [] (rw waits refl) refl tt (rw waits refl)
 
   pub request-waiting : (request : Request) → is_waiting (runs_in server.taker.pass) ≡ true → Replies (Some (wish.Request request)) (reply.Refused refusal.Waiting) server server
-  request-waiting request waits = nothing (Some (wish.Request request)) (reply.Refused refusal.Waiting) (rw waits refl) (rw waits refl) tt (rw waits refl)
+  request-waiting request waits = nothing (Some (wish.Request request)) (reply.Refused refusal.Waiting) [] (rw waits refl) (rw waits refl) tt (rw waits refl)
 
   pub feed-idle : (live : List (List ℕ)) → is_waiting (runs_in server.taker.pass) ≡ false → Replies (Some (wish.Feed live)) (reply.Refused refusal.NotWaiting) server server
-  feed-idle live idle = nothing (Some (wish.Feed live)) (reply.Refused refusal.NotWaiting) (rw idle refl) idle tt (rw idle refl)
+  feed-idle live idle = nothing (Some (wish.Feed live)) (reply.Refused refusal.NotWaiting) [] (rw idle refl) idle tt (rw idle refl)
 
   pub stop-idle : is_waiting (runs_in server.taker.pass) ≡ false → Replies (Some wish.Stop) (reply.Refused refusal.NotWaiting) server server
-  stop-idle idle = nothing (Some wish.Stop) (reply.Refused refusal.NotWaiting) (rw idle refl) refl tt (rw idle refl)
+  stop-idle idle = nothing (Some wish.Stop) (reply.Refused refusal.NotWaiting) [] (rw idle refl) refl tt (rw idle refl)
+
+  pub opened-replies : (text : List ℕ) → Replies (Some wish.Opened) (reply.Opened text) server server
+  opened-replies text = nothing (Some wish.Opened) (reply.Opened text) text refl refl tt refl
 
   -- as far as it came, which is nowhere
   pub breaks-at-once : (asked : Option Wish) → Breaks asked server server
@@ -111,6 +115,7 @@ module _ (old new : Server) (request : Request) (at : ℕ) (idle : is_waiting (r
   request-replies (Answered told) d none waits = record {
     at = at;
     answer = Some told;
+    opened = [];
     does = request-did (Some told) 0 (omega arith) d;
     reads = request-reads;
     turned = tt;
@@ -119,6 +124,7 @@ module _ (old new : Server) (request : Request) (at : ℕ) (idle : is_waiting (r
   request-replies Waits d none waits = record {
     at = at;
     answer = None;
+    opened = [];
     does = request-did None 1 (omega arith) d;
     reads = request-reads;
     turned = tt;
@@ -142,6 +148,7 @@ module _ (old new : Server) (live : List (List ℕ)) (at : ℕ) (waits : is_wait
   feed-replies None (early, still, d) = record {
     at = at;
     answer = None;
+    opened = [];
     does = rw (waits, early) d;
     reads = feed-reads;
     turned = tt;
@@ -150,6 +157,7 @@ module _ (old new : Server) (live : List (List ℕ)) (at : ℕ) (waits : is_wait
   feed-replies (Some told) (due, none, d) = record {
     at = at;
     answer = Some told;
+    opened = [];
     does = rw (waits, due) (does-spared old.taker new.taker (Feeds live at) (Some told) 0 1 (omega arith) d);
     reads = feed-reads;
     turned = tt;
@@ -179,6 +187,7 @@ unfolding calls_in
 stop-replies server new waits took = record {
   at = 0;
   answer = None;
+  opened = [];
   does = rw waits (record {
     entries = entry.Stopped server.taker.pass.slot ∷ [];
     did = (refl, refl);
@@ -223,12 +232,13 @@ call-timeless env stdin request version e = look-timeless (look_reading env stdi
 
 module _ (server : Server) (env : List Pair) (stdin : List ℕ) (idle : is_waiting (runs_in server.taker.pass) ≡ false) where
   pub call-told : (status : ℕ) (text : List ℕ) → call_begun env stdin ≡ Some (Told status text) → Replies (Some (wish.Cni env stdin)) (reply.Called status text) server server
-  call-told status text begun = nothing server (Some (wish.Cni env stdin)) (reply.Called status text) (rw (idle, begun) refl) refl tt (rw (idle, begun) refl)
+  call-told status text begun = nothing server (Some (wish.Cni env stdin)) (reply.Called status text) [] (rw (idle, begun) refl) refl tt (rw (idle, begun) refl)
 
   pub call-replies : (new : Taker) (request : Request) (version : versions.Version) (one : Reply) → call_begun env stdin ≡ Some (Runs request version) → TellsRun request version server.taker one new → Replies (Some (wish.Cni env stdin)) one server (record { taker = new; ahead = server.ahead })
   call-replies new request version one begun t = record {
     at = 0;
     answer = Some t.told;
+    opened = [];
     does = rw (idle, begun) t.does;
     reads = reads-none server.ahead;
     turned = tt;

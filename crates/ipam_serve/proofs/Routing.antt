@@ -84,6 +84,7 @@ module _ (server : Server) (new : PassValue) (took : Took server.taker.pass [] 1
   routes-replies counter routes are one = record {
     at = 0;
     answer = None;
+    opened = [];
     does = record { entries = []; did = (refl, refl); took = took; passed = passed-nothing server.taker.turns };
     reads = reads-none server.ahead;
     turned = one;
@@ -95,6 +96,7 @@ module _ (server : Server) (new : PassValue) (took : Took server.taker.pass [] 1
   since-replies revision since is one = record {
     at = 0;
     answer = None;
+    opened = [];
     does = record { entries = []; did = (refl, refl); took = took; passed = passed-nothing server.taker.turns };
     reads = reads-none server.ahead;
     turned = one;

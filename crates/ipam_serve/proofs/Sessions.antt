@@ -20,9 +20,9 @@ use Rattle.ipam_serve.specs.declared.ran.Broken.{Broken}
 use Rattle.ipam_serve.specs.declared.ran.Broken.TheVariants.{Halted, Worn, Memory}
 use Rattle.ipam_serve.specs.Faults.{OnWorn}
 use Rattle.ipam_serve.specs.Gains.{Gained, Passed, Took, asked_after, asked_in, calls_in}
-use Rattle.ipam_serve.specs.Lines.{Breaks, Replies, Server, WearsOut, asked_by}
+use Rattle.ipam_serve.specs.Lines.{Breaks, Replies, Server, TellsOpened, WearsOut, asked_by}
 use Rattle.ipam_serve.specs.Runs.{Taker}
-use Rattle.ipam_serve.specs.Sessions.{Ends, Exchange, Exchanges, IsCause, IsStopped, Leaves, LeavesUndone, LeavesUntold, Nothing, ReadsLine, Rest, Serves, Session, StopsLast, Sums, Talk, Talks, Undone, Untold, end_of, lines_in, lines_read, with_pass}
+use Rattle.ipam_serve.specs.Sessions.{AsksOnce, Comes, Ends, Exchange, Exchanges, IsCause, IsStopped, Leaves, LeavesUndone, LeavesUntold, Nothing, ReadsLine, Rest, Serves, Session, StopsLast, Sums, Talk, Talks, Undone, Untold, end_of, lines_in, lines_read, talk_at, with_pass}
 use Rattle.ipam_serve.proofs.Entries.{of_slot-told}
 use Rattle.ipam_serve.proofs.Running.{none-asked}
 use Rattle.ipam_serve.proofs.Turning.{passed-nothing, passed-then, then-gained, took-nothing, took-slot, took-spared, took-then}
@@ -52,23 +52,23 @@ replies-spent asked reply old new r = record { entries = r.does.entries; took = 
 breaks-spent : (asked : Option Wish) (old new : Server) → Breaks asked old new → Spent 2 old.taker new.taker
 breaks-spent asked old new b = record { entries = b.does.entries; took = b.does.took; passed = b.does.passed }
 
-talks-spent : (exchanges : List Exchange) (old new : Talk) → Talks exchanges old new → Spent (length exchanges) old.server.taker new.server.taker
-talks-spent [] old new same = subst (λ (t : Talk). Spent 0 old.server.taker t.server.taker) (sym same) (spent-none old.server.taker)
-talks-spent (x ∷ earlier) old new talks =
+talks-spent : (came : Comes) (exchanges : List Exchange) (old new : Talk) → Talks came exchanges old new → Spent (length exchanges) old.server.taker new.server.taker
+talks-spent came [] old new same = subst (λ (t : Talk). Spent 0 old.server.taker t.server.taker) (sym same) (spent-none old.server.taker)
+talks-spent came (x ∷ earlier) old new talks =
     spent-more (length earlier + 1) (length (x ∷ earlier)) old.server.taker new.server.taker (omega arith)
-    (spent-then (length earlier) 1 old.server.taker talks.0.server.taker new.server.taker (talks-spent earlier old talks.0 talks.1)
+    (spent-then (length earlier) 1 old.server.taker talks.0.server.taker new.server.taker (talks-spent came earlier old talks.0 talks.1)
     (replies-spent (asked_by x.line) x.reply talks.0.server new.server talks.2.replies))
 
-leaves-spent : (rest : Rest) (old new : Talk) → Leaves rest old new → Spent (lines_in rest + 1) old.server.taker new.server.taker
-leaves-spent Nothing old new same = spent-more 0 1 old.server.taker new.server.taker (omega arith) (subst (λ (t : Talk). Spent 0 old.server.taker t.server.taker) (sym same) (spent-none old.server.taker))
-leaves-spent (Undone line) old new l = breaks-spent (asked_by line) old.server new.server l.breaks
-leaves-spent (Untold line reply) old new l = spent-more 1 2 old.server.taker new.server.taker (omega arith) (replies-spent (asked_by line) reply old.server new.server l.replies)
+leaves-spent : (came : Comes) (rest : Rest) (old new : Talk) → Leaves came rest old new → Spent (lines_in rest + 1) old.server.taker new.server.taker
+leaves-spent came Nothing old new same = spent-more 0 1 old.server.taker new.server.taker (omega arith) (subst (λ (t : Talk). Spent 0 old.server.taker t.server.taker) (sym same) (spent-none old.server.taker))
+leaves-spent came (Undone line) old new l = breaks-spent (asked_by line) old.server new.server l.breaks
+leaves-spent came (Untold line reply) old new l = spent-more 1 2 old.server.taker new.server.taker (omega arith) (replies-spent (asked_by line) reply old.server new.server l.replies)
 
-pub serves-spent : (how : SessionEnd) (old new : Talk) (s : Serves how old new) → Spent (lines_read s + 1) old.server.taker new.server.taker
-serves-spent how old new s =
-    spent-more (length s.exchanges + (lines_in s.ends.rest + 1)) (lines_read s + 1) old.server.taker new.server.taker (omega arith)
+pub serves-spent : (came : Comes) (how : SessionEnd) (old new : Talk) (s : Serves came how old new) → Spent (lines_read came s + 1) old.server.taker new.server.taker
+serves-spent came how old new s =
+    spent-more (length s.exchanges + (lines_in s.ends.rest + 1)) (lines_read came s + 1) old.server.taker new.server.taker (omega arith)
     (spent-then (length s.exchanges) (lines_in s.ends.rest + 1) old.server.taker s.between.server.taker new.server.taker
-    (talks-spent s.exchanges old s.between s.talks) (leaves-spent s.ends.rest s.between new s.ends.leaves))
+    (talks-spent came s.exchanges old s.between s.talks) (leaves-spent came s.ends.rest s.between new s.ends.leaves))
 
 -- ---- the last stop
 
@@ -88,9 +88,9 @@ idle-or-left old new entries spared t idle = from old.left refl
         inl (none-asked (runs_in new) (t.runs ∙ ap (λ o. asked_after (asked_in o) entries) idle ∙ no-entries entries few))
     from (suc n) e = let some : 0 < old.left = omega arith in inr (t.one_stays some)
 
-pub serves-stop : (how : SessionEnd) (old new : Talk) → Serves how old new → runs_in old.server.taker.pass ≡ None → (runs_in new.server.taker.pass ≡ None) ⊎ (0 < new.server.taker.pass.left)
-serves-stop how old new s idle = let spent = serves-spent how old new s in
-    idle-or-left old.server.taker.pass new.server.taker.pass spent.entries (lines_read s + 1) spent.took idle
+pub serves-stop : (came : Comes) (how : SessionEnd) (old new : Talk) → Serves came how old new → runs_in old.server.taker.pass ≡ None → (runs_in new.server.taker.pass ≡ None) ⊎ (0 < new.server.taker.pass.left)
+serves-stop came how old new s idle = let spent = serves-spent came how old new s in
+    idle-or-left old.server.taker.pass new.server.taker.pass spent.entries (lines_read came s + 1) spent.took idle
 
 gained-told : (old new : PassValue) (told : List Entry) → SeesNext old told new → Gained old.slot old.seen told new.seen
 gained-told old new told sees = record {
@@ -134,17 +134,17 @@ sums-idle lines old new s =
     let most = s.took.at_most in
     record { entries = s.entries; gained = s.took.gained; at_least = least; at_most = omega arith; passed = s.passed }
 
-pub session-so : (how : SessionEnd) (old new : Talk) (last : PassValue) → Serves how old (with_pass last new) → StopsLast last new.server.taker.pass → Session how old new
-session-so how old new last s stops = record { last = last; serves = s; stops = stops; sums = sums stops }
+pub session-so : (came : Comes) (how : SessionEnd) (old new : Talk) (last : PassValue) → Serves came how old (with_pass last new) → StopsLast last new.server.taker.pass → Session came how old new
+session-so came how old new last s stops = record { last = last; serves = s; stops = stops; sums = sums stops }
   where
     lines : ℕ
-    lines = lines_read s
+    lines = lines_read came s
 
     before : Taker
     before = (with_pass last new).server.taker
 
     spent : Spent (lines + 1) old.server.taker before
-    spent = serves-spent how old (with_pass last new) s
+    spent = serves-spent came how old (with_pass last new) s
 
     sums : StopsLast last new.server.taker.pass → Sums lines old.server.taker new.server.taker
     sums (inl none) = sums-idle lines old.server.taker new.server.taker
@@ -152,14 +152,14 @@ session-so how old new last s stops = record { last = last; serves = s; stops = 
     sums (inr stopped) = sums-stopped lines old.server.taker before new.server.taker spent stopped refl
 
 -- nothing but the turns that are left and what was seen is another
-pub serves-same : (how : SessionEnd) (old last : Talk) (pass : PassValue) → Serves how old last → StopsLast last.server.taker.pass pass → IsSamePass old.server.taker.pass pass
-serves-same how old last pass s stops = from stops
+pub serves-same : (came : Comes) (how : SessionEnd) (old last : Talk) (pass : PassValue) → Serves came how old last → StopsLast last.server.taker.pass pass → IsSamePass old.server.taker.pass pass
+serves-same came how old last pass s stops = from stops
   where
     first : PassValue
     first = old.server.taker.pass
 
     before : IsSamePass first last.server.taker.pass
-    before = (serves-spent how old last s).took.same
+    before = (serves-spent came how old last s).took.same
 
     from : StopsLast last.server.taker.pass pass → IsSamePass first pass
     from (inl none) = subst (λ (p : PassValue). IsSamePass first p) (sym none.1) before
@@ -167,42 +167,62 @@ serves-same how old last pass s stops = from stops
 
 -- ---- exchanges
 
+known-nil : (known : Option (List ℕ)) → prepend_known [] known ≡ known
+known-nil None = refl
+known-nil (Some bytes) = refl
+
+-- none was made, and no byte of a line is held
+pub talks-none : (came : Comes) (server : Server) (opened : List ℕ) (asked : Option ℕ) (left written : Option (List ℕ)) (held : List ℕ) → held ≡ []
+    → (exchanges : List Exchange) × Talks came exchanges (talk_at server opened asked left written) (talk_at server opened asked (prepend_known held left) written)
+talks-none came server opened asked left written held none = ([], ap (λ coming. talk_at server opened asked coming written) (ap (λ h. prepend_known h left) none ∙ known-nil left))
+
+-- no line was read
+pub ends-nothing : (came : Comes) (how : SessionEnd) (old new : Talk) → new.server ≡ old.server → new.opened ≡ old.opened → AsksOnce old new → new.coming ≡ old.coming → new.written ≡ old.written
+    → IsCause how Nothing old.coming old.server.taker.pass new.server.taker.pass → Ends came how old new
+ends-nothing came how old new server opened asks coming written cause = record {
+  rest = Nothing;
+  leaves = λ i. record { server = server i; opened = opened i; asked = asks i; coming = coming i; written = written i };
+  cause = cause;
+}
+
 abbrev pub with_turns : Option ℕ → Server → Server
 with_turns turns server = record { taker = record { pass = server.taker.pass; turns = turns }; ahead = server.ahead }
 
-module _ (line : List ℕ) (old new : Talk) (turns : Option ℕ) (coming mid : Option (List ℕ))
-    (same_turns : turns ≡ old.server.taker.turns) (reads : ReadsLine line old.coming coming) (same : new.coming ≡ coming) (kept : mid ≡ old.written) where
+module _ (came : Comes) (line : List ℕ) (old new : Talk) (turns : Option ℕ) (coming mid : Option (List ℕ))
+    (same_turns : turns ≡ old.server.taker.turns) (reads : ReadsLine line old.coming coming) (same : new.coming ≡ coming) (kept : mid ≡ old.written) (asks : AsksOnce old new) where
   reads-new : ReadsLine line old.coming new.coming
   reads-new = record { is_line = reads.is_line; bytes = reads.bytes ∙ ap (prepend_known (line ++ 10 ∷ [])) (sym same) }
 
   -- it was not done to its end
-  pub ends-undone : (why : Broken) → Breaks (asked_by line) (with_turns turns old.server) new.server → OnWorn {T = Reply} (Err why) (WearsOut (asked_by line) old.server.taker.pass new.server.taker.pass) → new.written ≡ mid → Ends (end_of why) old new
-  ends-undone why breaks worn written = record { rest = Undone line; leaves = leaves; cause = cause why worn }
+  pub ends-undone : (why : Broken) → Breaks (asked_by line) (with_turns turns old.server) new.server → OnWorn {T = Reply} (Err why) (WearsOut (asked_by line) old.server.taker.pass new.server.taker.pass) → new.written ≡ mid → came None old.server.taker.pass new.server.taker.pass → Ends came (end_of why) old new
+  ends-undone why breaks worn written keeper = record { rest = Undone line; leaves = leaves; cause = cause why worn }
     where
-      leaves : LeavesUndone line old new
-      leaves = record { reads = reads-new; breaks = subst (λ t. Breaks (asked_by line) (with_turns t old.server) new.server) same_turns breaks; writes = written ∙ kept }
+      leaves : LeavesUndone came line old new
+      leaves = record { asks = asks; reads = reads-new; breaks = subst (λ t. Breaks (asked_by line) (with_turns t old.server) new.server) same_turns breaks; writes = written ∙ kept; keeper = keeper }
 
       cause : (b : Broken) → OnWorn {T = Reply} (Err b) (WearsOut (asked_by line) old.server.taker.pass new.server.taker.pass) → IsCause (end_of b) (Undone line) old.coming old.server.taker.pass new.server.taker.pass
       cause Halted w = inr tt
       cause Worn w = w
       cause Memory w = tt
 
-  module _ (reply : Reply) (replied : Replies (asked_by line) reply (with_turns turns old.server) new.server) where
+  module _ (reply : Reply) (replied : Replies (asked_by line) reply (with_turns turns old.server) new.server) (opened : TellsOpened old.opened (asked_by line) reply)
+      (keeps : (r : Replies (asked_by line) reply old.server new.server) → came r.answer old.server.taker.pass new.server.taker.pass) where
     replies-new : Replies (asked_by line) reply old.server new.server
     replies-new = subst (λ t. Replies (asked_by line) reply (with_turns t old.server) new.server) same_turns replied
 
     -- its reply was written
-    pub exchanged : (r : Result (Unit {0}) SessionEnd) → OnOk r (new.written ≡ append_known mid (reply_line reply)) → OnOk r ((x : Exchange) × Exchanges x old new)
-    exchanged (Ok done) wrote = (record { line = line; reply = reply }, record { reads = reads-new; replies = replies-new; writes = wrote ∙ ap (λ w. append_known w (reply_line reply)) kept })
-    exchanged (Err how) wrote = tt
+    pub exchanged : (r : Result (Unit {0}) SessionEnd) → new.opened ≡ old.opened → OnOk r (new.written ≡ append_known mid (reply_line reply)) → OnOk r ((x : Exchange) × Exchanges came x old new)
+    exchanged (Ok done) same_opened wrote =
+        (record { line = line; reply = reply }, record { asks = asks; reads = reads-new; replies = replies-new; opened = opened; same = same_opened; writes = wrote ∙ ap (λ w. append_known w (reply_line reply)) kept; keeper = keeps replies-new })
+    exchanged (Err how) same_opened wrote = tt
 
     -- or a front part of it
-    pub ends-untold : (r : Result (Unit {0}) SessionEnd) → OnErr r (AppendsPrefix mid new.written (reply_line reply)) → IfErr r (λ how. (how ≡ end.WriteFault) ⊎ (how ≡ end.Memory)) → IfErr r (λ how. Ends how old new)
+    pub ends-untold : (r : Result (Unit {0}) SessionEnd) → OnErr r (AppendsPrefix mid new.written (reply_line reply)) → IfErr r (λ how. (how ≡ end.WriteFault) ⊎ (how ≡ end.Memory)) → IfErr r (λ how. Ends came how old new)
     ends-untold (Ok done) part causes = tt
     ends-untold (Err how) part causes = record { rest = Untold line reply; leaves = leaves; cause = cause causes }
       where
-        leaves : LeavesUntold line reply old new
-        leaves = record { reads = reads-new; replies = replies-new; writes = subst (λ w. AppendsPrefix w new.written (reply_line reply)) kept part }
+        leaves : LeavesUntold came line reply old new
+        leaves = record { asks = asks; reads = reads-new; replies = replies-new; opened = opened; writes = subst (λ w. AppendsPrefix w new.written (reply_line reply)) kept part; keeper = keeps replies-new }
 
         cause : (how ≡ end.WriteFault) ⊎ (how ≡ end.Memory) → IsCause how (Untold line reply) old.coming old.server.taker.pass new.server.taker.pass
         cause (inl e) = subst (λ h. IsCause h (Untold line reply) old.coming old.server.taker.pass new.server.taker.pass) (sym e) tt

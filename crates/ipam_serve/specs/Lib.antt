@@ -1,5 +1,7 @@
 -- What a session makes of its slot, line by line.
+pub mod Asking
 pub mod Gains
+pub mod Keeping
 pub mod Spans
 pub mod Faults
 pub mod Turns

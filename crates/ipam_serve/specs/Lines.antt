@@ -62,6 +62,7 @@ deed_of (Some (wish.Feed live)) runs at =
 deed_of (Some wish.Stop) runs at = if is_waiting runs then Stops else Nothing
 deed_of (Some wish.Routes) runs at = Nothing
 deed_of (Some (wish.RoutesSince revision)) runs at = Nothing
+deed_of (Some wish.Opened) runs at = Nothing
 
 -- The clock is read for a collection that is to be begun, and for a second list while one waits.
 abbrev pub reads_clock : Option Wish → Option Running → Bool
@@ -72,6 +73,7 @@ reads_clock (Some (wish.Feed live)) runs = is_waiting runs
 reads_clock (Some wish.Stop) runs = false
 reads_clock (Some wish.Routes) runs = false
 reads_clock (Some (wish.RoutesSince revision)) runs = false
+reads_clock (Some wish.Opened) runs = false
 
 abbrev pub reading : Bool → (at : ℕ) → List ℕ
 reading read at = if read then at ∷ [] else []
@@ -85,9 +87,10 @@ since_in pass revision =
     else (if nat_lt (store_at pass.base pass.seen).counter revision then Ahead (store_at pass.base pass.seen).counter
     else Changes (store_at pass.base pass.seen).counter (changes_since pass.base.store (writes_in pass.seen) revision))
 
--- on what the reply rests: what the pass has seen before the line and after it
-abbrev pub standing : (old new : PassValue) (at : ℕ) → Option Answer → Standing
-standing old new at answer = record {
+-- on what the reply rests: what the pass has seen before the line and after it, and the text of the
+-- opening
+abbrev pub standing : (old new : PassValue) (at : ℕ) → Option Answer → (opened : List ℕ) → Standing
+standing old new at answer opened = record {
   waited = is_waiting (runs_in old);
   waits = is_waiting (runs_in new);
   too_soon = is_early (runs_in old) at;
@@ -95,6 +98,7 @@ standing old new at answer = record {
   revision = (store_at new.base new.seen).counter;
   routes = routes_in (store_at new.base new.seen);
   since = since_in new;
+  opened = opened;
 }
 
 -- ---- a line
@@ -118,15 +122,21 @@ TakesTurn (Some (wish.Feed live)) old new = ⊤
 TakesTurn (Some wish.Stop) old new = ⊤
 TakesTurn (Some wish.Routes) old new = new.left + 1 ≡ old.left
 TakesTurn (Some (wish.RoutesSince revision)) old new = new.left + 1 ≡ old.left
+TakesTurn (Some wish.Opened) old new = ⊤
 
 -- a wish was done, and this is its reply
 pub record Replies (asked : Option Wish) (reply : Reply) (old new : Server) : Type 0 where
   pub at : ℕ
   pub answer : Option Answer
+  pub opened : List ℕ
   pub does : Does old.taker (deed_of asked (runs_in old.taker.pass) at) answer 1 new.taker
   pub reads : old.ahead ≡ prepend_known_readings (reading (reads_clock asked (runs_in old.taker.pass)) at) new.ahead
   pub turned : TakesTurn asked old.taker.pass new.taker.pass
-  pub replied : reply_unless_unread asked (standing old.taker.pass new.taker.pass at answer) ≡ Some reply
+  pub replied : reply_unless_unread asked (standing old.taker.pass new.taker.pass at answer opened) ≡ Some reply
+
+-- a line that asks which opening this is, is replied its text
+abbrev pub TellsOpened : (opened : List ℕ) → Option Wish → Reply → Type 0
+TellsOpened opened asked one = asked ≡ Some wish.Opened → one ≡ reply.Opened opened
 
 -- a wish was done as far as it came
 pub record Breaks (asked : Option Wish) (old new : Server) : Type 0 where
@@ -152,6 +162,7 @@ wants_turn (Some (wish.Feed live)) waits = waits
 wants_turn (Some wish.Stop) waits = waits
 wants_turn (Some wish.Routes) waits = true
 wants_turn (Some (wish.RoutesSince revision)) waits = true
+wants_turn (Some wish.Opened) waits = false
 
 -- the line begins, feeds or calls, which a full history has no room for
 abbrev pub wants_entry : Option Wish → Bool
@@ -162,6 +173,7 @@ wants_entry (Some (wish.Feed live)) = true
 wants_entry (Some wish.Stop) = false
 wants_entry (Some wish.Routes) = false
 wants_entry (Some (wish.RoutesSince revision)) = false
+wants_entry (Some wish.Opened) = false
 
 -- No answer was recorded: the slot gained no entry, or what was begun still runs.
 abbrev pub IsUnanswered : (old new : PassValue) → Type 0

@@ -1,10 +1,11 @@
 -- What a session comes to: lines that are read, done and replied to, one after another, up to its end.
-use Rattle.std.specs.Prelude.{◌≡◌, ◌≢◌, ◌⊎◌, ℕ, ◌+◌, ◌≤◌, ⊤, Bool, true, false, List, [], ◌∷◌, ◌++◌, length, Option, None, IsSome, IfSome, Result, Ok, Err}
+use Rattle.std.specs.Prelude.{◌≡◌, ◌≢◌, ◌⊎◌, ℕ, ◌+◌, ◌≤◌, ⊤, Bool, true, false, List, [], ◌∷◌, ◌++◌, length, Option, None, IsSome, IfSome, option_map, Result, Ok, Err}
 use Rattle.std.specs.Io.KnownBytes.{prepend_known, append_known}
-use Rattle.ipam_io.specs.Counts.{Rose}
+use Rattle.ipam_io.specs.Counts.{Rose, next_count}
 use Rattle.ipam_io.specs.Streams.{AppendsPrefix}
 use Rattle.ipam_lines.specs.declared.limits.TheConstants.{SESSION_LINE_BYTES}
 use Rattle.ipam_lines.specs.Feeds.{IsLine, IsTooLong}
+use Rattle.ipam_model.specs.declared.answer.Answer.{Answer}
 use Rattle.ipam_model.specs.declared.entry.Entry.{Entry}
 use Rattle.ipam_model.specs.declared.entry.Entry.TheVariants as entry
 use Rattle.ipam_session.specs.declared.replies.Reply.{Reply}
@@ -16,21 +17,33 @@ use Rattle.ipam_serve.specs.declared.ends.SessionEnd.TheVariants as end
 use Rattle.ipam_serve.specs.declared.ran.Broken.{Broken}
 use Rattle.ipam_serve.specs.declared.ran.Broken.TheVariants as broken
 use Rattle.ipam_serve.specs.Gains.{Gained, Passed}
-use Rattle.ipam_serve.specs.Lines.{Breaks, Replies, Server, WearsOut, asked_by}
+use Rattle.ipam_serve.specs.Lines.{Breaks, Replies, Server, TellsOpened, WearsOut, asked_by}
 use Rattle.ipam_serve.specs.Runs.{Taker}
 
 -- ---- lines and replies
 
--- A session in its midst: its server, the bytes that are still to come of the link and those that went
--- to it, where it tells them.
+-- A session in its midst: its server, the text of its opening of the datastore, how often its gate was
+-- asked before a line, the bytes that are still to come of the link and those that went to it, where gate
+-- and link tell them.
 pub record Talk : Type 0 where
   pub server : Server
+  pub opened : List ℕ
+  pub asked : Option ℕ
   pub coming : Option (List ℕ)
   pub written : Option (List ℕ)
 
--- a session with this server, and these bytes of its link
-abbrev pub talk_at : Server → (coming written : Option (List ℕ)) → Talk
-talk_at server coming written = record { server = server; coming = coming; written = written }
+-- a session with this server, this text of its opening, whose gate was asked so often before a line, and
+-- these bytes of its link
+abbrev pub talk_at : Server → (opened : List ℕ) → (asked : Option ℕ) → (coming written : Option (List ℕ)) → Talk
+talk_at server opened asked coming written = record { server = server; opened = opened; asked = asked; coming = coming; written = written }
+
+-- the gate was asked once before a line
+abbrev pub AsksOnce : (old new : Talk) → Type 0
+AsksOnce old new = new.asked ≡ option_map next_count old.asked
+
+-- and nothing else is another
+abbrev pub asked_once : Talk → Talk
+asked_once talk = record talk { asked = option_map next_count talk.asked }
 
 -- a line, without its line feed, and its reply
 pub record Exchange : Type 0 where
@@ -42,16 +55,25 @@ pub record ReadsLine (line : List ℕ) (old new : Option (List ℕ)) : Type 0 wh
   pub is_line : IsLine SESSION_LINE_BYTES line
   pub bytes : old ≡ prepend_known (line ++ 10 ∷ []) new
 
--- the line was read and done, and its reply was written
-pub record Exchanges (x : Exchange) (old new : Talk) : Type 0 where
-  pub reads : ReadsLine x.line old.coming new.coming
-  pub replies : Replies (asked_by x.line) x.reply old.server new.server
-  pub writes : new.written ≡ append_known old.written (reply_line x.reply)
+-- what came at the keeper of a line's calls, by the line's answer and the pass before and after it
+abbrev pub Comes : Type 1
+Comes = Option Answer → (old new : PassValue) → Type 0
 
--- these exchanges were made, one after another; the newest stands first
-abbrev pub Talks : List Exchange → Talk → Talk → Type 0
-Talks [] old new = new ≡ old
-Talks (x ∷ earlier) old new = (between : Talk) × Talks earlier old between × Exchanges x between new
+module _ (came : Comes) where
+  -- the gate was asked, the line was read and done, and its reply was written
+  pub record Exchanges (x : Exchange) (old new : Talk) : Type 0 where
+    pub asks : AsksOnce old new
+    pub reads : ReadsLine x.line old.coming new.coming
+    pub replies : Replies (asked_by x.line) x.reply old.server new.server
+    pub opened : TellsOpened old.opened (asked_by x.line) x.reply
+    pub same : new.opened ≡ old.opened
+    pub writes : new.written ≡ append_known old.written (reply_line x.reply)
+    pub keeper : came replies.answer old.server.taker.pass new.server.taker.pass
+
+  -- these exchanges were made, one after another; the newest stands first
+  abbrev pub Talks : List Exchange → Talk → Talk → Type 0
+  Talks [] old new = new ≡ old
+  Talks (x ∷ earlier) old new = (between : Talk) × Talks earlier old between × Exchanges x between new
 
 -- ---- the end
 
@@ -62,22 +84,28 @@ pub data Rest : Type 0 where
   Undone : (line : List ℕ) → Rest
   Untold : (line : List ℕ) → Reply → Rest
 
--- the line was read, and done as far as it came
-pub record LeavesUndone (line : List ℕ) (old new : Talk) : Type 0 where
-  pub reads : ReadsLine line old.coming new.coming
-  pub breaks : Breaks (asked_by line) old.server new.server
-  pub writes : new.written ≡ old.written
+module _ (came : Comes) where
+  -- the gate was asked, and the line was read, and done as far as it came
+  pub record LeavesUndone (line : List ℕ) (old new : Talk) : Type 0 where
+    pub asks : AsksOnce old new
+    pub reads : ReadsLine line old.coming new.coming
+    pub breaks : Breaks (asked_by line) old.server new.server
+    pub writes : new.written ≡ old.written
+    pub keeper : came None old.server.taker.pass new.server.taker.pass
 
--- the line was read and done, and of its reply a front part was written
-pub record LeavesUntold (line : List ℕ) (reply : Reply) (old new : Talk) : Type 0 where
-  pub reads : ReadsLine line old.coming new.coming
-  pub replies : Replies (asked_by line) reply old.server new.server
-  pub writes : AppendsPrefix old.written new.written (reply_line reply)
+  -- the gate was asked, the line was read and done, and of its reply a front part was written
+  pub record LeavesUntold (line : List ℕ) (reply : Reply) (old new : Talk) : Type 0 where
+    pub asks : AsksOnce old new
+    pub reads : ReadsLine line old.coming new.coming
+    pub replies : Replies (asked_by line) reply old.server new.server
+    pub opened : TellsOpened old.opened (asked_by line) reply
+    pub writes : AppendsPrefix old.written new.written (reply_line reply)
+    pub keeper : came replies.answer old.server.taker.pass new.server.taker.pass
 
-abbrev pub Leaves : Rest → Talk → Talk → Type 0
-Leaves Nothing old new = new ≡ old
-Leaves (Undone line) old new = LeavesUndone line old new
-Leaves (Untold line reply) old new = LeavesUntold line reply old new
+  abbrev pub Leaves : Rest → Talk → Talk → Type 0
+  Leaves Nothing old new = new ≡ asked_once old
+  Leaves (Undone line) old new = LeavesUndone line old new
+  Leaves (Untold line reply) old new = LeavesUntold line reply old new
 
 abbrev pub IsUndone : Rest → Type 0
 IsUndone Nothing = ⊥
@@ -107,27 +135,28 @@ IsCause end.Halted rest coming first last = (rest ≡ Nothing) ⊎ IsUndone rest
 IsCause end.Worn rest coming first last = IsWornAt rest first last
 IsCause end.Memory rest coming first last = ⊤
 
--- from here the session ends
-pub record Ends (how : SessionEnd) (old new : Talk) : Type 0 where
-  pub rest : Rest
-  pub leaves : Leaves rest old new
-  pub cause : IsCause how rest old.coming old.server.taker.pass new.server.taker.pass
-
--- whole exchanges were made, and then the session ended
-pub record Serves (how : SessionEnd) (old new : Talk) : Type 0 where
-  pub exchanges : List Exchange
-  pub between : Talk
-  pub talks : Talks exchanges old between
-  pub ends : Ends how between new
-
 -- how many whole lines were read
 abbrev pub lines_in : Rest → ℕ
 lines_in Nothing = 0
 lines_in (Undone line) = 1
 lines_in (Untold line reply) = 1
 
-abbrev pub lines_read : {how : SessionEnd} {old new : Talk} → Serves how old new → ℕ
-lines_read served = length served.exchanges + lines_in served.ends.rest
+module _ (came : Comes) where
+  -- from here the session ends
+  pub record Ends (how : SessionEnd) (old new : Talk) : Type 0 where
+    pub rest : Rest
+    pub leaves : Leaves came rest old new
+    pub cause : IsCause how rest old.coming old.server.taker.pass new.server.taker.pass
+
+  -- whole exchanges were made, and then the session ended
+  pub record Serves (how : SessionEnd) (old new : Talk) : Type 0 where
+    pub exchanges : List Exchange
+    pub between : Talk
+    pub talks : Talks came exchanges old between
+    pub ends : Ends how between new
+
+  abbrev pub lines_read : {how : SessionEnd} {old new : Talk} → Serves how old new → ℕ
+  lines_read served = length served.exchanges + lines_in served.ends.rest
 
 -- ---- the last stop
 
@@ -158,11 +187,11 @@ abbrev pub with_pass : PassValue → Talk → Talk
 with_pass pass talk = record talk { server = record talk.server { taker = record talk.server.taker { pass = pass } } }
 
 -- a session up to its end, with the pass that it had before the last stop
-pub record Session (how : SessionEnd) (old new : Talk) : Type 0 where
+pub record Session (came : Comes) (how : SessionEnd) (old new : Talk) : Type 0 where
   pub last : PassValue
-  pub serves : Serves how old (with_pass last new)
+  pub serves : Serves came how old (with_pass last new)
   pub stops : StopsLast last new.server.taker.pass
-  pub sums : Sums (lines_read serves) old.server.taker new.server.taker
+  pub sums : Sums (lines_read came serves) old.server.taker new.server.taker
 
 -- ---- counts
 

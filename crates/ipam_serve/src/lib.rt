@@ -3,7 +3,9 @@
 #![tactic(auto)]
 
 mod ends;
+mod gates;
 mod lines;
+mod opening;
 mod patience;
 mod ran;
 mod requests;
@@ -11,10 +13,12 @@ mod session;
 mod turns;
 
 pub use ends::SessionEnd;
-pub use ipam_io::{Clock, Gate, Link};
+pub use gates::SessionGate;
+pub use ipam_io::{Clock, Link, Passed, Point};
 pub use ipam_session::{Refusal, Reply};
 pub use ipam_shared::{Keeper, Pass, Shared};
 pub use lines::answer_line;
+pub use opening::Opening;
 pub use patience::{Patience, Sleeps};
 pub use ran::{Broken, Ran};
 pub use requests::{run_call, run_feed, run_request};

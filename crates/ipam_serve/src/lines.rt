@@ -5,23 +5,28 @@ ghost use Rattle.ipam_io.specs.Readings.{prepend_known_readings};
 ghost use Rattle.ipam_records.specs.Sound.{IsHandleId};
 ghost use Rattle.ipam_model.specs.SoundRequest.{IsSoundRequest};
 ghost use Rattle.ipam_model.specs.CanAnswer.{CanAnswer};
+ghost use Rattle.ipam_model.specs.Cluster.{Running};
 ghost use Rattle.ipam_session.specs.Calls.{IsOfCall, IsSoundBegun, call_begun, call_told, is_of_call};
 ghost use Rattle.ipam_session.specs.Lines.{called};
 ghost use Rattle.ipam_session.specs.Wishes.{IsSoundWish};
 ghost use Rattle.ipam_serve.specs.Spans.{Calls, IsTimeless};
 ghost use Rattle.ipam_session.specs.declared.wish.Wish.TheVariants as wish;
+ghost use Rattle.ipam_shared.specs.PassValue.{PassValue};
 ghost use Rattle.ipam_shared.specs.Passes.{runs_in};
 ghost use Rattle.ipam_serve.specs.Faults.{Halts, IsWorn, OnHalted, OnWorn};
 ghost use Rattle.ipam_serve.specs.Gains.{is_waiting};
-ghost use Rattle.ipam_serve.specs.Lines.{Breaks, IsUnanswered, Replies, TellsRun, WearsOut, asked_by, is_collect, reading, reply_fed, reply_ran, server_at, timed};
+ghost use Rattle.ipam_serve.specs.Keeping.{MakesCalls};
+ghost use Rattle.ipam_serve.specs.Lines.{Breaks, IsUnanswered, Replies, Server, TellsRun, WearsOut, asked_by, is_collect, reading, reply_fed, reply_ran, server_at, timed};
 ghost use Rattle.ipam_serve.specs.Runs.{DoesPart, IsAtRest};
 
+use crate::gates::SessionGate;
+use crate::opening::Opening;
 use crate::patience::Patience;
 use crate::ran::{Broken, Ran};
 use crate::requests::{run_call, run_feed, run_request};
 use crate::turns::{routes, routes_since, stop};
 use cni_types::Version;
-use ipam_io::{Clock, Gate};
+use ipam_io::Clock;
 use ipam_model::{Answer, Request};
 use ipam_session::{AskFault, CallBegun, Refusal, Reply, Wish, begin_call, read_wish, tell_call};
 use ipam_shared::{Keeper, Pass, Shared};
@@ -32,10 +37,11 @@ use std::sync::Wait;
 /// Does what the line asks, in the pass's slot, and gives its reply. What is begun goes on to its
 /// answer, or until a collection waits. The line's bytes are let go before anything begins. On `Err` what
 /// was begun still runs.
-pub fn answer_line<R: Wait, D: Keeper, G: Gate, C: Clock, P: Patience>(
+pub fn answer_line<R: Wait, D: Keeper, G: SessionGate, C: Clock, P: Patience>(
     rt: &R,
     alloc: Global,
     shared: &Shared<D>,
+    opening: &Opening,
     pass: &mut Pass,
     gate: &mut G,
     clock: &mut C,
@@ -52,28 +58,43 @@ pub fn answer_line<R: Wait, D: Keeper, G: Gate, C: Clock, P: Patience>(
         (server_at pass.new (G.turns gate.new) (C.ahead clock.new))) }
     ensures rests { OnOk result (IsAtRest (runs_in pass.new)) }
     ensures worn { OnWorn result (WearsOut (asked_by line.items) pass.old pass.new) }
+    ensures opened { asked_by line.items ≡ Some Wish.Opened
+        → IfOk result (λ reply. reply ≡ Reply.Opened opening.now) }
     ensures stops { Halts result (G.stops gate.old) (G.stops gate.new) }
+    ensures keeper { MakesCalls D.rows D.given D.faults pass.old pass.new }
+    ensures lines { G.lines gate.new ≡ G.lines gate.old }
 {
-    match wish_in(alloc, line) {
-        Ok(wish) => answer_wish(rt, alloc, shared, pass, gate, clock, patience, wish),
+    match wish_in(rt, alloc, opening, line) {
+        Ok(wish) => answer_wish(
+            rt, alloc, shared, opening, pass, gate, clock, patience, wish,
+        ),
         Err(AskFault::Unreadable) => Ok(Reply::Refused(Refusal::Line)),
         Err(AskFault::Memory) => Err(Broken::Memory),
     }
 }
 
 /// What the line asks. Its bytes are let go.
-fn wish_in(alloc: Global, line: Vec<u8>) -> Result<Wish, AskFault>
+fn wish_in<R: Wait>(
+    rt: &R,
+    alloc: Global,
+    opening: &Opening,
+    line: Vec<u8>,
+) -> Result<Wish, AskFault>
     ensures read { IfOk result (λ asked. asked_by line.items ≡ Some asked) }
     ensures unreadable { result ≡ Err AskFault.Unreadable → asked_by line.items ≡ None }
     ensures sound { IfOk result IsSoundWish }
 {
-    read_wish(alloc, line.as_slice())
+    let turn = opening.turn(rt, line.len());
+    let asked = read_wish(alloc, line.as_slice());
+    turn.end();
+    asked
 }
 
-fn answer_wish<R: Wait, D: Keeper, G: Gate, C: Clock, P: Patience>(
+fn answer_wish<R: Wait, D: Keeper, G: SessionGate, C: Clock, P: Patience>(
     rt: &R,
     alloc: Global,
     shared: &Shared<D>,
+    opening: &Opening,
     pass: &mut Pass,
     gate: &mut G,
     clock: &mut C,
@@ -91,11 +112,17 @@ fn answer_wish<R: Wait, D: Keeper, G: Gate, C: Clock, P: Patience>(
         (server_at pass.new (G.turns gate.new) (C.ahead clock.new))) }
     ensures rests { OnOk result (IsAtRest (runs_in pass.new)) }
     ensures worn { OnWorn result (WearsOut (Some wish) pass.old pass.new) }
+    ensures opened { wish ≡ Wish.Opened
+        → IfOk result (λ reply. reply ≡ Reply.Opened opening.now) }
     ensures stops { Halts result (G.stops gate.old) (G.stops gate.new) }
+    ensures keeper { MakesCalls D.rows D.given D.faults pass.old pass.new }
+    ensures lines { G.lines gate.new ≡ G.lines gate.old }
 {
     match wish {
         Wish::Cni(env, stdin) => {
-            answer_call(rt, alloc, shared, pass, gate, clock, patience, env, stdin)
+            answer_call(
+                rt, alloc, shared, opening, pass, gate, clock, patience, env, stdin,
+            )
         }
         Wish::Request(mut request) => {
             let reply = answer_request(
@@ -124,14 +151,16 @@ fn answer_wish<R: Wait, D: Keeper, G: Gate, C: Clock, P: Patience>(
         Wish::Stop => answer_stop(rt, shared, pass),
         Wish::Routes => answer_routes(rt, shared, pass),
         Wish::RoutesSince(revision) => answer_since(rt, shared, pass, revision),
+        Wish::Opened => answer_opened(alloc, opening),
     }
 }
 
 /// A CNI call.
-fn answer_call<R: Wait, D: Keeper, G: Gate, C: Clock, P: Patience>(
+fn answer_call<R: Wait, D: Keeper, G: SessionGate, C: Clock, P: Patience>(
     rt: &R,
     alloc: Global,
     shared: &Shared<D>,
+    opening: &Opening,
     pass: &mut Pass,
     gate: &mut G,
     clock: &mut C,
@@ -150,11 +179,13 @@ fn answer_call<R: Wait, D: Keeper, G: Gate, C: Clock, P: Patience>(
     ensures rests { OnOk result (IsAtRest (runs_in pass.new)) }
     ensures worn { OnWorn result (WearsOut (Some (wish.Cni env stdin)) pass.old pass.new) }
     ensures stops { Halts result (G.stops gate.old) (G.stops gate.new) }
+    ensures keeper { MakesCalls D.rows D.given D.faults pass.old pass.new }
+    ensures lines { G.lines gate.new ≡ G.lines gate.old }
 {
     if pass.running() {
         return Ok(Reply::Refused(Refusal::Waiting));
     }
-    match begin_of(alloc, env, stdin) {
+    match begin_of(rt, alloc, opening, env, stdin) {
         Ok(CallBegun::Told(status, text)) => Ok(Reply::Called(status, text)),
         Ok(CallBegun::Runs(request, version)) => {
             tell_run(rt, alloc, shared, pass, gate, patience, &request, version)
@@ -164,16 +195,25 @@ fn answer_call<R: Wait, D: Keeper, G: Gate, C: Clock, P: Patience>(
 }
 
 /// What a CNI call begins. Its environment and its standard input are let go.
-fn begin_of(alloc: Global, env: Seq<(Text, Text)>, stdin: Text) -> Result<CallBegun, AllocError>
+fn begin_of<R: Wait>(
+    rt: &R,
+    alloc: Global,
+    opening: &Opening,
+    env: Seq<(Text, Text)>,
+    stdin: Text,
+) -> Result<CallBegun, AllocError>
     ensures begun { IfOk result (λ begun. call_begun env stdin ≡ Some begun) }
     ensures sound { IfOk result IsSoundBegun }
     ensures of_call { IfOk result IsOfCall }
 {
-    begin_call(alloc, env.as_slice(), stdin.as_str())
+    let turn = opening.turn(rt, stdin.as_bytes().len());
+    let begun = begin_call(alloc, env.as_slice(), stdin.as_str());
+    turn.end();
+    begun
 }
 
 /// A request.
-fn answer_request<R: Wait, D: Keeper, G: Gate, C: Clock, P: Patience>(
+fn answer_request<R: Wait, D: Keeper, G: SessionGate, C: Clock, P: Patience>(
     rt: &R,
     alloc: Global,
     shared: &Shared<D>,
@@ -195,6 +235,8 @@ fn answer_request<R: Wait, D: Keeper, G: Gate, C: Clock, P: Patience>(
     ensures rests { OnOk result (IsAtRest (runs_in pass.new)) }
     ensures worn { OnWorn result (WearsOut (Some (wish.Request request.old)) pass.old pass.new) }
     ensures stops { Halts result (G.stops gate.old) (G.stops gate.new) }
+    ensures keeper { MakesCalls D.rows D.given D.faults pass.old pass.new }
+    ensures lines { G.lines gate.new ≡ G.lines gate.old }
 {
     if pass.running() {
         return Ok(Reply::Refused(Refusal::Waiting));
@@ -207,7 +249,7 @@ fn answer_request<R: Wait, D: Keeper, G: Gate, C: Clock, P: Patience>(
 }
 
 /// A second list.
-fn answer_feed<R: Wait, D: Keeper, G: Gate, C: Clock, P: Patience>(
+fn answer_feed<R: Wait, D: Keeper, G: SessionGate, C: Clock, P: Patience>(
     rt: &R,
     alloc: Global,
     shared: &Shared<D>,
@@ -229,6 +271,8 @@ fn answer_feed<R: Wait, D: Keeper, G: Gate, C: Clock, P: Patience>(
     ensures rests { OnOk result (IsAtRest (runs_in pass.new)) }
     ensures worn { OnWorn result (WearsOut (Some (wish.Feed live.now)) pass.old pass.new) }
     ensures stops { Halts result (G.stops gate.old) (G.stops gate.new) }
+    ensures keeper { MakesCalls D.rows D.given D.faults pass.old pass.new }
+    ensures lines { G.lines gate.new ≡ G.lines gate.old }
 {
     if pass.running() {
         return feed_waiting(rt, alloc, shared, pass, gate, clock, patience, live);
@@ -237,7 +281,7 @@ fn answer_feed<R: Wait, D: Keeper, G: Gate, C: Clock, P: Patience>(
 }
 
 /// A second list of the collection that waits.
-fn feed_waiting<R: Wait, D: Keeper, G: Gate, C: Clock, P: Patience>(
+fn feed_waiting<R: Wait, D: Keeper, G: SessionGate, C: Clock, P: Patience>(
     rt: &R,
     alloc: Global,
     shared: &Shared<D>,
@@ -259,6 +303,8 @@ fn feed_waiting<R: Wait, D: Keeper, G: Gate, C: Clock, P: Patience>(
     ensures rests { OnOk result (IsAtRest (runs_in pass.new)) }
     ensures worn { OnWorn result (WearsOut (Some (wish.Feed live.now)) pass.old pass.new) }
     ensures stops { Halts result (G.stops gate.old) (G.stops gate.new) }
+    ensures keeper { MakesCalls D.rows D.given D.faults pass.old pass.new }
+    ensures lines { G.lines gate.new ≡ G.lines gate.old }
 {
     let at = clock.now();
     match run_feed(rt, alloc, shared, pass, gate, patience, live, at) {
@@ -284,6 +330,7 @@ fn answer_stop<R: Wait, D: Keeper>(
     ensures rests { OnOk result (IsAtRest (runs_in pass.new)) }
     ensures worn { OnWorn result (WearsOut (Some wish.Stop) pass.old pass.new) }
     ensures not_halted { OnHalted result ⊥ }
+    ensures keeper { MakesCalls D.rows D.given D.faults pass.old pass.new }
 {
     if pass.running() {
         return stop_waiting(rt, shared, pass);
@@ -308,6 +355,7 @@ fn stop_waiting<R: Wait, D: Keeper>(
     ensures rests { OnOk result (IsAtRest (runs_in pass.new)) }
     ensures worn { OnWorn result (WearsOut (Some wish.Stop) pass.old pass.new) }
     ensures not_halted { OnHalted result ⊥ }
+    ensures keeper { MakesCalls D.rows D.given D.faults pass.old pass.new }
 {
     match stop(rt, shared, pass) {
         Ok(()) => Ok(Reply::Stopped),
@@ -332,6 +380,7 @@ fn answer_routes<R: Wait, D: Keeper>(
     ensures rests { IsAtRest (runs_in pass.new) }
     ensures worn { OnWorn result (WearsOut (Some wish.Routes) pass.old pass.new) }
     ensures not_halted { OnHalted result ⊥ }
+    ensures keeper { MakesCalls D.rows D.given D.faults pass.old pass.new }
 {
     match routes(rt, shared, pass) {
         Ok((revision, routes)) => Ok(Reply::Routes(revision, Seq::of(routes))),
@@ -357,6 +406,7 @@ fn answer_since<R: Wait, D: Keeper>(
     ensures rests { IsAtRest (runs_in pass.new) }
     ensures worn { OnWorn result (WearsOut (Some (wish.RoutesSince revision)) pass.old pass.new) }
     ensures not_halted { OnHalted result ⊥ }
+    ensures keeper { MakesCalls D.rows D.given D.faults pass.old pass.new }
 {
     match routes_since(rt, shared, pass, revision) {
         Ok(since) => Ok(Reply::RoutesSince(since)),
@@ -364,8 +414,23 @@ fn answer_since<R: Wait, D: Keeper>(
     }
 }
 
+/// The text of the opening.
+fn answer_opened(alloc: Global, opening: &Opening) -> Result<Reply, Broken>
+    ensures replied { (server : Server) → IfOk result (λ reply. Replies (Some Wish.Opened) reply server server) }
+    ensures broken { (server : Server) → OnErr result (Breaks (Some Wish.Opened) server server) }
+    ensures rests { (runs : Option Running) → IsAtRest runs → OnOk result (IsAtRest runs) }
+    ensures worn { (old new : PassValue) → OnWorn result (WearsOut (Some Wish.Opened) old new) }
+    ensures opened { IfOk result (λ reply. reply ≡ Reply.Opened opening.now) }
+    ensures not_halted { OnHalted result ⊥ }
+{
+    match Text::copied(alloc, opening.text()) {
+        Ok(text) => Ok(Reply::Opened(text)),
+        Err(AllocError) => Err(Broken::Memory),
+    }
+}
+
 /// Runs the request of a CNI call, and tells its answer.
-fn tell_run<R: Wait, D: Keeper, G: Gate, P: Patience>(
+fn tell_run<R: Wait, D: Keeper, G: SessionGate, P: Patience>(
     rt: &R,
     alloc: Global,
     shared: &Shared<D>,
@@ -390,6 +455,8 @@ fn tell_run<R: Wait, D: Keeper, G: Gate, P: Patience>(
     ensures worn { OnWorn result (IsWorn pass.new) }
     ensures unanswered { OnWorn result (IsUnanswered pass.old pass.new) }
     ensures stops { Halts result (G.stops gate.old) (G.stops gate.new) }
+    ensures keeper { MakesCalls D.rows D.given D.faults pass.old pass.new }
+    ensures lines { G.lines gate.new ≡ G.lines gate.old }
 {
     match run_call(rt, alloc, shared, pass, gate, patience, request) {
         Ok(answer) => call_reply(alloc, request, &answer, version),

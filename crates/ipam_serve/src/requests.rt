@@ -10,15 +10,17 @@ ghost use Rattle.ipam_shared.specs.Passes.{runs_in};
 ghost use Rattle.ipam_io.specs.Counts.{next_count};
 ghost use Rattle.ipam_serve.specs.Faults.{Halts, IfAnswered, IsWorn, OnWaits, OnWorn, answer_ran, spared_by};
 ghost use Rattle.ipam_serve.specs.Gains.{Took, asked_in, is_early, is_waiting};
+ghost use Rattle.ipam_serve.specs.Keeping.{MakesCalls};
 ghost use Rattle.ipam_serve.specs.Lines.{IsUnanswered};
 ghost use Rattle.ipam_serve.specs.Runs.{Does, DoesPart, FeedsList, WentOn};
 ghost use Rattle.ipam_serve.specs.Spans.{Begins, Calls, Feeds, IsTimeless, list_deed, own_feed};
 ghost use Rattle.ipam_serve.specs.Turns.{Called};
 
+use crate::gates::SessionGate;
 use crate::patience::{Losses, Patience};
 use crate::ran::{Broken, Ran};
 use crate::turns::{Feeding, begin, call, feed};
-use ipam_io::{Gate, Passed, Point};
+use ipam_io::{Passed, Point};
 use ipam_model::{Answer, CollectRequest, Request};
 use ipam_shared::{Keeper, Pass, Shared};
 use ipam_text::Text;
@@ -28,7 +30,7 @@ use std::sync::Wait;
 /// Begins the request and goes on with it to its answer, or until it waits. It is one turn of the pass
 /// for the beginning and one for each call, so that others may come between; the gate is passed before
 /// each call. On `Err` what was begun still runs.
-pub fn run_request<R: Wait, D: Keeper, G: Gate, P: Patience>(
+pub fn run_request<R: Wait, D: Keeper, G: SessionGate, P: Patience>(
     rt: &R,
     alloc: Global,
     shared: &Shared<D>,
@@ -53,6 +55,8 @@ pub fn run_request<R: Wait, D: Keeper, G: Gate, P: Patience>(
     ensures worn { OnWorn result (IsWorn pass.new) }
     ensures unanswered { OnWorn result (IsUnanswered pass.old pass.new) }
     ensures stops { Halts result (G.stops gate.old) (G.stops gate.new) }
+    ensures keeper { MakesCalls D.rows D.given D.faults pass.old pass.new }
+    ensures lines { G.lines gate.new ≡ G.lines gate.old }
 {
     match begin(rt, alloc, shared, pass, request) {
         Ok(()) => run_on(rt, alloc, shared, pass, gate, patience),
@@ -61,7 +65,7 @@ pub fn run_request<R: Wait, D: Keeper, G: Gate, P: Patience>(
 }
 
 /// Goes on with what runs to its answer, or until it waits. Where it lost a race it lets others finish.
-pub(crate) fn run_on<R: Wait, D: Keeper, G: Gate, P: Patience>(
+pub(crate) fn run_on<R: Wait, D: Keeper, G: SessionGate, P: Patience>(
     rt: &R,
     alloc: Global,
     shared: &Shared<D>,
@@ -83,6 +87,8 @@ pub(crate) fn run_on<R: Wait, D: Keeper, G: Gate, P: Patience>(
     ensures worn { OnWorn result (IsWorn pass.new) }
     ensures runs { OnWorn result (IsSome (runs_in pass.new)) }
     ensures stops { Halts result (G.stops gate.old) (G.stops gate.new) }
+    ensures keeper { MakesCalls D.rows D.given D.faults pass.old pass.new }
+    ensures lines { G.lines gate.new ≡ G.lines gate.old }
 {
     let mut losses = Losses::none();
     loop {
@@ -95,7 +101,7 @@ pub(crate) fn run_on<R: Wait, D: Keeper, G: Gate, P: Patience>(
 }
 
 /// Makes the next call of what runs, or finds that it waits. None where the call has no answer.
-fn step_on<R: Wait, D: Keeper, G: Gate>(
+fn step_on<R: Wait, D: Keeper, G: SessionGate>(
     rt: &R,
     alloc: Global,
     shared: &Shared<D>,
@@ -110,6 +116,8 @@ fn step_on<R: Wait, D: Keeper, G: Gate>(
     ensures passed { G.turns gate.new ≡ option_map next_count (G.turns gate.old) }
     ensures worn { OnWorn result (IsWorn pass.new) }
     ensures stops { Halts result (G.stops gate.old) (G.stops gate.new) }
+    ensures keeper { MakesCalls D.rows D.given D.faults pass.old pass.new }
+    ensures lines { G.lines gate.new ≡ G.lines gate.old }
 {
     match gate.pass(Point::Turn) {
         Passed::Stop => Err(Broken::Halted),
@@ -119,7 +127,7 @@ fn step_on<R: Wait, D: Keeper, G: Gate>(
 
 /// Goes on with what runs to its answer. What waits though it was fed would never be answered; no
 /// request does, and one that did would be told as want of memory.
-fn run_to_answer<R: Wait, D: Keeper, G: Gate, P: Patience>(
+fn run_to_answer<R: Wait, D: Keeper, G: SessionGate, P: Patience>(
     rt: &R,
     alloc: Global,
     shared: &Shared<D>,
@@ -140,6 +148,8 @@ fn run_to_answer<R: Wait, D: Keeper, G: Gate, P: Patience>(
     ensures worn { OnWorn result (IsWorn pass.new) }
     ensures runs { OnWorn result (IsSome (runs_in pass.new)) }
     ensures stops { Halts result (G.stops gate.old) (G.stops gate.new) }
+    ensures keeper { MakesCalls D.rows D.given D.faults pass.old pass.new }
+    ensures lines { G.lines gate.new ≡ G.lines gate.old }
 {
     match run_on(rt, alloc, shared, pass, gate, patience) {
         Ok(ran) => answer_of(ran),
@@ -159,7 +169,7 @@ fn answer_of(ran: Ran) -> Result<Answer, Broken>
 }
 
 /// The same, as an answer that there may be.
-fn run_fed<R: Wait, D: Keeper, G: Gate, P: Patience>(
+fn run_fed<R: Wait, D: Keeper, G: SessionGate, P: Patience>(
     rt: &R,
     alloc: Global,
     shared: &Shared<D>,
@@ -180,6 +190,8 @@ fn run_fed<R: Wait, D: Keeper, G: Gate, P: Patience>(
     ensures worn { OnWorn result (IsWorn pass.new) }
     ensures runs { OnWorn result (IsSome (runs_in pass.new)) }
     ensures stops { Halts result (G.stops gate.old) (G.stops gate.new) }
+    ensures keeper { MakesCalls D.rows D.given D.faults pass.old pass.new }
+    ensures lines { G.lines gate.new ≡ G.lines gate.old }
 {
     match run_to_answer(rt, alloc, shared, pass, gate, patience) {
         Ok(answer) => Ok(Some(answer)),
@@ -189,7 +201,7 @@ fn run_fed<R: Wait, D: Keeper, G: Gate, P: Patience>(
 
 /// Feeds the collection that waits its second list, and goes on to its answer. None where the grace is
 /// not over, and it waits as before.
-pub fn run_feed<R: Wait, D: Keeper, G: Gate, P: Patience>(
+pub fn run_feed<R: Wait, D: Keeper, G: SessionGate, P: Patience>(
     rt: &R,
     alloc: Global,
     shared: &Shared<D>,
@@ -213,6 +225,8 @@ pub fn run_feed<R: Wait, D: Keeper, G: Gate, P: Patience>(
     ensures worn { OnWorn result (IsWorn pass.new) }
     ensures runs { OnWorn result (IsSome (runs_in pass.new)) }
     ensures stops { Halts result (G.stops gate.old) (G.stops gate.new) }
+    ensures keeper { MakesCalls D.rows D.given D.faults pass.old pass.new }
+    ensures lines { G.lines gate.new ≡ G.lines gate.old }
 {
     match feed(rt, alloc, shared, pass, live, at) {
         Ok(Feeding::Fed) => run_fed(rt, alloc, shared, pass, gate, patience),
@@ -223,7 +237,7 @@ pub fn run_feed<R: Wait, D: Keeper, G: Gate, P: Patience>(
 
 /// Begins the request of a CNI call and goes on with it to its answer. A collection is fed its own list
 /// once it waits, at the time 0. On `Err` what was begun still runs.
-pub fn run_call<R: Wait, D: Keeper, G: Gate, P: Patience>(
+pub fn run_call<R: Wait, D: Keeper, G: SessionGate, P: Patience>(
     rt: &R,
     alloc: Global,
     shared: &Shared<D>,
@@ -247,6 +261,8 @@ pub fn run_call<R: Wait, D: Keeper, G: Gate, P: Patience>(
     ensures worn { OnWorn result (IsWorn pass.new) }
     ensures unanswered { OnWorn result (IsUnanswered pass.old pass.new) }
     ensures stops { Halts result (G.stops gate.old) (G.stops gate.new) }
+    ensures keeper { MakesCalls D.rows D.given D.faults pass.old pass.new }
+    ensures lines { G.lines gate.new ≡ G.lines gate.old }
 {
     match run_request(rt, alloc, shared, pass, gate, patience, request) {
         Ok(Ran::Answered(answer)) => Ok(answer),
@@ -257,7 +273,7 @@ pub fn run_call<R: Wait, D: Keeper, G: Gate, P: Patience>(
 
 /// Feeds the collection that waits its own list. Nothing else waits, and what did would be told as want
 /// of memory.
-fn feed_own<R: Wait, D: Keeper, G: Gate, P: Patience>(
+fn feed_own<R: Wait, D: Keeper, G: SessionGate, P: Patience>(
     rt: &R,
     alloc: Global,
     shared: &Shared<D>,
@@ -282,6 +298,8 @@ fn feed_own<R: Wait, D: Keeper, G: Gate, P: Patience>(
     ensures worn { OnWorn result (IsWorn pass.new) }
     ensures runs { OnWorn result (IsSome (runs_in pass.new)) }
     ensures stops { Halts result (G.stops gate.old) (G.stops gate.new) }
+    ensures keeper { MakesCalls D.rows D.given D.faults pass.old pass.new }
+    ensures lines { G.lines gate.new ≡ G.lines gate.old }
 {
     match request {
         Request::Collect(asked) => feed_first(rt, alloc, shared, pass, gate, patience, asked),
@@ -289,7 +307,7 @@ fn feed_own<R: Wait, D: Keeper, G: Gate, P: Patience>(
     }
 }
 
-fn feed_first<R: Wait, D: Keeper, G: Gate, P: Patience>(
+fn feed_first<R: Wait, D: Keeper, G: SessionGate, P: Patience>(
     rt: &R,
     alloc: Global,
     shared: &Shared<D>,
@@ -314,6 +332,8 @@ fn feed_first<R: Wait, D: Keeper, G: Gate, P: Patience>(
     ensures worn { OnWorn result (IsWorn pass.new) }
     ensures runs { OnWorn result (IsSome (runs_in pass.new)) }
     ensures stops { Halts result (G.stops gate.old) (G.stops gate.new) }
+    ensures keeper { MakesCalls D.rows D.given D.faults pass.old pass.new }
+    ensures lines { G.lines gate.new ≡ G.lines gate.old }
 {
     let live = asked.live.as_slice();
     match run_feed(rt, alloc, shared, pass, gate, patience, live, 0) {

@@ -1,19 +1,23 @@
 //! A session, line by line up to its end.
-ghost use Rattle.std.specs.Prelude.{◌≡◌, ◌⊎◌, ◌<◌, ℕ, List, Option, None, IsSome, IfOk, IfErr, OnOk, OnErr, false};
+ghost use Rattle.std.specs.Prelude.{◌≡◌, ◌⊎◌, ◌<◌, ℕ, List, Option, None, IsSome, IfOk, IfErr, OnOk, OnErr, false, option_map};
 ghost use Rattle.std.specs.Io.KnownBytes.{append_known, prepend_known};
+ghost use Rattle.ipam_io.specs.Counts.{next_count};
 ghost use Rattle.ipam_io.specs.Streams.{AppendsPrefix};
 ghost use Rattle.ipam_serve.specs.Lines.{server_at};
 ghost use Rattle.ipam_session.specs.Replies.{reply_line};
 ghost use Rattle.ipam_shared.specs.PassValue.{PassValue};
 ghost use Rattle.ipam_shared.specs.Passes.{IsSamePass, runs_in};
+ghost use Rattle.ipam_serve.specs.Keeping.{CameOf};
 ghost use Rattle.ipam_serve.specs.Runs.{IsAtRest};
 ghost use Rattle.ipam_serve.specs.Sessions.{Ends, Exchange, Exchanges, IsCause, IsStopped, Nothing, ReadsLine, RoseAt, RoseIf, Serves, Session, StopsLast, end_of, is_halted, is_read_fault, is_write_fault, talk_at};
 
 use crate::ends::SessionEnd;
+use crate::gates::SessionGate;
 use crate::lines::answer_line;
+use crate::opening::Opening;
 use crate::patience::Patience;
 use crate::ran::Broken;
-use ipam_io::{Clock, Gate, Link, Passed, Point};
+use ipam_io::{Clock, Link, Passed, Point};
 use ipam_lines::{Got, Lines, LinesFault, SESSION_LINE_BYTES};
 use ipam_session::{Reply, push_reply};
 use ipam_shared::{Keeper, Pass, Shared, SpentPass};
@@ -23,10 +27,11 @@ use std::sync::Wait;
 /// Serves a session over the link, in the pass's slot, until it ends. A line is replied to before the
 /// next is read. What waits in the slot at the end is stopped by one more turn. It waits for the link
 /// and for turns at the cluster.
-pub fn serve_session<R: Wait, L: Link, D: Keeper, G: Gate, C: Clock, P: Patience>(
+pub fn serve_session<R: Wait, L: Link, D: Keeper, G: SessionGate, C: Clock, P: Patience>(
     rt: &R,
     alloc: Global,
     shared: &Shared<D>,
+    opening: &Opening,
     pass: &mut Pass,
     gate: &mut G,
     clock: &mut C,
@@ -35,25 +40,28 @@ pub fn serve_session<R: Wait, L: Link, D: Keeper, G: Gate, C: Clock, P: Patience
 ) -> SessionEnd
     requires lock { pass.old.lock ≡ shared.now }
     requires idle { runs_in pass.old ≡ None }
-    ensures served { (held : List ℕ) × Session result
-        (talk_at (server_at pass.old (G.turns gate.old) (C.ahead clock.old)) (L.left link.old) (L.written link.old))
-        (talk_at (server_at pass.new (G.turns gate.new) (C.ahead clock.new)) (prepend_known held (L.left link.new)) (L.written link.new)) }
+    ensures served { (held : List ℕ) × Session (CameOf D.rows D.given D.faults) result
+        (talk_at (server_at pass.old (G.turns gate.old) (C.ahead clock.old)) opening.now (G.lines gate.old) (L.left link.old) (L.written link.old))
+        (talk_at (server_at pass.new (G.turns gate.new) (C.ahead clock.new)) opening.now (G.lines gate.new) (prepend_known held (L.left link.new)) (L.written link.new)) }
     ensures idle { runs_in pass.new ≡ None }
     ensures same { IsSamePass pass.old pass.new }
     ensures reads { RoseIf (is_read_fault result) (L.read_faults link.old) (L.read_faults link.new) }
     ensures writes { RoseIf (is_write_fault result) (L.write_faults link.old) (L.write_faults link.new) }
     ensures stops { RoseIf (is_halted result) (G.stops gate.old) (G.stops gate.new) }
 {
-    let end = serve_lines(rt, alloc, shared, pass, gate, clock, patience, link);
+    let end = serve_lines(
+        rt, alloc, shared, opening, pass, gate, clock, patience, link,
+    );
     stop_last(rt, shared, pass);
     end
 }
 
 /// Reads, does and replies to lines until the session ends. What waits in the slot then still does.
-fn serve_lines<R: Wait, D: Keeper, G: Gate, C: Clock, P: Patience, L: Link>(
+fn serve_lines<R: Wait, D: Keeper, G: SessionGate, C: Clock, P: Patience, L: Link>(
     rt: &R,
     alloc: Global,
     shared: &Shared<D>,
+    opening: &Opening,
     pass: &mut Pass,
     gate: &mut G,
     clock: &mut C,
@@ -62,9 +70,9 @@ fn serve_lines<R: Wait, D: Keeper, G: Gate, C: Clock, P: Patience, L: Link>(
 ) -> SessionEnd
     requires lock { pass.old.lock ≡ shared.now }
     requires rests { IsAtRest (runs_in pass.old) }
-    ensures served { (held : List ℕ) × Serves result
-        (talk_at (server_at pass.old (G.turns gate.old) (C.ahead clock.old)) (L.left link.old) (L.written link.old))
-        (talk_at (server_at pass.new (G.turns gate.new) (C.ahead clock.new)) (prepend_known held (L.left link.new)) (L.written link.new)) }
+    ensures served { (held : List ℕ) × Serves (CameOf D.rows D.given D.faults) result
+        (talk_at (server_at pass.old (G.turns gate.old) (C.ahead clock.old)) opening.now (G.lines gate.old) (L.left link.old) (L.written link.old))
+        (talk_at (server_at pass.new (G.turns gate.new) (C.ahead clock.new)) opening.now (G.lines gate.new) (prepend_known held (L.left link.new)) (L.written link.new)) }
     ensures lock { pass.new.lock ≡ pass.old.lock }
     ensures reads { RoseIf (is_read_fault result) (L.read_faults link.old) (L.read_faults link.new) }
     ensures writes { RoseIf (is_write_fault result) (L.write_faults link.old) (L.write_faults link.new) }
@@ -73,7 +81,7 @@ fn serve_lines<R: Wait, D: Keeper, G: Gate, C: Clock, P: Patience, L: Link>(
     let mut lines = Lines::<SESSION_LINE_BYTES>::new(alloc);
     for _ in rt.forever() {
         match exchange(
-            rt, alloc, shared, pass, gate, clock, patience, link, &mut lines,
+            rt, alloc, shared, opening, pass, gate, clock, patience, link, &mut lines,
         ) {
             Ok(()) => {}
             Err(end) => return end,
@@ -83,10 +91,11 @@ fn serve_lines<R: Wait, D: Keeper, G: Gate, C: Clock, P: Patience, L: Link>(
 }
 
 /// Reads a line, does what it asks and writes its reply.
-fn exchange<R: Wait, D: Keeper, G: Gate, C: Clock, P: Patience, L: Link>(
+fn exchange<R: Wait, D: Keeper, G: SessionGate, C: Clock, P: Patience, L: Link>(
     rt: &R,
     alloc: Global,
     shared: &Shared<D>,
+    opening: &Opening,
     pass: &mut Pass,
     gate: &mut G,
     clock: &mut C,
@@ -96,12 +105,12 @@ fn exchange<R: Wait, D: Keeper, G: Gate, C: Clock, P: Patience, L: Link>(
 ) -> Result<(), SessionEnd>
     requires lock { pass.old.lock ≡ shared.now }
     requires rests { IsAtRest (runs_in pass.old) }
-    ensures exchanged { OnOk result ((x : Exchange) × Exchanges x
-        (talk_at (server_at pass.old (G.turns gate.old) (C.ahead clock.old)) (prepend_known lines.old (L.left link.old)) (L.written link.old))
-        (talk_at (server_at pass.new (G.turns gate.new) (C.ahead clock.new)) (prepend_known lines.new (L.left link.new)) (L.written link.new))) }
-    ensures ended { IfErr result (λ how. Ends how
-        (talk_at (server_at pass.old (G.turns gate.old) (C.ahead clock.old)) (prepend_known lines.old (L.left link.old)) (L.written link.old))
-        (talk_at (server_at pass.new (G.turns gate.new) (C.ahead clock.new)) (prepend_known lines.new (L.left link.new)) (L.written link.new))) }
+    ensures exchanged { OnOk result ((x : Exchange) × Exchanges (CameOf D.rows D.given D.faults) x
+        (talk_at (server_at pass.old (G.turns gate.old) (C.ahead clock.old)) opening.now (G.lines gate.old) (prepend_known lines.old (L.left link.old)) (L.written link.old))
+        (talk_at (server_at pass.new (G.turns gate.new) (C.ahead clock.new)) opening.now (G.lines gate.new) (prepend_known lines.new (L.left link.new)) (L.written link.new))) }
+    ensures ended { IfErr result (λ how. Ends (CameOf D.rows D.given D.faults) how
+        (talk_at (server_at pass.old (G.turns gate.old) (C.ahead clock.old)) opening.now (G.lines gate.old) (prepend_known lines.old (L.left link.old)) (L.written link.old))
+        (talk_at (server_at pass.new (G.turns gate.new) (C.ahead clock.new)) opening.now (G.lines gate.new) (prepend_known lines.new (L.left link.new)) (L.written link.new))) }
     ensures rests { OnOk result (IsAtRest (runs_in pass.new)) }
     ensures lock { pass.new.lock ≡ pass.old.lock }
     ensures reads { RoseAt is_read_fault result (L.read_faults link.old) (L.read_faults link.new) }
@@ -110,7 +119,9 @@ fn exchange<R: Wait, D: Keeper, G: Gate, C: Clock, P: Patience, L: Link>(
 {
     match read_line(gate, link, lines) {
         Ok(line) => {
-            let told = answer_line(rt, alloc, shared, pass, gate, clock, patience, line);
+            let told = answer_line(
+                rt, alloc, shared, opening, pass, gate, clock, patience, line,
+            );
             match told {
                 Ok(reply) => write_reply(alloc, link, reply),
                 Err(broken) => Err(end_of(broken)),
@@ -131,7 +142,7 @@ fn end_of(broken: Broken) -> SessionEnd
 }
 
 /// Reads the next line, once the gate lets it.
-fn read_line<G: Gate, L: Link>(
+fn read_line<G: SessionGate, L: Link>(
     gate: &mut G,
     link: &mut L,
     lines: &mut Lines<SESSION_LINE_BYTES>,
@@ -140,6 +151,7 @@ fn read_line<G: Gate, L: Link>(
     ensures none { OnErr result (prepend_known lines.new (L.left link.new) ≡ prepend_known lines.old (L.left link.old)) }
     ensures cause { (first last : PassValue) → IfErr result (λ how. IsCause how Nothing (prepend_known lines.old (L.left link.old)) first last) }
     ensures turns { G.turns gate.new ≡ G.turns gate.old }
+    ensures asked { G.lines gate.new ≡ option_map next_count (G.lines gate.old) }
     ensures written { L.written link.new ≡ L.written link.old }
     ensures reads { RoseAt is_read_fault result (L.read_faults link.old) (L.read_faults link.new) }
     ensures writes { RoseAt is_write_fault result (L.write_faults link.old) (L.write_faults link.new) }

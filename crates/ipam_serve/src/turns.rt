@@ -10,6 +10,7 @@ ghost use Rattle.ipam_model.specs.SoundRequest.{IsSoundRequest};
 ghost use Rattle.ipam_shared.specs.Passes.{runs_in};
 ghost use Rattle.ipam_serve.specs.Faults.{IsWorn, OnHalted, OnWorn};
 ghost use Rattle.ipam_serve.specs.Gains.{Took, asked_in, is_early, is_waiting};
+ghost use Rattle.ipam_serve.specs.Keeping.{MakesCalls};
 ghost use Rattle.ipam_kept.specs.Feed.{AreRoutes};
 ghost use Rattle.ipam_serve.specs.Lines.{since_in};
 ghost use Rattle.ipam_serve.specs.Turns.{Called, Fed, IsToldOf, answer_told};
@@ -84,6 +85,7 @@ pub(crate) fn call<R: Wait, D: Keeper>(
     ensures not_called { OnErr result (Took pass.old [] 1 pass.new) }
     ensures worn { OnWorn result (IsWorn pass.new) }
     ensures not_halted { OnHalted result ⊥ }
+    ensures keeper { MakesCalls D.rows D.given D.faults pass.old pass.new }
 {
     if pass.left() < 2 {
         return Err(Broken::Worn);

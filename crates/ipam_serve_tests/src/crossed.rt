@@ -3,9 +3,9 @@ ghost use Rattle.std.specs.Prelude.{◌≡◌, None};
 ghost use Rattle.ipam_shared.specs.Passes.{IsNewlyKept, runs_in};
 
 use crate::counting::Counting;
-use crate::play::{keeper_of, link_of, session, tell_session};
-use ipam_io::{Gate, ListClock, Passed, Point};
-use ipam_serve::serve_session;
+use crate::play::{keeper_of, link_of, opening, session, tell_session};
+use ipam_io::{ListClock, Passed, Point};
+use ipam_serve::{SessionGate, serve_session};
 use ipam_shared::{Keeper, Kept, Pass, Shared};
 use std::alloc::{AllocError, Global};
 use std::sync::Wait;
@@ -33,10 +33,12 @@ struct Crossing<'a, R: Wait, D: Keeper> {
     ghost own: { pass.lock ≡ shared.now },
 }
 
-impl<'a, R: Wait, D: Keeper> Gate for Crossing<'a, R, D> {
+impl<'a, R: Wait, D: Keeper> SessionGate for Crossing<'a, R, D> {
     ghost stops = { λ _. 0 };
 
     ghost turns = { λ _. None };
+
+    ghost lines = { λ _. None };
 
     fn pass(&mut self, _point: Point) -> Passed {
         self.passes_left = self.passes_left.wrapping_sub(1);
@@ -122,10 +124,12 @@ fn both<R: Wait, D: Keeper>(
     let mut clock = ListClock::new(Vec::new(alloc));
     let mut patience = Counting::new();
     let mut link = link_of(alloc, first)?;
+    let opening = opening(alloc)?;
     let end = serve_session(
         rt,
         alloc,
         shared,
+        &opening,
         pass,
         &mut gate,
         &mut clock,

@@ -5,13 +5,17 @@ ghost use Rattle.ipam_shared.specs.Passes.{IsNewlyKept, IsSamePass, runs_in};
 use crate::counting::Counting;
 use ipam_io::{ListClock, ListGate, MemoryLink};
 use ipam_keeper::{MemoryKeeper, Row};
-use ipam_serve::{SessionEnd, serve_session};
+use ipam_serve::{Opening, SessionEnd, serve_session};
 use ipam_shared::{Keeper, Kept, Pass, Shared};
+use ipam_text::Text;
 use std::alloc::{AllocError, Global};
 use std::sync::Wait;
 
 /// What stands before the end of each session but the first.
 const SESSION: &str = "\nsession ";
+
+/// The text of the opening.
+const OPENED: &str = "7-00000000000000fe";
 
 /// How many bytes can be written to a link.
 const ROOM: usize = 65_536;
@@ -136,10 +140,12 @@ pub(crate) fn session<R: Wait, D: Keeper>(
     let mut clock = ListClock::new(numbers(alloc, lines, "clock ")?);
     let mut link = link_of(alloc, lines)?;
     let mut patience = Counting::new();
+    let opening = opening(alloc)?;
     let end = serve_session(
         rt,
         alloc,
         shared,
+        &opening,
         pass,
         &mut gate,
         &mut clock,
@@ -147,6 +153,11 @@ pub(crate) fn session<R: Wait, D: Keeper>(
         &mut link,
     );
     tell_session(link.written(), end, told)
+}
+
+/// The opening of which all sessions are.
+pub(crate) fn opening(alloc: Global) -> Result<Opening, AllocError> {
+    Ok(Opening::of(alloc, Text::copied(alloc, OPENED)?))
 }
 
 pub(crate) fn tell_session(

@@ -206,6 +206,8 @@ pub(crate) const ROUTES: &str =
 < {"compacted":3}
 > {"routesSince":7}
 < {"ahead":6}
+> {"opened":true}
+< {"opened":"7-00000000000000fe"}
 > {"routes":true}
 < {"revision":6,"routes":[]}
 session closed
@@ -220,6 +222,10 @@ They are told while a collection waits, which goes on as before.
 > {"routesSince":4}
 < {"ahead":3}
 > {"routes":false}
+< {"refused":"line"}
+> {"opened":true}
+< {"opened":"7-00000000000000fe"}
+> {"opened":false}
 < {"refused":"line"}
 > {"feed":[]}
 < {"answer":{"collected":{"b1":1,"b2":3,"items":[]}}}

@@ -8,7 +8,7 @@ use Rattle.ipam_feed.specs.declared.change.Change.{Change}
 use Rattle.ipam_session.specs.declared.route.Since.{Since}
 use Rattle.ipam_session.specs.declared.route.Since.TheVariants.{Changes, Compacted, Ahead}
 use Rattle.ipam_session.specs.declared.replies.Reply.{Reply}
-use Rattle.ipam_session.specs.declared.replies.Reply.TheVariants.{Called, Answered, Waiting, Stopped, Refused, Routes, RoutesSince}
+use Rattle.ipam_session.specs.declared.replies.Reply.TheVariants.{Called, Answered, Waiting, Stopped, Refused, Routes, RoutesSince, Opened}
 use Rattle.ipam_session.specs.Replies.{call_data, route_data, change_data, routes_data, changes_data, since_data, reply_data}
 
 pub call_without : (status : ℕ) (stdout : List ℕ) → has_float (call_data status stdout) ≡ false
@@ -44,3 +44,4 @@ reply_without Stopped = refl
 reply_without (Refused why) = refl
 reply_without (Routes revision routes) = routes_without revision routes
 reply_without (RoutesSince since) = since_without since
+reply_without (Opened text) = refl

@@ -33,6 +33,8 @@ pub record Standing : Type 0 where
   pub routes : List OneRoute
   -- what became of the routes after a revision
   pub since : ℕ → Since
+  -- the text of the opening of the datastore
+  pub opened : List ℕ
 
 abbrev pub refused : Refusal → Option Reply
 refused why = Some (reply.Refused why)
@@ -65,6 +67,7 @@ reply_to (wish.Feed live) s =
 reply_to wish.Stop s = if s.waited then Some reply.Stopped else refused refusal.NotWaiting
 reply_to wish.Routes s = Some (reply.Routes s.revision s.routes)
 reply_to (wish.RoutesSince revision) s = Some (reply.RoutesSince (s.since revision))
+reply_to wish.Opened s = Some (reply.Opened s.opened)
 
 abbrev pub reply_unless_unread : Option Wish → Standing → Option Reply
 reply_unless_unread None s = refused refusal.Line
@@ -84,6 +87,7 @@ AnswersWish (Some (wish.Feed live)) found = ⊤
 AnswersWish (Some wish.Stop) found = ⊤
 AnswersWish (Some wish.Routes) found = ⊤
 AnswersWish (Some (wish.RoutesSince revision)) found = ⊤
+AnswersWish (Some wish.Opened) found = ⊤
 
 -- ---- what a line asks for
 
@@ -95,6 +99,7 @@ begins (Some (wish.Feed live)) = false
 begins (Some wish.Stop) = false
 begins (Some wish.Routes) = false
 begins (Some (wish.RoutesSince revision)) = false
+begins (Some wish.Opened) = false
 
 abbrev pub feeds : Option Wish → Bool
 feeds None = false
@@ -104,6 +109,7 @@ feeds (Some (wish.Feed live)) = true
 feeds (Some wish.Stop) = false
 feeds (Some wish.Routes) = false
 feeds (Some (wish.RoutesSince revision)) = false
+feeds (Some wish.Opened) = false
 
 abbrev pub stops : Option Wish → Bool
 stops None = false
@@ -113,3 +119,4 @@ stops (Some (wish.Feed live)) = false
 stops (Some wish.Stop) = true
 stops (Some wish.Routes) = false
 stops (Some (wish.RoutesSince revision)) = false
+stops (Some wish.Opened) = false

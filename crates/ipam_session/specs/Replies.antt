@@ -68,6 +68,7 @@ reply_data reply.Stopped = tagged (codes "stopped") (boolean true)
 reply_data (reply.Refused why) = tagged (codes "refused") (string (refusal_name why))
 reply_data (reply.Routes revision routes) = routes_data revision routes
 reply_data (reply.RoutesSince since) = since_data since
+reply_data (reply.Opened text) = tagged (codes "opened") (string text)
 
 -- the line of a reply, with its line feed
 unfoldable pub reply_line : Reply → List ℕ

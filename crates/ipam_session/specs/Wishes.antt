@@ -37,7 +37,8 @@ short_wish name d =
     if bytes_eq name (codes "stop") then only_if (is_true d) wish.Stop
     else (if bytes_eq name (codes "routes") then only_if (is_true d) wish.Routes
     else (if bytes_eq name (codes "routesSince") then option_map wish.RoutesSince (as_whole d)
-    else None))
+    else (if bytes_eq name (codes "opened") then only_if (is_true d) wish.Opened
+    else None)))
 
 -- what the one member asks
 abbrev pub named_wish : List ℕ → Data → Option Wish
@@ -95,3 +96,4 @@ IsSoundWish (wish.Feed live) = AllByRecursion IsHandleId live
 IsSoundWish wish.Stop = Unit {0}
 IsSoundWish wish.Routes = Unit {0}
 IsSoundWish (wish.RoutesSince revision) = Unit {0}
+IsSoundWish wish.Opened = Unit {0}

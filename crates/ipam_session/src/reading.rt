@@ -124,6 +124,8 @@ fn short_wish(name: &str, value: &Value) -> Option<Wish>
         where_true(value, Wish::Routes)
     } else if name == "routesSince" {
         value.as_u64().map(Wish::RoutesSince)
+    } else if name == "opened" {
+        where_true(value, Wish::Opened)
     } else {
         None
     }

@@ -31,6 +31,8 @@ pub enum Reply {
     Routes(u64, Seq<Route>),
     /// What became of the routes after the revision that the line names.
     RoutesSince(Since),
+    /// The text that this opening of the datastore has for itself.
+    Opened(Text),
 }
 
 /// Appends the line of the reply, which ends by its line feed.
@@ -87,6 +89,7 @@ fn reply_value(alloc: Global, reply: &Reply) -> Result<Value, AllocError>
         Reply::Refused(why) => refused_value(alloc, *why),
         Reply::Routes(revision, routes) => routes_value(alloc, *revision, routes.as_slice()),
         Reply::RoutesSince(since) => since_value(alloc, since),
+        Reply::Opened(text) => opened_value(alloc, text.as_str()),
     }
 }
 
@@ -102,6 +105,13 @@ fn refused_value(alloc: Global, why: Refusal) -> Result<Value, AllocError>
 {
     let name = Value::try_from_str(alloc, why.name())?;
     tagged(alloc, "refused", name)
+}
+
+fn opened_value(alloc: Global, text: &str) -> Result<Value, AllocError>
+    ensures { IfOk result (λ v. view v ≡ reply_data (Reply.Opened text.now)) }
+{
+    let text = Value::try_from_str(alloc, text)?;
+    tagged(alloc, "opened", text)
 }
 
 fn since_value(alloc: Global, since: &Since) -> Result<Value, AllocError>

@@ -16,4 +16,6 @@ pub enum Wish {
     Routes,
     /// What became of the routes after this revision.
     RoutesSince(u64),
+    /// Which opening of the datastore this is.
+    Opened,
 }

@@ -45,6 +45,7 @@ const REPLIES: &str = "\
 12 {\"changes\":[{\"cidr\":\"10.0.0.0/30\",\"node\":\"a\",\"revision\":4,\"up\":false}],\"revision\":6}\n\
 13 {\"compacted\":3}\n\
 14 {\"ahead\":6}\n\
+15 {\"opened\":\"7-00000000000000fe\"}\n\
 ";
 
 fn reply_of(alloc: Global, number: u8) -> Result<Reply, AllocError> {
@@ -74,6 +75,7 @@ fn reply_of_routes(alloc: Global, number: u8) -> Result<Reply, AllocError> {
         12 => changed(alloc),
         13 => Ok(Reply::RoutesSince(Since::Compacted(3))),
         14 => Ok(Reply::RoutesSince(Since::Ahead(6))),
+        15 => Ok(Reply::Opened(Text::copied(alloc, "7-00000000000000fe")?)),
         _ => Err(AllocError),
     }
 }
@@ -98,6 +100,6 @@ fn each_reply_has_its_line(rt: HostRuntime) -> Result<(), Fail> {
         assert_eq!(&rt; told.as_str().strip_suffix('\n'), Some(want));
         count = count.wrapping_add(1);
     }
-    assert_eq!(&rt; count, 14);
+    assert_eq!(&rt; count, 15);
     Ok(())
 }

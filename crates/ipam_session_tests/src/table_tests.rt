@@ -24,6 +24,7 @@ const LINES_1: &str = "\
 {\"routes\":true}⇒routes‡\n\
 {\"routesSince\":0}⇒since 0‡\n\
 {\"routesSince\":18446744073709551615}⇒since 18446744073709551615‡\n\
+{\"opened\":true}⇒opened‡\n\
  { \"stop\" : true } ⇒stop‡\n\
 \t{\"routesSince\"\t:\t7}\r⇒since 7‡\n\
 {\"st\\u006fp\":true}⇒stop‡\n\
@@ -49,10 +50,10 @@ true⇒line‡\n\
 {\"stop\":true} x⇒line‡\n\
 {\"stop\":tru}⇒line‡\n\
 {\"Stop\":true}⇒line‡\n\
-{\"stop\":false}⇒line‡\n\
 ";
 
 const LINES_2: &str = "\
+{\"stop\":false}⇒line‡\n\
 {\"stop\":1}⇒line‡\n\
 {\"stop\":\"true\"}⇒line‡\n\
 {\"stop\":null}⇒line‡\n\
@@ -61,6 +62,8 @@ const LINES_2: &str = "\
 {\"routes\":false}⇒line‡\n\
 {\"routes\":[]}⇒line‡\n\
 {\"routes\":true,\"x\":0}⇒line‡\n\
+{\"opened\":false}⇒line‡\n\
+{\"opened\":1}⇒line‡\n\
 {\"routesSince\":-1}⇒line‡\n\
 {\"routesSince\":1.0}⇒line‡\n\
 {\"routesSince\":1e2}⇒line‡\n\
@@ -90,12 +93,12 @@ const LINES_2: &str = "\
 {\"env\":{},\"stdin\":\"\",\"feed\":[]}⇒line‡\n\
 {\"env\":{},\"stdin\":\"\\ud800\"}⇒line‡\n\
 {\"env\":{},\"stdin\":\"a\tb\"}⇒line‡\n\
-{\"Env\":{},\"stdin\":\"\"}⇒line‡\n\
-{\"request\":{}}⇒line‡\n\
-{\"request\":null}⇒line‡\n\
 ";
 
 const LINES_3: &str = "\
+{\"Env\":{},\"stdin\":\"\"}⇒line‡\n\
+{\"request\":{}}⇒line‡\n\
+{\"request\":null}⇒line‡\n\
 {\"request\":\"del\"}⇒line‡\n\
 {\"request\":{\"del\":{}}}⇒line‡\n\
 {\"request\":{\"del\":{\"handle\":\"n.c1\",\"x\":0}}}⇒line‡\n\
@@ -128,6 +131,7 @@ const LINES_3: &str = "\
 {\"routes\":true⇒line‡\n\
 {\"routesSince\":0⇒line‡\n\
 {\"routesSince\":18446744073709551615⇒line‡\n\
+{\"opened\":true⇒line‡\n\
 {\"env\":{\"CNI_COMMAND\":\"ADD\",\"CNI_IFNAME\":\"eth0\"},\"stdin\":\"{\\\"cniVersion\\\":\\\"1.0.0\\\"}\\n\"},⇒line‡\n\
 {\"env\":{},\"stdin\":\"\"},⇒line‡\n\
 {\"env\":{\"A\":\"1\",\"a\":\"ü\",\"\":\"x\"},\"stdin\":\"\\u00fc\\ud83d\\ude00\\t\"},⇒line‡\n\
@@ -151,6 +155,7 @@ fn asked(alloc: Global, wish: &Wish) -> Result<String, AllocError> {
         Wish::Stop => String::from_str(alloc, "stop"),
         Wish::Routes => String::from_str(alloc, "routes"),
         Wish::RoutesSince(revision) => format!(in alloc; "since {revision}"),
+        Wish::Opened => String::from_str(alloc, "opened"),
     }
 }
 
@@ -208,6 +213,6 @@ fn reads_lines_2(rt: HostRuntime) -> Result<(), Fail> {
 #[test]
 fn reads_lines_3(rt: HostRuntime) -> Result<(), Fail> {
     let count = rows(&rt, rt.alloc(), LINES_3)?;
-    assert_eq!(rt; count, 36);
+    assert_eq!(rt; count, 40);
     Ok(())
 }

@@ -1,6 +1,6 @@
 //! The daemon over the database.
 use crate::telling::{tell_no_path, tell_why};
-use ipam_daemon::{Host, Served, serve, tell_served};
+use ipam_daemon::{Host, Opening, Served, new_opening, serve, tell_served};
 use ipam_environment::{Database, database_named};
 use ipam_io::StdSink;
 use ipam_sqlite::{SqliteKeeper, settle};
@@ -21,7 +21,10 @@ pub(crate) fn serve_database<R: Host + Files + Net<Listener = TcpListener, Strea
     workers: u8,
 ) -> Result<u8, AllocError> {
     let served = match database_named(rt.alloc(), entries)? {
-        Database::File(path) => serve_at(rt, threads, path.as_str(), address, workers),
+        Database::File(path) => {
+            let opening = new_opening(rt, rt.alloc())?;
+            serve_at(rt, threads, path.as_str(), opening, address, workers)
+        }
         Database::NoPath => {
             tell_no_path(rt);
             Served::KeeperFault
@@ -35,6 +38,7 @@ fn serve_at<R: Host + Files + Net<Listener = TcpListener, Stream = TcpStream>>(
     rt: &HostRuntime,
     threads: R,
     path: &str,
+    opening: Opening,
     address: &str,
     workers: u8,
 ) -> Served {
@@ -42,7 +46,7 @@ fn serve_at<R: Host + Files + Net<Listener = TcpListener, Stream = TcpStream>>(
     if let Some(why) = keeper.why() {
         tell_why(rt, path, why);
     }
-    let served = serve_stored(threads, rt.alloc(), keeper, address, workers);
+    let served = serve_stored(threads, rt.alloc(), keeper, opening, address, workers);
     let _ = settle(rt, path);
     served
 }
@@ -52,6 +56,13 @@ fn serve_at<R: Host + Files + Net<Listener = TcpListener, Stream = TcpStream>>(
 fn serve_stored<
     R: Host + Files + Net<Listener = TcpListener, Stream = TcpStream>,
     S: Alter + Drop + Send + 'static,
->(threads: R, alloc: Global, keeper: SqliteKeeper<S>, address: &str, workers: u8) -> Served {
-    serve(threads, alloc, keeper, address, workers)
+>(
+    threads: R,
+    alloc: Global,
+    keeper: SqliteKeeper<S>,
+    opening: Opening,
+    address: &str,
+    workers: u8,
+) -> Served {
+    serve(threads, alloc, keeper, opening, address, workers)
 }

@@ -1,11 +1,18 @@
 use Rattle.std.proofs.Common.{Err, ap}
 use Rattle.ipam_serve.proofs.LineParts.{breaks-at-once, unread}
+use Rattle.ipam_serve.proofs.Keeping.{makes-nothing}
 use Rattle.ipam_serve.proofs.lines.answer_line.Goals as goal
 use Rattle.ipam_serve.specs.Lines.{server_at}
 
 pub returns-in-Err-Unreadable-clause-replied : goal.returns-in-Err-Unreadable-clause-replied
 returns-in-Err-Unreadable-clause-replied g c =
-    rw (c.in-Err-Unreadable.ensures.unreadable (ap Err c.in-Err-Unreadable.field-0-is)) (unread (server_at c.args.pass.now (g.G.Gate.turns c.args.gate.now) (g.C.Clock.ahead c.args.clock.now)))
+    rw (c.in-Err-Unreadable.ensures.unreadable (ap Err c.in-Err-Unreadable.field-0-is)) (unread (server_at c.args.pass.now (g.G.SessionGate.turns c.args.gate.now) (g.C.Clock.ahead c.args.clock.now)))
 
 pub returns-in-Err-Memory-clause-broken : goal.returns-in-Err-Memory-clause-broken
-returns-in-Err-Memory-clause-broken g c = breaks-at-once (server_at c.args.pass.now (g.G.Gate.turns c.args.gate.now) (g.C.Clock.ahead c.args.clock.now)) _
+returns-in-Err-Memory-clause-broken g c = breaks-at-once (server_at c.args.pass.now (g.G.SessionGate.turns c.args.gate.now) (g.C.Clock.ahead c.args.clock.now)) _
+
+pub returns-in-Err-Unreadable-clause-keeper : goal.returns-in-Err-Unreadable-clause-keeper
+returns-in-Err-Unreadable-clause-keeper g c = makes-nothing g.D.Keeper.rows g.D.Keeper.given g.D.Keeper.faults c.args.pass.now
+
+pub returns-in-Err-Memory-clause-keeper : goal.returns-in-Err-Memory-clause-keeper
+returns-in-Err-Memory-clause-keeper g c = makes-nothing g.D.Keeper.rows g.D.Keeper.given g.D.Keeper.faults c.args.pass.now

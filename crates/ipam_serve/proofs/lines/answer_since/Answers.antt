@@ -2,6 +2,7 @@ use Rattle.std.proofs.Common.{Err}
 use Rattle.ipam_serve.proofs.Going.{worn-so}
 use Rattle.ipam_serve.proofs.LineParts.{since-wears}
 use Rattle.ipam_serve.proofs.Routing.{since-breaks, since-replies, same-rests}
+use Rattle.ipam_serve.proofs.Keeping.{makes-none}
 use Rattle.ipam_serve.proofs.lines.answer_since.Goals as goal
 use Rattle.ipam_serve.specs.Lines.{server_at}
 
@@ -21,3 +22,9 @@ returns-in-Err-clause-rests g c = same-rests c.args.pass.now c.routes_since.new.
 
 pub returns-in-Err-clause-worn : goal.returns-in-Err-clause-worn
 returns-in-Err-clause-worn g c = worn-so {T = Unit {0}} (Err c.in-Err.broken) _ _ (since-wears c.args.pass.now c.routes_since.new.pass c.args.revision c.in-Err.ensures.took) c.in-Err.ensures.worn
+
+pub returns-in-Ok-clause-keeper : goal.returns-in-Ok-clause-keeper
+returns-in-Ok-clause-keeper g c = makes-none g.D.Keeper.rows g.D.Keeper.given g.D.Keeper.faults c.args.pass.now c.routes_since.new.pass 1 c.in-Ok.ensures.took
+
+pub returns-in-Err-clause-keeper : goal.returns-in-Err-clause-keeper
+returns-in-Err-clause-keeper g c = makes-none g.D.Keeper.rows g.D.Keeper.given g.D.Keeper.faults c.args.pass.now c.routes_since.new.pass 1 c.in-Err.ensures.took

@@ -6,19 +6,19 @@ use Rattle.ipam_serve.specs.Lines.{server_at}
 pub returns-in-Ok-clause-replied : goal.returns-in-Ok-clause-replied
 returns-in-Ok-clause-replied g c =
     rw c.reply_fed.ensures
-    (feed-replies (server_at c.args.pass.now (g.G.Gate.turns c.args.gate.now) (g.C.Clock.ahead c.args.clock.now))
-    (server_at c.run_feed.new.pass (g.G.Gate.turns c.run_feed.new.gate) (g.C.Clock.ahead c.now-at.new.self))
+    (feed-replies (server_at c.args.pass.now (g.G.SessionGate.turns c.args.gate.now) (g.C.Clock.ahead c.args.clock.now))
+    (server_at c.run_feed.new.pass (g.G.SessionGate.turns c.run_feed.new.gate) (g.C.Clock.ahead c.now-at.new.self))
     c.args.live.now c.now-at.result c.requires.waits c.now-at.ensures c.in-Ok.told c.in-Ok.ensures.fed)
 
 pub returns-in-Ok-clause-rests : goal.returns-in-Ok-clause-rests
 returns-in-Ok-clause-rests g c =
-    feed-rests (record { pass = c.args.pass.now; turns = g.G.Gate.turns c.args.gate.now }) (record { pass = c.run_feed.new.pass; turns = g.G.Gate.turns c.run_feed.new.gate })
+    feed-rests (record { pass = c.args.pass.now; turns = g.G.SessionGate.turns c.args.gate.now }) (record { pass = c.run_feed.new.pass; turns = g.G.SessionGate.turns c.run_feed.new.gate })
     c.args.live.now c.now-at.result c.in-Ok.told c.in-Ok.ensures.fed
 
 pub returns-in-Err-clause-broken : goal.returns-in-Err-clause-broken
 returns-in-Err-clause-broken g c =
-    feed-breaks (server_at c.args.pass.now (g.G.Gate.turns c.args.gate.now) (g.C.Clock.ahead c.args.clock.now))
-    (server_at c.run_feed.new.pass (g.G.Gate.turns c.run_feed.new.gate) (g.C.Clock.ahead c.now-at.new.self))
+    feed-breaks (server_at c.args.pass.now (g.G.SessionGate.turns c.args.gate.now) (g.C.Clock.ahead c.args.clock.now))
+    (server_at c.run_feed.new.pass (g.G.SessionGate.turns c.run_feed.new.gate) (g.C.Clock.ahead c.now-at.new.self))
     c.args.live.now c.now-at.result c.requires.waits c.now-at.ensures c.in-Err.ensures.broken
 
 pub returns-in-Err-clause-worn : goal.returns-in-Err-clause-worn

@@ -4,12 +4,12 @@ use Rattle.ipam_serve.proofs.lines.tell_run.Goals as goal
 
 pub returns-in-Ok-clause-told : goal.returns-in-Ok-clause-told
 returns-in-Ok-clause-told g c =
-    told-so (record { pass = c.args.pass.now; turns = g.G.Gate.turns c.args.gate.now }) (record { pass = c.run_call.new.pass; turns = g.G.Gate.turns c.run_call.new.gate })
+    told-so (record { pass = c.args.pass.now; turns = g.G.SessionGate.turns c.args.gate.now }) (record { pass = c.run_call.new.pass; turns = g.G.SessionGate.turns c.run_call.new.gate })
     c.args.request.now c.args.version c.in-Ok.answer c.call_reply.result c.in-Ok.ensures.ran c.call_reply.ensures.told
 
 pub returns-in-Ok-clause-broken : goal.returns-in-Ok-clause-broken
 returns-in-Ok-clause-broken g c =
-    told-broken (record { pass = c.args.pass.now; turns = g.G.Gate.turns c.args.gate.now }) (record { pass = c.run_call.new.pass; turns = g.G.Gate.turns c.run_call.new.gate })
+    told-broken (record { pass = c.args.pass.now; turns = g.G.SessionGate.turns c.args.gate.now }) (record { pass = c.run_call.new.pass; turns = g.G.SessionGate.turns c.run_call.new.gate })
     c.args.request.now c.in-Ok.answer c.call_reply.result c.in-Ok.ensures.ran
 
 pub returns-in-Ok-clause-worn : goal.returns-in-Ok-clause-worn

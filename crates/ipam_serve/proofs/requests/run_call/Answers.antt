@@ -1,29 +1,34 @@
 use Rattle.std.proofs.Common.{inr}
 use Rattle.ipam_serve.proofs.Going.{call-answered, call-broken, call-fed, worn-so}
 use Rattle.ipam_serve.proofs.Running.{begins-calls-part}
+use Rattle.ipam_serve.proofs.Keeping.{makes-then}
 use Rattle.ipam_serve.proofs.requests.run_call.Goals as goal
 
 pub returns-in-Ok-Answered-clause-ran : goal.returns-in-Ok-Answered-clause-ran
 returns-in-Ok-Answered-clause-ran g c =
-    call-answered (record { pass = c.args.pass.now; turns = g.G.Gate.turns c.args.gate.now }) (record { pass = c.run_request.new.pass; turns = g.G.Gate.turns c.run_request.new.gate })
+    call-answered (record { pass = c.args.pass.now; turns = g.G.SessionGate.turns c.args.gate.now }) (record { pass = c.run_request.new.pass; turns = g.G.SessionGate.turns c.run_request.new.gate })
     c.args.request.now c.in-Ok-Answered.answer (rw c.in-Ok-Answered.field-0-is at c.in-Ok-Answered.ensures.ran)
 
 pub returns-in-Ok-Waits-clause-ran : goal.returns-in-Ok-Waits-clause-ran
 returns-in-Ok-Waits-clause-ran g c =
-    call-fed (record { pass = c.args.pass.now; turns = g.G.Gate.turns c.args.gate.now }) (record { pass = c.run_request.new.pass; turns = g.G.Gate.turns c.run_request.new.gate })
-    (record { pass = c.feed_own.new.pass; turns = g.G.Gate.turns c.feed_own.new.gate })
+    call-fed (record { pass = c.args.pass.now; turns = g.G.SessionGate.turns c.args.gate.now }) (record { pass = c.run_request.new.pass; turns = g.G.SessionGate.turns c.run_request.new.gate })
+    (record { pass = c.feed_own.new.pass; turns = g.G.SessionGate.turns c.feed_own.new.gate })
     c.args.request.now c.feed_own.result (rw c.in-Ok-Waits.field-0-is at c.in-Ok-Waits.ensures.ran) c.feed_own.ensures.fed
 
 pub returns-in-Ok-Waits-clause-broken : goal.returns-in-Ok-Waits-clause-broken
 returns-in-Ok-Waits-clause-broken g c =
-    call-broken (record { pass = c.args.pass.now; turns = g.G.Gate.turns c.args.gate.now }) (record { pass = c.run_request.new.pass; turns = g.G.Gate.turns c.run_request.new.gate })
-    (record { pass = c.feed_own.new.pass; turns = g.G.Gate.turns c.feed_own.new.gate })
+    call-broken (record { pass = c.args.pass.now; turns = g.G.SessionGate.turns c.args.gate.now }) (record { pass = c.run_request.new.pass; turns = g.G.SessionGate.turns c.run_request.new.gate })
+    (record { pass = c.feed_own.new.pass; turns = g.G.SessionGate.turns c.feed_own.new.gate })
     c.args.request.now c.feed_own.result (rw c.in-Ok-Waits.field-0-is at c.in-Ok-Waits.ensures.ran) c.feed_own.ensures.broken
 
 pub returns-in-Err-clause-broken : goal.returns-in-Err-clause-broken
 returns-in-Err-clause-broken g c =
-    begins-calls-part (record { pass = c.args.pass.now; turns = g.G.Gate.turns c.args.gate.now }) (record { pass = c.run_request.new.pass; turns = g.G.Gate.turns c.run_request.new.gate })
+    begins-calls-part (record { pass = c.args.pass.now; turns = g.G.SessionGate.turns c.args.gate.now }) (record { pass = c.run_request.new.pass; turns = g.G.SessionGate.turns c.run_request.new.gate })
     c.args.request.now c.in-Err.ensures.broken
 
 pub returns-in-Ok-Waits-clause-unanswered : goal.returns-in-Ok-Waits-clause-unanswered
 returns-in-Ok-Waits-clause-unanswered g c = worn-so c.feed_own.result _ _ inr c.feed_own.ensures.runs
+
+pub returns-in-Ok-Waits-clause-keeper : goal.returns-in-Ok-Waits-clause-keeper
+returns-in-Ok-Waits-clause-keeper g c =
+    makes-then g.D.Keeper.rows g.D.Keeper.given g.D.Keeper.faults c.args.pass.now c.run_request.new.pass c.feed_own.new.pass c.run_request.ensures.keeper c.feed_own.ensures.keeper

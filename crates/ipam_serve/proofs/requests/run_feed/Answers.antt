@@ -2,6 +2,7 @@ use Rattle.std.proofs.Common.{◌∙◌}
 use Rattle.ipam_shared.specs.Passes.{runs_in}
 use Rattle.ipam_serve.proofs.Going.{fed-broken, fed-found, fed-runs, feeds-early, still-runs, worn-any}
 use Rattle.ipam_serve.proofs.Running.{not-begun, waiting-some}
+use Rattle.ipam_serve.proofs.Keeping.{makes-fed, makes-none, makes-then}
 use Rattle.ipam_serve.proofs.requests.run_feed.Goals as goal
 
 pub run_fed-requires-clause-runs : goal.run_fed-requires-clause-runs
@@ -10,12 +11,12 @@ run_fed-requires-clause-runs g c =
 
 pub returns-in-Ok-Fed-clause-fed : goal.returns-in-Ok-Fed-clause-fed
 returns-in-Ok-Fed-clause-fed g c =
-    fed-found (record { pass = c.args.pass.now; turns = g.G.Gate.turns c.args.gate.now }) c.feed.new.pass (record { pass = c.run_fed.new.pass; turns = g.G.Gate.turns c.run_fed.new.gate })
+    fed-found (record { pass = c.args.pass.now; turns = g.G.SessionGate.turns c.args.gate.now }) c.feed.new.pass (record { pass = c.run_fed.new.pass; turns = g.G.SessionGate.turns c.run_fed.new.gate })
     c.args.live.now c.args.at c.run_fed.result (rw c.in-Ok-Fed.field-0-is at c.in-Ok-Fed.ensures.fed) c.run_fed.ensures.ran
 
 pub returns-in-Ok-Fed-clause-broken : goal.returns-in-Ok-Fed-clause-broken
 returns-in-Ok-Fed-clause-broken g c =
-    fed-broken (record { pass = c.args.pass.now; turns = g.G.Gate.turns c.args.gate.now }) c.feed.new.pass (record { pass = c.run_fed.new.pass; turns = g.G.Gate.turns c.run_fed.new.gate })
+    fed-broken (record { pass = c.args.pass.now; turns = g.G.SessionGate.turns c.args.gate.now }) c.feed.new.pass (record { pass = c.run_fed.new.pass; turns = g.G.SessionGate.turns c.run_fed.new.gate })
     c.args.live.now c.args.at c.run_fed.result (rw c.in-Ok-Fed.field-0-is at c.in-Ok-Fed.ensures.fed) c.run_fed.ensures.broken
 
 pub returns-in-Ok-Fed-clause-can_answer : goal.returns-in-Ok-Fed-clause-can_answer
@@ -25,12 +26,23 @@ returns-in-Ok-Fed-clause-can_answer g c request asked =
 
 pub returns-in-Ok-TooSoon-clause-fed : goal.returns-in-Ok-TooSoon-clause-fed
 returns-in-Ok-TooSoon-clause-fed g c =
-    feeds-early (record { pass = c.args.pass.now; turns = g.G.Gate.turns c.args.gate.now }) c.feed.new.pass c.args.live.now c.args.at
+    feeds-early (record { pass = c.args.pass.now; turns = g.G.SessionGate.turns c.args.gate.now }) c.feed.new.pass c.args.live.now c.args.at
     (rw c.in-Ok-TooSoon.field-0-is at c.in-Ok-TooSoon.ensures.fed)
 
 pub returns-in-Err-clause-broken : goal.returns-in-Err-clause-broken
 returns-in-Err-clause-broken g c =
-    not-begun (record { pass = c.args.pass.now; turns = g.G.Gate.turns c.args.gate.now }) c.feed.new.pass _ c.in-Err.ensures.not_fed
+    not-begun (record { pass = c.args.pass.now; turns = g.G.SessionGate.turns c.args.gate.now }) c.feed.new.pass _ c.in-Err.ensures.not_fed
 
 pub returns-in-Err-clause-runs : goal.returns-in-Err-clause-runs
 returns-in-Err-clause-runs g c = worn-any c.in-Err.broken _ (still-runs c.args.pass.now c.feed.new.pass 1 c.in-Err.ensures.not_fed (waiting-some (runs_in c.args.pass.now) c.requires.waits))
+
+pub returns-in-Ok-Fed-clause-keeper : goal.returns-in-Ok-Fed-clause-keeper
+returns-in-Ok-Fed-clause-keeper g c =
+    makes-then g.D.Keeper.rows g.D.Keeper.given g.D.Keeper.faults c.args.pass.now c.feed.new.pass c.run_fed.new.pass
+    (makes-fed g.D.Keeper.rows g.D.Keeper.given g.D.Keeper.faults c.args.pass.now c.feed.new.pass c.args.live.now c.args.at (rw c.in-Ok-Fed.field-0-is at c.in-Ok-Fed.ensures.fed).0) c.run_fed.ensures.keeper
+
+pub returns-in-Ok-TooSoon-clause-keeper : goal.returns-in-Ok-TooSoon-clause-keeper
+returns-in-Ok-TooSoon-clause-keeper g c = makes-none g.D.Keeper.rows g.D.Keeper.given g.D.Keeper.faults c.args.pass.now c.feed.new.pass 1 (rw c.in-Ok-TooSoon.field-0-is at c.in-Ok-TooSoon.ensures.fed).0
+
+pub returns-in-Err-clause-keeper : goal.returns-in-Err-clause-keeper
+returns-in-Err-clause-keeper g c = makes-none g.D.Keeper.rows g.D.Keeper.given g.D.Keeper.faults c.args.pass.now c.feed.new.pass 1 c.in-Err.ensures.not_fed

@@ -1,6 +1,7 @@
 use Rattle.std.proofs.Common.{inl, inr}
 use Rattle.ipam_serve.proofs.Going.{broken-begun, ran-begun, ran-idle, ran-waits, worn-any, worn-so}
 use Rattle.ipam_serve.proofs.Running.{begun-asked, not-begun, some-asked}
+use Rattle.ipam_serve.proofs.Keeping.{makes-begun, makes-none, makes-then}
 use Rattle.ipam_serve.proofs.requests.run_request.Goals as goal
 
 pub run_on-requires-clause-runs : goal.run_on-requires-clause-runs
@@ -9,12 +10,12 @@ run_on-requires-clause-runs g c =
 
 pub returns-in-Ok-clause-ran : goal.returns-in-Ok-clause-ran
 returns-in-Ok-clause-ran g c =
-    ran-begun (record { pass = c.args.pass.now; turns = g.G.Gate.turns c.args.gate.now }) c.begin.new.pass (record { pass = c.run_on.new.pass; turns = g.G.Gate.turns c.run_on.new.gate })
+    ran-begun (record { pass = c.args.pass.now; turns = g.G.SessionGate.turns c.args.gate.now }) c.begin.new.pass (record { pass = c.run_on.new.pass; turns = g.G.SessionGate.turns c.run_on.new.gate })
     c.args.request.now c.run_on.result c.in-Ok.ensures.begun c.run_on.ensures.ran
 
 pub returns-in-Ok-clause-broken : goal.returns-in-Ok-clause-broken
 returns-in-Ok-clause-broken g c =
-    broken-begun (record { pass = c.args.pass.now; turns = g.G.Gate.turns c.args.gate.now }) c.begin.new.pass (record { pass = c.run_on.new.pass; turns = g.G.Gate.turns c.run_on.new.gate })
+    broken-begun (record { pass = c.args.pass.now; turns = g.G.SessionGate.turns c.args.gate.now }) c.begin.new.pass (record { pass = c.run_on.new.pass; turns = g.G.SessionGate.turns c.run_on.new.gate })
     c.args.request.now c.run_on.result c.in-Ok.ensures.begun c.run_on.ensures.broken
 
 pub returns-in-Ok-clause-can_answer : goal.returns-in-Ok-clause-can_answer
@@ -23,20 +24,27 @@ returns-in-Ok-clause-can_answer g c =
 
 pub returns-in-Ok-clause-idle : goal.returns-in-Ok-clause-idle
 returns-in-Ok-clause-idle g c =
-    ran-idle (record { pass = c.begin.new.pass; turns = g.G.Gate.turns c.args.gate.now }) (record { pass = c.run_on.new.pass; turns = g.G.Gate.turns c.run_on.new.gate })
+    ran-idle (record { pass = c.begin.new.pass; turns = g.G.SessionGate.turns c.args.gate.now }) (record { pass = c.run_on.new.pass; turns = g.G.SessionGate.turns c.run_on.new.gate })
     c.run_on.result c.run_on.ensures.ran
 
 pub returns-in-Ok-clause-waits : goal.returns-in-Ok-clause-waits
 returns-in-Ok-clause-waits g c =
-    ran-waits (record { pass = c.begin.new.pass; turns = g.G.Gate.turns c.args.gate.now }) (record { pass = c.run_on.new.pass; turns = g.G.Gate.turns c.run_on.new.gate })
+    ran-waits (record { pass = c.begin.new.pass; turns = g.G.SessionGate.turns c.args.gate.now }) (record { pass = c.run_on.new.pass; turns = g.G.SessionGate.turns c.run_on.new.gate })
     c.args.request.now c.run_on.result (begun-asked c.args.pass.now c.begin.new.pass c.args.request.now c.in-Ok.ensures.begun) c.run_on.ensures.ran c.run_on.ensures.waits
 
 pub returns-in-Err-clause-broken : goal.returns-in-Err-clause-broken
 returns-in-Err-clause-broken g c =
-    not-begun (record { pass = c.args.pass.now; turns = g.G.Gate.turns c.args.gate.now }) c.begin.new.pass _ c.in-Err.ensures.not_begun
+    not-begun (record { pass = c.args.pass.now; turns = g.G.SessionGate.turns c.args.gate.now }) c.begin.new.pass _ c.in-Err.ensures.not_begun
 
 pub returns-in-Ok-clause-unanswered : goal.returns-in-Ok-clause-unanswered
 returns-in-Ok-clause-unanswered g c = worn-so c.run_on.result _ _ inr c.run_on.ensures.runs
 
 pub returns-in-Err-clause-unanswered : goal.returns-in-Err-clause-unanswered
 returns-in-Err-clause-unanswered g c = worn-any c.in-Err.broken _ (inl c.in-Err.ensures.not_begun.gained)
+
+pub returns-in-Ok-clause-keeper : goal.returns-in-Ok-clause-keeper
+returns-in-Ok-clause-keeper g c =
+    makes-then g.D.Keeper.rows g.D.Keeper.given g.D.Keeper.faults c.args.pass.now c.begin.new.pass c.run_on.new.pass (makes-begun g.D.Keeper.rows g.D.Keeper.given g.D.Keeper.faults c.args.pass.now c.begin.new.pass c.args.request.now c.in-Ok.ensures.begun) c.run_on.ensures.keeper
+
+pub returns-in-Err-clause-keeper : goal.returns-in-Err-clause-keeper
+returns-in-Err-clause-keeper g c = makes-none g.D.Keeper.rows g.D.Keeper.given g.D.Keeper.faults c.args.pass.now c.begin.new.pass 1 c.in-Err.ensures.not_begun

@@ -1,6 +1,8 @@
-use Rattle.std.proofs.Common.{◌∷◌, ◌∙◌}
+use Rattle.std.proofs.Common.{◌∷◌, ◌∙◌, refl}
 use Rattle.std.specs.Io.KnownBytes.{prepend_known}
 use Rattle.ipam_serve.specs.Sessions.{Talk, talk_at}
+use Rattle.ipam_serve.specs.Keeping.{CameOf}
+use Rattle.ipam_serve.proofs.Sessions.{talks-none}
 use Rattle.ipam_serve.proofs.session.serve_lines.Goals as goal
 use Rattle.ipam_serve.specs.Lines.{server_at}
 
@@ -12,7 +14,7 @@ exchange-requires-clause-rests g c = c.loop.invariant.rests
 
 pub loop-preserved : goal.loop-preserved
 loop-preserved g c =
-    let between : Talk = talk_at (server_at c.loop.pass (g.G.Gate.turns c.loop.gate) (g.C.Clock.ahead c.loop.clock)) (prepend_known c.loop.lines (g.L.Source.left c.loop.link)) (g.L.Sink.written c.loop.link) in
+    let between : Talk = talk_at (server_at c.loop.pass (g.G.SessionGate.turns c.loop.gate) (g.C.Clock.ahead c.loop.clock)) c.args.opening.now (g.G.SessionGate.lines c.loop.gate) (prepend_known c.loop.lines (g.L.Source.left c.loop.link)) (g.L.Sink.written c.loop.link) in
     let made = c.loop.invariant.talks in
     let next = c.in-Ok.ensures.exchanged in
     record {
@@ -25,3 +27,16 @@ loop-preserved g c =
       writes = c.in-Ok.ensures.writes ∙ c.loop.invariant.writes;
       stops = c.in-Ok.ensures.stops ∙ c.loop.invariant.stops;
     }
+
+pub loop-init : goal.loop-init
+loop-init g c = record {
+  can = tt;
+  finite = tt;
+  lock = refl;
+  rests = c.requires.rests;
+  talks = talks-none (CameOf g.D.Keeper.rows g.D.Keeper.given g.D.Keeper.faults) (server_at c.args.pass.now (g.G.SessionGate.turns c.args.gate.now) (g.C.Clock.ahead c.args.clock.now))
+      c.args.opening.now (g.G.SessionGate.lines c.args.gate.now) (g.L.Source.left c.args.link.now) (g.L.Sink.written c.args.link.now) c.new-lines.result c.new-lines.ensures;
+  reads = refl;
+  writes = refl;
+  stops = refl;
+}

@@ -2,6 +2,7 @@
 use Rattle.std.proofs.Common.{◌≡◌, List}
 use Rattle.std.specs.Io.KnownBytes.{prepend_known}
 use Rattle.ipam_shared.specs.Passes.{runs_in}
+use Rattle.ipam_serve.specs.Keeping.{CameOf}
 use Rattle.ipam_serve.specs.Runs.{IsAtRest}
 use Rattle.ipam_serve.specs.Sessions.{Exchange, Talks, talk_at}
 use Rattle.ipam_serve.proofs.session.serve_lines.Given as goal
@@ -13,10 +14,10 @@ invariant-loop g l = record {
   finite : (goal.iterator-loop g).is_finite l.iterator';
   lock : l.pass.lock ≡ l.fn.pass.lock;
   rests : IsAtRest (runs_in l.pass);
-  talks : (exchanges : List Exchange) × Talks exchanges
-      (talk_at (server_at l.fn.pass (g.G.Gate.turns l.fn.gate) (g.C.Clock.ahead l.fn.clock)) (g.L.Source.left l.fn.link) (g.L.Sink.written l.fn.link))
-      (talk_at (server_at l.pass (g.G.Gate.turns l.gate) (g.C.Clock.ahead l.clock)) (prepend_known l.lines (g.L.Source.left l.link)) (g.L.Sink.written l.link));
+  talks : (exchanges : List Exchange) × Talks (CameOf g.D.Keeper.rows g.D.Keeper.given g.D.Keeper.faults) exchanges
+      (talk_at (server_at l.fn.pass (g.G.SessionGate.turns l.fn.gate) (g.C.Clock.ahead l.fn.clock)) l.fn.opening (g.G.SessionGate.lines l.fn.gate) (g.L.Source.left l.fn.link) (g.L.Sink.written l.fn.link))
+      (talk_at (server_at l.pass (g.G.SessionGate.turns l.gate) (g.C.Clock.ahead l.clock)) l.fn.opening (g.G.SessionGate.lines l.gate) (prepend_known l.lines (g.L.Source.left l.link)) (g.L.Sink.written l.link));
   reads : g.L.Source.read_faults l.link ≡ g.L.Source.read_faults l.fn.link;
   writes : g.L.Sink.write_faults l.link ≡ g.L.Sink.write_faults l.fn.link;
-  stops : g.G.Gate.stops l.gate ≡ g.G.Gate.stops l.fn.gate;
+  stops : g.G.SessionGate.stops l.gate ≡ g.G.SessionGate.stops l.fn.gate;
 }

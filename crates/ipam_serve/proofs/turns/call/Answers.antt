@@ -1,6 +1,7 @@
 use Rattle.std.proofs.Common.{◌≤◌, Err, ap}
 use Rattle.ipam_serve.proofs.Coming.{called-so, on-err, sees-none, took-err, waits-called}
 use Rattle.ipam_serve.proofs.Turning.{took-rest}
+use Rattle.ipam_serve.proofs.Keeping.{makes-call, makes-none, makes-nothing}
 use Rattle.ipam_serve.proofs.turns.call.Goals as goal
 
 pub returns-then-left-lt2-clause-not_called : goal.returns-then-left-lt2-clause-not_called
@@ -25,4 +26,17 @@ pub returns-in-Err-clause-not_called : goal.returns-in-Err-clause-not_called
 returns-in-Err-clause-not_called g c =
     let enough : 2 ≤ c.args.pass.now.left = rw (← c.left.ensures) c.if-left-lt2.false in
     on-err c.not_called.result
+    (took-err c.args.pass.now c.turn.new.pass c.in-Err.fault c.in-Err.ensures.spent enough c.in-Err.ensures.same c.in-Err.ensures.seen c.in-Err.ensures.left)
+
+pub returns-then-left-lt2-clause-keeper : goal.returns-then-left-lt2-clause-keeper
+returns-then-left-lt2-clause-keeper g c = makes-nothing g.D.Keeper.rows g.D.Keeper.given g.D.Keeper.faults c.args.pass.now
+
+pub returns-in-Ok-clause-keeper : goal.returns-in-Ok-clause-keeper
+returns-in-Ok-clause-keeper g c =
+    makes-call g.D.Keeper.rows g.D.Keeper.given g.D.Keeper.faults c.args.pass.now c.turn.new.pass c.in-Ok.entry c.in-Ok.ensures.same c.in-Ok.ensures.seen c.in-Ok.ensures.lawful.lawful c.in-Ok.ensures.turned
+
+pub returns-in-Err-clause-keeper : goal.returns-in-Err-clause-keeper
+returns-in-Err-clause-keeper g c =
+    let enough : 2 ≤ c.args.pass.now.left = rw (← c.left.ensures) c.if-left-lt2.false in
+    makes-none g.D.Keeper.rows g.D.Keeper.given g.D.Keeper.faults c.args.pass.now c.turn.new.pass 1
     (took-err c.args.pass.now c.turn.new.pass c.in-Err.fault c.in-Err.ensures.spent enough c.in-Err.ensures.same c.in-Err.ensures.seen c.in-Err.ensures.left)

@@ -1,0 +1,58 @@
+//! The gate of a worker's sessions.
+ghost use Rattle.std.specs.Prelude.{◌≡◌, ◌≤◌, ℕ, Some};
+ghost use Rattle.std.specs.Option.{option_map};
+ghost use Rattle.ipam_io.specs.Counts.{Rose, next_count};
+ghost use Rattle.ipam_io.specs.Passing.{OnGo, OnStop, count_of_turns};
+ghost use Rattle.ipam_serve.specs.Asking.{count_of_lines};
+ghost use Rattle.ipam_socket.specs.Links.{peer_of};
+
+use ipam_io::{Gate, Passed, Point};
+use ipam_serve::SessionGate;
+use ipam_socket::{Peer, PeerGate};
+
+/// A gate that looks at the peer at each pass, and counts the passes before a line and those at a turn.
+#[derive(Drop)]
+pub(crate) struct Asking<P> {
+    gate: PeerGate<P>,
+    lines: u64,
+    turns: u64,
+}
+
+impl<P: Peer> Asking<P> {
+    /// A gate that looks at this peer, and was not asked yet.
+    pub(crate) fn new(peer: P) -> Asking<P>
+        ensures peer { peer_of result.gate ≡ peer }
+        ensures lines { result.lines ≡ 0 }
+        ensures turns { result.turns ≡ 0 }
+    {
+        Asking {
+            gate: PeerGate::new(peer),
+            lines: 0,
+            turns: 0,
+        }
+    }
+}
+
+impl<P: Peer> SessionGate for Asking<P> {
+    ghost stops = { λ gate. P.gone (peer_of gate.gate) };
+
+    ghost turns = { λ gate. Some gate.turns };
+
+    ghost lines = { λ gate. Some gate.lines };
+
+    /// Looks once, and stops exactly where nobody is there.
+    fn pass(&mut self, point: Point) -> Passed
+        ensures looked { P.looks (peer_of self.new.gate) ≡ next_count (P.looks (peer_of self.old.gate)) }
+        ensures stop { OnStop result (Rose (P.gone (peer_of self.old.gate)) (P.gone (peer_of self.new.gate))) }
+        ensures go { OnGo result (P.gone (peer_of self.new.gate) ≡ P.gone (peer_of self.old.gate)) }
+        ensures never_falls { P.gone (peer_of self.old.gate) ≤ P.gone (peer_of self.new.gate) }
+        ensures turn { self.new.turns ≡ count_of_turns point self.old.turns }
+        ensures line { self.new.lines ≡ count_of_lines point self.old.lines }
+    {
+        match point {
+            Point::Line => self.lines = self.lines.saturating_add(1),
+            Point::Turn => self.turns = self.turns.saturating_add(1),
+        }
+        self.gate.pass(point)
+    }
+}

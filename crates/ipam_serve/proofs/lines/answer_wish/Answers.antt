@@ -1,0 +1,5 @@
+use Rattle.ipam_serve.proofs.Keeping.{makes-nothing}
+use Rattle.ipam_serve.proofs.lines.answer_wish.Goals as goal
+
+pub returns-in-Opened-clause-keeper : goal.returns-in-Opened-clause-keeper
+returns-in-Opened-clause-keeper g c = makes-nothing g.D.Keeper.rows g.D.Keeper.given g.D.Keeper.faults c.args.pass.now

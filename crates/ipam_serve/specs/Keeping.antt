@@ -1,0 +1,64 @@
+-- What came of a slot's calls at the keeper.
+use Rattle.std.specs.Prelude.{◌≡◌, ◌≢◌, ◌⊎◌, ℕ, List, [], ◌∷◌, ◌++◌, Option, Some}
+use Rattle.ipam_model.specs.declared.answer.Answer.{Answer}
+use Rattle.ipam_model.specs.declared.answer.Answer.TheVariants.{Fault}
+use Rattle.ipam_model.specs.declared.entry.Called.{Called as OneCall}
+use Rattle.ipam_model.specs.declared.entry.Entry.{Entry}
+use Rattle.ipam_model.specs.declared.entry.Entry.TheVariants as entry
+use Rattle.ipam_model.specs.History.{Base, slot_of_entry}
+use Rattle.ipam_kept.specs.declared.kept.Kept.{Kept}
+use Rattle.ipam_kept.specs.Giving.{Gives}
+use Rattle.ipam_kept.specs.Kept.{KeptFor, Tells}
+use Rattle.ipam_kept.specs.Turning.{IsDone, IsFailed}
+use Rattle.ipam_shared.specs.PassValue.{PassValue}
+use Rattle.ipam_shared.specs.Passes.{IsSamePass}
+
+module _ {D : Type 0} (tells : Tells D) (gives : Gives D) (faults : D → ℕ) where
+  -- The call was done, the keeper's count of faults stands, and the answer is no fault; or the call
+  -- failed, the count rose, and the answer is a fault.
+  abbrev pub IsByKeeper : (slot : ℕ) → OneCall → (before after : Kept D) → Type 0
+  IsByKeeper slot call before after =
+      (IsDone faults slot before after (entry.Called call) × (call.answer ≢ Some Fault))
+      ⊎ (IsFailed gives faults slot before after (entry.Called call) × (call.answer ≡ Some Fault))
+
+  -- the call was made on the kept cluster, which stood for these earlier entries, and then for the call's too
+  pub record WasMade (base : Base) (slot : ℕ) (call : OneCall) (earlier : List Entry) : Type 0 where
+    pub before : Kept D
+    pub after : Kept D
+    pub stood : KeptFor tells before base earlier
+    pub is : IsByKeeper slot call before after
+    pub stands : KeptFor tells after base (entry.Called call ∷ earlier)
+
+  abbrev pub WasMadeIfCall : Base → (slot : ℕ) → Entry → (earlier : List Entry) → Type 0
+  WasMadeIfCall base slot (entry.Began other request) earlier = Unit {0}
+  WasMadeIfCall base slot (entry.Fed other at live) earlier = Unit {0}
+  WasMadeIfCall base slot (entry.Called call) earlier = WasMade base slot call earlier
+  WasMadeIfCall base slot (entry.Stopped other) earlier = Unit {0}
+
+  -- each call of the slot among these entries, which came after the earlier ones, was made so
+  abbrev pub WereMade : Base → (slot : ℕ) → (entries earlier : List Entry) → Type 0
+  WereMade base slot [] earlier = Unit {0}
+  WereMade base slot (told ∷ entries) earlier =
+      WereMade base slot entries earlier × (slot_of_entry told ≡ slot → WasMadeIfCall base slot told (entries ++ earlier))
+
+  -- each call that the slot gained was made so
+  pub record MakesCalls (old new : PassValue) : Type 0 where
+    pub same : IsSamePass old new
+    pub more : List Entry
+    pub grew : new.seen ≡ more ++ old.seen
+    pub made : WereMade old.base old.slot more old.seen
+
+  -- a call that the slot gained failed, and the keeper's count of faults rose in its turn
+  pub record KeeperFailed (old new : PassValue) : Type 0 where
+    pub call : OneCall
+    pub later : List Entry
+    pub earlier : List Entry
+    pub seen : new.seen ≡ later ++ entry.Called call ∷ (earlier ++ old.seen)
+    pub made : WasMade old.base old.slot call (earlier ++ old.seen)
+    pub failed : IsFailed gives faults old.slot made.before made.after (entry.Called call)
+
+  -- What came at the keeper of a line with this answer, or with none: where the answer is a fault, the
+  -- keeper failed at a call of the line.
+  pub record CameOf (answer : Option Answer) (old new : PassValue) : Type 0 where
+    pub calls : MakesCalls old new
+    pub fault : answer ≡ Some Fault → KeeperFailed old new

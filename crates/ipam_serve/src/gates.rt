@@ -1,0 +1,68 @@
+//! Gates that sessions ask.
+ghost use Rattle.std.specs.Prelude.{◌≡◌, ◌≤◌, ℕ, Option};
+ghost use Rattle.std.specs.Option.{option_map};
+ghost use Rattle.ipam_io.specs.Counts.{Rose};
+ghost use Rattle.ipam_io.specs.Passing.{OnGo, OnStop, count_of_turns};
+ghost use Rattle.ipam_serve.specs.Asking.{count_of_lines};
+
+use ipam_io::{Gate, ListGate, OpenGate, Passed, Point};
+
+/// What a session asks before it reads a line and before each call. It is as a `Gate`, and also tells
+/// how often it was asked before a line.
+pub trait SessionGate {
+    /// How many passes were stopped.
+    ghost stops: { Self → ℕ };
+
+    /// How many passes were made at a turn, where the gate tells.
+    ghost turns: { Self → Option ℕ };
+
+    /// How many passes were made before a line, where the gate tells.
+    ghost lines: { Self → Option ℕ };
+
+    /// Asks at this point whether to go on. A pass is counted also where it is stopped.
+    fn pass(&mut self, point: Point) -> Passed
+        ensures stop { OnStop result (Rose (stops self.old) (stops self.new)) }
+        ensures go { OnGo result (stops self.new ≡ stops self.old) }
+        ensures never_falls { stops self.old ≤ stops self.new }
+        ensures turn { turns self.new ≡ option_map (count_of_turns point) (turns self.old) }
+        ensures line { lines self.new ≡ option_map (count_of_lines point) (lines self.old) };
+}
+
+fn ask<G: Gate>(gate: &mut G, point: Point) -> Passed
+    ensures stop { OnStop result (Rose (G.stops gate.old) (G.stops gate.new)) }
+    ensures go { OnGo result (G.stops gate.new ≡ G.stops gate.old) }
+    ensures never_falls { G.stops gate.old ≤ G.stops gate.new }
+    ensures turn { G.turns gate.new ≡ option_map (count_of_turns point) (G.turns gate.old) }
+{
+    gate.pass(point)
+}
+
+/// It stops no session, and counts none of its passes.
+impl SessionGate for OpenGate {
+    ghost use Rattle.std.specs.Prelude.{None};
+
+    ghost stops = { λ _. 0 };
+
+    ghost turns = { λ _. None };
+
+    ghost lines = { λ _. None };
+
+    fn pass(&mut self, point: Point) -> Passed {
+        ask(self, point)
+    }
+}
+
+/// It stops a session at the passes that it was told, and does not tell how many were before a line.
+impl SessionGate for ListGate {
+    ghost use Rattle.std.specs.Prelude.{None, Some};
+
+    ghost stops = { λ gate. gate.stops };
+
+    ghost turns = { λ gate. Some gate.turns };
+
+    ghost lines = { λ _. None };
+
+    fn pass(&mut self, point: Point) -> Passed {
+        ask(self, point)
+    }
+}
