@@ -1,0 +1,16 @@
+-- No JSON that is shown has a float, so that its compact text is written.
+use Rattle.std.proofs.Common.{◌≡◌, ℕ, List, false, refl}
+use Rattle.std.specs.Prelude.{fold}
+use Rattle.serde_json.specs.Written.{has_float}
+use Rattle.ipam_json.proofs.Floatless.{items_without}
+use Rattle.ipam_pool.specs.declared.pools.Pool.{Pool}
+use Rattle.ipam_show.specs.declared.counting.BlockCount.{BlockCount}
+use Rattle.ipam_show.specs.Json.{pool_data, pools_data}
+
+pool_without : (counts : List BlockCount) (pool : Pool) → has_float (pool_data counts pool) ≡ false
+unfolding pool_data
+pool_without counts pool = refl
+
+pub pools_without : (counts : List BlockCount) (pools : List Pool) → has_float (pools_data counts pools) ≡ false
+unfolding pools_data
+pools_without counts pools = rw (items_without (pool_data counts) (pool_without counts) pools) refl

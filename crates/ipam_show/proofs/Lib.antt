@@ -1,0 +1,5 @@
+-- Lemmas on what is shown.
+pub mod Counted
+pub mod Floats
+pub mod Found
+pub mod Steps

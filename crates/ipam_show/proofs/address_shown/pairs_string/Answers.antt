@@ -1,0 +1,10 @@
+use Rattle.std.proofs.Common.{◌∙◌, ap}
+use Rattle.std.proofs.lemmas.Result.{IfOk-weaker}
+use Rattle.serde_json.specs.Written.{has_float, compact_text}
+use Rattle.ipam_block_text.proofs.Floats.{has_float-secondary_data}
+use Rattle.ipam_show.proofs.address_shown.pairs_string.Goals as goal
+
+pub returns : goal.returns
+returns c =
+    let json = c.in_ok-pairs_value.ensures in
+    IfOk-weaker c.to_string.result _ _ (λ s text. text (ap has_float json ∙ has_float-secondary_data c.args.pairs.now) ∙ ap compact_text json) c.to_string.ensures.text

@@ -1,0 +1,11 @@
+-- What the operator is shown of a datastore.
+pub mod Kept
+pub mod Counts
+pub mod Scopes
+pub mod Columns
+pub mod Words
+pub mod Pools
+pub mod Json
+pub mod Blocks
+pub mod Node
+pub mod Address

@@ -1,0 +1,99 @@
+//! `show blocks`: the blocks are shown.
+ghost use Rattle.std.specs.Prelude.{◌≡◌, ◌++◌, ◌≤◌, decimal, codes, length, IfOk, string_bytes};
+ghost use Rattle.ipam_records.specs.Datastore.{most_blocks};
+ghost use Rattle.ipam_show.specs.Blocks.{block_head, block_row, block_rows, blocks_text, borrowed_word, state_of, used_word};
+ghost use Rattle.ipam_show.specs.Kept.{blocks_kept};
+
+use crate::cells::{cidr_cell, node_cell, number_cell, state_cell};
+use crate::counting::{BlockCount, counts_kept};
+use crate::keeping::state_kept;
+use crate::tables::table_text;
+use ipam_affinity::State;
+use ipam_store::Store;
+use ipam_text::{Seq, Text};
+use std::alloc::{AllocError, Global};
+
+/// How many columns the table of blocks has.
+const COLUMNS: usize = 5;
+
+/// The blocks in a table, a line each: its node, the state of that node's affinity to it, how many of
+/// its addresses are used, and how many of them another node uses.
+#[tactic(auto, unfolding(crate::specs::Blocks::blocks_text))]
+pub fn show_blocks(alloc: Global, store: &Store) -> Result<String, AllocError>
+    requires few { length (blocks_kept store.now.store) ≤ most_blocks }
+    ensures { IfOk result (λ text. string_bytes text ≡ blocks_text store.now.store) }
+{
+    let counts = counts_kept(alloc, store)?;
+    let rows = block_rows(alloc, store, &counts)?;
+    table_text(alloc, COLUMNS, &rows)
+}
+
+fn block_rows(
+    alloc: Global,
+    store: &Store,
+    counts: &[BlockCount],
+) -> Result<Vec<Seq<Text>>, AllocError>
+    ensures { IfOk result (λ rows. rows.items ≡ block_rows store.now.store counts.now) }
+{
+    let mut rows = Vec::new(alloc);
+    rows.push(block_head(alloc)?)?;
+    for count in counts {
+        rows.push(block_row(alloc, store, count)?)?;
+    }
+    Ok(rows)
+}
+
+fn block_head(alloc: Global) -> Result<Seq<Text>, AllocError>
+    ensures { IfOk result (λ row. row ≡ block_head) }
+{
+    let cidr = Text::copied(alloc, "BLOCK")?;
+    let node = Text::copied(alloc, "NODE")?;
+    let state = Text::copied(alloc, "STATE")?;
+    let used = Text::copied(alloc, "USED")?;
+    let borrowed = Text::copied(alloc, "BORROWED")?;
+    let cells = vec![in alloc; cidr, node, state, used, borrowed]?;
+    Ok(Seq::of(cells))
+}
+
+fn block_row(alloc: Global, store: &Store, count: &BlockCount) -> Result<Seq<Text>, AllocError>
+    ensures { IfOk result (λ row. row ≡ block_row store.now.store count.now) }
+{
+    let found = state_of(alloc, store, count)?;
+    let cidr = cidr_cell(alloc, count.cidr)?;
+    let node = node_cell(alloc, &count.node)?;
+    let state = state_cell(alloc, found)?;
+    let used = used_cell(alloc, count)?;
+    let borrowed = borrowed_cell(alloc, count)?;
+    let cells = vec![in alloc; cidr, node, state, used, borrowed]?;
+    Ok(Seq::of(cells))
+}
+
+/// The state of the affinity of the block's node to it.
+fn state_of(alloc: Global, store: &Store, count: &BlockCount) -> Result<Option<State>, AllocError>
+    ensures { IfOk result (λ state. state ≡ state_of store.now.store count.now) }
+{
+    match &count.node {
+        Some(node) => state_kept(alloc, store, node.as_str(), count.cidr),
+        None => Ok(None),
+    }
+}
+
+/// How many addresses are used, a slash, and how many there are.
+#[tactic(auto, unfolding(crate::specs::Blocks::used_word))]
+fn used_cell(alloc: Global, count: &BlockCount) -> Result<Text, AllocError>
+    ensures { IfOk result (λ text. text ≡ used_word count.now) }
+{
+    let used = count.used;
+    let size = count.size;
+    Ok(Text::of(format!(in alloc; "{used}/{size}")?))
+}
+
+/// How many addresses another node uses. `-` where none of them is recorded with a node.
+fn borrowed_cell(alloc: Global, count: &BlockCount) -> Result<Text, AllocError>
+    ensures { IfOk result (λ text. text ≡ borrowed_word count.now) }
+{
+    if count.told == 0 {
+        return Text::copied(alloc, "-");
+    }
+    number_cell(alloc, u64::from(count.borrowed))
+}

@@ -1,0 +1,102 @@
+//! The texts of cells.
+ghost use Rattle.std.specs.Prelude.{◌≡◌, ◌++◌, ◌*◌, ◌/◌, ◌^◌, codes, decimal, IfOk, IfSome, IsNone};
+ghost use Rattle.ipam_addr.specs.Text.{cidr_text_of};
+ghost use Rattle.ipam_addr.specs.Width.{cidr_size};
+ghost use Rattle.ipam_show.specs.Words.{node_word, percent_of, percent_text, state_word};
+
+use ipam_addr::{Cidr, push_cidr};
+use ipam_affinity::State;
+use ipam_text::Text;
+use itoa::Buffer;
+use std::alloc::{AllocError, Global};
+
+/// The number in decimal.
+pub(crate) fn number_cell(alloc: Global, number: u64) -> Result<Text, AllocError>
+    ensures { IfOk result (λ text. text ≡ decimal number) }
+{
+    let mut buffer = Buffer::new();
+    Text::copied(alloc, buffer.format(number))
+}
+
+pub(crate) fn cidr_cell(alloc: Global, cidr: Cidr) -> Result<Text, AllocError>
+    ensures { IfOk result (λ text. text ≡ cidr_text_of cidr) }
+{
+    let mut text = String::new(alloc);
+    push_cidr(alloc, &mut text, cidr)?;
+    Ok(Text::of(text))
+}
+
+/// How many addresses the CIDR has: 1 to 2^128. None stands for 2^128, which no number type holds.
+fn addresses_of(cidr: Cidr) -> Option<u128>
+    ensures some { IfSome result (λ number. number ≡ cidr_size cidr) }
+    ensures none { IsNone result → cidr_size cidr ≡ 2 ^ 128 }
+{
+    (cidr.last().number - cidr.base().number).checked_add(1)
+}
+
+/// How many addresses the CIDR has, in decimal.
+pub(crate) fn addresses_cell(alloc: Global, cidr: Cidr) -> Result<Text, AllocError>
+    ensures { IfOk result (λ text. text ≡ decimal (cidr_size cidr)) }
+{
+    match addresses_of(cidr) {
+        Some(number) => wide_cell(alloc, number),
+        None => cell_before_six(alloc, 34_028_236_692_093_846_346_337_460_743_176_821_145),
+    }
+}
+
+fn wide_cell(alloc: Global, number: u128) -> Result<Text, AllocError>
+    ensures { IfOk result (λ text. text ≡ decimal number) }
+{
+    let mut buffer = Buffer::new();
+    Text::copied(alloc, buffer.format(number))
+}
+
+/// The number in decimal, with a 6 after it.
+fn cell_before_six(alloc: Global, number: u128) -> Result<Text, AllocError>
+    ensures { IfOk result (λ text. text ≡ decimal number ++ codes "6") }
+{
+    let mut buffer = Buffer::new();
+    let mut text = String::from_str(alloc, buffer.format(number))?;
+    text.push_str("6")?;
+    Ok(Text::of(text))
+}
+
+/// How many of a hundred addresses are used, rounded down.
+fn percent_of(used: u64, cidr: Cidr) -> u128
+    ensures { result ≡ percent_of used (cidr_size cidr) }
+{
+    let hundredfold = u128::from(used) * 100;
+    match addresses_of(cidr) {
+        Some(number) => hundredfold / number,
+        None => 0,
+    }
+}
+
+pub(crate) fn percent_cell(alloc: Global, used: u64, cidr: Cidr) -> Result<Text, AllocError>
+    ensures { IfOk result (λ text. text ≡ percent_text used (cidr_size cidr)) }
+{
+    let mut buffer = Buffer::new();
+    let mut text = String::from_str(alloc, buffer.format(percent_of(used, cidr)))?;
+    text.push_str("%")?;
+    Ok(Text::of(text))
+}
+
+/// The node, or `-`.
+pub(crate) fn node_cell(alloc: Global, node: &Option<Text>) -> Result<Text, AllocError>
+    ensures { IfOk result (λ text. text ≡ node_word node.now) }
+{
+    match node {
+        Some(name) => name.clone(),
+        None => Text::copied(alloc, "-"),
+    }
+}
+
+/// The state's name, or `-`.
+pub(crate) fn state_cell(alloc: Global, state: Option<State>) -> Result<Text, AllocError>
+    ensures { IfOk result (λ text. text ≡ state_word state) }
+{
+    match state {
+        Some(state) => Text::copied(alloc, state.name()),
+        None => Text::copied(alloc, "-"),
+    }
+}

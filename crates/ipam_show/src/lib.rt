@@ -1,0 +1,19 @@
+//! The operator's view of a datastore: its pools, its blocks, one address, one node.
+#![tactic(auto)]
+
+mod address_shown;
+mod blocks_shown;
+mod cells;
+mod counting;
+mod json_shown;
+mod keeping;
+mod node_shown;
+mod pools_shown;
+mod sums;
+mod tables;
+
+pub use address_shown::show_address;
+pub use blocks_shown::show_blocks;
+pub use json_shown::show_json;
+pub use node_shown::show_node;
+pub use pools_shown::show_pools;

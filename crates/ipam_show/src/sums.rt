@@ -1,0 +1,96 @@
+//! What the blocks of a pool, of a node, or all of them come to.
+ghost use Rattle.std.specs.Prelude.{◌≡◌, ◌<◌, ◌^◌, length};
+ghost use Rattle.ipam_show.specs.Scopes.{block_sum, free_for, free_sum, is_of_node, is_within, used_for, used_sum};
+
+use crate::counting::BlockCount;
+use ipam_addr::Cidr;
+
+/// Which blocks count.
+#[derive(Clone, Copy)]
+pub(crate) enum Scope<'a> {
+    /// All of them.
+    All,
+    /// Those of the pool of this CIDR.
+    Pool(Cidr),
+    /// Those of this node.
+    Node(&'a str),
+}
+
+/// Whether the block counts.
+pub(crate) fn is_within(scope: &Scope<'_>, count: &BlockCount) -> bool
+    ensures { result ≡ is_within scope.now count.now }
+{
+    match scope {
+        Scope::All => true,
+        Scope::Pool(cidr) => cidr.contains(count.cidr.base()),
+        Scope::Node(node) => is_of_node(node, count),
+    }
+}
+
+fn is_of_node(node: &str, count: &BlockCount) -> bool
+    ensures { result ≡ is_of_node node.now count.now }
+{
+    match &count.node {
+        Some(name) => name.as_str() == node,
+        None => false,
+    }
+}
+
+/// How many addresses of them are used.
+pub(crate) fn used_sum(scope: &Scope<'_>, counts: &[BlockCount]) -> u64
+    requires { length counts.now < 2 ^ 32 }
+    ensures sum { result ≡ used_sum (is_within scope.now) counts.now }
+    ensures small { result < 2 ^ 48 }
+{
+    let mut total = 0u64;
+    for count in counts {
+        total += u64::from(used_for(scope, count));
+    }
+    total
+}
+
+fn used_for(scope: &Scope<'_>, count: &BlockCount) -> u16
+    ensures { result ≡ used_for (is_within scope.now) count.now }
+{
+    if is_within(scope, count) {
+        count.used
+    } else {
+        0
+    }
+}
+
+/// How many addresses of them could still be given.
+pub(crate) fn free_sum(scope: &Scope<'_>, counts: &[BlockCount]) -> u64
+    requires { length counts.now < 2 ^ 32 }
+    ensures { result ≡ free_sum (is_within scope.now) counts.now }
+{
+    let mut total = 0u64;
+    for count in counts {
+        total += u64::from(free_for(scope, count));
+    }
+    total
+}
+
+fn free_for(scope: &Scope<'_>, count: &BlockCount) -> u16
+    ensures { result ≡ free_for (is_within scope.now) count.now }
+{
+    if is_within(scope, count) {
+        count.free
+    } else {
+        0
+    }
+}
+
+/// How many they are.
+pub(crate) fn block_sum(scope: &Scope<'_>, counts: &[BlockCount]) -> u64
+    requires { length counts.now < 2 ^ 32 }
+    ensures { result ≡ block_sum (is_within scope.now) counts.now }
+{
+    let mut total = 0u64;
+    for count in counts {
+        if is_within(scope, count) {
+            total += 1;
+        }
+    }
+    total
+}
