@@ -4,3 +4,4 @@ pub mod Listing
 pub mod Bounds
 pub mod Counting
 pub mod Opened
+pub mod Sharing

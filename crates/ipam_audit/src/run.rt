@@ -19,8 +19,8 @@ use crate::words::workers_asked;
 use ipam_cluster::Base;
 use ipam_commands::{Status, tell, tell_fault, tell_made};
 use ipam_io::Sink;
-use ipam_keeper::{KeepFault, Keeper};
-use ipam_kept::{KeptFault, greatest_revision};
+use ipam_keeper::Keeper;
+use ipam_kept::{KeptFault, greatest_revision, not_loaded, not_opened};
 use ipam_opening::OpenFault;
 use ipam_records::Row;
 use std::alloc::Global;
@@ -98,13 +98,11 @@ fn audit_kept<R: Threads + Sync, D: Keeper>(
 {
     let rows = match keeper.load() {
         Ok(rows) => rows,
-        Err(KeepFault::Failed) => return Err(KeptFault::Keeper),
-        Err(KeepFault::Memory) => return Err(KeptFault::Memory),
+        Err(fault) => return Err(not_loaded(fault)),
     };
     match audit_loaded(rt, alloc, workers, rows) {
         Ok(report) => Ok(report),
-        Err(OpenFault::Refused(number, about)) => Err(KeptFault::Refused(number, about)),
-        Err(OpenFault::Memory) => Err(KeptFault::Memory),
+        Err(fault) => Err(not_opened(fault)),
     }
 }
 

@@ -6,8 +6,8 @@ ghost use Rattle.ipam_model.specs.Opened.{OpensAs};
 ghost use Rattle.ipam_opening.specs.Opening.{IsFaultOf};
 ghost use Rattle.ipam_commands.specs.Telling.{AreOpened, IsNotLoaded};
 
-use ipam_keeper::{KeepFault, Keeper};
-use ipam_kept::{KeptFault, greatest_revision};
+use ipam_keeper::Keeper;
+use ipam_kept::{KeptFault, greatest_revision, not_loaded, not_opened};
 use ipam_opening::{OpenFault, open};
 use ipam_records::Row;
 use ipam_store::Store;
@@ -30,13 +30,11 @@ pub(crate) fn load<D: Keeper>(alloc: Global, keeper: &mut D) -> Result<Loaded, K
 {
     let rows = match keeper.load() {
         Ok(rows) => rows,
-        Err(KeepFault::Failed) => return Err(KeptFault::Keeper),
-        Err(KeepFault::Memory) => return Err(KeptFault::Memory),
+        Err(fault) => return Err(not_loaded(fault)),
     };
     match open_loaded(alloc, &rows) {
         Ok(store) => Ok(Loaded { rows, store }),
-        Err(OpenFault::Refused(number, about)) => Err(KeptFault::Refused(number, about)),
-        Err(OpenFault::Memory) => Err(KeptFault::Memory),
+        Err(fault) => Err(not_opened(fault)),
     }
 }
 

@@ -7,6 +7,8 @@ use Rattle.ipam_model.specs.Course.{Event, Refusal, course, entries_of}
 use Rattle.ipam_model.specs.History.{cluster_at}
 use Rattle.ipam_model.specs.Opened.{IsRefusedBy, OpensAs, Texts}
 use Rattle.ipam_cluster.specs.Cluster.{StandsFor}
+use Rattle.ipam_opening.specs.declared.fault.OpenFault.{OpenFault}
+use Rattle.ipam_opening.specs.declared.fault.OpenFault.TheVariants as opening
 use Rattle.ipam_play.specs.declared.fault.PlayFault.{PlayFault}
 use Rattle.ipam_play.specs.declared.fault.PlayFault.TheVariants as fault
 use Rattle.ipam_play.specs.declared.gathering.GatherFault.{GatherFault}
@@ -141,6 +143,11 @@ pub record IsRefusedFirst (base : Gathered) (events : List Event) (told : PlayFa
   pub rest : List Event
   pub is_first : events ≡ next ∷ rest
   pub refusal : IsRefusal (cluster_of store []) next told
+
+-- what a fault in opening the base is told as
+abbrev pub not_opened : OpenFault → PlayFault
+not_opened (opening.Refused rule about) = fault.Open rule about
+not_opened opening.Memory = fault.Memory
 
 -- the base was not opened
 pub record IsNotOpened (base : Gathered) (told : PlayFault) : Type 0 where

@@ -6,7 +6,7 @@ ghost use Rattle.ipam_play.specs.Script.{Gathered, nothing_gathered, place_of, e
 ghost use Rattle.ipam_play.specs.SoundLine.{IsSoundLine};
 ghost use Rattle.ipam_play.specs.Gathering.{Gathers};
 ghost use Rattle.ipam_play.specs.Played.{base_of};
-ghost use Rattle.ipam_play.specs.Player.{IsOpened, IsNotOpened, IsBegunWith, IsCauseAtFirst, told_of};
+ghost use Rattle.ipam_play.specs.Player.{IsOpened, IsNotOpened, IsBegunWith, IsCauseAtFirst, not_opened, told_of};
 ghost use Rattle.ipam_cluster.specs.Cluster.{StandsFor};
 ghost use Rattle.ipam_play.specs.Times.{StandsTimed};
 ghost use Rattle.ipam_model.specs.Course.{Event};
@@ -134,8 +134,17 @@ fn opened(alloc: Global, gathering: &Gathering) -> Result<OpenCluster, PlayFault
     };
     match OpenCluster::open(alloc, &base) {
         Ok(cluster) => Ok(cluster),
-        Err(OpenFault::Refused(rule, about)) => Err(PlayFault::Open(rule, about)),
-        Err(OpenFault::Memory) => Err(PlayFault::Memory),
+        Err(fault) => Err(not_opened(fault)),
+    }
+}
+
+/// Why the base was not opened. Takes no memory, so that a refusal stays one.
+fn not_opened(fault: OpenFault) -> PlayFault
+    ensures { result ≡ not_opened fault }
+{
+    match fault {
+        OpenFault::Refused(rule, about) => PlayFault::Open(rule, about),
+        OpenFault::Memory => PlayFault::Memory,
     }
 }
 
