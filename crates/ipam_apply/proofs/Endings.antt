@@ -11,8 +11,8 @@ use Rattle.ipam_resources.specs.declared.fault.DocumentFault.{DocumentFault}
 use Rattle.ipam_resources.specs.declared.fault.DocumentFault.TheVariants as document_fault
 use Rattle.ipam_resources.specs.declared.fault.TheConstants.{DOCUMENT_MAX}
 use Rattle.ipam_resources.specs.declared.resource.Resource.{Resource}
-use Rattle.ipam_resources.specs.Documents.{document_reading}
-use Rattle.ipam_resources.specs.Printed.{fault_line}
+use Rattle.ipam_resources.specs.Documents.{IsReadable, document_reading}
+use Rattle.ipam_resources.specs.Printed.{HasFixedLine, fault_line}
 use Rattle.ipam_commands.specs.declared.status.Status.{Status}
 use Rattle.ipam_commands.specs.declared.status.Status.TheVariants as status
 use Rattle.ipam_commands.specs.Telling.{Cut, IsNotLoaded, Untold as NoText, Whole, Writes}
@@ -67,19 +67,21 @@ told-fault document_fault.Memory writes end other said = absurd (other refl)
 
 -- a document that is not read
 pub fault-ends : (same : Type 0) (document : List ℕ) (old new : Outside) (end : Status) (why : DocumentFault) → same → (why ≢ document_fault.Memory → document_reading document ≡ Err why)
-    → TellsFault why (λ text own end. Says old new text own end) end → (why ≡ document_fault.Memory → new.written ≡ old.written) → (why ≡ document_fault.Memory → new.write_faults ≡ old.write_faults)
+    → (why ≡ document_fault.Memory → IsReadable document)
+    → TellsFault why (λ text own end. Says old new text own end) end → (HasFixedLine why → end ≢ status.NoMemory)
+    → (why ≡ document_fault.Memory → new.written ≡ old.written) → (why ≡ document_fault.Memory → new.write_faults ≡ old.write_faults)
     → DocumentEnds same document old new end
-fault-ends same document old new end document_fault.Long kept is said none no_fault = Bad document_fault.Long (is (λ e. absurd (cc e))) kept said
-fault-ends same document old new end document_fault.NotJson kept is said none no_fault = Bad document_fault.NotJson (is (λ e. absurd (cc e))) kept said
-fault-ends same document old new end (document_fault.Member place) kept is said none no_fault = Bad (document_fault.Member place) (is (λ e. absurd (cc e))) kept said
-fault-ends same document old new end document_fault.Memory kept is said none no_fault =
-    NoRoom kept (record { written = none refl; no_write_fault = no_fault refl; no_memory = said })
+fault-ends same document old new end document_fault.Long kept is readable said fixed none no_fault = Bad document_fault.Long (is (λ e. absurd (cc e))) kept said fixed
+fault-ends same document old new end document_fault.NotJson kept is readable said fixed none no_fault = Bad document_fault.NotJson (is (λ e. absurd (cc e))) kept said fixed
+fault-ends same document old new end (document_fault.Member place) kept is readable said fixed none no_fault = Bad (document_fault.Member place) (is (λ e. absurd (cc e))) kept said fixed
+fault-ends same document old new end document_fault.Memory kept is readable said fixed none no_fault =
+    NoRoom (readable refl) kept (record { written = none refl; no_write_fault = no_fault refl; no_memory = said })
 
 -- where all is done, the document was read to its end
 pub done-whole : (same : Type 0) (document : List ℕ) (old new : Outside) (end : Status) (left left' : Option (List ℕ)) → DocumentEnds same document old new end → IsInput left left' document → end ≡ status.Done → IsAtEnd left'
 done-whole same document old new end left left' (Good resources is ends) input done =
     input.whole (ltb-false DOCUMENT_MAX (length document) (document_kinds document resources is).1)
-done-whole same document old new end left left' (Bad why is kept said) input done =
+done-whole same document old new end left left' (Bad why is kept said fixed) input done =
     absurd (not-done _ _ _ _ _ _ _ said refused-not-done done)
-done-whole same document old new end left left' (NoRoom kept none) input done =
+done-whole same document old new end left left' (NoRoom readable kept none) input done =
     let no = sym none.no_memory ∙ done in absurd (cc no)

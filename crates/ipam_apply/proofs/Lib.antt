@@ -4,3 +4,4 @@ pub mod Readiness
 pub mod Steps
 pub mod Runs
 pub mod Endings
+pub mod FixedLines

@@ -1,13 +1,13 @@
 -- How `apply` ends.
-use Rattle.std.specs.Prelude.{◌≡◌, ℕ, List, codes, Option, Result, Ok, Err}
+use Rattle.std.specs.Prelude.{◌≡◌, ◌≢◌, ℕ, List, codes, Option, Result, Ok, Err}
 use Rattle.ipam_io.specs.Counts.{Rose}
 use Rattle.ipam_records.specs.declared.call.Row.{Row as RowText}
 use Rattle.ipam_records.specs.Datastore.{Datastore}
 use Rattle.ipam_kept.specs.declared.kept.KeptFault.{KeptFault}
 use Rattle.ipam_resources.specs.declared.fault.DocumentFault.{DocumentFault}
 use Rattle.ipam_resources.specs.declared.resource.Resource.{Resource}
-use Rattle.ipam_resources.specs.Documents.{document_reading}
-use Rattle.ipam_resources.specs.Printed.{fault_line}
+use Rattle.ipam_resources.specs.Documents.{IsReadable, document_reading}
+use Rattle.ipam_resources.specs.Printed.{HasFixedLine, fault_line}
 use Rattle.ipam_commands.specs.declared.status.Status.{Status}
 use Rattle.ipam_commands.specs.declared.status.Status.TheVariants as status
 use Rattle.ipam_commands.specs.Telling.{AreOpened, FaultWrites, IsNotLoaded}
@@ -27,13 +27,15 @@ pub data ResourcesEnd (resources : List Resource) (old new : Outside) (end : Sta
       → FaultWrites (λ text own. Says old new text own end) fault → ResourcesEnd resources old new end
 
 -- How a document ends. All of it is read first: a bad one is refused by its first fault, and nothing is
--- asked of the keeper. `same` says that the keeper is the same.
+-- asked of the keeper. One that is too long or no text is refused whether or not there is memory, and a line
+-- that is the same for each document takes none. `same` says that the keeper is the same.
 pub data DocumentEnds (same : Type 0) (document : List ℕ) (old new : Outside) (end : Status) : Type 0 where
   Good : (resources : List Resource) → document_reading document ≡ Ok resources
       → ResourcesEnd resources old new end → DocumentEnds same document old new end
   Bad : (fault : DocumentFault) → document_reading document ≡ Err fault → same
-      → Says old new (fault_line fault) status.Refused end → DocumentEnds same document old new end
-  NoRoom : same → IsUntold old new end → DocumentEnds same document old new end
+      → Says old new (fault_line fault) status.Refused end → (HasFixedLine fault → end ≢ status.NoMemory)
+      → DocumentEnds same document old new end
+  NoRoom : IsReadable document → same → IsUntold old new end → DocumentEnds same document old new end
 
 -- What there is of a source.
 pub record Input : Type 0 where

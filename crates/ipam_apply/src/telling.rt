@@ -1,6 +1,6 @@
 //! What came of a resource or a document is told.
-ghost use Rattle.std.specs.Prelude.{◌≡◌, IfOk, IsSome, string_bytes};
-ghost use Rattle.ipam_resources.specs.Printed.{applied_line, fault_line, refusal_of, refused_line};
+ghost use Rattle.std.specs.Prelude.{◌≡◌, ◌≢◌, IfOk, IsSome, string_bytes};
+ghost use Rattle.ipam_resources.specs.Printed.{HasFixedLine, applied_line, fault_line, refusal_of, refused_line};
 ghost use Rattle.ipam_commands.specs.Telling.{Writes};
 ghost use Rattle.ipam_apply.specs.Telling.{MayBeTold, TellsAnswer, TellsApplied, TellsFault, TellsRefused};
 
@@ -67,20 +67,25 @@ fn tell_refused<K: Sink>(
     }
 }
 
-/// Tells why the document is refused, where it is not for want of memory.
+/// Tells why the document is refused, where it is not for want of memory. A line that is the same for each
+/// document takes no memory.
+#[tactic(auto, unfolding(ipam_resources::specs::Printed::fault_line))]
 pub(crate) fn tell_document<K: Sink>(alloc: Global, sink: &mut K, fault: DocumentFault) -> Status
     ensures told { TellsFault fault (λ text own end. Writes (K.written sink.old) (K.written sink.new)
         (K.write_faults sink.old) (K.write_faults sink.new) text own end) result }
+    ensures fixed { HasFixedLine fault → result ≢ Status.NoMemory }
     ensures untold { fault ≡ DocumentFault.Memory → K.written sink.new ≡ K.written sink.old }
     ensures no_fault { fault ≡ DocumentFault.Memory → K.write_faults sink.new ≡ K.write_faults sink.old }
     ensures rest { K.write_rest sink.new ≡ K.write_rest sink.old }
 {
     match fault {
-        DocumentFault::Memory => Status::NoMemory,
-        _ => {
+        DocumentFault::Long => tell(sink, "refused: long\n", Status::Refused),
+        DocumentFault::NotJson => tell(sink, "refused: not JSON\n", Status::Refused),
+        DocumentFault::Member(_) => {
             let line = fault_line(alloc, fault);
             tell_made(sink, line, Status::Refused)
         }
+        DocumentFault::Memory => Status::NoMemory,
     }
 }
 

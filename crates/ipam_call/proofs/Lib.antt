@@ -4,3 +4,4 @@ pub mod NoFloats
 pub mod Outcomes
 pub mod Wholes
 pub mod Statuses
+pub mod Empty

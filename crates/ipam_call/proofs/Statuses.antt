@@ -3,7 +3,7 @@ use Rattle.std.proofs.Common.{◌≡◌, ℕ, ◌≤◌, List, Option, ◌⊎◌
 use Rattle.ipam_call.specs.declared.end.CallEnd.{CallEnd}
 use Rattle.ipam_call.specs.declared.end.CallEnd.TheVariants.{Replied, Failed}
 use Rattle.ipam_call.specs.Calls.{HasStatus, outcome}
-use Rattle.ipam_call.specs.Ends.{Tells, whole, cut, untold, IsStatus, end_status}
+use Rattle.ipam_call.specs.Ends.{Tells, whole, cut, IsStatus, end_status}
 
 small_status : (end : CallEnd) → HasStatus (outcome end) → end_status end ≤ 1
 small_status (Replied reply) h = h
@@ -11,5 +11,4 @@ small_status (Failed version fault) h = omega arith
 
 pub told_status : (end : CallEnd) (old new : Option (List ℕ)) (faults faults' status : ℕ) → HasStatus (outcome end) → Tells end old new faults faults' status → IsStatus status
 told_status end old new faults faults' _ h (whole all same) = inl (small_status end h)
-told_status end old new faults faults' _ h (cut part rose) = inr (inl refl)
-told_status end old new faults faults' _ h (untold failed none same) = inr (inr refl)
+told_status end old new faults faults' _ h (cut part rose) = inr refl

@@ -2,5 +2,6 @@
 pub mod Requests
 pub mod Replies
 pub mod Versions
+pub mod Fixed
 pub mod Ends
 pub mod Calls

@@ -3,6 +3,7 @@
 
 mod asking;
 mod end;
+mod fixed;
 mod input;
 mod reply;
 mod request;
@@ -12,8 +13,10 @@ mod version;
 
 pub use asking::exchange;
 pub use end::{CallEnd, CallFault, DaemonReply};
+pub use fixed::{FixedError, fixed_text};
 pub use input::read_input;
 pub use ipam_lines::InputFault;
 pub use run::{call_daemon, run_call};
 pub use std::alloc::AllocError as Memory;
 pub use telling::tell_end;
+pub use version::version_for;

@@ -20,8 +20,7 @@ use std::alloc::Global;
 /// Makes one CNI call of the daemon behind the link: reads standard input, sends one line, reads
 /// one line, writes what the daemon replied and gives its status.
 ///
-/// Where there is no reply it writes an error and gives 1. It gives 4 where the sink failed, and 6
-/// where there was no memory for the error.
+/// Where there is no reply it writes an error and gives 1. It gives 4 where the sink failed.
 pub fn run_call<S: Source, K: Sink, L: Link>(
     alloc: Global,
     env: &[(Text, Text)],
@@ -54,7 +53,7 @@ pub fn run_call<S: Source, K: Sink, L: Link>(
     ensures sink_rest { K.write_rest sink.new ≡ K.write_rest sink.old }
 {
     let end = call_daemon(alloc, env, source, link);
-    tell_end(alloc, sink, &end)
+    tell_end(sink, &end)
 }
 
 /// The same, but for what is written.

@@ -9,9 +9,10 @@ use ipam_json::{json_of, text_at};
 use serde_json::Value;
 use std::alloc::{AllocError, Global};
 
-/// The configuration's version where standard input is an object with a supported one, else 1.0.0.
+/// The version in which an error is written that comes of this standard input: the configuration's where
+/// it is an object with a supported one, else 1.0.0.
 #[tactic(auto, unfolding(crate::specs::Versions::version_for))]
-pub(crate) fn version_for(alloc: Global, input: &[u8]) -> Result<Version, AllocError>
+pub fn version_for(alloc: Global, input: &[u8]) -> Result<Version, AllocError>
     ensures { IfOk result (λ version. version ≡ version_for input.now) }
 {
     let Some(text) = input_text(input) else {

@@ -53,7 +53,7 @@ impl Link for NoLink {
 }
 
 /// Writes the error of a call that didn't reach the daemon, the code 111 with the details `link`,
-/// and gives the status 1, or 4 where the sink failed, or 6 where there was no memory for the error.
+/// and gives the status 1, or 4 where the sink failed.
 ///
 /// The error is told in the version of standard input, which is read for that alone, and in 1.0.0
 /// where it tells none that is supported or can't be read. Where there is no memory to read it, the
@@ -67,7 +67,7 @@ pub fn tell_unreached<S: Source, K: Sink>(alloc: Global, source: &mut S, sink: &
     ensures sink_rest { K.write_rest sink.new ≡ K.write_rest sink.old }
 {
     let end = unreached(alloc, source);
-    tell_end(alloc, sink, &end)
+    tell_end(sink, &end)
 }
 
 /// How a call of nobody ends.

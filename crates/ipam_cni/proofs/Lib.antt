@@ -1,5 +1,7 @@
 pub mod Begun
 pub mod Runs
+pub mod LookVersions
+pub mod Versions
 pub mod Openings
 pub mod Shortness
 pub mod Statuses

@@ -30,19 +30,17 @@ comes-small env stdin old new _ (Refused error is same) = omega arith
 comes-small env stdin old new _ (AtOnce look text is begins same) = omega arith
 comes-small env stdin old new _ (Asked look asked version reply is begins comes) = request-small asked version old new reply comes
 
-pub told_status : (env : List Pair) (end : CniEnd) (old new : Sides) (written written' : Option (List ℕ)) (before after status : ℕ) → Went env end old new → Tells end written written' before after status → IsStatus status
-told_status env (Told own text) old new written written' before after status went (inl (is, same)) =
+pub told_status : (keeper : Type 0) (env : List Pair) (end : CniEnd) (old new : Sides) (written written' : Option (List ℕ)) (before after status : ℕ) → Went keeper env end old new → Tells end written written' before after status → IsStatus status
+told_status keeper env (Told own text) old new written written' before after status went (inl (is, same)) =
     inl (subst (λ (n : ℕ). n ≤ 1) (sym same) (comes-small env went.stdin old.rows new.rows (own, text) went.ends.1))
-told_status env (Told own text) old new written written' before after status went (inr (is, same)) = inr (inl same)
-told_status env (Failed version fault) old new written written' before after status went (inl (inl (is, same))) = inl (omega arith)
-told_status env (Failed version fault) old new written written' before after status went (inl (inr (is, same))) = inr (inl same)
-told_status env (Failed version fault) old new written written' before after status went (inr (is, same)) = inr (inr same)
+told_status keeper env (Told own text) old new written written' before after status went (inr (is, same)) = inr same
+told_status keeper env (Failed version fault) old new written written' before after status went (inl (is, same)) = inl (omega arith)
+told_status keeper env (Failed version fault) old new written written' before after status went (inr (is, same)) = inr same
 
 -- success is told of standard input that was read to its end
-pub told_to_end : (env : List Pair) (end : CniEnd) (old new : Sides) (written written' : Option (List ℕ)) (before after status : ℕ) → Went env end old new → Tells end written written' before after status → status ≡ 0 → IsAtEnd new.input
-told_to_end env (Told own text) old new written written' before after status went (inl (is, same)) none =
+pub told_to_end : (keeper : Type 0) (env : List Pair) (end : CniEnd) (old new : Sides) (written written' : Option (List ℕ)) (before after status : ℕ) → Went keeper env end old new → Tells end written written' before after status → status ≡ 0 → IsAtEnd new.input
+told_to_end keeper env (Told own text) old new written written' before after status went (inl (is, same)) none =
     went.input.whole (comes_short env went.stdin old.rows new.rows (own, text) went.ends.1 (sym same ∙ none))
-told_to_end env (Told own text) old new written written' before after status went (inr (is, same)) none = absurd (omega arith)
-told_to_end env (Failed version fault) old new written written' before after status went (inl (inl (is, same))) none = absurd (omega arith)
-told_to_end env (Failed version fault) old new written written' before after status went (inl (inr (is, same))) none = absurd (omega arith)
-told_to_end env (Failed version fault) old new written written' before after status went (inr (is, same)) none = absurd (omega arith)
+told_to_end keeper env (Told own text) old new written written' before after status went (inr (is, same)) none = absurd (omega arith)
+told_to_end keeper env (Failed version fault) old new written written' before after status went (inl (is, same)) none = absurd (omega arith)
+told_to_end keeper env (Failed version fault) old new written written' before after status went (inr (is, same)) none = absurd (omega arith)

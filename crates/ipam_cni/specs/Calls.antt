@@ -19,6 +19,7 @@ use Rattle.ipam_kept.specs.Rows.{AreTextsOf, texts_loaded}
 use Rattle.ipam_solo.specs.Courses.{IsAnswerCourse, IsFaultCourse}
 use Rattle.ipam_solo.specs.Solo.{IsStoppedAlone}
 use Rattle.cni_types.specs.declared.calls.Look.{Look}
+use Rattle.cni_types.specs.declared.code.Code.TheVariants as code
 use Rattle.cni_types.specs.declared.error.CniError.{CniError}
 use Rattle.cni_types.specs.declared.version.Version.{Version}
 use Rattle.cni_types.specs.declared.version.Version.TheVariants.{V1_0_0}
@@ -31,8 +32,10 @@ use Rattle.cni_asks.specs.declared.replies.CniReply.{CniReply}
 use Rattle.cni_asks.specs.Replying.{reply_status, reply_text, told}
 use Rattle.ipam_cni.specs.declared.end.CniEnd.{CniEnd}
 use Rattle.ipam_cni.specs.declared.end.CniEnd.TheVariants.{Told, Failed}
-use Rattle.ipam_cni.specs.declared.end.CniFault.TheVariants.{Read, Keeper, Memory}
-use Rattle.ipam_cni.specs.Replies.{ComesTo, RequestComesTo, bad_rows, begun_by, reply_to, version_of}
+use Rattle.ipam_cni.specs.declared.end.CniFault.TheVariants.{Read, Undecodable, Keeper, Memory}
+use Rattle.ipam_call.specs.Versions.{version_for}
+use Rattle.ipam_cni.specs.Ends.{fault_error}
+use Rattle.ipam_cni.specs.Replies.{ComesTo, RequestComesTo, bad_rows, begun_by, reply_to}
 
 -- ---- an end by itself
 
@@ -41,9 +44,14 @@ abbrev pub end_of : {E : Type 0} → Version → Result (ℕ × List ℕ) E → 
 end_of version (Ok reply) = Told reply.0 reply.1
 end_of version (Err none) = Failed version Memory
 
--- the error is told, or there is no memory for it
+-- the error is told, or there is no memory for its text
 abbrev pub TellsError : CniError → CniEnd → Type 0
 TellsError error end = (end ≡ Told 1 (error_text error)) ⊎ (end ≡ Failed error.version Memory)
+
+-- how a refused call ends: that standard input is no configuration takes no memory to tell
+pub data RefusalEnds (error : CniError) : CniEnd → Type 0 where
+  NoConfiguration : error.code ≡ code.Undecodable → RefusalEnds error (Failed error.version Undecodable)
+  WithDetails : (end : CniEnd) → error.code ≢ code.Undecodable → TellsError error end → RefusalEnds error end
 
 -- what is told of rows that were not opened
 abbrev pub IsNotOpenedEnd : Version → KeptFault → CniEnd → Type 0
@@ -81,6 +89,7 @@ abbrev pub RunEnds : (store : Datastore) → Request → Version → CniEnd → 
 RunEnds store asked version (Told status text) new faults faults' =
     (faults' ≡ faults) × IsAloneReply store asked version new (status, text)
 RunEnds store asked version (Failed in_version Read) new faults faults' = ⊥
+RunEnds store asked version (Failed in_version Undecodable) new faults faults' = ⊥
 RunEnds store asked version (Failed in_version Keeper) new faults faults' =
     (in_version ≡ version) × Rose faults faults' × IsFaultCourse (opened store) asked new
 RunEnds store asked version (Failed in_version Memory) new faults faults' =
@@ -103,6 +112,7 @@ abbrev pub RequestEnds : Request → Version → CniEnd → (old new : Option (L
 RequestEnds asked version (Told status text) old new faults faults' =
     (faults' ≡ faults) × RequestComesTo asked version old new (status, text)
 RequestEnds asked version (Failed in_version Read) old new faults faults' = ⊥
+RequestEnds asked version (Failed in_version Undecodable) old new faults faults' = ⊥
 RequestEnds asked version (Failed in_version Keeper) old new faults faults' =
     (in_version ≡ version) × Rose faults faults' × StayOr old new (λ store. IsFaultCourse (opened store) asked new)
 RequestEnds asked version (Failed in_version Memory) old new faults faults' =
@@ -116,15 +126,10 @@ pub record Begins (env : List Pair) (stdin : List ℕ) (asked : Request) (versio
   pub is_look : look_reading env stdin ≡ Ok look
   pub begins : begun_by look ≡ Begin asked version
 
--- the version of what a call is looked at as
-abbrev pub version_looked : Result Look CniError → Version
-version_looked (Ok look) = version_of look
-version_looked (Err error) = error.version
-
--- Nothing was begun, so the rows stayed. The version is the call's, or 1.0.0 before that is known.
-pub record IsUnbegun (env : List Pair) (stdin : List ℕ) (version : Version) (old new : Option (List RowText)) : Type 0 where
-  pub in_version : (version ≡ V1_0_0) ⊎ (version ≡ version_looked (look_reading env stdin))
-  pub rows : new ≡ old
+-- the error of a fault is in the version of standard input
+abbrev pub IsInVersion : CniEnd → (stdin : List ℕ) → Type 0
+IsInVersion (Told status text) stdin = Unit {0}
+IsInVersion (Failed version fault) stdin = version ≡ version_for stdin
 
 -- a request was begun, and there was no memory to go on or to tell its answer
 pub record IsCutShort (env : List Pair) (stdin : List ℕ) (version : Version) (old new : Option (List RowText)) : Type 0 where
@@ -132,16 +137,18 @@ pub record IsCutShort (env : List Pair) (stdin : List ℕ) (version : Version) (
   pub begins : Begins env stdin asked version
   pub rows : StayOr old new (λ store. IsStopCourse store asked new)
 
--- How a call ends with this standard input.
+-- How a call ends whose configuration was read, where that could be done.
 abbrev pub CallEnds : List Pair → (stdin : List ℕ) → CniEnd → (old new : Option (List RowText)) → (faults faults' : ℕ) → Type 0
 CallEnds env stdin (Told status text) old new faults faults' =
     (faults' ≡ faults) × ComesTo env stdin old new (status, text)
 CallEnds env stdin (Failed version Read) old new faults faults' = ⊥
+CallEnds env stdin (Failed version Undecodable) old new faults faults' =
+    (faults' ≡ faults) × (look_reading env stdin ≡ Err (fault_error version Undecodable)) × (new ≡ old)
 CallEnds env stdin (Failed version Keeper) old new faults faults' =
     Rose faults faults' × (asked : Request) × Begins env stdin asked version
     × StayOr old new (λ store. IsFaultCourse (opened store) asked new)
 CallEnds env stdin (Failed version Memory) old new faults faults' =
-    (faults' ≡ faults) × (IsUnbegun env stdin version old new ⊎ IsCutShort env stdin version old new)
+    (faults' ≡ faults) × ((new ≡ old) ⊎ IsCutShort env stdin version old new)
 
 -- ---- a call with its standard input
 
@@ -159,30 +166,50 @@ pub record IsInput (stdin : List ℕ) (old new : Option (List ℕ)) : Type 0 whe
   pub bound : length stdin ≤ MOST_INPUT_BYTES + 1
   pub whole : length stdin ≤ MOST_INPUT_BYTES → IsAtEnd new
 
--- a read of the source failed
-pub record IsReadFault (version : Version) (old new : Sides) : Type 0 where
+-- A read of the source failed, and nothing was asked of the keeper. `same` says that the keeper is the same.
+pub record IsReadFault (same : Type 0) (version : Version) (old new : Sides) : Type 0 where
   pub in_version : version ≡ V1_0_0
   pub input_faults : Rose old.input_faults new.input_faults
   pub keeper_faults : new.keeper_faults ≡ old.keeper_faults
   pub rows : new.rows ≡ old.rows
+  pub keeper : same
 
--- there was no memory for standard input
-pub record IsUnread (version : Version) (old new : Sides) : Type 0 where
+-- There was no memory to read standard input or the configuration in it, and nothing was asked of the keeper.
+pub record IsUnread (same : Type 0) (version : Version) (old new : Sides) : Type 0 where
   pub in_version : version ≡ V1_0_0
   pub input_faults : new.input_faults ≡ old.input_faults
   pub keeper_faults : new.keeper_faults ≡ old.keeper_faults
   pub rows : new.rows ≡ old.rows
+  pub keeper : same
 
--- standard input was read, and then the call was made with it
+-- Standard input was read, and then the call was made with it. The error of a fault is in its version.
 pub record IsMade (env : List Pair) (end : CniEnd) (old new : Sides) : Type 0 where
   pub stdin : List ℕ
   pub input : IsInput stdin old.input new.input
   pub input_faults : new.input_faults ≡ old.input_faults
+  pub in_version : IsInVersion end stdin
   pub ends : CallEnds env stdin end old.rows new.rows old.keeper_faults new.keeper_faults
 
--- How a call with this environment went that ended so.
-abbrev pub Went : List Pair → CniEnd → (old new : Sides) → Type 0
-Went env (Told status text) old new = IsMade env (Told status text) old new
-Went env (Failed version Read) old new = IsReadFault version old new
-Went env (Failed version Keeper) old new = IsMade env (Failed version Keeper) old new
-Went env (Failed version Memory) old new = IsUnread version old new ⊎ IsMade env (Failed version Memory) old new
+-- How a call with this environment went that ended so. `same` says that the keeper is the same: an error
+-- is in the version of the configuration once that was read, and until then nothing is asked of the keeper.
+abbrev pub Went : (same : Type 0) → List Pair → CniEnd → (old new : Sides) → Type 0
+Went same env (Told status text) old new = IsMade env (Told status text) old new
+Went same env (Failed version Read) old new = IsReadFault same version old new
+Went same env (Failed version Undecodable) old new = IsMade env (Failed version Undecodable) old new
+Went same env (Failed version Keeper) old new = IsMade env (Failed version Keeper) old new
+Went same env (Failed version Memory) old new = IsUnread same version old new ⊎ IsMade env (Failed version Memory) old new
+
+-- ---- parts of a call
+
+-- there was no memory to read the configuration in standard input
+pub record IsUnreadable (same : Type 0) (end : CniEnd) (old new : Option (List RowText)) (faults faults' : ℕ) : Type 0 where
+  pub is_end : end ≡ Failed V1_0_0 Memory
+  pub keeper_faults : faults' ≡ faults
+  pub rows : new ≡ old
+  pub keeper : same
+
+-- How a call ends with this standard input.
+abbrev pub InputEnds : (same : Type 0) → List Pair → (stdin : List ℕ) → CniEnd → (old new : Option (List RowText)) → (faults faults' : ℕ) → Type 0
+InputEnds same env stdin end old new faults faults' =
+    IsUnreadable same end old new faults faults'
+    ⊎ (IsInVersion end stdin × CallEnds env stdin end old new faults faults')

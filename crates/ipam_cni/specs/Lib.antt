@@ -1,4 +1,4 @@
 -- What comes of one CNI call.
 pub mod Replies
-pub mod Calls
 pub mod Ends
+pub mod Calls

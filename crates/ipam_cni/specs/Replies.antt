@@ -38,15 +38,6 @@ begun_by (Check check) = Begin (request.Check check.handle check.addresses) chec
 begun_by (Gc gc) = Begin (request.Collect (collect_of gc)) gc.version
 begun_by (Status status) = Begin (request.Probe (probe_of status)) status.version
 
--- the version in which it is answered
-abbrev pub version_of : Look → versions.Version
-version_of (Version version) = version
-version_of (Add add) = add.version
-version_of (Del del) = del.version
-version_of (Check check) = check.version
-version_of (Gc gc) = gc.version
-version_of (Status status) = status.version
-
 -- the requests that calls begin
 abbrev pub is_of_call : Request → Bool
 is_of_call (request.Collect asked) = true

@@ -4,7 +4,7 @@ ghost use Rattle.ipam_model.specs.CanAnswer.{CanAnswer};
 ghost use Rattle.cni_types.specs.Sound.{IsSoundGc, IsSoundLook, IsSoundStatus};
 ghost use Rattle.cni_asks.specs.Asking.{IsSoundAsk, is_neither_gc_nor_status};
 ghost use Rattle.cni_asks.specs.Replying.{told};
-ghost use Rattle.ipam_cni.specs.Replies.{IsOfCall, begun_by, reply_to, version_of};
+ghost use Rattle.ipam_cni.specs.Replies.{IsOfCall, begun_by, reply_to};
 
 use cni_asks::{Ask, ask, reply};
 use cni_gc::{gc, gc_reply, status, status_reply};
@@ -12,20 +12,6 @@ use cni_types::{CniGc, CniStatus, Look, Version};
 use ipam_model::{Answer, Request};
 use ipam_text::Text;
 use std::alloc::{AllocError, Global};
-
-/// The version in which the call is answered.
-pub(crate) fn version_of(look: &Look) -> Version
-    ensures { result ≡ version_of look.now }
-{
-    match look {
-        Look::Version(version) => *version,
-        Look::Add(add) => add.version,
-        Look::Del(del) => del.version,
-        Look::Check(check) => check.version,
-        Look::Gc(gc) => gc.version,
-        Look::Status(status) => status.version,
-    }
-}
 
 /// What the call begins.
 ///

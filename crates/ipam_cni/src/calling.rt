@@ -5,14 +5,15 @@ ghost use Rattle.ipam_model.specs.SoundRequest.{IsSoundRequest};
 ghost use Rattle.ipam_kept.specs.Kept.{KeptFor, opened};
 ghost use Rattle.ipam_solo.specs.Solo.{HasNoGrace, NothingRuns};
 ghost use Rattle.cni_types.specs.Texts.{error_text};
-ghost use Rattle.ipam_cni.specs.Calls.{AnswerEnds, CallEnds, RequestEnds, RunEnds, Went, IsNotOpenedEnd, TellsError, end_of};
+ghost use Rattle.ipam_call.specs.Versions.{version_for};
+ghost use Rattle.ipam_cni.specs.Calls.{AnswerEnds, CallEnds, InputEnds, IsInVersion, RefusalEnds, RequestEnds, RunEnds, Went, IsNotOpenedEnd, TellsError, end_of};
 ghost use Rattle.ipam_cni.specs.Replies.{IsOfCall, bad_details, bad_rows};
 
-use crate::asking::{begun_by, reply_to, version_of};
+use crate::asking::{begun_by, reply_to};
 use crate::end::{CniEnd, CniFault};
 use cni_asks::Ask;
 use cni_types::{CniError, Code, LookFault, Version, look, push_error};
-use ipam_call::{InputFault, read_input};
+use ipam_call::{InputFault, read_input, version_for};
 use ipam_io::Source;
 use ipam_keeper::Keeper;
 use ipam_kept::{Kept, KeptFault};
@@ -29,7 +30,7 @@ pub fn make_call<S: Source, D: Keeper>(
     source: &mut S,
     keeper: &mut D,
 ) -> CniEnd
-    ensures went { Went env.now result
+    ensures went { Went (keeper.new ≡ keeper.old) env.now result
         (record {
           input = S.left source.old;
           input_faults = S.read_faults source.old;
@@ -51,21 +52,49 @@ pub fn make_call<S: Source, D: Keeper>(
     }
 }
 
-/// Looks at the call, and begins what it asks.
+/// Reads the version of the configuration, and makes the call with this standard input.
 fn call_with<D: Keeper>(alloc: Global, env: &[(Text, Text)], input: &[u8], keeper: &mut D) -> CniEnd
-    ensures { CallEnds env.now input.now result (D.rows keeper.old) (D.rows keeper.new)
+    ensures { InputEnds (keeper.new ≡ keeper.old) env.now input.now result (D.rows keeper.old) (D.rows keeper.new)
+        (D.faults keeper.old) (D.faults keeper.new) }
+{
+    match version_for(alloc, input) {
+        Ok(version) => call_in(alloc, env, input, version, keeper),
+        Err(AllocError) => CniEnd::Failed(Version::V1_0_0, CniFault::Memory),
+    }
+}
+
+/// Looks at the call, whose configuration has this version, and begins what it asks.
+fn call_in<D: Keeper>(
+    alloc: Global,
+    env: &[(Text, Text)],
+    input: &[u8],
+    version: Version,
+    keeper: &mut D,
+) -> CniEnd
+    requires { version ≡ version_for input.now }
+    ensures version { IsInVersion result input.now }
+    ensures ends { CallEnds env.now input.now result (D.rows keeper.old) (D.rows keeper.new)
         (D.faults keeper.old) (D.faults keeper.new) }
 {
     let look = match look(alloc, env, input) {
         Ok(look) => look,
-        Err(LookFault::Refused(error)) => return refused(alloc, &error),
-        Err(LookFault::Memory) => return CniEnd::Failed(Version::V1_0_0, CniFault::Memory),
+        Err(LookFault::Refused(error)) => return refusal_end(alloc, &error),
+        Err(LookFault::Memory) => return CniEnd::Failed(version, CniFault::Memory),
     };
-    let version = version_of(&look);
     match begun_by(alloc, look) {
         Ok(Ask::Tell(text)) => CniEnd::Told(0, text),
         Ok(Ask::Begin(request, version)) => request_end(alloc, &request, version, keeper),
         Err(_) => CniEnd::Failed(version, CniFault::Memory),
+    }
+}
+
+/// How the call ends that is refused with this error.
+fn refusal_end(alloc: Global, error: &CniError) -> CniEnd
+    ensures { RefusalEnds error.now result }
+{
+    match error.code {
+        Code::Undecodable => CniEnd::Failed(error.version, CniFault::Undecodable),
+        _ => refused(alloc, error),
     }
 }
 

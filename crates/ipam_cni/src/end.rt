@@ -1,11 +1,13 @@
 use cni_types::Version;
 use ipam_text::Text;
 
-/// Why a call has no reply of its own.
+/// Why a call ends with an error whose text is fixed.
 #[derive(Clone, Copy, Debug, PartialEq, Eq)]
 pub enum CniFault {
     /// A read of standard input failed.
     Read,
+    /// Standard input is no configuration: it is too long, no UTF-8 or no JSON object.
+    Undecodable,
     /// The keeper failed.
     Keeper,
     /// There was no memory.
@@ -17,6 +19,6 @@ pub enum CniFault {
 pub enum CniEnd {
     /// With this status and this text.
     Told(u8, Text),
-    /// The error is told in this version.
+    /// With the error of the fault in this version. Its text is fixed, so it takes no memory.
     Failed(Version, CniFault),
 }

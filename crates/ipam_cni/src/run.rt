@@ -16,7 +16,9 @@ use std::alloc::Global;
 /// Makes one CNI call: reads standard input, looks at the call, opens the keeper's rows, runs the
 /// request by itself and writes the reply. Gives 0, or 1 with an error.
 ///
-/// It gives 4 where the sink failed, and 6 where there was no memory for the error of a fault.
+/// It gives 4 where the sink failed. Want of memory is an error too, whose text takes none. An error is in
+/// the version of the configuration once that was read, and else in 1.0.0; until then nothing is asked of
+/// the keeper.
 pub fn cni<S: Source, K: Sink, D: Keeper>(
     alloc: Global,
     env: &[(Text, Text)],
@@ -25,7 +27,7 @@ pub fn cni<S: Source, K: Sink, D: Keeper>(
     keeper: &mut D,
 ) -> u8
     ensures called { (end : End)
-        × Went env.now end
+        × Went (keeper.new ≡ keeper.old) env.now end
         (record {
           input = S.left source.old;
           input_faults = S.read_faults source.old;
@@ -46,5 +48,5 @@ pub fn cni<S: Source, K: Sink, D: Keeper>(
     ensures sink_rest { K.write_rest sink.new ≡ K.write_rest sink.old }
 {
     let end = make_call(alloc, env, source, keeper);
-    tell_end(alloc, sink, &end)
+    tell_end(sink, &end)
 }

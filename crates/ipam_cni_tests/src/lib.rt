@@ -7,6 +7,8 @@ mod broken;
 #[cfg(test)]
 mod broken_rows;
 #[cfg(test)]
+mod full;
+#[cfg(test)]
 mod play;
 #[cfg(test)]
 mod scenarios;

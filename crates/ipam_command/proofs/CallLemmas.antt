@@ -1,14 +1,15 @@
 -- A CNI call that goes well over rows with spare.
-use Rattle.std.proofs.Common.{◌≡◌, ℕ, ◌≤◌, ◌+◌, inl, inr, List, [], ◌++◌, length, Option, Some, None, Ok, refl, sym, ap, ◌∙◌, subst, arith, append-nil, length-append}
+use Rattle.std.proofs.Common.{◌≡◌, ℕ, ◌≤◌, ◌+◌, inl, inr, List, [], ◌++◌, length, Option, Some, None, Ok, Err, refl, sym, ap, ◌∙◌, subst, arith, append-nil, length-append}
 use Rattle.ipam_records.specs.declared.call.Row.{Row as RowText}
 use Rattle.ipam_records.specs.Datastore.{Datastore}
 use Rattle.cni_types.specs.declared.calls.Look.{Look}
 use Rattle.cni_types.specs.declared.calls.Look.TheVariants.{Gc, Status}
+use Rattle.cni_types.specs.declared.error.CniError.{CniError}
 use Rattle.cni_types.specs.Looking.{look_reading}
 use Rattle.cni_types.specs.Reading.{Pair}
 use Rattle.ipam_cni.specs.declared.end.CniEnd.{CniEnd}
 use Rattle.ipam_cni.specs.declared.end.CniEnd.TheVariants.{Told, Failed}
-use Rattle.ipam_cni.specs.declared.end.CniFault.TheVariants.{Read, Keeper, Memory}
+use Rattle.ipam_cni.specs.declared.end.CniFault.TheVariants.{Read, Undecodable, Keeper, Memory}
 use Rattle.ipam_cni.specs.Calls as cni
 use Rattle.ipam_cni.specs.Ends as cni_ends
 use Rattle.ipam_cni.specs.Replies.{ComesTo, Reply}
@@ -32,6 +33,10 @@ whole-input env bytes stdin old (Some rest) look is known looks =
     let none : rest ≡ [] = is.whole (omega arith) in
     sym (append-nil bytes) ∙ ap (λ (x : List ℕ). bytes ++ x) (sym none) ∙ same
 
+-- what is a call is no refusal
+no-call : (env : List Pair) (bytes stdin : List ℕ) (look : Look) (error : CniError) → bytes ≡ stdin → look_reading env stdin ≡ Ok look → look_reading env bytes ≡ Err error → ⊥
+no-call env bytes stdin look error same is refused = absurd (cc (ap (look_reading env) same, is, refused))
+
 -- this is what the call comes to, and it was said
 record IsReplied (env : List Pair) (stdin : List ℕ) (loaded : List RowText) (old new : CommandOutside) (status : ℕ) : Type 0 where
   reply : Reply
@@ -42,8 +47,8 @@ is-said : (own : ℕ) (text : List ℕ) (ending : CniEnd) (old new : CommandOuts
 is-said own text ending old new status (inl (is, same)) well = record { text = is.bytes; has_status = same }
 is-said own text ending old new status (inr (is, same)) well = absurd (well.sink is.fault)
 
-replied : (env : List Pair) (ending : CniEnd) (old new : CommandOutside) (status : ℕ) (look : Look) (store : Datastore) → cni.Went env ending (sides_of old) (sides_of new) → cni_ends.Tells ending old.written new.written old.write_faults new.write_faults status → (found : Finds env old look store) → GoesWell ending old new → IsReplied env found.stdin found.loaded old new status
-replied env (Told own text) old new status look store went tells found well =
+replied : (same : Type 0) (env : List Pair) (ending : CniEnd) (old new : CommandOutside) (status : ℕ) (look : Look) (store : Datastore) → cni.Went same env ending (sides_of old) (sides_of new) → cni_ends.Tells ending old.written new.written old.write_faults new.write_faults status → (found : Finds env old look store) → GoesWell ending old new → IsReplied env found.stdin found.loaded old new status
+replied kept env (Told own text) old new status look store went tells found well =
     let same = whole-input env went.stdin found.stdin old.left new.left look went.input found.input found.is_look in
     let comes = subst (λ (rows : Option (List RowText)). ComesTo env went.stdin rows new.rows (own, text)) found.rows went.ends.1 in
     record {
@@ -51,22 +56,25 @@ replied env (Told own text) old new status look store went tells found well =
       comes = subst (λ (stdin : List ℕ). ComesTo env stdin (Some found.loaded) new.rows (own, text)) same comes;
       said = is-said own text (Told own text) old new status tells well;
     }
-replied env (Failed version Read) old new status look store went tells found well = absurd (well.source went.input_faults)
-replied env (Failed version Keeper) old new status look store went tells found well = absurd (well.keeper went.ends.0)
-replied env (Failed version Memory) old new status look store went tells found well = absurd (well.memory version refl)
+replied kept env (Failed version Undecodable) old new status look store went tells found well =
+    let same = whole-input env went.stdin found.stdin old.left new.left look went.input found.input found.is_look in
+    absurd (no-call env went.stdin found.stdin look _ same found.is_look went.ends.1)
+replied kept env (Failed version Read) old new status look store went tells found well = absurd (well.source went.input_faults)
+replied kept env (Failed version Keeper) old new status look store went tells found well = absurd (well.keeper went.ends.0)
+replied kept env (Failed version Memory) old new status look store went tells found well = absurd (well.memory version refl)
 
-pub call_by_records : (env : List Pair) (ending : CniEnd) (old new : CommandOutside) (status : ℕ) → cni.Went env ending (sides_of old) (sides_of new) → cni_ends.Tells ending old.written new.written old.write_faults new.write_faults status → IsCallByRecords env ending old new status
-call_by_records env ending old new status went tells look asked version store result found begins spare says well =
-    let r = replied env ending old new status look store went tells found well in
+pub call_by_records : (same : Type 0) (env : List Pair) (ending : CniEnd) (old new : CommandOutside) (status : ℕ) → cni.Went same env ending (sides_of old) (sides_of new) → cni_ends.Tells ending old.written new.written old.write_faults new.write_faults status → IsCallByRecords env ending old new status
+call_by_records kept env ending old new status went tells look asked version store result found begins spare says well =
+    let r = replied kept env ending old new status look store went tells found well in
     record {
       reply = r.reply;
       by_records = by_records env found.stdin look asked version found.loaded new.rows r.reply store result found.is_look begins r.comes found.opens spare says;
       said = r.said;
     }
 
-pub never_says_try_again : (env : List Pair) (ending : CniEnd) (old new : CommandOutside) (status : ℕ) → cni.Went env ending (sides_of old) (sides_of new) → cni_ends.Tells ending old.written new.written old.write_faults new.write_faults status → NeverSaysTryAgain env ending old new status
-never_says_try_again env ending old new status went tells look asked version store found begins well =
-    let r = replied env ending old new status look store went tells found well in
+pub never_says_try_again : (same : Type 0) (env : List Pair) (ending : CniEnd) (old new : CommandOutside) (status : ℕ) → cni.Went same env ending (sides_of old) (sides_of new) → cni_ends.Tells ending old.written new.written old.write_faults new.write_faults status → NeverSaysTryAgain env ending old new status
+never_says_try_again kept env ending old new status went tells look asked version store found begins well =
+    let r = replied kept env ending old new status look store went tells found well in
     let is = spared.replied env found.stdin look asked version found.loaded new.rows r.reply store found.is_look begins found.opens r.comes in
     record {
       reply = is.is_told;
@@ -74,14 +82,14 @@ never_says_try_again env ending old new status went tells look asked version sto
       not_later = λ h. call_never_again env found.stdin look asked version (texts_loaded found.loaded) store found.is_look begins found.opens (subst SaysTryAgain (sym is.answer) h);
     }
 
-pub leaves_spared : (env : List Pair) (ending : CniEnd) (old new : CommandOutside) (status : ℕ) → cni.Went env ending (sides_of old) (sides_of new) → cni_ends.Tells ending old.written new.written old.write_faults new.write_faults status → LeavesWhatIsSpared env ending old new status
-leaves_spared env ending old new status went tells call store found spare well =
-    let r = replied env ending old new status (Gc call) store went tells found well in
+pub leaves_spared : (same : Type 0) (env : List Pair) (ending : CniEnd) (old new : CommandOutside) (status : ℕ) → cni.Went same env ending (sides_of old) (sides_of new) → cni_ends.Tells ending old.written new.written old.write_faults new.write_faults status → LeavesWhatIsSpared env ending old new status
+leaves_spared kept env ending old new status went tells call store found spare well =
+    let r = replied kept env ending old new status (Gc call) store went tells found well in
     let leaves = gc_leaves env found.stdin call found.loaded new.rows r.reply store found.is_look r.comes found.opens spare in
     (subst (λ (reply : Reply). IsSaid reply old new status) leaves.0 r.said, leaves.1)
 
-pub tells_of_add : (env : List Pair) (ending : CniEnd) (old new : CommandOutside) (status : ℕ) → cni.Went env ending (sides_of old) (sides_of new) → cni_ends.Tells ending old.written new.written old.write_faults new.write_faults status → TellsOfAdd env ending old new status
-tells_of_add env ending old new status went tells call store request found same sound spare well =
-    let r = replied env ending old new status (Status call) store went tells found well in
+pub tells_of_add : (same : Type 0) (env : List Pair) (ending : CniEnd) (old new : CommandOutside) (status : ℕ) → cni.Went same env ending (sides_of old) (sides_of new) → cni_ends.Tells ending old.written new.written old.write_faults new.write_faults status → TellsOfAdd env ending old new status
+tells_of_add kept env ending old new status went tells call store request found same sound spare well =
+    let r = replied kept env ending old new status (Status call) store went tells found well in
     let adds = status_adds env found.stdin call found.loaded new.rows r.reply store request found.is_look r.comes found.opens same sound spare in
     (λ zero. adds.0 (sym r.said.has_status ∙ zero), λ given. r.said.has_status ∙ adds.1 given)

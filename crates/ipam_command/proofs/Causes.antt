@@ -12,7 +12,7 @@ use Rattle.ipam_kept.specs.Broken.{broken_line}
 use Rattle.ipam_kept.specs.declared.kept.KeptFault.{KeptFault}
 use Rattle.ipam_kept.specs.declared.kept.KeptFault.TheVariants as fault
 use Rattle.ipam_words.specs.declared.texts.TheConstants.{HELP, VERSION}
-use Rattle.ipam_words.specs.Words.{Asked, Audit, Call, Cni, Play, Apply, Get, Help, Routes, Release, Gen, Serve, Version}
+use Rattle.ipam_words.specs.Words.{Asked, Audit, Call, Cni, Play, Apply, Get, Help, Routes, Release, Gen, Serve, Show, Version}
 use Rattle.ipam_play_run.specs.declared.end.PlayEnd.{PlayEnd}
 use Rattle.ipam_play_run.specs.declared.end.PlayEnd.TheVariants as play
 use Rattle.ipam_gen.specs.declared.end.GenEnd.{GenEnd}
@@ -25,6 +25,7 @@ use Rattle.ipam_commands.specs.declared.status.Status.TheVariants as status
 use Rattle.ipam_commands.specs.Releasing.{ReleaseEnds, ReleaseWrites, outcome_line, outcome_status}
 use Rattle.ipam_commands.specs.Statuses.{code_of}
 use Rattle.ipam_commands.specs.Telling.{Cut, FaultWrites, IsNotLoaded, NotOpened, Opened, Tells, Untold, Whole, Writes, keeper_line}
+use Rattle.ipam_commands.specs.Shown.{shown_text}
 use Rattle.ipam_commands.specs.Texts.{rows_text, routes_text}
 use Rattle.ipam_resources.specs.declared.resource.Resource.{Resource}
 use Rattle.ipam_resources.specs.Printed.{applied_line, fault_line, refused_line}
@@ -178,8 +179,8 @@ module _ (asked : Option Asked) (old new : CommandOutside) (ending : Status) (at
 
   document-cause : (same : Type 0) (document : List ℕ) → apply.DocumentEnds same document (kept_of old) (kept_of new) ending → Causes asked old new ending
   document-cause same document (apply.Good resources is ends) = resources-cause resources ends
-  document-cause same document (apply.Bad why is unasked says) = by-writes asked old new old.written (fault_line why) status.Refused ending says (λ e. tt)
-  document-cause same document (apply.NoRoom unasked untold) = no-memory untold.no_memory
+  document-cause same document (apply.Bad why is unasked says fixed) = by-writes asked old new old.written (fault_line why) status.Refused ending says (λ e. tt)
+  document-cause same document (apply.NoRoom readable unasked untold) = no-memory untold.no_memory
 
   apply-cause : (same : Type 0) → apply.ApplyEnds same (input_of old) (input_of new) (kept_of old) (kept_of new) ending → Causes asked old new ending
   apply-cause same (apply.Read document is faults ends) = document-cause same document ends
@@ -265,36 +266,36 @@ small-cause asked old new (suc (suc n)) small at_end = absurd (omega arith)
 cut-cause : (asked : Option Asked) (old new : CommandOutside) (code : ℕ) → Rose old.write_faults new.write_faults → code ≡ 4 → HasCause asked old new code
 cut-cause asked old new code rose is = record { ending = status.WriteFault; has_code = is; cause = rose }
 
-call-cause : (asked : Option Asked) (env : List Pair) (ending : CniEnd) (old new : CommandOutside) (code : ℕ) → (code ≡ 0 → IsAtEnd new.left)
-    → cni.Went env ending (sides_of old) (sides_of new) → cni_ends.Tells ending old.written new.written old.write_faults new.write_faults code → HasCause asked old new code
-call-cause asked env (Told own text) old new code at_end went (inl (is, same)) =
+call-cause : (same : Type 0) (asked : Option Asked) (env : List Pair) (ending : CniEnd) (old new : CommandOutside) (code : ℕ) → (code ≡ 0 → IsAtEnd new.left)
+    → cni.Went same env ending (sides_of old) (sides_of new) → cni_ends.Tells ending old.written new.written old.write_faults new.write_faults code → HasCause asked old new code
+call-cause kept asked env (Told own text) old new code at_end went (inl (is, same)) =
     small-cause asked old new code
     (subst (λ (n : ℕ). n ≤ 1) (sym same) (comes-small env went.stdin old.rows new.rows (own, text) went.ends.1)) at_end
-call-cause asked env (Told own text) old new code at_end went (inr (is, same)) = cut-cause asked old new code is.fault same
-call-cause asked env (Failed version why) old new code at_end went (inl (inl (is, same))) = small-cause asked old new code (omega arith) at_end
-call-cause asked env (Failed version why) old new code at_end went (inl (inr (is, same))) = cut-cause asked old new code is.fault same
-call-cause asked env (Failed version why) old new code at_end went (inr (is, same)) = record { ending = status.NoMemory; has_code = same; cause = tt }
+call-cause kept asked env (Told own text) old new code at_end went (inr (is, same)) = cut-cause asked old new code is.fault same
+call-cause kept asked env (Failed version why) old new code at_end went (inl (is, same)) = small-cause asked old new code (omega arith) at_end
+call-cause kept asked env (Failed version why) old new code at_end went (inr (is, same)) = cut-cause asked old new code is.fault same
 
 -- ---- all
 
-has-cause : (env : List Pair) (asked : Option Asked) (old new : CommandOutside) (code : ℕ) → Does env asked old new code → HasCause asked old new code
-has-cause env (Some Cni) old new code d = call-cause (Some Cni) env d.ending old new code d.at_end d.went d.tells
-has-cause env (Some Play) old new code d = play-cause old new code d
-has-cause env (Some (Gen count)) old new code d = gen-end (Some (Gen count)) old new code d.ending refl d.has_status d.faults
-has-cause env (Some (Get kind)) old new code d = tell-cause (Some (Get kind)) (λ rows store. rows_text kind rows) old new code refl d
-has-cause env (Some (Routes node)) old new code d = tell-cause (Some (Routes node)) (λ rows store. routes_text node store) old new code refl d
-has-cause env (Some (Release node cidr)) old new code d = release-cause (Some (Release node cidr)) node cidr old new code refl d
-has-cause env (Some Apply) old new code d = applied-cause (Some Apply) old new code d
-has-cause env (Some Help) old new code d = said-cause (Some Help) HELP.now status.Done old new code (unread (Some Help) old new refl) d.said
-has-cause env (Some Version) old new code d = said-cause (Some Version) VERSION.now status.Done old new code (unread (Some Version) old new refl) d.said
-has-cause env (Some (Audit workers)) old new code d = unknown-cause (Some (Audit workers)) old new code d
-has-cause env (Some (Serve address workers)) old new code d = unknown-cause (Some (Serve address workers)) old new code d
-has-cause env (Some (Call address)) old new code d = unknown-cause (Some (Call address)) old new code d
-has-cause env None old new code d = unknown-cause None old new code d
+has-cause : (same : Type 0) (env : List Pair) (asked : Option Asked) (old new : CommandOutside) (code : ℕ) → Does same env asked old new code → HasCause asked old new code
+has-cause kept env (Some Cni) old new code d = call-cause kept (Some Cni) env d.ending old new code d.at_end d.went d.tells
+has-cause kept env (Some Play) old new code d = play-cause old new code d
+has-cause kept env (Some (Gen count)) old new code d = gen-end (Some (Gen count)) old new code d.ending refl d.has_status d.faults
+has-cause kept env (Some (Get kind)) old new code d = tell-cause (Some (Get kind)) (λ rows store. rows_text kind rows) old new code refl d
+has-cause kept env (Some (Show view)) old new code d = tell-cause (Some (Show view)) (λ rows store. shown_text view store) old new code refl d
+has-cause kept env (Some (Routes node)) old new code d = tell-cause (Some (Routes node)) (λ rows store. routes_text node store) old new code refl d
+has-cause kept env (Some (Release node cidr)) old new code d = release-cause (Some (Release node cidr)) node cidr old new code refl d
+has-cause kept env (Some Apply) old new code d = applied-cause (Some Apply) old new code d
+has-cause kept env (Some Help) old new code d = said-cause (Some Help) HELP.now status.Done old new code (unread (Some Help) old new refl) d.said
+has-cause kept env (Some Version) old new code d = said-cause (Some Version) VERSION.now status.Done old new code (unread (Some Version) old new refl) d.said
+has-cause kept env (Some (Audit workers)) old new code d = unknown-cause (Some (Audit workers)) old new code d
+has-cause kept env (Some (Serve address workers)) old new code d = unknown-cause (Some (Serve address workers)) old new code d
+has-cause kept env (Some (Call address)) old new code d = unknown-cause (Some (Call address)) old new code d
+has-cause kept env None old new code d = unknown-cause None old new code d
 
-module _ (env : List Pair) (asked : Option Asked) (old new : CommandOutside) (code : ℕ) (d : Does env asked old new code) where
+module _ (same : Type 0) (env : List Pair) (asked : Option Asked) (old new : CommandOutside) (code : ℕ) (d : Does same env asked old new code) where
   causes-at : (other : Status) → code ≡ code_of other → Causes asked old new other
-  causes-at other is = cause-of asked old new code other (has-cause env asked old new code d) is
+  causes-at other is = cause-of asked old new code other (has-cause same env asked old new code d) is
 
   pub at_end : code ≡ 0 → reads asked ≡ true → IsAtEnd new.left
   at_end is = causes-at status.Done is
@@ -319,32 +320,34 @@ module _ (env : List Pair) (asked : Option Asked) (old new : CommandOutside) (co
 
 -- ---- what is left as it was
 
-pub leaves_source : (env : List Pair) (asked : Option Asked) (old new : CommandOutside) (code : ℕ) → Does env asked old new code → reads asked ≡ false → LeavesSource old new
-leaves_source env (Some Cni) old new code d quiet = absurd cc
-leaves_source env (Some Play) old new code d quiet = absurd cc
-leaves_source env (Some (Gen count)) old new code d quiet = d.source
-leaves_source env (Some (Get kind)) old new code d quiet = d.source
-leaves_source env (Some (Routes node)) old new code d quiet = d.source
-leaves_source env (Some (Release node cidr)) old new code d quiet = d.source
-leaves_source env (Some Apply) old new code d quiet = absurd cc
-leaves_source env (Some Help) old new code d quiet = d.source
-leaves_source env (Some Version) old new code d quiet = d.source
-leaves_source env (Some (Audit workers)) old new code d quiet = d.source
-leaves_source env (Some (Serve address workers)) old new code d quiet = d.source
-leaves_source env (Some (Call address)) old new code d quiet = d.source
-leaves_source env None old new code d quiet = d.source
+pub leaves_source : (same : Type 0) (env : List Pair) (asked : Option Asked) (old new : CommandOutside) (code : ℕ) → Does same env asked old new code → reads asked ≡ false → LeavesSource old new
+leaves_source kept env (Some Cni) old new code d quiet = absurd cc
+leaves_source kept env (Some Play) old new code d quiet = absurd cc
+leaves_source kept env (Some (Gen count)) old new code d quiet = d.source
+leaves_source kept env (Some (Get kind)) old new code d quiet = d.source
+leaves_source kept env (Some (Show view)) old new code d quiet = d.source
+leaves_source kept env (Some (Routes node)) old new code d quiet = d.source
+leaves_source kept env (Some (Release node cidr)) old new code d quiet = d.source
+leaves_source kept env (Some Apply) old new code d quiet = absurd cc
+leaves_source kept env (Some Help) old new code d quiet = d.source
+leaves_source kept env (Some Version) old new code d quiet = d.source
+leaves_source kept env (Some (Audit workers)) old new code d quiet = d.source
+leaves_source kept env (Some (Serve address workers)) old new code d quiet = d.source
+leaves_source kept env (Some (Call address)) old new code d quiet = d.source
+leaves_source kept env None old new code d quiet = d.source
 
-pub leaves_keeper : (env : List Pair) (asked : Option Asked) (old new : CommandOutside) (code : ℕ) → Does env asked old new code → asks_keeper asked ≡ false → LeavesKeeper old new
-leaves_keeper env (Some Cni) old new code d quiet = absurd cc
-leaves_keeper env (Some Play) old new code d quiet = d.keeper
-leaves_keeper env (Some (Gen count)) old new code d quiet = d.keeper
-leaves_keeper env (Some (Get kind)) old new code d quiet = absurd cc
-leaves_keeper env (Some (Routes node)) old new code d quiet = absurd cc
-leaves_keeper env (Some (Release node cidr)) old new code d quiet = absurd cc
-leaves_keeper env (Some Apply) old new code d quiet = absurd cc
-leaves_keeper env (Some Help) old new code d quiet = d.keeper
-leaves_keeper env (Some Version) old new code d quiet = d.keeper
-leaves_keeper env (Some (Audit workers)) old new code d quiet = d.keeper
-leaves_keeper env (Some (Serve address workers)) old new code d quiet = d.keeper
-leaves_keeper env (Some (Call address)) old new code d quiet = d.keeper
-leaves_keeper env None old new code d quiet = d.keeper
+pub leaves_keeper : (same : Type 0) (env : List Pair) (asked : Option Asked) (old new : CommandOutside) (code : ℕ) → Does same env asked old new code → asks_keeper asked ≡ false → LeavesKeeper old new
+leaves_keeper kept env (Some Cni) old new code d quiet = absurd cc
+leaves_keeper kept env (Some Play) old new code d quiet = d.keeper
+leaves_keeper kept env (Some (Gen count)) old new code d quiet = d.keeper
+leaves_keeper kept env (Some (Get kind)) old new code d quiet = absurd cc
+leaves_keeper kept env (Some (Show view)) old new code d quiet = absurd cc
+leaves_keeper kept env (Some (Routes node)) old new code d quiet = absurd cc
+leaves_keeper kept env (Some (Release node cidr)) old new code d quiet = absurd cc
+leaves_keeper kept env (Some Apply) old new code d quiet = absurd cc
+leaves_keeper kept env (Some Help) old new code d quiet = d.keeper
+leaves_keeper kept env (Some Version) old new code d quiet = d.keeper
+leaves_keeper kept env (Some (Audit workers)) old new code d quiet = d.keeper
+leaves_keeper kept env (Some (Serve address workers)) old new code d quiet = d.keeper
+leaves_keeper kept env (Some (Call address)) old new code d quiet = d.keeper
+leaves_keeper kept env None old new code d quiet = d.keeper

@@ -10,7 +10,7 @@ use Rattle.ipam_kept.specs.Broken.{broken_line}
 use Rattle.ipam_kept.specs.declared.kept.KeptFault.{KeptFault}
 use Rattle.ipam_kept.specs.declared.kept.KeptFault.TheVariants as fault
 use Rattle.ipam_words.specs.declared.texts.TheConstants.{HELP, VERSION}
-use Rattle.ipam_words.specs.Words.{Asked, Audit, Call, Cni, Play, Apply, Get, Help, Routes, Release, Gen, Serve, Version}
+use Rattle.ipam_words.specs.Words.{Asked, Audit, Call, Cni, Play, Apply, Get, Help, Routes, Release, Gen, Serve, Show, Version}
 use Rattle.ipam_play_run.specs.declared.end.PlayEnd.{PlayEnd}
 use Rattle.ipam_play_run.specs.declared.end.PlayEnd.TheVariants as play
 use Rattle.ipam_play_run.specs.Writing.{WritesAll}
@@ -25,6 +25,7 @@ use Rattle.ipam_commands.specs.declared.status.Status.TheVariants as status
 use Rattle.ipam_commands.specs.Releasing.{ReleaseEnds, ReleaseWrites, outcome_line, outcome_status}
 use Rattle.ipam_commands.specs.Statuses.{code_of}
 use Rattle.ipam_commands.specs.Telling.{AreOpened, Cut, NotOpened, Opened, Tells, Untold, Whole, Writes}
+use Rattle.ipam_commands.specs.Shown.{shown_text}
 use Rattle.ipam_commands.specs.Texts.{rows_text, routes_text}
 use Rattle.ipam_resources.specs.declared.resource.Resource.{Resource}
 use Rattle.ipam_resources.specs.Documents.{document_reading}
@@ -32,12 +33,15 @@ use Rattle.ipam_resources.specs.Printed.{applied_line, fault_line, refused_line}
 use Rattle.ipam_apply.specs.Applied as apply
 use Rattle.ipam_apply.specs.Applying as applying
 use Rattle.ipam_apply.specs.Inputs.{IsInput as IsDocument}
+use Rattle.cni_types.specs.declared.version.Version as versions
 use Rattle.cni_types.specs.Reading.{Pair}
+use Rattle.cni_types.specs.Texts.{error_text}
 use Rattle.ipam_cni.specs.declared.end.CniEnd.{CniEnd}
 use Rattle.ipam_cni.specs.declared.end.CniEnd.TheVariants.{Told, Failed}
 use Rattle.ipam_cni.specs.declared.end.CniFault.TheVariants as cni_fault
 use Rattle.ipam_cni.specs.Calls as cni
 use Rattle.ipam_cni.specs.Ends as cni_ends
+use Rattle.ipam_cni.specs.Replies.{Refused}
 use Rattle.ipam_command.specs.Commands as does
 use Rattle.ipam_command.specs.Commands.{Does, Says, input_of, kept_of, unknown_text}
 use Rattle.ipam_command.specs.Outside.{LeavesKeeper, CommandOutside, sides_of}
@@ -146,9 +150,9 @@ module _ (old new : CommandOutside) (well : NoFault old new) (code : ℕ) where
 
     document-end : (same : Type 0) (document : List ℕ) → IsDocument old.left new.left document → apply.DocumentEnds same document (kept_of old) (kept_of new) ending → IsComplete
     document-end same document input (apply.Good resources is ends) = resources-end document resources input is ends
-    document-end same document input (apply.Bad why is unasked says) =
+    document-end same document input (apply.Bad why is unasked says fixed) =
         or-else (λ whole. rules.Bad document why input is whole) (at-once (fault_line why) status.Refused ending has says)
-    document-end same document input (apply.NoRoom unasked none) = inl (untold none.no_memory)
+    document-end same document input (apply.NoRoom readable unasked none) = inl (untold none.no_memory)
 
     applied : (same : Type 0) → apply.ApplyEnds same (input_of old) (input_of new) (kept_of old) (kept_of new) ending → IsComplete
     applied same (apply.Read document input faults ends) = document-end same document input ends
@@ -197,30 +201,38 @@ module _ (old new : CommandOutside) (well : NoFault old new) (code : ℕ) where
 
   -- ---- a CNI call
 
-  called : (env : List Pair) (ending : CniEnd) → cni.Went env ending (sides_of old) (sides_of new) → cni_ends.Tells ending old.written new.written old.write_faults new.write_faults code
+  called : (same : Type 0) (env : List Pair) (ending : CniEnd) → cni.Went same env ending (sides_of old) (sides_of new) → cni_ends.Tells ending old.written new.written old.write_faults new.write_faults code
       → (code ≡ 6) ⊎ rules.OfCall env old new code
-  called env (Told own text) went (inl (is, same)) =
+  called kept env (Told own text) went (inl (is, same)) =
       inr (rules.Replied went.stdin (own, text) went.input went.ends.1 (record { text = is.bytes; has_status = same }))
-  called env (Told own text) went (inr (is, same)) = absurd (well.sink is.fault)
-  called env (Failed version cni_fault.Read) went tells = absurd (well.source went.input_faults)
-  called env (Failed version cni_fault.Keeper) went tells = absurd (well.keeper went.ends.0)
-  called env (Failed version cni_fault.Memory) went (inl (inl (is, same))) = inr (rules.NoMemory version (record { text = is.bytes; has_status = same }))
-  called env (Failed version cni_fault.Memory) went (inl (inr (is, same))) = absurd (well.sink is.fault)
-  called env (Failed version cni_fault.Memory) went (inr (is, same)) = inl same
+  called kept env (Told own text) went (inr (is, same)) = absurd (well.sink is.fault)
+  called kept env (Failed version cni_fault.Read) went tells = absurd (well.source went.input_faults)
+  called kept env (Failed version cni_fault.Undecodable) went (inl (is, same)) =
+      inr (rules.Replied went.stdin (1, error_text (cni_ends.fault_error version cni_fault.Undecodable)) went.input (Refused (cni_ends.fault_error version cni_fault.Undecodable) went.ends.1 went.ends.2) (record { text = is.bytes; has_status = same }))
+  called kept env (Failed version cni_fault.Undecodable) went (inr (is, same)) = absurd (well.sink is.fault)
+  called kept env (Failed version cni_fault.Keeper) went tells = absurd (well.keeper went.ends.0)
+  called kept env (Failed version cni_fault.Memory) (inl none) (inl (is, same)) =
+      inr (rules.Unread (record { rows = none.rows; keeper_faults = none.keeper_faults })
+      (record { text = is.bytes ∙ ap (λ (v : versions.Version). append_known old.written (error_text (cni_ends.fault_error v cni_fault.Memory))) none.in_version; has_status = same }))
+  called kept env (Failed version cni_fault.Memory) (inr went) (inl (is, same)) =
+      inr (rules.NoMemory went.stdin went.input
+      (record { text = is.bytes ∙ ap (λ (v : versions.Version). append_known old.written (error_text (cni_ends.fault_error v cni_fault.Memory))) went.in_version; has_status = same }))
+  called kept env (Failed version cni_fault.Memory) went (inr (is, same)) = absurd (well.sink is.fault)
 
 -- ---- all
 
-pub complete : (env : List Pair) (asked : Option Asked) (old new : CommandOutside) (code : ℕ) → Does env asked old new code → CompleteLaw env asked old new code
-complete env (Some Cni) old new code d well = called old new well code env d.ending d.went d.tells
-complete env (Some Play) old new code d well = played old new well code d.ending d.has_status d.played
-complete env (Some (Gen count)) old new code d well = generated old new well code count d.ending d.has_status d.written d.faults
-complete env (Some (Get kind)) old new code d well = told-rows old new well code (λ rows store. rows_text kind rows) d.ending d.has_status d.tells
-complete env (Some (Routes node)) old new code d well = told-rows old new well code (λ rows store. routes_text node store) d.ending d.has_status d.tells
-complete env (Some (Release node cidr)) old new code d well = released old new well code node cidr d.came d.ending _ d.has_status d.ends d.writes
-complete env (Some Apply) old new code d well = applied old new well code d.ending d.has_status (LeavesKeeper old new) d.ends
-complete env (Some Help) old new code d well = said old new well code HELP.now 0 d.said
-complete env (Some Version) old new code d well = said old new well code VERSION.now 0 d.said
-complete env (Some (Audit workers)) old new code d well = said old new well code unknown_text 2 d.said
-complete env (Some (Serve address workers)) old new code d well = said old new well code unknown_text 2 d.said
-complete env (Some (Call address)) old new code d well = said old new well code unknown_text 2 d.said
-complete env None old new code d well = said old new well code unknown_text 2 d.said
+pub complete : (same : Type 0) (env : List Pair) (asked : Option Asked) (old new : CommandOutside) (code : ℕ) → Does same env asked old new code → CompleteLaw env asked old new code
+complete kept env (Some Cni) old new code d well = called old new well code kept env d.ending d.went d.tells
+complete kept env (Some Play) old new code d well = played old new well code d.ending d.has_status d.played
+complete kept env (Some (Gen count)) old new code d well = generated old new well code count d.ending d.has_status d.written d.faults
+complete kept env (Some (Get kind)) old new code d well = told-rows old new well code (λ rows store. rows_text kind rows) d.ending d.has_status d.tells
+complete kept env (Some (Show view)) old new code d well = told-rows old new well code (λ rows store. shown_text view store) d.ending d.has_status d.tells
+complete kept env (Some (Routes node)) old new code d well = told-rows old new well code (λ rows store. routes_text node store) d.ending d.has_status d.tells
+complete kept env (Some (Release node cidr)) old new code d well = released old new well code node cidr d.came d.ending _ d.has_status d.ends d.writes
+complete kept env (Some Apply) old new code d well = applied old new well code d.ending d.has_status (LeavesKeeper old new) d.ends
+complete kept env (Some Help) old new code d well = said old new well code HELP.now 0 d.said
+complete kept env (Some Version) old new code d well = said old new well code VERSION.now 0 d.said
+complete kept env (Some (Audit workers)) old new code d well = said old new well code unknown_text 2 d.said
+complete kept env (Some (Serve address workers)) old new code d well = said old new well code unknown_text 2 d.said
+complete kept env (Some (Call address)) old new code d well = said old new well code unknown_text 2 d.said
+complete kept env None old new code d well = said old new well code unknown_text 2 d.said

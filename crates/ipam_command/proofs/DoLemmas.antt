@@ -24,13 +24,13 @@ use Rattle.ipam_commands.specs.Statuses.{code_of}
 use Rattle.ipam_command.specs.Statuses.{code_of_gen, code_of_play}
 
 -- what is done of what is asked
-pub asked : (env : List Pair) (one other : Option Asked) (old new : CommandOutside) (status : ℕ) → one ≡ other → Does env other old new status → Does env one old new status
-asked env one other old new status is does = subst (λ (a : Option Asked). Does env a old new status) (sym is) does
+pub asked : (same : Type 0) (env : List Pair) (one other : Option Asked) (old new : CommandOutside) (status : ℕ) → one ≡ other → Does same env other old new status → Does same env one old new status
+asked kept env one other old new status is does = subst (λ (a : Option Asked). Does kept env a old new status) (sym is) does
 
 -- words that name no command
-pub does-unknown : (env : List Pair) (words : Option Asked) (old new : CommandOutside) (status : ℕ) → words ≡ None → Says unknown_text 2 old.written new.written old.write_faults new.write_faults status
-    → LeavesSource old new → LeavesKeeper old new → Does env words old new status
-does-unknown env words old new status is told source keeper = asked env words None old new status is (record { said = told; source = source; keeper = keeper })
+pub does-unknown : (same : Type 0) (env : List Pair) (words : Option Asked) (old new : CommandOutside) (status : ℕ) → words ≡ None → Says unknown_text 2 old.written new.written old.write_faults new.write_faults status
+    → LeavesSource old new → LeavesKeeper old new → Does same env words old new status
+does-unknown kept env words old new status is told source keeper = asked kept env words None old new status is (record { said = told; source = source; keeper = keeper })
 
 pub does-play : (old new : CommandOutside) (ending : PlayEnd) (status : ℕ) → status ≡ code_of_play ending → PlayEnds old new ending → LeavesKeeper old new → DoesPlay old new status
 does-play old new ending status is played keeper = record { ending = ending; has_status = is; played = played; keeper = keeper }
@@ -50,8 +50,8 @@ does-tell text old new ending status is tells source rows = record { ending = en
 document-ends : {same other : Type 0} {document : List ℕ} {old new : apply_outside.Outside} {end : Status} → (same → other)
     → DocumentEnds same document old new end → DocumentEnds other document old new end
 document-ends weaker (Good resources is ends) = Good resources is ends
-document-ends weaker (Bad fault is same says) = Bad fault is (weaker same) says
-document-ends weaker (NoRoom same untold) = NoRoom (weaker same) untold
+document-ends weaker (Bad fault is same says fixed) = Bad fault is (weaker same) says fixed
+document-ends weaker (NoRoom readable same untold) = NoRoom readable (weaker same) untold
 
 pub apply-ends : {same other : Type 0} {input input' : Input} {old new : apply_outside.Outside} {end : Status} → (same → other)
     → ApplyEnds same input input' old new end → ApplyEnds other input input' old new end

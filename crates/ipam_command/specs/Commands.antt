@@ -5,7 +5,7 @@ use Rattle.ipam_io.specs.Counts.{Rose}
 use Rattle.ipam_io.specs.Streams.{AppendsPrefix}
 use Rattle.ipam_records.specs.declared.call.Row.{Row as RowText}
 use Rattle.ipam_records.specs.Datastore.{Datastore}
-use Rattle.ipam_words.specs.Words.{Asked, Audit, Call, Cni, Play, Apply, Get, Help, Routes, Release, Gen, Serve, Version}
+use Rattle.ipam_words.specs.Words.{Asked, Audit, Call, Cni, Play, Apply, Get, Help, Routes, Release, Gen, Serve, Show, Version}
 use Rattle.ipam_words.specs.declared.texts.TheConstants.{HELP, VERSION}
 use Rattle.ipam_play_run.specs.declared.end.PlayEnd.{PlayEnd}
 use Rattle.ipam_play_run.specs.declared.end.PlayEnd.TheVariants as play
@@ -15,6 +15,7 @@ use Rattle.ipam_headline.specs.Headline.{HasWrittenRight, HasWrittenSoFarRight, 
 use Rattle.ipam_headline.specs.Generating.{HasCountedRight}
 use Rattle.ipam_commands.specs.declared.status.Status.{Status}
 use Rattle.ipam_commands.specs.Telling.{Tells, Writes}
+use Rattle.ipam_commands.specs.Shown.{shown_text}
 use Rattle.ipam_commands.specs.Texts.{rows_text, routes_text}
 use Rattle.ipam_commands.specs.declared.outcome.ReleaseOutcome.{ReleaseOutcome}
 use Rattle.ipam_commands.specs.Releasing.{ReleaseEnds, ReleaseWrites}
@@ -84,7 +85,7 @@ pub record DoesGen (count : ℕ) (old new : CommandOutside) (status : ℕ) : Typ
   pub source : LeavesSource old new
   pub keeper : LeavesKeeper old new
 
--- ---- `get`, `get KIND` and `routes NODE`
+-- ---- `get`, `get KIND`, `show` and `routes NODE`
 
 -- this text is told of the keeper's rows, which stay as they are
 pub record DoesTell (text : List RowText → Datastore → List ℕ) (old new : CommandOutside) (status : ℕ) : Type 0 where
@@ -132,9 +133,9 @@ pub record DoesApply (old new : CommandOutside) (status : ℕ) : Type 0 where
 -- The call of this environment is made over the keeper's rows. Where it goes well it is never said that
 -- the call may be made again later. Where it goes well and the rows have spare, what it writes and leaves is as the function of the records says, what GC leaves is known by its
 -- owners, and STATUS tells of the ADD that asks for the same.
-pub record DoesCni (env : List Pair) (old new : CommandOutside) (status : ℕ) : Type 0 where
+pub record DoesCni (same : Type 0) (env : List Pair) (old new : CommandOutside) (status : ℕ) : Type 0 where
   pub ending : CniEnd
-  pub went : cni.Went env ending (sides_of old) (sides_of new)
+  pub went : cni.Went same env ending (sides_of old) (sides_of new)
   pub tells : cni_ends.Tells ending old.written new.written old.write_faults new.write_faults status
   pub never_later : NeverSaysTryAgain env ending old new status
   pub by_records : IsCallByRecords env ending old new status
@@ -146,18 +147,19 @@ pub record DoesCni (env : List Pair) (old new : CommandOutside) (status : ℕ) :
 -- ---- all
 
 -- What is done, by what the words ask. An audit, the daemon and its client are run by others; here their
--- words name no command.
-abbrev pub Does : (env : List Pair) → Option Asked → (old new : CommandOutside) → (status : ℕ) → Type 0
-Does env (Some Cni) old new status = DoesCni env old new status
-Does env (Some Play) old new status = DoesPlay old new status
-Does env (Some (Gen count)) old new status = DoesGen count old new status
-Does env (Some (Get kind)) old new status = DoesTell (λ rows store. rows_text kind rows) old new status
-Does env (Some (Routes node)) old new status = DoesTell (λ rows store. routes_text node store) old new status
-Does env (Some (Release node cidr)) old new status = DoesRelease node cidr old new status
-Does env (Some Apply) old new status = DoesApply old new status
-Does env (Some Help) old new status = DoesSay HELP.now 0 old new status
-Does env (Some Version) old new status = DoesSay VERSION.now 0 old new status
-Does env (Some (Audit workers)) old new status = IsUnknown old new status
-Does env (Some (Serve address workers)) old new status = IsUnknown old new status
-Does env (Some (Call address)) old new status = IsUnknown old new status
-Does env None old new status = IsUnknown old new status
+-- words name no command. `same` says that the keeper is the same.
+abbrev pub Does : (same : Type 0) → (env : List Pair) → Option Asked → (old new : CommandOutside) → (status : ℕ) → Type 0
+Does same env (Some Cni) old new status = DoesCni same env old new status
+Does same env (Some Play) old new status = DoesPlay old new status
+Does same env (Some (Gen count)) old new status = DoesGen count old new status
+Does same env (Some (Get kind)) old new status = DoesTell (λ rows store. rows_text kind rows) old new status
+Does same env (Some (Show view)) old new status = DoesTell (λ rows store. shown_text view store) old new status
+Does same env (Some (Routes node)) old new status = DoesTell (λ rows store. routes_text node store) old new status
+Does same env (Some (Release node cidr)) old new status = DoesRelease node cidr old new status
+Does same env (Some Apply) old new status = DoesApply old new status
+Does same env (Some Help) old new status = DoesSay HELP.now 0 old new status
+Does same env (Some Version) old new status = DoesSay VERSION.now 0 old new status
+Does same env (Some (Audit workers)) old new status = IsUnknown old new status
+Does same env (Some (Serve address workers)) old new status = IsUnknown old new status
+Does same env (Some (Call address)) old new status = IsUnknown old new status
+Does same env None old new status = IsUnknown old new status

@@ -7,7 +7,7 @@ use Rattle.ipam_records.specs.declared.call.Row.{Row as RowText}
 use Rattle.ipam_records.specs.Datastore.{Datastore}
 use Rattle.ipam_model.specs.declared.request.Request.TheVariants as request
 use Rattle.ipam_kept.specs.Broken.{broken_line}
-use Rattle.ipam_words.specs.Words.{Asked, Audit, Call, Cni, Play, Apply, Get, Help, Routes, Release, Gen, Serve, Version}
+use Rattle.ipam_words.specs.Words.{Asked, Audit, Call, Cni, Play, Apply, Get, Help, Routes, Release, Gen, Serve, Show, Version}
 use Rattle.ipam_words.specs.declared.texts.TheConstants.{HELP, VERSION}
 use Rattle.ipam_play.specs.Played.{Ending, Whole, LineRefused, NotOpened}
 use Rattle.ipam_play_run.specs.Writing.{WritesAll}
@@ -17,6 +17,7 @@ use Rattle.ipam_commands.specs.declared.outcome.ReleaseOutcome.{ReleaseOutcome}
 use Rattle.ipam_commands.specs.Releasing.{IsReleased, OpenedSo, outcome_line, outcome_status}
 use Rattle.ipam_commands.specs.Statuses.{code_of}
 use Rattle.ipam_commands.specs.Telling.{AreBroken, AreOpened}
+use Rattle.ipam_commands.specs.Shown.{shown_text}
 use Rattle.ipam_commands.specs.Texts.{rows_text, routes_text}
 use Rattle.ipam_resources.specs.declared.fault.DocumentFault.{DocumentFault}
 use Rattle.ipam_resources.specs.declared.refusal.Refusal.{Refusal}
@@ -26,16 +27,17 @@ use Rattle.ipam_resources.specs.Printed.{fault_line, refusal_of, refused_line}
 use Rattle.ipam_apply.specs.Applying.{AreApplied, alone_on, applied_lines}
 use Rattle.ipam_apply.specs.Inputs.{IsInput as IsDocument}
 use Rattle.std.specs.Prelude.{IfSome}
-use Rattle.cni_types.specs.declared.version.Version as versions
+use Rattle.cni_types.specs.declared.version.Version.TheVariants.{V1_0_0}
 use Rattle.cni_types.specs.Reading.{Pair}
 use Rattle.cni_types.specs.Texts.{error_text}
+use Rattle.ipam_call.specs.Versions.{version_for}
 use Rattle.ipam_cni.specs.declared.end.CniFault.TheVariants.{Memory}
 use Rattle.ipam_cni.specs.Calls.{IsInput}
 use Rattle.ipam_cni.specs.Ends.{fault_error}
 use Rattle.ipam_cni.specs.Replies.{ComesTo, Reply}
 use Rattle.ipam_command.specs.CniCalls.{IsSaid}
 use Rattle.ipam_command.specs.Commands.{unknown_text}
-use Rattle.ipam_command.specs.Outside.{CommandOutside}
+use Rattle.ipam_command.specs.Outside.{CommandOutside, LeavesKeeper}
 
 -- ---- which commands use what
 
@@ -46,11 +48,12 @@ reads (Some Apply) = true
 reads (Some Cni) = true
 reads _ = false
 
--- what asks the keeper: a CNI call, `apply`, `get`, `routes` and `release`
+-- what asks the keeper: a CNI call, `apply`, `get`, `show`, `routes` and `release`
 abbrev pub asks_keeper : Option Asked → Bool
 asks_keeper (Some Cni) = true
 asks_keeper (Some Apply) = true
 asks_keeper (Some (Get kind)) = true
+asks_keeper (Some (Show view)) = true
 asks_keeper (Some (Routes node)) = true
 asks_keeper (Some (Release node cidr)) = true
 asks_keeper _ = false
@@ -99,11 +102,14 @@ pub data OfApply (old new : CommandOutside) (written : Written) : Type 0 where
       → resources ≡ front ++ one ∷ rest → AreApplied store front before → refusal_of (alone_on before one).0 ≡ Some why
       → written (applied_lines front ++ refused_line one why) 1 → OfApply old new written
 
--- what the call comes to with what was read of the source; or that there was no memory
+-- what the call comes to with what was read of the source; or that there was no memory, in the version of
+-- the source's bytes, or in 1.0.0 where these could not be read
 pub data OfCall (env : List Pair) (old new : CommandOutside) (status : ℕ) : Type 0 where
   Replied : (stdin : List ℕ) (reply : Reply) → IsInput stdin old.left new.left → ComesTo env stdin old.rows new.rows reply
       → IsSaid reply old new status → OfCall env old new status
-  NoMemory : (version : versions.Version) → IsSaid (1, error_text (fault_error version Memory)) old new status
+  NoMemory : (stdin : List ℕ) → IsInput stdin old.left new.left → IsSaid (1, error_text (fault_error (version_for stdin) Memory)) old new status
+      → OfCall env old new status
+  Unread : LeavesKeeper old new → IsSaid (1, error_text (fault_error V1_0_0 Memory)) old new status
       → OfCall env old new status
 
 -- the status of a script that was played to this end
@@ -120,6 +126,8 @@ IsComplete env (Some Play) old new status =
 IsComplete env (Some (Gen count)) old new status = WritesSummary count old.written new.written × (status ≡ 0)
 IsComplete env (Some (Get kind)) old new status =
     OfRows old.rows (λ rows store. rows_text kind rows) (λ text own. IsWhole text own old new status)
+IsComplete env (Some (Show view)) old new status =
+    OfRows old.rows (λ rows store. shown_text view store) (λ text own. IsWhole text own old new status)
 IsComplete env (Some (Routes node)) old new status =
     OfRows old.rows (λ rows store. routes_text node store) (λ text own. IsWhole text own old new status)
 IsComplete env (Some (Release node cidr)) old new status =

@@ -9,7 +9,7 @@ ghost use Rattle.ipam_command.specs.Rules.{CompleteLaw, asks_keeper, reads};
 use crate::statuses::{code_of_gen, code_of_play};
 use ipam_apply::apply;
 use ipam_cni::cni;
-use ipam_commands::{DONE, UNKNOWN_WORDS, WRITE_FAULT, get, release, routes};
+use ipam_commands::{DONE, UNKNOWN_WORDS, WRITE_FAULT, get, release, routes, show};
 use ipam_gen::generate;
 use ipam_io::{Sink, Source};
 use ipam_keeper::Keeper;
@@ -34,7 +34,7 @@ pub fn run_command<S: Source, K: Sink, D: Keeper>(
     sink: &mut K,
     keeper: &mut D,
 ) -> u8
-    ensures does { Does env.now (command_named (map string_bytes words.now))
+    ensures does { Does (keeper.new ≡ keeper.old) env.now (command_named (map string_bytes words.now))
         (record {
           left = S.left source.old;
           read_faults = S.read_faults source.old;
@@ -96,7 +96,7 @@ fn run_named<S: Source, K: Sink, D: Keeper>(
     sink: &mut K,
     keeper: &mut D,
 ) -> u8
-    ensures does { Does env.now (command_named (map string_bytes words.now))
+    ensures does { Does (keeper.new ≡ keeper.old) env.now (command_named (map string_bytes words.now))
         (record {
           left = S.left source.old;
           read_faults = S.read_faults source.old;
@@ -117,7 +117,7 @@ fn run_named<S: Source, K: Sink, D: Keeper>(
     ensures sink_rest { K.write_rest sink.new ≡ K.write_rest sink.old }
 {
     match read_words(words) {
-        Some(command) => run(alloc, command, env, source, sink, keeper),
+        Some(command) => run(alloc, &command, env, source, sink, keeper),
         None => unknown(sink),
     }
 }
@@ -125,14 +125,14 @@ fn run_named<S: Source, K: Sink, D: Keeper>(
 /// Runs the command.
 fn run<S: Source, K: Sink, D: Keeper>(
     alloc: Global,
-    command: Command<'_>,
+    command: &Command<'_>,
     env: &[(Text, Text)],
     source: &mut S,
     sink: &mut K,
     keeper: &mut D,
 ) -> u8
-    requires { IsSound (asked_by command) }
-    ensures does { Does env.now (Some (asked_by command.entry))
+    requires { IsSound (asked_by command.now) }
+    ensures does { Does (keeper.new ≡ keeper.old) env.now (Some (asked_by command.now))
         (record {
           left = S.left source.old;
           read_faults = S.read_faults source.old;
@@ -154,10 +154,11 @@ fn run<S: Source, K: Sink, D: Keeper>(
 {
     match command {
         Command::Play => code_of_play(play(alloc, source, sink)),
-        Command::Gen(count) => code_of_gen(generate(alloc, count, sink)),
-        Command::Get(kind) => get(alloc, sink, keeper, kind).code(),
+        Command::Gen(count) => code_of_gen(generate(alloc, *count, sink)),
+        Command::Get(kind) => get(alloc, sink, keeper, *kind).code(),
+        Command::Show(view) => show(alloc, sink, keeper, view).code(),
         Command::Routes(node) => routes(alloc, sink, keeper, node).code(),
-        Command::Release(node, block) => release(alloc, sink, keeper, node, block).code(),
+        Command::Release(node, block) => release(alloc, sink, keeper, node, *block).code(),
         Command::Cni => cni(alloc, env, source, sink, keeper),
         Command::Apply => apply(alloc, source, sink, keeper).code(),
         Command::Help => say(sink, HELP, DONE),

@@ -3,4 +3,5 @@ pub mod Courses
 pub mod Releasing
 pub mod Telling
 pub mod Texts
+pub mod Shown
 pub mod Statuses

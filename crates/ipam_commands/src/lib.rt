@@ -6,6 +6,7 @@ mod loading;
 mod outcome;
 mod releasing;
 mod routing;
+mod showing;
 mod status;
 mod telling;
 
@@ -13,6 +14,7 @@ pub use getting::get;
 pub use outcome::ReleaseOutcome;
 pub use releasing::release;
 pub use routing::routes;
+pub use showing::show;
 pub use status::{
     BROKEN_ROWS, DONE, KEEPER_FAULT, LINE_REFUSED, NO_MEMORY, READ_FAULT, REFUSED, Status,
     UNKNOWN_WORDS, WRITE_FAULT,

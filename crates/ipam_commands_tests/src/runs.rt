@@ -1,10 +1,10 @@
 //! A command is run by its words.
-use ipam_addr::{is_name, read_cidr};
+use ipam_addr::{is_name, read_addr, read_cidr};
 use ipam_apply::apply;
-use ipam_commands::{Status, get, release, routes};
+use ipam_commands::{Status, get, release, routes, show};
 use ipam_io::{MemorySink, MemorySource};
 use ipam_keeper::{KeepFault, Keeper, MemoryKeeper};
-use ipam_words::RowKind;
+use ipam_words::{RowKind, View};
 use std::alloc::{AllocError, Global};
 use std::process::Abort;
 use std::str;
@@ -54,9 +54,27 @@ fn run<D: Keeper>(
     match word {
         "apply" => run_apply(alloc, rest, sink, keeper),
         "get" => Ok(get(alloc, sink, keeper, RowKind::of(rest))),
+        "show" => Ok(run_show(alloc, rest, sink, keeper)),
         "routes" => Ok(routes(alloc, sink, keeper, rest)),
         "release" => Ok(run_release(alloc, rest, sink, keeper)),
         _ => Ok(Status::UnknownWords),
+    }
+}
+
+fn run_show<D: Keeper>(alloc: Global, rest: &str, sink: &mut MemorySink, keeper: &mut D) -> Status {
+    match rest {
+        "" => show(alloc, sink, keeper, &View::Pools),
+        "--json" => show(alloc, sink, keeper, &View::Json),
+        "blocks" => show(alloc, sink, keeper, &View::Blocks),
+        _ => show_one(alloc, rest, sink, keeper),
+    }
+}
+
+/// Shows the address, or the node.
+fn show_one<D: Keeper>(alloc: Global, text: &str, sink: &mut MemorySink, keeper: &mut D) -> Status {
+    match read_addr(text.as_bytes()) {
+        Ok(addr) => show(alloc, sink, keeper, &View::Address(addr)),
+        Err(_) => show(alloc, sink, keeper, &View::Node(text)),
     }
 }
 

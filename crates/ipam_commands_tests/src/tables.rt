@@ -78,6 +78,18 @@ pools 1 {\"pools\":[{\"blockSize\":30,\"cidr\":\"10.0.0.0/29\",\"disabled\":fals
 ⇒0 10.0.0.0/30\n\
 †routes b\
 ⇒0 10.0.0.4/30\n\
+†show\
+⇒0 CIDR         NAME  ADDRESSES  USED  FREE IN BLOCKS  PERCENT USED  BLOCKS\n10.0.0.0/29     p          8     2               6           25%       2\ntotal                            2               6                     2\n\
+†show --json\
+⇒0 {\"blocks\":2,\"freeInBlocks\":6,\"pools\":[{\"addresses\":\"8\",\"blocks\":2,\"cidr\":\"10.0.0.0/29\",\"freeInBlocks\":6,\"name\":\"p\",\"used\":2}],\"used\":2}\n\
+†show blocks\
+⇒0 BLOCK        NODE      STATE  USED  BORROWED\n10.0.0.0/30     a  confirmed   1/4         -\n10.0.0.4/30     b  confirmed   1/4         -\n\
+†show 10.0.0.4\
+⇒0 10.0.0.4 in use\nhandle n.c2\nattributes {}\nblock 10.0.0.4/30\nnode b\n\
+†show 10.0.0.5\
+⇒0 10.0.0.5 free\n\
+†show b\
+⇒0 BLOCK        ADDRESSES  USED\n10.0.0.4/30          4     1\ntotal                      1\n\
 †get affinity\
 ⇒0 affinity/a/10.0.0.0/30 4 {\"cidr\":\"10.0.0.0/30\",\"node\":\"a\",\"state\":\"confirmed\"}\naffinity/b/10.0.0.0/30 7 {\"cidr\":\"10.0.0.0/30\",\"node\":\"b\",\"state\":\"pending\"}\naffinity/b/10.0.0.4/30 10 {\"cidr\":\"10.0.0.4/30\",\"node\":\"b\",\"state\":\"confirmed\"}\n\
 †get handle\

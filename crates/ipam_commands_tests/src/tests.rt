@@ -30,7 +30,7 @@ fn releases(rt: HostRuntime) -> Result<(), Fail> {
 #[test]
 fn tells_routes(rt: HostRuntime) -> Result<(), Fail> {
     let count = count_of(&rt, rt.alloc(), ROUTED)?;
-    assert_eq!(rt; count, 4);
+    assert_eq!(rt; count, 10);
     Ok(())
 }
 

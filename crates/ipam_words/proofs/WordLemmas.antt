@@ -4,13 +4,14 @@ use Rattle.std.specs.Prelude.{bytes_eq, codes, nat_le, option_map, option_and_th
 use Rattle.std.proofs.lemmas.Bool.{leb-true}
 use Rattle.ipam_addr.specs.declared.cidrs.AddrFault.{AddrFault}
 use Rattle.ipam_addr.specs.Names.{is_name_text}
-use Rattle.ipam_addr.specs.Shape.{CidrValue}
-use Rattle.ipam_addr.specs.Text.{cidr_reading}
+use Rattle.ipam_addr.specs.Shape.{AddrValue, CidrValue}
+use Rattle.ipam_addr.specs.Text.{address_of, cidr_reading}
 use Rattle.ipam_words.specs.declared.command.Command.{Command}
 use Rattle.ipam_words.specs.declared.kind.RowKind.{RowKind}
 use Rattle.ipam_words.specs.declared.reading.TheConstants.{MOST_WORKERS}
 use Rattle.ipam_words.specs.Kinds.{kind_named}
-use Rattle.ipam_words.specs.Words.{AreWorkers, Asked, Cni, Play, Apply, Get, Routes, Gen, Audit, Serve, Call, Help, Version, IsSound, asked_by, audit_named, count_named, count_of, first_named, get_named, get_of, number_of, release_named, release_of, routes_named, second_named, serve_named, word_named, workers_of, workers_within}
+use Rattle.ipam_words.specs.Views as seen
+use Rattle.ipam_words.specs.Words.{AreWorkers, Asked, Cni, Play, Apply, Get, Routes, Gen, Show, Audit, Serve, Call, Help, Version, IsSound, address_seen, asked_by, audit_named, command_named, count_named, count_of, first_named, get_named, get_of, node_named, number_of, release_named, release_of, routes_named, second_named, serve_named, view_named, word_named, workers_of, workers_within}
 
 -- what is asked, if anything, is sound
 abbrev AllSound : Option Asked → Type 0
@@ -28,8 +29,9 @@ one-word word =
     (if-sound (bytes_eq word (codes "play")) (Some Play) _ tt
     (if-sound (bytes_eq word (codes "apply")) (Some Apply) _ tt
     (if-sound (bytes_eq word (codes "get")) (Some (Get None)) _ tt
+    (if-sound (bytes_eq word (codes "show")) (Some (Show seen.Pools)) _ tt
     (if-sound (bytes_eq word (codes "--help")) (Some Help) _ tt
-    (if-sound (bytes_eq word (codes "--version")) (Some Version) None tt tt)))))
+    (if-sound (bytes_eq word (codes "--version")) (Some Version) None tt tt))))))
 
 get-sound : (kind : Option RowKind) → AllSound (get_of kind)
 get-sound None = tt
@@ -42,6 +44,20 @@ gen-sound (Some count) = tt
 routes-sound : (node : List ℕ) → AllSound (routes_named node)
 unfolding routes_named
 routes-sound node = if-sound (is_name_text node) (Some (Routes node)) None tt tt
+
+address-sound : (address : Option AddrValue) → AllSound (address_seen address)
+address-sound None = tt
+address-sound (Some address) = tt
+
+view-sound : (word : List ℕ) → AllSound (view_named word)
+unfolding view_named
+view-sound word =
+    if-sound (bytes_eq word (codes "--json")) (Some (Show seen.Json)) _ tt
+    (if-sound (bytes_eq word (codes "blocks")) (Some (Show seen.Blocks)) (address_seen (address_of word)) tt (address-sound (address_of word)))
+
+node-sound : (word node : List ℕ) → AllSound (node_named word node)
+unfolding node_named
+node-sound word node = if-sound (bytes_eq word (codes "node") && is_name_text node) (Some (Show (seen.Node node))) None tt tt
 
 -- ---- workers
 
@@ -75,10 +91,11 @@ two-words : (word first : List ℕ) → AllSound (first_named word first)
 unfolding first_named
 two-words word first =
     if-sound (bytes_eq word (codes "get")) (get_named first) _ (get-sound (kind_named first))
+    (if-sound (bytes_eq word (codes "show")) (view_named first) _ (view-sound first)
     (if-sound (bytes_eq word (codes "routes")) (routes_named first) _ (routes-sound first)
     (if-sound (bytes_eq word (codes "gen")) (count_named first) _ (gen-sound (count_of first))
     (if-sound (bytes_eq word (codes "audit")) (audit_named first) _ (audit-sound (workers_of first) (number-workers (number_of first)))
-    (if-sound (bytes_eq word (codes "call")) (Some (Call first)) None tt tt))))
+    (if-sound (bytes_eq word (codes "call")) (Some (Call first)) None tt tt)))))
 
 block-sound : (node : List ℕ) (read : Result CidrValue AddrFault) → is_name_text node ≡ true → AllSound (release_of node read)
 block-sound node (Ok cidr) named = named
@@ -96,7 +113,8 @@ three-words : (word first second : List ℕ) → AllSound (second_named word fir
 unfolding second_named
 three-words word first second =
     if-sound (bytes_eq word (codes "release")) (release_named first second) _ (release-sound first second)
-    (if-sound (bytes_eq word (codes "serve")) (serve_named first second) None (serve-sound first (workers_of second) (number-workers (number_of second))) tt)
+    (if-sound (bytes_eq word (codes "serve")) (serve_named first second) _ (serve-sound first (workers_of second) (number-workers (number_of second)))
+    (if-sound (bytes_eq word (codes "show")) (node_named first second) None (node-sound first second) tt))
 
 -- ---- what was read
 

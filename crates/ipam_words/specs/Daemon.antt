@@ -1,7 +1,7 @@
 -- Which daemon is asked, and what.
 use Rattle.std.specs.Prelude.{ℕ, List, [], ◌∷◌, Bool, true, false, codes, bytes_eq, Option, Some, None, option_map, if◌then◌else◌}
 use Rattle.ipam_words.specs.declared.daemon.DaemonAsk.{DaemonAsk}
-use Rattle.ipam_words.specs.Words.{Asked, Cni, Play, Apply, Get, Routes, Release, Gen, Audit, Serve, Call, Help, Version, asked_by, command_named}
+use Rattle.ipam_words.specs.Words.{Asked, Cni, Play, Apply, Get, Show, Routes, Release, Gen, Audit, Serve, Call, Help, Version, asked_by, command_named}
 
 -- the address of a daemon, and what it is asked
 abbrev pub ask_of : DaemonAsk → List ℕ × Option Asked
@@ -13,6 +13,7 @@ is_of_daemon Cni = false
 is_of_daemon Play = false
 is_of_daemon Apply = true
 is_of_daemon (Get kind) = false
+is_of_daemon (Show view) = false
 is_of_daemon (Routes node) = true
 is_of_daemon (Release node cidr) = true
 is_of_daemon (Gen count) = false

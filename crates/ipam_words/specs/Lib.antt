@@ -1,4 +1,5 @@
 -- What words name.
 pub mod Kinds
+pub mod Views
 pub mod Words
 pub mod Daemon

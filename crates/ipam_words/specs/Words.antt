@@ -4,13 +4,15 @@ use Rattle.std.specs.Str.Parse.{digits_value}
 use Rattle.ipam_json.specs.Path.{is_index}
 use Rattle.ipam_addr.specs.declared.cidrs.AddrFault.{AddrFault}
 use Rattle.ipam_addr.specs.Names.{is_name_text}
-use Rattle.ipam_addr.specs.Shape.{CidrValue}
-use Rattle.ipam_addr.specs.Text.{cidr_reading}
+use Rattle.ipam_addr.specs.Shape.{AddrValue, CidrValue}
+use Rattle.ipam_addr.specs.Text.{address_of, cidr_reading}
 use Rattle.ipam_words.specs.declared.command.Command.{Command}
 use Rattle.ipam_words.specs.declared.command.Command.TheVariants as command
 use Rattle.ipam_words.specs.declared.kind.RowKind.{RowKind}
 use Rattle.ipam_words.specs.declared.reading.TheConstants.{MOST_GENERATED, MOST_WORKERS}
 use Rattle.ipam_words.specs.Kinds.{kind_named}
+use Rattle.ipam_words.specs.Views.{Seen, seen_by}
+use Rattle.ipam_words.specs.Views as seen
 
 -- what is asked, as `Command` has it, with the name itself in place of a loan
 pub data Asked : Type 0 where
@@ -18,6 +20,7 @@ pub data Asked : Type 0 where
   Play : Asked
   Apply : Asked
   Get : Option RowKind → Asked
+  Show : Seen → Asked
   Routes : List ℕ → Asked
   Release : List ℕ → CidrValue → Asked
   Gen : ℕ → Asked
@@ -32,6 +35,7 @@ asked_by command.Cni = Cni
 asked_by command.Play = Play
 asked_by command.Apply = Apply
 asked_by (command.Get kind) = Get kind
+asked_by (command.Show view) = Show (seen_by view)
 asked_by (command.Routes node) = Routes node.now
 asked_by (command.Release node cidr) = Release node.now cidr
 asked_by (command.Gen count) = Gen count
@@ -49,9 +53,10 @@ word_named word =
     else (if bytes_eq word (codes "play") then Some Play
     else (if bytes_eq word (codes "apply") then Some Apply
     else (if bytes_eq word (codes "get") then Some (Get None)
+    else (if bytes_eq word (codes "show") then Some (Show seen.Pools)
     else (if bytes_eq word (codes "--help") then Some Help
     else (if bytes_eq word (codes "--version") then Some Version
-    else None)))))
+    else None))))))
 
 -- ---- two words
 
@@ -61,6 +66,17 @@ get_of (Some kind) = Some (Get (Some kind))
 
 abbrev pub get_named : List ℕ → Option Asked
 get_named word = get_of (kind_named word)
+
+abbrev pub address_seen : Option AddrValue → Option Asked
+address_seen (Some address) = Some (Show (seen.Address address))
+address_seen None = None
+
+-- the pools as JSON, the blocks, or the address that the word writes
+unfoldable pub view_named : List ℕ → Option Asked
+view_named word =
+    if bytes_eq word (codes "--json") then Some (Show seen.Json)
+    else (if bytes_eq word (codes "blocks") then Some (Show seen.Blocks)
+    else address_seen (address_of word))
 
 unfoldable pub routes_named : List ℕ → Option Asked
 routes_named node = if is_name_text node then Some (Routes node) else None
@@ -95,11 +111,12 @@ audit_named word = option_map Audit (workers_of word)
 unfoldable pub first_named : (word first : List ℕ) → Option Asked
 first_named word first =
     if bytes_eq word (codes "get") then get_named first
+    else (if bytes_eq word (codes "show") then view_named first
     else (if bytes_eq word (codes "routes") then routes_named first
     else (if bytes_eq word (codes "gen") then count_named first
     else (if bytes_eq word (codes "audit") then audit_named first
     else (if bytes_eq word (codes "call") then Some (Call first)
-    else None))))
+    else None)))))
 
 -- ---- three words
 
@@ -113,11 +130,16 @@ release_named node block = if is_name_text node then release_of node (cidr_readi
 abbrev pub serve_named : (address word : List ℕ) → Option Asked
 serve_named address word = option_map (Serve address) (workers_of word)
 
+unfoldable pub node_named : (word node : List ℕ) → Option Asked
+node_named word node =
+    if bytes_eq word (codes "node") && is_name_text node then Some (Show (seen.Node node)) else None
+
 unfoldable pub second_named : (word first second : List ℕ) → Option Asked
 second_named word first second =
     if bytes_eq word (codes "release") then release_named first second
     else (if bytes_eq word (codes "serve") then serve_named first second
-    else None)
+    else (if bytes_eq word (codes "show") then node_named first second
+    else None))
 
 -- ---- all words
 

@@ -1,4 +1,5 @@
 use crate::kind::RowKind;
+use crate::view::View;
 use ipam_addr::Cidr;
 
 /// What the words of a command line ask.
@@ -12,6 +13,8 @@ pub enum Command<'a> {
     Apply,
     /// Writes the rows, or those of one kind.
     Get(Option<RowKind>),
+    /// Shows the pools, the blocks, an address or a node.
+    Show(View<'a>),
     /// Writes the blocks that are confirmed to the node. The name is one of a node.
     Routes(&'a str),
     /// The node gives up the block. The name is one of a node.

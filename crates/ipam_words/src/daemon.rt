@@ -79,6 +79,7 @@ fn is_of_daemon(command: &Command<'_>) -> bool
         Command::Cni
         | Command::Play
         | Command::Get(_)
+        | Command::Show(_)
         | Command::Gen(_)
         | Command::Audit(_)
         | Command::Serve(_, _)

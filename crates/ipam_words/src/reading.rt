@@ -1,9 +1,11 @@
 ghost use Rattle.std.specs.Prelude.{◌≡◌, IfSome, option_map, map, string_bytes};
-ghost use Rattle.ipam_words.specs.Words.{IsSound, asked_by, audit_named, command_named, count_named, count_of, first_named, get_named, number_of, release_named, routes_named, second_named, serve_named, word_named, workers_of};
+ghost use Rattle.ipam_addr.specs.Text.{address_of};
+ghost use Rattle.ipam_words.specs.Words.{IsSound, address_seen, asked_by, audit_named, command_named, count_named, count_of, first_named, get_named, node_named, number_of, release_named, routes_named, second_named, serve_named, view_named, word_named, workers_of};
 
 use crate::command::Command;
 use crate::kind::RowKind;
-use ipam_addr::{is_name, read_cidr};
+use crate::view::View;
+use ipam_addr::{is_name, read_addr, read_cidr};
 use ipam_json::is_index;
 
 /// The most requests that are generated.
@@ -38,6 +40,7 @@ fn word_named<'a>(word: &'a str) -> Option<Command<'a>>
         "play" => Some(Command::Play),
         "apply" => Some(Command::Apply),
         "get" => Some(Command::Get(None)),
+        "show" => Some(Command::Show(View::Pools)),
         "--help" => Some(Command::Help),
         "--version" => Some(Command::Version),
         _ => None,
@@ -50,6 +53,7 @@ fn first_named<'a>(word: &str, first: &'a str) -> Option<Command<'a>>
 {
     match word {
         "get" => kind_named(first),
+        "show" => view_named(first),
         "routes" => routes_named(first),
         "gen" => count_named(first),
         "audit" => audit_named(first),
@@ -64,6 +68,26 @@ fn kind_named<'a>(word: &str) -> Option<Command<'a>>
     match RowKind::of(word) {
         Some(kind) => Some(Command::Get(Some(kind))),
         None => None,
+    }
+}
+
+#[tactic(auto, unfolding(crate::specs::Words::view_named))]
+fn view_named<'a>(word: &str) -> Option<Command<'a>>
+    ensures { option_map asked_by result ≡ view_named word.now }
+{
+    match word {
+        "--json" => Some(Command::Show(View::Json)),
+        "blocks" => Some(Command::Show(View::Blocks)),
+        _ => address_named(word),
+    }
+}
+
+fn address_named<'a>(word: &str) -> Option<Command<'a>>
+    ensures { option_map asked_by result ≡ address_seen (address_of word.now) }
+{
+    match read_addr(word.as_bytes()) {
+        Ok(address) => Some(Command::Show(View::Address(address))),
+        Err(_) => None,
     }
 }
 
@@ -97,13 +121,25 @@ fn audit_named<'a>(word: &str) -> Option<Command<'a>>
 }
 
 #[tactic(auto, unfolding(crate::specs::Words::second_named))]
-fn second_named<'a>(word: &str, first: &'a str, second: &str) -> Option<Command<'a>>
+fn second_named<'a>(word: &str, first: &'a str, second: &'a str) -> Option<Command<'a>>
     ensures { option_map asked_by result ≡ second_named word.now first.now second.now }
 {
     match word {
         "release" => release_named(first, second),
         "serve" => serve_named(first, second),
+        "show" => node_named(first, second),
         _ => None,
+    }
+}
+
+#[tactic(auto, unfolding(crate::specs::Words::node_named))]
+fn node_named<'a>(word: &str, node: &'a str) -> Option<Command<'a>>
+    ensures { option_map asked_by result ≡ node_named word.now node.now }
+{
+    if word == "node" && is_name(node.as_bytes()) {
+        Some(Command::Show(View::Node(node)))
+    } else {
+        None
     }
 }
 

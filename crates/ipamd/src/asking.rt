@@ -1,15 +1,17 @@
 //! The operator's words over a running daemon.
+ghost use Rattle.std.specs.Prelude.{◌≡◌, codes, map, option_map, string_bytes};
+ghost use Rattle.ipam_environment.specs.Daemon.{address_of};
+ghost use Rattle.ipam_environment.specs.Values.{last_value};
+ghost use Rattle.ipam_words.specs.Daemon.{ask_of, daemon_asked};
+
 use crate::telling::{tell_unasked, tell_unreached};
 use ipam_client::{Address, Connector, Connects, Limits};
 use ipam_environment::daemon_named;
 use ipam_io::{Link, Sink, StdSink, StdSource};
 use ipam_operator::{End, apply, release, routes, unreached};
 use ipam_text::Seq;
-use ipam_words::{Command, read_words};
+use ipam_words::{Command, DaemonAsk, daemon_asked};
 use std::io;
-
-/// The word before the daemon's address.
-const DAEMON: &str = "--daemon";
 
 /// The exit status of words that no daemon is asked.
 const UNKNOWN_WORDS: u8 = 2;
@@ -17,38 +19,19 @@ const UNKNOWN_WORDS: u8 = 2;
 /// The exit status where standard output fails.
 const WRITE_FAULT: u8 = 4;
 
-/// The daemon's address and what it is asked: where the words begin with `--daemon ADDRESS`, or where
-/// the environment names a daemon and the words are among those that it can be asked.
-pub(crate) fn asked_of<'a>(
-    words: &'a [String],
-    entries: &'a [Seq<u8>],
-) -> Option<(&'a str, &'a [String])> {
-    match words {
-        [first, address, rest @ ..] if first.as_str() == DAEMON => Some((address.as_str(), rest)),
-        _ if is_asked(words) => daemon_named(entries).map(|address| (address, words)),
-        _ => None,
-    }
+/// The address of the daemon that is asked, and what it is asked: by `--daemon ADDRESS` before the words, or
+/// by the last `IPAM_DAEMON` of the environment.
+pub(crate) fn asked_of<'a>(words: &'a [String], entries: &'a [Seq<u8>]) -> Option<DaemonAsk<'a>>
+    ensures { option_map ask_of result
+        ≡ daemon_asked (map string_bytes words.now) (address_of (last_value (codes "IPAM_DAEMON") entries.now)) }
+{
+    daemon_asked(words, daemon_named(entries))
 }
 
-/// Whether a daemon can be asked the words.
-fn is_asked(words: &[String]) -> bool {
-    match read_words(words) {
-        Some(command) => is_of_daemon(&command),
-        None => false,
-    }
-}
-
-fn is_of_daemon(command: &Command<'_>) -> bool {
-    match command {
-        Command::Apply | Command::Routes(_) | Command::Release(_, _) => true,
-        _ => false,
-    }
-}
-
-/// Asks the daemon at the address, and answers the exit status.
-pub(crate) fn ask(rt: &HostRuntime, address: &str, words: &[String]) -> u8 {
-    match read_words(words) {
-        Some(command) => ask_at(rt, address, &command),
+/// Asks the daemon, and answers the exit status.
+pub(crate) fn ask(rt: &HostRuntime, asked: &DaemonAsk<'_>) -> u8 {
+    match &asked.command {
+        Some(command) => ask_at(rt, asked.address, command),
         None => unasked(rt),
     }
 }
@@ -64,9 +47,6 @@ fn unasked(rt: &HostRuntime) -> u8 {
 
 /// Asks the daemon at the address what the command asks.
 fn ask_at(rt: &HostRuntime, address: &str, command: &Command<'_>) -> u8 {
-    if !is_of_daemon(command) {
-        return unasked(rt);
-    }
     let mut connector = Connector::new(rt, Address::of(address), Limits::of_call());
     match connector.connect() {
         Some(mut link) => ask_over(rt, command, &mut link).code(),

@@ -41,15 +41,15 @@ fn run<R: Host + Files + Net<Listener = TcpListener, Stream = TcpStream> + Sync>
 ) -> Result<u8, AllocError> {
     let words = words_of(rt)?;
     let entries = entries_of(rt)?;
-    if let Some((address, asked)) = asked_of(&words, &entries) {
-        return Ok(ask(rt, address, asked));
+    if let Some(asked) = asked_of(&words, &entries) {
+        return Ok(ask(rt, &asked));
     }
     match read_words(&words) {
         Some(Command::Serve(address, workers)) => serve_database(
             rt, threads, &entries, address, workers,
         ),
         Some(Command::Call(address)) => call_at(rt, &entries, address),
-        Some(Command::Get(_) | Command::Routes(_) | Command::Audit(_)) => {
+        Some(Command::Get(_) | Command::Show(_) | Command::Routes(_) | Command::Audit(_)) => {
             run_stored(rt, &threads, &words, &entries, Use::Look)
         }
         Some(_) => run_stored(rt, &threads, &words, &entries, Use::Keep),

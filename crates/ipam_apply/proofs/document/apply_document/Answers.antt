@@ -16,5 +16,5 @@ returns-in-Ok-clause-ended g c = Good c.in-Ok.resources c.in-Ok.ensures.read c.a
 
 pub returns-in-Err-clause-ended : goal.returns-in-Err-clause-ended
 returns-in-Err-clause-ended g c =
-    fault-ends _ c.args.document.now _ _ c.tell_document.result c.in-Err.fault refl c.in-Err.ensures.refused
-    c.tell_document.ensures.told c.tell_document.ensures.untold c.tell_document.ensures.no_fault
+    fault-ends _ c.args.document.now _ _ c.tell_document.result c.in-Err.fault refl c.in-Err.ensures.refused c.in-Err.ensures.memory
+    c.tell_document.ensures.told c.tell_document.ensures.fixed c.tell_document.ensures.untold c.tell_document.ensures.no_fault

@@ -3,7 +3,7 @@ use Rattle.ipam_cni.proofs.calling.make_call.Goals as goal
 
 pub returns-in-Ok-clause-went : goal.returns-in-Ok-clause-went
 returns-in-Ok-clause-went g c =
-    made_went c.args.env.now c.call_with.result _ _ c.as_slice.result.now
+    made_went _ c.args.env.now c.call_with.result _ _ c.as_slice.result.now
     (record {
       bytes = rw c.as_slice.ensures.value c.in-Ok.ensures.bytes;
       bound = rw c.as_slice.ensures.value c.in-Ok.ensures.bound;

@@ -8,8 +8,8 @@ returns-clause-called g c =
 
 pub returns-clause-to_end : goal.returns-clause-to_end
 returns-clause-to_end g c =
-    told_to_end _ c.make_call-end.result _ _ _ _ _ _ _ c.make_call-end.ensures.went c.tell_end.ensures.told
+    told_to_end _ _ c.make_call-end.result _ _ _ _ _ _ _ c.make_call-end.ensures.went c.tell_end.ensures.told
 
 pub returns-clause-status : goal.returns-clause-status
 returns-clause-status g c =
-    told_status _ c.make_call-end.result _ _ _ _ _ _ _ c.make_call-end.ensures.went c.tell_end.ensures.told
+    told_status _ _ c.make_call-end.result _ _ _ _ _ _ _ c.make_call-end.ensures.went c.tell_end.ensures.told

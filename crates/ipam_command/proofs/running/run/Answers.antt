@@ -1,6 +1,8 @@
 use Rattle.std.proofs.Common.{Some, refl, ap, rules, subst}
 use Rattle.ipam_words.specs.declared.command.Command.{Command}
-use Rattle.ipam_words.specs.Words.{Cni, Play, Apply, Get, Help, IsSound, Routes, Release, Gen, Version, asked_by}
+use Rattle.ipam_words.specs.Words.{Cni, Play, Apply, Get, Help, IsSound, Routes, Release, Gen, Show, Version, asked_by}
+use Rattle.ipam_commands.specs.Shown.{shown_text}
+use Rattle.ipam_words.specs.Views.{seen_by}
 use Rattle.ipam_commands.specs.Texts.{rows_text, routes_text}
 use Rattle.ipam_headline.proofs.Writing.{so_far_right}
 use Rattle.ipam_command.proofs.CallLemmas.{call_by_records, leaves_spared, never_says_try_again, tells_of_add}
@@ -12,7 +14,7 @@ release-requires g c = subst (λ (x : Command). IsSound (asked_by x)) c.in-Relea
 
 pub returns-in-Play-clause-does : goal.returns-in-Play-clause-does
 returns-in-Play-clause-does g c =
-    asked c.args.env.now _ (Some Play) _ _ _ (ap (λ (x : Command). Some (asked_by x)) c.in-Play.is)
+    asked _ c.args.env.now _ (Some Play) _ _ _ (ap (λ (x : Command). Some (asked_by x)) c.in-Play.is)
     (does-play _ _ c.play.result _ c.code_of_play.ensures
     (record {
       written = written-right _ _ _ _ c.play.ensures.written;
@@ -27,25 +29,31 @@ returns-in-Play-clause-does g c =
 
 pub returns-in-Gen-clause-does : goal.returns-in-Gen-clause-does
 returns-in-Gen-clause-does g c =
-    asked c.args.env.now _ (Some (Gen c.in-Gen.count)) _ _ _ (ap (λ (x : Command). Some (asked_by x)) c.in-Gen.is)
+    asked _ c.args.env.now _ (Some (Gen c.in-Gen.count)) _ _ _ (ap (λ (x : Command). Some (asked_by x)) c.in-Gen.is)
     (does-gen c.in-Gen.count _ _ c.generate.result _ c.code_of_gen.ensures c.generate.ensures.written c.generate.ensures.faults
     (record { left = refl; read_faults = refl }) (record { rows = refl; keeper_faults = refl }))
 
 pub returns-in-Get-clause-does : goal.returns-in-Get-clause-does
 returns-in-Get-clause-does g c =
-    asked c.args.env.now _ (Some (Get c.in-Get.kind)) _ _ _ (ap (λ (x : Command). Some (asked_by x)) c.in-Get.is)
+    asked _ c.args.env.now _ (Some (Get c.in-Get.kind)) _ _ _ (ap (λ (x : Command). Some (asked_by x)) c.in-Get.is)
     (does-tell (λ rows store. rows_text c.in-Get.kind rows) _ _ c.get.result _ (search rules) c.get.ensures.told
     (record { left = refl; read_faults = refl }) c.get.ensures.same_rows)
 
+pub returns-in-Show-clause-does : goal.returns-in-Show-clause-does
+returns-in-Show-clause-does g c =
+    asked _ c.args.env.now _ (Some (Show (seen_by c.in-Show.view))) _ _ _ (ap (λ (x : Command). Some (asked_by x)) c.in-Show.is)
+    (does-tell (λ rows store. shown_text (seen_by c.in-Show.view) store) _ _ c.show.result _ (search rules) c.show.ensures.told
+    (record { left = refl; read_faults = refl }) c.show.ensures.same_rows)
+
 pub returns-in-Routes-clause-does : goal.returns-in-Routes-clause-does
 returns-in-Routes-clause-does g c =
-    asked c.args.env.now _ (Some (Routes c.in-Routes.node.now)) _ _ _ (ap (λ (x : Command). Some (asked_by x)) c.in-Routes.is)
+    asked _ c.args.env.now _ (Some (Routes c.in-Routes.node.now)) _ _ _ (ap (λ (x : Command). Some (asked_by x)) c.in-Routes.is)
     (does-tell (λ rows store. routes_text c.in-Routes.node.now store) _ _ c.routes.result _ (search rules) c.routes.ensures.told
     (record { left = refl; read_faults = refl }) c.routes.ensures.same_rows)
 
 pub returns-in-Release-clause-does : goal.returns-in-Release-clause-does
 returns-in-Release-clause-does g c =
-    asked c.args.env.now _ (Some (Release c.in-Release.node.now c.in-Release.block)) _ _ _ (ap (λ (x : Command). Some (asked_by x)) c.in-Release.is)
+    asked _ c.args.env.now _ (Some (Release c.in-Release.node.now c.in-Release.block)) _ _ _ (ap (λ (x : Command). Some (asked_by x)) c.in-Release.is)
     (record {
       came = c.release.ensures.released.0;
       ending = c.release.result;
@@ -57,22 +65,22 @@ returns-in-Release-clause-does g c =
 
 pub returns-in-Cni-clause-does : goal.returns-in-Cni-clause-does
 returns-in-Cni-clause-does g c =
-    asked c.args.env.now _ (Some Cni) _ _ _ (ap (λ (x : Command). Some (asked_by x)) c.in-Cni.is)
+    asked _ c.args.env.now _ (Some Cni) _ _ _ (ap (λ (x : Command). Some (asked_by x)) c.in-Cni.is)
     (record {
       ending = c.cni.ensures.called.0;
       went = c.cni.ensures.called.1;
       tells = c.cni.ensures.called.2;
-      never_later = never_says_try_again c.args.env.now c.cni.ensures.called.0 _ _ _ c.cni.ensures.called.1 c.cni.ensures.called.2;
-      by_records = call_by_records c.args.env.now c.cni.ensures.called.0 _ _ _ c.cni.ensures.called.1 c.cni.ensures.called.2;
-      gc = leaves_spared c.args.env.now c.cni.ensures.called.0 _ _ _ c.cni.ensures.called.1 c.cni.ensures.called.2;
-      status_of_add = tells_of_add c.args.env.now c.cni.ensures.called.0 _ _ _ c.cni.ensures.called.1 c.cni.ensures.called.2;
+      never_later = never_says_try_again _ c.args.env.now c.cni.ensures.called.0 _ _ _ c.cni.ensures.called.1 c.cni.ensures.called.2;
+      by_records = call_by_records _ c.args.env.now c.cni.ensures.called.0 _ _ _ c.cni.ensures.called.1 c.cni.ensures.called.2;
+      gc = leaves_spared _ c.args.env.now c.cni.ensures.called.0 _ _ _ c.cni.ensures.called.1 c.cni.ensures.called.2;
+      status_of_add = tells_of_add _ c.args.env.now c.cni.ensures.called.0 _ _ _ c.cni.ensures.called.1 c.cni.ensures.called.2;
       at_end = c.cni.ensures.to_end;
       is_status = c.cni.ensures.status;
     })
 
 pub returns-in-Apply-clause-does : goal.returns-in-Apply-clause-does
 returns-in-Apply-clause-does g c =
-    asked c.args.env.now _ (Some Apply) _ _ _ (ap (λ (x : Command). Some (asked_by x)) c.in-Apply.is)
+    asked _ c.args.env.now _ (Some Apply) _ _ _ (ap (λ (x : Command). Some (asked_by x)) c.in-Apply.is)
     (record {
       ending = c.apply.result;
       has_status = search rules;
@@ -82,10 +90,10 @@ returns-in-Apply-clause-does g c =
 
 pub returns-in-Help-clause-does : goal.returns-in-Help-clause-does
 returns-in-Help-clause-does g c =
-    asked c.args.env.now _ (Some Help) _ _ _ (ap (λ (x : Command). Some (asked_by x)) c.in-Help.is)
+    asked _ c.args.env.now _ (Some Help) _ _ _ (ap (λ (x : Command). Some (asked_by x)) c.in-Help.is)
     (record { said = c.say.ensures.said; source = record { left = refl; read_faults = refl }; keeper = record { rows = refl; keeper_faults = refl } })
 
 pub returns-in-Version-clause-does : goal.returns-in-Version-clause-does
 returns-in-Version-clause-does g c =
-    asked c.args.env.now _ (Some Version) _ _ _ (ap (λ (x : Command). Some (asked_by x)) c.in-Version.is)
+    asked _ c.args.env.now _ (Some Version) _ _ _ (ap (λ (x : Command). Some (asked_by x)) c.in-Version.is)
     (record { said = c.say-in-Version.ensures.said; source = record { left = refl; read_faults = refl }; keeper = record { rows = refl; keeper_faults = refl } })
