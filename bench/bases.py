@@ -1,9 +1,11 @@
 """Makes rows of a datastore: a pool, and blocks of it with their affinities and handles."""
 import ipaddress
 import json
+import sqlite3
 
 # Each row has a revision above every sequence number.
 FIRST_REVISION = 5_000
+TABLE = "CREATE TABLE rows(key TEXT PRIMARY KEY, revision INTEGER NOT NULL, body TEXT NOT NULL)"
 
 
 def text(value):
@@ -64,6 +66,15 @@ def so_many_rows(count, secondary=None):
         body = text({"cidr": cidr, "node": node, "state": "pending"})
         rows.append((f"affinity/{node}/{cidr}", FIRST_REVISION + len(rows), body))
     return sorted(rows, key=lambda row: row[0].encode())
+
+
+def write_file(path, rows):
+    """A database file of these rows."""
+    base = sqlite3.connect(path)
+    base.execute(TABLE)
+    base.executemany("INSERT INTO rows VALUES (?, ?, ?)", rows)
+    base.commit()
+    base.close()
 
 
 def row_line(row):

@@ -23,23 +23,14 @@ import subprocess
 import sys
 import tempfile
 
-from bases import FIRST_REVISION, Block, rows_of, so_many_rows, text
+from bases import FIRST_REVISION, TABLE, Block, rows_of, so_many_rows, text, write_file
 from measured import Checks, median, ran
 
-TABLE = "CREATE TABLE rows(key TEXT PRIMARY KEY, revision INTEGER NOT NULL, body TEXT NOT NULL)"
 PUT = ("INSERT INTO rows(key, revision, body) VALUES (?1, ?2, ?3)"
        " ON CONFLICT(key) DO UPDATE SET revision = excluded.revision, body = excluded.body")
 CONFIG = text({"autoAllocateBlocks": True, "maxBlocksPerHost": 0, "strictAffinity": False})
 HIGH = "affinity/high/10.0.0.0/26", 2**62 + 1, text({"cidr": "10.0.0.0/26", "node": "high", "state": "pending"})
 SELECT = "select key, revision, body from rows order by key"
-
-
-def write_file(path, rows):
-    base = sqlite3.connect(path)
-    base.execute(TABLE)
-    base.executemany("INSERT INTO rows VALUES (?, ?, ?)", rows)
-    base.commit()
-    base.close()
 
 
 class Bench:
