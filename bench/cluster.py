@@ -24,6 +24,7 @@ from measured import Checks, median, ran
 
 CALLS, PROCESSES, PATIENCE = 2_000, 100, 120
 NODES_ASKED = 100
+UNKNOWN_WORDS = 2
 KINDS = "config", "pools", "reservations", "block", "affinity", "handle"
 
 
@@ -181,8 +182,16 @@ def time_beside_pages(daemons, checks, held):
 def time_words(program, folder, file, what, words):
     environment = {**os.environ, "IPAM_DB": file}
     one = median([ran([program, *words], "/dev/null", f"{folder}/out", environment) for _ in range(3)])
-    print(f"  {' '.join(words):<24}{what:<14}{one.wall:>9.2f} s {one.processor:>9.2f} s of a processor {one.peak / 1024:>8.0f} MB", flush=True)
+    print(f"  {' '.join(word for word in words if word[0] not in '-/'):<18}{what:<20}{one.wall:>9.2f} s {one.processor:>9.2f} s of a processor {one.peak / 1024:>8.0f} MB", flush=True)
     return one.status
+
+
+def time_asked(daemon, folder):
+    """The words that read all rows, asked of the daemon, where this program can be asked them."""
+    for words in (["show"], ["get"], ["audit", "4"]):
+        asked = ["--daemon", daemon.path, *words]
+        if subprocess.run([daemon.program, *asked], capture_output=True).returncode != UNKNOWN_WORDS:
+            time_words(daemon.program, folder, "/nowhere", f"a daemon, {daemon.name}", asked)
 
 
 def time_daemons(program, folder, checks, held):
@@ -195,6 +204,8 @@ def time_daemons(program, folder, checks, held):
         time_processes(daemons)
         time_beside_pages(daemons, checks, held)
         for one in daemons:
+            time_asked(one, folder)
+        for one in daemons:
             print(f"  the daemon, {one.name}: afterwards {one.memory()[0] >> 10} MB, at most {one.memory()[1] >> 10} MB")
     finally:
         for one in daemons:
@@ -202,12 +213,15 @@ def time_daemons(program, folder, checks, held):
 
 
 def time_all_words(program, folder, checks):
-    print(f"  {'over a file':<38}{'by the clock':>13}")
+    print(f"  {'over a file':<38}{'by the clock':>11}")
     for words in (["show"], ["show", "blocks"], ["show", "node", "node-7"], ["show", "10.0.0.1"], ["get"], ["audit", "4"]):
         for name in ("full", "empty"):
             checks.same(f"{words} over {name}", time_words(program, folder, f"{folder}/{name}.db", name, words), 0)
     write_file(f"{folder}/most.db", so_many_rows(262_144))
     checks.same("show over 262,144 rows", time_words(program, folder, f"{folder}/most.db", "262,144 rows", ["show"]), 0)
+    daemon = Daemon(program, folder, "most")
+    time_asked(daemon, folder)
+    daemon.end()
 
 
 def count_rows(program, file):

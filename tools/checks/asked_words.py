@@ -23,6 +23,7 @@ import time
 from pathlib import Path
 
 TOP = Path(__file__).resolve().parent.parent.parent
+KINDS = ("config", "pools", "reservations", "block", "affinity", "handle")
 CONFIGURATION = {"cniVersion": "1.0.0", "name": "n", "ipam": {"type": "calico-ipam"}}
 counts = {"passed": 0, "failed": 0}
 
@@ -93,8 +94,26 @@ def blocks_of(program, database):
     return [line.split(" ")[0].split("/", 2)[1:] for line in told.splitlines()]
 
 
+def looks(blocks):
+    """Words that only look, but `get`."""
+    yield ["show"]
+    yield ["show", "--json"]
+    yield ["show", "blocks"]
+    for node in ("a", "b", "none"):
+        yield ["show", "node", node]
+    for _, cidr in blocks[:2]:
+        yield ["show", cidr.split("/")[0]]
+    for address in ("10.0.0.1", "10.0.0.77", "10.0.1.0", "fd00::", "fd00::1:0:0:0:1"):
+        yield ["show", address]
+
+
 def questions(draw, blocks):
-    """Words with their input."""
+    """Words with their input. Revisions are told before anything changes: a deletion leaves none in a file."""
+    yield ["get"], ""
+    for kind in KINDS:
+        yield ["get", kind], ""
+    for words in looks(blocks):
+        yield words, ""
     yield ["routes", "a"], ""
     yield ["routes", "none"], ""
     for node, cidr in blocks[:2]:
@@ -110,6 +129,8 @@ def questions(draw, blocks):
     yield ["apply"], "{"
     yield ["apply"], ""
     yield ["routes", "b"], ""
+    for words in looks(blocks):
+        yield words, ""
 
 
 def serve(program, database, address):
@@ -146,11 +167,36 @@ def try_base(program, folder, number):
     compare(f"base {number}: the rows afterwards", rows_of(program, one), rows_of(program, other))
 
 
-def answer_once(server, reply):
+def answer_once(server, replies):
     link, _ = server.accept()
     with link:
-        link.recv(65536)
-        link.sendall(reply)
+        for reply in replies:
+            link.recv(65536)
+            link.sendall(reply)
+
+
+def asked_of_stranger(program, folder, number, words, replies):
+    """What the words come to where each line is answered by the next of these."""
+    address = folder / f"stranger-{number}.sock"
+    with socket.socket(socket.AF_UNIX) as server:
+        server.bind(str(address))
+        server.listen(1)
+        thread = threading.Thread(target=answer_once, args=(server, replies))
+        thread.start()
+        got = Words(program, folder / "none.db", address).run(words)
+        thread.join()
+    return got
+
+
+STRANGE = (b"", b"{}\n", b"HTTP/1.1 400 Bad Request\r\n\r\n", b'{"answer":"checked"}\n', b"\xff\n", b'{"answer":"released"}')
+
+
+def row(key, body="B"):
+    return {"body": body, "key": key, "revision": 1}
+
+
+def page(rows, more=False):
+    return json.dumps({"revision": 9, "rows": rows, **({"more": True} if more else {})}).encode() + b"\n"
 
 
 def try_strangers(program, folder):
@@ -158,18 +204,27 @@ def try_strangers(program, folder):
     nobody = Words(program, folder / "none.db", folder / "none.sock")
     compare("nobody answers", (10, "link fault\n"), nobody.run(["routes", "a"]))
     compare("nobody answers apply", (10, "link fault\n"), nobody.run(["apply"], json.dumps(pool("p", "10.0.0.0/24"))))
-    compare("a word that no daemon is asked", (2, "unknown words\n"), nobody.run(["get"]))
+    for words in (["get"], ["get", "block"], ["show"], ["show", "10.0.0.1"]):
+        compare(f"nobody answers {words}", (10, "link fault\n"), nobody.run(words))
+    compare("a word that no daemon is asked", (2, "unknown words\n"), nobody.run(["audit", "2"]))
     compare("no word", (2, "unknown words\n"), nobody.run([]))
-    for number, reply in enumerate((b"", b"{}\n", b"HTTP/1.1 400 Bad Request\r\n\r\n", b'{"answer":"checked"}\n', b"\xff\n", b'{"answer":"released"}')):
-        address = folder / f"stranger-{number}.sock"
-        with socket.socket(socket.AF_UNIX) as server:
-            server.bind(str(address))
-            server.listen(1)
-            thread = threading.Thread(target=answer_once, args=(server, reply))
-            thread.start()
-            got = Words(program, folder / "none.db", address).run(["release", "a", "10.0.0.0/30"])
-            thread.join()
-        compare(f"a reply {reply!r}", (11, "reply fault\n"), got)
+    for number, reply in enumerate(STRANGE):
+        compare(f"a reply {reply!r}", (11, "reply fault\n"), asked_of_stranger(program, folder, f"r{number}", ["release", "a", "10.0.0.0/30"], [reply]))
+    first = page([row("handle/a")], more=True)
+    for number, replies in enumerate([[reply] for reply in STRANGE] + [
+        [page([row("block/10.0.0.0/30")])],
+        [page([row("handle/b"), row("handle/a")])],
+        [first],
+        [first, page([], more=True)],
+        [first, page([row("handle/a")])],
+        [first, page([row("handle/b")])[:-1]],
+    ]):
+        got = asked_of_stranger(program, folder, f"g{number}", ["get", "handle"], replies)
+        compare(f"get handle, replies {replies!r}", (11, "reply fault\n"), got)
+    got = asked_of_stranger(program, folder, "two", ["get", "handle"], [first, page([row("handle/b")])])
+    compare("get handle, two pages", (0, "handle/a 1 B\nhandle/b 1 B\n"), got)
+    long = page([row("handle/a", "B" * 3_000_000)])
+    compare("get handle, a long row", (0, f"handle/a 1 {'B' * 3_000_000}\n"), asked_of_stranger(program, folder, "long", ["get", "handle"], [long]))
 
 
 def main():

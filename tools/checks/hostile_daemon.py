@@ -4,11 +4,11 @@
   tools/checks/hostile_daemon.py [--quick] [--plugin PATH] PROGRAM [COUNT]
 
 PROGRAM is the built program, and COUNT how many calls are killed in each part that kills calls (1,000). PATH is the
-plugin as `install` makes it, without a daemon: 32 calls of it are made at once. Each line says what was tried and what
-was seen, and ends with `ok` or `FAILED`, with `not supported` where the program has no such thing, or with `not
-promised over TCP`, where a count is told that nothing bounds. The last line is `N passed, M failed`, and the status is
-1 where one failed. It needs Python alone, and some minutes; what waits for a limit waits for as long as the program
-does (`--quick` leaves those out).
+plugin as `install` makes it, without a daemon, and its database has a pool: 32 calls of it are made at once. Each line
+says what was tried and what was seen, and ends with `ok` or `FAILED`, with `not supported` where the program has no
+such thing, or with `not promised over TCP`, where a count is told that nothing bounds. The last line is `N passed, M
+failed`, and the status is 1 where one failed. It needs Python alone, and some minutes; what waits for a limit waits
+for as long as the program does (`--quick` leaves those out).
 """
 
 import argparse

@@ -5,13 +5,15 @@ import re
 
 import cni_table
 import request_table
+import session_table
 from resource_table import Fault, parsed
 from second_allocator import Cluster
-from second_records import Datastore, compact
+from second_records import Block, Cidr, Datastore, compact, kind_of, order_of
 from selector_table import Bad
 
 LIVE = request_table.list_of(request_table.handle)
 MOST_CHANGES = 1024
+PAGE_PARTS = 4096
 
 # the text of an opening of the datastore: seconds and a random word
 OPENED = re.compile(r"[0-9]+-[0-9a-f]{16}")
@@ -73,6 +75,50 @@ class Routes(Datastore):
         if revision > self.counter:
             return {"ahead": self.counter}
         return {"changes": [one for one in self.changes if one["revision"] > revision], "revision": self.counter}
+
+
+# ---- pages of rows
+
+
+def parts_of(body):
+    """The row, the addresses that a block has given, and the blocks of a handle."""
+    held = [place for place in body.get("allocations", []) if place is not None]
+    return 1 + len(held) + (len(body["block"]) if "handleID" in body else 0)
+
+
+def page_of(store, kind, after):
+    """The rows of the kind after the key, while there is room."""
+    keys = sorted((key for key in store.rows if kind_of(key) == kind), key=order_of)
+    if after is not None:
+        keys = [key for key in keys if order_of(key) > order_of(after)]
+    taken, parts = [], 0
+    for key in keys:
+        if parts >= PAGE_PARTS:
+            break
+        revision, body = store.rows[key]
+        taken.append({"body": compact(body), "key": key, "revision": revision})
+        parts += parts_of(body)
+    more = {"more": True} if len(taken) < len(keys) else {}
+    return {**more, "revision": store.counter, "rows": taken}
+
+
+# ---- usage
+
+
+def usage_of(store):
+    """The pools in the order of their table, and what their blocks come to."""
+    pools = store.rows["pools"][1]["pools"] if "pools" in store.rows else []
+    reserved = [Cidr.read(cidr) for one in (store.rows["reservations"][1]["reservations"] if "reservations" in store.rows else []) for cidr in one["reservedCIDRs"]]
+    told = []
+    for pool in pools:
+        cidr = Cidr.read(pool["cidr"])
+        blocks = [block for block in (Block(body) for _, body in store.listed("block")) if cidr.holds(block.cidr.family, block.cidr.base)]
+        kept = [any(one.holds(block.cidr.family, block.cidr.base + n) for one in reserved) for block in blocks for n in block.queue]
+        told.append({
+            "addresses": str(cidr.size()), "blocks": len(blocks), "cidr": pool["cidr"], "disabled": pool["disabled"],
+            "free": kept.count(False), "name": pool["name"], "reserved": kept.count(True), "used": sum(len(block.held) for block in blocks),
+        })
+    return {"pools": told, "revision": store.counter}
 
 
 # ---- CNI calls
@@ -176,6 +222,9 @@ def wish(line):
             if not isinstance(env, dict) or not all(isinstance(one, str) for one in [*env.values(), stdin]):
                 raise Bare
             return "call", (list(env.items()), stdin)
+        if "rows" in value:
+            session_table.page(value)
+            return "rows", (value["rows"], value.get("after"))
         ((name, inner),) = value.items()
         if name == "request":
             ((word, request),) = request_table.request(inner).items()
@@ -186,9 +235,9 @@ def wish(line):
             return "feed", LIVE(inner)
         if name == "routesSince" and type(inner) is int and inner >= 0:
             return "since", inner
-        if name in ("stop", "routes", "opened") and inner is True:
+        if name in ("stop", "routes", "opened", "usage") and inner is True:
             return name, None
-    except (ValueError, RecursionError, Bad, Fault):
+    except (ValueError, RecursionError, Bad, Fault, session_table.Bad):
         pass
     raise Bare
 
@@ -266,6 +315,12 @@ class Sessions:
         if not self.has_routes:
             return self.refused("line")
         return {"revision": self.cluster.store.counter, "routes": self.cluster.store.routes()}
+
+    def reply_to_rows(self, inner, _):
+        return page_of(self.cluster.store, *inner)
+
+    def reply_to_usage(self, _, __):
+        return usage_of(self.cluster.store)
 
     def reply_to_opened(self, _, found):
         """The text of the opening, which the daemon draws: what was found first, where it has the form, and always that."""

@@ -1,5 +1,5 @@
 #!/usr/bin/env python3
-"""Writes broken.rt and broken_rows.rt of crates/ipam_cni_tests/src: CNI calls with one thing broken each, and their replies.
+"""Writes the input and the output of crates/ipam_cni_tests: CNI calls with one thing broken each, and their replies.
 
 In each call one thing is broken: a member, a variable, a version or the input (the calls of
 tools/tables/cni_table.py with code and details), the rows, or what the call asks of the rows. This script states
@@ -14,7 +14,7 @@ from pathlib import Path
 
 from cni_table import GONE, good_config, good_env, stated_calls, text_of, with_member, with_variable
 
-OUT = Path(__file__).resolve().parents[2] / "crates/ipam_cni_tests/src"
+OUT = Path(__file__).resolve().parents[2] / "crates/ipam_cni_tests"
 
 MESSAGES = {
     1: "incompatible CNI version",
@@ -272,39 +272,23 @@ def wish_scenarios():
         yield scenario(f"There is {title}", rows(changes) + unchanged(call(env, stdin, refusal(version, code, details))))
 
 
-def escaped(text):
-    for old, new in (("\\", "\\\\"), ('"', '\\"'), ("\t", "\\t"), ("\v", "\\x0b")):
-        text = text.replace(old, new)
-    return text.replace("\n", "\\n\\\n")
-
-
-def write(name, scenarios, calls):
-    text = "\n\n".join(scenarios)
-    assert text.count("\nbare ") == calls
-    table = TEMPLATE.replace("{table}", escaped(text)).replace("{count}", str(len(scenarios)))
-    (OUT / name).write_text(table.replace("{calls}", str(calls)))
+def told_of(scenario):
+    """The line that is told of a scenario: its title, and how many answers it has."""
+    return f"{scenario.splitlines()[0]} {scenario.count(chr(10) + '= ')}\n"
 
 
 def main():
     stated = list(stated_scenarios())
     made_well = list(good_scenario())
     broken = sum(count for _, count in stated)
-    write("broken.rt", [text for text, _ in stated] + made_well, broken + len(GOOD_REPLIES))
-    over_rows = list(row_scenarios()) + list(wish_scenarios())
-    write("broken_rows.rt", over_rows, len(BROKEN_ROWS) + len(BROKEN_WISHES))
-    print(f"{broken} calls with one thing broken, {len(GOOD_REPLIES)} without, and {len(over_rows)} over rows")
+    scenarios = [text for text, _ in stated] + made_well + list(row_scenarios()) + list(wish_scenarios())
+    calls, over_rows = broken + len(GOOD_REPLIES), len(BROKEN_ROWS) + len(BROKEN_WISHES)
+    table = "\n\n".join(scenarios) + "\n"
+    assert table.count("\nbare ") == calls + over_rows
+    (OUT / "stdin").write_text(table)
+    (OUT / "stdout").write_text("".join(map(told_of, scenarios)))
+    print(f"{broken} calls with one thing broken, {len(GOOD_REPLIES)} without, and {over_rows} over rows")
 
-
-TEMPLATE = """// Written by tools/tables/broken_calls.py: change that, and not this file.
-// Scenarios: rows, calls with one thing broken each, and what is told of them.
-
-pub(crate) const SCENARIOS: usize = {count};
-
-pub(crate) const CALLS: usize = {calls};
-
-pub(crate) const BROKEN: &str = "\\
-{table}";
-"""
 
 if __name__ == "__main__":
     main()

@@ -27,7 +27,7 @@ from resource_table import escaped
 from second_allocator import Script, compact
 from second_records import Block
 
-OUT = TOP / "crates/ipam_fault_tests/src"
+OUT = TOP / "crates/ipam_fault_tests"
 LIVE = '["n.c2"]'
 
 # ---- stops
@@ -168,6 +168,7 @@ def doubt(base, first, writes):
     for number in range(1, writes + 1):
         for lost in (False, True):
             rows = Rows(base)
+            title = f"Write {number} of the {first[0][0]} {'is done, but fails' if lost else 'fails'}.\n"
             text = f"{'lose' if lost else 'fail'} {number}\n"
             for command, container, failing in [*first, ("DEL", "c1", 0), ("ADD", "c2", 0)]:
                 request = add(f"n.{container}", "a", secondary()) if command == "ADD" else delete(f"n.{container}")
@@ -176,7 +177,7 @@ def doubt(base, first, writes):
                 text += f"= {FAULT}\n" if failing else told(answer)
                 assert (answer == "fault") == bool(failing), (text, answer)
                 text += "do get⇒⇒\n" + rows.rows().replace("= ", "= 0 ", 1)
-            out.append(base + text)
+            out.append(title + base + text)
     return out
 
 
@@ -218,21 +219,26 @@ def constant(name, text):
 
 def write(name, about, text):
     head = "// Written by tools/tables/fault_table.py: change that, and not this file.\n"
-    (OUT / f"{name}.rt").write_text(f"{head}// {about}\n{text}")
+    (OUT / f"src/{name}.rt").write_text(f"{head}// {about}\n{text}")
+
+
+def told_of(scenario):
+    """The line that is written of a scenario: its title, and how many lines come of it."""
+    return f"{scenario.splitlines()[0]} {scenario.count(chr(10) + '= ')}\n"
 
 
 def main():
     if sys.argv[1:2] == ["--states"]:
         write_states(Path(sys.argv[2]))
         return
-    OUT.mkdir(parents=True, exist_ok=True)
     turns, runs = stops()
     signs = [f"{sign}{line}" for sign, line in LINES.items()]
     text = constant("BEGUN", BEGUN) + constant("LINES", "".join(f"{one}‡" for one in signs))
     text += constant("RUNS", "\n".join(runs))
     write("stop_table", "Runs with a stop in the place of each turn, a sign for each line.", text)
     scenarios = doubts()
-    write("doubt_table", "Calls by themselves, a write of which fails.", constant("DOUBTS", "\n".join(scenarios)))
+    (OUT / "stdin").write_text("\n".join(scenarios))
+    (OUT / "stdout").write_text("".join(map(told_of, scenarios)))
     print(f"{len(turns)} turns, {len(runs)} runs, {sum(map(len, runs))} signs; {len(scenarios)} doubts")
 
 

@@ -18,7 +18,7 @@ from random_scripts import text_of
 from resource_table import escaped
 from second_allocator import play
 
-OUT = TOP / "crates/ipam_play_tests/src"
+OUT = TOP / "crates/ipam_play_tests"
 RANDOM = 16
 ROWS = 14
 
@@ -337,17 +337,31 @@ def tables(name, rows):
 
 
 def write(name, about, text):
-    (OUT / f"{name}.rt").write_text(f"// Written by tools/tables/play_table.py: change that, and not this file.\n// {about}\n{text}")
+    (OUT / f"src/{name}.rt").write_text(f"// Written by tools/tables/play_table.py: change that, and not this file.\n// {about}\n{text}")
+
+
+def scenario(title, script, text, status):
+    """The script with a title, and after it the status and the journal that are wanted. `∎` ends a line that has no
+    line feed."""
+    assert "\n\n" not in script and "\n= " not in script, script
+    ended = script if script.endswith("\n") or not script else script + "∎\n"
+    return f"{title}\n{ended}= {status}\n" + "".join(f"= {line}\n" for line in text.splitlines())
+
+
+def told_of(scenario):
+    """The line that is written of a scenario: its title, and how many lines come of it."""
+    return f"{scenario.splitlines()[0]} {scenario.count(chr(10) + '= ')}\n"
 
 
 def main():
     others = [(script, *play(script)) for script in OTHERS]
     summed = [(script, *play(script)) for script in [many_races()] + [text_of(number) for number in range(RANDOM)]]
     sums = [(script, f"{len(text.encode())} {sum_of(text)}", status) for script, text, status in summed]
-    OUT.mkdir(parents=True, exist_ok=True)
     about = "Scripts, the status of each, and what is written of it."
-    write("worked", about, tables("WORKED", [worked(*one) for one in WORKED]))
-    write("known", about, tables("KNOWN", others))
+    scenarios = [scenario(f"Worked script {n + 1}.", *worked(*one)) for n, one in enumerate(WORKED)]
+    scenarios += [scenario(f"Script {n + 1}.", *one) for n, one in enumerate(others)]
+    (OUT / "stdin").write_text("\n".join(scenarios))
+    (OUT / "stdout").write_text("".join(map(told_of, scenarios)))
     write("refused", about, tables("REFUSED", REFUSED))
     about = "Scripts, the status of each, how many bytes are written of it, and their sum."
     write("summed", about, constant("SUMMED", [row(*one).replace('"', '\\"').replace("\n", "\\n") for one in sums]))

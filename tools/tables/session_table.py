@@ -7,6 +7,7 @@ it asks, or `line` if it asks for nothing that is known.
 Run it from the top of the repository: python3 tools/tables/session_table.py
 """
 
+import ipaddress
 import json
 import re
 from pathlib import Path
@@ -15,6 +16,7 @@ from resource_table import Fault, parsed
 
 OUT = Path(__file__).resolve().parents[2] / "crates/ipam_session_tests/src/table_tests.rt"
 NAME = re.compile(r"[A-Za-z0-9][A-Za-z0-9_.-]{0,252}")
+KIND = re.compile("config|pools|reservations|block|affinity|handle")
 HANDLE = re.compile(r"[A-Za-z0-9][A-Za-z0-9_.-]{0,506}")
 
 
@@ -93,6 +95,37 @@ def call(value):
     return "call " + compact({"env": value["env"], "stdin": value["stdin"]})
 
 
+def cidr(text):
+    try:
+        if str(ipaddress.ip_network(text)) == text:
+            return
+    except ValueError:
+        pass
+    raise Bad
+
+
+def key_of(kind, key):
+    if not isinstance(key, str):
+        raise Bad
+    if kind in ("config", "pools", "reservations"):
+        matching(key, re.compile(kind))
+    elif kind == "block":
+        cidr(matching(key, re.compile("block/.*")).partition("/")[2])
+    elif kind == "affinity":
+        _, node, block = matching(key, re.compile("affinity/[^/]*/.*")).split("/", 2)
+        matching(node, NAME)
+        cidr(block)
+    else:
+        matching(matching(key, re.compile("handle/.*"))[len("handle/") :], HANDLE)
+    return key
+
+
+def page(value):
+    members(value, ("rows",), ("after",))
+    kind = matching(value["rows"], KIND)
+    return f"rows {kind}" + (f" after {key_of(kind, value['after'])}" if "after" in value else "")
+
+
 def flag(word):
     def told(value):
         if value is not True:
@@ -108,6 +141,7 @@ ONE = {
     "stop": flag("stop"),
     "routes": flag("routes"),
     "opened": flag("opened"),
+    "usage": flag("usage"),
     "routesSince": lambda value: f"since {whole(value)}",
 }
 
@@ -115,6 +149,8 @@ ONE = {
 def told(line):
     try:
         value = parsed(line)
+        if "rows" in members(value, (), value):
+            return page(value)
         if len(value) == 1:
             ((name, inner),) = value.items()
             return ONE[name](inner)
@@ -141,6 +177,13 @@ GOOD = [
     '{"routesSince":0}',
     '{"routesSince":18446744073709551615}',
     '{"opened":true}',
+    '{"usage":true}',
+    '{"rows":"config"}',
+    '{"rows":"pools","after":"pools"}',
+    '{"rows":"reservations"}',
+    '{"rows":"block","after":"block/10.0.0.0/30"}',
+    '{"rows":"affinity","after":"affinity/a/2001:db8::/122"}',
+    '{"rows":"handle","after":"handle/n.c1"}',
 ]
 SPELLINGS = [
     (' { "stop" : true } '),
@@ -151,6 +194,9 @@ SPELLINGS = [
     '{"env":{"A":1,"A":"2"},"stdin":"x"}',
     '{"stop":false,"stop":true}',
     '{"feed":0,"feed":["a"]}',
+    '{"after":"handle/n.c1","rows":"handle"}',
+    '{"rows":"x","rows":"handle"}',
+    '{"rows":"block","after":"block/10.0.0.0/29","after":"block/10.0.0.0/30"}',
     '{"request":{"collect":{"grace":0,"live":[]}}}',
     '{"request":{"del":{"handle":"a"},"del":{"handle":"b"}}}',
 ]
@@ -161,6 +207,16 @@ BAD = [
     '{"routes":[]}', '{"routes":true,"x":0}', '{"opened":false}', '{"opened":1}', '{"routesSince":-1}', '{"routesSince":1.0}',
     '{"routesSince":1e2}', '{"routesSince":-0}', '{"routesSince":18446744073709551616}',
     '{"routesSince":"1"}', '{"routesSince":01}', '{"routesSince":true}', '{"routesSince":null}',
+    '{"rows":true}', '{"rows":"rows"}', '{"rows":"Block"}', '{"rows":""}', '{"rows":null}', '{"rows":["block"]}',
+    '{"after":"block/10.0.0.0/30"}', '{"rows":"block","after":null}', '{"rows":"block","after":1}', '{"rows":"block","after":""}',
+    '{"rows":"block","after":"block"}', '{"rows":"block","after":"block/"}', '{"rows":"block","after":"10.0.0.0/30"}',
+    '{"rows":"block","after":"handle/n.c1"}', '{"rows":"handle","after":"block/10.0.0.0/30"}',
+    '{"rows":"block","after":"block/10.0.0.1/30"}', '{"rows":"block","after":"block/10.0.0.0/030"}',
+    '{"rows":"affinity","after":"affinity/10.0.0.0/30"}', '{"rows":"affinity","after":"affinity/a b/10.0.0.0/30"}',
+    '{"rows":"handle","after":"handle/"}', '{"rows":"handle","after":"handle/-a"}', '{"rows":"pools","after":"config"}',
+    '{"rows":"pools","after":"pools/"}', '{"rows":"block","limit":5}', '{"rows":"block","after":"block/10.0.0.0/30","x":0}',
+    '{"rows":"block","opened":true}', '{"rows":"block","env":{},"stdin":""}', '{"rows":"x","after":"block/10.0.0.0/30"}',
+    '{"usage":false}', '{"usage":1}', '{"usage":"p"}', '{"usage":true,"rows":"block"}',
     '{"feed":{}}', '{"feed":"a"}', '{"feed":[1]}', '{"feed":[""]}', '{"feed":["a b"]}', '{"feed":["-a"]}',
     '{"feed":["a",null]}', '{"feed":["a"],"at":5}', '{"feed":[["a"]]}', '{"feed":["é"]}',
     '{"env":{}}', '{"stdin":""}', '{"env":{},"stdin":0}', '{"env":[],"stdin":""}', '{"env":{"A":1},"stdin":""}',
@@ -227,6 +283,7 @@ SOURCE = """\
 // Written by tools/tables/session_table.py: change that, and not this file.
 // Each row has a line of a session and what it asks, or `line` where it asks nothing that is known.
 use ipam_model::Request;
+use ipam_records::{Key, key_text};
 use ipam_request_text::{push_live, push_request};
 use ipam_session::{AskFault, Wish, read_wish};
 use ipam_text::Text;
@@ -255,8 +312,19 @@ fn asked(alloc: Global, wish: &Wish) -> Result<String, AllocError> {
         Wish::Stop => String::from_str(alloc, "stop"),
         Wish::Routes => String::from_str(alloc, "routes"),
         Wish::RoutesSince(revision) => format!(in alloc; "since {revision}"),
+        Wish::Rows(kind, after) => paged(alloc, kind.name(), after),
+        Wish::Usage => String::from_str(alloc, "usage"),
         Wish::Opened => String::from_str(alloc, "opened"),
     }
+}
+
+fn paged(alloc: Global, word: &str, after: &Option<Key>) -> Result<String, AllocError> {
+    let Some(key) = after else {
+        return format!(in alloc; "rows {word}");
+    };
+    let key = key_text(alloc, key)?;
+    let key = key.as_str();
+    format!(in alloc; "rows {word} after {key}")
 }
 
 fn called(alloc: Global, env: &[(Text, Text)], stdin: &str) -> Result<String, AllocError> {

@@ -87,7 +87,7 @@ pub(crate) fn result_text(alloc: Global, text: &str) -> Result<String, AllocErro
     Ok(out)
 }
 
-/// The versions that are told to a caller of this one, behind the text `before `.
+/// The versions in the reply to a caller of this one, behind the text `before `.
 pub(crate) fn versions_text(alloc: Global, version: &str) -> Result<String, AllocError> {
     let version = version_of(version)?;
     let mut out = String::from_str(alloc, "before ")?;

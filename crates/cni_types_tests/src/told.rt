@@ -1,4 +1,4 @@
-//! What a line of a table says of a call.
+//! What a line of a table has for a call.
 use cni_types::{CniAdd, CniCheck, CniError, CniGc, CniStatus, Look, LookFault, look};
 use ipam_addr::{Addr, push_addr};
 use ipam_text::{Seq, Text};

@@ -8,7 +8,7 @@ use Rattle.ipam_resources.specs.declared.kind.ResourceKind.{ResourceKind}
 use Rattle.ipam_resources.specs.declared.kind.ResourceKind.TheVariants as kind
 use Rattle.ipam_resources.specs.declared.resource.Resource.{Resource}
 use Rattle.ipam_resources.specs.Resources.{pool_reading, reservation_reading, config_reading, config_name, pool_resource, reservation_resource, config_resource, pool_in, reservation_in, config_in, resource_in}
-use Rattle.ipam_resources.specs.Documents.{alone, json_of, object_reading, document_reading}
+use Rattle.ipam_resources.specs.Documents.{json_of, object_reading, document_reading}
 use Rattle.ipam_resources.proofs.DocumentParts.{bind_ok, same_Ok, document_each}
 use Rattle.ipam_apply.specs.Ready.{IsOfDocument}
 

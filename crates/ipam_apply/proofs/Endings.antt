@@ -18,7 +18,7 @@ use Rattle.ipam_commands.specs.declared.status.Status.TheVariants as status
 use Rattle.ipam_commands.specs.Telling.{Cut, IsNotLoaded, Untold as NoText, Whole, Writes}
 use Rattle.ipam_apply.specs.Applied.{Bad, DocumentEnds, Good, NoRoom, Opened, ResourcesEnd}
 use Rattle.ipam_apply.specs.Applying.{RunEnds}
-use Rattle.ipam_apply.specs.Inputs.{IsInput}
+use Rattle.ipam_apply.specs.Inputs.{IsDocument}
 use Rattle.ipam_apply.specs.Outside.{Outside, Says}
 use Rattle.ipam_apply.specs.Telling.{TellsFault}
 use Rattle.ipam_apply.proofs.DocumentKinds.{document_kinds}
@@ -78,7 +78,7 @@ fault-ends same document old new end document_fault.Memory kept is readable said
     NoRoom (readable refl) kept (record { written = none refl; no_write_fault = no_fault refl; no_memory = said })
 
 -- where all is done, the document was read to its end
-pub done-whole : (same : Type 0) (document : List ℕ) (old new : Outside) (end : Status) (left left' : Option (List ℕ)) → DocumentEnds same document old new end → IsInput left left' document → end ≡ status.Done → IsAtEnd left'
+pub done-whole : (same : Type 0) (document : List ℕ) (old new : Outside) (end : Status) (left left' : Option (List ℕ)) → DocumentEnds same document old new end → IsDocument left left' document → end ≡ status.Done → IsAtEnd left'
 done-whole same document old new end left left' (Good resources is ends) input done =
     input.whole (ltb-false DOCUMENT_MAX (length document) (document_kinds document resources is).1)
 done-whole same document old new end left left' (Bad why is kept said fixed) input done =

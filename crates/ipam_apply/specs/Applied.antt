@@ -1,5 +1,5 @@
 -- How `apply` ends.
-use Rattle.std.specs.Prelude.{◌≡◌, ◌≢◌, ℕ, List, codes, Option, Result, Ok, Err}
+use Rattle.std.specs.Prelude.{◌≡◌, ◌≢◌, ℕ, List, codes, Option, Ok, Err}
 use Rattle.ipam_io.specs.Counts.{Rose}
 use Rattle.ipam_records.specs.declared.call.Row.{Row as RowText}
 use Rattle.ipam_records.specs.Datastore.{Datastore}
@@ -12,7 +12,7 @@ use Rattle.ipam_commands.specs.declared.status.Status.{Status}
 use Rattle.ipam_commands.specs.declared.status.Status.TheVariants as status
 use Rattle.ipam_commands.specs.Telling.{AreOpened, FaultWrites, IsNotLoaded}
 use Rattle.ipam_apply.specs.Applying.{RunEnds}
-use Rattle.ipam_apply.specs.Inputs.{IsInput}
+use Rattle.ipam_apply.specs.Inputs.{IsDocument}
 use Rattle.ipam_apply.specs.Outside.{IsUntold, Outside, Says}
 
 abbrev pub read_line : List ℕ
@@ -28,7 +28,7 @@ pub data ResourcesEnd (resources : List Resource) (old new : Outside) (end : Sta
 
 -- How a document ends. All of it is read first: a bad one is refused by its first fault, and nothing is
 -- asked of the keeper. One that is too long or no text is refused whether or not there is memory, and a line
--- that is the same for each document takes none. `same` says that the keeper is the same.
+-- that is the same for each document takes none. `same`: the keeper is the same.
 pub data DocumentEnds (same : Type 0) (document : List ℕ) (old new : Outside) (end : Status) : Type 0 where
   Good : (resources : List Resource) → document_reading document ≡ Ok resources
       → ResourcesEnd resources old new end → DocumentEnds same document old new end
@@ -46,7 +46,7 @@ pub record Input : Type 0 where
 -- How `apply` ends: with what the source's document comes to; or the source failed, or there was no
 -- memory for the document, and nothing is asked of the keeper.
 pub data ApplyEnds (same : Type 0) (input input' : Input) (old new : Outside) (end : Status) : Type 0 where
-  Read : (document : List ℕ) → IsInput input.left input'.left document → input'.faults ≡ input.faults
+  Read : (document : List ℕ) → IsDocument input.left input'.left document → input'.faults ≡ input.faults
       → DocumentEnds same document old new end → ApplyEnds same input input' old new end
   ReadFailed : Rose input.faults input'.faults → same → Says old new read_line status.ReadFault end
       → ApplyEnds same input input' old new end

@@ -1,5 +1,5 @@
 -- What comes of resources that are applied one after another.
-use Rattle.std.specs.Prelude.{◌≡◌, ◌≢◌, ℕ, List, [], ◌∷◌, ◌++◌, Option, Some}
+use Rattle.std.specs.Prelude.{◌≡◌, ◌≢◌, ℕ, List, [], ◌∷◌, ◌++◌, Some}
 use Rattle.ipam_io.specs.Counts.{Rose}
 use Rattle.ipam_records.specs.Datastore.{Datastore}
 use Rattle.ipam_model.specs.declared.answer.Answer.{Answer}
@@ -26,7 +26,7 @@ use Rattle.ipam_apply.specs.Outside.{IsLeft, IsUntold, Outside, Says, Took, with
 abbrev pub asked : Resource → Request
 asked one = Admin one.change
 
--- what the resource's request alone is answered on a datastore, and the datastore that it leaves
+-- what the resource's request by itself is answered on a datastore, and the datastore that it leaves
 abbrev pub alone_on : Datastore → Resource → Answer × Datastore
 alone_on store one = alone_over (opened store) (asked one)
 
@@ -76,7 +76,7 @@ StepEnds store one old new (Ended end) = EndsAt store one old new end
 
 -- ---- all of them
 
--- How the resources end that are applied one after another on this datastore: each is applied and told;
+-- How the resources end that are applied one after another on this datastore: each is applied and its line written;
 -- or those before one are, and the run ends at that one.
 pub data RunEnds (store : Datastore) (resources : List Resource) (old new : Outside) (end : Status) : Type 0 where
   All : (left : Datastore) → AreApplied store resources left → IsLeft left old new

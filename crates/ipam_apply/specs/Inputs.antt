@@ -4,7 +4,7 @@ use Rattle.std.specs.Io.KnownBytes.{prepend_known, IsAtEnd}
 use Rattle.ipam_resources.specs.declared.fault.TheConstants.{DOCUMENT_MAX}
 
 -- the source's bytes up to its end, or one more than a document may have
-pub record IsInput (old new : Option (List ℕ)) (document : List ℕ) : Type 0 where
+pub record IsDocument (old new : Option (List ℕ)) (document : List ℕ) : Type 0 where
   pub bytes : old ≡ prepend_known document new
   pub whole : length document ≤ DOCUMENT_MAX → IsAtEnd new
   pub bound : length document ≤ DOCUMENT_MAX + 1

@@ -16,6 +16,14 @@ pub record Outside : Type 0 where
   pub rows : Option (List RowText)
   pub keeper_faults : ℕ
 
+abbrev pub outside_of : (written : Option (List ℕ)) (write_faults : ℕ) (rows : Option (List RowText)) (keeper_faults : ℕ) → Outside
+outside_of written write_faults rows keeper_faults = record {
+  written = written;
+  write_faults = write_faults;
+  rows = rows;
+  keeper_faults = keeper_faults;
+}
+
 -- the sink took this too
 abbrev pub with_text : Outside → List ℕ → Outside
 with_text out text = record out { written = append_known out.written text }

@@ -1,4 +1,4 @@
--- What is told of an answer.
+-- What is written of an answer.
 use Rattle.std.specs.Prelude.{◌≡◌, ◌≢◌, ◌⊎◌, ℕ, List, Some}
 use Rattle.ipam_model.specs.declared.answer.Answer.{Answer}
 use Rattle.ipam_model.specs.declared.answer.Answer.TheVariants as answer
@@ -14,7 +14,7 @@ use Rattle.ipam_apply.specs.declared.step.Step.{Step}
 use Rattle.ipam_apply.specs.declared.step.Step.TheVariants.{Applied, Ended}
 use Rattle.ipam_apply.specs.Applying.{IsApplied}
 
--- the answers that can be told of a resource
+-- the answers that the request of a resource can have
 pub data MayBeTold (told : Answer) : Type 0 where
   Applies : IsApplied told → MayBeTold told
   Refuses : (why : Refusal) → refusal_of told ≡ Some why → MayBeTold told
@@ -33,7 +33,7 @@ abbrev pub TellsRefused : Resource → Answer → Writing → Status → Type 0
 TellsRefused one told writes end =
     (why : Refusal) × (refusal_of told ≡ Some why) × writes (refused_line one why) status.Refused end
 
--- what is told of an answer
+-- what is written of an answer
 abbrev pub TellsAnswer : Resource → Answer → Writing → Step → Type 0
 TellsAnswer one told writes Applied = IsApplied told × TellsApplied one writes Applied
 TellsAnswer one told writes (Ended end) =
@@ -41,7 +41,7 @@ TellsAnswer one told writes (Ended end) =
     ⊎ TellsRefused one told writes end
     ⊎ ((told ≡ answer.Fault) × writes keeper_line status.KeeperFault end)
 
--- what is told of a document's fault; with no memory nothing is
+-- what is written of a document's fault; with no memory, nothing
 abbrev pub TellsFault : DocumentFault → Writing → Status → Type 0
 TellsFault document_fault.Memory writes end = end ≡ status.NoMemory
 TellsFault why writes end = writes (fault_line why) status.Refused end

@@ -1,6 +1,7 @@
 ghost use Rattle.std.specs.Prelude.{◌≡◌};
 ghost use Rattle.std.specs.Io.KnownBytes.{IsAtEnd};
 ghost use Rattle.ipam_apply.specs.Applied.{ApplyEnds, DocumentEnds};
+ghost use Rattle.ipam_apply.specs.Outside.{outside_of};
 
 use crate::resources::apply_resources;
 use crate::telling::tell_document;
@@ -11,7 +12,7 @@ use ipam_lines::{InputFault, read_whole};
 use ipam_resources::{DOCUMENT_MAX, read_resources};
 use std::alloc::Global;
 
-/// Applies the resources of the source's document, one after another, each as a request that runs alone
+/// Applies the resources of the source's document, one after another, each as a request that runs by itself
 /// over the keeper's rows, and writes a line for each once it is applied. The first that is refused
 /// ends the run.
 ///
@@ -26,18 +27,8 @@ pub fn apply<S: Source, K: Sink, D: Keeper>(
     ensures applied { ApplyEnds (keeper.new ≡ keeper.old)
         (record { left = S.left source.old; faults = S.read_faults source.old })
         (record { left = S.left source.new; faults = S.read_faults source.new })
-        (record {
-          written = K.written sink.old;
-          write_faults = K.write_faults sink.old;
-          rows = D.rows keeper.old;
-          keeper_faults = D.faults keeper.old;
-        })
-        (record {
-          written = K.written sink.new;
-          write_faults = K.write_faults sink.new;
-          rows = D.rows keeper.new;
-          keeper_faults = D.faults keeper.new;
-        }) result }
+        (outside_of (K.written sink.old) (K.write_faults sink.old) (D.rows keeper.old) (D.faults keeper.old))
+        (outside_of (K.written sink.new) (K.write_faults sink.new) (D.rows keeper.new) (D.faults keeper.new)) result }
     ensures whole { result ≡ Status.Done → IsAtEnd (S.left source.new) }
     ensures read_rest { S.read_rest source.new ≡ S.read_rest source.old }
     ensures write_rest { K.write_rest sink.new ≡ K.write_rest sink.old }
@@ -57,18 +48,8 @@ fn apply_document<K: Sink, D: Keeper>(
     keeper: &mut D,
 ) -> Status
     ensures ended { DocumentEnds (keeper.new ≡ keeper.old) document.now
-        (record {
-          written = K.written sink.old;
-          write_faults = K.write_faults sink.old;
-          rows = D.rows keeper.old;
-          keeper_faults = D.faults keeper.old;
-        })
-        (record {
-          written = K.written sink.new;
-          write_faults = K.write_faults sink.new;
-          rows = D.rows keeper.new;
-          keeper_faults = D.faults keeper.new;
-        }) result }
+        (outside_of (K.written sink.old) (K.write_faults sink.old) (D.rows keeper.old) (D.faults keeper.old))
+        (outside_of (K.written sink.new) (K.write_faults sink.new) (D.rows keeper.new) (D.faults keeper.new)) result }
     ensures rest { K.write_rest sink.new ≡ K.write_rest sink.old }
 {
     match read_resources(alloc, document) {

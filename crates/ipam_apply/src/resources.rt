@@ -3,6 +3,7 @@ ghost use Rattle.std.specs.Prelude.{◌≡◌};
 ghost use Rattle.std.specs.List.{All};
 ghost use Rattle.ipam_apply.specs.Applied.{ResourcesEnd};
 ghost use Rattle.ipam_apply.specs.Applying.{RunEnds};
+ghost use Rattle.ipam_apply.specs.Outside.{outside_of};
 ghost use Rattle.ipam_apply.specs.Ready.{IsFit, IsReady};
 
 use crate::step::{Step, apply_one};
@@ -23,18 +24,8 @@ pub(crate) fn apply_resources<K: Sink, D: Keeper>(
 ) -> Status
     requires { All IsFit resources }
     ensures ended { ResourcesEnd resources
-        (record {
-          written = K.written sink.old;
-          write_faults = K.write_faults sink.old;
-          rows = D.rows keeper.old;
-          keeper_faults = D.faults keeper.old;
-        })
-        (record {
-          written = K.written sink.new;
-          write_faults = K.write_faults sink.new;
-          rows = D.rows keeper.new;
-          keeper_faults = D.faults keeper.new;
-        }) result }
+        (outside_of (K.written sink.old) (K.write_faults sink.old) (D.rows keeper.old) (D.faults keeper.old))
+        (outside_of (K.written sink.new) (K.write_faults sink.new) (D.rows keeper.new) (D.faults keeper.new)) result }
     ensures rest { K.write_rest sink.new ≡ K.write_rest sink.old }
 {
     let (end, _keeper) = open_and_run(alloc, sink, &mut *keeper, resources);
@@ -50,18 +41,8 @@ fn open_and_run<K: Sink, D: Keeper>(
 ) -> (Status, D)
     requires { All IsFit resources }
     ensures ended { ResourcesEnd resources
-        (record {
-          written = K.written sink.old;
-          write_faults = K.write_faults sink.old;
-          rows = D.rows keeper;
-          keeper_faults = D.faults keeper;
-        })
-        (record {
-          written = K.written sink.new;
-          write_faults = K.write_faults sink.new;
-          rows = D.rows result.1;
-          keeper_faults = D.faults result.1;
-        }) result.0 }
+        (outside_of (K.written sink.old) (K.write_faults sink.old) (D.rows keeper) (D.faults keeper))
+        (outside_of (K.written sink.new) (K.write_faults sink.new) (D.rows result.1) (D.faults result.1)) result.0 }
     ensures same { D.name result.1 ≡ D.name keeper }
     ensures rest { K.write_rest sink.new ≡ K.write_rest sink.old }
 {
@@ -86,18 +67,8 @@ fn run<K: Sink, D: Keeper>(
     requires ready { IsReady D.rows kept.old }
     requires first { kept.old.cluster.entries ≡ 0 }
     ensures ended { RunEnds kept.old.cluster.store.store resources.items
-        (record {
-          written = K.written sink.old;
-          write_faults = K.write_faults sink.old;
-          rows = D.rows kept.old.keeper;
-          keeper_faults = D.faults kept.old.keeper;
-        })
-        (record {
-          written = K.written sink.new;
-          write_faults = K.write_faults sink.new;
-          rows = D.rows kept.new.keeper;
-          keeper_faults = D.faults kept.new.keeper;
-        }) result }
+        (outside_of (K.written sink.old) (K.write_faults sink.old) (D.rows kept.old.keeper) (D.faults kept.old.keeper))
+        (outside_of (K.written sink.new) (K.write_faults sink.new) (D.rows kept.new.keeper) (D.faults kept.new.keeper)) result }
     ensures same { D.name kept.new.keeper ≡ D.name kept.old.keeper }
     ensures rest { K.write_rest sink.new ≡ K.write_rest sink.old }
 {

@@ -16,13 +16,13 @@ use std::alloc::{AllocError, Global};
 /// What comes of one resource.
 #[derive(Clone, Copy, Debug, PartialEq, Eq)]
 pub(crate) enum Step {
-    /// It is applied and told.
+    /// It is applied, and its line is written.
     Applied,
     /// The run ends at it.
     Ended(Status),
 }
 
-/// Applies the resource as a request that runs alone, and tells what came of it.
+/// Applies the resource as a request that runs by itself, and writes what came of it.
 pub(crate) fn apply_one<K: Sink, D: Keeper>(
     alloc: Global,
     sink: &mut K,

@@ -1,4 +1,4 @@
-//! What came of a resource or a document is told.
+//! Writes what came of a resource or a document.
 ghost use Rattle.std.specs.Prelude.{◌≡◌, ◌≢◌, IfOk, IsSome, string_bytes};
 ghost use Rattle.ipam_resources.specs.Printed.{HasFixedLine, applied_line, fault_line, refusal_of, refused_line};
 ghost use Rattle.ipam_commands.specs.Telling.{Writes};

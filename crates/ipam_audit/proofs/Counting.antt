@@ -1,5 +1,5 @@
 -- The owners that were counted in the parts.
-use Rattle.std.proofs.Common.{◌≡◌, ℕ, ◌+◌, ◌*◌, ◌/◌, ◌%◌, ◌<◌, min, List, [], ◌∷◌, ◌++◌, length, get_or, sym, ap, ◌∙◌, refl, take, drop, ◌^◌, arith, ◌≤◌}
+use Rattle.std.proofs.Common.{◌≡◌, ℕ, ◌+◌, ◌/◌, ◌%◌, ◌<◌, min, List, [], ◌∷◌, ◌++◌, length, get_or, sym, ap, ◌∙◌, refl, take, drop, ◌^◌, arith}
 use Rattle.std.specs.Fork.{slice_chunk}
 use Rattle.std.specs.List.{flat_map, sum, sum_by}
 use Rattle.std.specs.Global.{Vec}

@@ -1,5 +1,5 @@
 -- What is opened has few owners.
-use Rattle.std.proofs.Common.{◌≡◌, ℕ, ◌<◌, ◌^◌, length}
+use Rattle.std.proofs.Common.{◌≡◌, ◌<◌, ◌^◌, length}
 use Rattle.ipam_records.specs.Datastore.{Datastore}
 use Rattle.ipam_model.specs.Opened.{Texts, OpensAs}
 use Rattle.ipam_model.specs.Owners.{owners}

@@ -1,15 +1,11 @@
 -- What is gathered, one item after the other.
-use Rattle.std.proofs.Common.{◌≡◌, ℕ, ◌+◌, ◌<◌, Option, Some, None, List, [], ◌∷◌, ◌++◌, length, get_or, drop, sym, ap, ◌∙◌, refl, add-one, drop-cons, append_assoc, option_to_list, length-append}
+use Rattle.std.proofs.Common.{◌≡◌, ℕ, ◌+◌, ◌<◌, List, ◌++◌, length, get_or, drop, sym, ap, ◌∙◌, refl, add-one, drop-cons, append_assoc, length-append}
 use Rattle.std.proofs.lemmas.Grind.{flat_map-append}
-use Rattle.std.specs.List.{flat_map, filter_map, cons_option}
+use Rattle.std.specs.List.{flat_map}
 use Rattle.std.specs.Global.{Vec}
 use Rattle.ipam_records.specs.declared.record.Record.{Record}
 use Rattle.ipam_records.specs.Pages.{rows_of_pages}
 use Rattle.ipam_records.proofs.PageLemmas.{rows_of_pages-drop}
-
-cons_list : {Y : Type 0} (o : Option Y) (ys : List Y) → option_to_list o ++ ys ≡ cons_option o ys
-cons_list None ys = refl
-cons_list (Some y) ys = refl
 
 module _ {X Y : Type 0} where
   -- a list for each item
@@ -18,23 +14,6 @@ module _ {X Y : Type 0} where
       let rest = flat_map f (drop (i + 1) xs) in
       let split : flat_map f (drop i xs) ≡ f x ++ rest = (rw (add-one, drop-cons xs i x) refl) ∙ ap (λ y. f y ++ rest) (sym e) in
       ap (λ ys. ys ++ rest) is ∙ (append_assoc {A = Y} found (f x) rest ∙ (sym (ap (λ ys. found ++ ys) split) ∙ so_far))
-
-  -- at most one for each item
-  pub step_option : (f : X → Option Y) (xs : List X) (i : ℕ) (x : X) → x ≡ get_or xs i x → i < length xs → (o : Option Y) → o ≡ f x → (found more all : List Y) → found ++ filter_map f (drop i xs) ≡ all → more ≡ found ++ option_to_list o → more ++ filter_map f (drop (i + 1) xs) ≡ all
-  step_option f xs i x e h o o_is found more all so_far is =
-      let rest = filter_map f (drop (i + 1) xs) in
-      let split : filter_map f (drop i xs) ≡ cons_option (f x) rest = (rw (add-one, drop-cons xs i x) refl) ∙ ap (λ y. cons_option (f y) rest) (sym e) in
-      ap (λ ys. ys ++ rest) is
-      ∙ (append_assoc {A = Y} found (option_to_list o) rest
-      ∙ (ap (λ ys. found ++ ys) (cons_list o rest ∙ ap (λ v. cons_option v rest) o_is)
-      ∙ (sym (ap (λ ys. found ++ ys) split) ∙ so_far)))
-
--- a list for each page of rows
-pub step_page : {Y : Type 0} (g : List (ℕ × Record) → List Y) → ((xs ys : List (ℕ × Record)) → g (xs ++ ys) ≡ g xs ++ g ys) → (pages : List (Vec (ℕ × Record))) (i : ℕ) (page : Vec (ℕ × Record)) → page ≡ get_or pages i page → i < length pages → (found more all : List Y) → found ++ g (rows_of_pages (drop i pages)) ≡ all → more ≡ found ++ g page.items → more ++ g (rows_of_pages (drop (i + 1) pages)) ≡ all
-step_page {Y} g splits pages i page e h found more all so_far is =
-    let rest = rows_of_pages (drop (i + 1) pages) in
-    let split : g (rows_of_pages (drop i pages)) ≡ g page.items ++ g rest = ap g (rows_of_pages-drop pages i page e h) ∙ splits page.items rest in
-    ap (λ ys. ys ++ g rest) is ∙ (append_assoc {A = Y} found (g page.items) (g rest) ∙ (sym (ap (λ ys. found ++ ys) split) ∙ so_far))
 
 -- ---- how many
 pub count_step : {X Y : Type 0} (f : X → List Y) (xs : List X) (i : ℕ) (x : X) → x ≡ get_or xs i x → i < length xs → length (flat_map f (drop i xs)) ≡ length (f x) + length (flat_map f (drop (i + 1) xs))

@@ -1,6 +1,7 @@
 //! The program's words `audit N`.
 ghost use Rattle.std.specs.Prelude.{◌≡◌, ◌≤◌, ◌<◌, None, IsSome, IfOk, IfErr, OnOk, map, string_bytes};
-ghost use Rattle.ipam_commands.specs.Telling.{IsNotLoaded, Tells, Writes};
+ghost use Rattle.ipam_kept.specs.Faults.{not_loaded, not_opened};
+ghost use Rattle.ipam_commands.specs.Telling.{IsNotLoaded, ReportsRows, Writes};
 ghost use Rattle.ipam_commands.specs.declared.status.Status.TheVariants.{UnknownWords};
 ghost use Rattle.ipam_keeper.specs.Rows.{Ascend};
 ghost use Rattle.ipam_kept.specs.Rows.{texts_loaded};
@@ -19,8 +20,8 @@ use crate::words::workers_asked;
 use ipam_cluster::Base;
 use ipam_commands::{Status, tell, tell_fault, tell_made};
 use ipam_io::Sink;
-use ipam_keeper::Keeper;
-use ipam_kept::{KeptFault, greatest_revision, not_loaded, not_opened};
+use ipam_keeper::{KeepFault, Keeper};
+use ipam_kept::{KeptFault, greatest_revision};
 use ipam_opening::OpenFault;
 use ipam_records::Row;
 use std::alloc::Global;
@@ -38,7 +39,7 @@ pub fn run_audit<R: Threads + Sync, K: Sink, D: Keeper>(
     keeper: &mut D,
 ) -> u8
     ensures audited { IsSome (workers_asked (map string_bytes words.now)) → EndsSo result (λ ending.
-        Tells (D.rows keeper.old) (D.faults keeper.old) (D.faults keeper.new) (λ rows store. report_text (report_of store))
+        ReportsRows (D.rows keeper.old) (D.faults keeper.old) (D.faults keeper.new) (λ rows store. report_text (report_of store))
         (λ text own. Writes (K.written sink.old) (K.written sink.new)
         (K.write_faults sink.old) (K.write_faults sink.new) text own ending)) }
     ensures unknown { workers_asked (map string_bytes words.now) ≡ None → EndsSo result (λ ending.
@@ -65,7 +66,7 @@ fn tell_audit<R: Threads + Sync, K: Sink, D: Keeper>(
 ) -> Status
     requires some { 0 < workers }
     requires few { workers ≤ MOST_WORKERS }
-    ensures told { Tells (D.rows keeper.old) (D.faults keeper.old) (D.faults keeper.new) (λ rows store. report_text (report_of store))
+    ensures told { ReportsRows (D.rows keeper.old) (D.faults keeper.old) (D.faults keeper.new) (λ rows store. report_text (report_of store))
         (λ text own. Writes (K.written sink.old) (K.written sink.new)
         (K.write_faults sink.old) (K.write_faults sink.new) text own result) }
     ensures same_rows { D.rows keeper.new ≡ D.rows keeper.old }
@@ -103,6 +104,25 @@ fn audit_kept<R: Threads + Sync, D: Keeper>(
     match audit_loaded(rt, alloc, workers, rows) {
         Ok(report) => Ok(report),
         Err(fault) => Err(not_opened(fault)),
+    }
+}
+
+// (opening is generic elsewhere; a runtime that threads share can't be handed through that)
+fn not_loaded(fault: KeepFault) -> KeptFault
+    ensures { result ≡ not_loaded fault }
+{
+    match fault {
+        KeepFault::Failed => KeptFault::Keeper,
+        KeepFault::Memory => KeptFault::Memory,
+    }
+}
+
+fn not_opened(fault: OpenFault) -> KeptFault
+    ensures { result ≡ not_opened fault }
+{
+    match fault {
+        OpenFault::Refused(number, about) => KeptFault::Refused(number, about),
+        OpenFault::Memory => KeptFault::Memory,
     }
 }
 

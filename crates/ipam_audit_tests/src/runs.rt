@@ -49,7 +49,7 @@ pub(crate) fn put(
     }
 }
 
-/// Runs the words, and tells the status and what was written. The sink's writes of these numbers fail.
+/// Runs the words, and returns the status and what was written. The sink's writes of these numbers fail.
 pub(crate) fn told<R: Threads + Sync>(
     rt: &R,
     alloc: Global,

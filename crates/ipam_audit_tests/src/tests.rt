@@ -4,37 +4,12 @@ use crate::tables::{BROKEN, MIXED, RACED, STOPPED, WORDED};
 use std::test::Fail;
 
 #[test]
-fn tells_of_a_lost_race(rt: HostRuntime) -> Result<(), Fail> {
-    let count = count_of(&rt, rt.alloc(), RACED)?;
-    assert_eq!(rt; count, 4);
-    Ok(())
-}
-
-#[test]
-fn tells_of_a_stopped_request(rt: HostRuntime) -> Result<(), Fail> {
-    let count = count_of(&rt, rt.alloc(), STOPPED)?;
-    assert_eq!(rt; count, 3);
-    Ok(())
-}
-
-#[test]
-fn tells_each_kind_in_its_order(rt: HostRuntime) -> Result<(), Fail> {
-    let count = count_of(&rt, rt.alloc(), MIXED)?;
-    assert_eq!(rt; count, 3);
-    Ok(())
-}
-
-#[test]
-fn reads_its_words(rt: HostRuntime) -> Result<(), Fail> {
-    let count = count_of(&rt, rt.alloc(), WORDED)?;
-    assert_eq!(rt; count, 24);
-    Ok(())
-}
-
-#[test]
-fn opens_no_broken_rows(rt: HostRuntime) -> Result<(), Fail> {
-    let count = count_of(&rt, rt.alloc(), BROKEN)?;
-    assert_eq!(rt; count, 4);
+fn audits_tell_what_is_left_over(rt: HostRuntime) -> Result<(), Fail> {
+    assert_eq!(&rt; count_of(&rt, rt.alloc(), RACED)?, 4);
+    assert_eq!(&rt; count_of(&rt, rt.alloc(), STOPPED)?, 3);
+    assert_eq!(&rt; count_of(&rt, rt.alloc(), MIXED)?, 3);
+    assert_eq!(&rt; count_of(&rt, rt.alloc(), WORDED)?, 24);
+    assert_eq!(&rt; count_of(&rt, rt.alloc(), BROKEN)?, 4);
     Ok(())
 }
 

@@ -1,5 +1,5 @@
 -- The version of no standard input.
-use Rattle.std.proofs.Common.{◌≡◌, ℕ, List, [], ◌&&◌, nat_le, Bool, true, false, Option, Some, None, option_and_then, refl, ap, if◌then◌else◌}
+use Rattle.std.proofs.Common.{◌≡◌, [], ◌&&◌, nat_le, Bool, true, false, Some, None, option_and_then, refl, ap, if◌then◌else◌}
 use Rattle.std.specs.Str.{is_utf8}
 use Rattle.json.specs.Lex.{lex, punctuate}
 use Rattle.json.specs.Json.{value}

@@ -5,3 +5,4 @@ pub mod Outcomes
 pub mod Wholes
 pub mod Statuses
 pub mod Empty
+pub mod Tellings

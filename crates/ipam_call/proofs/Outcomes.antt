@@ -1,5 +1,5 @@
 -- What comes of the line that was got.
-use Rattle.std.proofs.Common.{◌≡◌, ℕ, List, [], ◌∷◌, ◌++◌, ◌⊎◌, inl, inr, Option, Some, None, refl, sym, subst, length, arith, ◌<◌, ◌≤◌, nat_le, codes, ap, unwrap_or, option_map}
+use Rattle.std.proofs.Common.{◌≡◌, ℕ, List, [], ◌∷◌, ◌++◌, inl, Option, Some, arith, ◌≤◌, nat_le, codes, ap, unwrap_or, option_map}
 use Rattle.std.specs.Prelude.{Result, Ok, Err}
 use Rattle.std.specs.Str.{is_utf8}
 use Rattle.std.proofs.lemmas.Bool.{leb-true}
@@ -9,18 +9,17 @@ use Rattle.serde_json.specs.Find.{as_object}
 use Rattle.serde_json.specs.Read.{read}
 use Rattle.ipam_json.specs.Members.{only_if, whole_at, text_at}
 use Rattle.ipam_io.specs.Counts.{Rose}
-use Rattle.ipam_lines.specs.Feeds.{IsLine, IsTooLong, HasNoFeed}
+use Rattle.ipam_lines.specs.Feeds.{IsLine}
 use Rattle.ipam_lines.specs.Lines.{IsAnswerTo, OnReadFault, OnNoReadFault}
 use Rattle.ipam_lines.specs.declared.lines.Got.{Got}
 use Rattle.ipam_lines.specs.declared.lines.Got.TheVariants.{Line, End, Cut}
 use Rattle.ipam_lines.specs.declared.lines.LinesFault.{LinesFault}
 use Rattle.ipam_lines.specs.declared.lines.LinesFault.TheVariants as lines
-use Rattle.ipam_call.specs.declared.end.CallFault.{CallFault}
 use Rattle.ipam_call.specs.declared.end.CallFault.TheVariants.{Read, Undecodable, Link, Reply, Memory}
 use Rattle.ipam_call.specs.declared.end.DaemonReply.{DaemonReply}
 use Rattle.ipam_call.specs.Calls.{Outcome, Received, LinkFaults, MayBeReceived, IsExchanged, IsReading, IsOutcomeOf}
 use Rattle.ipam_lines.specs.declared.limits.TheConstants.{SESSION_LINE_BYTES}
-use Rattle.ipam_call.specs.Replies.{HasReply, HasNoReply, ends, too_long, other, are_of_reply, reply_in, reply_of_line}
+use Rattle.ipam_call.specs.Replies.{HasNoReply, ends, too_long, other, are_of_reply, reply_in, reply_of_line}
 
 -- ---- the bytes
 

@@ -1,6 +1,6 @@
 -- How a whole call goes, by what was read of standard input and how the exchange went.
-use Rattle.std.proofs.Common.{◌≡◌, ℕ, ◌≤◌, List, [], ◌++◌, length, ◌⊎◌, inl, inr, Option, Some, None, refl, sym, ap, subst, ◌∙◌, option_and_then}
-use Rattle.std.specs.Prelude.{Result, Ok, Err, IfSome}
+use Rattle.std.proofs.Common.{◌≡◌, ℕ, ◌≤◌, List, [], ◌++◌, length, Option, Some, None, refl, sym, ap, subst, option_and_then}
+use Rattle.std.specs.Prelude.{Ok, Err, IfSome}
 use Rattle.std.specs.Io.KnownBytes.{prepend_known, IsAtEnd}
 use Rattle.cni_types.specs.Looking.{input_text}
 use Rattle.cni_types.specs.Reading.{Pair}

@@ -87,17 +87,23 @@ ReadToEnd (Err Link) left = IsAtEnd left
 ReadToEnd (Err Reply) left = IsAtEnd left
 ReadToEnd (Err Memory) left = ⊤
 
-abbrev pub IsVersionOf : CallFault → Version → Version → Type 0
-IsVersionOf Read told version = version ≡ V1_0_0
-IsVersionOf Undecodable told version = version ≡ told
-IsVersionOf Link told version = version ≡ told
-IsVersionOf Reply told version = version ≡ told
-IsVersionOf Memory told version = (version ≡ V1_0_0) ⊎ (version ≡ told)
+-- The version in which a fault is told: that of standard input once it was read, and else 1.0.0. `same` says
+-- that the link is the same: until the version was read, nothing is asked of it.
+abbrev pub IsVersionOf : (same : Type 0) → CallFault → Version → Version → Type 0
+IsVersionOf same Read told version = same × (version ≡ V1_0_0)
+IsVersionOf same Undecodable told version = version ≡ told
+IsVersionOf same Link told version = version ≡ told
+IsVersionOf same Reply told version = version ≡ told
+IsVersionOf same Memory told version = (same × (version ≡ V1_0_0)) ⊎ (version ≡ told)
 
--- an error is told in the version of standard input, or in 1.0.0 before that is known
-abbrev pub IsTold : CallEnd → Version → Type 0
-IsTold (Replied reply) told = ⊤
-IsTold (Failed version fault) told = IsVersionOf fault told version
+abbrev pub IsTold : (same : Type 0) → CallEnd → Version → Type 0
+IsTold same (Replied reply) told = ⊤
+IsTold same (Failed version fault) told = IsVersionOf same fault told version
+
+-- an error is told in this version
+abbrev pub IsInVersion : CallEnd → Version → Type 0
+IsInVersion (Replied reply) told = ⊤
+IsInVersion (Failed version fault) told = version ≡ told
 
 -- What there is of a source and a link.
 pub record Streams : Type 0 where
@@ -111,12 +117,20 @@ pub record Streams : Type 0 where
   pub replies : Option (List ℕ)
   pub reply_faults : ℕ
 
--- How a call with this environment went that ended so.
-pub record Went (env : List Pair) (end : CallEnd) (old new : Streams) : Type 0 where
+-- nothing was asked of the link, as far as it tells
+pub record IsUnasked (old new : Streams) : Type 0 where
+  pub sent : new.sent ≡ old.sent
+  pub send_faults : new.send_faults ≡ old.send_faults
+  pub replies : new.replies ≡ old.replies
+  pub reply_faults : new.reply_faults ≡ old.reply_faults
+
+-- How a call with this environment went that ended so. `same` says that the link is the same: an error is in
+-- the version of standard input once that was read, and until then nothing is asked of the link.
+pub record Went (same : Type 0) (env : List Pair) (end : CallEnd) (old new : Streams) : Type 0 where
   pub sent : IfSome old.input (λ input. Sent (outcome end) (line_for env input) old.sent new.sent)
   pub received : IfSome old.replies (λ bytes. Received (outcome end) bytes)
   pub status : HasStatus (outcome end)
-  pub version : IfSome old.input (λ input. IsTold end (version_for input))
+  pub version : IfSome old.input (λ input. IsTold same end (version_for input))
   pub read : ReadToEnd (outcome end) new.input
   pub source_faults : SourceFaults (outcome end) old.input_faults new.input_faults
   pub link_faults : LinkFaults (outcome end) old.reply_faults new.reply_faults old.send_faults new.send_faults

@@ -1,16 +1,13 @@
 -- How calls end, and what they write.
-use Rattle.std.specs.Prelude.{◌≡◌, ℕ, ◌≤◌, ◌⊎◌, List, Option, ⊤}
+use Rattle.std.specs.Prelude.{◌≡◌, ℕ, ◌≤◌, ◌⊎◌, List, Option}
 use Rattle.std.specs.Io.KnownBytes.{append_known}
 use Rattle.ipam_io.specs.Counts.{Rose}
 use Rattle.ipam_io.specs.Streams.{AppendsPrefix}
-use Rattle.cni_types.specs.declared.error.CniError.{CniError}
-use Rattle.cni_types.specs.declared.version.Version.{Version}
 use Rattle.cni_types.specs.Texts.{error_text}
 use Rattle.ipam_call.specs.declared.end.CallEnd.{CallEnd}
 use Rattle.ipam_call.specs.declared.end.CallEnd.TheVariants.{Replied, Failed}
 use Rattle.ipam_call.specs.declared.end.CallFault.{CallFault}
 use Rattle.ipam_call.specs.declared.end.CallFault.TheVariants.{Read, Undecodable, Link, Reply, Memory}
-use Rattle.ipam_call.specs.declared.end.DaemonReply.{DaemonReply}
 use Rattle.ipam_call.specs.declared.fixed.FixedError.{FixedError}
 use Rattle.ipam_call.specs.declared.fixed.FixedError.TheVariants as fixed
 use Rattle.ipam_call.specs.Fixed.{fixed_error}
@@ -34,9 +31,9 @@ end_status (Failed version fault) = 1
 
 -- What is written, what the count of faults comes to and the status: all is written; or a write
 -- failed, the status 4.
-pub data Tells (end : CallEnd) (old new : Option (List ℕ)) (faults faults' : ℕ) : ℕ → Type 0 where
-  whole : new ≡ append_known old (end_text end) → faults' ≡ faults → Tells end old new faults faults' (end_status end)
-  cut : AppendsPrefix old new (end_text end) → Rose faults faults' → Tells end old new faults faults' 4
+pub data WritesCallEnd (end : CallEnd) (old new : Option (List ℕ)) (faults faults' : ℕ) : ℕ → Type 0 where
+  whole : new ≡ append_known old (end_text end) → faults' ≡ faults → WritesCallEnd end old new faults faults' (end_status end)
+  cut : AppendsPrefix old new (end_text end) → Rose faults faults' → WritesCallEnd end old new faults faults' 4
 
 -- the statuses of a call: of a reply or an error, and of a sink that failed
 abbrev pub IsStatus : ℕ → Type 0

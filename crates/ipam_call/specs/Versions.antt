@@ -1,4 +1,4 @@
--- The version in which an error is told.
+-- The version in which an error is written.
 use Rattle.std.specs.Prelude.{ℕ, List, Option, Some, None, option_and_then}
 use Rattle.serde_json.specs.Data.{Data}
 use Rattle.serde_json.specs.Read.{read}

@@ -30,6 +30,6 @@ pub enum CallFault {
 pub enum CallEnd {
     /// The daemon replied, with success or with an error of the call.
     Replied(DaemonReply),
-    /// The error is told in this version.
+    /// The error is written in this version.
     Failed(Version, CallFault),
 }

@@ -16,7 +16,7 @@ pub use end::{CallEnd, CallFault, DaemonReply};
 pub use fixed::{FixedError, fixed_text};
 pub use input::read_input;
 pub use ipam_lines::InputFault;
-pub use run::{call_daemon, run_call};
+pub use run::run_call;
 pub use std::alloc::AllocError as Memory;
 pub use telling::tell_end;
 pub use version::version_for;

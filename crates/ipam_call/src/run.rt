@@ -1,8 +1,8 @@
 //! A whole call.
 ghost use Rattle.std.specs.Prelude.{◌≡◌, IfSome};
 ghost use Rattle.ipam_call.specs.declared.end.CallEnd.{CallEnd as End};
-ghost use Rattle.ipam_call.specs.Calls.{Went, Sent, Received, IsTold, LinkFaults, IsExchanged, outcome};
-ghost use Rattle.ipam_call.specs.Ends.{Tells, IsStatus};
+ghost use Rattle.ipam_call.specs.Calls.{Went, Sent, Received, IsInVersion, IsTold, LinkFaults, IsExchanged, outcome};
+ghost use Rattle.ipam_call.specs.Ends.{WritesCallEnd, IsStatus};
 ghost use Rattle.ipam_call.specs.Requests.{line_for};
 ghost use Rattle.ipam_call.specs.Versions.{version_for};
 
@@ -15,12 +15,14 @@ use cni_types::Version;
 use ipam_io::{Link, Sink, Source};
 use ipam_lines::InputFault;
 use ipam_text::Text;
-use std::alloc::Global;
+use std::alloc::{AllocError, Global};
 
 /// Makes one CNI call of the daemon behind the link: reads standard input, sends one line, reads
 /// one line, writes what the daemon replied and gives its status.
 ///
-/// Where there is no reply it writes an error and gives 1. It gives 4 where the sink failed.
+/// Where there is no reply it writes an error and gives 1. It gives 4 where the sink failed. An error is in
+/// the version of standard input once that was read, and else in 1.0.0; until then nothing is asked of the
+/// link.
 pub fn run_call<S: Source, K: Sink, L: Link>(
     alloc: Global,
     env: &[(Text, Text)],
@@ -29,7 +31,7 @@ pub fn run_call<S: Source, K: Sink, L: Link>(
     link: &mut L,
 ) -> u8
     ensures called { (end : End)
-        × Went env.now end
+        × Went (link.new ≡ link.old) env.now end
         (record {
           input = S.left source.old;
           input_faults = S.read_faults source.old;
@@ -46,7 +48,7 @@ pub fn run_call<S: Source, K: Sink, L: Link>(
           replies = L.left link.new;
           reply_faults = L.read_faults link.new;
         })
-        × Tells end (K.written sink.old) (K.written sink.new)
+        × WritesCallEnd end (K.written sink.old) (K.written sink.new)
         (K.write_faults sink.old) (K.write_faults sink.new) result }
     ensures status { IsStatus result }
     ensures source_rest { S.read_rest source.new ≡ S.read_rest source.old }
@@ -57,13 +59,13 @@ pub fn run_call<S: Source, K: Sink, L: Link>(
 }
 
 /// The same, but for what is written.
-pub fn call_daemon<S: Source, L: Link>(
+fn call_daemon<S: Source, L: Link>(
     alloc: Global,
     env: &[(Text, Text)],
     source: &mut S,
     link: &mut L,
 ) -> CallEnd
-    ensures went { Went env.now result
+    ensures went { Went (link.new ≡ link.old) env.now result
         (record {
           input = S.left source.old;
           input_faults = S.read_faults source.old;
@@ -89,18 +91,39 @@ pub fn call_daemon<S: Source, L: Link>(
     }
 }
 
+/// Reads the version of the configuration, and makes the call with this standard input.
+#[tactic(auto, using(crate::proofs::Tellings::told_in))]
 fn call_with<L: Link>(alloc: Global, env: &[(Text, Text)], input: &[u8], link: &mut L) -> CallEnd
     ensures sent { Sent (outcome result) (line_for env.now input.now)
         (L.written link.old) (L.written link.new) }
     ensures received { IfSome (L.left link.old) (λ bytes. Received (outcome result) bytes) }
-    ensures version { IsTold result (version_for input.now) }
+    ensures version { IsTold (link.new ≡ link.old) result (version_for input.now) }
     ensures faults { LinkFaults (outcome result) (L.read_faults link.old) (L.read_faults link.new)
         (L.write_faults link.old) (L.write_faults link.new) }
     ensures causes { IsExchanged (outcome result) }
 {
-    let Ok(version) = version_for(alloc, input) else {
-        return CallEnd::Failed(Version::V1_0_0, CallFault::Memory);
-    };
+    match version_for(alloc, input) {
+        Ok(version) => call_in(alloc, env, input, version, link),
+        Err(AllocError) => CallEnd::Failed(Version::V1_0_0, CallFault::Memory),
+    }
+}
+
+/// Makes the call. Its errors are told in this version.
+fn call_in<L: Link>(
+    alloc: Global,
+    env: &[(Text, Text)],
+    input: &[u8],
+    version: Version,
+    link: &mut L,
+) -> CallEnd
+    ensures sent { Sent (outcome result) (line_for env.now input.now)
+        (L.written link.old) (L.written link.new) }
+    ensures received { IfSome (L.left link.old) (λ bytes. Received (outcome result) bytes) }
+    ensures version { IsInVersion result version }
+    ensures faults { LinkFaults (outcome result) (L.read_faults link.old) (L.read_faults link.new)
+        (L.write_faults link.old) (L.write_faults link.new) }
+    ensures causes { IsExchanged (outcome result) }
+{
     match exchange(alloc, env, input, link) {
         Ok(reply) => CallEnd::Replied(reply),
         Err(fault) => CallEnd::Failed(version, fault),

@@ -1,6 +1,6 @@
 //! The end of a call is written.
 ghost use Rattle.std.specs.Prelude.{◌≡◌};
-ghost use Rattle.ipam_call.specs.Ends.{fixed_of, Tells};
+ghost use Rattle.ipam_call.specs.Ends.{fixed_of, WritesCallEnd};
 
 use crate::end::{CallEnd, CallFault};
 use crate::fixed::{FixedError, fixed_text};
@@ -13,7 +13,7 @@ const SINK_FAULT: u8 = 4;
 /// Writes what the daemon replied, or the error, in one write. Takes no memory. Gives the status of the
 /// reply, 1 with an error and 4 where the write failed.
 pub fn tell_end<K: Sink>(sink: &mut K, end: &CallEnd) -> u8
-    ensures told { Tells end.now (K.written sink.old) (K.written sink.new)
+    ensures told { WritesCallEnd end.now (K.written sink.old) (K.written sink.new)
         (K.write_faults sink.old) (K.write_faults sink.new) result }
     ensures rest { K.write_rest sink.new ≡ K.write_rest sink.old }
 {
@@ -27,7 +27,7 @@ pub fn tell_end<K: Sink>(sink: &mut K, end: &CallEnd) -> u8
 }
 
 fn tell_fault<K: Sink>(sink: &mut K, version: Version, fault: CallFault) -> u8
-    ensures told { Tells (CallEnd.Failed version fault) (K.written sink.old) (K.written sink.new)
+    ensures told { WritesCallEnd (CallEnd.Failed version fault) (K.written sink.old) (K.written sink.new)
         (K.write_faults sink.old) (K.write_faults sink.new) result }
     ensures rest { K.write_rest sink.new ≡ K.write_rest sink.old }
 {

@@ -1,5 +1,5 @@
-//! The version in which an error is told.
-ghost use Rattle.std.specs.Prelude.{◌≡◌, IfOk, option_map};
+//! The version in which an error is written.
+ghost use Rattle.std.specs.Prelude.{◌≡◌, IfOk};
 ghost use Rattle.serde_json.specs.View.{view};
 ghost use Rattle.cni_types.specs.Looking.{told_version};
 ghost use Rattle.ipam_call.specs.Versions.{version_for};

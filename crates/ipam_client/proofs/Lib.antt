@@ -1,1 +1,2 @@
-mod NoReply
+mod Unasked
+mod Nobody

@@ -2,8 +2,8 @@
 ghost use Rattle.std.specs.Prelude.{◌≡◌, ℕ, Option, List, ◌⊎◌};
 ghost use Rattle.ipam_io.specs.Counts.{Rose, next_count};
 ghost use Rattle.ipam_call.specs.declared.end.CallEnd.{CallEnd as End};
-ghost use Rattle.ipam_call.specs.Calls.{Streams, Went};
-ghost use Rattle.ipam_call.specs.Ends.{IsStatus, Tells};
+ghost use Rattle.ipam_call.specs.Calls.{IsUnasked, Streams, Went};
+ghost use Rattle.ipam_call.specs.Ends.{IsStatus, WritesCallEnd};
 ghost use Rattle.ipam_client.specs.Unreached.{IsUnreached};
 
 use crate::connecting::{Connector, Connects};
@@ -30,10 +30,10 @@ pub fn call<R: Net<Stream = TcpStream> + Clock, S: Source, K: Sink>(
 ) -> u8
     ensures called { (end : End)
         × (IsUnreached (S.left source.old) (S.read_faults source.old) (S.read_faults source.new) end
-        ⊎ ((before after : Streams) × Went env.now end before after
+        ⊎ ((before after : Streams) × Went (IsUnasked before after) env.now end before after
         × (before.input ≡ S.left source.old) × (after.input ≡ S.left source.new)
         × (before.input_faults ≡ S.read_faults source.old) × (after.input_faults ≡ S.read_faults source.new)))
-        × Tells end (K.written sink.old) (K.written sink.new) (K.write_faults sink.old) (K.write_faults sink.new) result }
+        × WritesCallEnd end (K.written sink.old) (K.written sink.new) (K.write_faults sink.old) (K.write_faults sink.new) result }
     ensures status { IsStatus result }
     ensures source_rest { S.read_rest source.new ≡ S.read_rest source.old }
     ensures sink_rest { K.write_rest sink.new ≡ K.write_rest sink.old }
@@ -51,7 +51,7 @@ pub fn call_by<L: Link + Drop, C: Connects<L>, S: Source, K: Sink>(
     sink: &mut K,
 ) -> u8
     ensures reached { ((C.connected connector.new ≡ next_count (C.connected connector.old)) × (C.faults connector.new ≡ C.faults connector.old)
-        × ((end : End) × (before after : L) × Went env.now end
+        × ((end : End) × (before after : L) × Went (after ≡ before) env.now end
         (record {
           input = S.left source.old;
           input_faults = S.read_faults source.old;
@@ -68,10 +68,10 @@ pub fn call_by<L: Link + Drop, C: Connects<L>, S: Source, K: Sink>(
           replies = L.left after;
           reply_faults = L.read_faults after;
         })
-        × Tells end (K.written sink.old) (K.written sink.new) (K.write_faults sink.old) (K.write_faults sink.new) result))
+        × WritesCallEnd end (K.written sink.old) (K.written sink.new) (K.write_faults sink.old) (K.write_faults sink.new) result))
         ⊎ ((C.connected connector.new ≡ C.connected connector.old) × Rose (C.faults connector.old) (C.faults connector.new)
         × ((end : End) × IsUnreached (S.left source.old) (S.read_faults source.old) (S.read_faults source.new) end
-        × Tells end (K.written sink.old) (K.written sink.new) (K.write_faults sink.old) (K.write_faults sink.new) result)) }
+        × WritesCallEnd end (K.written sink.old) (K.written sink.new) (K.write_faults sink.old) (K.write_faults sink.new) result)) }
     ensures status { IsStatus result }
     ensures source_rest { S.read_rest source.new ≡ S.read_rest source.old }
     ensures sink_rest { K.write_rest sink.new ≡ K.write_rest sink.old }

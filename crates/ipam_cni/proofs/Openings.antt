@@ -17,7 +17,7 @@ use Rattle.cni_asks.specs.declared.asks.Ask.TheVariants.{Tell, Begin}
 use Rattle.ipam_cni.specs.declared.end.CniEnd.{CniEnd}
 use Rattle.ipam_cni.specs.declared.end.CniEnd.TheVariants.{Told, Failed}
 use Rattle.ipam_cni.specs.declared.end.CniFault.TheVariants.{Read, Undecodable, Keeper, Memory}
-use Rattle.ipam_cni.specs.Calls.{CallEnds, IsInVersion, IsNotOpenedEnd, NoConfiguration, RefusalEnds, RequestEnds, RunEnds, TellsError, WithDetails}
+use Rattle.ipam_cni.specs.Calls.{CallEnds, IsInVersion, IsNotOpenedEnd, NoConfiguration, RefusalEnds, RequestEnds, AloneEnds, TellsError, WithDetails}
 use Rattle.ipam_cni.specs.Ends.{fault_error}
 use Rattle.ipam_cni.specs.Replies.{Answered, Asked, AtOnce, BadRows, Refused, Reply, RequestComesTo, begun_by}
 use Rattle.ipam_cni.proofs.LookVersions.{undecodable_error}
@@ -27,7 +27,7 @@ use Rattle.ipam_cni.proofs.Versions.{error_version, request_version}
 
 -- what was opened runs over the rows that were loaded
 pub opened_ends : {D : Type 0} (tells : Tells D) (faults name : D → ℕ) (keeper : D) (kept : Kept D) (asked : Request) (version : Version) (end : CniEnd) (new : Option (List RowText)) (after : ℕ) → IsOpened tells faults name keeper 0 kept
-    → RunEnds kept.cluster.store.store asked version end new (faults kept.keeper) after → RequestEnds asked version end (tells keeper) new (faults keeper) after
+    → AloneEnds kept.cluster.store.store asked version end new (faults kept.keeper) after → RequestEnds asked version end (tells keeper) new (faults keeper) after
 opened_ends tells faults name keeper kept asked version (Told status text) new after o (same, e) = (
   same ∙ o.no_fault,
   subst (λ (r : Reply). RequestComesTo asked version (tells keeper) new r) e.text

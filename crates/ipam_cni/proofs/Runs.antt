@@ -17,7 +17,7 @@ use Rattle.cni_types.specs.declared.version.Version.{Version}
 use Rattle.ipam_cni.specs.declared.end.CniEnd.{CniEnd}
 use Rattle.ipam_cni.specs.declared.end.CniEnd.TheVariants.{Failed}
 use Rattle.ipam_cni.specs.declared.end.CniFault.TheVariants.{Memory}
-use Rattle.ipam_cni.specs.Calls.{AnswerEnds, KeeperFailed, AnswerTold, NoMemory, RunEnds}
+use Rattle.ipam_cni.specs.Calls.{AnswerEnds, KeeperFailed, AnswerTold, NoMemory, AloneEnds}
 use Rattle.ipam_cni.specs.Replies.{reply_to}
 
 module _ {D : Type 0} (tells : Tells D) (faults : D → ℕ) (asked : Request) (old new : Kept D)
@@ -31,7 +31,7 @@ module _ {D : Type 0} (tells : Tells D) (faults : D → ℕ) (asked : Request) (
   base-opened : base_of old ≡ opened old.cluster.store.store
   base-opened = ap (λ (n : ℕ). record { store = old.cluster.store.store; first = n }) first
 
-  pub stopped_ends : (version : Version) → old.doubt ≡ None → IsStopped tells faults asked old new → RunEnds old.cluster.store.store asked version (Failed version Memory) (tells new.keeper) (faults old.keeper) (faults new.keeper)
+  pub stopped_ends : (version : Version) → old.doubt ≡ None → IsStopped tells faults asked old new → AloneEnds old.cluster.store.store asked version (Failed version Memory) (tells new.keeper) (faults old.keeper) (faults new.keeper)
   stopped_ends version sure e = (
     refl,
     e.no_fault,
@@ -43,7 +43,7 @@ module _ {D : Type 0} (tells : Tells D) (faults : D → ℕ) (asked : Request) (
     },
   )
 
-  alone-ends : (version : Version) (told : Answer) (end : CniEnd) → IsAnswered tells faults asked old new told → AnswerEnds asked told version end → RunEnds old.cluster.store.store asked version end (tells new.keeper) (faults old.keeper) (faults new.keeper)
+  alone-ends : (version : Version) (told : Answer) (end : CniEnd) → IsAnswered tells faults asked old new told → AnswerEnds asked told version end → AloneEnds old.cluster.store.store asked version end (tells new.keeper) (faults old.keeper) (faults new.keeper)
   alone-ends version told end e (KeeperFailed is) = absurd (e.not_fault is)
   alone-ends version told end e (AnswerTold reply not is) = (
     e.no_fault,
@@ -68,11 +68,11 @@ module _ {D : Type 0} (tells : Tells D) (faults : D → ℕ) (asked : Request) (
     },
   )
 
-  failed-ends : (version : Version) (told : Answer) (end : CniEnd) → IsFaulted tells faults asked old new told → AnswerEnds asked told version end → RunEnds old.cluster.store.store asked version end (tells new.keeper) (faults old.keeper) (faults new.keeper)
+  failed-ends : (version : Version) (told : Answer) (end : CniEnd) → IsFaulted tells faults asked old new told → AnswerEnds asked told version end → AloneEnds old.cluster.store.store asked version end (tells new.keeper) (faults old.keeper) (faults new.keeper)
   failed-ends version told end e (KeeperFailed is) = (refl, e.fault, fault-course tells faults asked old new (opened old.cluster.store.store) kept told e)
   failed-ends version told end e (AnswerTold reply not is) = absurd (not e.is_fault)
   failed-ends version told end e (NoMemory not) = absurd (not e.is_fault)
 
-  pub answered_ends : (version : Version) (told : Answer) (end : CniEnd) → IsAnswered tells faults asked old new told ⊎ IsFaulted tells faults asked old new told → AnswerEnds asked told version end → RunEnds old.cluster.store.store asked version end (tells new.keeper) (faults old.keeper) (faults new.keeper)
+  pub answered_ends : (version : Version) (told : Answer) (end : CniEnd) → IsAnswered tells faults asked old new told ⊎ IsFaulted tells faults asked old new told → AnswerEnds asked told version end → AloneEnds old.cluster.store.store asked version end (tells new.keeper) (faults old.keeper) (faults new.keeper)
   answered_ends version told end (inl e) ends = alone-ends version told end e ends
   answered_ends version told end (inr e) ends = failed-ends version told end e ends

@@ -12,7 +12,7 @@ use Rattle.ipam_cni.specs.declared.end.CniEnd.{CniEnd}
 use Rattle.ipam_cni.specs.declared.end.CniEnd.TheVariants.{Told, Failed}
 use Rattle.ipam_cni.specs.Calls.{Sides, Went}
 use Rattle.ipam_call.specs.Ends.{IsStatus}
-use Rattle.ipam_cni.specs.Ends.{Tells}
+use Rattle.ipam_cni.specs.Ends.{WritesCniEnd}
 use Rattle.ipam_cni.specs.Replies.{Answered, Asked, AtOnce, BadRows, ComesTo, Refused, Reply, RequestComesTo}
 use Rattle.ipam_cni.proofs.Shortness.{comes_short}
 
@@ -30,7 +30,7 @@ comes-small env stdin old new _ (Refused error is same) = omega arith
 comes-small env stdin old new _ (AtOnce look text is begins same) = omega arith
 comes-small env stdin old new _ (Asked look asked version reply is begins comes) = request-small asked version old new reply comes
 
-pub told_status : (keeper : Type 0) (env : List Pair) (end : CniEnd) (old new : Sides) (written written' : Option (List ℕ)) (before after status : ℕ) → Went keeper env end old new → Tells end written written' before after status → IsStatus status
+pub told_status : (keeper : Type 0) (env : List Pair) (end : CniEnd) (old new : Sides) (written written' : Option (List ℕ)) (before after status : ℕ) → Went keeper env end old new → WritesCniEnd end written written' before after status → IsStatus status
 told_status keeper env (Told own text) old new written written' before after status went (inl (is, same)) =
     inl (subst (λ (n : ℕ). n ≤ 1) (sym same) (comes-small env went.stdin old.rows new.rows (own, text) went.ends.1))
 told_status keeper env (Told own text) old new written written' before after status went (inr (is, same)) = inr same
@@ -38,7 +38,7 @@ told_status keeper env (Failed version fault) old new written written' before af
 told_status keeper env (Failed version fault) old new written written' before after status went (inr (is, same)) = inr same
 
 -- success is told of standard input that was read to its end
-pub told_to_end : (keeper : Type 0) (env : List Pair) (end : CniEnd) (old new : Sides) (written written' : Option (List ℕ)) (before after status : ℕ) → Went keeper env end old new → Tells end written written' before after status → status ≡ 0 → IsAtEnd new.input
+pub told_to_end : (keeper : Type 0) (env : List Pair) (end : CniEnd) (old new : Sides) (written written' : Option (List ℕ)) (before after status : ℕ) → Went keeper env end old new → WritesCniEnd end written written' before after status → status ≡ 0 → IsAtEnd new.input
 told_to_end keeper env (Told own text) old new written written' before after status went (inl (is, same)) none =
     went.input.whole (comes_short env went.stdin old.rows new.rows (own, text) went.ends.1 (sym same ∙ none))
 told_to_end keeper env (Told own text) old new written written' before after status went (inr (is, same)) none = absurd (omega arith)

@@ -44,22 +44,22 @@ abbrev pub end_of : {E : Type 0} → Version → Result (ℕ × List ℕ) E → 
 end_of version (Ok reply) = Told reply.0 reply.1
 end_of version (Err none) = Failed version Memory
 
--- the error is told, or there is no memory for its text
+-- the error is written, or there is no memory for its text
 abbrev pub TellsError : CniError → CniEnd → Type 0
 TellsError error end = (end ≡ Told 1 (error_text error)) ⊎ (end ≡ Failed error.version Memory)
 
--- how a refused call ends: that standard input is no configuration takes no memory to tell
+-- how a refused call ends; the error for standard input that is no configuration takes no memory
 pub data RefusalEnds (error : CniError) : CniEnd → Type 0 where
   NoConfiguration : error.code ≡ code.Undecodable → RefusalEnds error (Failed error.version Undecodable)
   WithDetails : (end : CniEnd) → error.code ≢ code.Undecodable → TellsError error end → RefusalEnds error end
 
--- what is told of rows that were not opened
+-- what is written where the rows were not opened
 abbrev pub IsNotOpenedEnd : Version → KeptFault → CniEnd → Type 0
 IsNotOpenedEnd version fault.Keeper end = end ≡ Failed version Keeper
 IsNotOpenedEnd version fault.Memory end = end ≡ Failed version Memory
 IsNotOpenedEnd version (fault.Refused number about) end = TellsError (bad_rows version number about) end
 
--- the answer is told, or there is no memory for its text; a keeper that failed is told as that
+-- the answer is written, or there is no memory for its text; a keeper that failed has its own error
 pub data AnswerEnds (asked : Request) (found : Answer) (version : Version) : CniEnd → Type 0 where
   KeeperFailed : found ≡ Fault → AnswerEnds asked found version (Failed version Keeper)
   AnswerTold : (reply : CniReply) → found ≢ Fault → reply_to asked found ≡ Some reply
@@ -69,13 +69,13 @@ pub data AnswerEnds (asked : Request) (found : Answer) (version : Version) : Cni
 -- ---- a request over opened rows
 
 -- the rows are those of a course of the request that ends in a stop or in its answer
-pub record IsStopCourse (store : Datastore) (asked : Request) (new : Option (List RowText)) : Type 0 where
+pub record IsStopOrAnswerCourse (store : Datastore) (asked : Request) (new : Option (List RowText)) : Type 0 where
   pub entries : List Entry
   pub lawful : Lawful (opened store) entries
   pub alone : IsStoppedAlone asked entries ⊎ IsAlone asked entries
   pub rows : IfSome new (λ after. AreTextsOf after (store_at (opened store) entries))
 
--- the answer is that of the request alone, by a lawful history of its own, and the rows are those of the
+-- the answer is that of the request by itself, by a lawful history of its own, and the rows are those of the
 -- datastore that it leaves
 pub record IsAloneReply (store : Datastore) (asked : Request) (version : Version) (new : Option (List RowText)) (reply : ℕ × List ℕ) : Type 0 where
   pub is_told : CniReply
@@ -85,15 +85,15 @@ pub record IsAloneReply (store : Datastore) (asked : Request) (version : Version
   pub course : IsAnswerCourse (opened store) asked (alone_over (opened store) asked).0 (alone_over (opened store) asked).1
 
 -- How a request ends that runs by itself over the rows of a datastore.
-abbrev pub RunEnds : (store : Datastore) → Request → Version → CniEnd → (new : Option (List RowText)) → (faults faults' : ℕ) → Type 0
-RunEnds store asked version (Told status text) new faults faults' =
+abbrev pub AloneEnds : (store : Datastore) → Request → Version → CniEnd → (new : Option (List RowText)) → (faults faults' : ℕ) → Type 0
+AloneEnds store asked version (Told status text) new faults faults' =
     (faults' ≡ faults) × IsAloneReply store asked version new (status, text)
-RunEnds store asked version (Failed in_version Read) new faults faults' = ⊥
-RunEnds store asked version (Failed in_version Undecodable) new faults faults' = ⊥
-RunEnds store asked version (Failed in_version Keeper) new faults faults' =
+AloneEnds store asked version (Failed in_version Read) new faults faults' = ⊥
+AloneEnds store asked version (Failed in_version Undecodable) new faults faults' = ⊥
+AloneEnds store asked version (Failed in_version Keeper) new faults faults' =
     (in_version ≡ version) × Rose faults faults' × IsFaultCourse (opened store) asked new
-RunEnds store asked version (Failed in_version Memory) new faults faults' =
-    (in_version ≡ version) × (faults' ≡ faults) × IsStopCourse store asked new
+AloneEnds store asked version (Failed in_version Memory) new faults faults' =
+    (in_version ≡ version) × (faults' ≡ faults) × IsStopOrAnswerCourse store asked new
 
 -- ---- a request over a keeper's rows
 
@@ -116,7 +116,7 @@ RequestEnds asked version (Failed in_version Undecodable) old new faults faults'
 RequestEnds asked version (Failed in_version Keeper) old new faults faults' =
     (in_version ≡ version) × Rose faults faults' × StayOr old new (λ store. IsFaultCourse (opened store) asked new)
 RequestEnds asked version (Failed in_version Memory) old new faults faults' =
-    (in_version ≡ version) × (faults' ≡ faults) × StayOr old new (λ store. IsStopCourse store asked new)
+    (in_version ≡ version) × (faults' ≡ faults) × StayOr old new (λ store. IsStopOrAnswerCourse store asked new)
 
 -- ---- a call
 
@@ -131,11 +131,11 @@ abbrev pub IsInVersion : CniEnd → (stdin : List ℕ) → Type 0
 IsInVersion (Told status text) stdin = Unit {0}
 IsInVersion (Failed version fault) stdin = version ≡ version_for stdin
 
--- a request was begun, and there was no memory to go on or to tell its answer
+-- a request was begun, and there was no memory to go on or to write its answer
 pub record IsCutShort (env : List Pair) (stdin : List ℕ) (version : Version) (old new : Option (List RowText)) : Type 0 where
   pub asked : Request
   pub begins : Begins env stdin asked version
-  pub rows : StayOr old new (λ store. IsStopCourse store asked new)
+  pub rows : StayOr old new (λ store. IsStopOrAnswerCourse store asked new)
 
 -- How a call ends whose configuration was read, where that could be done.
 abbrev pub CallEnds : List Pair → (stdin : List ℕ) → CniEnd → (old new : Option (List RowText)) → (faults faults' : ℕ) → Type 0
@@ -152,7 +152,7 @@ CallEnds env stdin (Failed version Memory) old new faults faults' =
 
 -- ---- a call with its standard input
 
--- What there is of a source and a keeper: the bytes that are left and the rows, where they are told,
+-- What there is of a source and a keeper: the bytes that are left and the rows, where they are known,
 -- and the counts of faults.
 pub record Sides : Type 0 where
   pub input : Option (List ℕ)
@@ -166,7 +166,7 @@ pub record IsInput (stdin : List ℕ) (old new : Option (List ℕ)) : Type 0 whe
   pub bound : length stdin ≤ MOST_INPUT_BYTES + 1
   pub whole : length stdin ≤ MOST_INPUT_BYTES → IsAtEnd new
 
--- A read of the source failed, and nothing was asked of the keeper. `same` says that the keeper is the same.
+-- A read of the source failed, and nothing was asked of the keeper. `same`: the keeper is the same.
 pub record IsReadFault (same : Type 0) (version : Version) (old new : Sides) : Type 0 where
   pub in_version : version ≡ V1_0_0
   pub input_faults : Rose old.input_faults new.input_faults

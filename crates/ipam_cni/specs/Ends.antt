@@ -40,7 +40,7 @@ WritesWith own text old new faults faults' status =
     (IsWritten text old new faults faults' × (status ≡ own)) ⊎ (IsPartWritten text old new faults faults' × (status ≡ 4))
 
 -- What a call writes that ends so, and its status. The error of a fault takes no memory.
-abbrev pub Tells : CniEnd → (old new : Option (List ℕ)) → (faults faults' : ℕ) → (status : ℕ) → Type 0
-Tells (Told own text) old new faults faults' status = WritesWith own text old new faults faults' status
-Tells (Failed version fault) old new faults faults' status =
+abbrev pub WritesCniEnd : CniEnd → (old new : Option (List ℕ)) → (faults faults' : ℕ) → (status : ℕ) → Type 0
+WritesCniEnd (Told own text) old new faults faults' status = WritesWith own text old new faults faults' status
+WritesCniEnd (Failed version fault) old new faults faults' status =
     WritesWith 1 (error_text (fault_error version fault)) old new faults faults' status

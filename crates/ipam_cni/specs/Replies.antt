@@ -49,13 +49,13 @@ IsOfCall asked = IsTrue (is_of_call asked)
 
 -- ---- what it is replied
 
--- what an answer to the request is told as
+-- which reply an answer to the request becomes
 abbrev pub reply_to : Request → Answer → Option CniReply
 reply_to (request.Collect asked) found = gc_reply_of found
 reply_to (request.Probe asked) found = status_reply_of found
 reply_to asked found = reply_of asked found
 
--- the rule that rows break, and the key that is told of it
+-- the rule that rows break, and the key that breaks it
 unfoldable pub bad_details : (number : ℕ) → (about : List ℕ) → List ℕ
 bad_details number about = codes "OR" ++ (decimal number ++ (codes " " ++ about))
 
@@ -69,7 +69,7 @@ Reply = ℕ × List ℕ
 -- ---- what it comes to
 
 -- What a request is replied, and what becomes of the rows that a keeper tells: rows that break a rule
--- stay, and over others the request runs alone, by a lawful history of its own.
+-- stay, and over others the request runs by itself, by a lawful history of its own.
 pub data RequestComesTo (asked : Request) (version : versions.Version) (old new : Option (List RowText)) : Reply → Type 0 where
   BadRows : (loaded : List RowText) (number : ℕ) (about : List ℕ)
       → IsTold old loaded → IsRefusedBy (texts_loaded loaded) number about → new ≡ old

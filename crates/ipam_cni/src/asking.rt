@@ -1,4 +1,4 @@
-//! What a call begins, and what an answer to it is told as.
+//! What a call begins, and which reply its answer becomes.
 ghost use Rattle.std.specs.Prelude.{◌≡◌, IfOk, IsTrue, Some, option_map};
 ghost use Rattle.ipam_model.specs.CanAnswer.{CanAnswer};
 ghost use Rattle.cni_types.specs.Sound.{IsSoundGc, IsSoundLook, IsSoundStatus};

@@ -6,7 +6,7 @@ ghost use Rattle.ipam_kept.specs.Kept.{KeptFor, opened};
 ghost use Rattle.ipam_solo.specs.Solo.{HasNoGrace, NothingRuns};
 ghost use Rattle.cni_types.specs.Texts.{error_text};
 ghost use Rattle.ipam_call.specs.Versions.{version_for};
-ghost use Rattle.ipam_cni.specs.Calls.{AnswerEnds, CallEnds, InputEnds, IsInVersion, RefusalEnds, RequestEnds, RunEnds, Went, IsNotOpenedEnd, TellsError, end_of};
+ghost use Rattle.ipam_cni.specs.Calls.{AnswerEnds, CallEnds, InputEnds, IsInVersion, RefusalEnds, RequestEnds, AloneEnds, Went, IsNotOpenedEnd, TellsError, end_of};
 ghost use Rattle.ipam_cni.specs.Replies.{IsOfCall, bad_details, bad_rows};
 
 use crate::asking::{begun_by, reply_to};
@@ -147,7 +147,7 @@ fn run<D: Keeper>(alloc: Global, kept: &mut Kept<D>, request: &Request, version:
     requires sure { kept.old.doubt ≡ None }
     requires first { kept.old.cluster.entries ≡ 0 }
     requires kept { KeptFor D.rows kept.old (opened kept.old.cluster.store.store) [] }
-    ensures ended { RunEnds kept.old.cluster.store.store request.now version result (D.rows kept.new.keeper)
+    ensures ended { AloneEnds kept.old.cluster.store.store request.now version result (D.rows kept.new.keeper)
         (D.faults kept.old.keeper) (D.faults kept.new.keeper) }
     ensures same { D.name kept.new.keeper ≡ D.name kept.old.keeper }
 {
@@ -196,7 +196,7 @@ fn bad_rows(alloc: Global, version: Version, number: u8, about: &str) -> CniEnd
     }
 }
 
-/// The rule that is broken, and the key that is told of it.
+/// The rule that is broken, and the key that breaks it.
 #[tactic(auto, unfolding(crate::specs::Replies::bad_details))]
 fn bad_details(alloc: Global, number: u8, about: &str) -> Result<Text, AllocError>
     ensures { IfOk result (λ details. details ≡ bad_details number about.now) }

@@ -4,7 +4,7 @@ ghost use Rattle.std.specs.Io.KnownBytes.{IsAtEnd};
 ghost use Rattle.ipam_cni.specs.declared.end.CniEnd.{CniEnd as End};
 ghost use Rattle.ipam_cni.specs.Calls.{Went};
 ghost use Rattle.ipam_call.specs.Ends.{IsStatus};
-ghost use Rattle.ipam_cni.specs.Ends.{Tells};
+ghost use Rattle.ipam_cni.specs.Ends.{WritesCniEnd};
 
 use crate::calling::make_call;
 use crate::telling::tell_end;
@@ -40,7 +40,7 @@ pub fn cni<S: Source, K: Sink, D: Keeper>(
           rows = D.rows keeper.new;
           keeper_faults = D.faults keeper.new;
         })
-        × Tells end (K.written sink.old) (K.written sink.new)
+        × WritesCniEnd end (K.written sink.old) (K.written sink.new)
         (K.write_faults sink.old) (K.write_faults sink.new) result }
     ensures to_end { result ≡ 0 → IsAtEnd (S.left source.new) }
     ensures status { IsStatus result }

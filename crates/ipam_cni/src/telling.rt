@@ -1,6 +1,6 @@
 //! The end of a call is written.
 ghost use Rattle.std.specs.Prelude.{◌≡◌};
-ghost use Rattle.ipam_cni.specs.Ends.{Tells, WritesWith, fixed_of};
+ghost use Rattle.ipam_cni.specs.Ends.{WritesCniEnd, WritesWith, fixed_of};
 
 use crate::end::{CniEnd, CniFault};
 use ipam_call::{FixedError, fixed_text};
@@ -15,7 +15,7 @@ const SINK_FAULT: u8 = 4;
 /// Writes the text of a call's end, in one write, and gives its status: 1 with the error of a fault, and
 /// 4 where the write failed. Takes no memory.
 pub fn tell_end<K: Sink>(sink: &mut K, end: &CniEnd) -> u8
-    ensures told { Tells end.now (K.written sink.old) (K.written sink.new)
+    ensures told { WritesCniEnd end.now (K.written sink.old) (K.written sink.new)
         (K.write_faults sink.old) (K.write_faults sink.new) result }
     ensures rest { K.write_rest sink.new ≡ K.write_rest sink.old }
 {

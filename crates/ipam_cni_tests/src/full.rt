@@ -1,5 +1,6 @@
 //! A datastore that is full: calls that need a record more.
-use crate::play::play;
+use crate::play::Calls;
+use ipam_table::Plays;
 use std::alloc::{AllocError, Global};
 use std::test::Fail;
 
@@ -29,13 +30,12 @@ fn push_blocks(alloc: Global, scenario: &mut String, count: u32) -> Result<(), A
     Ok(())
 }
 
-/// What is told of the calls over so many blocks.
+/// What comes of the calls over so many blocks.
 fn told_over(alloc: Global, count: u32) -> Result<String, AllocError> {
     let mut scenario = String::from_str(alloc, POOLS)?;
     push_blocks(alloc, &mut scenario, count)?;
     scenario.push_str(CALLS)?;
-    let (told, _) = play(alloc, scenario.as_str())?;
-    Ok(told)
+    Calls.play(alloc, scenario.as_str())
 }
 
 #[test]

@@ -1,7 +1,8 @@
-//! A scenario is played: calls over a keeper in memory, and what is told of them.
+//! A scenario is played: calls over a keeper in memory, and what comes of them.
 use ipam_command::run_command;
 use ipam_io::{MemorySink, MemorySource};
 use ipam_keeper::{Keeper, MemoryKeeper, Row};
+use ipam_table::Plays;
 use ipam_text::Text;
 use std::alloc::{AllocError, Global};
 
@@ -18,26 +19,19 @@ enum Failing {
     Write,
 }
 
-/// What is told of the scenario, and what it says that should be.
-pub(crate) fn play(alloc: Global, scenario: &str) -> Result<(String, String), AllocError> {
-    let mut keeper = keeper_of(alloc, scenario)?;
-    let mut kept = String::new(alloc);
-    let mut told = String::new(alloc);
-    for line in scenario.lines() {
-        step(alloc, &mut keeper, &mut kept, line, &mut told)?;
-    }
-    Ok((told, wanted(alloc, scenario)?))
-}
+/// Plays calls over a keeper of the rows.
+pub(crate) struct Calls;
 
-/// What should be told: the lines that begin with `= `.
-fn wanted(alloc: Global, scenario: &str) -> Result<String, AllocError> {
-    let mut wanted = String::new(alloc);
-    for line in scenario.lines() {
-        if let Some(told) = line.strip_prefix("= ") {
-            push_line(&mut wanted, told)?;
+impl Plays for Calls {
+    fn play(&self, alloc: Global, scenario: &str) -> Result<String, AllocError> {
+        let mut keeper = keeper_of(alloc, scenario)?;
+        let mut kept = String::new(alloc);
+        let mut told = String::new(alloc);
+        for line in scenario.lines() {
+            step(alloc, &mut keeper, &mut kept, line, &mut told)?;
         }
+        Ok(told)
     }
-    Ok(wanted)
 }
 
 fn push_line(out: &mut String, line: &str) -> Result<(), AllocError> {
@@ -114,9 +108,9 @@ fn number_after(number: &str, before: usize) -> u64 {
 
 // ---- the steps
 
-/// Plays a line, and appends what is told of it: `call` makes a call, `bare` one without the common pairs,
+/// Plays a line, and appends what comes of it: `call` makes a call, `bare` one without the common pairs,
 /// `unread` one whose standard input can't be read, and `cut` one whose reply can't be written; `get`
-/// tells the rows whose keys begin so; `same` tells whether all rows are as they were at the last `keep`.
+/// writes the rows whose keys begin so; `same` writes whether all rows are as they were at the last `keep`.
 fn step(
     alloc: Global,
     keeper: &mut MemoryKeeper,

@@ -1,5 +1,5 @@
-//! Scenarios: rows, calls, and what is told of them, on the lines that begin with `= `. A reply without a
-//! line feed at its end is told with `|` there.
+//! Scenarios: rows, calls, and what comes of them, on the lines that begin with `= `. A reply without a
+//! line feed at its end has `|` there.
 
 /// Addresses that are asked for.
 pub(crate) const WORKED: &str = r#"An address is given, given again to nobody, and given back.

@@ -24,9 +24,10 @@ use Rattle.ipam_commands.specs.declared.status.Status.{Status}
 use Rattle.ipam_commands.specs.declared.status.Status.TheVariants as status
 use Rattle.ipam_commands.specs.Releasing.{ReleaseEnds, ReleaseWrites, outcome_line, outcome_status}
 use Rattle.ipam_commands.specs.Statuses.{code_of}
-use Rattle.ipam_commands.specs.Telling.{Cut, FaultWrites, IsNotLoaded, NotOpened, Opened, Tells, Untold, Whole, Writes, keeper_line}
-use Rattle.ipam_commands.specs.Shown.{shown_text}
-use Rattle.ipam_commands.specs.Texts.{rows_text, routes_text}
+use Rattle.ipam_commands.specs.Telling.{Cut, FaultWrites, IsNotLoaded, NotOpened, Opened, ReportsRows, Untold, Whole, Writes, keeper_line}
+use Rattle.ipam_told.specs.Shown.{shown_text}
+use Rattle.ipam_commands.specs.Texts.{routes_text}
+use Rattle.ipam_told.specs.Rows.{rows_text}
 use Rattle.ipam_resources.specs.declared.resource.Resource.{Resource}
 use Rattle.ipam_resources.specs.Printed.{applied_line, fault_line, refused_line}
 use Rattle.ipam_apply.specs.Applied as apply
@@ -115,7 +116,7 @@ unread asked old new quiet = λ yes. absurd (cc (quiet, yes))
 -- ---- `get` and `routes`
 
 tells-cause : (asked : Option Asked) (old new : CommandOutside) (says : List RowText → Datastore → List ℕ) (ending : Status) → reads asked ≡ false → new.rows ≡ old.rows
-    → Tells old.rows old.keeper_faults new.keeper_faults says (λ said own. Writes old.written new.written old.write_faults new.write_faults said own ending)
+    → ReportsRows old.rows old.keeper_faults new.keeper_faults says (λ said own. Writes old.written new.written old.write_faults new.write_faults said own ending)
     → Causes asked old new ending
 tells-cause asked old new says ending quiet same (Opened rows store is none w) =
     by-writes asked old new old.written (says rows store) status.Done ending w (λ e. unread asked old new quiet)
@@ -267,7 +268,7 @@ cut-cause : (asked : Option Asked) (old new : CommandOutside) (code : ℕ) → R
 cut-cause asked old new code rose is = record { ending = status.WriteFault; has_code = is; cause = rose }
 
 call-cause : (same : Type 0) (asked : Option Asked) (env : List Pair) (ending : CniEnd) (old new : CommandOutside) (code : ℕ) → (code ≡ 0 → IsAtEnd new.left)
-    → cni.Went same env ending (sides_of old) (sides_of new) → cni_ends.Tells ending old.written new.written old.write_faults new.write_faults code → HasCause asked old new code
+    → cni.Went same env ending (sides_of old) (sides_of new) → cni_ends.WritesCniEnd ending old.written new.written old.write_faults new.write_faults code → HasCause asked old new code
 call-cause kept asked env (Told own text) old new code at_end went (inl (is, same)) =
     small-cause asked old new code
     (subst (λ (n : ℕ). n ≤ 1) (sym same) (comes-small env went.stdin old.rows new.rows (own, text) went.ends.1)) at_end

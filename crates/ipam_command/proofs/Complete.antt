@@ -24,15 +24,16 @@ use Rattle.ipam_commands.specs.declared.status.Status.{Status}
 use Rattle.ipam_commands.specs.declared.status.Status.TheVariants as status
 use Rattle.ipam_commands.specs.Releasing.{ReleaseEnds, ReleaseWrites, outcome_line, outcome_status}
 use Rattle.ipam_commands.specs.Statuses.{code_of}
-use Rattle.ipam_commands.specs.Telling.{AreOpened, Cut, NotOpened, Opened, Tells, Untold, Whole, Writes}
-use Rattle.ipam_commands.specs.Shown.{shown_text}
-use Rattle.ipam_commands.specs.Texts.{rows_text, routes_text}
+use Rattle.ipam_commands.specs.Telling.{AreOpened, Cut, NotOpened, Opened, ReportsRows, Untold, Whole, Writes}
+use Rattle.ipam_told.specs.Shown.{shown_text}
+use Rattle.ipam_commands.specs.Texts.{routes_text}
+use Rattle.ipam_told.specs.Rows.{rows_text}
 use Rattle.ipam_resources.specs.declared.resource.Resource.{Resource}
 use Rattle.ipam_resources.specs.Documents.{document_reading}
 use Rattle.ipam_resources.specs.Printed.{applied_line, fault_line, refused_line}
 use Rattle.ipam_apply.specs.Applied as apply
 use Rattle.ipam_apply.specs.Applying as applying
-use Rattle.ipam_apply.specs.Inputs.{IsInput as IsDocument}
+use Rattle.ipam_apply.specs.Inputs.{IsDocument}
 use Rattle.cni_types.specs.declared.version.Version as versions
 use Rattle.cni_types.specs.Reading.{Pair}
 use Rattle.cni_types.specs.Texts.{error_text}
@@ -100,7 +101,7 @@ module _ (old new : CommandOutside) (well : NoFault old new) (code : ℕ) where
   -- ---- the rows
 
   told-rows : (says : List RowText → Datastore → List ℕ) (ending : Status) → code ≡ code_of ending
-      → Tells old.rows old.keeper_faults new.keeper_faults says (λ text own. Writes old.written new.written old.write_faults new.write_faults text own ending)
+      → ReportsRows old.rows old.keeper_faults new.keeper_faults says (λ text own. Writes old.written new.written old.write_faults new.write_faults text own ending)
       → (code ≡ 6) ⊎ rules.OfRows old.rows says (λ text own. IsWhole text own old new code)
   told-rows says ending has (Opened rows store is none w) =
       or-else (λ whole. rules.Opened rows store is whole) (at-once (says rows store) status.Done ending has w)
@@ -201,7 +202,7 @@ module _ (old new : CommandOutside) (well : NoFault old new) (code : ℕ) where
 
   -- ---- a CNI call
 
-  called : (same : Type 0) (env : List Pair) (ending : CniEnd) → cni.Went same env ending (sides_of old) (sides_of new) → cni_ends.Tells ending old.written new.written old.write_faults new.write_faults code
+  called : (same : Type 0) (env : List Pair) (ending : CniEnd) → cni.Went same env ending (sides_of old) (sides_of new) → cni_ends.WritesCniEnd ending old.written new.written old.write_faults new.write_faults code
       → (code ≡ 6) ⊎ rules.OfCall env old new code
   called kept env (Told own text) went (inl (is, same)) =
       inr (rules.Replied went.stdin (own, text) went.input went.ends.1 (record { text = is.bytes; has_status = same }))

@@ -17,7 +17,7 @@ use Rattle.ipam_gen.specs.Summary as gen
 use Rattle.ipam_apply.specs.Applied.{ApplyEnds, DocumentEnds, Input, Read, ReadFailed, NoInput, Good, Bad, NoRoom}
 use Rattle.ipam_apply.specs.Outside as apply_outside
 use Rattle.ipam_commands.specs.declared.status.Status.{Status}
-use Rattle.ipam_commands.specs.Telling.{Tells, Writes}
+use Rattle.ipam_commands.specs.Telling.{ReportsRows, Writes}
 use Rattle.ipam_command.specs.Commands.{Does, DoesGen, DoesPlay, DoesTell, PlayEnds, Says, unknown_text}
 use Rattle.ipam_command.specs.Outside.{LeavesKeeper, LeavesSource, CommandOutside}
 use Rattle.ipam_commands.specs.Statuses.{code_of}
@@ -35,13 +35,13 @@ does-unknown kept env words old new status is told source keeper = asked kept en
 pub does-play : (old new : CommandOutside) (ending : PlayEnd) (status : ℕ) → status ≡ code_of_play ending → PlayEnds old new ending → LeavesKeeper old new → DoesPlay old new status
 does-play old new ending status is played keeper = record { ending = ending; has_status = is; played = played; keeper = keeper }
 
-pub does-gen : (count : ℕ) (old new : CommandOutside) (ending : GenEnd) (status : ℕ) → status ≡ code_of_gen ending → gen.HasWritten ending count old.written new.written
+pub does-gen : (count : ℕ) (old new : CommandOutside) (ending : GenEnd) (status : ℕ) → status ≡ code_of_gen ending → gen.HasWrittenSummary ending count old.written new.written
     → gen.CountsFaults ending old.write_faults new.write_faults → LeavesSource old new → LeavesKeeper old new → DoesGen count old new status
 does-gen count old new ending status is written faults source keeper =
     record { ending = ending; has_status = is; written = counted_right count ending old.written new.written written; faults = faults; source = source; keeper = keeper }
 
 pub does-tell : (text : List RowText → Datastore → List ℕ) (old new : CommandOutside) (ending : Status) (status : ℕ) → status ≡ code_of ending
-    → Tells old.rows old.keeper_faults new.keeper_faults text (λ said own. Writes old.written new.written old.write_faults new.write_faults said own ending)
+    → ReportsRows old.rows old.keeper_faults new.keeper_faults text (λ said own. Writes old.written new.written old.write_faults new.write_faults said own ending)
     → LeavesSource old new → new.rows ≡ old.rows → DoesTell text old new status
 does-tell text old new ending status is tells source rows = record { ending = ending; has_status = is; tells = tells; source = source; same_rows = rows }
 
@@ -62,7 +62,7 @@ apply-ends weaker (NoInput faults same untold) = NoInput faults (weaker same) un
 -- ---- `play`: what was written of a script tells of a right history
 
 pub written-right : (left : Option (List ℕ)) (ending : PlayEnd) (first now : Option (List ℕ))
-    → IfSome left (λ bytes. play_run.HasWritten ending (script_of (readings bytes)) first now)
+    → IfSome left (λ bytes. play_run.HasWrittenJournal ending (script_of (readings bytes)) first now)
     → IfSome left (λ bytes. HasWrittenRight ending (script_in bytes) first now)
 written-right (Some bytes) ending first now written = written_right bytes ending first now written
 written-right None ending first now written = written

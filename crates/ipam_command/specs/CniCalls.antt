@@ -75,7 +75,7 @@ IsCallByRecords env ending old new status =
     → HasSpareFor store asked → plain asked store.rows ≡ Some result → GoesWell ending old new
     → IsSaidByRecords asked version result old new status
 
--- ---- never told to try again later
+-- ---- no reply asks to try again later
 
 -- What was said is a reply, and not that the call may be made again later.
 pub record IsSaidForGood (version : Version) (old new : CommandOutside) (status : ℕ) : Type 0 where

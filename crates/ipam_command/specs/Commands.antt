@@ -14,9 +14,10 @@ use Rattle.ipam_gen.specs.Summary as gen
 use Rattle.ipam_headline.specs.Headline.{HasWrittenRight, HasWrittenSoFarRight, script_in}
 use Rattle.ipam_headline.specs.Generating.{HasCountedRight}
 use Rattle.ipam_commands.specs.declared.status.Status.{Status}
-use Rattle.ipam_commands.specs.Telling.{Tells, Writes}
-use Rattle.ipam_commands.specs.Shown.{shown_text}
-use Rattle.ipam_commands.specs.Texts.{rows_text, routes_text}
+use Rattle.ipam_commands.specs.Telling.{ReportsRows, Writes}
+use Rattle.ipam_told.specs.Shown.{shown_text}
+use Rattle.ipam_commands.specs.Texts.{routes_text}
+use Rattle.ipam_told.specs.Rows.{rows_text}
 use Rattle.ipam_commands.specs.declared.outcome.ReleaseOutcome.{ReleaseOutcome}
 use Rattle.ipam_commands.specs.Releasing.{ReleaseEnds, ReleaseWrites}
 use Rattle.ipam_kept.specs.declared.kept.KeptFault.{KeptFault}
@@ -42,7 +43,7 @@ pub data Says (text : List ℕ) (own : ℕ) (old new : Option (List ℕ)) (fault
   Told : new ≡ append_known old text → faults' ≡ faults → Says text own old new faults faults' own
   Cut : AppendsPrefix old new text → Rose faults faults' → Says text own old new faults faults' 4
 
--- the text is said, and nothing is asked of the source and the keeper
+-- the text is written, and nothing is asked of the source and the keeper
 pub record DoesSay (text : List ℕ) (own : ℕ) (old new : CommandOutside) (status : ℕ) : Type 0 where
   pub said : Says text own old.written new.written old.write_faults new.write_faults status
   pub source : LeavesSource old new
@@ -87,18 +88,18 @@ pub record DoesGen (count : ℕ) (old new : CommandOutside) (status : ℕ) : Typ
 
 -- ---- `get`, `get KIND`, `show` and `routes NODE`
 
--- this text is told of the keeper's rows, which stay as they are
+-- this text is written of the keeper's rows, which stay as they are
 pub record DoesTell (text : List RowText → Datastore → List ℕ) (old new : CommandOutside) (status : ℕ) : Type 0 where
   pub ending : Status
   pub has_status : status ≡ code_of ending
-  pub tells : Tells old.rows old.keeper_faults new.keeper_faults text
+  pub tells : ReportsRows old.rows old.keeper_faults new.keeper_faults text
       (λ said own. Writes old.written new.written old.write_faults new.write_faults said own ending)
   pub source : LeavesSource old new
   pub same_rows : new.rows ≡ old.rows
 
 -- ---- `release NODE CIDR`
 
--- the release runs alone over the keeper's rows
+-- the release runs by itself over the keeper's rows
 pub record DoesRelease (node : List ℕ) (cidr : CidrValue) (old new : CommandOutside) (status : ℕ) : Type 0 where
   pub came : Result ReleaseOutcome KeptFault
   pub ending : Status
@@ -136,7 +137,7 @@ pub record DoesApply (old new : CommandOutside) (status : ℕ) : Type 0 where
 pub record DoesCni (same : Type 0) (env : List Pair) (old new : CommandOutside) (status : ℕ) : Type 0 where
   pub ending : CniEnd
   pub went : cni.Went same env ending (sides_of old) (sides_of new)
-  pub tells : cni_ends.Tells ending old.written new.written old.write_faults new.write_faults status
+  pub tells : cni_ends.WritesCniEnd ending old.written new.written old.write_faults new.write_faults status
   pub never_later : NeverSaysTryAgain env ending old new status
   pub by_records : IsCallByRecords env ending old new status
   pub gc : LeavesWhatIsSpared env ending old new status
@@ -147,7 +148,7 @@ pub record DoesCni (same : Type 0) (env : List Pair) (old new : CommandOutside) 
 -- ---- all
 
 -- What is done, by what the words ask. An audit, the daemon and its client are run by others; here their
--- words name no command. `same` says that the keeper is the same.
+-- words name no command. `same`: the keeper is the same.
 abbrev pub Does : (same : Type 0) → (env : List Pair) → Option Asked → (old new : CommandOutside) → (status : ℕ) → Type 0
 Does same env (Some Cni) old new status = DoesCni same env old new status
 Does same env (Some Play) old new status = DoesPlay old new status

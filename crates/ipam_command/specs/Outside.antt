@@ -14,6 +14,16 @@ pub record CommandOutside : Type 0 where
   pub rows : Option (List RowText)
   pub keeper_faults : ℕ
 
+abbrev pub outside_of : (left : Option (List ℕ)) (read_faults : ℕ) (written : Option (List ℕ)) (write_faults : ℕ) (rows : Option (List RowText)) (keeper_faults : ℕ) → CommandOutside
+outside_of left read_faults written write_faults rows keeper_faults = record {
+  left = left;
+  read_faults = read_faults;
+  written = written;
+  write_faults = write_faults;
+  rows = rows;
+  keeper_faults = keeper_faults;
+}
+
 -- the source and its count of faults are as they were
 pub record LeavesSource (old new : CommandOutside) : Type 0 where
   pub left : new.left ≡ old.left

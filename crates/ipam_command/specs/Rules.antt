@@ -1,4 +1,4 @@
--- The rules of a command in words that each stand alone.
+-- The rules of a command, each in words of its own.
 use Rattle.std.specs.Prelude.{◌≡◌, ℕ, ◌++◌, ◌∷◌, ◌⊎◌, List, Bool, true, false, Option, Some, None, Ok, Err}
 use Rattle.std.specs.Io.KnownBytes.{append_known}
 use Rattle.ipam_io.specs.Counts.{Rose}
@@ -17,15 +17,16 @@ use Rattle.ipam_commands.specs.declared.outcome.ReleaseOutcome.{ReleaseOutcome}
 use Rattle.ipam_commands.specs.Releasing.{IsReleased, OpenedSo, outcome_line, outcome_status}
 use Rattle.ipam_commands.specs.Statuses.{code_of}
 use Rattle.ipam_commands.specs.Telling.{AreBroken, AreOpened}
-use Rattle.ipam_commands.specs.Shown.{shown_text}
-use Rattle.ipam_commands.specs.Texts.{rows_text, routes_text}
+use Rattle.ipam_told.specs.Shown.{shown_text}
+use Rattle.ipam_commands.specs.Texts.{routes_text}
+use Rattle.ipam_told.specs.Rows.{rows_text}
 use Rattle.ipam_resources.specs.declared.fault.DocumentFault.{DocumentFault}
 use Rattle.ipam_resources.specs.declared.refusal.Refusal.{Refusal}
 use Rattle.ipam_resources.specs.declared.resource.Resource.{Resource}
 use Rattle.ipam_resources.specs.Documents.{document_reading}
 use Rattle.ipam_resources.specs.Printed.{fault_line, refusal_of, refused_line}
 use Rattle.ipam_apply.specs.Applying.{AreApplied, alone_on, applied_lines}
-use Rattle.ipam_apply.specs.Inputs.{IsInput as IsDocument}
+use Rattle.ipam_apply.specs.Inputs.{IsDocument}
 use Rattle.std.specs.Prelude.{IfSome}
 use Rattle.cni_types.specs.declared.version.Version.TheVariants.{V1_0_0}
 use Rattle.cni_types.specs.Reading.{Pair}

@@ -4,6 +4,7 @@ ghost use Rattle.std.specs.Io.KnownBytes.{IsAtEnd};
 ghost use Rattle.ipam_io.specs.Counts.{Rose};
 ghost use Rattle.ipam_words.specs.Words.{IsSound, Play, asked_by, command_named};
 ghost use Rattle.ipam_command.specs.Commands.{Does, Says, unknown_text};
+ghost use Rattle.ipam_command.specs.Outside.{outside_of};
 ghost use Rattle.ipam_command.specs.Rules.{CompleteLaw, asks_keeper, reads};
 
 use crate::statuses::{code_of_gen, code_of_play};
@@ -20,11 +21,11 @@ use std::alloc::Global;
 
 /// Runs the command that the words name, and answers the exit status. It always returns.
 ///
-/// The source is read by `play`, `apply` and `cni` alone, the environment is looked at by `cni` alone, and the
+/// Only `play`, `apply` and `cni` read the source, only `cni` looks at the environment, and the
 /// keeper is not asked by `play` and `gen`. Words that name no command are answered `unknown words`; so are
 /// those of an audit, of the daemon and of its client, which are run by `run_audit`, `serve` and `call`.
 ///
-/// `does` says all of it. The other clauses follow from it, each a rule by itself: which status has which
+/// `does` is the whole contract. The other clauses follow from it, each a rule by itself: which status has which
 /// cause, what is left as it was, and that nothing is left unsaid.
 pub fn run_command<S: Source, K: Sink, D: Keeper>(
     alloc: Global,
@@ -35,22 +36,9 @@ pub fn run_command<S: Source, K: Sink, D: Keeper>(
     keeper: &mut D,
 ) -> u8
     ensures does { Does (keeper.new ≡ keeper.old) env.now (command_named (map string_bytes words.now))
-        (record {
-          left = S.left source.old;
-          read_faults = S.read_faults source.old;
-          written = K.written sink.old;
-          write_faults = K.write_faults sink.old;
-          rows = D.rows keeper.old;
-          keeper_faults = D.faults keeper.old;
-        })
-        (record {
-          left = S.left source.new;
-          read_faults = S.read_faults source.new;
-          written = K.written sink.new;
-          write_faults = K.write_faults sink.new;
-          rows = D.rows keeper.new;
-          keeper_faults = D.faults keeper.new;
-        }) result }
+        (outside_of (S.left source.old) (S.read_faults source.old) (K.written sink.old) (K.write_faults sink.old) (D.rows keeper.old) (D.faults keeper.old))
+        (outside_of (S.left source.new) (S.read_faults source.new) (K.written sink.new) (K.write_faults sink.new)
+        (D.rows keeper.new) (D.faults keeper.new)) result }
 
     ensures status_0 { result ≡ 0 → reads (command_named (map string_bytes words.now)) ≡ true → IsAtEnd (S.left source.new) }
     ensures status_2_source { result ≡ 2 → (S.left source.new ≡ S.left source.old) × (S.read_faults source.new ≡ S.read_faults source.old) }
@@ -64,22 +52,9 @@ pub fn run_command<S: Source, K: Sink, D: Keeper>(
     ensures unread { reads (command_named (map string_bytes words.now)) ≡ false → (S.left source.new ≡ S.left source.old) × (S.read_faults source.new ≡ S.read_faults source.old) }
     ensures unasked { asks_keeper (command_named (map string_bytes words.now)) ≡ false → (D.rows keeper.new ≡ D.rows keeper.old) × (D.faults keeper.new ≡ D.faults keeper.old) }
     ensures complete { CompleteLaw env.now (command_named (map string_bytes words.now))
-        (record {
-          left = S.left source.old;
-          read_faults = S.read_faults source.old;
-          written = K.written sink.old;
-          write_faults = K.write_faults sink.old;
-          rows = D.rows keeper.old;
-          keeper_faults = D.faults keeper.old;
-        })
-        (record {
-          left = S.left source.new;
-          read_faults = S.read_faults source.new;
-          written = K.written sink.new;
-          write_faults = K.write_faults sink.new;
-          rows = D.rows keeper.new;
-          keeper_faults = D.faults keeper.new;
-        }) result }
+        (outside_of (S.left source.old) (S.read_faults source.old) (K.written sink.old) (K.write_faults sink.old) (D.rows keeper.old) (D.faults keeper.old))
+        (outside_of (S.left source.new) (S.read_faults source.new) (K.written sink.new) (K.write_faults sink.new)
+        (D.rows keeper.new) (D.faults keeper.new)) result }
 
     ensures source_rest { S.read_rest source.new ≡ S.read_rest source.old }
     ensures sink_rest { K.write_rest sink.new ≡ K.write_rest sink.old }
@@ -97,22 +72,9 @@ fn run_named<S: Source, K: Sink, D: Keeper>(
     keeper: &mut D,
 ) -> u8
     ensures does { Does (keeper.new ≡ keeper.old) env.now (command_named (map string_bytes words.now))
-        (record {
-          left = S.left source.old;
-          read_faults = S.read_faults source.old;
-          written = K.written sink.old;
-          write_faults = K.write_faults sink.old;
-          rows = D.rows keeper.old;
-          keeper_faults = D.faults keeper.old;
-        })
-        (record {
-          left = S.left source.new;
-          read_faults = S.read_faults source.new;
-          written = K.written sink.new;
-          write_faults = K.write_faults sink.new;
-          rows = D.rows keeper.new;
-          keeper_faults = D.faults keeper.new;
-        }) result }
+        (outside_of (S.left source.old) (S.read_faults source.old) (K.written sink.old) (K.write_faults sink.old) (D.rows keeper.old) (D.faults keeper.old))
+        (outside_of (S.left source.new) (S.read_faults source.new) (K.written sink.new) (K.write_faults sink.new)
+        (D.rows keeper.new) (D.faults keeper.new)) result }
     ensures source_rest { S.read_rest source.new ≡ S.read_rest source.old }
     ensures sink_rest { K.write_rest sink.new ≡ K.write_rest sink.old }
 {
@@ -133,22 +95,9 @@ fn run<S: Source, K: Sink, D: Keeper>(
 ) -> u8
     requires { IsSound (asked_by command.now) }
     ensures does { Does (keeper.new ≡ keeper.old) env.now (Some (asked_by command.now))
-        (record {
-          left = S.left source.old;
-          read_faults = S.read_faults source.old;
-          written = K.written sink.old;
-          write_faults = K.write_faults sink.old;
-          rows = D.rows keeper.old;
-          keeper_faults = D.faults keeper.old;
-        })
-        (record {
-          left = S.left source.new;
-          read_faults = S.read_faults source.new;
-          written = K.written sink.new;
-          write_faults = K.write_faults sink.new;
-          rows = D.rows keeper.new;
-          keeper_faults = D.faults keeper.new;
-        }) result }
+        (outside_of (S.left source.old) (S.read_faults source.old) (K.written sink.old) (K.write_faults sink.old) (D.rows keeper.old) (D.faults keeper.old))
+        (outside_of (S.left source.new) (S.read_faults source.new) (K.written sink.new) (K.write_faults sink.new)
+        (D.rows keeper.new) (D.faults keeper.new)) result }
     ensures source_rest { S.read_rest source.new ≡ S.read_rest source.old }
     ensures sink_rest { K.write_rest sink.new ≡ K.write_rest sink.old }
 {

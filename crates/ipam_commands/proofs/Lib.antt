@@ -1,3 +1,4 @@
 pub mod CourseRuns
 pub mod ReleaseRuns
 pub mod RouteLines
+pub mod Loadings

@@ -8,7 +8,7 @@ use Rattle.ipam_model.specs.History.{Base, Lawful, store_at}
 use Rattle.ipam_kept.specs.Rows.{AreTextsOf}
 use Rattle.ipam_solo.specs.Solo.{IsStoppedAlone}
 
--- the rows are the datastore's, where they are told
+-- the rows are the datastore's, where they are known
 abbrev pub AreRowsOf : Option (List RowText) → Datastore → Type 0
 AreRowsOf told store = IfSome told (λ rows. AreTextsOf rows store)
 

@@ -3,5 +3,4 @@ pub mod Courses
 pub mod Releasing
 pub mod Telling
 pub mod Texts
-pub mod Shown
 pub mod Statuses

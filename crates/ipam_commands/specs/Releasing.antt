@@ -48,7 +48,7 @@ ReleaseWrites writes told (Err why) = FaultWrites writes why
 
 -- ---- a request over a datastore
 
--- the request alone has this outcome, by a lawful history of its own, and the rows are those of the
+-- the request by itself has this outcome, by a lawful history of its own, and the rows are those of the
 -- datastore that it leaves
 pub record IsReleased (store : Datastore) (asked : Request) (found : ReleaseOutcome) (new : Option (List RowText)) : Type 0 where
   pub answer : outcome_of (alone_over (opened store) asked).0 ≡ Some (Ok found)
@@ -71,7 +71,7 @@ pub record OpenedSo (old : Option (List RowText)) (p : Datastore → Type 0) : T
   pub opened : AreOpened old rows store
   pub so : p store
 
--- How a release ends over a keeper's rows: with the outcome of the request that runs alone; or the
+-- How a release ends over a keeper's rows: with the outcome of the request that runs by itself; or the
 -- keeper failed; or the rows may not be opened, and stay; or there was no memory.
 abbrev pub ReleaseEnds : Request → Result ReleaseOutcome KeptFault → (old new : Option (List RowText)) → (faults faults' : ℕ) → Type 0
 ReleaseEnds asked (Ok found) old new faults faults' =

@@ -1,4 +1,4 @@
--- The statuses by which a program tells how a command ended.
+-- The statuses by which a program reports how a command ended.
 use Rattle.std.specs.Prelude.{ℕ}
 use Rattle.ipam_commands.specs.declared.status.Status.{Status}
 use Rattle.ipam_commands.specs.declared.status.Status.TheVariants as status

@@ -40,12 +40,17 @@ pub data Writes (old new : Option (List ℕ)) (faults faults' : ℕ) (text : Lis
   Cut : IsSaid own → AppendsPrefix old new text → Rose faults faults' → Writes old new faults faults' text own status.WriteFault
   Untold : IsMade own → new ≡ old → faults' ≡ faults → Writes old new faults faults' text own status.NoMemory
 
--- ---- what is told of a keeper's rows
+-- ---- what is written of a keeper's rows
 
 -- these are the rows, and they open as the datastore
 pub record AreOpened (told : Option (List RowText)) (rows : List RowText) (store : Datastore) : Type 0 where
   pub loaded : IsTold told rows
   pub opens : OpensAs (texts_loaded rows) store
+
+-- what was opened of these rows: the rows themselves, and the datastore that they open as
+pub record IsLoadedAs (loaded : List RowText) (rows : List RowText) (store : Datastore) : Type 0 where
+  pub same : rows ≡ loaded
+  pub opens : OpensAs (texts_loaded loaded) store
 
 -- the rows may not be opened: they break this rule first, and first at this key
 pub record AreBroken (told : Option (List RowText)) (number : ℕ) (about : List ℕ) : Type 0 where
@@ -68,8 +73,8 @@ FaultWrites writes Memory = writes [] status.NoMemory
 -- How a command that says this of the rows ends: it says it; or the rows may not be opened; or the
 -- keeper failed; or there was no memory. `writes` is what is so of the text and the status that it
 -- ends with.
-pub data Tells (told : Option (List RowText)) (faults faults' : ℕ) (says : List RowText → Datastore → List ℕ) (writes : List ℕ → Status → Type 0) : Type 0 where
+pub data ReportsRows (told : Option (List RowText)) (faults faults' : ℕ) (says : List RowText → Datastore → List ℕ) (writes : List ℕ → Status → Type 0) : Type 0 where
   Opened : (rows : List RowText) (store : Datastore) → AreOpened told rows store → faults' ≡ faults
-      → writes (says rows store) status.Done → Tells told faults faults' says writes
+      → writes (says rows store) status.Done → ReportsRows told faults faults' says writes
   NotOpened : (fault : KeptFault) → IsNotLoaded told faults faults' fault → FaultWrites writes fault
-      → Tells told faults faults' says writes
+      → ReportsRows told faults faults' says writes

@@ -1,32 +1,14 @@
 -- The texts of the operator's commands.
-use Rattle.std.specs.Prelude.{ℕ, ◌&&◌, List, [], ◌∷◌, ◌++◌, Bool, true, false, bytes_eq, codes, decimal, Option, Some, None, if◌then◌else◌}
+use Rattle.std.specs.Prelude.{ℕ, ◌&&◌, List, [], ◌∷◌, ◌++◌, Bool, true, false, bytes_eq, codes, if◌then◌else◌}
 use Rattle.ipam_addr.specs.Text.{cidr_text_of}
 use Rattle.ipam_affinity.specs.declared.record.Affinity.{Affinity}
 use Rattle.ipam_affinity.specs.declared.state.State.{State}
 use Rattle.ipam_affinity.specs.declared.state.State.TheVariants.{Confirmed, Pending, PendingDeletion}
-use Rattle.ipam_records.specs.declared.call.Row.{Row as RowText}
 use Rattle.ipam_records.specs.declared.key.Kind.TheVariants as kind
 use Rattle.ipam_records.specs.declared.record.Record.{Record}
 use Rattle.ipam_records.specs.declared.record.Record.TheVariants as record_of
 use Rattle.ipam_records.specs.Datastore.{Datastore, rows_of_kind}
 use Rattle.ipam_model.specs.Reads.{StoredRecord}
-use Rattle.ipam_words.specs.declared.kind.RowKind.{RowKind}
-use Rattle.ipam_words.specs.Kinds.{is_of_kind}
-
--- ---- the rows
-
--- whether a row with this key is told: each, or those of the kind
-abbrev pub is_told : Option RowKind → (key : List ℕ) → Bool
-is_told None key = true
-is_told (Some kind) key = is_of_kind kind key
-
-unfoldable pub row_line : RowText → List ℕ
-row_line row = row.key ++ (codes " " ++ (decimal row.revision ++ (codes " " ++ (row.body ++ codes "\n"))))
-
--- a line for each row that is told, in the order of the rows
-abbrev pub rows_text : Option RowKind → List RowText → List ℕ
-rows_text kind [] = []
-rows_text kind (row ∷ rows) = (if is_told kind row.key then row_line row else []) ++ rows_text kind rows
 
 -- ---- the routes of a node
 

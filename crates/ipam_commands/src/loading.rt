@@ -4,10 +4,10 @@ ghost use Rattle.ipam_keeper.specs.Rows.{Ascend};
 ghost use Rattle.ipam_kept.specs.Rows.{texts_loaded};
 ghost use Rattle.ipam_model.specs.Opened.{OpensAs};
 ghost use Rattle.ipam_opening.specs.Opening.{IsFaultOf};
-ghost use Rattle.ipam_commands.specs.Telling.{AreOpened, IsNotLoaded};
+ghost use Rattle.ipam_commands.specs.Telling.{AreOpened, IsLoadedAs, IsNotLoaded};
 
 use ipam_keeper::Keeper;
-use ipam_kept::{KeptFault, greatest_revision, not_loaded, not_opened};
+use ipam_kept::{KeptFault, Opens, greatest_revision, open_loaded};
 use ipam_opening::{OpenFault, open};
 use ipam_records::Row;
 use ipam_store::Store;
@@ -20,6 +20,29 @@ pub(crate) struct Loaded {
     pub(crate) store: Store,
 }
 
+/// What opens rows with their greatest revision as the counter.
+#[derive(Drop)]
+struct Loading {
+    alloc: Global,
+}
+
+impl Opens for Loading {
+    type Opened = Loaded;
+
+    ghost may = { λ _. Unit {0} };
+
+    ghost opens = { λ _ rows loaded. IsLoadedAs rows loaded.rows.items loaded.store.store };
+
+    ghost refuses = { λ _ rows fault. IsFaultOf (texts_loaded rows) fault };
+
+    fn open(self, rows: Vec<Row>) -> Result<Loaded, OpenFault> {
+        match open_rows(self.alloc, &rows) {
+            Ok(store) => Ok(Loaded { rows, store }),
+            Err(fault) => Err(fault),
+        }
+    }
+}
+
 /// Loads the keeper's rows and opens them.
 pub(crate) fn load<D: Keeper>(alloc: Global, keeper: &mut D) -> Result<Loaded, KeptFault>
     ensures opened { IfOk result (λ loaded. AreOpened (D.rows keeper.old) loaded.rows.items loaded.store.store) }
@@ -28,18 +51,11 @@ pub(crate) fn load<D: Keeper>(alloc: Global, keeper: &mut D) -> Result<Loaded, K
     ensures same_rows { D.rows keeper.new ≡ D.rows keeper.old }
     ensures same { D.name keeper.new ≡ D.name keeper.old }
 {
-    let rows = match keeper.load() {
-        Ok(rows) => rows,
-        Err(fault) => return Err(not_loaded(fault)),
-    };
-    match open_loaded(alloc, &rows) {
-        Ok(store) => Ok(Loaded { rows, store }),
-        Err(fault) => Err(not_opened(fault)),
-    }
+    open_loaded(Loading { alloc }, keeper.load())
 }
 
 /// Opens the rows, with their greatest revision as the counter.
-fn open_loaded(alloc: Global, rows: &[Row]) -> Result<Store, OpenFault>
+fn open_rows(alloc: Global, rows: &[Row]) -> Result<Store, OpenFault>
     requires { Ascend rows.now }
     ensures opened { IfOk result (λ store. OpensAs (texts_loaded rows.now) store.store) }
     ensures refused { IfErr result (IsFaultOf (texts_loaded rows.now)) }

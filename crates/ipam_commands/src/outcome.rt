@@ -18,7 +18,7 @@ pub enum ReleaseOutcome {
 }
 
 impl ReleaseOutcome {
-    /// The line that is told.
+    /// The line that is written.
     pub(crate) fn line(self) -> &'static str
         ensures { result.now ≡ outcome_line self }
     {

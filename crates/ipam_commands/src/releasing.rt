@@ -22,7 +22,7 @@ use ipam_solo::run_alone;
 use ipam_text::Text;
 use std::alloc::{AllocError, Global};
 
-/// Releases the node's affinity to the block, as a request that runs alone over the keeper's rows, and
+/// Releases the node's affinity to the block, as a request that runs by itself over the keeper's rows, and
 /// writes what came of it.
 pub fn release<K: Sink, D: Keeper>(
     alloc: Global,

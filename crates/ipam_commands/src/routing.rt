@@ -1,10 +1,10 @@
-//! `routes NODE`: the blocks of a node are told.
+//! `routes NODE`: writes the blocks of a node.
 ghost use Rattle.std.specs.Prelude.{◌≡◌, ◌++◌, IfOk, OnOk, string_bytes};
 ghost use Rattle.ipam_records.specs.Listing.{rows_of};
 ghost use Rattle.ipam_records.specs.Pages.{rows_of_pages};
 ghost use Rattle.ipam_records.specs.Datastore.{rows_of_kind};
 ghost use Rattle.ipam_records.specs.declared.key.Kind.TheVariants as kind;
-ghost use Rattle.ipam_commands.specs.Telling.{Tells, Writes};
+ghost use Rattle.ipam_commands.specs.Telling.{ReportsRows, Writes};
 ghost use Rattle.ipam_commands.specs.Texts.{affinity_line, is_confirmed, is_route, route_line, route_lines, routes_text};
 
 use crate::loading::load;
@@ -20,7 +20,7 @@ use std::alloc::{AllocError, Global};
 
 /// Writes the CIDR of each confirmed affinity of the node, a line each, by family and base.
 pub fn routes<K: Sink, D: Keeper>(alloc: Global, sink: &mut K, keeper: &mut D, node: &str) -> Status
-    ensures told { Tells (D.rows keeper.old) (D.faults keeper.old) (D.faults keeper.new) (λ rows store. routes_text node.now store)
+    ensures told { ReportsRows (D.rows keeper.old) (D.faults keeper.old) (D.faults keeper.new) (λ rows store. routes_text node.now store)
         (λ text own. Writes (K.written sink.old) (K.written sink.new)
         (K.write_faults sink.old) (K.write_faults sink.new) text own result) }
     ensures same_rows { D.rows keeper.new ≡ D.rows keeper.old }

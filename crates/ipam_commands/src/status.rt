@@ -46,7 +46,7 @@ pub enum Status {
 impl Status {
     ghost use Rattle.ipam_commands.specs.Statuses.{code_of};
 
-    /// The exit status of a program that tells it.
+    /// The exit status of a program that ends so.
     pub fn code(self) -> u8
         ensures { result ≡ code_of self }
     {

@@ -37,7 +37,7 @@ fn put_line(keeper: &mut MemoryKeeper, line: &str) -> Result<(), AllocError> {
     }
 }
 
-/// Runs the command, and tells its status and what it wrote.
+/// Runs the command, and returns its status and what it wrote.
 fn told<D: Keeper>(alloc: Global, words: &str, keeper: &mut D) -> Result<String, AllocError> {
     let mut sink = MemorySink::new(alloc, ROOM, Vec::new(alloc))?;
     let status = run(alloc, words, &mut sink, keeper)?;

@@ -7,37 +7,12 @@ const TWO: &str = "{\"kind\":\"IPPoolList\",\"items\":[\
 {\"kind\":\"IPPool\",\"metadata\":{\"name\":\"y\"},\"spec\":{\"cidr\":\"10.1.0.0/24\"}}]}";
 
 #[test]
-fn applies(rt: HostRuntime) -> Result<(), Fail> {
-    let count = count_of(&rt, rt.alloc(), APPLIED)?;
-    assert_eq!(rt; count, 16);
-    Ok(())
-}
-
-#[test]
-fn ends_at_a_refusal(rt: HostRuntime) -> Result<(), Fail> {
-    let count = count_of(&rt, rt.alloc(), ENDED)?;
-    assert_eq!(rt; count, 3);
-    Ok(())
-}
-
-#[test]
-fn releases(rt: HostRuntime) -> Result<(), Fail> {
-    let count = count_of(&rt, rt.alloc(), RELEASED)?;
-    assert_eq!(rt; count, 7);
-    Ok(())
-}
-
-#[test]
-fn tells_routes(rt: HostRuntime) -> Result<(), Fail> {
-    let count = count_of(&rt, rt.alloc(), ROUTED)?;
-    assert_eq!(rt; count, 10);
-    Ok(())
-}
-
-#[test]
-fn opens_no_broken_rows(rt: HostRuntime) -> Result<(), Fail> {
-    let count = count_of(&rt, rt.alloc(), BROKEN)?;
-    assert_eq!(rt; count, 5);
+fn commands_write_what_is_wanted(rt: HostRuntime) -> Result<(), Fail> {
+    assert_eq!(&rt; count_of(&rt, rt.alloc(), APPLIED)?, 16);
+    assert_eq!(&rt; count_of(&rt, rt.alloc(), ENDED)?, 3);
+    assert_eq!(&rt; count_of(&rt, rt.alloc(), RELEASED)?, 7);
+    assert_eq!(&rt; count_of(&rt, rt.alloc(), ROUTED)?, 10);
+    assert_eq!(&rt; count_of(&rt, rt.alloc(), BROKEN)?, 5);
     Ok(())
 }
 

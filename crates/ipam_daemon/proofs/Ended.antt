@@ -1,5 +1,5 @@
 -- How the daemon ends, and what its listener's count of faults comes to.
-use Rattle.std.proofs.Common.{◌≡◌, ◌⊎◌, inr, ℕ, sym, subst}
+use Rattle.std.proofs.Common.{◌≡◌, ◌⊎◌, ℕ, None, sym, subst}
 use Rattle.ipam_kept.specs.declared.kept.Kept.{Kept}
 use Rattle.ipam_kept.specs.declared.kept.KeptFault.{KeptFault}
 use Rattle.ipam_kept.specs.declared.kept.KeptFault.TheVariants.{Keeper, Refused, Memory}
@@ -11,14 +11,14 @@ use Rattle.ipam_daemon.specs.Opening.{IsEnd, IsUnopened, end_of}
 use Rattle.ipam_daemon.specs.Served.{ListenFaults}
 
 pub served_out : {D : Type 0} (tells : Tells D) (faults name : D → ℕ) (keeper : D) (kept : Kept D) (served : Served)
-    → IsOpened tells faults name keeper 0 kept → (served ≡ NoMemory) ⊎ (served ≡ ListenFault) → IsEnd tells faults name keeper served
-served_out tells faults name keeper kept served opened told = inr (record { kept = kept; opened = opened; told = told })
+    → IsOpened tells faults name keeper 0 kept → (served ≡ NoMemory) ⊎ (served ≡ ListenFault) → IsEnd tells faults name keeper served None
+served_out tells faults name keeper kept served opened told = record { kept = kept; opened = opened; told = told }
 
 of_end : (fault : KeptFault) (n n' : ℕ) → n' ≡ n → ListenFaults (end_of fault) n n'
 of_end Keeper n n' e = e
 of_end (Refused number about) n n' e = e
 of_end Memory n n' e = e
 
-pub unopened : {D : Type 0} (tells : Tells D) (faults name : D → ℕ) (keeper : D) (served : Served) (n n' : ℕ)
-    → IsUnopened tells faults name keeper served → n' ≡ n → ListenFaults served n n'
-unopened tells faults name keeper served n n' is e = subst (λ s. ListenFaults s n n') (sym is.told) (of_end is.fault n n' e)
+pub unopened : {D : Type 0} (tells : Tells D) (faults name : D → ℕ) (keeper after : D) (served : Served) (n n' : ℕ)
+    → IsUnopened tells faults name keeper after served → n' ≡ n → ListenFaults served n n'
+unopened tells faults name keeper after served n n' is e = subst (λ s. ListenFaults s n n') (sym is.told) (of_end is.fault n n' e)

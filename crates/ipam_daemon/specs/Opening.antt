@@ -1,5 +1,5 @@
 -- How the daemon ends where the keeper's rows are not opened.
-use Rattle.std.specs.Prelude.{◌≡◌, ◌⊎◌, ℕ}
+use Rattle.std.specs.Prelude.{◌≡◌, ◌⊎◌, ℕ, Option, Some, None}
 use Rattle.ipam_kept.specs.declared.kept.Kept.{Kept}
 use Rattle.ipam_kept.specs.declared.kept.KeptFault.{KeptFault}
 use Rattle.ipam_kept.specs.declared.kept.KeptFault.TheVariants.{Keeper, Refused, Memory}
@@ -13,9 +13,8 @@ end_of Keeper = KeeperFault
 end_of (Refused number about) = BrokenRows number about
 end_of Memory = NoMemory
 
--- the keeper's rows were not opened, for the reason that this end tells
-pub record IsUnopened {D : Type 0} (tells : Tells D) (faults name : D → ℕ) (keeper : D) (served : Served) : Type 0 where
-  pub after : D
+-- the keeper's rows were not opened, for the reason that this end tells, and the keeper came back
+pub record IsUnopened {D : Type 0} (tells : Tells D) (faults name : D → ℕ) (keeper after : D) (served : Served) : Type 0 where
   pub fault : KeptFault
   pub not_opened : IsNotOpened tells faults name keeper (after, fault)
   pub told : served ≡ end_of fault
@@ -26,7 +25,7 @@ pub record IsServedOut {D : Type 0} (tells : Tells D) (faults name : D → ℕ) 
   pub opened : IsOpened tells faults name keeper 0 kept
   pub told : (served ≡ NoMemory) ⊎ (served ≡ ListenFault)
 
--- how the daemon ends: its rows were not opened, or they were and it serves no more
-abbrev pub IsEnd : {D : Type 0} → Tells D → (faults name : D → ℕ) → D → Served → Type 0
-IsEnd tells faults name keeper served =
-    IsUnopened tells faults name keeper served ⊎ IsServedOut tells faults name keeper served
+-- how the daemon ends: its rows were not opened, and the keeper came back; or they were, and it serves no more
+abbrev pub IsEnd : {D : Type 0} → Tells D → (faults name : D → ℕ) → D → Served → Option D → Type 0
+IsEnd tells faults name keeper served (Some after) = IsUnopened tells faults name keeper after served
+IsEnd tells faults name keeper served None = IsServedOut tells faults name keeper served

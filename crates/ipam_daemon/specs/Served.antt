@@ -9,9 +9,9 @@ use Rattle.ipam_daemon.specs.declared.served.Served.TheVariants.{KeeperFault, No
 
 -- What a sink took of a line, what its count of faults came to, and the status: all of it, with the
 -- line's own status; or a front part, since the sink failed.
-pub data Writes (old new : Option (List ℕ)) (faults faults' : ℕ) (line : List ℕ) (own : ℕ) : ℕ → Type 0 where
-  Whole : new ≡ append_known old line → faults' ≡ faults → Writes old new faults faults' line own own
-  Cut : AppendsPrefix old new line → Rose faults faults' → Writes old new faults faults' line own 4
+pub data WritesLine (old new : Option (List ℕ)) (faults faults' : ℕ) (line : List ℕ) (own : ℕ) : ℕ → Type 0 where
+  Whole : new ≡ append_known old line → faults' ≡ faults → WritesLine old new faults faults' line own own
+  Cut : AppendsPrefix old new line → Rose faults faults' → WritesLine old new faults faults' line own 4
 
 -- nothing is written, since there was no memory
 pub record IsUntold (old new : Option (List ℕ)) (faults faults' status : ℕ) : Type 0 where
@@ -20,12 +20,12 @@ pub record IsUntold (old new : Option (List ℕ)) (faults faults' status : ℕ) 
   pub own : status ≡ 6
 
 -- what is written of an end, and the exit status
-abbrev pub Tells : Served → (old new : Option (List ℕ)) (faults faults' : ℕ) → ℕ → Type 0
-Tells KeeperFault old new faults faults' status = Writes old new faults faults' (codes "keeper fault\n") 5 status
-Tells NoMemory old new faults faults' status = IsUntold old new faults faults' status
-Tells (BrokenRows number about) old new faults faults' status =
-    Writes old new faults faults' (broken_line number about) 7 status ⊎ IsUntold old new faults faults' status
-Tells ListenFault old new faults faults' status = Writes old new faults faults' (codes "listen fault\n") 9 status
+abbrev pub WritesServed : Served → (old new : Option (List ℕ)) (faults faults' : ℕ) → ℕ → Type 0
+WritesServed KeeperFault old new faults faults' status = WritesLine old new faults faults' (codes "keeper fault\n") 5 status
+WritesServed NoMemory old new faults faults' status = IsUntold old new faults faults' status
+WritesServed (BrokenRows number about) old new faults faults' status =
+    WritesLine old new faults faults' (broken_line number about) 7 status ⊎ IsUntold old new faults faults' status
+WritesServed ListenFault old new faults faults' status = WritesLine old new faults faults' (codes "listen fault\n") 9 status
 
 -- the count of faults of the listener: it rises where listening failed, and else not
 abbrev pub ListenFaults : Served → (faults faults' : ℕ) → Type 0

@@ -1,7 +1,7 @@
 //! The gate of a worker's sessions.
 ghost use Rattle.std.specs.Prelude.{◌≡◌, ◌≤◌, ℕ, Some};
 ghost use Rattle.std.specs.Option.{option_map};
-ghost use Rattle.ipam_io.specs.Counts.{Rose, next_count};
+ghost use Rattle.ipam_io.specs.Counts.{Rose};
 ghost use Rattle.ipam_io.specs.Passing.{OnGo, OnStop, count_of_turns};
 ghost use Rattle.ipam_serve.specs.Asking.{count_of_lines};
 ghost use Rattle.ipam_socket.specs.Links.{peer_of};
@@ -10,7 +10,8 @@ use ipam_io::{Gate, Passed, Point};
 use ipam_serve::SessionGate;
 use ipam_socket::{Peer, PeerGate};
 
-/// A gate that looks at the peer at each pass, and counts the passes before a line and those at a turn.
+/// A gate that looks at the peer at each turn, and counts the passes before a line and those at a turn. Before
+/// a line it doesn't look: only what is read shows whether the peer closed after its last reply.
 #[derive(Drop)]
 pub(crate) struct Asking<P> {
     gate: PeerGate<P>,
@@ -40,9 +41,10 @@ impl<P: Peer> SessionGate for Asking<P> {
 
     ghost lines = { λ gate. Some gate.lines };
 
-    /// Looks once, and stops exactly where nobody is there.
+    /// At a turn it looks once, and stops exactly where nobody is there. Before a line it goes on.
     fn pass(&mut self, point: Point) -> Passed
-        ensures looked { P.looks (peer_of self.new.gate) ≡ next_count (P.looks (peer_of self.old.gate)) }
+        ensures looked { P.looks (peer_of self.new.gate) ≡ count_of_turns point (P.looks (peer_of self.old.gate)) }
+        ensures before_line { point ≡ Point.Line → result ≡ Passed.Go }
         ensures stop { OnStop result (Rose (P.gone (peer_of self.old.gate)) (P.gone (peer_of self.new.gate))) }
         ensures go { OnGo result (P.gone (peer_of self.new.gate) ≡ P.gone (peer_of self.old.gate)) }
         ensures never_falls { P.gone (peer_of self.old.gate) ≤ P.gone (peer_of self.new.gate) }
@@ -50,9 +52,14 @@ impl<P: Peer> SessionGate for Asking<P> {
         ensures line { self.new.lines ≡ count_of_lines point self.old.lines }
     {
         match point {
-            Point::Line => self.lines = self.lines.saturating_add(1),
-            Point::Turn => self.turns = self.turns.saturating_add(1),
+            Point::Line => {
+                self.lines = self.lines.saturating_add(1);
+                Passed::Go
+            }
+            Point::Turn => {
+                self.turns = self.turns.saturating_add(1);
+                self.gate.pass(point)
+            }
         }
-        self.gate.pass(point)
     }
 }

@@ -9,7 +9,8 @@ ghost use Rattle.ipam_serve.specs.Sessions.{RoseIf, Session, is_halted, is_read_
 
 use crate::serves::Serves;
 use ipam_io::{Link, SystemClock};
-use ipam_serve::{Opening, SessionEnd, SessionGate, Sleeps};
+use ipam_patience::{Queue, Queued};
+use ipam_serve::{Opening, SessionEnd, SessionGate};
 use ipam_shared::Pass;
 use std::alloc::Global;
 use std::sync::{Arc, Wait};
@@ -24,19 +25,21 @@ pub(crate) struct Desk<S: Serves, C> {
     opening: Arc<Opening, Global>,
     pass: Pass,
     clock: SystemClock<C>,
-    patience: Sleeps,
+    patience: Queued,
     sessions: u64,
     ghost own: { pass.lock ≡ S.id (arc_value shared) },
     ghost idle: { IsNone (runs_in pass) },
 }
 
 impl<S: Serves, C: Clock> Desk<S, C> {
-    /// A desk that serves sessions of this opening by this pass, and has served none.
+    /// A desk that serves sessions of this opening by this pass, with this queue of requests, and has served
+    /// none.
     #[tactic(auto, using(crate::proofs::Idle::is_idle))]
     pub(crate) fn new(
         alloc: Global,
         shared: Arc<S, Global>,
         opening: Arc<Opening, Global>,
+        queue: Arc<Queue, Global>,
         pass: Pass,
         clock: C,
     ) -> Desk<S, C>
@@ -46,7 +49,7 @@ impl<S: Serves, C: Clock> Desk<S, C> {
         ensures opening { result.opening ≡ opening }
         ensures sessions { result.sessions ≡ 0 }
     {
-        let patience = Sleeps::new(pass.slot());
+        let patience = Queued::new(queue, pass.slot());
         Desk {
             alloc,
             shared,

@@ -1,7 +1,7 @@
 //! Connections are handed over, and each is served.
 ghost use Rattle.std.specs.Prelude.{◌≡◌, ◌≤◌, ℕ, OnSome, IfNone, OnOk, OnErr};
 ghost use Rattle.ipam_io.specs.Counts.{Rose, next_count};
-ghost use Rattle.ipam_daemon.specs.Handing.{IsEachServed, IsHandedOver, IsOneHandedOver};
+ghost use Rattle.ipam_daemon.specs.Handing.{IsEachServed, IsHandedOver, IsOneHandedOver, raised};
 
 use ipam_socket::{Failed, Listens};
 use log::Log;
@@ -59,8 +59,8 @@ pub fn work<R: Wait + Log + Clock, T, Q: Takes<T>, W: Attends<T>>(
 }
 
 /// Accepts up to so many connections, one after the other, and hands each over, or has it served
-/// here where nobody can take it. It ends early where accepting fails.
-#[tactic(auto, using(crate::proofs::Counts::handed_none, crate::proofs::Counts::handed_more))]
+/// here where nobody can take it. It ends early where accepting fails, and nowhere else.
+#[tactic(auto, using(crate::proofs::Counts::handed_none, crate::proofs::Counts::handed_more, crate::proofs::Counts::accepted_none, crate::proofs::Counts::accepted_more))]
 pub fn hand_over<R: Wait + Log + Clock, T, L: Listens<T>, H: Hands<T>, W: Attends<T>>(
     rt: &R,
     listener: &mut L,
@@ -70,6 +70,7 @@ pub fn hand_over<R: Wait + Log + Clock, T, L: Listens<T>, H: Hands<T>, W: Attend
 ) -> Result<(), Failed>
     ensures each { IsHandedOver (L.accepted listener.old) (L.accepted listener.new)
         (H.handed to.old) (H.handed to.new) (W.attended own.old) (W.attended own.new) }
+    ensures all { OnOk result (L.accepted listener.new ≡ raised most (L.accepted listener.old)) }
     ensures fault { OnErr result (Rose (L.faults listener.old) (L.faults listener.new)) }
     ensures no_fault { OnOk result (L.faults listener.new ≡ L.faults listener.old) }
 {

@@ -13,15 +13,15 @@ use std::alloc::{AllocError, Global};
 use std::random::RandomSource;
 use std::time::{Clock, Duration};
 
-/// Opens the keeper's rows, with their history yet to be written.
-pub fn open_kept<D: Keeper + Drop>(alloc: Global, keeper: D) -> Result<Kept<D>, Served>
+/// Opens the keeper's rows, with their history yet to be written. On `Err` the keeper comes back.
+pub fn open_kept<D: Keeper>(alloc: Global, keeper: D) -> Result<Kept<D>, (D, Served)>
     ensures opened { IfOk result (IsOpened D.rows D.faults D.name keeper 0) }
     ensures new { IfOk result (IsNewlyKept D.rows) }
-    ensures not_opened { IfErr result (IsUnopened D.rows D.faults D.name keeper) }
+    ensures not_opened { IfErr result (λ back. IsUnopened D.rows D.faults D.name keeper back.0 back.1) }
 {
     match Kept::open(alloc, keeper, 0) {
         Ok(kept) => Ok(kept),
-        Err((_, fault)) => Err(end_of(fault)),
+        Err((keeper, fault)) => Err((keeper, end_of(fault))),
     }
 }
 

@@ -1,6 +1,6 @@
 //! How serving ends.
 ghost use Rattle.std.specs.Prelude.{◌≡◌, ◌⊎◌, ℕ, List, IfOk, string_bytes};
-ghost use Rattle.ipam_daemon.specs.Served.{IsUntold, Tells, Writes};
+ghost use Rattle.ipam_daemon.specs.Served.{IsUntold, WritesServed, WritesLine};
 
 use ipam_io::Sink;
 use ipam_kept::broken_line;
@@ -35,7 +35,7 @@ const LISTEN_FAULT: u8 = 9;
 /// there was no memory, for the daemon or for the line, 7 where the rows are broken, 9 where
 /// listening failed, and 4 where the sink did. Only the line of broken rows takes memory.
 pub fn tell_served<K: Sink>(alloc: Global, sink: &mut K, served: &Served) -> u8
-    ensures told { Tells served.now (K.written sink.old) (K.written sink.new)
+    ensures told { WritesServed served.now (K.written sink.old) (K.written sink.new)
         (K.write_faults sink.old) (K.write_faults sink.new) result }
     ensures rest { K.write_rest sink.new ≡ K.write_rest sink.old }
 {
@@ -52,7 +52,7 @@ pub fn tell_served<K: Sink>(alloc: Global, sink: &mut K, served: &Served) -> u8
 
 /// Writes the line, and gives its status.
 fn tell<K: Sink>(sink: &mut K, line: &str, own: u8) -> u8
-    ensures written { Writes (K.written sink.old) (K.written sink.new)
+    ensures written { WritesLine (K.written sink.old) (K.written sink.new)
         (K.write_faults sink.old) (K.write_faults sink.new) line.now own result }
     ensures rest { K.write_rest sink.new ≡ K.write_rest sink.old }
 {
@@ -65,7 +65,7 @@ fn tell<K: Sink>(sink: &mut K, line: &str, own: u8) -> u8
 /// The same, where there was memory for the line.
 fn tell_made<K: Sink>(sink: &mut K, line: Result<String, AllocError>, own: u8) -> u8
     ensures written { (said : List ℕ) → IfOk line (λ made. string_bytes made ≡ said)
-        → Writes (K.written sink.old) (K.written sink.new)
+        → WritesLine (K.written sink.old) (K.written sink.new)
         (K.write_faults sink.old) (K.write_faults sink.new) said own result
         ⊎ IsUntold (K.written sink.old) (K.written sink.new)
         (K.write_faults sink.old) (K.write_faults sink.new) result }

@@ -19,12 +19,19 @@ use std::net::{Net, TcpListener, TcpStream};
 /// at a socket file, where the address begins with a slash, and else at an IP address or the name of a
 /// host, a colon and a port. It ends where the rows are not opened or listening fails, and else goes on
 /// as long as connections can be accepted; sessions that are served by then are left to end with the
-/// process. The socket file is removed at the end.
+/// process. The socket file is removed at the end. Where its rows are not opened, the keeper comes back.
 pub fn serve<
     R: Host + Files + Net<Listener = TcpListener, Stream = TcpStream>,
     D: Keeper + Send + Drop + 'static,
->(rt: R, alloc: Global, keeper: D, opening: Opening, address: &str, workers: u8) -> Served
-    ensures { IsEnd D.rows D.faults D.name keeper result }
+>(
+    rt: R,
+    alloc: Global,
+    keeper: D,
+    opening: Opening,
+    address: &str,
+    workers: u8,
+) -> (Served, Option<D>)
+    ensures { IsEnd D.rows D.faults D.name keeper result.0 result.1 }
 {
     let mut listener = SocketListener::new(&rt, alloc, Address::of(address));
     let limits = Limits::of_session();
@@ -52,23 +59,23 @@ pub fn serve_by<R: Host, D: Keeper + Send + Drop + 'static, L: Listens<Stream>>(
     workers: u8,
     limits: Limits,
     leaving: Leaving,
-) -> Served
-    ensures ended { IsEnd D.rows D.faults D.name keeper result }
-    ensures listening { ListenFaults result (L.faults listener.old) (L.faults listener.new) }
+) -> (Served, Option<D>)
+    ensures ended { IsEnd D.rows D.faults D.name keeper result.0 result.1 }
+    ensures listening { ListenFaults result.0 (L.faults listener.old) (L.faults listener.new) }
 {
     let kept = match open_kept(alloc, keeper) {
         Ok(kept) => kept,
-        Err(served) => return served,
+        Err((keeper, served)) => return (served, Some(keeper)),
     };
     match listener.open() {
         Ok(()) => {
             let served = serve_at(rt, alloc, kept, opening, listener, workers, limits, leaving);
             listener.close();
-            served
+            (served, None)
         }
         Err(Failed) => {
             drop(kept);
-            Served::ListenFault
+            (Served::ListenFault, None)
         }
     }
 }

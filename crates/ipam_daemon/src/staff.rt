@@ -5,6 +5,7 @@ ghost use Rattle.std.specs.Vec.{vec_len};
 ghost use Rattle.ipam_io.specs.Counts.{Rose};
 ghost use Rattle.ipam_shared.specs.Passes.{IsNewlyKept, runs_in};
 ghost use Rattle.ipam_daemon.specs.Crews.{IsEngaged};
+ghost use Rattle.ipam_daemon.specs.Handing.{IsHandedOver, raised};
 
 use crate::channel::{HandingEnd, channel};
 use crate::crew::{Crew, hire};
@@ -14,6 +15,7 @@ use crate::opening::share;
 use crate::serves::Serves;
 use crate::worker::Worker;
 use ipam_kept::{Keeper, Kept};
+use ipam_patience::Queue;
 use ipam_serve::Opening;
 use ipam_shared::{Pass, Shared};
 use ipam_socket::{Failed, Limits, Listens, Stream};
@@ -57,6 +59,9 @@ impl<S: Serves + Drop, C: Clock + Copy + Drop> Staff<S, C> {
         listener: &mut L,
         most: u64,
     ) -> Result<(), Failed>
+        ensures each { IsHandedOver (L.accepted listener.old) (L.accepted listener.new)
+            self.old.to.handed self.new.to.handed self.old.own.desk.sessions self.new.own.desk.sessions }
+        ensures all { OnOk result (L.accepted listener.new ≡ raised most (L.accepted listener.old)) }
         ensures fault { OnErr result (Rose (L.faults listener.old) (L.faults listener.new)) }
         ensures no_fault { OnOk result (L.faults listener.new ≡ L.faults listener.old) }
     {
@@ -95,12 +100,17 @@ impl<S: Serves + Drop, C: Clock + Copy + Drop> Staff<S, C> {
         ensures { Rose (L.faults listener.old) (L.faults listener.new) }
     {
         for _ in rt.forever() {
-            if let Err(Failed) = self.accept(rt, listener, u64::MAX) {
+            if let Err(Failed) = self.accept(rt, listener, endless()) {
                 return;
             }
         }
         unreachable!()
     }
+}
+
+/// More connections than ever come.
+fn endless() -> u64 {
+    u64::MAX
 }
 
 /// So many workers over this opening of the cluster, or fewer where the system makes no more threads or the cluster has
@@ -136,13 +146,14 @@ fn engage_over<R: Host, S: Serves + Send + Sync + Drop + 'static>(
 {
     let shared = Arc::new(alloc, shared)?;
     let opening = Arc::new(alloc, opening)?;
+    let queue = Arc::new(alloc, Queue::new())?;
     let (to, from) = channel(alloc)?;
     let mut crew = Crew::new(&rt, alloc, &from);
     hire_all(
-        rt, alloc, &shared, &opening, &mut pass, &mut crew, workers, limits,
+        rt, alloc, &shared, &opening, &queue, &mut pass, &mut crew, workers, limits,
     )?;
     let (threads, thread_faults) = crew.into_parts();
-    let own = Worker::new(alloc, shared, opening, pass, rt, limits);
+    let own = Worker::new(alloc, shared, opening, queue, pass, rt, limits);
     Ok(Staff {
         to,
         threads,
@@ -159,6 +170,7 @@ fn hire_all<R: Host, S: Serves + Send + Sync + Drop + 'static>(
     alloc: Global,
     shared: &Arc<S, Global>,
     opening: &Arc<Opening, Global>,
+    queue: &Arc<Queue, Global>,
     pass: &mut Pass,
     crew: &mut Crew<'_, R>,
     workers: u8,
@@ -174,7 +186,8 @@ fn hire_all<R: Host, S: Serves + Send + Sync + Drop + 'static>(
             return Ok(());
         };
         let (shared, opening) = (Arc::try_clone(shared)?, Arc::try_clone(opening)?);
-        let worker = Worker::new(alloc, shared, opening, other, rt, limits);
+        let queue = Arc::try_clone(queue)?;
+        let worker = Worker::new(alloc, shared, opening, queue, other, rt, limits);
         if !hire(crew, worker)? {
             return Ok(());
         }

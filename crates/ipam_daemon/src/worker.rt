@@ -9,6 +9,7 @@ use crate::desk::Desk;
 use crate::ending::{log_end, log_refused};
 use crate::handing::Attends;
 use crate::serves::Serves;
+use ipam_patience::Queue;
 use ipam_serve::Opening;
 use ipam_shared::Pass;
 use ipam_socket::{Limits, SocketLink, Stream, StreamPeer};
@@ -26,11 +27,13 @@ pub(crate) struct Worker<S: Serves, C> {
 }
 
 impl<S: Serves, C: Clock + Copy> Worker<S, C> {
-    /// A worker that serves sessions of this opening by this pass, within these limits.
+    /// A worker that serves sessions of this opening by this pass, with this queue of requests and within
+    /// these limits.
     pub(crate) fn new(
         alloc: Global,
         shared: Arc<S, Global>,
         opening: Arc<Opening, Global>,
+        queue: Arc<Queue, Global>,
         pass: Pass,
         clock: C,
         limits: Limits,
@@ -41,7 +44,7 @@ impl<S: Serves, C: Clock + Copy> Worker<S, C> {
         ensures sessions { result.desk.sessions ≡ 0 }
     {
         Worker {
-            desk: Desk::new(alloc, shared, opening, pass, clock),
+            desk: Desk::new(alloc, shared, opening, queue, pass, clock),
             clock,
             limits,
         }

@@ -86,7 +86,7 @@ fn told_served<
     R: Host + Files + Net<Listener = TcpListener, Stream = TcpStream>,
     D: Keeper + Send + Drop + 'static,
 >(rt: R, alloc: Global, keeper: D, address: &str) -> Result<String, AllocError> {
-    let served = serve(rt, alloc, keeper, opening(alloc, OPENED)?, address, 2);
+    let (served, _keeper) = serve(rt, alloc, keeper, opening(alloc, OPENED)?, address, 2);
     told(alloc, &served, 64)
 }
 

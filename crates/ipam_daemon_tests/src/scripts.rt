@@ -59,7 +59,19 @@ d !
 b = ADD 0 {"cniVersion":"1.0.0","ips":[{"address":"10.0.0.0/32"}]}
 b !
 a = DEL 0
-a !"#;
+a !
+
+2 2 40000 a session that reads rows beside one that adds is told those of its own turns
+a > {"rows":"handle"}
+a < {"revision":3,"rows":[]}
+b > {"request":{"add":{"handle":"n.c1","node":"a"}}}
+b < {"answer":{"added":[{"address":"10.0.0.0","b":5,"c":1,"f":4,"p":2,"r":3,"w":8}]}}
+a > {"rows":"handle"}
+a < {"revision":5,"rows":[{"body":"{\"block\":{\"10.0.0.0/30\":1},\"handleID\":\"n.c1\"}","key":"handle/n.c1","revision":4}]}
+a > {"rows":"handle","after":"handle/n.c1"}
+a < {"revision":5,"rows":[]}
+a !
+b !"#;
 
 /// The same, at a socket file.
 pub(crate) const AT_A_FILE: &str =

@@ -94,8 +94,8 @@ fn play_each<R: Host + Sync + Abort>(
 fn scripts_are_played(rt: HostRuntime) -> Result<(), Fail> {
     let path = socket_path(&rt, "scripts")?;
     let tables = [
-        (ANY_PORT, EITHER, 5),
-        (path.as_str(), EITHER, 5),
+        (ANY_PORT, EITHER, 6),
+        (path.as_str(), EITHER, 6),
         (path.as_str(), AT_A_FILE, 3),
         (ANY_PORT, OVER_TCP, 3),
         (ANY_PORT, CUT, 1),
@@ -149,7 +149,7 @@ fn serve_few<R: Host + Sync>(
         SocketListener::new(rt, alloc, Address::of(address)),
         connections,
     );
-    let served = serve_by(
+    let (served, _keeper) = serve_by(
         host,
         alloc,
         free(alloc)?,

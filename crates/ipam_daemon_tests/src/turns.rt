@@ -6,11 +6,12 @@ use crate::flags::{Flag, WaitingGate};
 use crate::loopback::opening;
 use ipam_daemon::Serves;
 use ipam_io::{ListClock, MemoryLink, OpenGate};
-use ipam_serve::{SessionGate, Sleeps};
+use ipam_patience::{Queue, Queued};
+use ipam_serve::SessionGate;
 use ipam_shared::{Keeper, Kept, Pass, Shared};
 use std::alloc::{AllocError, Global};
 use std::str;
-use std::sync::Wait;
+use std::sync::{Arc, Wait};
 use std::thread::{Threads, join};
 
 /// An ADD by the first session.
@@ -29,11 +30,12 @@ const WAITS_AT: u64 = 3;
 /// How many bytes a session may write.
 const ROOM: usize = 4096;
 
-/// Serves a session of these lines, and tells what it writes and how it ends.
+/// Serves a session of these lines, whose requests enter this queue, and tells what it writes and how it ends.
 fn served<R: Wait, S: Serves, G: SessionGate>(
     rt: &R,
     alloc: Global,
     shared: &S,
+    queue: Arc<Queue, Global>,
     pass: &mut Pass,
     gate: &mut G,
     lines: &str,
@@ -44,7 +46,7 @@ fn served<R: Wait, S: Serves, G: SessionGate>(
     let bytes = Vec::from_slice(alloc, lines.as_bytes())?;
     let mut link = MemoryLink::new(alloc, bytes, ROOM, Vec::new(alloc))?;
     let mut clock = ListClock::new(Vec::new(alloc));
-    let mut patience = Sleeps::new(pass.slot());
+    let mut patience = Queued::new(queue, pass.slot());
     let opening = opening(alloc, "7-0")?;
     let end = shared.session(
         rt,
@@ -65,6 +67,7 @@ fn serve_first<R: Wait, S: Serves>(
     rt: &R,
     alloc: Global,
     shared: &S,
+    queue: Arc<Queue, Global>,
     mut pass: Pass,
     flag: &Flag,
 ) -> Result<String, AllocError>
@@ -72,7 +75,7 @@ fn serve_first<R: Wait, S: Serves>(
     requires idle { runs_in pass ≡ None }
 {
     let mut gate = WaitingGate::new(flag, WAITS_AT);
-    served(rt, alloc, shared, &mut pass, &mut gate, FIRST)
+    served(rt, alloc, shared, queue, &mut pass, &mut gate, FIRST)
 }
 
 /// Serves the session that is waited for.
@@ -80,39 +83,50 @@ fn serve_second<R: Wait, S: Serves>(
     rt: &R,
     alloc: Global,
     shared: &S,
+    queue: Arc<Queue, Global>,
     mut pass: Pass,
     flag: &Flag,
 ) -> Result<String, AllocError>
     requires own { pass.lock ≡ S.id shared.now }
     requires idle { runs_in pass ≡ None }
 {
-    let told = served(rt, alloc, shared, &mut pass, &mut OpenGate::new(), SECOND);
+    let told = served(
+        rt,
+        alloc,
+        shared,
+        queue,
+        &mut pass,
+        &mut OpenGate::new(),
+        SECOND,
+    );
     flag.raise();
     told
 }
 
-/// Serves both at once.
+/// Serves both at once, with one queue.
 fn serve_both<R: Threads + Wait + Sync, S: Serves + Sync>(
     rt: &R,
     alloc: Global,
     shared: &S,
     first: Pass,
     second: Pass,
-) -> (Result<String, AllocError>, Result<String, AllocError>)
+) -> Result<(Result<String, AllocError>, Result<String, AllocError>), AllocError>
     requires own { (first.lock ≡ S.id shared.now) × (second.lock ≡ S.id shared.now) }
     requires idle { (runs_in first ≡ None) × (runs_in second ≡ None) }
 {
     let raised = Flag::new();
     let flag = &raised;
-    join(
+    let queue = Arc::new(alloc, Queue::new())?;
+    let other = Arc::try_clone(&queue)?;
+    Ok(join(
         rt,
         move || -> Result<String, AllocError>
             requires { (first.lock ≡ S.id shared.now) × (runs_in first ≡ None) }
-        { serve_first(rt, alloc, shared, first, flag) },
+        { serve_first(rt, alloc, shared, queue, first, flag) },
         move || -> Result<String, AllocError>
             requires { (second.lock ≡ S.id shared.now) × (runs_in second ≡ None) }
-        { serve_second(rt, alloc, shared, second, flag) },
-    )
+        { serve_second(rt, alloc, shared, other, second, flag) },
+    ))
 }
 
 /// Serves both by passes that are split. None where there is no second pass, or no memory.
@@ -126,7 +140,7 @@ fn split_and_serve<R: Threads + Wait + Sync, S: Serves + Sync>(
     requires idle { runs_in first ≡ None }
 {
     let second = shared.split_off(&mut first)?;
-    let (waited, answered) = serve_both(rt, alloc, shared, first, second);
+    let (waited, answered) = serve_both(rt, alloc, shared, first, second).ok()?;
     Some((waited.ok()?, answered.ok()?))
 }
 

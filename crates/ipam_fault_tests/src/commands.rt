@@ -1,7 +1,8 @@
-//! A scenario is run: commands over a keeper in memory, and what is told of them.
+//! A scenario is run: commands over a keeper in memory, and what comes of them.
 use ipam_command::run_command;
 use ipam_io::{MemorySink, MemorySource};
 use ipam_keeper::{Keeper, MemoryKeeper};
+use ipam_table::Plays;
 use ipam_text::Text;
 use std::alloc::{AllocError, Global};
 
@@ -26,26 +27,18 @@ pub(crate) const WELL: Failing = Failing {
     room: ROOM,
 };
 
-/// What is told of the scenario, and what it says that should be.
-pub(crate) fn told(alloc: Global, scenario: &str) -> Result<(String, String), AllocError> {
-    let mut keeper = keeper_of(alloc, scenario)?;
-    let mut told = String::new(alloc);
-    for line in scenario.lines() {
-        step(alloc, &mut keeper, line, &mut told)?;
-    }
-    Ok((told, wanted(alloc, scenario)?))
-}
+/// Runs commands over a keeper of the rows.
+pub(crate) struct Commands;
 
-/// What should be told: the lines that begin with `= `.
-pub(crate) fn wanted(alloc: Global, scenario: &str) -> Result<String, AllocError> {
-    let mut wanted = String::new(alloc);
-    for line in scenario.lines() {
-        if let Some(told) = line.strip_prefix("= ") {
-            wanted.push_str(told)?;
-            wanted.push_str("\n")?;
+impl Plays for Commands {
+    fn play(&self, alloc: Global, scenario: &str) -> Result<String, AllocError> {
+        let mut keeper = keeper_of(alloc, scenario)?;
+        let mut told = String::new(alloc);
+        for line in scenario.lines() {
+            step(alloc, &mut keeper, line, &mut told)?;
         }
+        Ok(told)
     }
-    Ok(wanted)
 }
 
 // ---- the keeper
@@ -99,7 +92,7 @@ fn number_after(number: &str, before: u64) -> u64 {
 
 // ---- the commands
 
-/// Runs the command of a line, and appends what is told of it: `do` runs it, `unread` where its input
+/// Runs the command of a line, and appends what comes of it: `do` runs it, `unread` where its input
 /// can't be read, and `room N` where no more than N bytes of its output can be written.
 fn step(
     alloc: Global,
@@ -155,7 +148,7 @@ fn lines_of(alloc: Global, text: &str) -> Result<String, AllocError> {
     Ok(lines)
 }
 
-/// Runs the command with the words, the environment and the input, and tells its status and what it
+/// Runs the command with the words, the environment and the input, and returns its status and what it
 /// wrote. Where this doesn't end with a line feed, `|` stands at its end.
 pub(crate) fn run<D: Keeper>(
     alloc: Global,

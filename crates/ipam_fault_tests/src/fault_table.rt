@@ -1,5 +1,5 @@
-//! Scenarios of commands that fail, and what is told of them, on the lines that begin with `= `. A reply
-//! without a line feed at its end is told with `|` there.
+//! Scenarios of commands that fail, and what comes of them, on the lines that begin with `= `. A reply
+//! without a line feed at its end has `|` there.
 
 pub(crate) const FAULTS: &str =
     r#"Words that name no command are unknown, and nothing is read or loaded.

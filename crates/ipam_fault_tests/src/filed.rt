@@ -31,7 +31,7 @@ do get⇒⇒
 = handle/n.c5 16 {"block":{"10.0.0.4/30":1},"handleID":"n.c5"}
 = pools 1 {"pools":[{"blockSize":30,"cidr":"10.0.0.0/29","disabled":false,"name":"p"}]}"#;
 
-/// What is told of the commands over the file `db`, which each of them opens anew.
+/// What comes of the commands over the file `db`, which each of them opens anew.
 pub(crate) fn told_over_file(rt: &HostRuntime, scenario: &str) -> Result<String, AllocError> {
     let mut told = String::new(rt.alloc());
     for line in scenario.lines() {

@@ -17,7 +17,7 @@ pub(crate) fn repeated(
     Ok(text)
 }
 
-/// What is told of the command with this input over no rows.
+/// What comes of the command with this input over no rows.
 pub(crate) fn told_of(
     alloc: Global,
     words: &str,

@@ -1,43 +1,16 @@
-use crate::commands::{told, wanted};
-use crate::doubt_table::DOUBTS;
+use crate::commands::Commands;
 use crate::fault_table::{FAULTS, GENERATED};
 use crate::filed::{FIVE_ADDRESSES, told_over_file};
 use crate::long::{repeated, told_of};
 use crate::stop_table::RUNS;
 use crate::stops::leaves_no_owner;
-use std::alloc::{AllocError, Global};
-use std::process::Abort;
+use ipam_table::{played, wanted};
 use std::test::Fail;
 
-/// How many scenarios there are, each of which is told as it says.
-fn run_all(rt: &impl Abort, alloc: Global, scenarios: &str) -> Result<usize, AllocError> {
-    let mut count = 0usize;
-    for scenario in scenarios.split("\n\n") {
-        let (told, wanted) = told(alloc, scenario)?;
-        assert_eq!(rt; told.as_str(), wanted.as_str(), "{scenario}");
-        count = count.wrapping_add(1);
-    }
-    Ok(count)
-}
-
 #[test]
-fn each_failure_is_told_by_its_cause(rt: HostRuntime) -> Result<(), Fail> {
-    let count = run_all(&rt, rt.alloc(), FAULTS)?;
-    assert_eq!(rt; count, 8);
-    Ok(())
-}
-
-#[test]
-fn the_generator_counts_these(rt: HostRuntime) -> Result<(), Fail> {
-    let count = run_all(&rt, rt.alloc(), GENERATED)?;
-    assert_eq!(rt; count, 1);
-    Ok(())
-}
-
-#[test]
-fn rows_in_doubt_are_opened_again(rt: HostRuntime) -> Result<(), Fail> {
-    let count = run_all(&rt, rt.alloc(), DOUBTS)?;
-    assert_eq!(rt; count, 14);
+fn the_scenarios_are_answered(rt: HostRuntime) -> Result<(), Fail> {
+    assert_eq!(&rt; played(rt.alloc(), &Commands, FAULTS)?.as_str(), "8");
+    assert_eq!(&rt; played(rt.alloc(), &Commands, GENERATED)?.as_str(), "1");
     Ok(())
 }
 

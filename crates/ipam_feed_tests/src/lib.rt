@@ -1,4 +1,4 @@
-//! Writes that are pushed into a ring, and what it tells of them.
+//! Writes that are pushed into a ring, and what it reports of them.
 #![tactic(auto)]
 
 #[cfg(test)]

@@ -1,4 +1,4 @@
-//! Rings after writes, and texts of what they tell.
+//! Rings after writes, and texts of what they report.
 ghost use Rattle.std.specs.Prelude.{◌≡◌, IfOk};
 ghost use Rattle.ipam_feed.specs.Feed.{write_revision};
 

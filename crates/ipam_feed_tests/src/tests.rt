@@ -1,4 +1,4 @@
-//! What a ring tells, as tables.
+//! What a ring reports, as tables.
 use crate::rings::{Made, Step, changes_text, ring_after, routes_text};
 use ipam_affinity::State;
 use ipam_feed::{Ring, SinceFault};

@@ -93,7 +93,7 @@ pub record IsPlain (counted : Counted) (Holds : List Entry → Type 0) : Type 0 
 abbrev pub Leads : (old new : Counted) → (Holds : List Entry → List Entry → Type 0) → Type 0
 Leads old new Holds = (before : List Entry) → IsCounted old before → AllRun IsNoCollection before → IsPlain new (Holds before)
 
--- a collection runs, and so many addresses were told as freed by its newest entry
+-- a collection runs, and its newest entry reports so many freed addresses
 pub record IsCollecting (counted : Counted) (live : List (List ℕ)) (before : List Entry) (freed : ℕ) : Type 0 where
   pub history : List Entry
   pub is_counted : IsCounted counted history
@@ -101,7 +101,7 @@ pub record IsCollecting (counted : Counted) (live : List (List ℕ)) (before : L
   pub collects : Collects live before history
   pub is_freed : freed ≡ freed_count history
 
--- it stands after this history, whose newest entry tells of nothing freed
+-- it stands after this history, whose newest entry reports nothing freed
 pub record IsStart (counted : Counted) (before : List Entry) : Type 0 where
   pub is_counted : IsCounted counted before
   pub at_once : AllRun IsAtOnce before
@@ -111,7 +111,7 @@ pub record IsStart (counted : Counted) (before : List Entry) : Type 0 where
 abbrev pub Goes : (old new : Counted) → (live : List (List ℕ)) → (freed : ℕ) → Type 0
 Goes old new live freed = (before : List Entry) → IsStart old before → IsCollecting new live before freed
 
--- slot 0 takes a turn, whose entry tells of so many freed addresses
+-- slot 0 takes a turn, whose entry reports so many freed addresses
 pub record Turns (old new : Counted) (freed : ℕ) : Type 0 where
   pub made : Entry
   pub happens : HappensAs old new (Turn 0 Well) made

@@ -19,7 +19,7 @@ summary_in numbers = record {
   freed = numbers.freed;
 }
 
--- how many addresses are owned by what the record says
+-- how many addresses the record owns
 abbrev pub owned_in : Record → ℕ
 owned_in (record_of.Block b) = length b.allocations
 owned_in _ = 0

@@ -18,7 +18,7 @@ use Rattle.ipam_gen.specs.Requests.{base}
 
 -- ---- answers
 
--- the answer that an entry tells, if any
+-- the answer that an entry has, if any
 abbrev pub answer_told : Entry → Option Answer
 answer_told (entry.Called c) = c.answer
 answer_told _ = None
@@ -54,12 +54,12 @@ abbrev pub freed_of : Answer → ℕ
 freed_of (answer.Collected found) = freed_among found.items
 freed_of _ = 0
 
--- how many of the addresses that a collection tells of it freed itself
+-- how many of the addresses that a collection reports it freed itself
 abbrev pub freed_in : Option Answer → ℕ
 freed_in (Some told) = freed_of told
 freed_in None = 0
 
--- the same of the answer that the newest entry tells
+-- the same of the answer that the newest entry has
 abbrev pub freed_count : List Entry → ℕ
 freed_count [] = 0
 freed_count (new ∷ history) = freed_in (answer_told new)
@@ -111,16 +111,16 @@ pub record WritesSummary (count : ℕ) (first now : Option (List ℕ)) : Type 0 
   pub written : now ≡ append_known first text
 
 -- a front part of it was written
-pub record WritesFront (count : ℕ) (first now : Option (List ℕ)) : Type 0 where
+pub record WritesSummaryFront (count : ℕ) (first now : Option (List ℕ)) : Type 0 where
   pub text : List ℕ
   pub is_text : IsSummaryText count text
   pub written : AppendsPrefix first now text
 
 -- what a run that ended so has written
-abbrev pub HasWritten : GenEnd → (count : ℕ) → (first now : Option (List ℕ)) → Type 0
-HasWritten end.Done count first now = WritesSummary count first now
-HasWritten end.WriteFault count first now = WritesFront count first now
-HasWritten end.NoMemory count first now = now ≡ first
+abbrev pub HasWrittenSummary : GenEnd → (count : ℕ) → (first now : Option (List ℕ)) → Type 0
+HasWrittenSummary end.Done count first now = WritesSummary count first now
+HasWrittenSummary end.WriteFault count first now = WritesSummaryFront count first now
+HasWrittenSummary end.NoMemory count first now = now ≡ first
 
 -- the count of faults rose where a write failed, and else stays
 abbrev pub CountsFaults : GenEnd → (old new : ℕ) → Type 0

@@ -16,7 +16,7 @@ use ipam_model::{Request, SlotState};
 use ipam_text::{Seq, Text};
 use std::alloc::{AllocError, Global};
 
-/// Runs the collection in slot 0, to its end, and tells how many addresses it freed.
+/// Runs the collection in slot 0, to its end, and returns how many addresses it freed.
 pub(crate) fn collect(
     alloc: Global,
     counted: &mut Counted,

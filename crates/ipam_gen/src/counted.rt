@@ -102,7 +102,7 @@ impl Counted {
         Ok(())
     }
 
-    /// Counts the answer, if the entry tells one.
+    /// Counts the answer, if the entry has one.
     fn note(&mut self, entry: &Entry)
         requires again { self.old.again < 2 ^ 63 }
         requires exhausted { self.old.exhausted < 2 ^ 63 }

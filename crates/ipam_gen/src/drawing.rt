@@ -30,7 +30,7 @@ pub(crate) fn draw_all(
     Ok(())
 }
 
-/// Draws a slot, for a turn or for the next request, and tells how many have begun.
+/// Draws a slot, for a turn or for the next request, and returns how many have begun.
 fn draw_once(
     alloc: Global,
     counted: &mut Counted,

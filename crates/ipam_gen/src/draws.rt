@@ -8,7 +8,7 @@ const FACTOR: u128 = 6_364_136_223_846_793_005;
 const TERM: u128 = 1_442_695_040_888_963_407;
 /// How many states there are.
 const STATES: u128 = 0x1_0000_0000_0000_0000;
-/// The low bits of a state are not told.
+/// No contract states the low bits of a state.
 const UNTOLD: u64 = 0x2_0000_0000;
 
 /// The state of the draws.

@@ -14,7 +14,7 @@ use ipam_model::{Entry, Fate, Request, SLOTS};
 use ipam_text::Text;
 use std::alloc::{AllocError, Global};
 
-/// The request begins in the slot. On `Err` there was no memory; so it is told where the cluster has
+/// The request begins in the slot. On `Err` there was no memory; so it is reported where the cluster has
 /// 2^62 entries, which no process lives to see.
 pub(crate) fn begin(
     alloc: Global,

@@ -1,4 +1,4 @@
-//! A generator of requests: its events happen to a cluster, and a summary tells what came of them.
+//! A generator of requests: its events happen to a cluster, and a summary counts what came of them.
 #![tactic(auto)]
 
 mod base;

@@ -65,7 +65,7 @@ pub(crate) fn owners(store: &Store) -> u128
     count
 }
 
-/// How many addresses are owned by what the record says.
+/// How many addresses the record owns.
 fn owned_in(value: &Record) -> usize
     ensures { result ≡ owned_in value.now }
 {

@@ -2,7 +2,7 @@
 ghost use Rattle.std.specs.Prelude.{◌≡◌, [], IfOk, string_bytes};
 ghost use Rattle.ipam_gen.specs.Counted.{IsCounted};
 ghost use Rattle.ipam_gen.specs.Numbers.{IsCourse, summary_in};
-ghost use Rattle.ipam_gen.specs.Summary.{CountsFaults, HasWritten, IsSummaryText};
+ghost use Rattle.ipam_gen.specs.Summary.{CountsFaults, HasWrittenSummary, IsSummaryText};
 
 use crate::collecting::collect;
 use crate::counted::Counted;
@@ -18,7 +18,7 @@ use std::alloc::{AllocError, Global};
 ///
 /// With the end `NoMemory` nothing is written.
 pub fn generate<K: Sink>(alloc: Global, requests: u32, sink: &mut K) -> GenEnd
-    ensures written { HasWritten result requests (K.written sink.old) (K.written sink.new) }
+    ensures written { HasWrittenSummary result requests (K.written sink.old) (K.written sink.new) }
     ensures faults { CountsFaults result (K.write_faults sink.old) (K.write_faults sink.new) }
     ensures rest { K.write_rest sink.new ≡ K.write_rest sink.old }
 {

@@ -6,21 +6,21 @@ use Rattle.ipam_gen.specs.declared.end.GenEnd.{GenEnd}
 use Rattle.ipam_gen.specs.declared.end.GenEnd.TheVariants as end
 use Rattle.ipam_gen.specs.Generated.{IsGenerated}
 use Rattle.ipam_gen.specs.Requests.{base}
-use Rattle.ipam_gen.specs.Summary.{HasWritten, WritesFront, WritesSummary}
+use Rattle.ipam_gen.specs.Summary.{HasWrittenSummary, WritesSummaryFront, WritesSummary}
 
 -- The newest entry is first.
 abbrev pub GeneratedRightLaw : Type 0
 GeneratedRightLaw = (count : ℕ) (answered whole : List Entry) → IsGenerated count answered whole → IsRight base whole
 
--- What a run that ends so has written, as `HasWritten` says: the six numbers are counted on this course of
+-- What a run that ends so has written, by `HasWrittenSummary`: the six numbers are counted on this course of
 -- the events, which is a right history.
 abbrev pub HasCountedRight : GenEnd → (count : ℕ) → (first now : Option (List ℕ)) → Type 0
 HasCountedRight end.Done count first now = (w : WritesSummary count first now) × IsRight base w.is_text.whole
-HasCountedRight end.WriteFault count first now = (w : WritesFront count first now) × IsRight base w.is_text.whole
+HasCountedRight end.WriteFault count first now = (w : WritesSummaryFront count first now) × IsRight base w.is_text.whole
 HasCountedRight end.NoMemory count first now = now ≡ first
 
 -- Whatever a run has written, it is counted on a right history.
 abbrev pub CountedRightLaw : Type 0
 CountedRightLaw =
     (count : ℕ) (ending : GenEnd) (first now : Option (List ℕ))
-    → HasWritten ending count first now → HasCountedRight ending count first now
+    → HasWrittenSummary ending count first now → HasCountedRight ending count first now

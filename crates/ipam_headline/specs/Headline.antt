@@ -1,4 +1,4 @@
--- What is written of a script tells of a right history.
+-- What is written of a script is that of a right history.
 use Rattle.std.specs.Prelude.{◌≢◌, ℕ, List, [], reverse, Option}
 use Rattle.ipam_records.specs.Datastore.{Datastore}
 use Rattle.ipam_model.specs.declared.entry.Entry.{Entry}
@@ -9,7 +9,7 @@ use Rattle.ipam_play.specs.Readings.{readings}
 use Rattle.ipam_play.specs.Script.{Script, script_of}
 use Rattle.ipam_play_run.specs.declared.end.PlayEnd.{PlayEnd}
 use Rattle.ipam_play_run.specs.declared.end.PlayEnd.TheVariants as end
-use Rattle.ipam_play_run.specs.Writing.{HasWritten, IsRefusedBase, IsRefusedLine, IsText, IsWhole, OfAll, OfFront, WritesAll, WritesFront, WritesPart, WritesSoFar, read_fault_text}
+use Rattle.ipam_play_run.specs.Writing.{HasWrittenJournal, IsRefusedBase, IsRefusedLine, IsText, IsWhole, OfAll, OfFront, WritesAll, WritesFront, WritesPart, WritesSoFar, read_fault_text}
 
 -- the script that these bytes are
 abbrev pub script_in : List ℕ → Script
@@ -36,7 +36,7 @@ abbrev pub IsRightText : (script : Script) (text : List ℕ) → IsText script t
 IsRightText script _ (OfAll entries ending is_played) = IsRightOf script entries
 IsRightText script _ (OfFront done is_front) = IsRightOf script done
 
--- What a run that ends so has written, as `HasWritten` says, is the journal of these entries with the
+-- What a run that ends so has written, by `HasWrittenJournal`, is the journal of these entries with the
 -- last line of its ending, and these entries are right. Where the source failed or memory was wanted,
 -- they are the entries so far; where the sink failed, a front part was written.
 abbrev pub HasWrittenRight : PlayEnd → Script → (first now : Option (List ℕ)) → Type 0
@@ -55,7 +55,7 @@ HasWrittenRight end.WriteFault script first now =
 abbrev pub WrittenRightLaw : Type 0
 WrittenRightLaw =
     (bytes : List ℕ) (ending : PlayEnd) (first now : Option (List ℕ))
-    → HasWritten ending (script_in bytes) first now → HasWrittenRight ending (script_in bytes) first now
+    → HasWrittenJournal ending (script_in bytes) first now → HasWrittenRight ending (script_in bytes) first now
 
 -- ---- what is written where a read of the source fails
 

@@ -1,3 +1,3 @@
--- What the program writes tells of right histories.
+-- What the program writes is that of right histories.
 pub mod Headline
 pub mod Generating

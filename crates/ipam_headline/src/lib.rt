@@ -1,4 +1,4 @@
-//! What the program tells of is right in the whole sense of the model. Each function does nothing: its
+//! What the program writes is right in the whole sense of the model. Each function does nothing: its
 //! contract is the law.
 #![tactic(auto)]
 
@@ -6,7 +6,7 @@ ghost use Rattle.ipam_headline.specs.Headline.{PlayedRightLaw, SoFarRightLaw, Wr
 ghost use Rattle.ipam_headline.specs.Generating.{CountedRightLaw, GeneratedRightLaw};
 
 /// Whatever bytes a script has, and however it ends: the entries that are played are, over what its
-/// base opens as, a history that is right in all that the model says of records, owners, counts,
+/// base opens as, a history that is right in all that the model states of records, owners, counts,
 /// claims, labels, answers and bounds, at each of its moments. A restart is one of the events, and what
 /// runs then is stopped.
 pub fn what_is_played_is_right()

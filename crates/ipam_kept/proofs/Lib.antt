@@ -5,3 +5,4 @@ pub mod Given
 pub mod Fed
 pub mod Standing
 pub mod FedStanding
+pub mod Openings

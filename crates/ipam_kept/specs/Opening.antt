@@ -4,7 +4,10 @@ use Rattle.ipam_io.specs.Counts.{Rose}
 use Rattle.ipam_records.specs.declared.call.Row.{Row as RowText}
 use Rattle.ipam_keeper.specs.Keeping.{IsTold}
 use Rattle.ipam_model.specs.Opened.{IsRefusedBy, OpensAs}
-use Rattle.ipam_cluster.specs.Cluster.{slot_of}
+use Rattle.ipam_cluster.specs.declared.cluster.Cluster.{Cluster}
+use Rattle.ipam_cluster.specs.Cluster.{StandsFor, slot_of}
+use Rattle.ipam_feed.specs.Follows.{Follows}
+use Rattle.ipam_feed.specs.Shape.{RingValue}
 use Rattle.ipam_kept.specs.declared.kept.Kept.{Kept}
 use Rattle.ipam_kept.specs.declared.kept.KeptFault.{KeptFault}
 use Rattle.ipam_kept.specs.declared.kept.KeptFault.TheVariants.{Keeper, Refused, Memory}
@@ -23,6 +26,14 @@ pub record IsOpened {D : Type 0} (tells : Tells D) (faults name : D → ℕ) (ke
   pub same_rows : tells kept.keeper ≡ tells keeper
   pub no_fault : faults kept.keeper ≡ faults keeper
   pub same : name kept.keeper ≡ name keeper
+
+-- the rows were opened in a cluster after so many entries, in which nothing runs, and its routes are fed
+pub record IsFed (first : ℕ) (rows : List RowText) (both : Cluster × RingValue) : Type 0 where
+  pub opens : OpensAs (texts_loaded rows) both.0.store.store
+  pub entries : both.0.entries ≡ first
+  pub idle : (slot : ℕ) → slot_of both.0 slot ≡ None
+  pub stands : StandsFor both.0 (record { store = both.0.store.store; first = first }) []
+  pub fed : Follows both.1 both.0.store.store []
 
 -- what is so of each fault
 abbrev pub IsFaultOf : {D : Type 0} → Tells D → (faults : D → ℕ) → (keeper after : D) → KeptFault → Type 0

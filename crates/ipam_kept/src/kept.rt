@@ -6,13 +6,13 @@ ghost use Rattle.ipam_model.specs.SoundRequest.{IsSoundRequest};
 ghost use Rattle.ipam_records.specs.Sound.{IsHandleId};
 ghost use Rattle.ipam_collect.specs.declared.collect.Grace.{Grace};
 ghost use Rattle.std.specs.List.{All};
-ghost use Rattle.ipam_kept.specs.Faults.{not_loaded, not_opened};
 
 use crate::feed::{prepare, push};
 use crate::giving::give;
-use crate::loaded::open_fed;
+use crate::loaded::Feeding;
+use crate::opener::open_loaded;
 use crate::write::RowWrite;
-use ipam_cluster::{BeginFault, Cluster, FeedFault, OpenFault, PrepareFault, Prepared};
+use ipam_cluster::{BeginFault, Cluster, FeedFault, PrepareFault, Prepared};
 use ipam_feed::{Change, Ring, Route, SinceFault};
 use ipam_keeper::{KeepFault, Keeper};
 use ipam_model::{Entry, Fate, Request, SLOTS};
@@ -73,18 +73,15 @@ impl<D: Keeper> Kept<D> {
         ensures refused { IfErr result (IsNotOpened D.rows D.faults D.name keeper) }
     {
         let mut keeper = keeper;
-        let rows = match keeper.load() {
-            Ok(rows) => rows,
-            Err(fault) => return Err((keeper, not_loaded(fault))),
-        };
-        match open_fed(alloc, rows, first) {
+        let loaded = keeper.load();
+        match open_loaded(Feeding { alloc, first }, loaded) {
             Ok((cluster, ring)) => Ok(Kept {
                 cluster,
                 keeper,
                 doubt: None,
                 ring,
             }),
-            Err(fault) => Err((keeper, not_opened(fault))),
+            Err(fault) => Err((keeper, fault)),
         }
     }
 
@@ -259,25 +256,5 @@ impl<D> Kept<D> {
             ring: _,
         } = self;
         keeper
-    }
-}
-
-/// Why rows were not opened that the keeper did not load. A failed load is no want of memory.
-pub fn not_loaded(fault: KeepFault) -> KeptFault
-    ensures { result ≡ not_loaded fault }
-{
-    match fault {
-        KeepFault::Failed => KeptFault::Keeper,
-        KeepFault::Memory => KeptFault::Memory,
-    }
-}
-
-/// Why rows were not opened, as opening them told it. Takes no memory, so that a refusal stays one.
-pub fn not_opened(fault: OpenFault) -> KeptFault
-    ensures { result ≡ not_opened fault }
-{
-    match fault {
-        OpenFault::Refused(number, about) => KeptFault::Refused(number, about),
-        OpenFault::Memory => KeptFault::Memory,
     }
 }

@@ -8,14 +8,16 @@ mod giving;
 mod kept;
 mod laws;
 mod loaded;
+mod opener;
 mod write;
 
 pub use broken::broken_line;
 pub use ipam_cluster::{BeginFault, Cluster, FeedFault, PrepareFault};
 pub use ipam_feed::{Change, Route, SinceFault};
 pub use ipam_keeper::Keeper;
-pub use kept::{Kept, KeptFault, not_loaded, not_opened};
+pub use kept::{Kept, KeptFault};
 pub use laws::what_is_kept_may_be_opened;
 pub use loaded::greatest_revision;
+pub use opener::{Opens, open_loaded};
 pub use std::alloc::AllocError as Memory;
 pub use write::RowWrite;

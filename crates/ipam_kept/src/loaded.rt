@@ -6,21 +6,39 @@ ghost use Rattle.ipam_keeper.specs.Rows.{Ascend};
 ghost use Rattle.ipam_model.specs.declared.limits.TheConstants.{SLOTS};
 ghost use Rattle.ipam_model.specs.Opened.{OpensAs};
 ghost use Rattle.ipam_opening.specs.Opening.{IsFaultOf};
+ghost use Rattle.ipam_kept.specs.Opening.{IsFed};
 ghost use Rattle.ipam_kept.specs.Rows.{greatest, texts_loaded};
 
 use crate::feed::open_ring;
+use crate::opener::Opens;
 use ipam_cluster::{Base, Cluster, OpenFault};
 use ipam_feed::Ring;
 use ipam_records::Row;
 use std::alloc::Global;
 
-/// Opens the rows in a cluster in which nothing runs, with their greatest revision as the counter, and
-/// the feed of its routes.
-pub(crate) fn open_fed(
-    alloc: Global,
-    rows: Vec<Row>,
-    first: u64,
-) -> Result<(Cluster, Ring), OpenFault>
+/// What opens rows in a cluster in which nothing runs, with their greatest revision as the counter and so
+/// many entries, and with the feed of its routes.
+#[derive(Drop)]
+pub(crate) struct Feeding {
+    pub(crate) alloc: Global,
+    pub(crate) first: u64,
+}
+
+impl Opens for Feeding {
+    type Opened = (Cluster, Ring);
+
+    ghost may = { λ feeding. feeding.first ≤ 2 ^ 62 + SLOTS };
+
+    ghost opens = { λ feeding rows both. IsFed feeding.first rows both };
+
+    ghost refuses = { λ _ rows fault. IsFaultOf (texts_loaded rows) fault };
+
+    fn open(self, rows: Vec<Row>) -> Result<(Cluster, Ring), OpenFault> {
+        open_fed(self.alloc, rows, self.first)
+    }
+}
+
+fn open_fed(alloc: Global, rows: Vec<Row>, first: u64) -> Result<(Cluster, Ring), OpenFault>
     requires ascend { Ascend rows.items }
     requires first { first ≤ 2 ^ 62 + SLOTS }
     ensures opens { IfOk result (λ both. OpensAs (texts_loaded rows.items) both.0.store.store) }

@@ -29,7 +29,7 @@ fn failing_of(alloc: Global, text: &str) -> Result<Vec<(u64, bool)>, AllocError>
     Ok(failing)
 }
 
-/// What is told of three requests one after the other, each with its answer and the key in doubt; and
+/// What comes of three requests one after the other, each with its answer and the key in doubt; and
 /// then of the cluster's rows and of the keeper's, of `FAILING⇒REQUEST⇒REQUEST⇒REQUEST`.
 pub(crate) fn kept_text(alloc: Global, text: &str) -> Result<String, AllocError> {
     let (failing, texts) = parts(text);
@@ -71,7 +71,7 @@ fn ran_all<D: Keeper>(alloc: Global, kept: &mut Kept<D>, texts: &str) -> Result<
     format!(in alloc; "{first}{second}{third}{base}")
 }
 
-/// What is told of the request of the text, which is an administrator's.
+/// What comes of the request of the text, which is an administrator's.
 fn ran<D: Keeper>(alloc: Global, kept: &mut Kept<D>, text: &str) -> Result<String, AllocError>
     requires idle { NothingRuns kept.old }
     requires kept { IsKept D.rows kept.old }

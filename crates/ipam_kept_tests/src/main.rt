@@ -1,4 +1,4 @@
-//! Tests of a kept cluster of which a write fails, and of one call that stands alone. Each line of the
+//! Tests of a kept cluster of which a write fails, and of one call by itself. Each line of the
 //! input has a kind and a question; the output has the answer after them.
 #![tactic(auto)]
 
@@ -9,7 +9,7 @@ mod told;
 use std::alloc::{AllocError, Global};
 use std::io;
 
-/// What is answered to the question, which is of the kind that the word tells.
+/// What is answered to the question, which is of the kind that the word names.
 fn answer(alloc: Global, kind: &str, text: &str) -> Result<String, AllocError> {
     match kind {
         "kept" => kept::kept_text(alloc, text),

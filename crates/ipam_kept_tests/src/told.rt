@@ -1,4 +1,4 @@
-//! What is told of answers and rows.
+//! What comes of answers and rows.
 use ipam_cluster::Cluster;
 use ipam_keeper::Keeper;
 use ipam_model::Answer;

@@ -1,4 +1,4 @@
-//! What a table of three pools says.
+//! A table of three pools.
 use crate::addresses::{addr_of, cidr_of};
 use ipam_pool::{Mode, Pool, PoolTable};
 use ipam_select::{NodeSelector, Selector};
@@ -30,7 +30,7 @@ fn pool_of(alloc: Global, text: &str) -> Result<Pool, AllocError> {
     })
 }
 
-/// Adds the pool, and says why it was refused.
+/// Adds the pool, and returns why it was refused.
 fn add(alloc: Global, table: &mut PoolTable, text: &str) -> Result<String, AllocError> {
     match table.add(pool_of(alloc, text)?) {
         Ok(()) => format!(in alloc; "{} pools", table.pools().len()),

@@ -90,7 +90,7 @@ fn write_word(written: Result<(), Failed>) -> &'static str {
     }
 }
 
-/// What is told of the answers and of what was written.
+/// What comes of the answers and of what was written.
 fn told(alloc: Global, answers: &str, written: &[u8]) -> Result<String, AllocError> {
     format!(in alloc; "{answers} {}", str::from_utf8(written).unwrap_or("?"))
 }

@@ -1,4 +1,4 @@
-//! What clocks tell.
+//! The readings of clocks.
 use ipam_io::{Clock, ListClock, SystemClock};
 use std::alloc::{AllocError, Global};
 use std::cell::Cell;
@@ -36,7 +36,7 @@ pub(crate) fn readings_text(alloc: Global, text: &str) -> Result<String, AllocEr
     readings(alloc, &mut ListClock::new(numbers(alloc, text)?), 4)
 }
 
-// A system's clock that tells these times in order, and can't be read at the zeros among them.
+// A system's clock that has these times in order, and can't be read at the zeros among them.
 #[derive(Drop)]
 struct Told {
     milliseconds: Vec<u64>,
@@ -58,7 +58,7 @@ impl std::rt::Clock for Told {
     }
 }
 
-/// Seven readings of a system whose clock tells these milliseconds, and can't be read at the zeros
+/// Seven readings of a system whose clock has these milliseconds, and can't be read at the zeros
 /// among them.
 pub(crate) fn times_text(alloc: Global, text: &str) -> Result<String, AllocError> {
     let mut clock = SystemClock::new(Told {

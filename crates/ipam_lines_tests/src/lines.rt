@@ -8,7 +8,7 @@ use std::alloc::{AllocError, Global};
 
 pub(crate) const LIMIT: usize = 1_048_576;
 
-/// A longer line is told by its length alone.
+/// Of a longer line, only its length.
 const SHORT: usize = 100;
 
 fn got_text(alloc: Global, got: &Result<Got, LinesFault>) -> Result<String, AllocError> {
@@ -91,7 +91,7 @@ pub(crate) fn lines_text(alloc: Global, text: &str) -> Result<String, AllocError
     answers(alloc, &mut lines, &mut source_of(alloc, rest)?, calls)
 }
 
-// A source that gives one byte a read, and does not tell its bytes.
+// A source that gives one byte a read, and whose bytes no contract knows.
 #[derive(Drop)]
 struct Trickle(MemorySource);
 

@@ -9,7 +9,7 @@ mod links;
 use std::alloc::AllocError;
 use std::io;
 
-/// What is answered to the question, which is of the kind that the word tells.
+/// What is answered to the question, which is of the kind that the word names.
 fn answer(rt: &HostRuntime, kind: &str, text: &str) -> io::Result<String> {
     match kind {
         "socket" => links::socket_text(rt, text),

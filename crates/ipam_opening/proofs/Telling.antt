@@ -1,11 +1,9 @@
 -- What is told of the first rule that is broken.
-use Rattle.std.specs.Prelude.{OnOk, IfErr}
+use Rattle.std.specs.Prelude.{OnOk, IfOk, IfErr}
 use Rattle.std.proofs.Common.{Result, Ok, Err, ◌≡◌, ℕ, ◌<◌, ◌+◌, inl, inr, List, Option, Some, None, sym, subst, arith}
 use Rattle.std.proofs.lemmas.Bool.{cases_lt}
 use Rattle.ipam_model.specs.Opened.{Texts, AreByKey, Breaks, IsRefusedBy, MayBeOpened, NoText, AnotherKey, NoTable, NoSlot, NoBlock, CountTooLow, NoAffinityFor, NoNodeFor, TooManyRows, TooManyBlocks, NoRevision, AboveCounter, AboveLast, CounterAboveLast}
-use Rattle.ipam_opening.specs.Opening.{IsFaultOf, IsToldOf}
-use Rattle.ipam_opening.specs.declared.fault.OpenFault.{OpenFault}
-use Rattle.ipam_opening.specs.declared.fault.OpenFault.TheVariants as fault
+use Rattle.ipam_opening.specs.Opening.{IsFaultOf, told}
 use Rattle.ipam_opening.specs.Rules.{number_of}
 use Rattle.ipam_opening.specs.Told.{IsClearBelow, IsFirstOf, first_by}
 use Rattle.ipam_opening.specs.declared.rule.Rule.{Rule}
@@ -72,12 +70,14 @@ first-is texts by_key rule.Revision below = first-revision texts by_key
 
 -- ---- the outcome of the test of a rule
 
-pub outcome-ok : {U : Type 0} → (texts : Texts) (number : ℕ) (first : Option (List ℕ)) (r : Result U OpenFault) → IsClearBelow texts number → IsFirstOf (Breaks texts number) first → OnOk r (first ≡ None) → OnOk r (IsClearBelow texts (number + 1))
-outcome-ok texts number first (Ok x) below is none = clear-next texts number below (subst (IsFirstOf (Breaks texts number)) none is)
-outcome-ok texts number first (Err e) below is none = tt
+pub outcome-ok : {E : Type 0} → (texts : Texts) (number : ℕ) (first : Option (List ℕ)) (found : Result (Option (List ℕ)) E) → IsClearBelow texts number → IsFirstOf (Breaks texts number) first
+    → IfOk found (λ f. f ≡ first) → OnOk (told number found) (IsClearBelow texts (number + 1))
+outcome-ok texts number first (Ok None) below is same = clear-next texts number below (subst (IsFirstOf (Breaks texts number)) (sym same) is)
+outcome-ok texts number first (Ok (Some about)) below is same = tt
+outcome-ok texts number first (Err e) below is same = tt
 
-pub outcome-refused : {U : Type 0} → (texts : Texts) (number : ℕ) (first : Option (List ℕ)) (r : Result U OpenFault) → IsClearBelow texts number → IsFirstOf (Breaks texts number) first → IfErr r (IsToldOf number first) → IfErr r (IsFaultOf texts)
-outcome-refused texts number first (Ok x) below is told = tt
-outcome-refused texts number first (Err fault.Memory) below is told = tt
-outcome-refused texts number first (Err (fault.Refused n about)) below is told =
-    subst (λ (m : ℕ). IsRefusedBy texts m about) (sym told.0) (refused texts number about below (subst (IsFirstOf (Breaks texts number)) told.1 is))
+pub outcome-refused : {E : Type 0} → (texts : Texts) (number : ℕ) (first : Option (List ℕ)) (found : Result (Option (List ℕ)) E) → IsClearBelow texts number → IsFirstOf (Breaks texts number) first
+    → IfOk found (λ f. f ≡ first) → IfErr (told number found) (IsFaultOf texts)
+outcome-refused texts number first (Ok None) below is same = tt
+outcome-refused texts number first (Ok (Some about)) below is same = refused texts number about below (subst (IsFirstOf (Breaks texts number)) (sym same) is)
+outcome-refused texts number first (Err e) below is same = tt

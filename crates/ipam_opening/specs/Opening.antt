@@ -1,5 +1,5 @@
 -- What rows are opened as, or refused for.
-use Rattle.std.specs.Prelude.{◌≡◌, ℕ, List, Option, Some}
+use Rattle.std.specs.Prelude.{ℕ, List, Option, Some, None, Result, Ok, Err}
 use Rattle.ipam_records.specs.declared.call.Row.{Row as RowText}
 use Rattle.ipam_model.specs.Opened.{Texts, IsRefusedBy}
 use Rattle.ipam_opening.specs.declared.fault.OpenFault.{OpenFault}
@@ -13,7 +13,9 @@ abbrev pub IsFaultOf : Texts → OpenFault → Type 0
 IsFaultOf texts (Refused number about) = IsRefusedBy texts number about
 IsFaultOf texts Memory = Unit {0}
 
--- the fault tells this key of the rule
-abbrev pub IsToldOf : (number : ℕ) → Option (List ℕ) → OpenFault → Type 0
-IsToldOf number first (Refused told about) = (told ≡ number) × (first ≡ Some about)
-IsToldOf number first Memory = Unit {0}
+-- what is told of a rule, by the first key that was found to break it: the fault, and want of memory only
+-- where there was none to find it
+abbrev pub told : {E : Type 0} → (number : ℕ) → Result (Option (List ℕ)) E → Result (Unit {0}) OpenFault
+told number (Ok None) = Ok tt
+told number (Ok (Some about)) = Err (Refused number about)
+told number (Err none) = Err Memory

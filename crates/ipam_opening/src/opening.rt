@@ -3,7 +3,7 @@ ghost use Rattle.ipam_model.specs.Opened.{AreByKey, MayBeOpened, OpensAs, readin
 ghost use Rattle.ipam_opening.specs.Given.{IsRead, texts_given};
 ghost use Rattle.ipam_opening.specs.Rules.{number_of};
 ghost use Rattle.ipam_opening.specs.Told.{IsClearBelow, first_by};
-ghost use Rattle.ipam_opening.specs.Opening.{IsFaultOf, IsToldOf, texts_with};
+ghost use Rattle.ipam_opening.specs.Opening.{IsFaultOf, texts_with, told};
 
 use crate::fault::OpenFault;
 use crate::given::{Given, Reading, read_rows};
@@ -108,10 +108,7 @@ impl Given<'_> {
         ensures ok { OnOk result (IsClearBelow (texts_given self.now) (number_of rule + 1)) }
         ensures refused { IfErr result (IsFaultOf (texts_given self.now)) }
     {
-        match self.first_by(alloc, rule) {
-            Ok(first) => told(rule, first),
-            Err(_) => Err(OpenFault::Memory),
-        }
+        told(rule, self.first_by(alloc, rule))
     }
 
     // The first key that is told of the rule, where the rules below are kept.
@@ -128,12 +125,13 @@ impl Given<'_> {
     }
 }
 
-fn told(rule: Rule, first: Option<Text>) -> Result<(), OpenFault>
-    ensures ok { OnOk result (first ≡ None) }
-    ensures refused { IfErr result (IsToldOf (number_of rule) first) }
+// What is told of the rule, by what was found of the keys that break it. Takes no memory.
+fn told(rule: Rule, found: Result<Option<Text>, AllocError>) -> Result<(), OpenFault>
+    ensures { result ≡ told (number_of rule) found }
 {
-    match first {
-        Some(about) => Err(OpenFault::Refused(rule.number(), about)),
-        None => Ok(()),
+    match found {
+        Ok(Some(about)) => Err(OpenFault::Refused(rule.number(), about)),
+        Ok(None) => Ok(()),
+        Err(AllocError) => Err(OpenFault::Memory),
     }
 }

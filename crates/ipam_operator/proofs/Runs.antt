@@ -7,7 +7,7 @@ use Rattle.ipam_resources.specs.declared.resource.Resource.{Resource}
 use Rattle.ipam_operator.specs.declared.asking.AskFault.{AskFault}
 use Rattle.ipam_operator.specs.declared.answer.OperatorAnswer.{OperatorAnswer}
 use Rattle.ipam_operator.specs.declared.end.End.TheVariants as end
-use Rattle.ipam_operator.specs.Applying.{All, AreApplied, IsTold, Outside, RunEnds}
+use Rattle.ipam_operator.specs.Applying.{All, AreApplied, IsTold, Outside, AskedResourcesEnd}
 
 -- one more is applied
 pub applied-one : (front : List Resource) (one : Resource) (came : Result OperatorAnswer AskFault) (old between new : Outside) → AreApplied front old between → IsTold one came between new end.Done
@@ -22,5 +22,5 @@ given-left first [] now y = ap into_iter_items y
 given-left first (x ∷ given) now y = y.1.0 ∙ ap (λ xs. x ∷ xs) (given-left y.0 given now y.2)
 
 -- all were given
-pub all-end : (resources given : List Resource) (old new : Outside) → given ≡ resources → AreApplied given old new → RunEnds resources old new end.Done
+pub all-end : (resources given : List Resource) (old new : Outside) → given ≡ resources → AreApplied given old new → AskedResourcesEnd resources old new end.Done
 all-end resources given old new same applied = All (subst (λ (xs : List Resource). AreApplied xs old new) same applied)

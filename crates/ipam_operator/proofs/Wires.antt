@@ -5,7 +5,7 @@ use Rattle.ipam_resources.specs.declared.resource.Resource.{Resource}
 use Rattle.ipam_resources.specs.Documents.{document_reading}
 use Rattle.ipam_operator.specs.declared.end.End.{End}
 use Rattle.ipam_operator.specs.Asking.{Comes, Wire}
-use Rattle.ipam_operator.specs.Applying.{DocumentEnds, Good, Outside, RunEnds}
+use Rattle.ipam_operator.specs.Applying.{DocumentEnds, Good, Outside, AskedResourcesEnd}
 
 pub known-nil : (known : Option (List ℕ)) → prepend_known [] known ≡ known
 known-nil None = refl
@@ -41,8 +41,8 @@ wire-anew sent send_faults left read_faults = ap (λ (w : Option (List ℕ)). wi
 -- how a document ends whose lines begin with none held
 pub good-anew : (document : List ℕ) (resources : List Resource) → document_reading document ≡ Ok resources → (held : List ℕ) → held ≡ []
     → (sent : Option (List ℕ)) (send_faults : ℕ) (left : Option (List ℕ)) (read_faults : ℕ) (written : Option (List ℕ)) (write_faults : ℕ) (new : Outside) (last : End)
-    → RunEnds resources (outside sent send_faults (prepend_known held left) read_faults written write_faults) new last
+    → AskedResourcesEnd resources (outside sent send_faults (prepend_known held left) read_faults written write_faults) new last
     → DocumentEnds document (outside sent send_faults left read_faults written write_faults) new last
 good-anew document resources is held none sent send_faults left read_faults written write_faults new last ends =
     Good resources is
-    (subst (λ (o : Outside). RunEnds resources o new last) (outside-anew held none sent send_faults left read_faults written write_faults) ends)
+    (subst (λ (o : Outside). AskedResourcesEnd resources o new last) (outside-anew held none sent send_faults left read_faults written write_faults) ends)

@@ -19,7 +19,7 @@ use Rattle.ipam_operator.specs.declared.end.End.{End}
 use Rattle.ipam_operator.specs.declared.end.End.TheVariants as end
 use Rattle.ipam_operator.specs.Asking.{Wire, Asks, request_line}
 use Rattle.ipam_operator.specs.Answers.{answer_of_line}
-use Rattle.ipam_operator.specs.Telling.{Says, Writes, fault_line, fault_end}
+use Rattle.ipam_operator.specs.Telling.{Says, WritesText, fault_line, fault_end}
 
 -- ---- the lines
 
@@ -88,6 +88,13 @@ pub record Outside : Type 0 where
   pub written : Option (List ℕ)
   pub write_faults : ℕ
 
+abbrev pub outside_of : (sent : Option (List ℕ)) (send_faults : ℕ) (coming : Option (List ℕ)) (read_faults : ℕ) (written : Option (List ℕ)) (write_faults : ℕ) → Outside
+outside_of sent send_faults coming read_faults written write_faults = record {
+  wire = record { sent = sent; send_faults = send_faults; coming = coming; read_faults = read_faults };
+  written = written;
+  write_faults = write_faults;
+}
+
 -- The resource's request was asked, and what it came to is told. Where that takes memory and there was none,
 -- nothing is.
 pub record IsTold (one : Resource) (came : Result OperatorAnswer AskFault) (old new : Outside) (last : End) : Type 0 where
@@ -103,19 +110,19 @@ AreApplied (one ∷ more) old new =
     (between : Outside) × (came : Result OperatorAnswer AskFault) × IsTold one came old between end.Done × AreApplied more between new
 
 -- How the resources end: each is applied; or those before one are, and the run ends at that one.
-pub data RunEnds (resources : List Resource) (old new : Outside) : End → Type 0 where
-  All : AreApplied resources old new → RunEnds resources old new end.Done
+pub data AskedResourcesEnd (resources : List Resource) (old new : Outside) : End → Type 0 where
+  All : AreApplied resources old new → AskedResourcesEnd resources old new end.Done
   UpTo : (front : List Resource) (one : Resource) (rest : List Resource) (between : Outside) (came : Result OperatorAnswer AskFault) (last : End)
       → resources ≡ front ++ one ∷ rest → AreApplied front old between
-      → IsTold one came between new last → last ≢ end.Done → RunEnds resources old new last
+      → IsTold one came between new last → last ≢ end.Done → AskedResourcesEnd resources old new last
 
 -- What is written of a document that was not read: `refused: long` and `refused: not JSON` take no memory.
 -- With no memory nothing is.
 abbrev pub DocumentSays : DocumentFault → (old new : Option (List ℕ)) → (faults faults' : ℕ) → End → Type 0
 DocumentSays document_fault.Long old new faults faults' last =
-    Writes old new faults faults' (document_line document_fault.Long) end.Refused last
+    WritesText old new faults faults' (document_line document_fault.Long) end.Refused last
 DocumentSays document_fault.NotJson old new faults faults' last =
-    Writes old new faults faults' (document_line document_fault.NotJson) end.Refused last
+    WritesText old new faults faults' (document_line document_fault.NotJson) end.Refused last
 DocumentSays (document_fault.Member place) old new faults faults' last =
     Says (Unit {0}) old new faults faults' (document_line (document_fault.Member place)) end.Refused last
 DocumentSays document_fault.Memory old new faults faults' last = (new ≡ old) × (faults' ≡ faults) × (last ≡ end.NoMemory)
@@ -124,7 +131,7 @@ DocumentSays document_fault.Memory old new faults faults' last = (new ≡ old) �
 -- One that is too long or no text is refused whether or not there is memory.
 pub data DocumentEnds (document : List ℕ) (old new : Outside) (last : End) : Type 0 where
   Good : (resources : List Resource) → document_reading document ≡ Ok resources
-      → RunEnds resources old new last → DocumentEnds document old new last
+      → AskedResourcesEnd resources old new last → DocumentEnds document old new last
   Bad : (why : DocumentFault) → (why ≢ document_fault.Memory → document_reading document ≡ Err why)
       → (why ≡ document_fault.Memory → IsReadable document) → new.wire ≡ old.wire
       → DocumentSays why old.written new.written old.write_faults new.write_faults last
@@ -137,6 +144,6 @@ pub data ApplyEnds (left left' : Option (List ℕ)) (faults faults' : ℕ) (old 
       → length document ≤ DOCUMENT_MAX + 1 → faults' ≡ faults
       → DocumentEnds document old new last → ApplyEnds left left' faults faults' old new last
   ReadFailed : Rose faults faults' → new.wire ≡ old.wire
-      → Writes old.written new.written old.write_faults new.write_faults (codes "read fault\n") end.ReadFault last
+      → WritesText old.written new.written old.write_faults new.write_faults (codes "read fault\n") end.ReadFault last
       → ApplyEnds left left' faults faults' old new last
   NoInput : faults' ≡ faults → new ≡ old → last ≡ end.NoMemory → ApplyEnds left left' faults faults' old new last

@@ -4,11 +4,11 @@ use Rattle.std.specs.Io.KnownBytes.{append_known, prepend_known}
 use Rattle.ipam_io.specs.Counts.{Rose}
 use Rattle.ipam_io.specs.Streams.{AppendsPrefix}
 use Rattle.ipam_lines.specs.Feeds.{IsLine, IsTooLong}
-use Rattle.ipam_lines.specs.declared.limits.TheConstants.{SESSION_LINE_BYTES}
 use Rattle.ipam_model.specs.declared.request.Request.{Request}
 use Rattle.ipam_request_text.specs.Requests.{request_text}
 use Rattle.ipam_operator.specs.declared.asking.AskFault.{AskFault}
 use Rattle.ipam_operator.specs.declared.asking.AskFault.TheVariants.{Link, Reply, Memory}
+use Rattle.ipam_operator.specs.declared.asking.TheConstants.{REPLY_BYTES}
 
 -- the line that asks for a request
 abbrev pub request_line : Request → List ℕ
@@ -31,13 +31,13 @@ pub record IsSent (text : List ℕ) (old new : Wire) : Type 0 where
 
 -- the line came, of the bytes that were to come
 pub record Comes (line : List ℕ) (coming coming' : Option (List ℕ)) : Type 0 where
-  pub is_line : IsLine SESSION_LINE_BYTES line
+  pub is_line : IsLine REPLY_BYTES line
   pub bytes : coming ≡ prepend_known (line ++ 10 ∷ []) coming'
 
 -- the bytes begin with no line: they end before a line feed, or too many stand before one
 pub data HasNoLine (bytes : List ℕ) : Type 0 where
-  ends : IsLine SESSION_LINE_BYTES bytes → HasNoLine bytes
-  too_long : IsTooLong SESSION_LINE_BYTES bytes → HasNoLine bytes
+  ends : IsLine REPLY_BYTES bytes → HasNoLine bytes
+  too_long : IsTooLong REPLY_BYTES bytes → HasNoLine bytes
 
 -- a write of the text failed, or the read after it
 pub data LinkFails (text : List ℕ) (old new : Wire) : Type 0 where

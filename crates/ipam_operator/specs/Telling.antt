@@ -11,13 +11,13 @@ use Rattle.ipam_operator.specs.declared.end.End.TheVariants as end
 
 -- What a sink took of a text, what its count of faults came to, and the end: all of it, with the text's
 -- own end; or a front part, since the sink failed.
-pub data Writes (old new : Option (List ℕ)) (faults faults' : ℕ) (text : List ℕ) (own : End) : End → Type 0 where
-  Whole : new ≡ append_known old text → faults' ≡ faults → Writes old new faults faults' text own own
-  Cut : AppendsPrefix old new text → Rose faults faults' → Writes old new faults faults' text own end.WriteFault
+pub data WritesText (old new : Option (List ℕ)) (faults faults' : ℕ) (text : List ℕ) (own : End) : End → Type 0 where
+  Whole : new ≡ append_known old text → faults' ≡ faults → WritesText old new faults faults' text own own
+  Cut : AppendsPrefix old new text → Rose faults faults' → WritesText old new faults faults' text own end.WriteFault
 
 -- the same, or nothing was written since there was no memory, which is where `memory` is so
 pub data Says (memory : Type 0) (old new : Option (List ℕ)) (faults faults' : ℕ) (text : List ℕ) (own : End) : End → Type 0 where
-  Said : (last : End) → Writes old new faults faults' text own last → Says memory old new faults faults' text own last
+  Said : (last : End) → WritesText old new faults faults' text own last → Says memory old new faults faults' text own last
   Untold : memory → new ≡ old → faults' ≡ faults → Says memory old new faults faults' text own end.NoMemory
 
 -- ---- where no reply came

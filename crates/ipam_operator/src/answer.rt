@@ -47,7 +47,7 @@ pub(crate) fn answer_of_line(
 
 /// The JSON that the line is, or none.
 #[tactic(auto, unfolding(crate::specs::Answers::json_of_line))]
-pub(crate) fn json_of_line(alloc: Global, line: &[u8]) -> Result<Option<Value>, AllocError>
+pub fn json_of_line(alloc: Global, line: &[u8]) -> Result<Option<Value>, AllocError>
     ensures { IfOk result (λ found. option_map view found ≡ json_of_line line.now) }
 {
     let Some(text) = text_of(line) else {

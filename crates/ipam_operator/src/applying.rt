@@ -3,18 +3,18 @@ ghost use Rattle.std.specs.Prelude.{◌≡◌, ◌≤◌, ℕ, List, Ok, Result,
 ghost use Rattle.std.specs.Io.KnownBytes.{IsAtEnd, prepend_known};
 ghost use Rattle.ipam_resources.specs.Printed.{applied_line, fault_line as document_line, numbered_refusal, refused_line};
 ghost use Rattle.ipam_operator.specs.Answers.{answer_of_line};
-ghost use Rattle.ipam_operator.specs.Applying.{ApplyEnds, DocumentEnds, DocumentSays, IsKnown, IsTold, RunEnds, TakesMemory, again_line, end_of_refusal, item_end, item_line, line_of_refusal};
+ghost use Rattle.ipam_operator.specs.Applying.{ApplyEnds, DocumentEnds, DocumentSays, IsKnown, IsTold, AskedResourcesEnd, TakesMemory, again_line, end_of_refusal, item_end, item_line, line_of_refusal, outside_of};
 ghost use Rattle.ipam_operator.specs.Asking.{Asks, request_line};
 ghost use Rattle.ipam_operator.specs.Telling.{Says};
 ghost use Rattle.ipam_operator.specs.declared.answer.OperatorAnswer.{OperatorAnswer as Found};
 ghost use Rattle.ipam_operator.specs.declared.asking.AskFault.{AskFault as Fault};
 
 use crate::answer::OperatorAnswer;
-use crate::asking::{AskFault, ask_request};
+use crate::asking::{AskFault, REPLY_BYTES, ask_request};
 use crate::end::End;
 use crate::telling::{tell, tell_fault, tell_made};
 use ipam_io::{Link, Sink, Source};
-use ipam_lines::{InputFault, Lines, SESSION_LINE_BYTES, read_whole};
+use ipam_lines::{InputFault, Lines, read_whole};
 use ipam_model::Request;
 use ipam_resources::{
     DOCUMENT_MAX, DocumentFault, Refusal, Resource, push_applied, push_document_fault,
@@ -35,26 +35,10 @@ pub fn apply<S: Source, K: Sink, L: Link>(
 ) -> End
     ensures applied { (held : List ℕ) × ApplyEnds
         (S.left source.old) (S.left source.new) (S.read_faults source.old) (S.read_faults source.new)
-        (record {
-          wire = record {
-            sent = L.written link.old;
-            send_faults = L.write_faults link.old;
-            coming = L.left link.old;
-            read_faults = L.read_faults link.old;
-          };
-          written = K.written sink.old;
-          write_faults = K.write_faults sink.old;
-        })
-        (record {
-          wire = record {
-            sent = L.written link.new;
-            send_faults = L.write_faults link.new;
-            coming = prepend_known held (L.left link.new);
-            read_faults = L.read_faults link.new;
-          };
-          written = K.written sink.new;
-          write_faults = K.write_faults sink.new;
-        }) result }
+        (outside_of (L.written link.old) (L.write_faults link.old) (L.left link.old) (L.read_faults link.old)
+        (K.written sink.old) (K.write_faults sink.old))
+        (outside_of (L.written link.new) (L.write_faults link.new) (prepend_known held (L.left link.new)) (L.read_faults link.new)
+        (K.written sink.new) (K.write_faults sink.new)) result }
     ensures read_rest { S.read_rest source.new ≡ S.read_rest source.old }
     ensures write_rest { K.write_rest sink.new ≡ K.write_rest sink.old }
 {
@@ -73,31 +57,15 @@ fn apply_document<K: Sink, L: Link>(
     link: &mut L,
 ) -> End
     ensures ended { (held : List ℕ) × DocumentEnds document.now
-        (record {
-          wire = record {
-            sent = L.written link.old;
-            send_faults = L.write_faults link.old;
-            coming = L.left link.old;
-            read_faults = L.read_faults link.old;
-          };
-          written = K.written sink.old;
-          write_faults = K.write_faults sink.old;
-        })
-        (record {
-          wire = record {
-            sent = L.written link.new;
-            send_faults = L.write_faults link.new;
-            coming = prepend_known held (L.left link.new);
-            read_faults = L.read_faults link.new;
-          };
-          written = K.written sink.new;
-          write_faults = K.write_faults sink.new;
-        }) result }
+        (outside_of (L.written link.old) (L.write_faults link.old) (L.left link.old) (L.read_faults link.old)
+        (K.written sink.old) (K.write_faults sink.old))
+        (outside_of (L.written link.new) (L.write_faults link.new) (prepend_known held (L.left link.new)) (L.read_faults link.new)
+        (K.written sink.new) (K.write_faults sink.new)) result }
     ensures rest { K.write_rest sink.new ≡ K.write_rest sink.old }
 {
     match read_resources(alloc, document) {
         Ok(resources) => {
-            let mut lines = Lines::<SESSION_LINE_BYTES>::new(alloc);
+            let mut lines = Lines::<REPLY_BYTES>::new(alloc);
             apply_all(alloc, sink, link, &mut lines, resources.into_vec())
         }
         Err(fault) => tell_document(alloc, sink, fault),
@@ -132,30 +100,14 @@ fn apply_all<K: Sink, L: Link>(
     alloc: Global,
     sink: &mut K,
     link: &mut L,
-    lines: &mut Lines<SESSION_LINE_BYTES>,
+    lines: &mut Lines<REPLY_BYTES>,
     resources: Vec<Resource>,
 ) -> End
-    ensures ended { RunEnds resources.items
-        (record {
-          wire = record {
-            sent = L.written link.old;
-            send_faults = L.write_faults link.old;
-            coming = prepend_known lines.old (L.left link.old);
-            read_faults = L.read_faults link.old;
-          };
-          written = K.written sink.old;
-          write_faults = K.write_faults sink.old;
-        })
-        (record {
-          wire = record {
-            sent = L.written link.new;
-            send_faults = L.write_faults link.new;
-            coming = prepend_known lines.new (L.left link.new);
-            read_faults = L.read_faults link.new;
-          };
-          written = K.written sink.new;
-          write_faults = K.write_faults sink.new;
-        }) result }
+    ensures ended { AskedResourcesEnd resources.items
+        (outside_of (L.written link.old) (L.write_faults link.old) (prepend_known lines.old (L.left link.old)) (L.read_faults link.old)
+        (K.written sink.old) (K.write_faults sink.old))
+        (outside_of (L.written link.new) (L.write_faults link.new) (prepend_known lines.new (L.left link.new)) (L.read_faults link.new)
+        (K.written sink.new) (K.write_faults sink.new)) result }
     ensures rest { K.write_rest sink.new ≡ K.write_rest sink.old }
 {
     for resource in resources {
@@ -172,30 +124,14 @@ fn apply_one<K: Sink, L: Link>(
     alloc: Global,
     sink: &mut K,
     link: &mut L,
-    lines: &mut Lines<SESSION_LINE_BYTES>,
+    lines: &mut Lines<REPLY_BYTES>,
     resource: Resource,
 ) -> End
     ensures ended { (came : Result Found Fault) × IsTold resource came
-        (record {
-          wire = record {
-            sent = L.written link.old;
-            send_faults = L.write_faults link.old;
-            coming = prepend_known lines.old (L.left link.old);
-            read_faults = L.read_faults link.old;
-          };
-          written = K.written sink.old;
-          write_faults = K.write_faults sink.old;
-        })
-        (record {
-          wire = record {
-            sent = L.written link.new;
-            send_faults = L.write_faults link.new;
-            coming = prepend_known lines.new (L.left link.new);
-            read_faults = L.read_faults link.new;
-          };
-          written = K.written sink.new;
-          write_faults = K.write_faults sink.new;
-        }) result }
+        (outside_of (L.written link.old) (L.write_faults link.old) (prepend_known lines.old (L.left link.old)) (L.read_faults link.old)
+        (K.written sink.old) (K.write_faults sink.old))
+        (outside_of (L.written link.new) (L.write_faults link.new) (prepend_known lines.new (L.left link.new)) (L.read_faults link.new)
+        (K.written sink.new) (K.write_faults sink.new)) result }
     ensures rest { K.write_rest sink.new ≡ K.write_rest sink.old }
 {
     let Resource { kind, name, change } = resource;

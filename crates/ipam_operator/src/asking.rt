@@ -6,10 +6,14 @@ ghost use Rattle.ipam_operator.specs.Asking.{Asks, Comes, IsNotRead, IsNotReceiv
 
 use crate::answer::{OperatorAnswer, answer_of_line};
 use ipam_io::Link;
-use ipam_lines::{Got, Lines, LinesFault, SESSION_LINE_BYTES};
+use ipam_lines::{Got, Lines, LinesFault};
 use ipam_model::Request;
 use ipam_request_text::push_request;
 use std::alloc::{AllocError, Global};
+
+/// The most bytes of a reply, its line feed among them. A page of rows has one row at least, and the body of
+/// a block may be long.
+pub const REPLY_BYTES: usize = 67_108_864;
 
 /// Why there is no reply.
 #[derive(Clone, Copy, Debug, PartialEq, Eq)]
@@ -26,7 +30,7 @@ pub enum AskFault {
 pub(crate) fn ask_request<L: Link>(
     alloc: Global,
     link: &mut L,
-    lines: &mut Lines<SESSION_LINE_BYTES>,
+    lines: &mut Lines<REPLY_BYTES>,
     request: &Request,
 ) -> Result<OperatorAnswer, AskFault>
     ensures asked { Asks answer_of_line (request_line request.now) result
@@ -64,7 +68,7 @@ fn request_line(alloc: Global, request: &Request) -> Result<String, AllocError>
 fn ask_answer<L: Link>(
     alloc: Global,
     link: &mut L,
-    lines: &mut Lines<SESSION_LINE_BYTES>,
+    lines: &mut Lines<REPLY_BYTES>,
     text: &str,
 ) -> Result<OperatorAnswer, AskFault>
     ensures asked { Asks answer_of_line text.now result
@@ -92,9 +96,9 @@ fn ask_answer<L: Link>(
 }
 
 /// Sends the text in one write, and reads the line that comes.
-pub(crate) fn ask<L: Link>(
+pub fn ask<L: Link>(
     link: &mut L,
-    lines: &mut Lines<SESSION_LINE_BYTES>,
+    lines: &mut Lines<REPLY_BYTES>,
     text: &str,
 ) -> Result<Vec<u8>, AskFault>
     ensures sent { OnOk result (IsSent text.now
@@ -132,10 +136,7 @@ pub(crate) fn ask<L: Link>(
 }
 
 /// Reads the line that comes.
-fn receive<L: Link>(
-    link: &mut L,
-    lines: &mut Lines<SESSION_LINE_BYTES>,
-) -> Result<Vec<u8>, AskFault>
+fn receive<L: Link>(link: &mut L, lines: &mut Lines<REPLY_BYTES>) -> Result<Vec<u8>, AskFault>
     ensures came { IfOk result (λ line. Comes line.items (prepend_known lines.old (L.left link.old)) (prepend_known lines.new (L.left link.new))) }
     ensures fault { IfErr result (λ fault. IsNotReceived fault (prepend_known lines.old (L.left link.old))
         (L.read_faults link.old) (L.read_faults link.new)) }

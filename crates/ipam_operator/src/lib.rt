@@ -10,10 +10,10 @@ mod releasing;
 mod routing;
 mod telling;
 
-pub use answer::OperatorAnswer;
+pub use answer::{OperatorAnswer, json_of_line};
 pub use applying::apply;
-pub use asking::AskFault;
+pub use asking::{AskFault, REPLY_BYTES, ask};
 pub use end::End;
 pub use releasing::release;
 pub use routing::routes;
-pub use telling::unreached;
+pub use telling::{tell, tell_fault, tell_made, unreached};

@@ -7,15 +7,15 @@ ghost use Rattle.ipam_operator.specs.declared.asking.AskFault.{AskFault as Fault
 ghost use Rattle.ipam_operator.specs.Answers.{answer_of_line};
 ghost use Rattle.ipam_operator.specs.Asking.{Asks, request_line};
 ghost use Rattle.ipam_operator.specs.Releasing.{release_end, release_line};
-ghost use Rattle.ipam_operator.specs.Telling.{Says, Writes};
+ghost use Rattle.ipam_operator.specs.Telling.{Says, WritesText};
 
 use crate::answer::OperatorAnswer;
-use crate::asking::{AskFault, ask_request};
+use crate::asking::{AskFault, REPLY_BYTES, ask_request};
 use crate::end::End;
 use crate::telling::{tell, tell_fault};
 use ipam_addr::Cidr;
 use ipam_io::{Link, Sink};
-use ipam_lines::{Lines, SESSION_LINE_BYTES};
+use ipam_lines::Lines;
 use ipam_model::Request;
 use ipam_text::Text;
 use std::alloc::{AllocError, Global};
@@ -75,7 +75,7 @@ fn come_to<L: Link>(
           read_faults = L.read_faults link.new;
         }) }
 {
-    let mut lines = Lines::<SESSION_LINE_BYTES>::new(alloc);
+    let mut lines = Lines::<REPLY_BYTES>::new(alloc);
     match release_request(alloc, node, block) {
         Ok(request) => {
             let came = ask_request(alloc, link, &mut lines, &request);
@@ -95,7 +95,7 @@ fn release_request(alloc: Global, node: &str, block: Cidr) -> Result<Request, Al
 
 /// Writes the line of an answer.
 fn tell_answer<K: Sink>(sink: &mut K, answer: &OperatorAnswer) -> End
-    ensures told { Writes (K.written sink.old) (K.written sink.new)
+    ensures told { WritesText (K.written sink.old) (K.written sink.new)
         (K.write_faults sink.old) (K.write_faults sink.new) (release_line (Ok answer.now)) (release_end (Ok answer.now)) result }
     ensures rest { K.write_rest sink.new ≡ K.write_rest sink.old }
 {

@@ -11,13 +11,13 @@ ghost use Rattle.ipam_operator.specs.Telling.{Says};
 ghost use Rattle.ipam_addr.specs.Text.{cidr_reading};
 
 use crate::answer::json_of_line;
-use crate::asking::{AskFault, ask};
+use crate::asking::{AskFault, REPLY_BYTES, ask};
 use crate::end::End;
 use crate::telling::{tell, tell_fault};
 use ipam_addr::{Cidr, push_cidr, read_cidr};
 use ipam_io::{Link, Sink};
 use ipam_json::{items_at, text_at};
-use ipam_lines::{Lines, SESSION_LINE_BYTES};
+use ipam_lines::Lines;
 use serde_json::Value;
 use std::alloc::{AllocError, Global};
 
@@ -65,7 +65,7 @@ fn come_to<L: Link>(alloc: Global, link: &mut L, node: &str) -> Result<String, A
           read_faults = L.read_faults link.new;
         }) }
 {
-    let mut lines = Lines::<SESSION_LINE_BYTES>::new(alloc);
+    let mut lines = Lines::<REPLY_BYTES>::new(alloc);
     match ask(link, &mut lines, "{\"routes\":true}\n") {
         Ok(line) => match routes_of_line(alloc, node, line.as_slice()) {
             Ok(Some(text)) => Ok(text),

@@ -1,6 +1,6 @@
 //! What a word writes.
 ghost use Rattle.std.specs.Prelude.{◌≡◌, ℕ, List, IfOk, string_bytes};
-ghost use Rattle.ipam_operator.specs.Telling.{Says, Writes, fault_end, fault_line};
+ghost use Rattle.ipam_operator.specs.Telling.{Says, WritesText, fault_end, fault_line};
 
 use crate::asking::AskFault;
 use crate::end::End;
@@ -8,8 +8,8 @@ use ipam_io::Sink;
 use std::alloc::AllocError;
 
 /// Ends with this text. That takes no memory.
-pub(crate) fn tell<K: Sink>(sink: &mut K, text: &str, own: End) -> End
-    ensures written { Writes (K.written sink.old) (K.written sink.new)
+pub fn tell<K: Sink>(sink: &mut K, text: &str, own: End) -> End
+    ensures written { WritesText (K.written sink.old) (K.written sink.new)
         (K.write_faults sink.old) (K.write_faults sink.new) text.now own result }
     ensures rest { K.write_rest sink.new ≡ K.write_rest sink.old }
 {
@@ -20,7 +20,7 @@ pub(crate) fn tell<K: Sink>(sink: &mut K, text: &str, own: End) -> End
 }
 
 /// Ends with this text, where there was memory for it.
-pub(crate) fn tell_made<K: Sink>(sink: &mut K, text: Result<String, AllocError>, own: End) -> End
+pub fn tell_made<K: Sink>(sink: &mut K, text: Result<String, AllocError>, own: End) -> End
     ensures written { (said : List ℕ) → IfOk text (λ made. string_bytes made ≡ said)
         → Says (Unit {0}) (K.written sink.old) (K.written sink.new)
         (K.write_faults sink.old) (K.write_faults sink.new) said own result }
@@ -33,7 +33,7 @@ pub(crate) fn tell_made<K: Sink>(sink: &mut K, text: Result<String, AllocError>,
 }
 
 /// Ends where there is no reply.
-pub(crate) fn tell_fault<K: Sink>(sink: &mut K, fault: AskFault) -> End
+pub fn tell_fault<K: Sink>(sink: &mut K, fault: AskFault) -> End
     ensures told { Says (fault ≡ AskFault.Memory) (K.written sink.old) (K.written sink.new)
         (K.write_faults sink.old) (K.write_faults sink.new) (fault_line fault) (fault_end fault) result }
     ensures rest { K.write_rest sink.new ≡ K.write_rest sink.old }
@@ -47,7 +47,7 @@ pub(crate) fn tell_fault<K: Sink>(sink: &mut K, fault: AskFault) -> End
 
 /// Ends where nobody answers at the daemon's address: `link fault`.
 pub fn unreached<K: Sink>(sink: &mut K) -> End
-    ensures told { Writes (K.written sink.old) (K.written sink.new)
+    ensures told { WritesText (K.written sink.old) (K.written sink.new)
         (K.write_faults sink.old) (K.write_faults sink.new) (fault_line AskFault.Link) End.LinkFault result }
     ensures rest { K.write_rest sink.new ≡ K.write_rest sink.old }
 {

@@ -1,10 +1,12 @@
 //! A word is asked of a daemon.
+use ipam_asked_rows::get;
+use ipam_asked_views::show;
 use ipam_io::{MemoryLink, MemorySink, MemorySource};
 use ipam_operator::{End, apply, release, routes};
 use ipam_words::{Command, read_words};
 use std::alloc::{AllocError, Global};
 
-/// How many bytes may be sent or written where nothing else is said.
+/// How many bytes may be sent or written where nothing else is stated.
 const ROOM: usize = 65_536;
 
 /// What fails: the call of the source, or of the link, of this number; and how many bytes may be written.
@@ -30,7 +32,7 @@ pub(crate) fn asked(alloc: Global, line: &str) -> Result<String, AllocError> {
     format!(in alloc; "{line}|{status}|{sent}|{written}")
 }
 
-/// What a text as `link 2` says that fails.
+/// What fails by a text as `link 2`.
 fn failing_of(text: &str) -> Failing {
     let (what, number) = text.split_once(' ').unwrap_or((text, ""));
     let number: u64 = number.parse().unwrap_or(0);
@@ -124,6 +126,8 @@ fn ask(
 ) -> Option<End> {
     match command {
         Command::Apply => Some(apply(alloc, source, sink, link)),
+        Command::Get(kind) => Some(get(alloc, sink, link, *kind)),
+        Command::Show(view) => Some(show(alloc, sink, link, view)),
         Command::Routes(node) => Some(routes(alloc, sink, link, node)),
         Command::Release(node, block) => Some(release(alloc, sink, link, node, *block)),
         _ => None,

@@ -18,7 +18,7 @@ use Rattle.ipam_play.specs.declared.player.Player.{Player}
 use Rattle.ipam_play.specs.declared.player.Stage.TheVariants as stage
 use Rattle.ipam_play.specs.Events.{ComesOf, IsCause, Keeps, Stops, onto}
 use Rattle.ipam_play.specs.Played.{base_of}
-use Rattle.ipam_play.specs.Player.{HasHappened, IsBegunWith, IsCauseAtFirst, IsGathering, IsOpened, IsPlaying, IsRefusal, IsWanting, cluster_of, journal_of}
+use Rattle.ipam_play.specs.Player.{HasHappened, IsBegunWith, IsCauseAtFirst, IsCauseOnceOpened, IsGathering, IsOpened, IsPlaying, IsRefusal, IsWanting, cluster_of, journal_of}
 use Rattle.ipam_play.specs.Script.{Gathered, events_of}
 use Rattle.ipam_play.proofs.Happenings.{course-cons, course_from, course-nothing, onto-append}
 
@@ -145,7 +145,7 @@ module _ (base : Gathered) (store : Datastore) (o n : OpenCluster) (before after
   record Is-first (told : PlayFault) (events : List Event) (next : Event) (rest : List Event) : Type 0 where
     pub none : after ≡ before
     pub whole : events ≡ next ∷ rest
-    pub cause : (told ≡ fault.Memory) ⊎ IsRefusal (cluster_of store []) next told
+    pub cause : IsWanting (cluster_of store []) next told ⊎ IsRefusal (cluster_of store []) next told
 
   stopped-first : (told : PlayFault) (asked : Line) (events : List Event) → events_of asked ≡ Some events → (stops : Stops o.cluster n.cluster before after events told) → Is-first told events stops.next stops.rest
   unfolding cluster_at
@@ -159,8 +159,14 @@ module _ (base : Gathered) (store : Datastore) (o n : OpenCluster) (before after
         cause = by nothing stops.cause;
       }
     where
-      by : stops.made ≡ [] → IsCause o.cluster stops.made stops.next told → (told ≡ fault.Memory) ⊎ IsRefusal (cluster_of store []) stops.next told
-      by nothing (inl (memory, may)) = inl memory
+      by : stops.made ≡ [] → IsCause o.cluster stops.made stops.next told → IsWanting (cluster_of store []) stops.next told ⊎ IsRefusal (cluster_of store []) stops.next told
+      by nothing (inl (memory, may)) =
+          let made = may (base_of store) [] stands in
+          inl (record {
+            is_told = memory;
+            would_make = made.0;
+            makes = subst (λ (l : List Entry). entries_of (cluster_at (base_of store) (onto l [])) stops.next ≡ Ok made.0) nothing made.1;
+          })
       by nothing (inr because) = inr (record {
         refusal = because.refusal;
         is_told = because.is_told;
@@ -168,20 +174,26 @@ module _ (base : Gathered) (store : Datastore) (o n : OpenCluster) (before after
       })
 
   pub first_cause : {T : Type 0} (result : Result T PlayFault) (asked : Line) (events : List Event) → events_of asked ≡ Some events → ComesOf result o.cluster n.cluster before after events
-      → IfErr result (IsCauseAtFirst base events)
+      → IfErr result (IsCauseOnceOpened base store events)
   first_cause (Ok done) asked events is comes = tt
   first_cause (Err told) asked events is comes =
       let first = stopped-first told asked events is comes in
       by first.whole first.cause
     where
-      by : events ≡ comes.next ∷ comes.rest → (told ≡ fault.Memory) ⊎ IsRefusal (cluster_of store []) comes.next told → IsCauseAtFirst base events told
-      by whole (inl memory) = inl memory
-      by whole (inr refusal) = inr (inr (record { store = store; opened = opened; next = comes.next; rest = comes.rest; is_first = whole; refusal = refusal }))
+      by : events ≡ comes.next ∷ comes.rest → IsWanting (cluster_of store []) comes.next told ⊎ IsRefusal (cluster_of store []) comes.next told → IsCauseOnceOpened base store events told
+      by whole (inl wanting) = inl (record { next = comes.next; rest = comes.rest; is_first = whole; wanting = wanting })
+      by whole (inr refusal) = inr (record { store = store; opened = opened; next = comes.next; rest = comes.rest; is_first = whole; refusal = refusal })
 
   pub first_keeps : {T : Type 0} (result : Result T PlayFault) (asked : Line) (events : List Event) → events_of asked ≡ Some events → ComesOf result o.cluster n.cluster before after events
       → OnErr result (after ≡ before)
   first_keeps (Ok done) asked events is comes = tt
   first_keeps (Err told) asked events is comes = (stopped-first told asked events is comes).none
+
+pub cause_at_first : {T : Type 0} (result : Result T PlayFault) (base : Gathered) (store : Datastore) (events : List Event) → IfErr result (IsCauseOnceOpened base store events)
+    → IfErr result (IsCauseAtFirst base events)
+cause_at_first (Ok done) base store events cause = tt
+cause_at_first (Err told) base store events (inl want) = inl want.wanting.is_told
+cause_at_first (Err told) base store events (inr refused) = inr (inr refused)
 
 -- ---- a journal that is forgotten
 

@@ -1,6 +1,6 @@
 -- What a line does to a player, wherever it stands.
-use Rattle.std.proofs.Common.{◌≡◌, ℕ, Bool, true, false, cond, List, [], ◌++◌, Option, Some, None, refl, sym, ap, ◌∙◌, subst}
-use Rattle.std.specs.Prelude.{◌↔◌, Result, Ok, Err, IfSome, OnOk, OnErr, is_some}
+use Rattle.std.proofs.Common.{◌≡◌, ◌≢◌, ℕ, Bool, true, false, cond, List, [], ◌++◌, Option, Some, None, refl, sym, ap, ◌∙◌, subst}
+use Rattle.std.specs.Prelude.{◌↔◌, Result, Ok, Err, IfSome, IfErr, OnOk, OnErr, is_some}
 use Rattle.ipam_records.specs.declared.call.Row.{Row}
 use Rattle.ipam_records.specs.Datastore.{Datastore}
 use Rattle.ipam_model.specs.declared.entry.Entry.{Entry}
@@ -85,6 +85,12 @@ module _ (old new : Player) (g n : Gathering) (was : old.stage ≡ stage.Gatheri
   counter_line counter r again set base h =
       let gathers = gathers_there old g base was h in
       counter-by new n base (with_counter counter base) (is_some base.counter) r is (same ∙ h.nothing) (again base gathers) (set base gathers)
+
+-- a counter takes no memory
+pub counter_told : {T : Type 0} (r : Result T GatherFault) → IfErr r (λ why. why ≡ gather.Again) → told_of r ≢ Err fault.Memory
+counter_told (Ok done) again told = cc told
+counter_told (Err gather.Again) again told = cc told
+counter_told (Err gather.Memory) again told = cc again
 
 -- ---- the base is opened
 

@@ -144,6 +144,17 @@ pub record IsRefusedFirst (base : Gathered) (events : List Event) (told : PlayFa
   pub is_first : events ≡ next ∷ rest
   pub refusal : IsRefusal (cluster_of store []) next told
 
+-- the base was opened, and there was no memory for the first event, which is not refused
+pub record IsWantingFirst (store : Datastore) (events : List Event) (told : PlayFault) : Type 0 where
+  pub next : Event
+  pub rest : List Event
+  pub is_first : events ≡ next ∷ rest
+  pub wanting : IsWanting (cluster_of store []) next told
+
+-- why the first line after the base did not happen, over what was opened
+abbrev pub IsCauseOnceOpened : Gathered → Datastore → List Event → PlayFault → Type 0
+IsCauseOnceOpened base store events told = IsWantingFirst store events told ⊎ IsRefusedFirst base events told
+
 -- what a fault in opening the base is told as
 abbrev pub not_opened : OpenFault → PlayFault
 not_opened (opening.Refused rule about) = fault.Open rule about

@@ -17,7 +17,7 @@ pub enum PlayFault {
     TooSoon,
     /// There are too many entries.
     Worn,
-    /// The base breaks this one of the ten rules, which is told of this key.
+    /// The base breaks this one of the ten rules, first at this key.
     Open(u8, Text),
     /// There was no memory.
     Memory,

@@ -1,5 +1,5 @@
 //! The base of a script is gathered.
-ghost use Rattle.std.specs.Prelude.{◌≡◌, ◌↔◌, ◌∷◌, IfOk, OnOk, OnErr, Err, true, false, is_some};
+ghost use Rattle.std.specs.Prelude.{◌≡◌, ◌↔◌, ◌∷◌, IfOk, IfErr, OnOk, OnErr, Err, true, false, is_some};
 ghost use Rattle.std.specs.BTreeMap.{get};
 ghost use Rattle.std.specs.List.Sorted.{IsPermutation};
 ghost use Rattle.ipam_cluster.specs.Turns.{texts_in};
@@ -111,6 +111,7 @@ impl Gathering {
             (is_some gathered.counter ≡ true × result ≡ Err GatherFault.Again × Gathers self.new gathered) }
         ensures set { (gathered : Gathered) → Gathers self.old gathered → OnOk result
             (is_some gathered.counter ≡ false × Gathers self.new (with_counter counter gathered)) }
+        ensures told { IfErr result (λ why. why ≡ GatherFault.Again) }
     {
         if self.from == Counter::Given {
             return Err(GatherFault::Again);

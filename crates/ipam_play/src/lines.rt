@@ -61,7 +61,7 @@ impl ScriptLines {
     }
 
     /// The next line, or that the script ended. A line that is refused, and a fault, end the reading:
-    /// nothing is said of what comes after them.
+    /// no contract states what comes after them.
     ///
     /// `Memory` is returned only for a line that, as far as its bytes were read, is not too long.
     pub fn next<S: Source>(&mut self, alloc: Global, source: &mut S) -> Result<Next, ScriptFault>

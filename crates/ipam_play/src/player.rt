@@ -1,12 +1,12 @@
 //! Scripts are played line by line.
-ghost use Rattle.std.specs.Prelude.{◌≡◌, ◌++◌, ◌⊎◌, [], List, OnErr, IfOk, IfErr, IsOk, Some};
+ghost use Rattle.std.specs.Prelude.{◌≡◌, ◌≢◌, ◌++◌, ◌⊎◌, [], ℕ, List, Err, OnErr, IfOk, IfErr, IsOk, Some};
 ghost use Rattle.ipam_records.specs.Datastore.{Datastore};
 ghost use Rattle.ipam_model.specs.declared.entry.Entry.{Entry};
 ghost use Rattle.ipam_play.specs.Script.{Gathered, nothing_gathered, place_of, events_of};
 ghost use Rattle.ipam_play.specs.SoundLine.{IsSoundLine};
 ghost use Rattle.ipam_play.specs.Gathering.{Gathers};
 ghost use Rattle.ipam_play.specs.Played.{base_of};
-ghost use Rattle.ipam_play.specs.Player.{IsOpened, IsNotOpened, IsBegunWith, IsCauseAtFirst, not_opened, told_of};
+ghost use Rattle.ipam_play.specs.Player.{IsOpened, IsNotOpened, IsBegunWith, IsCauseAtFirst, IsCauseOnceOpened, not_opened, told_of};
 ghost use Rattle.ipam_cluster.specs.Cluster.{StandsFor};
 ghost use Rattle.ipam_play.specs.Times.{StandsTimed};
 ghost use Rattle.ipam_model.specs.Course.{Event};
@@ -56,7 +56,8 @@ impl Player {
     /// nothing changes.
     ///
     /// Once the base is open, `Memory` is returned only for an event that is not refused. `Busy`, `Idle`,
-    /// `Waiting`, `NotWaiting`, `TooSoon` and `Worn` take no memory.
+    /// `Waiting`, `NotWaiting`, `TooSoon` and `Worn` take no memory, and a counter takes none. The line that
+    /// opens the base may always be answered `Memory`, since opening takes memory before it knows a cause.
     pub fn step(&mut self, alloc: Global, line: &Line) -> Result<(), PlayFault>
         requires sound { IsSoundLine line.now }
         requires standing { IsStanding self.old }
@@ -67,6 +68,7 @@ impl Player {
             → IsPlayedLine result self.old self.new store past (events_of line.now) }
         ensures playing { (base : Gathered) (store : Datastore) (past : List Entry) → IsPlaying self.old base store past
             → IsPlaying self.new base store past }
+        ensures counter { (counter : ℕ) → line.now ≡ Line.Counter counter → result ≢ Err PlayFault.Memory }
     {
         match &mut self.stage {
             Stage::Gathering(gathering) => match line {
@@ -163,12 +165,34 @@ fn first_line(
     ensures standing { IfOk result StandsTimed }
     ensures kept { (base : Gathered) → Gathers gathering.now base → OnErr result (journal.new.items ≡ journal.old.items) }
 {
-    let mut cluster = opened(alloc, gathering)?;
+    let cluster = opened(alloc, gathering)?;
+    play_first(alloc, cluster, journal, line)
+}
+
+/// Plays the first line after the base, over what was opened. On `Err` nothing changes, and `Memory` is
+/// returned only for an event that is not refused.
+fn play_first(
+    alloc: Global,
+    cluster: OpenCluster,
+    journal: &mut Vec<Entry>,
+    line: &Line,
+) -> Result<OpenCluster, PlayFault>
+    requires sound { IsSoundLine line.now }
+    requires standing { StandsTimed cluster }
+    ensures begun { (base : Gathered) (store : Datastore) (events : List Event) → IsOpened base store → StandsFor cluster.cluster (base_of store) []
+        → events_of line.now ≡ Some events → IfOk result (λ opened. IsBegunWith opened journal.old.items journal.new.items base events) }
+    ensures cause { (base : Gathered) (store : Datastore) (events : List Event) → IsOpened base store → StandsFor cluster.cluster (base_of store) []
+        → events_of line.now ≡ Some events → IfErr result (IsCauseOnceOpened base store events) }
+    ensures standing { IfOk result StandsTimed }
+    ensures kept { (base : Gathered) (store : Datastore) → IsOpened base store → StandsFor cluster.cluster (base_of store) []
+        → OnErr result (journal.new.items ≡ journal.old.items) }
+{
+    let mut cluster = cluster;
     play_line(alloc, &mut cluster, journal, line)?;
     Ok(cluster)
 }
 
-/// How it is told why a line of the base was not gathered.
+/// How the player reports why a line of the base was not gathered.
 fn told(gathered: Result<(), GatherFault>) -> Result<(), PlayFault>
     ensures { result ≡ told_of gathered }
 {

@@ -26,7 +26,7 @@ pub enum LineRefusal {
 }
 
 impl LineRefusal {
-    /// What a refusal says of the line.
+    /// The word for the line's refusal.
     pub fn text(self) -> &'static str
         ensures { result.now ≡ refusal_text self }
     {

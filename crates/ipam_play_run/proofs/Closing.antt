@@ -1,5 +1,5 @@
 -- A script is at its end, or is not played on.
-use Rattle.std.proofs.Common.{◌≡◌, ◌≢◌, ℕ, List, [], ◌∷◌, ◌++◌, Option, refl, sym, ap, ◌∙◌, subst, append_assoc, inl, inr, ◌⊎◌}
+use Rattle.std.proofs.Common.{◌≡◌, ◌≢◌, ℕ, List, [], ◌∷◌, ◌++◌, Option, refl, sym, ap, ◌∙◌, subst, append_assoc, append-nil, inl, inr, ◌⊎◌}
 use Rattle.std.specs.Prelude.{Result, Ok, Err, OnErr, OnOk, IsOk, codes, decimal}
 use Rattle.std.specs.Io.KnownBytes.{append_known}
 use Rattle.ipam_io.specs.Counts.{Rose}
@@ -21,8 +21,8 @@ use Rattle.ipam_play_run.specs.declared.game.Game.{Game}
 use Rattle.ipam_play_run.specs.declared.halt.Halt.{Halt}
 use Rattle.ipam_play_run.specs.declared.halt.Halt.TheVariants as halt
 use Rattle.ipam_play_run.specs.Halting.{CountsWrites, IsHalted, IsOn, halt_of, held_by}
-use Rattle.ipam_play_run.specs.Writing.{CountsEnd, HasWritten, IsFront, IsRefusedBase, IsRefusedLine, IsSoFar, IsWhole, Opened, Unopened, Wrote, WritesFront, WroteSoFar, ended_so, read_fault_text}
-use Rattle.ipam_play_run.proofs.Endings.{all-lines, front_stays, played_front, writes_all, writes_fault, writes_fault_part, writes_part}
+use Rattle.ipam_play_run.specs.Writing.{CountsEnd, HasWrittenJournal, IsFront, IsRefusedBase, IsRefusedLine, IsSoFar, IsWhole, Opened, Unopened, Wrote, WritesFront, WroteSoFar, ended_so, read_fault_text}
+use Rattle.ipam_play_run.proofs.Endings.{all-lines, front_stays, writes_all, writes_fault, writes_fault_part, writes_part}
 use Rattle.ipam_play_run.proofs.Games.{follows_front}
 use Rattle.ipam_play_run.proofs.Outcomes.{follows_end, played_stopped}
 
@@ -30,7 +30,7 @@ use Rattle.ipam_play_run.proofs.Outcomes.{follows_end, played_stopped}
 
 pub line_ends : {T E : Type 0} (written : Result T E) (script : Script) (first now after : Option (List ℕ)) (held : List ℕ) (past : List Entry) (number : ℕ) (why : LineRefusal) → Wrote first now held past → IsPlayed script past (LineRefused number why)
     → OnOk written (after ≡ append_known now (held ++ ending_text (LineRefused number why))) → OnErr written (AppendsPrefix now after (held ++ ending_text (LineRefused number why)))
-    → HasWritten (ended_so written end.LineRefused) script first after
+    → HasWrittenJournal (ended_so written end.LineRefused) script first after
 line_ends (Ok done) script first now after held past number why w played wrote part =
     writes_all script first now after held past (LineRefused number why) IsRefusedLine w played (number, (why, refl)) wrote
 line_ends (Err e) script first now after held past number why w played wrote part =
@@ -38,7 +38,7 @@ line_ends (Err e) script first now after held past number why w played wrote par
 
 pub rule_ends : {T E : Type 0} (written : Result T E) (script : Script) (first now after : Option (List ℕ)) (held : List ℕ) (past : List Entry) (rule : ℕ) (about : List ℕ) → Wrote first now held past → IsPlayed script past (NotOpened rule about)
     → OnOk written (after ≡ append_known now (held ++ ending_text (NotOpened rule about))) → OnErr written (AppendsPrefix now after (held ++ ending_text (NotOpened rule about)))
-    → HasWritten (ended_so written end.NotOpened) script first after
+    → HasWrittenJournal (ended_so written end.NotOpened) script first after
 rule_ends (Ok done) script first now after held past rule about w played wrote part =
     writes_all script first now after held past (NotOpened rule about) IsRefusedBase w played (rule, (about, refl)) wrote
 rule_ends (Err e) script first now after held past rule about w played wrote part =
@@ -46,7 +46,7 @@ rule_ends (Err e) script first now after held past rule about w played wrote par
 
 pub whole_ends : {T E : Type 0} (written : Result T E) (script : Script) (first now after : Option (List ℕ)) (held : List ℕ) (past : List Entry) → Wrote first now held past → IsPlayed script past Whole
     → OnOk written (after ≡ append_known now (held ++ [])) → OnErr written (AppendsPrefix now after (held ++ []))
-    → HasWritten (ended_so written end.Done) script first after
+    → HasWrittenJournal (ended_so written end.Done) script first after
 whole_ends (Ok done) script first now after held past w played wrote part = writes_all script first now after held past Whole IsWhole w played refl wrote
 whole_ends (Err e) script first now after held past w played wrote part = writes_part script first now after held past Whole w played part
 
@@ -73,7 +73,7 @@ on_front script first now game number more on =
 
 pub fault_ends : {T E : Type 0} (written : Result T E) (script : Script) (first now after : Option (List ℕ)) (game : Game) (number : ℕ) (more : List Reading) → IsOn script first now game number more
     → OnOk written (after ≡ append_known now (held_by game ++ read_fault_text)) → OnErr written (AppendsPrefix now after (held_by game ++ read_fault_text))
-    → HasWritten (ended_so written end.ReadFault) script first after
+    → HasWrittenJournal (ended_so written end.ReadFault) script first after
 fault_ends (Ok done) script first now after game number more on wrote part =
     let s = on_stands script first now game number more on in
     writes_fault script first now after (held_by game) s.past s.wrote s.is_front wrote
@@ -108,13 +108,6 @@ fault_so_far (Ok done) script first now after game number on wrote is =
       written = wrote ∙ all-lines first now (held_by game) s.past read_fault_text s.wrote;
     }
 fault_so_far (Err e) script first now after game number on wrote is = absurd (cc is)
-
--- want of memory
-pub memory_stays : (why : Halt) (script : Script) (first now : Option (List ℕ)) (game : Game) (number : ℕ) → why ≢ halt.Write → IsHalted why script first now game number → WritesFront script first now []
-memory_stays halt.Memory script first now game number differs h = h
-memory_stays (halt.Refused why) script first now game number differs (past, (w, played)) = front_stays script first now (held_by game) past w (played_front script past (LineRefused number why) played)
-memory_stays (halt.NotOpened rule about) script first now game number differs (past, (w, played)) = front_stays script first now (held_by game) past w (played_front script past (NotOpened rule about) played)
-memory_stays halt.Write script first now game number differs h = absurd (differs refl)
 
 -- the next line is refused, whatever was before it
 pub refused_halts : (script : Script) (first now : Option (List ℕ)) (game : Game) (number : ℕ) (why : LineRefusal) (more : List Reading) → IsOn script first now game number (Err why ∷ more) → IsHalted (halt.Refused why) script first now game number
@@ -195,6 +188,10 @@ pub never_done : {T E : Type 0} (written : Result T E) (wanted : PlayEnd) → wa
 never_done (Ok done) wanted differs is = differs is
 never_done (Err e) wanted differs is = cc is
 
+pub never_memory : {T E : Type 0} (written : Result T E) (wanted : PlayEnd) → wanted ≢ end.NoMemory → ended_so written wanted ≡ end.NoMemory → ⊥
+never_memory (Ok done) wanted differs is = differs is
+never_memory (Err e) wanted differs is = cc is
+
 pub fault_or_write : {T E : Type 0} (written : Result T E) → (ended_so written end.ReadFault ≡ end.ReadFault) ⊎ (ended_so written end.ReadFault ≡ end.WriteFault)
 fault_or_write (Ok done) = inl refl
 fault_or_write (Err e) = inr refl
@@ -234,16 +231,20 @@ counts_halted T halt.Write e old mid new line ends is same =
 
 -- ---- the texts of the last lines, as they are written
 
-pub line_text : (number : ℕ) (why : LineRefusal) (said : List ℕ) → said ≡ refusal_text why
-    → codes "line " ++ (decimal number ++ (codes ": " ++ (said ++ codes "\n"))) ≡ ending_text (LineRefused number why)
-line_text number why said is =
-    ap (λ (l : List ℕ). codes "line " ++ (decimal number ++ (codes ": " ++ (l ++ codes "\n")))) is
+pub line_text : (number : ℕ) (why : LineRefusal) (digits said : List ℕ) → digits ≡ decimal number → said ≡ refusal_text why
+    → codes "line " ++ (digits ++ (codes ": " ++ (said ++ (codes "\n" ++ [])))) ≡ ending_text (LineRefused number why)
+line_text number why digits said is_number is_said =
+    ap (λ (l : List ℕ). codes "line " ++ (l ++ (codes ": " ++ (said ++ (codes "\n" ++ []))))) is_number
+    ∙ ap (λ (l : List ℕ). codes "line " ++ (decimal number ++ (codes ": " ++ (l ++ (codes "\n" ++ []))))) is_said
+    ∙ ap (λ (l : List ℕ). codes "line " ++ (decimal number ++ (codes ": " ++ (refusal_text why ++ l)))) (append-nil (codes "\n"))
     ∙ ap (λ (l : List ℕ). codes "line " ++ l)
     (sym (append_assoc (decimal number ++ codes ": ") (refusal_text why) (codes "\n") ∙ append_assoc (decimal number) (codes ": ") (refusal_text why ++ codes "\n")))
 
-pub rule_text : (rule : ℕ) (about said : List ℕ) → said ≡ about
-    → codes "datastore OR" ++ (decimal rule ++ (codes " " ++ (said ++ codes "\n"))) ≡ ending_text (NotOpened rule about)
-rule_text rule about said is =
-    ap (λ (l : List ℕ). codes "datastore OR" ++ (decimal rule ++ (codes " " ++ (l ++ codes "\n")))) is
+pub rule_text : (rule : ℕ) (about digits said : List ℕ) → digits ≡ decimal rule → said ≡ about
+    → codes "datastore OR" ++ (digits ++ (codes " " ++ (said ++ (codes "\n" ++ [])))) ≡ ending_text (NotOpened rule about)
+rule_text rule about digits said is_rule is_about =
+    ap (λ (l : List ℕ). codes "datastore OR" ++ (l ++ (codes " " ++ (said ++ (codes "\n" ++ []))))) is_rule
+    ∙ ap (λ (l : List ℕ). codes "datastore OR" ++ (decimal rule ++ (codes " " ++ (l ++ (codes "\n" ++ []))))) is_about
+    ∙ ap (λ (l : List ℕ). codes "datastore OR" ++ (decimal rule ++ (codes " " ++ (about ++ l)))) (append-nil (codes "\n"))
     ∙ ap (λ (l : List ℕ). codes "datastore OR" ++ l)
     (sym (append_assoc (decimal rule ++ codes " ") about (codes "\n") ∙ append_assoc (decimal rule) (codes " ") (about ++ codes "\n")))

@@ -1,15 +1,17 @@
 -- What is written where a script that is played ends.
-use Rattle.std.proofs.Common.{◌≡◌, ℕ, suc, ◌+◌, ◌≤◌, List, [], ◌∷◌, ◌++◌, length, take, Option, Some, None, refl, sym, ap, ◌∙◌, subst, arith, get_or, ◌<◌, append_assoc, append-nil, inl, inr}
+use Rattle.std.proofs.Common.{◌≡◌, ℕ, suc, ◌+◌, ◌≤◌, List, [], ◌∷◌, ◌++◌, length, take, drop, Option, Some, None, refl, sym, ap, ◌∙◌, subst, arith, get_or, ◌<◌, append_assoc, append-nil, inl, inr}
 use Rattle.std.specs.Prelude.{Result, Ok, Err, OnErr}
 use Rattle.std.specs.Io.KnownBytes.{append_known}
-use Rattle.std.proofs.lemmas.List.{length-append, take-append-le, take_more}
+use Rattle.std.proofs.lemmas.List.{length-append, take-append-drop, take-append-le, take_more}
+use Rattle.std.proofs.lemmas.Grind.{flat_map-append}
+use denote.Ref.{Bor}
 use Rattle.ipam_io.specs.Streams.{AppendsPrefix}
 use Rattle.ipam_model.specs.declared.entry.Entry.{Entry}
 use Rattle.ipam_answer_text.specs.Entries.{entry_line}
 use Rattle.ipam_play.specs.Output.{ending_text, journal_text, output_text}
 use Rattle.ipam_play.specs.Played.{Ending, IsPlayed}
 use Rattle.ipam_play.specs.Script.{Script}
-use Rattle.ipam_play_run.specs.Writing.{IsFront, OfAll, OfFront, WritesAll, WritesFront, WritesPart, Wrote, read_fault_text}
+use Rattle.ipam_play_run.specs.Writing.{IsFront, OfAll, OfFront, WritesAll, WritesFront, WritesPart, Wrote, joined, read_fault_text}
 
 pub journal-append : (first second : List Entry) → journal_text (first ++ second) ≡ journal_text first ++ journal_text second
 unfolding journal_text
@@ -80,14 +82,6 @@ front_stays script first now held past w front = record {
       ending = part.ending;
       is_played = subst (λ (l : List Entry). IsPlayed script l part.ending) (ap (λ (l : List Entry). l ++ part.more) w.is_past ∙ append_assoc w.done w.kept part.more) part.is_played;
     })
-
--- what was played is a front of itself
-pub played_front : (script : Script) (past : List Entry) (ending : Ending) → IsPlayed script past ending → IsFront script past
-played_front script past ending played = inr (record {
-  more = [];
-  ending = ending;
-  is_played = subst (λ (l : List Entry). IsPlayed script l ending) (sym (append-nil past)) played;
-})
 
 pub writes_all : (script : Script) (first now after : Option (List ℕ)) (held : List ℕ) (past : List Entry) (ending : Ending) (IsEnding : Ending → Type 0) → Wrote first now held past → IsPlayed script past ending → IsEnding ending
     → after ≡ append_known now (held ++ ending_text ending) → WritesAll script first after IsEnding
@@ -185,6 +179,45 @@ wrote_none (Some bytes) = record { done = []; kept = []; is_past = refl; written
 pub next_part_or : {T E : Type 0} (r : Result T E) (now mid after : Option (List ℕ)) (piece more : List ℕ) → mid ≡ append_known now piece → OnErr r (AppendsPrefix mid after more) → OnErr r (AppendsPrefix now after (piece ++ more))
 next_part_or (Ok done) now mid after piece more written part = tt
 next_part_or (Err e) now mid after piece more written part = next-part now mid after piece more written part
+
+-- ---- pieces
+
+-- what was written, where none was
+pub append-none : (known : Option (List ℕ)) → known ≡ append_known known []
+append-none None = refl
+append-none (Some bytes) = ap Some (sym (append-nil bytes))
+
+pub on_err : {T E : Type 0} {P : Type 0} (r : Result T E) → P → OnErr r P
+on_err (Ok done) p = tt
+on_err (Err e) p = p
+
+joined-more : (pieces : List (Bor (List ℕ))) (i : ℕ) (blank : Bor (List ℕ)) → i < length pieces → joined (take (i + 1) pieces) ≡ joined (take i pieces) ++ (get_or pieces i blank).now
+joined-more pieces i blank below =
+    ap joined (take_more pieces i blank below)
+    ∙ flat_map-append (λ (p : Bor (List ℕ)). p.now) (take i pieces) (get_or pieces i blank ∷ [])
+    ∙ ap (λ (l : List ℕ). joined (take i pieces) ++ l) (append-nil (get_or pieces i blank).now)
+
+-- one piece more was written
+pub next_piece : (first now : Option (List ℕ)) (pieces : List (Bor (List ℕ))) (i : ℕ) (blank : Bor (List ℕ)) (said : List ℕ) → i < length pieces → said ≡ (get_or pieces i blank).now
+    → now ≡ append_known first (joined (take i pieces)) → append_known now said ≡ append_known first (joined (take (i + 1) pieces))
+next_piece first now pieces i blank said below same written =
+    ap (λ (k : Option (List ℕ)). append_known k said) written
+    ∙ append-twice first (joined (take i pieces)) said
+    ∙ ap (append_known first) (ap (λ (l : List ℕ). joined (take i pieces) ++ l) same ∙ sym (joined-more pieces i blank below))
+
+-- a front part of the next piece was written
+pub piece_part : (first now after : Option (List ℕ)) (pieces : List (Bor (List ℕ))) (i : ℕ) (blank : Bor (List ℕ)) (said : List ℕ) → i < length pieces → said ≡ (get_or pieces i blank).now
+    → now ≡ append_known first (joined (take i pieces)) → AppendsPrefix now after said → AppendsPrefix first after (joined pieces)
+piece_part first now after pieces i blank said below same written part =
+    subst (λ (l : List ℕ). AppendsPrefix first after l) (sym whole)
+    (front-part first after (joined (take i pieces) ++ (get_or pieces i blank).now) (joined (drop (i + 1) pieces))
+    (next-part first now after (joined (take i pieces)) (get_or pieces i blank).now written (subst (λ (l : List ℕ). AppendsPrefix now after l) same part)))
+  where
+    whole : joined pieces ≡ (joined (take i pieces) ++ (get_or pieces i blank).now) ++ joined (drop (i + 1) pieces)
+    whole =
+        ap joined (sym (take-append-drop (i + 1) pieces))
+        ∙ flat_map-append (λ (p : Bor (List ℕ)). p.now) (take (i + 1) pieces) (drop (i + 1) pieces)
+        ∙ ap (λ (l : List ℕ). l ++ joined (drop (i + 1) pieces)) (joined-more pieces i blank below)
 
 -- the lines of one entry more
 pub journal_push : (entries : List Entry) (i : ℕ) (entry : Entry) → i < length entries → entry ≡ get_or entries i entry → journal_text (take (i + 1) entries) ≡ journal_text (take i entries) ++ entry_line entry

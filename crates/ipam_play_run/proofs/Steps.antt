@@ -14,7 +14,7 @@ use Rattle.ipam_play.specs.declared.player.Player.{Player}
 use Rattle.ipam_play.specs.declared.refusal.LineRefusal.TheVariants as refusal
 use Rattle.ipam_play.specs.Events.{fault_of}
 use Rattle.ipam_play.specs.Played.{BaseRefused, IsPlayed, LineRefused, NotOpened, RefusedAtOnce, ending_of_stops, refusal_of}
-use Rattle.ipam_play.specs.Player.{HasHappened, IsCauseAtFirst, IsGatheredLine, IsGathering, IsPlayedLine, IsPlaying, IsRefusal, IsWanting, cluster_of, journal_of}
+use Rattle.ipam_play.specs.Player.{AllHappened, HasHappened, IsCauseAtFirst, IsGatheredLine, IsGathering, IsPlayedLine, IsPlaying, IsRefusal, IsWanting, SomeHappened, cluster_of, journal_of}
 use Rattle.ipam_play.specs.Readings.{Reading}
 use Rattle.ipam_play.specs.Script.{Again, Broken, Gathered, Happens, OfBase, Place, Script, Stops, events_of, has_key, place_of, script_from, steps_from, with_counter, with_row}
 use Rattle.ipam_play.proofs.Happenings.{course-cons, course_from, course-nothing}
@@ -22,7 +22,7 @@ use Rattle.ipam_play.proofs.LineKinds.{place-events}
 use Rattle.ipam_play_run.specs.declared.halt.Halt.{Halt}
 use Rattle.ipam_play_run.specs.declared.halt.Halt.TheVariants as halt
 use Rattle.ipam_play_run.specs.Halting.{halt_of}
-use Rattle.ipam_play_run.specs.Outcome.{Follows, IsGatheringOn, IsPlayingOn, IsToCome, line_then}
+use Rattle.ipam_play_run.specs.Outcome.{Follows, IsGatheringOn, IsNotRefused, IsPlayingOn, IsToCome, line_then}
 use Rattle.ipam_play_run.proofs.Outcomes.{follows_event, follows_first, played_refused, played_stopped}
 
 -- ---- one event
@@ -131,6 +131,54 @@ module _ (script : Script) (number : ℕ) (event : Event) (events : List Event) 
           let follows = subst (λ (s : Script). Follows script refused.store [] s) (sym is) (follows_first script rest refused.store (record { number = number; events = event ∷ events }) (sym is) refused.opened) in
           refusal-ends script [] number told refused.refusal.refusal refused.refusal.is_told
           (played_refused script refused.store [] number event events rest refused.refusal.refusal follows (ap (entries_of (cluster_of refused.store [])) same ∙ refused.refusal.refuses))
+
+-- ---- an event for which there is no memory
+
+never-told : (why : Refusal) → fault_of why ≡ fault.Memory → ⊥
+never-told Busy is = cc is
+never-told Idle is = cc is
+never-told Waiting is = cc is
+never-told NotWaiting is = cc is
+never-told (TooSoon at grace) is = cc is
+never-told Worn is = cc is
+
+memory-told : (told : PlayFault) → halt_of told ≡ halt.Memory → told ≡ fault.Memory
+memory-told fault.Base is = absurd (cc is)
+memory-told fault.Busy is = absurd (cc is)
+memory-told fault.Idle is = absurd (cc is)
+memory-told fault.Waiting is = absurd (cc is)
+memory-told fault.NotWaiting is = absurd (cc is)
+memory-told fault.TooSoon is = absurd (cc is)
+memory-told fault.Worn is = absurd (cc is)
+memory-told (fault.Open rule about) is = absurd (cc is)
+memory-told fault.Memory is = refl
+
+-- the one event did not happen, and would have
+wanting-event : (told : PlayFault) (old new : Player) (store : Datastore) (past : List Entry) (event : Event) → told ≡ fault.Memory → SomeHappened old new store past (event ∷ []) told
+    → (made : List Entry) × (entries_of (cluster_of store (past ++ journal_of old)) event ≡ Ok made)
+wanting-event told old new store past event memory has =
+    let (first, same) = single event has.next has.first has.rest has.is_first in
+    let nothing : has.made ≡ [] = ap (λ (c : Course). c.entries) (sym has.made_by ∙ ap (course (cluster_of store (past ++ journal_of old))) first ∙ course-nothing (cluster_of store (past ++ journal_of old))) in
+    by same (has.added ∙ ap (λ (l : List Entry). journal_of old ++ l) nothing ∙ append-nil (journal_of old)) has.cause
+  where
+    by : event ≡ has.next → journal_of new ≡ journal_of old → IsWanting (cluster_of store (past ++ journal_of new)) has.next told ⊎ IsRefusal (cluster_of store (past ++ journal_of new)) has.next told
+        → (made : List Entry) × (entries_of (cluster_of store (past ++ journal_of old)) event ≡ Ok made)
+    by same kept (inl want) = (
+      want.would_make,
+      ap (λ (l : List Entry). entries_of (cluster_of store (past ++ l)) event) (sym kept) ∙ ap (entries_of (cluster_of store (past ++ journal_of new))) same ∙ want.makes,
+    )
+    by same kept (inr because) = absurd (never-told because.refusal (sym because.is_told ∙ memory))
+
+-- there was no memory for the event, or, once it had happened, for its line
+pub wants_event : {T : Type 0} (result : Result T PlayFault) (old new : Player) (asked : Line) (event : Event) → events_of asked ≡ Some (event ∷ [])
+    → ((base : Gathered) (store : Datastore) (past : List Entry) → IsPlaying old base store past → IsPlayedLine result old new store past (events_of asked))
+    → ((told : PlayFault) → result ≡ Err told → halt_of told ≡ halt.Memory) → IsNotRefused old event
+wants_event (Ok done) old new asked event is played memory base store past playing =
+    let has : AllHappened old new store past (event ∷ []) = subst (λ (o : Option (List Event)). IsPlayedLine (Ok done) old new store past o) is (played base store past playing) in
+    (has.made, course-made (cluster_of store (past ++ journal_of old)) event has.made has.made_by)
+wants_event {T} (Err told) old new asked event is played memory base store past playing =
+    wanting-event told old new store past event (memory-told told (memory told refl))
+    (subst (λ (o : Option (List Event)). IsPlayedLine {T = T} (Err told) old new store past o) is (played base store past playing))
 
 -- a line of one event
 pub steps : {T : Type 0} (result : Result T PlayFault) (script : Script) (old new : Player) (asked : Line) (past : List Entry) (number : ℕ) (event : Event) (events : List Event) (rest : Script)

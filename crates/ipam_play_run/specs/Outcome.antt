@@ -1,9 +1,9 @@
 -- What is still to come of a script.
-use Rattle.std.specs.Prelude.{◌≡◌, ℕ, List, [], ◌++◌, ◌⊎◌}
+use Rattle.std.specs.Prelude.{◌≡◌, ℕ, List, [], ◌++◌, ◌⊎◌, Ok}
 use Rattle.ipam_records.specs.Datastore.{Datastore}
 use Rattle.ipam_model.specs.declared.entry.Entry.{Entry}
 use Rattle.ipam_model.specs.Cluster as model
-use Rattle.ipam_model.specs.Course.{Event, course}
+use Rattle.ipam_model.specs.Course.{Event, course, entries_of}
 use Rattle.ipam_model.specs.History.{start}
 use Rattle.ipam_play.specs.declared.player.Player.{Player}
 use Rattle.ipam_play.specs.Played.{Ending, OpensBase, base_of, ending_of, events_in}
@@ -60,3 +60,8 @@ pub record IsUnopened (script : Script) (player : Player) (past : List Entry) (r
 -- the rest is to come, whether or not the base was opened
 abbrev pub IsToCome : Script → Player → (past : List Entry) → (rest : Script) → Type 0
 IsToCome script player past rest = IsPlayingOn script player past rest ⊎ IsUnopened script player past rest
+
+-- the event is not refused, wherever the player stands after its base was opened
+abbrev pub IsNotRefused : Player → Event → Type 0
+IsNotRefused player event = (base : Gathered) (store : Datastore) (past : List Entry) → IsPlaying player base store past
+    → (made : List Entry) × (entries_of (cluster_of store (past ++ journal_of player)) event ≡ Ok made)

@@ -1,5 +1,6 @@
 -- What is written of a script.
-use Rattle.std.specs.Prelude.{◌≡◌, ℕ, ◌<◌, List, [], ◌++◌, ◌⊎◌, length, Option, Result, Ok, Err, codes, string_bytes}
+use Rattle.std.specs.Prelude.{◌≡◌, ℕ, ◌<◌, List, [], ◌++◌, ◌⊎◌, length, flat_map, Option, Result, Ok, Err, codes, string_bytes}
+use denote.Ref.{Bor}
 use Rattle.std.specs.Io.KnownBytes.{append_known}
 use Rattle.ipam_io.specs.Counts.{Rose}
 use Rattle.ipam_io.specs.Streams.{AppendsPrefix}
@@ -12,6 +13,10 @@ use Rattle.ipam_play.specs.declared.refusal.LineRefusal.{LineRefusal}
 use Rattle.ipam_play_run.specs.declared.end.PlayEnd.{PlayEnd}
 use Rattle.ipam_play_run.specs.declared.output.Output.{Output}
 use Rattle.ipam_play_run.specs.declared.end.PlayEnd.TheVariants as end
+
+-- the pieces, one after another
+abbrev pub joined : List (Bor (List ℕ)) → List ℕ
+joined pieces = flat_map (λ piece. piece.now) pieces
 
 -- the lines that are held to be written
 abbrev pub held_in : Output → List ℕ
@@ -99,13 +104,13 @@ pub record WritesPart (script : Script) (first now : Option (List ℕ)) : Type 0
   pub written : AppendsPrefix first now text
 
 -- what a run that ends so has written of the script
-abbrev pub HasWritten : PlayEnd → Script → (first now : Option (List ℕ)) → Type 0
-HasWritten end.Done script first now = WritesAll script first now IsWhole
-HasWritten end.LineRefused script first now = WritesAll script first now IsRefusedLine
-HasWritten end.NotOpened script first now = WritesAll script first now IsRefusedBase
-HasWritten end.ReadFault script first now = WritesFront script first now read_fault_text
-HasWritten end.NoMemory script first now = WritesFront script first now []
-HasWritten end.WriteFault script first now = WritesPart script first now
+abbrev pub HasWrittenJournal : PlayEnd → Script → (first now : Option (List ℕ)) → Type 0
+HasWrittenJournal end.Done script first now = WritesAll script first now IsWhole
+HasWrittenJournal end.LineRefused script first now = WritesAll script first now IsRefusedLine
+HasWrittenJournal end.NotOpened script first now = WritesAll script first now IsRefusedBase
+HasWrittenJournal end.ReadFault script first now = WritesFront script first now read_fault_text
+HasWrittenJournal end.NoMemory script first now = WritesFront script first now []
+HasWrittenJournal end.WriteFault script first now = WritesPart script first now
 
 -- how it ended, with a last line to be written
 abbrev pub ended_so : {T E : Type 0} → Result T E → PlayEnd → PlayEnd

@@ -3,11 +3,13 @@ ghost use Rattle.std.specs.Prelude.{◌≡◌, ◌≢◌, ◌⊎◌, ◌∷◌, 
 ghost use Rattle.std.specs.Io.KnownBytes.{append_known};
 ghost use Rattle.ipam_io.specs.Counts.{Rose};
 ghost use Rattle.ipam_io.specs.Streams.{AppendsPrefix};
-ghost use Rattle.ipam_play.specs.Player.{IsStanding};
+ghost use Rattle.ipam_records.specs.Datastore.{Datastore};
+ghost use Rattle.ipam_model.specs.declared.entry.Entry.{Entry};
+ghost use Rattle.ipam_play.specs.Player.{IsPlaying, IsStanding};
 ghost use Rattle.ipam_play.specs.Readings.{Reading};
-ghost use Rattle.ipam_play.specs.Script.{Script};
+ghost use Rattle.ipam_play.specs.Script.{Gathered, Script};
 ghost use Rattle.ipam_play.specs.SoundLine.{IsSoundLine};
-ghost use Rattle.ipam_play_run.specs.Writing.{CountsEnd, HasWritten, WroteSoFar, ended_so};
+ghost use Rattle.ipam_play_run.specs.Writing.{CountsEnd, HasWrittenJournal, WroteSoFar, ended_so, joined};
 
 use crate::end::PlayEnd;
 use crate::game::Game;
@@ -16,6 +18,7 @@ use ipam_io::{Failed, Sink};
 use ipam_play::LineRefusal;
 use ipam_script::Line;
 use ipam_text::Text;
+use itoa::Buffer;
 use std::alloc::Global;
 
 impl Game {
@@ -32,110 +35,112 @@ impl Game {
         requires sound { IsSoundLine line.now }
         requires standing { IsStanding self.player }
         ensures written { (script : Script) (first : Option (List ℕ)) → IsOn script first (K.written sink.old) self number (Ok line.now ∷ [])
-            → HasWritten result script first (K.written sink.new) }
+            → HasWrittenJournal result script first (K.written sink.new) }
         ensures no_read_fault { result ≢ PlayEnd.ReadFault }
         ensures counts { CountsEnd result (K.write_faults sink.old) (K.write_faults sink.new) }
         ensures rest { K.write_rest sink.new ≡ K.write_rest sink.old }
     {
         match self.line(alloc, sink, line) {
             Ok(()) => self.finish(alloc, sink, number),
-            Err(halt) => self.halted(alloc, sink, number, halt),
+            Err(halt) => self.halted(sink, number, halt),
         }
     }
 
-    /// The script is at its end.
+    /// The script is at its end. Once the base is open, this takes no memory.
     pub(crate) fn finish<K: Sink>(mut self, alloc: Global, sink: &mut K, number: u64) -> PlayEnd
         ensures written { (script : Script) (first : Option (List ℕ)) (next : ℕ) → IsOn script first (K.written sink.old) self next []
-            → HasWritten result script first (K.written sink.new) }
+            → HasWrittenJournal result script first (K.written sink.new) }
         ensures no_read_fault { result ≢ PlayEnd.ReadFault }
+        ensures no_memory { (base : Gathered) (store : Datastore) (past : List Entry) → IsPlaying self.player base store past → result ≢ PlayEnd.NoMemory }
         ensures counts { CountsEnd result (K.write_faults sink.old) (K.write_faults sink.new) }
         ensures rest { K.write_rest sink.new ≡ K.write_rest sink.old }
     {
         match self.player.finish(alloc) {
-            Ok(()) => ended(self.end(sink, ""), PlayEnd::Done),
-            Err(fault) => self.halted(alloc, sink, number, Halt::of(fault)),
+            Ok(()) => ended(self.end(sink, &[]), PlayEnd::Done),
+            Err(fault) => self.halted(sink, number, Halt::of(fault)),
         }
     }
 
-    /// The script is not played on from this line.
-    pub(crate) fn halted<K: Sink>(
-        self,
-        alloc: Global,
-        sink: &mut K,
-        number: u64,
-        halt: Halt,
-    ) -> PlayEnd
+    /// The script is not played on from this line. Telling so takes no memory.
+    pub(crate) fn halted<K: Sink>(self, sink: &mut K, number: u64, halt: Halt) -> PlayEnd
         ensures written { (script : Script) (first : Option (List ℕ)) → IsHalted halt script first (K.written sink.old) self number
-            → HasWritten result script first (K.written sink.new) }
+            → HasWrittenJournal result script first (K.written sink.new) }
         ensures no_read_fault { result ≢ PlayEnd.ReadFault }
         ensures not_done { result ≢ PlayEnd.Done }
+        ensures no_memory { halt ≢ Halt.Memory → result ≢ PlayEnd.NoMemory }
         ensures counts { halt ≢ Halt.Write → CountsEnd result (K.write_faults sink.old) (K.write_faults sink.new) }
         ensures write { halt ≡ Halt.Write → result ≡ PlayEnd.WriteFault }
         ensures write_count { halt ≡ Halt.Write → K.write_faults sink.new ≡ K.write_faults sink.old }
         ensures rest { K.write_rest sink.new ≡ K.write_rest sink.old }
     {
         match halt {
-            Halt::Refused(why) => self.refused(alloc, sink, number, why),
-            Halt::NotOpened(rule, about) => self.not_opened(alloc, sink, rule, &about),
+            Halt::Refused(why) => self.refused(sink, number, why),
+            Halt::NotOpened(rule, about) => self.not_opened(sink, rule, &about),
             Halt::Write => PlayEnd::WriteFault,
             Halt::Memory => PlayEnd::NoMemory,
         }
     }
 
     /// The line is refused.
-    fn refused<K: Sink>(self, alloc: Global, sink: &mut K, number: u64, why: LineRefusal) -> PlayEnd
+    fn refused<K: Sink>(self, sink: &mut K, number: u64, why: LineRefusal) -> PlayEnd
         ensures written { (script : Script) (first : Option (List ℕ)) → IsHalted (Halt.Refused why) script first (K.written sink.old) self number
-            → HasWritten result script first (K.written sink.new) }
+            → HasWrittenJournal result script first (K.written sink.new) }
         ensures no_read_fault { result ≢ PlayEnd.ReadFault }
         ensures not_done { result ≢ PlayEnd.Done }
+        ensures no_memory { result ≢ PlayEnd.NoMemory }
         ensures counts { CountsEnd result (K.write_faults sink.old) (K.write_faults sink.new) }
         ensures rest { K.write_rest sink.new ≡ K.write_rest sink.old }
     {
-        match format!(in alloc; "line {number}: {}\n", why.text()) {
-            Ok(text) => ended(self.end(sink, text.as_str()), PlayEnd::LineRefused),
-            Err(_) => PlayEnd::NoMemory,
-        }
+        let mut digits = Buffer::new();
+        let last = ["line ", digits.format(number), ": ", why.text(), "\n"];
+        ended(self.end(sink, &last), PlayEnd::LineRefused)
     }
 
     /// The base is refused.
-    fn not_opened<K: Sink>(self, alloc: Global, sink: &mut K, rule: u8, about: &Text) -> PlayEnd
+    fn not_opened<K: Sink>(self, sink: &mut K, rule: u8, about: &Text) -> PlayEnd
         ensures written { (script : Script) (first : Option (List ℕ)) (number : ℕ) → IsHalted (Halt.NotOpened rule about.now) script first (K.written sink.old) self number
-            → HasWritten result script first (K.written sink.new) }
+            → HasWrittenJournal result script first (K.written sink.new) }
         ensures no_read_fault { result ≢ PlayEnd.ReadFault }
         ensures not_done { result ≢ PlayEnd.Done }
+        ensures no_memory { result ≢ PlayEnd.NoMemory }
         ensures counts { CountsEnd result (K.write_faults sink.old) (K.write_faults sink.new) }
         ensures rest { K.write_rest sink.new ≡ K.write_rest sink.old }
     {
-        match format!(in alloc; "datastore OR{rule} {}\n", about.as_str()) {
-            Ok(text) => ended(self.end(sink, text.as_str()), PlayEnd::NotOpened),
-            Err(_) => PlayEnd::NoMemory,
-        }
+        let mut digits = Buffer::new();
+        let last = [
+            "datastore OR",
+            digits.format(rule),
+            " ",
+            about.as_str(),
+            "\n",
+        ];
+        ended(self.end(sink, &last), PlayEnd::NotOpened)
     }
 
-    /// Writes the lines that it holds, and after them this last one.
-    fn end<K: Sink>(self, sink: &mut K, line: &str) -> Result<(), Failed>
-        ensures wrote { OnOk result (K.written sink.new ≡ append_known (K.written sink.old) (held_by self ++ line.now)) }
-        ensures part { OnErr result (AppendsPrefix (K.written sink.old) (K.written sink.new) (held_by self ++ line.now)) }
+    /// Writes the lines that it holds, and after them the pieces of a last one.
+    fn end<K: Sink>(self, sink: &mut K, last: &[&str]) -> Result<(), Failed>
+        ensures wrote { OnOk result (K.written sink.new ≡ append_known (K.written sink.old) (held_by self ++ joined last.now)) }
+        ensures part { OnErr result (AppendsPrefix (K.written sink.old) (K.written sink.new) (held_by self ++ joined last.now)) }
         ensures fault { OnErr result (Rose (K.write_faults sink.old) (K.write_faults sink.new)) }
         ensures no_fault { OnOk result (K.write_faults sink.new ≡ K.write_faults sink.old) }
         ensures rest { K.write_rest sink.new ≡ K.write_rest sink.old }
     {
         let Game { player, output } = self;
         drop(player);
-        output.end(sink, line)
+        output.end(sink, last)
     }
 
     /// A read of the source failed. The lines of all entries so far are written, and the fault after them.
     pub(crate) fn read_fault<K: Sink>(self, sink: &mut K) -> PlayEnd
         ensures written { (script : Script) (first : Option (List ℕ)) (number : ℕ) (more : List Reading) → IsOn script first (K.written sink.old) self number more
-            → HasWritten result script first (K.written sink.new) }
+            → HasWrittenJournal result script first (K.written sink.new) }
         ensures so_far { (script : Script) (first : Option (List ℕ)) (number : ℕ) → IsOn script first (K.written sink.old) self number []
             → result ≡ PlayEnd.ReadFault → WroteSoFar script first (K.written sink.new) }
         ensures faults { (result ≡ PlayEnd.ReadFault) ⊎ (result ≡ PlayEnd.WriteFault) }
         ensures counts { CountsEnd result (K.write_faults sink.old) (K.write_faults sink.new) }
         ensures rest { K.write_rest sink.new ≡ K.write_rest sink.old }
     {
-        ended(self.end(sink, "read fault\n"), PlayEnd::ReadFault)
+        ended(self.end(sink, &["read fault\n"]), PlayEnd::ReadFault)
     }
 }
 

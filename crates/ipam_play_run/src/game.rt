@@ -12,7 +12,7 @@ ghost use Rattle.ipam_play.specs.Readings.{Reading};
 ghost use Rattle.ipam_play.specs.Script.{Broken, Gathered, Script, events_of, nothing_gathered};
 ghost use Rattle.ipam_play.specs.SoundLine.{IsSoundLine};
 ghost use Rattle.ipam_play.specs.declared.refusal.LineRefusal.TheVariants as refusal;
-ghost use Rattle.ipam_play_run.specs.Outcome.{line_then};
+ghost use Rattle.ipam_play_run.specs.Outcome.{IsNotRefused, line_then};
 ghost use Rattle.ipam_play_run.specs.Writing.{AreFew, Wrote};
 
 use crate::halt::Halt;
@@ -110,7 +110,8 @@ impl Game {
         played
     }
 
-    /// Plays a line of one event, or one of the base.
+    /// Plays a line of one event, or one of the base. Once the base is open, there is no memory only for an
+    /// event that is not refused.
     fn step<K: Sink>(&mut self, alloc: Global, sink: &mut K, line: &Line) -> Result<(), Halt>
         requires sound { IsSoundLine line.now }
         requires standing { IsStanding self.old.player }
@@ -127,6 +128,7 @@ impl Game {
             → events_of line.now ≡ None → rest.steps ≡ [] → rest.stops ≡ Broken number refusal.Base
             → IsGoing script first (K.written sink.old) self.old rest
             → IsLate result script first (K.written sink.new) self.new number }
+        ensures wants { (event : Event) → events_of line.now ≡ Some (event ∷ []) → result ≡ Err Halt.Memory → IsNotRefused self.old.player event }
         ensures few { OnOk result (AreFew (held_by self.new)) }
         ensures counts { CountsWrites result (K.write_faults sink.old) (K.write_faults sink.new) }
         ensures rest { K.write_rest sink.new ≡ K.write_rest sink.old }

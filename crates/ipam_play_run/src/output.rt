@@ -5,7 +5,7 @@ ghost use Rattle.ipam_io.specs.Counts.{Rose};
 ghost use Rattle.ipam_io.specs.Streams.{AppendsPrefix};
 ghost use Rattle.ipam_model.specs.declared.entry.Entry.{Entry};
 ghost use Rattle.ipam_play.specs.Output.{journal_text};
-ghost use Rattle.ipam_play_run.specs.Writing.{AreFew, Wrote};
+ghost use Rattle.ipam_play_run.specs.Writing.{AreFew, Wrote, joined};
 
 use ipam_answer_text::push_entry;
 use ipam_io::{Failed, Sink};
@@ -61,15 +61,29 @@ impl Output {
         Ok(())
     }
 
-    /// Writes its lines, and after them this last one. It takes no memory.
-    pub(crate) fn end<K: Sink>(self, sink: &mut K, line: &str) -> Result<(), Failed>
-        ensures wrote { OnOk result (K.written sink.new ≡ append_known (K.written sink.old) (held_in self ++ line.now)) }
-        ensures part { OnErr result (AppendsPrefix (K.written sink.old) (K.written sink.new) (held_in self ++ line.now)) }
+    /// Writes its lines, and after them the pieces of a last one. It takes no memory.
+    pub(crate) fn end<K: Sink>(self, sink: &mut K, last: &[&str]) -> Result<(), Failed>
+        ensures wrote { OnOk result (K.written sink.new ≡ append_known (K.written sink.old) (held_in self ++ joined last.now)) }
+        ensures part { OnErr result (AppendsPrefix (K.written sink.old) (K.written sink.new) (held_in self ++ joined last.now)) }
         ensures fault { OnErr result (Rose (K.write_faults sink.old) (K.write_faults sink.new)) }
         ensures no_fault { OnOk result (K.write_faults sink.new ≡ K.write_faults sink.old) }
         ensures rest { K.write_rest sink.new ≡ K.write_rest sink.old }
     {
         sink.write(self.text.as_bytes())?;
-        sink.write(line.as_bytes())
+        write_pieces(sink, last)
     }
+}
+
+/// Writes the pieces, one after another.
+fn write_pieces<K: Sink>(sink: &mut K, pieces: &[&str]) -> Result<(), Failed>
+    ensures wrote { OnOk result (K.written sink.new ≡ append_known (K.written sink.old) (joined pieces.now)) }
+    ensures part { OnErr result (AppendsPrefix (K.written sink.old) (K.written sink.new) (joined pieces.now)) }
+    ensures fault { OnErr result (Rose (K.write_faults sink.old) (K.write_faults sink.new)) }
+    ensures no_fault { OnOk result (K.write_faults sink.new ≡ K.write_faults sink.old) }
+    ensures rest { K.write_rest sink.new ≡ K.write_rest sink.old }
+{
+    for piece in pieces {
+        sink.write(piece.as_bytes())?;
+    }
+    Ok(())
 }

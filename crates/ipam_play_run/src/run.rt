@@ -4,7 +4,7 @@ ghost use Rattle.std.specs.Io.KnownBytes.{IsAtEnd};
 ghost use Rattle.ipam_io.specs.Counts.{Rose};
 ghost use Rattle.ipam_play.specs.Readings.{readings};
 ghost use Rattle.ipam_play.specs.Script.{script_of};
-ghost use Rattle.ipam_play_run.specs.Writing.{HasWritten, WritesSoFar};
+ghost use Rattle.ipam_play_run.specs.Writing.{HasWrittenJournal, WritesSoFar};
 
 use crate::end::PlayEnd;
 use crate::game::Game;
@@ -20,7 +20,7 @@ use std::alloc::Global;
 /// that was read whole, whichever read it is.
 pub fn play<S: Source, K: Sink>(alloc: Global, source: &mut S, sink: &mut K) -> PlayEnd
     ensures written { IfSome (S.left source.old) (λ bytes.
-        HasWritten result (script_of (readings bytes)) (K.written sink.old) (K.written sink.new)) }
+        HasWrittenJournal result (script_of (readings bytes)) (K.written sink.old) (K.written sink.new)) }
     ensures so_far { result ≡ PlayEnd.ReadFault
         → WritesSoFar (S.left source.old) (S.left source.new) (K.written sink.old) (K.written sink.new) }
     ensures read { result ≡ PlayEnd.Done → IsAtEnd (S.left source.new) }
@@ -41,7 +41,7 @@ pub fn play<S: Source, K: Sink>(alloc: Global, source: &mut S, sink: &mut K) -> 
                 let played = game.line(alloc, sink, &line);
                 drop(line);
                 if let Err(halt) = played {
-                    return game.halted(alloc, sink, number, halt);
+                    return game.halted(sink, number, halt);
                 }
             }
             Ok(Next::Last(line)) => {
@@ -49,7 +49,7 @@ pub fn play<S: Source, K: Sink>(alloc: Global, source: &mut S, sink: &mut K) -> 
                 drop(line);
                 return end;
             }
-            Ok(Next::Refused(why)) => return game.halted(alloc, sink, number, Halt::Refused(why)),
+            Ok(Next::Refused(why)) => return game.halted(sink, number, Halt::Refused(why)),
             Ok(Next::End) => return game.finish(alloc, sink, number),
             Err(ScriptFault::Read) => return game.read_fault(sink),
             Err(ScriptFault::Memory) => {

@@ -1,53 +1,10 @@
 //! What is written of scripts.
-use crate::known::{KNOWN_1, KNOWN_2, KNOWN_3, KNOWN_4};
 use crate::refused::{REFUSED_1, REFUSED_2};
+use crate::scripts::{run_script, run_well};
 use crate::summed::SUMMED;
-use crate::worked::{WORKED_1, WORKED_2};
-use ipam_io::{MemorySink, MemorySource};
-use ipam_play_run::{PlayEnd, play};
 use std::alloc::{AllocError, Global};
 use std::process::Abort;
 use std::test::Fail;
-
-/// No journal here is longer.
-const ROOM: usize = 1_000_000;
-
-/// The status with which the program ends.
-fn status_of(end: PlayEnd) -> &'static str {
-    match end {
-        PlayEnd::Done => "0",
-        PlayEnd::ReadFault => "3",
-        PlayEnd::WriteFault => "4",
-        PlayEnd::NoMemory => "6",
-        PlayEnd::NotOpened => "7",
-        PlayEnd::LineRefused => "8",
-    }
-}
-
-/// What a script came to: the status, and what was written.
-#[derive(Drop)]
-struct Played {
-    status: &'static str,
-    sink: MemorySink,
-}
-
-/// Plays the script from memory to memory, where these reads and writes fail.
-fn run_script(
-    alloc: Global,
-    script: &str,
-    reads: Vec<u64>,
-    writes: Vec<u64>,
-) -> Result<Played, AllocError> {
-    let bytes = Vec::from_slice(alloc, script.as_bytes())?;
-    let mut source = MemorySource::new(bytes, reads);
-    let mut sink = MemorySink::new(alloc, ROOM, writes)?;
-    let status = status_of(play(alloc, &mut source, &mut sink));
-    Ok(Played { status, sink })
-}
-
-fn run_well(alloc: Global, script: &str) -> Result<Played, AllocError> {
-    run_script(alloc, script, Vec::new(alloc), Vec::new(alloc))
-}
 
 /// The script, the status and the rest of a row.
 fn columns(row: &str) -> Option<(&str, &str, &str)> {
@@ -68,22 +25,6 @@ fn rows(rt: &impl Abort, alloc: Global, table: &str) -> Result<usize, AllocError
         }
     }
     Ok(count)
-}
-
-#[test]
-fn worked_scripts_have_their_journals(rt: HostRuntime) -> Result<(), Fail> {
-    assert_eq!(&rt; rows(&rt, rt.alloc(), WORKED_1)?, 14);
-    assert_eq!(&rt; rows(&rt, rt.alloc(), WORKED_2)?, 14);
-    Ok(())
-}
-
-#[test]
-fn known_scripts_have_their_journals(rt: HostRuntime) -> Result<(), Fail> {
-    assert_eq!(&rt; rows(&rt, rt.alloc(), KNOWN_1)?, 14);
-    assert_eq!(&rt; rows(&rt, rt.alloc(), KNOWN_2)?, 14);
-    assert_eq!(&rt; rows(&rt, rt.alloc(), KNOWN_3)?, 14);
-    assert_eq!(&rt; rows(&rt, rt.alloc(), KNOWN_4)?, 4);
-    Ok(())
 }
 
 #[test]

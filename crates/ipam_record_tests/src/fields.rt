@@ -16,7 +16,7 @@ fn fault_text(alloc: Global, fault: ReadFault) -> Result<String, AllocError> {
     }
 }
 
-/// What is read of the value at the path, where of an array and of an object the length is told.
+/// What is read of the value at the path, of an array and of an object its length.
 fn read(alloc: Global, value: &Value, kind: &str, path: &str) -> Result<String, AllocError> {
     match kind {
         "text" => told(alloc, text(alloc, value, path)),

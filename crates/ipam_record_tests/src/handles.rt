@@ -31,7 +31,7 @@ fn push_count(alloc: Global, out: &mut String, block: Cidr, count: u32) -> Resul
     out.push_str(count.as_str())
 }
 
-/// Raises by `+CIDR=NUMBER`, or lowers by `-CIDR=NUMBER`, and says whether a count was full.
+/// Raises by `+CIDR=NUMBER`, or lowers by `-CIDR=NUMBER`, and returns whether a count was full.
 fn change(handle: &mut Handle, text: &str) -> Result<bool, AllocError> {
     let (block, by) = count_of(text.get(1..).unwrap_or(""))?;
     if text.starts_with('+') && by > 0 {

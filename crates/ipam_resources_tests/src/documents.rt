@@ -4,7 +4,7 @@ use ipam_request_text::push_request;
 use ipam_resources::{DocumentFault, Resource, push_applied, push_document_fault, read_resources};
 use std::alloc::{AllocError, Global};
 
-/// What is told of the document in which `␤` stands for a line feed: for each resource its line and
+/// What comes of the document in which `␤` stands for a line feed: for each resource its line and
 /// the text of the request that it becomes, or the line of the document's fault.
 pub(crate) fn document_text(alloc: Global, text: &str) -> Result<String, AllocError> {
     let mut document = String::new(alloc);
@@ -14,7 +14,7 @@ pub(crate) fn document_text(alloc: Global, text: &str) -> Result<String, AllocEr
     told(alloc, document.as_bytes())
 }
 
-/// What is told of the document of `NUMBER TEXT`, in which `¤` stands for the byte of this number.
+/// What comes of the document of `NUMBER TEXT`, in which `¤` stands for the byte of this number.
 pub(crate) fn byte_text(alloc: Global, text: &str) -> Result<String, AllocError> {
     let (number, text) = text.split_once(' ').unwrap_or((text, ""));
     let (front, back) = text.split_once('¤').unwrap_or((text, ""));
@@ -24,7 +24,7 @@ pub(crate) fn byte_text(alloc: Global, text: &str) -> Result<String, AllocError>
     told(alloc, document.as_slice())
 }
 
-/// What is told of as many bytes, of which none begins a text.
+/// What comes of as many bytes, of which none begins a text.
 pub(crate) fn bytes_text(alloc: Global, count: &str) -> Result<String, AllocError> {
     let document = vec![in alloc; 0xff; count.parse().unwrap_or(0)]?;
     told(alloc, document.as_slice())
@@ -51,7 +51,7 @@ fn listed(alloc: Global, rest: &mut Vec<Resource>) -> Result<String, AllocError>
     Ok(out)
 }
 
-/// Takes the first of the resources, and tells of it.
+/// Takes the first of the resources, and returns its line.
 fn push_first(alloc: Global, out: &mut String, rest: &mut Vec<Resource>) -> Result<(), AllocError> {
     if let Some(resource) = rest.first() {
         push_applied(alloc, out, resource)?;

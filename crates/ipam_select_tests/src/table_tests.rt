@@ -355,7 +355,7 @@ fn lists(alloc: Global) -> Result<Vec<Labels>, AllocError> {
     Ok(lists)
 }
 
-// What the line of the table says of a selector that was read.
+// What the line of the table has for a selector that was read.
 fn described(alloc: Global, selector: &Selector, lists: &[Labels]) -> Result<String, AllocError> {
     let mut out = String::new(alloc);
     push_selector(&mut out, selector)?;
@@ -369,7 +369,7 @@ fn described(alloc: Global, selector: &Selector, lists: &[Labels]) -> Result<Str
     Ok(out)
 }
 
-// What the line of the table says of the text.
+// What the line of the table has for the text.
 fn answer(alloc: Global, text: &[u8], lists: &[Labels]) -> Result<String, AllocError> {
     match Selector::read(alloc, text) {
         Ok(selector) => described(alloc, &selector, lists),

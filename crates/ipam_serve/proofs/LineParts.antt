@@ -3,6 +3,8 @@ use Rattle.std.proofs.Common.{◌≡◌, ◌↔◌, ◌⊎◌, ◌<◌, ◌≤�
 use Rattle.std.specs.Prelude.{IfOk, OnErr, option_map}
 use Rattle.ipam_io.specs.Readings.{prepend_known_readings}
 use Rattle.ipam_addr.specs.Shape.{AddrValue}
+use Rattle.ipam_records.specs.declared.key.Key.{Key}
+use Rattle.ipam_words.specs.declared.kind.RowKind.{RowKind}
 use Rattle.ipam_model.specs.declared.answer.Answer.{Answer}
 use Rattle.ipam_model.specs.declared.entry.Entry.TheVariants as entry
 use Rattle.ipam_model.specs.declared.request.AddRequest.{AddRequest}
@@ -299,3 +301,9 @@ module _ (old new : PassValue) where
 
   pub since-wears : (revision : ℕ) → Took old [] 1 new → new.left < 2 → WearsOut (Some (wish.RoutesSince revision)) old new
   since-wears revision took few = record { due = refl; worn = inl few; unanswered = inl took.gained }
+
+  pub page-wears : (kind : RowKind) (after : Option Key) → Took old [] 1 new → new.left < 2 → WearsOut (Some (wish.Rows kind after)) old new
+  page-wears kind after took few = record { due = refl; worn = inl few; unanswered = inl took.gained }
+
+  pub usage-wears : Took old [] 1 new → new.left < 2 → WearsOut (Some wish.Usage) old new
+  usage-wears took few = record { due = refl; worn = inl few; unanswered = inl took.gained }

@@ -1,8 +1,12 @@
--- What a line that asks for routes comes to.
+-- What a line that asks for routes, rows or usage comes to.
 use Rattle.std.proofs.Common.{◌≡◌, ◌↔◌, ◌<◌, ℕ, ◌+◌, arith, ltb-true, lt-ltb, Bool, true, false, inl, List, [], Option, Some, None, Result, Ok, Err, refl, sym, ap, ◌∙◌, subst}
 use Rattle.std.specs.Prelude.{IfOk, nat_lt}
 use Rattle.ipam_model.specs.Cluster.{Running}
 use Rattle.ipam_model.specs.History.{store_at}
+use Rattle.ipam_records.specs.declared.key.Key.{Key}
+use Rattle.ipam_words.specs.declared.kind.RowKind.{RowKind}
+use Rattle.ipam_pages.specs.declared.page.Page.{Page}
+use Rattle.ipam_show.specs.declared.usage.PoolUsage.{PoolUsage}
 use Rattle.ipam_feed.specs.declared.route.Route.{Route}
 use Rattle.ipam_feed.specs.declared.change.Change.{Change}
 use Rattle.ipam_feed.specs.declared.fault.SinceFault.{SinceFault}
@@ -18,7 +22,8 @@ use Rattle.ipam_shared.specs.PassValue.{PassValue}
 use Rattle.ipam_shared.specs.Passes.{runs_in}
 use Rattle.ipam_serve.specs.declared.ran.Broken.{Broken}
 use Rattle.ipam_serve.specs.Gains.{Took}
-use Rattle.ipam_serve.specs.Lines.{Breaks, Replies, Server, server_at, since_in}
+use Rattle.ipam_serve.specs.Lines.{Breaks, Replies, Server, page_seen, server_at, since_in}
+use Rattle.ipam_serve.specs.Looks.{IsUsage}
 use Rattle.ipam_serve.specs.Runs.{IsAtRest}
 use Rattle.ipam_serve.specs.Turns.{IsToldOf}
 use Rattle.ipam_serve.proofs.LineParts.{reads-none}
@@ -103,6 +108,30 @@ module _ (server : Server) (new : PassValue) (took : Took server.taker.pass [] 1
     replied = ap (λ (s : Since). Some (reply.RoutesSince s)) (sym is);
   }
 
+  pub page-replies : (kind : RowKind) (after : Option Key) (page : Page) → page ≡ page_seen new kind after → new.left + 1 ≡ server.taker.pass.left
+      → Replies (Some (wish.Rows kind after)) (reply.Rows page) server (server_at new server.taker.turns server.ahead)
+  page-replies kind after page is one = record {
+    at = 0;
+    answer = None;
+    opened = [];
+    does = record { entries = []; did = (refl, refl); took = took; passed = passed-nothing server.taker.turns };
+    reads = reads-none server.ahead;
+    turned = one;
+    replied = ap (λ (p : Page). Some (reply.Rows p)) (sym is);
+  }
+
+  pub usage-replies : (revision : ℕ) (pools : List PoolUsage) → IsUsage (store_at new.base new.seen) revision pools → new.left + 1 ≡ server.taker.pass.left
+      → Replies (Some wish.Usage) (reply.Usage revision pools) server (server_at new server.taker.turns server.ahead)
+  usage-replies revision pools are one = record {
+    at = 0;
+    answer = None;
+    opened = [];
+    does = record { entries = []; did = (refl, refl); took = took; passed = passed-nothing server.taker.turns };
+    reads = reads-none server.ahead;
+    turned = one;
+    replied = λ i. Some (reply.Usage (sym are.is_revision i) (sym are.are_pools i));
+  }
+
   took-two : Took server.taker.pass [] 2 new
   took-two = took-spared server.taker.pass new [] 1 2 (omega arith) took
 
@@ -111,6 +140,12 @@ module _ (server : Server) (new : PassValue) (took : Took server.taker.pass [] 1
 
   pub since-breaks : (revision : ℕ) → Breaks (Some (wish.RoutesSince revision)) server (server_at new server.taker.turns server.ahead)
   since-breaks revision = record { at = 0; does = record { entries = []; did = inl refl; took = took-two; passed = passed-nothing server.taker.turns }; reads = inl refl }
+
+  pub page-breaks : (kind : RowKind) (after : Option Key) → Breaks (Some (wish.Rows kind after)) server (server_at new server.taker.turns server.ahead)
+  page-breaks kind after = record { at = 0; does = record { entries = []; did = inl refl; took = took-two; passed = passed-nothing server.taker.turns }; reads = inl refl }
+
+  pub usage-breaks : Breaks (Some wish.Usage) server (server_at new server.taker.turns server.ahead)
+  usage-breaks = record { at = 0; does = record { entries = []; did = inl refl; took = took-two; passed = passed-nothing server.taker.turns }; reads = inl refl }
 
 -- what was at rest still is
 pub same-rests : (old new : PassValue) → runs_in new ≡ runs_in old → IsAtRest (runs_in old) → IsAtRest (runs_in new)

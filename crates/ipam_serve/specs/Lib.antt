@@ -1,5 +1,6 @@
 -- What a session makes of its slot, line by line.
 pub mod Asking
+pub mod Looks
 pub mod Gains
 pub mod Keeping
 pub mod Spans

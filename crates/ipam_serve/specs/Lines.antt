@@ -4,6 +4,11 @@ use Rattle.ipam_io.specs.Readings.{prepend_known_readings}
 use Rattle.ipam_model.specs.declared.answer.Answer.{Answer}
 use Rattle.ipam_model.specs.declared.request.Request.{Request}
 use Rattle.ipam_model.specs.declared.request.Request.TheVariants.{Collect}
+use Rattle.ipam_records.specs.declared.key.Key.{Key}
+use Rattle.ipam_words.specs.declared.kind.RowKind.{RowKind}
+use Rattle.ipam_pages.specs.declared.page.Page.{Page}
+use Rattle.ipam_pages.specs.Page.{page_in}
+use Rattle.ipam_show.specs.Usage.{pools_usage}
 use Rattle.ipam_feed.specs.Feed.{changes_since}
 use Rattle.ipam_feed.specs.Route.{routes_in}
 use Rattle.ipam_kept.specs.Feed.{floor_in, writes_in}
@@ -62,6 +67,8 @@ deed_of (Some (wish.Feed live)) runs at =
 deed_of (Some wish.Stop) runs at = if is_waiting runs then Stops else Nothing
 deed_of (Some wish.Routes) runs at = Nothing
 deed_of (Some (wish.RoutesSince revision)) runs at = Nothing
+deed_of (Some (wish.Rows kind after)) runs at = Nothing
+deed_of (Some wish.Usage) runs at = Nothing
 deed_of (Some wish.Opened) runs at = Nothing
 
 -- The clock is read for a collection that is to be begun, and for a second list while one waits.
@@ -73,6 +80,8 @@ reads_clock (Some (wish.Feed live)) runs = is_waiting runs
 reads_clock (Some wish.Stop) runs = false
 reads_clock (Some wish.Routes) runs = false
 reads_clock (Some (wish.RoutesSince revision)) runs = false
+reads_clock (Some (wish.Rows kind after)) runs = false
+reads_clock (Some wish.Usage) runs = false
 reads_clock (Some wish.Opened) runs = false
 
 abbrev pub reading : Bool → (at : ℕ) → List ℕ
@@ -87,6 +96,10 @@ since_in pass revision =
     else (if nat_lt (store_at pass.base pass.seen).counter revision then Ahead (store_at pass.base pass.seen).counter
     else Changes (store_at pass.base pass.seen).counter (changes_since pass.base.store (writes_in pass.seen) revision))
 
+-- the page of the rows of a kind after a key, at the end of what the pass has seen
+abbrev pub page_seen : PassValue → RowKind → (after : Option Key) → Page
+page_seen pass kind after = page_in (store_at pass.base pass.seen) kind after
+
 -- on what the reply rests: what the pass has seen before the line and after it, and the text of the
 -- opening
 abbrev pub standing : (old new : PassValue) (at : ℕ) → Option Answer → (opened : List ℕ) → Standing
@@ -98,6 +111,8 @@ standing old new at answer opened = record {
   revision = (store_at new.base new.seen).counter;
   routes = routes_in (store_at new.base new.seen);
   since = since_in new;
+  page = page_seen new;
+  usage = pools_usage (store_at new.base new.seen);
   opened = opened;
 }
 
@@ -113,7 +128,7 @@ pub record Server : Type 0 where
 abbrev pub server_at : PassValue → (turns : Option ℕ) → (ahead : Option (ℕ → ℕ)) → Server
 server_at pass turns ahead = record { taker = record { pass = pass; turns = turns }; ahead = ahead }
 
--- a line on routes takes one turn, and what it is replied is from that turn
+-- a line on routes, rows or usage takes one turn, and what it is replied is from that turn
 abbrev pub TakesTurn : Option Wish → (old new : PassValue) → Type 0
 TakesTurn None old new = ⊤
 TakesTurn (Some (wish.Cni env stdin)) old new = ⊤
@@ -122,6 +137,8 @@ TakesTurn (Some (wish.Feed live)) old new = ⊤
 TakesTurn (Some wish.Stop) old new = ⊤
 TakesTurn (Some wish.Routes) old new = new.left + 1 ≡ old.left
 TakesTurn (Some (wish.RoutesSince revision)) old new = new.left + 1 ≡ old.left
+TakesTurn (Some (wish.Rows kind after)) old new = new.left + 1 ≡ old.left
+TakesTurn (Some wish.Usage) old new = new.left + 1 ≡ old.left
 TakesTurn (Some wish.Opened) old new = ⊤
 
 -- a wish was done, and this is its reply
@@ -162,6 +179,8 @@ wants_turn (Some (wish.Feed live)) waits = waits
 wants_turn (Some wish.Stop) waits = waits
 wants_turn (Some wish.Routes) waits = true
 wants_turn (Some (wish.RoutesSince revision)) waits = true
+wants_turn (Some (wish.Rows kind after)) waits = true
+wants_turn (Some wish.Usage) waits = true
 wants_turn (Some wish.Opened) waits = false
 
 -- the line begins, feeds or calls, which a full history has no room for
@@ -173,6 +192,8 @@ wants_entry (Some (wish.Feed live)) = true
 wants_entry (Some wish.Stop) = false
 wants_entry (Some wish.Routes) = false
 wants_entry (Some (wish.RoutesSince revision)) = false
+wants_entry (Some (wish.Rows kind after)) = false
+wants_entry (Some wish.Usage) = false
 wants_entry (Some wish.Opened) = false
 
 -- No answer was recorded: the slot gained no entry, or what was begun still runs.

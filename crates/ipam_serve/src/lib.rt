@@ -5,6 +5,7 @@
 mod ends;
 mod gates;
 mod lines;
+mod looks;
 mod opening;
 mod patience;
 mod ran;
@@ -19,7 +20,7 @@ pub use ipam_session::{Refusal, Reply};
 pub use ipam_shared::{Keeper, Pass, Shared};
 pub use lines::answer_line;
 pub use opening::Opening;
-pub use patience::{Patience, Sleeps};
+pub use patience::Patience;
 pub use ran::{Broken, Ran};
 pub use requests::{run_call, run_feed, run_request};
 pub use session::serve_session;

@@ -24,11 +24,14 @@ use crate::opening::Opening;
 use crate::patience::Patience;
 use crate::ran::{Broken, Ran};
 use crate::requests::{run_call, run_feed, run_request};
-use crate::turns::{routes, routes_since, stop};
+use crate::turns::{page, routes, routes_since, stop, usage};
 use cni_types::Version;
 use ipam_io::Clock;
 use ipam_model::{Answer, Request};
-use ipam_session::{AskFault, CallBegun, Refusal, Reply, Wish, begin_call, read_wish, tell_call};
+use ipam_records::Key;
+use ipam_session::{
+    AskFault, CallBegun, Refusal, Reply, RowKind, Wish, begin_call, read_wish, tell_call,
+};
 use ipam_shared::{Keeper, Pass, Shared};
 use ipam_text::{Seq, Text};
 use std::alloc::{AllocError, Global};
@@ -151,6 +154,8 @@ fn answer_wish<R: Wait, D: Keeper, G: SessionGate, C: Clock, P: Patience>(
         Wish::Stop => answer_stop(rt, shared, pass),
         Wish::Routes => answer_routes(rt, shared, pass),
         Wish::RoutesSince(revision) => answer_since(rt, shared, pass, revision),
+        Wish::Rows(kind, after) => answer_rows(rt, alloc, shared, pass, kind, after),
+        Wish::Usage => answer_usage(rt, alloc, shared, pass),
         Wish::Opened => answer_opened(alloc, opening),
     }
 }
@@ -410,6 +415,84 @@ fn answer_since<R: Wait, D: Keeper>(
 {
     match routes_since(rt, shared, pass, revision) {
         Ok(since) => Ok(Reply::RoutesSince(since)),
+        Err(broken) => Err(broken),
+    }
+}
+
+/// A page of rows.
+fn answer_rows<R: Wait, D: Keeper>(
+    rt: &R,
+    alloc: Global,
+    shared: &Shared<D>,
+    pass: &mut Pass,
+    kind: RowKind,
+    after: Option<Key>,
+) -> Result<Reply, Broken>
+    requires lock { pass.old.lock ≡ shared.now }
+    requires rests { IsAtRest (runs_in pass.old) }
+    ensures replied { (turns : Option ℕ) (ahead : Option (ℕ → ℕ)) → IfOk result (λ reply. Replies (Some (wish.Rows kind after)) reply
+        (server_at pass.old turns ahead)
+        (server_at pass.new turns ahead)) }
+    ensures broken { (turns : Option ℕ) (ahead : Option (ℕ → ℕ)) → OnErr result (Breaks (Some (wish.Rows kind after))
+        (server_at pass.old turns ahead)
+        (server_at pass.new turns ahead)) }
+    ensures rests { IsAtRest (runs_in pass.new) }
+    ensures worn { OnWorn result (WearsOut (Some (wish.Rows kind after)) pass.old pass.new) }
+    ensures not_halted { OnHalted result ⊥ }
+    ensures keeper { MakesCalls D.rows D.given D.faults pass.old pass.new }
+{
+    answer_page(rt, alloc, shared, pass, kind, &after)
+}
+
+fn answer_page<R: Wait, D: Keeper>(
+    rt: &R,
+    alloc: Global,
+    shared: &Shared<D>,
+    pass: &mut Pass,
+    kind: RowKind,
+    after: &Option<Key>,
+) -> Result<Reply, Broken>
+    requires lock { pass.old.lock ≡ shared.now }
+    requires rests { IsAtRest (runs_in pass.old) }
+    ensures replied { (turns : Option ℕ) (ahead : Option (ℕ → ℕ)) → IfOk result (λ reply. Replies (Some (wish.Rows kind after.now)) reply
+        (server_at pass.old turns ahead)
+        (server_at pass.new turns ahead)) }
+    ensures broken { (turns : Option ℕ) (ahead : Option (ℕ → ℕ)) → OnErr result (Breaks (Some (wish.Rows kind after.now))
+        (server_at pass.old turns ahead)
+        (server_at pass.new turns ahead)) }
+    ensures rests { IsAtRest (runs_in pass.new) }
+    ensures worn { OnWorn result (WearsOut (Some (wish.Rows kind after.now)) pass.old pass.new) }
+    ensures not_halted { OnHalted result ⊥ }
+    ensures keeper { MakesCalls D.rows D.given D.faults pass.old pass.new }
+{
+    match page(rt, alloc, shared, pass, kind, after) {
+        Ok(page) => Ok(Reply::Rows(page)),
+        Err(broken) => Err(broken),
+    }
+}
+
+/// What each pool is used for.
+fn answer_usage<R: Wait, D: Keeper>(
+    rt: &R,
+    alloc: Global,
+    shared: &Shared<D>,
+    pass: &mut Pass,
+) -> Result<Reply, Broken>
+    requires lock { pass.old.lock ≡ shared.now }
+    requires rests { IsAtRest (runs_in pass.old) }
+    ensures replied { (turns : Option ℕ) (ahead : Option (ℕ → ℕ)) → IfOk result (λ reply. Replies (Some wish.Usage) reply
+        (server_at pass.old turns ahead)
+        (server_at pass.new turns ahead)) }
+    ensures broken { (turns : Option ℕ) (ahead : Option (ℕ → ℕ)) → OnErr result (Breaks (Some wish.Usage)
+        (server_at pass.old turns ahead)
+        (server_at pass.new turns ahead)) }
+    ensures rests { IsAtRest (runs_in pass.new) }
+    ensures worn { OnWorn result (WearsOut (Some wish.Usage) pass.old pass.new) }
+    ensures not_halted { OnHalted result ⊥ }
+    ensures keeper { MakesCalls D.rows D.given D.faults pass.old pass.new }
+{
+    match usage(rt, alloc, shared, pass) {
+        Ok((revision, pools)) => Ok(Reply::Usage(revision, Seq::of(pools))),
         Err(broken) => Err(broken),
     }
 }

@@ -58,13 +58,18 @@ pub fn run_request<R: Wait, D: Keeper, G: SessionGate, P: Patience>(
     ensures keeper { MakesCalls D.rows D.given D.faults pass.old pass.new }
     ensures lines { G.lines gate.new ≡ G.lines gate.old }
 {
+    patience.enter(rt);
     match begin(rt, alloc, shared, pass, request) {
         Ok(()) => run_on(rt, alloc, shared, pass, gate, patience),
-        Err(broken) => Err(broken),
+        Err(broken) => {
+            patience.leave();
+            Err(broken)
+        }
     }
 }
 
-/// Goes on with what runs to its answer, or until it waits. Where it lost a race it lets others finish.
+/// Goes on with what runs to its answer, or until it waits, and lets those go on that came after. Where it
+/// lost a race it lets others finish.
 pub(crate) fn run_on<R: Wait, D: Keeper, G: SessionGate, P: Patience>(
     rt: &R,
     alloc: Global,
@@ -93,9 +98,15 @@ pub(crate) fn run_on<R: Wait, D: Keeper, G: SessionGate, P: Patience>(
     let mut losses = Losses::none();
     loop {
         match step_on(rt, alloc, shared, pass, gate, &mut losses) {
-            Ok(Some(ran)) => return Ok(ran),
+            Ok(Some(ran)) => {
+                patience.leave();
+                return Ok(ran);
+            }
             Ok(None) => losses.wait(rt, patience),
-            Err(broken) => return Err(broken),
+            Err(broken) => {
+                patience.leave();
+                return Err(broken);
+            }
         }
     }
 }
@@ -228,10 +239,17 @@ pub fn run_feed<R: Wait, D: Keeper, G: SessionGate, P: Patience>(
     ensures keeper { MakesCalls D.rows D.given D.faults pass.old pass.new }
     ensures lines { G.lines gate.new ≡ G.lines gate.old }
 {
+    patience.enter(rt);
     match feed(rt, alloc, shared, pass, live, at) {
         Ok(Feeding::Fed) => run_fed(rt, alloc, shared, pass, gate, patience),
-        Ok(Feeding::TooSoon) => Ok(None),
-        Err(broken) => Err(broken),
+        Ok(Feeding::TooSoon) => {
+            patience.leave();
+            Ok(None)
+        }
+        Err(broken) => {
+            patience.leave();
+            Err(broken)
+        }
     }
 }
 

@@ -1,5 +1,5 @@
 //! One turn of a session's slot. Each leaves a turn for the last stop.
-ghost use Rattle.std.specs.Prelude.{◌≡◌, ◌≢◌, ◌⊎◌, ◌+◌, ◌<◌, ◌≤◌, ◌^◌, [], ◌∷◌, Some, None, Ok, Err, true, false, IsSome, IfOk, OnOk, OnErr, ℕ};
+ghost use Rattle.std.specs.Prelude.{◌≡◌, ◌≢◌, ◌⊎◌, ◌+◌, ◌<◌, ◌≤◌, ◌^◌, [], ◌∷◌, Some, None, Ok, Err, true, false, IsSome, IfOk, IfSome, IfNone, OnOk, OnErr, ℕ};
 ghost use Rattle.std.specs.List.{All};
 ghost use Rattle.ipam_records.specs.Sound.{IsHandleId};
 ghost use Rattle.ipam_model.specs.declared.entry.Entry.TheVariants as entry;
@@ -12,15 +12,20 @@ ghost use Rattle.ipam_serve.specs.Faults.{IsWorn, OnHalted, OnWorn};
 ghost use Rattle.ipam_serve.specs.Gains.{Took, asked_in, is_early, is_waiting};
 ghost use Rattle.ipam_serve.specs.Keeping.{MakesCalls};
 ghost use Rattle.ipam_kept.specs.Feed.{AreRoutes};
-ghost use Rattle.ipam_serve.specs.Lines.{since_in};
+ghost use Rattle.ipam_model.specs.History.{store_at};
+ghost use Rattle.ipam_serve.specs.Lines.{page_seen, since_in};
+ghost use Rattle.ipam_serve.specs.Looks.{IsUsage};
 ghost use Rattle.ipam_serve.specs.Turns.{Called, Fed, IsToldOf, answer_told};
 
+use crate::looks::{PageLook, UsageLook};
 use crate::patience::Losses;
 use crate::ran::{Broken, Ran};
 use ipam_model::{Answer, Entry, Request};
-use ipam_session::{Route, Since};
+use ipam_records::Key;
+use ipam_session::{Page, PoolUsage, Route, RowKind, Since};
 use ipam_shared::{
-    BeginFault, FeedFault, Keeper, Pass, PrepareFault, Shared, SharedFault, SinceFault, SpentPass,
+    BeginFault, FeedFault, Keeper, Look, Pass, PrepareFault, Shared, SharedFault, SinceFault,
+    SpentPass,
 };
 use ipam_text::{Seq, Text};
 use std::alloc::Global;
@@ -267,5 +272,74 @@ fn not_told(fault: SharedFault<SinceFault>) -> Result<Since, Broken>
             SinceFault::Ahead(counter) => Ok(Since::Ahead(counter)),
             SinceFault::Memory => Err(Broken::Memory),
         },
+    }
+}
+
+/// What the look tells of the datastore. None where too few turns are left.
+fn look<R: Wait, D: Keeper, L: Look + Drop>(
+    rt: &R,
+    shared: &Shared<D>,
+    pass: &mut Pass,
+    look: L,
+) -> Option<L::Told>
+    requires lock { pass.old.lock ≡ shared.now }
+    ensures took { Took pass.old [] 1 pass.new }
+    ensures one { IfSome result (λ told. pass.new.left + 1 ≡ pass.old.left) }
+    ensures runs { runs_in pass.new ≡ runs_in pass.old }
+    ensures told { IfSome result (λ told. L.tells look (store_at pass.new.base pass.new.seen) told) }
+    ensures worn { IfNone result (pass.new.left < 2) }
+{
+    if pass.left() < 2 {
+        return None;
+    }
+    match shared.look(rt, pass, look) {
+        Ok(told) => Some(told),
+        Err(SpentPass) => unreachable!(),
+    }
+}
+
+/// A page of the rows of the kind after this key, or from the first on.
+pub(crate) fn page<R: Wait, D: Keeper>(
+    rt: &R,
+    alloc: Global,
+    shared: &Shared<D>,
+    pass: &mut Pass,
+    kind: RowKind,
+    after: &Option<Key>,
+) -> Result<Page, Broken>
+    requires lock { pass.old.lock ≡ shared.now }
+    ensures took { Took pass.old [] 1 pass.new }
+    ensures one { OnOk result (pass.new.left + 1 ≡ pass.old.left) }
+    ensures runs { runs_in pass.new ≡ runs_in pass.old }
+    ensures told { IfOk result (λ page. page ≡ page_seen pass.new kind after.now) }
+    ensures worn { OnWorn result (pass.new.left < 2) }
+    ensures not_halted { OnHalted result ⊥ }
+{
+    match look(rt, shared, pass, PageLook { alloc, kind, after }) {
+        Some(Ok(page)) => Ok(page),
+        Some(Err(_)) => Err(Broken::Memory),
+        None => Err(Broken::Worn),
+    }
+}
+
+/// The datastore's revision, and what each pool is used for.
+pub(crate) fn usage<R: Wait, D: Keeper>(
+    rt: &R,
+    alloc: Global,
+    shared: &Shared<D>,
+    pass: &mut Pass,
+) -> Result<(u64, Vec<PoolUsage>), Broken>
+    requires lock { pass.old.lock ≡ shared.now }
+    ensures took { Took pass.old [] 1 pass.new }
+    ensures one { OnOk result (pass.new.left + 1 ≡ pass.old.left) }
+    ensures runs { runs_in pass.new ≡ runs_in pass.old }
+    ensures told { IfOk result (λ usage. IsUsage (store_at pass.new.base pass.new.seen) usage.0 usage.1.items) }
+    ensures worn { OnWorn result (pass.new.left < 2) }
+    ensures not_halted { OnHalted result ⊥ }
+{
+    match look(rt, shared, pass, UsageLook { alloc }) {
+        Some(Ok(usage)) => Ok(usage),
+        Some(Err(_)) => Err(Broken::Memory),
+        None => Err(Broken::Worn),
     }
 }

@@ -3,11 +3,14 @@
 use ipam_serve::Patience;
 use std::sync::Wait;
 
-/// Counts the waits, and keeps after how many losses each came.
+/// Counts the waits, keeps after how many losses the last one came, and counts how often it was entered and
+/// left.
 #[derive(Drop)]
 pub(crate) struct Counting {
     pub(crate) waits: u32,
     pub(crate) losses: u32,
+    pub(crate) entered: u32,
+    pub(crate) left: u32,
 }
 
 impl Counting {
@@ -15,13 +18,23 @@ impl Counting {
         Counting {
             waits: 0,
             losses: 0,
+            entered: 0,
+            left: 0,
         }
     }
 }
 
 impl Patience for Counting {
+    fn enter<R: Wait>(&mut self, _rt: &R) {
+        self.entered = self.entered.wrapping_add(1);
+    }
+
     fn wait<R: Wait>(&mut self, _rt: &R, losses: u32) {
         self.waits = self.waits.wrapping_add(1);
         self.losses = losses;
+    }
+
+    fn leave(&mut self) {
+        self.left = self.left.wrapping_add(1);
     }
 }

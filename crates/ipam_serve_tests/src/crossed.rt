@@ -10,13 +10,12 @@ use ipam_shared::{Keeper, Kept, Pass, Shared};
 use std::alloc::{AllocError, Global};
 use std::sync::Wait;
 
-/// What is told of the two sessions, and how often the first one waited.
+/// What is told of the two sessions, and what the first one asked of its patience.
 #[derive(Drop)]
 pub(crate) struct Crossed {
     pub(crate) first: String,
     pub(crate) other: String,
-    pub(crate) waits: u32,
-    pub(crate) losses: u32,
+    pub(crate) patience: Counting,
 }
 
 /// A gate that never stops, and serves another session at one of its passes.
@@ -142,7 +141,6 @@ fn both<R: Wait, D: Keeper>(
     Ok(Crossed {
         first: told,
         other: others,
-        waits: patience.waits,
-        losses: patience.losses,
+        patience,
     })
 }

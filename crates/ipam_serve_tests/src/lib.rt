@@ -7,7 +7,11 @@ mod counting;
 #[cfg(test)]
 mod crossed;
 #[cfg(test)]
+mod pages;
+#[cfg(test)]
 mod play;
+#[cfg(test)]
+mod queues;
 #[cfg(test)]
 mod scenarios;
 #[cfg(test)]

@@ -18,7 +18,7 @@ const SESSION: &str = "\nsession ";
 const OPENED: &str = "7-00000000000000fe";
 
 /// How many bytes can be written to a link.
-const ROOM: usize = 65_536;
+const ROOM: usize = 1_048_576;
 
 /// The most entries that a cluster may be opened with.
 const MOST_FIRST: u64 = 1 << 62;

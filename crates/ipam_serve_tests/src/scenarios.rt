@@ -231,6 +231,75 @@ They are told while a collection waits, which goes on as before.
 < {"answer":{"collected":{"b1":1,"b2":3,"items":[]}}}
 session closed"#;
 
+/// Lines that ask for pages of rows.
+pub(crate) const ROWS: &str = r#"The rows of a kind are told, from the first on or after a key.
+> {"rows":"handle"}
+< {"revision":4,"rows":[{"body":"{\"block\":{\"10.0.0.0/30\":1},\"handleID\":\"n.c1\"}","key":"handle/n.c1","revision":4}]}
+> {"rows":"handle","after":"handle/n.c0"}
+< {"revision":4,"rows":[{"body":"{\"block\":{\"10.0.0.0/30\":1},\"handleID\":\"n.c1\"}","key":"handle/n.c1","revision":4}]}
+> {"rows":"handle","after":"handle/n.c1"}
+< {"revision":4,"rows":[]}
+> {"rows":"affinity"}
+< {"revision":4,"rows":[{"body":"{\"cidr\":\"10.0.0.0/30\",\"node\":\"a\",\"state\":\"confirmed\"}","key":"affinity/a/10.0.0.0/30","revision":2}]}
+> {"rows":"affinity","after":"affinity/a/10.0.0.0/29"}
+< {"revision":4,"rows":[{"body":"{\"cidr\":\"10.0.0.0/30\",\"node\":\"a\",\"state\":\"confirmed\"}","key":"affinity/a/10.0.0.0/30","revision":2}]}
+> {"rows":"affinity","after":"affinity/b/10.0.0.0/30"}
+< {"revision":4,"rows":[]}
+> {"rows":"pools"}
+< {"revision":4,"rows":[{"body":"{\"pools\":[{\"blockSize\":30,\"cidr\":\"10.0.0.0/29\",\"disabled\":false,\"name\":\"p\"}]}","key":"pools","revision":1}]}
+> {"rows":"pools","after":"pools"}
+< {"revision":4,"rows":[]}
+> {"rows":"config"}
+< {"revision":4,"rows":[]}
+> {"rows":"reservations"}
+< {"revision":4,"rows":[]}
+> {"usage":true}
+< {"pools":[{"addresses":"8","blocks":1,"cidr":"10.0.0.0/29","disabled":false,"free":3,"name":"p","reserved":0,"used":1}],"revision":4}
+> {"request":{"reserve":{"cidrs":["10.0.0.0/31"],"name":"r"}}}
+< {"answer":{"done":{"revision":5}}}
+> {"request":{"pool":{"cidr":"2001:db8::/32","name":"q","size":122}}}
+< {"answer":{"done":{"revision":6}}}
+> {"usage":true}
+< {"pools":[{"addresses":"8","blocks":1,"cidr":"10.0.0.0/29","disabled":false,"free":2,"name":"p","reserved":1,"used":1},{"addresses":"79228162514264337593543950336","blocks":0,"cidr":"2001:db8::/32","disabled":false,"free":0,"name":"q","reserved":0,"used":0}],"revision":6}
+> {"usage":false}
+< {"refused":"line"}
+session closed
+
+Lines that name no kind, or no key of the kind, are refused.
+> {"rows":"rows"}
+< {"refused":"line"}
+> {"rows":true}
+< {"refused":"line"}
+> {"rows":"handle","after":"n.c1"}
+< {"refused":"line"}
+> {"rows":"handle","after":"block/10.0.0.0/30"}
+< {"refused":"line"}
+> {"rows":"handle","after":null}
+< {"refused":"line"}
+> {"rows":"handle","x":true}
+< {"refused":"line"}
+> {"after":"handle/n.c1"}
+< {"refused":"line"}
+session closed
+
+What a request writes is in the next page, and so is the revision.
+> {"request":{"add":{"handle":"n.c2","node":"a"}}}
+< {"answer":{"added":[{"address":"10.0.0.1","b":5,"c":1,"f":4,"p":2,"r":3,"w":8}]}}
+> {"rows":"handle","after":"handle/n.c1"}
+< {"revision":6,"rows":[{"body":"{\"block\":{\"10.0.0.0/30\":1},\"handleID\":\"n.c2\"}","key":"handle/n.c2","revision":5}]}
+> {"rows":"block"}
+< {"revision":6,"rows":[{"body":"{\"affinity\":\"host:a\",\"allocations\":[0,1,null,null],\"attributes\":[{\"handle_id\":\"n.c1\",\"secondary\":{}},{\"handle_id\":\"n.c2\",\"secondary\":{}}],\"cidr\":\"10.0.0.0/30\",\"sequenceNumber\":2,\"sequenceNumberForAllocation\":{\"0\":1,\"1\":2},\"unallocated\":[2,3]}","key":"block/10.0.0.0/30","revision":6}]}
+session closed
+
+They are told while a collection waits, which goes on as before.
+> {"request":{"collect":{"live":["n.c1"]}}}
+< {"waiting":true}
+> {"rows":"config"}
+< {"revision":4,"rows":[]}
+> {"feed":["n.c1"]}
+< {"answer":{"collected":{"b1":1,"b2":3,"items":[]}}}
+session closed"#;
+
 /// How sessions end.
 pub(crate) const ENDS: &str = r#"Nothing comes in.
 session closed
@@ -354,3 +423,13 @@ session closed
 pub(crate) const ADD_FIRST: &str = r#"> {"request":{"add":{"handle":"n.c1","node":"a"}}}"#;
 
 pub(crate) const ADD_OTHER: &str = r#"> {"request":{"add":{"handle":"n.c2","node":"a"}}}"#;
+
+/// A session that asks for the handles twice.
+pub(crate) const HANDLES_TWICE: &str = r#"> {"rows":"handle"}
+> {"rows":"handle"}"#;
+
+/// What it is told, where another is served before its second line.
+pub(crate) const HANDLES_LEFT: &str = r#"< {"revision":3,"rows":[]}
+< {"revision":5,"rows":[{"body":"{\"block\":{\"10.0.0.0/30\":1},\"handleID\":\"n.c2\"}","key":"handle/n.c2","revision":4}]}
+session closed
+"#;

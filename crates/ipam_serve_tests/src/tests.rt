@@ -1,8 +1,9 @@
 use crate::crossed::cross;
+use crate::pages::{many_handles, pages_scenario};
 use crate::play::play;
 use crate::scenarios::{
-    ADD_FIRST, ADD_OTHER, CALLS, COLLECTIONS, ENDS, FREE, HELD, LONG, RELEASE, RELEASED, ROUTES,
-    ROUTES_LEFT, ROUTES_TWICE,
+    ADD_FIRST, ADD_OTHER, CALLS, COLLECTIONS, ENDS, FREE, HANDLES_LEFT, HANDLES_TWICE, HELD, LONG,
+    RELEASE, RELEASED, ROUTES, ROUTES_LEFT, ROUTES_TWICE, ROWS,
 };
 use std::alloc::{AllocError, Global};
 use std::process::Abort;
@@ -47,6 +48,30 @@ fn routes_are_told(rt: HostRuntime) -> Result<(), Fail> {
 }
 
 #[test]
+fn rows_are_told(rt: HostRuntime) -> Result<(), Fail> {
+    let count = played(&rt, rt.alloc(), HELD, ROWS)?;
+    assert_eq!(rt; count, 4);
+    Ok(())
+}
+
+#[test]
+fn a_full_page_says_that_there_are_more(rt: HostRuntime) -> Result<(), Fail> {
+    let rows = many_handles(rt.alloc(), FREE)?;
+    let scenario = pages_scenario(rt.alloc())?;
+    let count = played(&rt, rt.alloc(), rows.as_str(), scenario.as_str())?;
+    assert_eq!(rt; count, 1);
+    Ok(())
+}
+
+#[test]
+fn rows_are_those_that_another_session_left(rt: HostRuntime) -> Result<(), Fail> {
+    let crossed = cross(&rt, rt.alloc(), FREE, HANDLES_TWICE, 2, ADD_OTHER)?;
+    assert!(rt; crossed.other.as_str().contains("\"address\":\"10.0.0.0\""));
+    assert_eq!(rt; crossed.first.as_str(), HANDLES_LEFT);
+    Ok(())
+}
+
+#[test]
 fn ends_are_told(rt: HostRuntime) -> Result<(), Fail> {
     let count = played(&rt, rt.alloc(), FREE, ENDS)?;
     assert_eq!(rt; count, 10);
@@ -74,7 +99,9 @@ fn who_lost_a_race_waits_once(rt: HostRuntime) -> Result<(), Fail> {
     let crossed = cross(&rt, rt.alloc(), FREE, ADD_FIRST, 9, ADD_OTHER)?;
     assert!(rt; crossed.other.as_str().contains("\"address\":\"10.0.0.0\""));
     assert!(rt; crossed.first.as_str().contains("\"address\":\"10.0.0.1\""));
-    assert_eq!(rt; (crossed.waits, crossed.losses), (1, 1));
+    let patience = crossed.patience;
+    assert_eq!(rt; (patience.waits, patience.losses), (1, 1));
+    assert_eq!(rt; (patience.entered, patience.left), (1, 1));
     Ok(())
 }
 
@@ -82,6 +109,10 @@ fn who_lost_a_race_waits_once(rt: HostRuntime) -> Result<(), Fail> {
 fn who_lost_no_race_does_not_wait(rt: HostRuntime) -> Result<(), Fail> {
     let crossed = cross(&rt, rt.alloc(), FREE, ADD_FIRST, 1, ADD_OTHER)?;
     assert!(rt; crossed.first.as_str().contains("\"address\":\"10.0.0.1\""));
-    assert_eq!(rt; crossed.waits, 0);
+    let patience = crossed.patience;
+    assert_eq!(rt;
+        (patience.waits, patience.entered, patience.left),
+        (0, 1, 1)
+    );
     Ok(())
 }

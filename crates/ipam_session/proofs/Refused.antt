@@ -64,6 +64,8 @@ line_cause (Some (wish.Feed live)) s e =
 line_cause (Some wish.Stop) s e = let h = stop_refused s.waited Line e in absurd cc
 line_cause (Some wish.Routes) s e = absurd cc
 line_cause (Some (wish.RoutesSince revision)) s e = absurd cc
+line_cause (Some (wish.Rows kind key)) s e = absurd cc
+line_cause (Some wish.Usage) s e = absurd cc
 line_cause (Some wish.Opened) s e = absurd cc
 
 pub line_refused : (line : List ℕ) (s : Standing) → (reply_to_line line s ≡ refused Line) ↔ (wish_of_line line ≡ None)
@@ -81,6 +83,8 @@ waiting_cause (Some (wish.Feed live)) s e =
 waiting_cause (Some wish.Stop) s e = let h = stop_refused s.waited Waiting e in absurd cc
 waiting_cause (Some wish.Routes) s e = absurd cc
 waiting_cause (Some (wish.RoutesSince revision)) s e = absurd cc
+waiting_cause (Some (wish.Rows kind key)) s e = absurd cc
+waiting_cause (Some wish.Usage) s e = absurd cc
 waiting_cause (Some wish.Opened) s e = absurd cc
 
 waiting_effect : (found : Option Wish) (s : Standing) → IsTrue (begins found) → IsTrue s.waited → reply_unless_unread found s ≡ refused Waiting
@@ -91,6 +95,8 @@ waiting_effect (Some (wish.Feed live)) s h w = absurd cc
 waiting_effect (Some wish.Stop) s h w = absurd cc
 waiting_effect (Some wish.Routes) s h w = absurd cc
 waiting_effect (Some (wish.RoutesSince revision)) s h w = absurd cc
+waiting_effect (Some (wish.Rows kind key)) s h w = absurd cc
+waiting_effect (Some wish.Usage) s h w = absurd cc
 waiting_effect (Some wish.Opened) s h w = absurd cc
 
 pub waiting_refused : (line : List ℕ) (s : Standing) → (reply_to_line line s ≡ refused Waiting) ↔ (IsTrue (begins (wish_of_line line)) × IsTrue s.waited)
@@ -108,6 +114,8 @@ idle_cause (Some (wish.Feed live)) s e =
 idle_cause (Some wish.Stop) s e = (inr refl, (stop_refused s.waited NotWaiting e).0)
 idle_cause (Some wish.Routes) s e = absurd cc
 idle_cause (Some (wish.RoutesSince revision)) s e = absurd cc
+idle_cause (Some (wish.Rows kind key)) s e = absurd cc
+idle_cause (Some wish.Usage) s e = absurd cc
 idle_cause (Some wish.Opened) s e = absurd cc
 
 feeds_idle : (found : Option Wish) (s : Standing) → IsTrue (feeds found) → s.waited ≡ false → reply_unless_unread found s ≡ refused NotWaiting
@@ -118,6 +126,8 @@ feeds_idle (Some (wish.Feed live)) s h w = rw w refl
 feeds_idle (Some wish.Stop) s h w = absurd cc
 feeds_idle (Some wish.Routes) s h w = absurd cc
 feeds_idle (Some (wish.RoutesSince revision)) s h w = absurd cc
+feeds_idle (Some (wish.Rows kind key)) s h w = absurd cc
+feeds_idle (Some wish.Usage) s h w = absurd cc
 feeds_idle (Some wish.Opened) s h w = absurd cc
 
 stops_idle : (found : Option Wish) (s : Standing) → IsTrue (stops found) → s.waited ≡ false → reply_unless_unread found s ≡ refused NotWaiting
@@ -128,6 +138,8 @@ stops_idle (Some (wish.Feed live)) s h w = absurd cc
 stops_idle (Some wish.Stop) s h w = rw w refl
 stops_idle (Some wish.Routes) s h w = absurd cc
 stops_idle (Some (wish.RoutesSince revision)) s h w = absurd cc
+stops_idle (Some (wish.Rows kind key)) s h w = absurd cc
+stops_idle (Some wish.Usage) s h w = absurd cc
 stops_idle (Some wish.Opened) s h w = absurd cc
 
 idle_effect : (found : Option Wish) (s : Standing) → IsTrue (feeds found) ⊎ IsTrue (stops found) → s.waited ≡ false → reply_unless_unread found s ≡ refused NotWaiting
@@ -149,6 +161,8 @@ soon_cause (Some (wish.Feed live)) s e =
 soon_cause (Some wish.Stop) s e = let h = stop_refused s.waited TooSoon e in absurd cc
 soon_cause (Some wish.Routes) s e = absurd cc
 soon_cause (Some (wish.RoutesSince revision)) s e = absurd cc
+soon_cause (Some (wish.Rows kind key)) s e = absurd cc
+soon_cause (Some wish.Usage) s e = absurd cc
 soon_cause (Some wish.Opened) s e = absurd cc
 
 soon_effect : (found : Option Wish) (s : Standing) → IsTrue (feeds found) → IsTrue s.waited → IsTrue s.too_soon → reply_unless_unread found s ≡ refused TooSoon
@@ -159,6 +173,8 @@ soon_effect (Some (wish.Feed live)) s h w t = let is : s.waited ≡ true = w in 
 soon_effect (Some wish.Stop) s h w t = absurd cc
 soon_effect (Some wish.Routes) s h w t = absurd cc
 soon_effect (Some (wish.RoutesSince revision)) s h w t = absurd cc
+soon_effect (Some (wish.Rows kind key)) s h w t = absurd cc
+soon_effect (Some wish.Usage) s h w t = absurd cc
 soon_effect (Some wish.Opened) s h w t = absurd cc
 
 pub soon_refused : (line : List ℕ) (s : Standing) → (reply_to_line line s ≡ refused TooSoon) ↔ (IsTrue (feeds (wish_of_line line)) × IsTrue s.waited × IsTrue s.too_soon)

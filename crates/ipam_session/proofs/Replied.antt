@@ -93,6 +93,8 @@ wish_some (Some (wish.Feed live)) s found e h = rw e (feed_some s.waited s.too_s
 wish_some (Some wish.Stop) s found e h = stop_some s.waited
 wish_some (Some wish.Routes) s found e h = refl
 wish_some (Some (wish.RoutesSince revision)) s found e h = refl
+wish_some (Some (wish.Rows kind after)) s found e h = refl
+wish_some (Some wish.Usage) s found e h = refl
 wish_some (Some wish.Opened) s found e h = refl
 
 pub answered_line : (line : List ℕ) (s : Standing) (found : Answer) → s.answer ≡ Some found → AnswersWish (wish_of_line line) found → IsSome (reply_to_line line s)

@@ -11,6 +11,10 @@ use Rattle.ipam_session.specs.declared.refusal.Refusal.{Refusal}
 use Rattle.ipam_session.specs.declared.refusal.Refusal.TheVariants as refusal
 use Rattle.ipam_session.specs.declared.replies.Reply.{Reply}
 use Rattle.ipam_session.specs.declared.replies.Reply.TheVariants as reply
+use Rattle.ipam_records.specs.declared.key.Key.{Key}
+use Rattle.ipam_words.specs.declared.kind.RowKind.{RowKind}
+use Rattle.ipam_pages.specs.declared.page.Page.{Page}
+use Rattle.ipam_show.specs.declared.usage.PoolUsage.{PoolUsage}
 use Rattle.ipam_feed.specs.declared.route.Route.{Route as OneRoute}
 use Rattle.ipam_session.specs.declared.route.Since.{Since}
 use Rattle.ipam_session.specs.declared.wish.Wish.{Wish}
@@ -33,6 +37,10 @@ pub record Standing : Type 0 where
   pub routes : List OneRoute
   -- what became of the routes after a revision
   pub since : ℕ → Since
+  -- the page of the rows of a kind after a key
+  pub page : RowKind → (after : Option Key) → Page
+  -- what each pool is used for
+  pub usage : List PoolUsage
   -- the text of the opening of the datastore
   pub opened : List ℕ
 
@@ -67,6 +75,8 @@ reply_to (wish.Feed live) s =
 reply_to wish.Stop s = if s.waited then Some reply.Stopped else refused refusal.NotWaiting
 reply_to wish.Routes s = Some (reply.Routes s.revision s.routes)
 reply_to (wish.RoutesSince revision) s = Some (reply.RoutesSince (s.since revision))
+reply_to (wish.Rows kind after) s = Some (reply.Rows (s.page kind after))
+reply_to wish.Usage s = Some (reply.Usage s.revision s.usage)
 reply_to wish.Opened s = Some (reply.Opened s.opened)
 
 abbrev pub reply_unless_unread : Option Wish → Standing → Option Reply
@@ -87,6 +97,8 @@ AnswersWish (Some (wish.Feed live)) found = ⊤
 AnswersWish (Some wish.Stop) found = ⊤
 AnswersWish (Some wish.Routes) found = ⊤
 AnswersWish (Some (wish.RoutesSince revision)) found = ⊤
+AnswersWish (Some (wish.Rows kind after)) found = ⊤
+AnswersWish (Some wish.Usage) found = ⊤
 AnswersWish (Some wish.Opened) found = ⊤
 
 -- ---- what a line asks for
@@ -99,6 +111,8 @@ begins (Some (wish.Feed live)) = false
 begins (Some wish.Stop) = false
 begins (Some wish.Routes) = false
 begins (Some (wish.RoutesSince revision)) = false
+begins (Some (wish.Rows kind after)) = false
+begins (Some wish.Usage) = false
 begins (Some wish.Opened) = false
 
 abbrev pub feeds : Option Wish → Bool
@@ -109,6 +123,8 @@ feeds (Some (wish.Feed live)) = true
 feeds (Some wish.Stop) = false
 feeds (Some wish.Routes) = false
 feeds (Some (wish.RoutesSince revision)) = false
+feeds (Some (wish.Rows kind after)) = false
+feeds (Some wish.Usage) = false
 feeds (Some wish.Opened) = false
 
 abbrev pub stops : Option Wish → Bool
@@ -119,4 +135,6 @@ stops (Some (wish.Feed live)) = false
 stops (Some wish.Stop) = true
 stops (Some wish.Routes) = false
 stops (Some (wish.RoutesSince revision)) = false
+stops (Some (wish.Rows kind after)) = false
+stops (Some wish.Usage) = false
 stops (Some wish.Opened) = false

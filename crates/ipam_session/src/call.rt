@@ -1,4 +1,4 @@
-//! CNI calls of a session, from what they begin to what they are told.
+//! CNI calls of a session, from what they begin to the reply.
 ghost use Rattle.std.specs.Prelude.{◌≡◌, IsTrue, IfOk, Some};
 ghost use Rattle.ipam_model.specs.CanAnswer.{CanAnswer};
 ghost use Rattle.cni_types.specs.Sound.{IsSoundLook, IsSoundGc, IsSoundStatus};
@@ -16,9 +16,9 @@ use std::alloc::{AllocError, Global};
 /// What a call comes to before anything runs.
 #[derive(Debug, Drop)]
 pub enum CallBegun {
-    /// It is told this status and this text at once.
+    /// The reply is this status and this text, at once.
     Told(u8, Text),
-    /// This request is begun, whose answer is told in this version.
+    /// This request begins; the reply to its answer is in this version.
     Runs(Request, Version),
 }
 
@@ -92,7 +92,7 @@ fn begin_status(call: &CniStatus) -> Result<CallBegun, AllocError>
     Ok(CallBegun::Runs(Request::Probe(probe), call.version))
 }
 
-/// The status and the text that a call is told whose request came to this answer.
+/// The status and the text of the reply to a call whose request came to this answer.
 pub fn tell_call(
     alloc: Global,
     request: &Request,

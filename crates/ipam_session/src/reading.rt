@@ -4,12 +4,14 @@ ghost use Rattle.std.specs.Str.{is_utf8};
 ghost use Rattle.serde_json.specs.View.{view, members_view};
 ghost use Rattle.ipam_json.specs.Members.{only_if};
 ghost use Rattle.ipam_request_text.specs.Live.{live_in};
-ghost use Rattle.ipam_session.specs.Wishes.{says_time, request_wish, is_true, short_wish, named_wish, in_call, are_of_call, call_wish, wish_of_members, wish_in, wish_of_line, IsSoundWish};
+ghost use Rattle.ipam_session.specs.Wishes.{says_time, request_wish, is_true, rows_wish, short_wish, named_wish, in_page, are_of_page, page_wish, parts_wish, in_call, are_of_call, call_wish, wish_of_members, wish_in, wish_of_line, IsSoundWish};
 
 use crate::wish::Wish;
 use ipam_json::{json_of, only_member, text_at};
+use ipam_records::key_of_text;
 use ipam_request_text::{AskFault, live_in_json, pairs_in, request_in_json};
 use ipam_text::Text;
+use ipam_words::RowKind;
 use serde_json::{Map, Value};
 use std::alloc::{AllocError, Global};
 
@@ -61,7 +63,7 @@ fn wish_in(alloc: Global, json: &Value) -> Result<Option<Wish>, AllocError>
     };
     match only_member(members) {
         Some((name, value)) => named_wish(alloc, name, value),
-        None => call_wish(alloc, json),
+        None => parts_wish(alloc, json),
     }
 }
 
@@ -113,7 +115,7 @@ fn feed_wish(alloc: Global, value: &Value) -> Result<Option<Wish>, AllocError>
     }
 }
 
-/// What the members ask whose value is no more than `true` or a number.
+/// What the members ask whose value is no more than `true`, a number or a word.
 fn short_wish(name: &str, value: &Value) -> Option<Wish>
     ensures read { result ≡ short_wish name.now (view value.now) }
     ensures sound { IfSome result IsSoundWish }
@@ -124,10 +126,29 @@ fn short_wish(name: &str, value: &Value) -> Option<Wish>
         where_true(value, Wish::Routes)
     } else if name == "routesSince" {
         value.as_u64().map(Wish::RoutesSince)
+    } else if name == "rows" {
+        rows_wish(value)
+    } else if name == "usage" {
+        where_true(value, Wish::Usage)
     } else if name == "opened" {
         where_true(value, Wish::Opened)
     } else {
         None
+    }
+}
+
+/// The first page of the kind that the value names.
+#[tactic(auto, unfolding(crate::specs::Wishes::rows_wish))]
+fn rows_wish(value: &Value) -> Option<Wish>
+    ensures read { result ≡ rows_wish (view value.now) }
+    ensures sound { IfSome result IsSoundWish }
+{
+    let Some(word) = value.as_str() else {
+        return None;
+    };
+    match RowKind::of(word) {
+        Some(kind) => Some(Wish::Rows(kind, None)),
+        None => None,
     }
 }
 
@@ -140,6 +161,65 @@ fn where_true(value: &Value, wish: Wish) -> Option<Wish>
     } else {
         None
     }
+}
+
+/// What several members ask.
+fn parts_wish(alloc: Global, json: &Value) -> Result<Option<Wish>, AllocError>
+    ensures read { IfOk result (λ found. found ≡ parts_wish (view json.now)) }
+    ensures sound { IfOk result (λ found. IfSome found IsSoundWish) }
+{
+    if json.get("rows").is_some() {
+        page_wish(alloc, json)
+    } else {
+        call_wish(alloc, json)
+    }
+}
+
+#[tactic(auto, unfolding(crate::specs::Wishes::page_wish))]
+fn page_wish(alloc: Global, json: &Value) -> Result<Option<Wish>, AllocError>
+    ensures read { IfOk result (λ found. found ≡ page_wish (view json.now)) }
+    ensures sound { IfOk result (λ found. IfSome found IsSoundWish) }
+{
+    let Some(members) = json.as_object() else {
+        return Ok(None);
+    };
+    if !are_of_page(members) {
+        return Ok(None);
+    }
+    let Some(word) = text_at(json, "rows") else {
+        return Ok(None);
+    };
+    let Some(kind) = RowKind::of(word) else {
+        return Ok(None);
+    };
+    let Some(after) = text_at(json, "after") else {
+        return Ok(None);
+    };
+    if !kind.has(after) {
+        return Ok(None);
+    }
+    match key_of_text(alloc, after.as_bytes())? {
+        Some(key) => Ok(Some(Wish::Rows(kind, Some(key)))),
+        None => Ok(None),
+    }
+}
+
+/// Whether no member is unknown.
+fn are_of_page(members: &Map<String, Value>) -> bool
+    ensures { result ≡ are_of_page (members_view members.now.entries) }
+{
+    for (name, _) in members {
+        if !in_page(name.as_str()) {
+            return false;
+        }
+    }
+    true
+}
+
+fn in_page(name: &str) -> bool
+    ensures { result ≡ in_page name.now }
+{
+    name == "rows" || name == "after"
 }
 
 #[tactic(auto, unfolding(crate::specs::Wishes::call_wish))]

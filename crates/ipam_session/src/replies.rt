@@ -2,7 +2,9 @@
 ghost use Rattle.std.specs.Prelude.{◌≡◌, ◌++◌, [], ◌∷◌, map, codes, IfOk, OnOk, OnErr, string_bytes};
 ghost use Rattle.serde_json.specs.View.{view};
 ghost use Rattle.ipam_json.specs.Built.{object_of, array_of};
-ghost use Rattle.ipam_session.specs.Replies.{call_data, call_text, route_data, change_data, routes_data, changes_data, since_data, reply_data, reply_line};
+ghost use Rattle.ipam_records.specs.Key.{key_of};
+ghost use Rattle.ipam_records.specs.KeyText.{key_bytes};
+ghost use Rattle.ipam_session.specs.Replies.{call_data, call_text, route_data, change_data, routes_data, changes_data, since_data, row_data, page_data, pool_data, usage_data, reply_data, reply_line};
 
 use crate::refusal::Refusal;
 use crate::route::Since;
@@ -10,6 +12,9 @@ use ipam_answer_text::{answer_value, cidr_string};
 use ipam_feed::{Change, Route};
 use ipam_json::tagged;
 use ipam_model::Answer;
+use ipam_pages::Page;
+use ipam_records::{Record, key_text, to_text};
+use ipam_show::PoolUsage;
 use ipam_text::{Seq, Text};
 use serde_json::{Value, json};
 use std::alloc::{AllocError, Global};
@@ -31,6 +36,10 @@ pub enum Reply {
     Routes(u64, Seq<Route>),
     /// What became of the routes after the revision that the line names.
     RoutesSince(Since),
+    /// A page of rows.
+    Rows(Page),
+    /// The datastore's revision, and what each pool is used for.
+    Usage(u64, Seq<PoolUsage>),
     /// The text that this opening of the datastore has for itself.
     Opened(Text),
 }
@@ -89,6 +98,8 @@ fn reply_value(alloc: Global, reply: &Reply) -> Result<Value, AllocError>
         Reply::Refused(why) => refused_value(alloc, *why),
         Reply::Routes(revision, routes) => routes_value(alloc, *revision, routes.as_slice()),
         Reply::RoutesSince(since) => since_value(alloc, since),
+        Reply::Rows(page) => page_value(alloc, page),
+        Reply::Usage(revision, pools) => usage_value(alloc, *revision, pools.as_slice()),
         Reply::Opened(text) => opened_value(alloc, text.as_str()),
     }
 }
@@ -164,4 +175,75 @@ fn change_value(alloc: Global, change: &Change) -> Result<Value, AllocError>
     let cidr = cidr_string(alloc, change.route.cidr)?;
     let node = change.route.node.as_str();
     json!(in alloc; {"cidr": cidr, "node": node, "revision": change.revision, "up": change.up})
+}
+
+#[tactic(auto, unfolding(crate::specs::Replies::page_data))]
+fn page_value(alloc: Global, page: &Page) -> Result<Value, AllocError>
+    ensures { IfOk result (λ v. view v ≡ page_data page.now) }
+{
+    let rows = rows_value(alloc, page.rows.as_slice())?;
+    let revision = page.revision;
+    if page.more {
+        json!(in alloc; {"more": true, "revision": revision, "rows": rows})
+    } else {
+        json!(in alloc; {"revision": revision, "rows": rows})
+    }
+}
+
+fn rows_value(alloc: Global, rows: &[(u64, Record)]) -> Result<Value, AllocError>
+    ensures { IfOk result (λ v. view v ≡ array_of (map row_data rows.now)) }
+{
+    let mut list = Vec::new(alloc);
+    for row in rows {
+        list.push(row_value(alloc, row.0, &row.1)?)?;
+    }
+    Ok(Value::Array(list))
+}
+
+#[tactic(auto, unfolding(crate::specs::Replies::row_data))]
+fn row_value(alloc: Global, revision: u64, found: &Record) -> Result<Value, AllocError>
+    ensures { IfOk result (λ v. view v ≡ row_data (revision, found.now)) }
+{
+    let body = to_text(alloc, found)?;
+    let key = key_string(alloc, found)?;
+    json!(in alloc; {"body": body, "key": key, "revision": revision})
+}
+
+/// The text of the record's key.
+fn key_string(alloc: Global, found: &Record) -> Result<String, AllocError>
+    ensures { IfOk result (λ s. string_bytes s ≡ key_bytes (key_of found.now)) }
+{
+    let key = found.key(alloc)?;
+    key_text(alloc, &key)
+}
+
+#[tactic(auto, unfolding(crate::specs::Replies::usage_data))]
+fn usage_value(alloc: Global, revision: u64, pools: &[PoolUsage]) -> Result<Value, AllocError>
+    ensures { IfOk result (λ v. view v ≡ usage_data revision pools.now) }
+{
+    let mut list = Vec::new(alloc);
+    for pool in pools {
+        list.push(pool_value(alloc, pool)?)?;
+    }
+    let pools = Value::Array(list);
+    json!(in alloc; {"pools": pools, "revision": revision})
+}
+
+#[tactic(auto, unfolding(crate::specs::Replies::pool_data))]
+fn pool_value(alloc: Global, pool: &PoolUsage) -> Result<Value, AllocError>
+    ensures { IfOk result (λ v. view v ≡ pool_data pool.now) }
+{
+    let addresses = pool.addresses.as_str();
+    let cidr = cidr_string(alloc, pool.cidr)?;
+    let name = pool.name.as_str();
+    json!(in alloc; {
+        "addresses": addresses,
+        "blocks": pool.blocks,
+        "cidr": cidr,
+        "disabled": pool.disabled,
+        "free": pool.free,
+        "name": name,
+        "reserved": pool.reserved,
+        "used": pool.used
+    })
 }

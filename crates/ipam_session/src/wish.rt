@@ -1,5 +1,7 @@
 use ipam_model::Request;
+use ipam_records::Key;
 use ipam_text::{Seq, Text};
+use ipam_words::RowKind;
 
 /// What a line of a session asks.
 #[derive(Debug, Drop)]
@@ -16,6 +18,10 @@ pub enum Wish {
     Routes,
     /// What became of the routes after this revision.
     RoutesSince(u64),
+    /// A page of the rows of this kind: those after this key, or from the first on.
+    Rows(RowKind, Option<Key>),
+    /// What each pool is used for.
+    Usage,
     /// Which opening of the datastore this is.
     Opened,
 }

@@ -1,7 +1,8 @@
 //! Replies and their lines.
 use ipam_addr::read_cidr;
 use ipam_model::Answer;
-use ipam_session::{Change, Refusal, Reply, Route, Since, push_reply};
+use ipam_records::{Record, from_text};
+use ipam_session::{Change, Page, PoolUsage, Refusal, Reply, Route, Since, push_reply};
 use ipam_text::{Seq, Text};
 use std::alloc::{AllocError, Global};
 use std::test::Fail;
@@ -46,6 +47,10 @@ const REPLIES: &str = "\
 13 {\"compacted\":3}\n\
 14 {\"ahead\":6}\n\
 15 {\"opened\":\"7-00000000000000fe\"}\n\
+16 {\"more\":true,\"revision\":6,\"rows\":[{\"body\":\"{\\\"block\\\":{\\\"10.0.0.0/30\\\":1},\\\"handleID\\\":\\\"n.c1\\\"}\",\"key\":\"handle/n.c1\",\"revision\":4}]}\n\
+17 {\"revision\":6,\"rows\":[]}\n\
+18 {\"pools\":[{\"addresses\":\"4\",\"blocks\":1,\"cidr\":\"10.0.0.0/30\",\"disabled\":true,\"free\":2,\"name\":\"p\",\"reserved\":1,\"used\":3}],\"revision\":6}\n\
+19 {\"pools\":[],\"revision\":6}\n\
 ";
 
 fn reply_of(alloc: Global, number: u8) -> Result<Reply, AllocError> {
@@ -76,6 +81,14 @@ fn reply_of_routes(alloc: Global, number: u8) -> Result<Reply, AllocError> {
         13 => Ok(Reply::RoutesSince(Since::Compacted(3))),
         14 => Ok(Reply::RoutesSince(Since::Ahead(6))),
         15 => Ok(Reply::Opened(Text::copied(alloc, "7-00000000000000fe")?)),
+        16 => paged(alloc),
+        17 => Ok(Reply::Rows(Page {
+            revision: 6,
+            rows: Seq::new(alloc),
+            more: false,
+        })),
+        18 => used(alloc),
+        19 => Ok(Reply::Usage(6, Seq::new(alloc))),
         _ => Err(AllocError),
     }
 }
@@ -90,6 +103,44 @@ fn changed(alloc: Global) -> Result<Reply, AllocError> {
     Ok(Reply::RoutesSince(Since::Changes(6, Seq::of(changes))))
 }
 
+fn paged(alloc: Global) -> Result<Reply, AllocError> {
+    let rows = vec![in alloc; (4, handle(alloc)?)]?;
+    Ok(Reply::Rows(Page {
+        revision: 6,
+        rows: Seq::of(rows),
+        more: true,
+    }))
+}
+
+fn used(alloc: Global) -> Result<Reply, AllocError> {
+    let pools = vec![in alloc; pool(alloc)?]?;
+    Ok(Reply::Usage(6, Seq::of(pools)))
+}
+
+fn pool(alloc: Global) -> Result<PoolUsage, AllocError> {
+    let Ok(cidr) = read_cidr(b"10.0.0.0/30") else {
+        return Err(AllocError);
+    };
+    Ok(PoolUsage {
+        cidr,
+        name: Text::copied(alloc, "p")?,
+        disabled: true,
+        addresses: Text::copied(alloc, "4")?,
+        blocks: 1,
+        used: 3,
+        free: 2,
+        reserved: 1,
+    })
+}
+
+fn handle(alloc: Global) -> Result<Record, AllocError> {
+    let body = "{\"block\":{\"10.0.0.0/30\":1},\"handleID\":\"n.c1\"}";
+    match from_text(alloc, "handle/n.c1", body) {
+        Ok(found) => Ok(found),
+        Err(_) => Err(AllocError),
+    }
+}
+
 #[test]
 fn each_reply_has_its_line(rt: HostRuntime) -> Result<(), Fail> {
     let mut count = 0u8;
@@ -100,6 +151,6 @@ fn each_reply_has_its_line(rt: HostRuntime) -> Result<(), Fail> {
         assert_eq!(&rt; told.as_str().strip_suffix('\n'), Some(want));
         count = count.wrapping_add(1);
     }
-    assert_eq!(&rt; count, 15);
+    assert_eq!(&rt; count, 19);
     Ok(())
 }

@@ -1,6 +1,7 @@
 // Written by tools/tables/session_table.py: change that, and not this file.
 // Each row has a line of a session and what it asks, or `line` where it asks nothing that is known.
 use ipam_model::Request;
+use ipam_records::{Key, key_text};
 use ipam_request_text::{push_live, push_request};
 use ipam_session::{AskFault, Wish, read_wish};
 use ipam_text::Text;
@@ -25,6 +26,13 @@ const LINES_1: &str = "\
 {\"routesSince\":0}⇒since 0‡\n\
 {\"routesSince\":18446744073709551615}⇒since 18446744073709551615‡\n\
 {\"opened\":true}⇒opened‡\n\
+{\"usage\":true}⇒usage‡\n\
+{\"rows\":\"config\"}⇒rows config‡\n\
+{\"rows\":\"pools\",\"after\":\"pools\"}⇒rows pools after pools‡\n\
+{\"rows\":\"reservations\"}⇒rows reservations‡\n\
+{\"rows\":\"block\",\"after\":\"block/10.0.0.0/30\"}⇒rows block after block/10.0.0.0/30‡\n\
+{\"rows\":\"affinity\",\"after\":\"affinity/a/2001:db8::/122\"}⇒rows affinity after affinity/a/2001:db8::/122‡\n\
+{\"rows\":\"handle\",\"after\":\"handle/n.c1\"}⇒rows handle after handle/n.c1‡\n\
  { \"stop\" : true } ⇒stop‡\n\
 \t{\"routesSince\"\t:\t7}\r⇒since 7‡\n\
 {\"st\\u006fp\":true}⇒stop‡\n\
@@ -33,6 +41,9 @@ const LINES_1: &str = "\
 {\"env\":{\"A\":1,\"A\":\"2\"},\"stdin\":\"x\"}⇒call {\"env\":{\"A\":\"2\"},\"stdin\":\"x\"}‡\n\
 {\"stop\":false,\"stop\":true}⇒stop‡\n\
 {\"feed\":0,\"feed\":[\"a\"]}⇒feed [\"a\"]‡\n\
+{\"after\":\"handle/n.c1\",\"rows\":\"handle\"}⇒rows handle after handle/n.c1‡\n\
+{\"rows\":\"x\",\"rows\":\"handle\"}⇒rows handle‡\n\
+{\"rows\":\"block\",\"after\":\"block/10.0.0.0/29\",\"after\":\"block/10.0.0.0/30\"}⇒rows block after block/10.0.0.0/30‡\n\
 {\"request\":{\"collect\":{\"grace\":0,\"live\":[]}}}⇒request {\"collect\":{\"live\":[]}}‡\n\
 {\"request\":{\"del\":{\"handle\":\"a\"},\"del\":{\"handle\":\"b\"}}}⇒request {\"del\":{\"handle\":\"b\"}}‡\n\
 ⇒line‡\n\
@@ -40,6 +51,9 @@ const LINES_1: &str = "\
 {}⇒line‡\n\
 []⇒line‡\n\
 null⇒line‡\n\
+";
+
+const LINES_2: &str = "\
 true⇒line‡\n\
 \"stop\"⇒line‡\n\
 0⇒line‡\n\
@@ -50,9 +64,6 @@ true⇒line‡\n\
 {\"stop\":true} x⇒line‡\n\
 {\"stop\":tru}⇒line‡\n\
 {\"Stop\":true}⇒line‡\n\
-";
-
-const LINES_2: &str = "\
 {\"stop\":false}⇒line‡\n\
 {\"stop\":1}⇒line‡\n\
 {\"stop\":\"true\"}⇒line‡\n\
@@ -73,6 +84,41 @@ const LINES_2: &str = "\
 {\"routesSince\":01}⇒line‡\n\
 {\"routesSince\":true}⇒line‡\n\
 {\"routesSince\":null}⇒line‡\n\
+{\"rows\":true}⇒line‡\n\
+{\"rows\":\"rows\"}⇒line‡\n\
+{\"rows\":\"Block\"}⇒line‡\n\
+{\"rows\":\"\"}⇒line‡\n\
+{\"rows\":null}⇒line‡\n\
+{\"rows\":[\"block\"]}⇒line‡\n\
+{\"after\":\"block/10.0.0.0/30\"}⇒line‡\n\
+{\"rows\":\"block\",\"after\":null}⇒line‡\n\
+{\"rows\":\"block\",\"after\":1}⇒line‡\n\
+{\"rows\":\"block\",\"after\":\"\"}⇒line‡\n\
+";
+
+const LINES_3: &str = "\
+{\"rows\":\"block\",\"after\":\"block\"}⇒line‡\n\
+{\"rows\":\"block\",\"after\":\"block/\"}⇒line‡\n\
+{\"rows\":\"block\",\"after\":\"10.0.0.0/30\"}⇒line‡\n\
+{\"rows\":\"block\",\"after\":\"handle/n.c1\"}⇒line‡\n\
+{\"rows\":\"handle\",\"after\":\"block/10.0.0.0/30\"}⇒line‡\n\
+{\"rows\":\"block\",\"after\":\"block/10.0.0.1/30\"}⇒line‡\n\
+{\"rows\":\"block\",\"after\":\"block/10.0.0.0/030\"}⇒line‡\n\
+{\"rows\":\"affinity\",\"after\":\"affinity/10.0.0.0/30\"}⇒line‡\n\
+{\"rows\":\"affinity\",\"after\":\"affinity/a b/10.0.0.0/30\"}⇒line‡\n\
+{\"rows\":\"handle\",\"after\":\"handle/\"}⇒line‡\n\
+{\"rows\":\"handle\",\"after\":\"handle/-a\"}⇒line‡\n\
+{\"rows\":\"pools\",\"after\":\"config\"}⇒line‡\n\
+{\"rows\":\"pools\",\"after\":\"pools/\"}⇒line‡\n\
+{\"rows\":\"block\",\"limit\":5}⇒line‡\n\
+{\"rows\":\"block\",\"after\":\"block/10.0.0.0/30\",\"x\":0}⇒line‡\n\
+{\"rows\":\"block\",\"opened\":true}⇒line‡\n\
+{\"rows\":\"block\",\"env\":{},\"stdin\":\"\"}⇒line‡\n\
+{\"rows\":\"x\",\"after\":\"block/10.0.0.0/30\"}⇒line‡\n\
+{\"usage\":false}⇒line‡\n\
+{\"usage\":1}⇒line‡\n\
+{\"usage\":\"p\"}⇒line‡\n\
+{\"usage\":true,\"rows\":\"block\"}⇒line‡\n\
 {\"feed\":{}}⇒line‡\n\
 {\"feed\":\"a\"}⇒line‡\n\
 {\"feed\":[1]}⇒line‡\n\
@@ -91,11 +137,11 @@ const LINES_2: &str = "\
 {\"env\":{\"A\":null},\"stdin\":\"\"}⇒line‡\n\
 {\"env\":{},\"stdin\":\"\",\"x\":0}⇒line‡\n\
 {\"env\":{},\"stdin\":\"\",\"feed\":[]}⇒line‡\n\
-{\"env\":{},\"stdin\":\"\\ud800\"}⇒line‡\n\
-{\"env\":{},\"stdin\":\"a\tb\"}⇒line‡\n\
 ";
 
-const LINES_3: &str = "\
+const LINES_4: &str = "\
+{\"env\":{},\"stdin\":\"\\ud800\"}⇒line‡\n\
+{\"env\":{},\"stdin\":\"a\tb\"}⇒line‡\n\
 {\"Env\":{},\"stdin\":\"\"}⇒line‡\n\
 {\"request\":{}}⇒line‡\n\
 {\"request\":null}⇒line‡\n\
@@ -132,6 +178,16 @@ const LINES_3: &str = "\
 {\"routesSince\":0⇒line‡\n\
 {\"routesSince\":18446744073709551615⇒line‡\n\
 {\"opened\":true⇒line‡\n\
+{\"usage\":true⇒line‡\n\
+{\"rows\":\"config\"⇒line‡\n\
+";
+
+const LINES_5: &str = "\
+{\"rows\":\"pools\",\"after\":\"pools\"⇒line‡\n\
+{\"rows\":\"reservations\"⇒line‡\n\
+{\"rows\":\"block\",\"after\":\"block/10.0.0.0/30\"⇒line‡\n\
+{\"rows\":\"affinity\",\"after\":\"affinity/a/2001:db8::/122\"⇒line‡\n\
+{\"rows\":\"handle\",\"after\":\"handle/n.c1\"⇒line‡\n\
 {\"env\":{\"CNI_COMMAND\":\"ADD\",\"CNI_IFNAME\":\"eth0\"},\"stdin\":\"{\\\"cniVersion\\\":\\\"1.0.0\\\"}\\n\"},⇒line‡\n\
 {\"env\":{},\"stdin\":\"\"},⇒line‡\n\
 {\"env\":{\"A\":\"1\",\"a\":\"ü\",\"\":\"x\"},\"stdin\":\"\\u00fc\\ud83d\\ude00\\t\"},⇒line‡\n\
@@ -155,8 +211,19 @@ fn asked(alloc: Global, wish: &Wish) -> Result<String, AllocError> {
         Wish::Stop => String::from_str(alloc, "stop"),
         Wish::Routes => String::from_str(alloc, "routes"),
         Wish::RoutesSince(revision) => format!(in alloc; "since {revision}"),
+        Wish::Rows(kind, after) => paged(alloc, kind.name(), after),
+        Wish::Usage => String::from_str(alloc, "usage"),
         Wish::Opened => String::from_str(alloc, "opened"),
     }
+}
+
+fn paged(alloc: Global, word: &str, after: &Option<Key>) -> Result<String, AllocError> {
+    let Some(key) = after else {
+        return format!(in alloc; "rows {word}");
+    };
+    let key = key_text(alloc, key)?;
+    let key = key.as_str();
+    format!(in alloc; "rows {word} after {key}")
 }
 
 fn called(alloc: Global, env: &[(Text, Text)], stdin: &str) -> Result<String, AllocError> {
@@ -214,5 +281,19 @@ fn reads_lines_2(rt: HostRuntime) -> Result<(), Fail> {
 fn reads_lines_3(rt: HostRuntime) -> Result<(), Fail> {
     let count = rows(&rt, rt.alloc(), LINES_3)?;
     assert_eq!(rt; count, 40);
+    Ok(())
+}
+
+#[test]
+fn reads_lines_4(rt: HostRuntime) -> Result<(), Fail> {
+    let count = rows(&rt, rt.alloc(), LINES_4)?;
+    assert_eq!(rt; count, 40);
+    Ok(())
+}
+
+#[test]
+fn reads_lines_5(rt: HostRuntime) -> Result<(), Fail> {
+    let count = rows(&rt, rt.alloc(), LINES_5)?;
+    assert_eq!(rt; count, 9);
     Ok(())
 }

@@ -4,3 +4,4 @@ mod Answering
 mod Turning
 mod Calling
 mod Routing
+mod Looking

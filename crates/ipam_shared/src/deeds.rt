@@ -6,6 +6,7 @@ ghost use Rattle.ipam_model.specs.SoundRequest.{IsSoundRequest};
 ghost use Rattle.ipam_shared.specs.Deeds.{told_by, told_if, Begins, Feeds, Calls, Stops, TellsRoutes, TellsChanges};
 
 use crate::deed::Deed;
+use crate::look::Look;
 use ipam_kept::{
     BeginFault, Change, FeedFault, Keeper, Kept, Memory, PrepareFault, Route, SinceFault,
 };
@@ -129,5 +130,26 @@ impl<D: Keeper> Deed<D> for RoutesSince {
 
     fn run(self, kept: &mut Kept<D>, slot: u8) -> Result<(u64, Vec<Change>), SinceFault> {
         kept.routes_since(self.revision)
+    }
+}
+
+/// The datastore is looked at.
+#[derive(Drop)]
+pub(crate) struct Looks<L> {
+    pub(crate) look: L,
+}
+
+impl<D: Keeper, L: Look> Deed<D> for Looks<L> {
+    type Answer = L::Told;
+
+    ghost can = { λ deed. Unit {0} };
+
+    ghost does = { λ deed slot before answer after. L.tells deed.look before.cluster.store.store answer };
+
+    ghost told = { λ answer. [] };
+
+    fn run(self, kept: &mut Kept<D>, slot: u8) -> L::Told {
+        let Looks { look } = self;
+        look.look(kept.cluster().store())
     }
 }

@@ -9,6 +9,7 @@ mod deed;
 mod deeds;
 mod faults;
 mod locked;
+mod look;
 mod opened;
 mod pass;
 mod shared;
@@ -17,5 +18,6 @@ pub use faults::{SharedFault, SpentPass};
 pub use ipam_kept::{
     BeginFault, Change, FeedFault, Keeper, Kept, Memory, PrepareFault, Route, SinceFault,
 };
+pub use look::Look;
 pub use pass::Pass;
 pub use shared::Shared;

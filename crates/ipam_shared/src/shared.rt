@@ -8,7 +8,7 @@ ghost use Rattle.ipam_model.specs.declared.entry.Entry.TheVariants as entry;
 ghost use Rattle.ipam_model.specs.declared.entry.SlotState.TheVariants as state;
 ghost use Rattle.ipam_model.specs.declared.limits.TheConstants.{SLOTS};
 ghost use Rattle.ipam_model.specs.Cluster.{state_of};
-ghost use Rattle.ipam_model.specs.History.{slot_of_entry};
+ghost use Rattle.ipam_model.specs.History.{slot_of_entry, store_at};
 ghost use Rattle.ipam_model.specs.SoundRequest.{IsSoundRequest};
 ghost use Rattle.ipam_collect.specs.declared.collect.Grace.{Grace};
 ghost use Rattle.ipam_kept.specs.Feed.{AreChanges, AreRoutes, IsAhead, IsCompacted};
@@ -19,9 +19,10 @@ ghost use Rattle.ipam_shared.specs.Passes.{runs_in, IsLawfulPass, IsNewlyKept, I
 ghost use Rattle.ipam_shared.specs.Turning.{OnSpent, UnlessSpent, told_stopped, answer_of, moment_met, SeesNext, WasDone, HadTurn, WaitsFor};
 
 use crate::deed::{Deed, InSlot};
-use crate::deeds::{Begin, Call, Feed, Routes, RoutesSince, Stop};
+use crate::deeds::{Begin, Call, Feed, Looks, Routes, RoutesSince, Stop};
 use crate::faults::{SharedFault, SpentPass};
 use crate::locked::Locked;
+use crate::look::Look;
 use crate::pass::Pass;
 use ipam_kept::{
     BeginFault, Change, FeedFault, Keeper, Kept, Memory, PrepareFault, Route, SinceFault,
@@ -302,5 +303,24 @@ impl<D: Keeper> Shared<D> {
             ↔ (0 < pass.old.left × IsAhead pass.new.base pass.new.seen revision counter)) }
     {
         answered(self.take_turn(rt, pass, RoutesSince { revision }))
+    }
+
+    /// Looks at the datastore by one turn, as it is at the end of what the pass has seen with this turn.
+    pub fn look<R: Wait, L: Look + Drop>(
+        &self,
+        rt: &R,
+        pass: &mut Pass,
+        look: L,
+    ) -> Result<L::Told, SpentPass>
+        requires lock { pass.old.lock ≡ self.now }
+        ensures spent { IsErr result ↔ (pass.old.left ≡ 0) }
+        ensures unchanged { IfErr result (λ spent. pass.new ≡ pass.old) }
+        ensures left { IfOk result (λ told. pass.new.left + 1 ≡ pass.old.left) }
+        ensures same { IsSamePass pass.old pass.new }
+        ensures seen { IfOk result (λ told. SeesNext pass.old [] pass.new) }
+        ensures lawful { IsLawfulPass pass.new }
+        ensures told { IfOk result (λ told. L.tells look (store_at pass.new.base pass.new.seen) told) }
+    {
+        self.take_turn(rt, pass, Looks { look }).ok_or(SpentPass)
     }
 }

@@ -1,6 +1,5 @@
 -- No JSON that is shown has a float, so that its compact text is written.
-use Rattle.std.proofs.Common.{◌≡◌, ℕ, List, false, refl}
-use Rattle.std.specs.Prelude.{fold}
+use Rattle.std.proofs.Common.{◌≡◌, List, false, refl}
 use Rattle.serde_json.specs.Written.{has_float}
 use Rattle.ipam_json.proofs.Floatless.{items_without}
 use Rattle.ipam_pool.specs.declared.pools.Pool.{Pool}

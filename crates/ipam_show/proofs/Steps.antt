@@ -1,5 +1,5 @@
 -- What is gathered, one item after the other.
-use Rattle.std.proofs.Common.{◌≡◌, ℕ, ◌+◌, ◌<◌, Option, Some, None, List, [], ◌∷◌, ◌++◌, length, get_or, drop, sym, ap, ◌∙◌, refl, add-one, drop-cons, append_assoc, option_to_list}
+use Rattle.std.proofs.Common.{◌≡◌, ℕ, ◌+◌, ◌<◌, Option, Some, None, List, ◌++◌, length, get_or, drop, sym, ap, ◌∙◌, refl, add-one, drop-cons, append_assoc, option_to_list}
 use Rattle.std.specs.List.{filter_map, cons_option}
 use Rattle.std.specs.Global.{Vec}
 use Rattle.ipam_records.specs.declared.record.Record.{Record}

@@ -1,5 +1,5 @@
 -- How many addresses of a block are used, free and borrowed.
-use Rattle.std.specs.Prelude.{ℕ, Bool, false, not, List, Option, Some, None, is_some, length, codes, bytes_eq, count_by}
+use Rattle.std.specs.Prelude.{ℕ, Bool, not, List, Option, Some, None, is_some, length, codes, count_by}
 use Rattle.std.specs.List.{filter_map}
 use Rattle.ipam_addr.specs.Shape.{AddrValue}
 use Rattle.ipam_addr.specs.Width.{cidr_size}

@@ -9,3 +9,4 @@ pub mod Json
 pub mod Blocks
 pub mod Node
 pub mod Address
+pub mod Usage

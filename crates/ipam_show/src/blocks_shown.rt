@@ -1,5 +1,5 @@
 //! `show blocks`: the blocks are shown.
-ghost use Rattle.std.specs.Prelude.{◌≡◌, ◌++◌, ◌≤◌, decimal, codes, length, IfOk, string_bytes};
+ghost use Rattle.std.specs.Prelude.{◌≡◌, ◌≤◌, length, IfOk, string_bytes};
 ghost use Rattle.ipam_records.specs.Datastore.{most_blocks};
 ghost use Rattle.ipam_show.specs.Blocks.{block_head, block_row, block_rows, blocks_text, borrowed_word, state_of, used_word};
 ghost use Rattle.ipam_show.specs.Kept.{blocks_kept};

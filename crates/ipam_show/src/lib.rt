@@ -11,9 +11,11 @@ mod node_shown;
 mod pools_shown;
 mod sums;
 mod tables;
+mod usage;
 
 pub use address_shown::show_address;
 pub use blocks_shown::show_blocks;
 pub use json_shown::show_json;
 pub use node_shown::show_node;
 pub use pools_shown::show_pools;
+pub use usage::{PoolUsage, pools_usage};

@@ -1,6 +1,6 @@
 //! What the blocks of a pool, of a node, or all of them come to.
 ghost use Rattle.std.specs.Prelude.{◌≡◌, ◌<◌, ◌^◌, length};
-ghost use Rattle.ipam_show.specs.Scopes.{block_sum, free_for, free_sum, is_of_node, is_within, used_for, used_sum};
+ghost use Rattle.ipam_show.specs.Scopes.{block_sum, free_for, free_sum, is_of_node, is_within, reserved_for, reserved_sum, used_for, used_sum};
 
 use crate::counting::BlockCount;
 use ipam_addr::Cidr;
@@ -76,6 +76,31 @@ fn free_for(scope: &Scope<'_>, count: &BlockCount) -> u16
 {
     if is_within(scope, count) {
         count.free
+    } else {
+        0
+    }
+}
+
+/// How many addresses of them are neither used nor could be given: they are reserved.
+pub(crate) fn reserved_sum(scope: &Scope<'_>, counts: &[BlockCount]) -> u64
+    requires { length counts.now < 2 ^ 32 }
+    ensures { result ≡ reserved_sum (is_within scope.now) counts.now }
+{
+    let mut total = 0u64;
+    for count in counts {
+        total += u64::from(reserved_for(scope, count));
+    }
+    total
+}
+
+fn reserved_for(scope: &Scope<'_>, count: &BlockCount) -> u16
+    ensures { result ≡ reserved_for (is_within scope.now) count.now }
+{
+    if is_within(scope, count) {
+        count
+            .size
+            .saturating_sub(count.used)
+            .saturating_sub(count.free)
     } else {
         0
     }

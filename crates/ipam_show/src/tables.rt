@@ -1,6 +1,5 @@
 //! Tables of texts, whose columns stand in line.
-ghost use Rattle.std.specs.Prelude.{◌≡◌, ◌++◌, ◌-◌, ℕ, length, map, replicate, IfOk, OnOk, string_bytes};
-ghost use Rattle.std.specs.List.{range_with_len};
+ghost use Rattle.std.specs.Prelude.{◌≡◌, ◌++◌, ◌-◌, length, replicate, IfOk, OnOk, string_bytes};
 ghost use Rattle.ipam_show.specs.Columns.{cell, cells_from, first_placed, later_placed, line, placed, table_text, wider, widest, widths};
 
 use ipam_text::{Seq, Text};

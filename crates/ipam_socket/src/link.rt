@@ -13,13 +13,15 @@ use std::time::{Clock, Duration, Instant};
 /// A connection as a link. It tells neither the bytes that come nor those that went. A read or a
 /// write that takes longer than its limit is a fault, and so is a first byte over TCP with which no
 /// session begins: a web page can have a browser send lines of a session, but only after a first
-/// line of its own.
+/// line of its own. The daemon's end takes no bytes of a peer that is gone, which is a fault too.
 #[derive(Drop)]
 pub struct SocketLink<C, S> {
     clock: C,
     stream: S,
     limits: Limits,
     waits: Waits,
+    // whether bytes are taken only while the peer is there
+    is_session: bool,
     is_checked: bool,
     is_refused: bool,
     read_faults: u64,
@@ -33,7 +35,7 @@ impl<C: Clock, S: Connected> SocketLink<C, S> {
         ensures write_faults { link_write_faults result ≡ 0 }
     {
         let is_checked = !stream.stream().is_open_to_hosts();
-        SocketLink::new(clock, stream, limits, is_checked)
+        SocketLink::new(clock, stream, limits, true, is_checked)
     }
 
     /// The client's end of this connection, where each first byte is taken.
@@ -41,10 +43,16 @@ impl<C: Clock, S: Connected> SocketLink<C, S> {
         ensures read_faults { link_read_faults result ≡ 0 }
         ensures write_faults { link_write_faults result ≡ 0 }
     {
-        SocketLink::new(clock, stream, limits, true)
+        SocketLink::new(clock, stream, limits, false, true)
     }
 
-    fn new(clock: C, stream: S, limits: Limits, is_checked: bool) -> SocketLink<C, S>
+    fn new(
+        clock: C,
+        stream: S,
+        limits: Limits,
+        is_session: bool,
+        is_checked: bool,
+    ) -> SocketLink<C, S>
         ensures read_faults { link_read_faults result ≡ 0 }
         ensures write_faults { link_write_faults result ≡ 0 }
     {
@@ -53,6 +61,7 @@ impl<C: Clock, S: Connected> SocketLink<C, S> {
             stream,
             limits,
             waits: Waits::new(limits),
+            is_session,
             is_checked,
             is_refused: false,
             read_faults: 0,
@@ -103,7 +112,8 @@ impl<C: Clock, S: Connected> SocketLink<C, S> {
         found
     }
 
-    /// Whether the session may go on after these bytes, of which the first is looked at once.
+    /// Whether the session may go on after these bytes, of which the first is looked at once. A peer that
+    /// closed after its last line has sent none.
     fn admits(&mut self, bytes: &[u8]) -> bool
         ensures read_faults { link_read_faults self.new ≡ link_read_faults self.old }
         ensures write_faults { link_write_faults self.new ≡ link_write_faults self.old }
@@ -112,7 +122,12 @@ impl<C: Clock, S: Connected> SocketLink<C, S> {
             self.is_checked = true;
             self.is_refused = !may_begin(*first);
         }
-        !self.is_refused
+        !self.is_refused && (bytes.is_empty() || self.has_reader())
+    }
+
+    /// Whether somebody waits for what follows.
+    fn has_reader(&self) -> bool {
+        !self.is_session || self.stream.stream().has_peer()
     }
 
     /// Writes the whole piece part by part, for no longer than the limit in all.

@@ -4,3 +4,4 @@ pub mod Ending
 pub mod StepLemmas
 pub mod Calls
 pub mod Courses
+pub mod Running

@@ -1,5 +1,5 @@
 -- The steps of a request that runs by itself in slot 0, one by one.
-use Rattle.std.specs.Prelude.{◌≡◌, ◌<◌, ℕ, ◌+◌, ◌^◌, ◌⊎◌, List, [], ◌∷◌, Option, Some, None}
+use Rattle.std.specs.Prelude.{◌≡◌, ◌<◌, ℕ, ◌+◌, ◌^◌, ◌⊎◌, List, [], ◌∷◌, Option, Some, None, IfSome, IsNone}
 use Rattle.ipam_io.specs.Counts.{Rose}
 use Rattle.ipam_model.specs.declared.answer.Answer.{Answer}
 use Rattle.ipam_model.specs.declared.answer.Answer.TheVariants.{Fault}
@@ -12,9 +12,10 @@ use Rattle.ipam_model.specs.Alone.{IsFirstList}
 use Rattle.ipam_model.specs.History.{Base, cluster_at}
 use Rattle.ipam_model.specs.Moments.{request_in}
 use Rattle.ipam_model.specs.SoundRequest.{IsSoundRequest}
+use Rattle.ipam_cluster.specs.Cluster.{slot_of}
 use Rattle.ipam_kept.specs.declared.kept.Kept.{Kept}
-use Rattle.ipam_kept.specs.Kept.{KeptFor, KeepsWith, LeavesKeeper, Stays, Tells}
-use Rattle.ipam_solo.specs.Solo.{HasNoGrace, KeepsWithAll, NoMoreDoubt}
+use Rattle.ipam_kept.specs.Kept.{IsKept, KeptFor, KeepsWith, LeavesKeeper, Stays, Tells}
+use Rattle.ipam_solo.specs.Solo.{HasNoGrace, KeepsWithAll, NoMoreDoubt, NothingRuns}
 
 -- slot 0 runs the request
 pub record Runs {D : Type 0} (tells : Tells D) (request : Request) (kept : Kept D) : Type 0 where
@@ -27,6 +28,35 @@ pub record Runs {D : Type 0} (tells : Tells D) (request : Request) (kept : Kept 
 pub record CountsOne {D : Type 0} (old new : Kept D) : Type 0 where
   pub few : old.cluster.entries < 2 ^ 62
   pub one_more : new.cluster.entries ≡ old.cluster.entries + 1
+
+-- ---- the beginning and the stop
+
+-- the request is sound and may be fed at once, and nothing runs
+pub record MayBegin {D : Type 0} (tells : Tells D) (request : Request) (old : Kept D) : Type 0 where
+  pub sound : IsSoundRequest request
+  pub no_grace : HasNoGrace request
+  pub idle : NothingRuns old
+  pub kept : IsKept tells old
+
+-- the request began in slot 0
+pub record Begins {D : Type 0} (tells : Tells D) (request : Request) (old new : Kept D) : Type 0 where
+  pub keeps : KeepsWith tells old new (entry.Began 0 request)
+  pub keeper : LeavesKeeper old new
+
+-- it did not begin, and nothing has changed
+pub record IsUnbegun {D : Type 0} (tells : Tells D) (old new : Kept D) : Type 0 where
+  pub unchanged : Stays tells old new
+  pub keeper : LeavesKeeper old new
+
+-- slot 0 was stopped, whether or not something ran there
+pub record IsStop {D : Type 0} (tells : Tells D) (old new : Kept D) : Type 0 where
+  pub told : Option Entry
+  pub idle : IsNone told → slot_of old.cluster 0 ≡ None
+  pub is_stop : IfSome told (λ e. e ≡ entry.Stopped 0)
+  pub keeps : IfSome told (KeepsWith tells old new)
+  pub idle_after : slot_of new.cluster 0 ≡ None
+  pub others : (other : ℕ) → ¬ (other ≡ 0) → slot_of new.cluster other ≡ slot_of old.cluster other
+  pub keeper : LeavesKeeper old new
 
 -- ---- a call
 

@@ -1,22 +1,22 @@
 //! A request runs to its answer.
-ghost use Rattle.std.specs.Prelude.{◌≡◌, ◌⊎◌, IfOk, OnOk, OnErr};
-ghost use Rattle.ipam_model.specs.declared.entry.Entry.TheVariants as entry;
+ghost use Rattle.std.specs.Prelude.{◌≡◌, ◌⊎◌, IfOk, OnErr};
 ghost use Rattle.ipam_model.specs.CanAnswer.{CanAnswer};
 ghost use Rattle.ipam_model.specs.SoundRequest.{IsSoundRequest};
-ghost use Rattle.ipam_kept.specs.Kept.{IsKept, KeepsWith, LeavesKeeper, Stays};
+ghost use Rattle.ipam_kept.specs.Kept.{IsKept};
 ghost use Rattle.ipam_solo.specs.Solo.{HasNoGrace, IsAnswered, IsFaulted, IsStopped, NothingRuns};
 
-use crate::going::go_on;
+use crate::going::run;
 use crate::steps::Alone;
-use ipam_kept::{BeginFault, Keeper, Kept};
+use ipam_kept::{Keeper, Kept};
 use ipam_model::{Answer, Request};
 use std::alloc::{AllocError, Global};
 
 /// Runs the request by itself in slot 0, to its answer. A collection is fed its own first list, at that
 /// list's time.
 ///
-/// The answer is `Fault` exactly where the keeper failed. On `Err` there was no memory, and the request
-/// was stopped. So it is where the cluster has 2^62 entries, which no process lives to see.
+/// The answer is `Fault` exactly where the keeper failed. On `Err` beginning the request or one of its steps
+/// found no memory, and what had begun was stopped. So it is where the cluster has 2^62 entries, which no
+/// process lives to see.
 pub fn run_alone<D: Keeper>(
     alloc: Global,
     kept: &mut Kept<D>,
@@ -34,27 +34,5 @@ pub fn run_alone<D: Keeper>(
     ensures kept { IsKept D.rows kept.new }
     ensures same { D.name kept.new.keeper ≡ D.name kept.old.keeper }
 {
-    begin(alloc, kept, request)?;
-    match go_on(&Alone { alloc, request }, kept) {
-        Ok(answer) => Ok(answer),
-        Err(AllocError) => {
-            let _stopped = kept.stop(0);
-            Err(AllocError)
-        }
-    }
-}
-
-/// Begins the request. On `Err` nothing has changed.
-fn begin<D: Keeper>(alloc: Global, kept: &mut Kept<D>, request: &Request) -> Result<(), AllocError>
-    requires sound { IsSoundRequest request.now }
-    requires idle { NothingRuns kept.old }
-    ensures begun { OnOk result (KeepsWith D.rows kept.old kept.new (entry.Began 0 request.now)) }
-    ensures unchanged { OnErr result (Stays D.rows kept.old kept.new) }
-    ensures keeper { LeavesKeeper kept.old kept.new }
-{
-    match kept.begin(alloc, 0, request) {
-        Ok(_) => Ok(()),
-        Err(BeginFault::SlotBusy) => unreachable!(),
-        Err(BeginFault::Worn | BeginFault::Memory) => Err(AllocError),
-    }
+    run(&Alone { alloc, request }, kept)
 }

@@ -1,15 +1,16 @@
-//! One step of the request that runs by itself in slot 0.
+//! The steps of a request that runs by itself in slot 0, from its beginning.
 ghost use Rattle.std.specs.Prelude.{◌≡◌, ◌-◌, ◌^◌, ◌⊎◌, IfOk, OnOk, OnErr};
+ghost use Rattle.ipam_model.specs.declared.entry.Entry.TheVariants as entry;
 ghost use Rattle.ipam_model.specs.declared.entry.SlotState.TheVariants as state;
 ghost use Rattle.ipam_model.specs.SoundRequest.{IsSoundCollect, IsSoundRequest};
 ghost use Rattle.ipam_model.specs.declared.request.Request.TheVariants.{Collect};
 ghost use Rattle.ipam_cluster.specs.Cluster.{WaitsWith, slot_of, state_in};
-ghost use Rattle.ipam_kept.specs.Kept.{IsKept, LeavesKeeper, Stays};
-ghost use Rattle.ipam_solo.specs.Solo.{HasNoGrace};
-ghost use Rattle.ipam_solo.specs.Steps.{CameToEnd, CountsOne, IsDoneCall, IsFailedCall, IsFed, IsNoStep, IsStep, MayGoOn, Runs, Wants, WentOn, answer_told};
+ghost use Rattle.ipam_kept.specs.Kept.{IsKept, KeepsWith, LeavesKeeper, Stays};
+ghost use Rattle.ipam_solo.specs.Solo.{HasNoGrace, NothingRuns};
+ghost use Rattle.ipam_solo.specs.Steps.{Begins, CameToEnd, CountsOne, IsDoneCall, IsFailedCall, IsFed, IsNoStep, IsStep, IsStop, IsUnbegun, MayBegin, MayGoOn, Runs, Wants, WentOn, answer_told};
 
 use crate::going::Going;
-use ipam_kept::{FeedFault, Keeper, Kept, PrepareFault};
+use ipam_kept::{BeginFault, FeedFault, Keeper, Kept, PrepareFault};
 use ipam_model::{Answer, CollectRequest, Entry, Request, SlotState};
 use std::alloc::{AllocError, Global};
 
@@ -21,6 +22,12 @@ pub(crate) struct Alone<'a> {
 }
 
 impl<'a, D: Keeper> Going<Kept<D>> for Alone<'a> {
+    ghost may = { λ alone kept. MayBegin D.rows alone.request.now kept };
+
+    ghost begins = { λ alone start now. Begins D.rows alone.request.now start now };
+
+    ghost unbegun = { λ _ start now. IsUnbegun D.rows start now };
+
     ghost runs = { λ alone kept. MayGoOn D.rows alone.request.now kept };
 
     ghost goes = { λ alone start now. WentOn D.rows D.faults D.name alone.request.now start now };
@@ -29,10 +36,35 @@ impl<'a, D: Keeper> Going<Kept<D>> for Alone<'a> {
 
     ghost wants = { λ alone start now. Wants D.rows D.faults D.name alone.request.now start now };
 
+    ghost stops = { λ _ last now. IsStop D.rows last now };
+
     ghost left = { λ alone kept. 2 ^ 62 - kept.cluster.entries };
+
+    fn begin(&self, kept: &mut Kept<D>) -> Result<(), AllocError> {
+        begin(self.alloc, kept, self.request)
+    }
 
     fn step(&self, kept: &mut Kept<D>) -> Result<Option<Answer>, AllocError> {
         step(self.alloc, kept, self.request)
+    }
+
+    fn stop(&self, kept: &mut Kept<D>) {
+        let _stopped = kept.stop(0);
+    }
+}
+
+/// Begins the request. On `Err` nothing has changed.
+fn begin<D: Keeper>(alloc: Global, kept: &mut Kept<D>, request: &Request) -> Result<(), AllocError>
+    requires sound { IsSoundRequest request.now }
+    requires idle { NothingRuns kept.old }
+    ensures begun { OnOk result (KeepsWith D.rows kept.old kept.new (entry.Began 0 request.now)) }
+    ensures unchanged { OnErr result (Stays D.rows kept.old kept.new) }
+    ensures keeper { LeavesKeeper kept.old kept.new }
+{
+    match kept.begin(alloc, 0, request) {
+        Ok(_) => Ok(()),
+        Err(BeginFault::SlotBusy) => unreachable!(),
+        Err(BeginFault::Worn | BeginFault::Memory) => Err(AllocError),
     }
 }
 

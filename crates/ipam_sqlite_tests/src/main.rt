@@ -1,5 +1,5 @@
 //! Tests of the keepers over real files. A line of the input is a case `KEEPER|BEFORE|SCRIPT`; the
-//! output has it with what is told of it: of its lines, why the keeper failed at last, of the rows that
+//! output has it with what comes of it: of its lines, why the keeper failed at last, of the rows that
 //! the file `db` has once the keeper is dropped, and how many bytes its log has then.
 //!
 //! In data/ are files that cases copy. SQLite 3.40.1 wrote `stock.db`, by Python's module, with the rows
@@ -23,7 +23,7 @@ fn parts(text: &str) -> (&str, &str) {
     text.split_once('|').unwrap_or((text, ""))
 }
 
-/// The case, and what is told of it.
+/// The case, and what comes of it.
 fn told_of(rt: &HostRuntime, case: &str) -> Result<String, AllocError> {
     let (keeper, rest) = parts(case);
     let (before, script) = parts(rest);

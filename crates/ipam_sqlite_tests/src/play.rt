@@ -6,7 +6,7 @@ use ipam_sqlite::{FileKeeper, SqliteKeeper, StorageFault};
 use std::alloc::AllocError;
 use std::io;
 
-/// Plays the script over a keeper of the file `db` that is opened at once, and answers what is told of
+/// Plays the script over a keeper of the file `db` that is opened at once, and answers what comes of
 /// each line and why the keeper failed at last.
 pub(crate) fn played_at_once(rt: &HostRuntime, script: &str) -> Result<String, AllocError> {
     let mut keeper = SqliteKeeper::open(rt, "db");
@@ -36,8 +36,8 @@ fn with_why(
 }
 
 /// `put KEY REVISION BODY`, `remove KEY` and `load` are calls of the keeper; `other` opens a second
-/// keeper of `db`, and `again` one that reads it. `mode NAME` and `size NAME` tell of a file. Other
-/// lines change files, as `change` says.
+/// keeper of `db`, and `again` one that reads it. `mode NAME` and `size NAME` report on a file. Other
+/// lines change files, as `change` does.
 fn played<K: Keeper>(rt: &HostRuntime, keeper: &mut K, script: &str) -> Result<String, AllocError> {
     let mut told = String::new(rt.alloc());
     for line in script.split("; ") {

@@ -1,4 +1,4 @@
-//! What is told of a keeper's answers.
+//! What comes of a keeper's answers.
 use ipam_keeper::{KeepFault, Row};
 use ipam_sqlite::StorageFault;
 use std::alloc::AllocError;

@@ -86,7 +86,7 @@ fn is_counted_write(write: &Write) -> bool
     }
 }
 
-/// Applies the write that the store grants, and says its revision.
+/// Applies the write that the store grants, and returns its revision.
 pub fn apply(store: &mut Store, call: Call) -> Result<Option<u64>, AllocError>
     requires { IsRecordCall call }
 {
@@ -102,7 +102,7 @@ pub fn apply(store: &mut Store, call: Call) -> Result<Option<u64>, AllocError>
     Ok(None)
 }
 
-/// Asks the call of the text, and says what is answered.
+/// Asks the call of the text, and returns what is answered.
 pub fn ask(store: &mut Store, alloc: Global, text: &str) -> Result<String, AllocError> {
     let call = read_call(alloc, text)?;
     let (word, number) = told(&store.reply(&call));

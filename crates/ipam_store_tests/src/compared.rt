@@ -177,7 +177,7 @@ fn affinity(number: u32) -> &'static str {
     }
 }
 
-/// The body of a block of one address. The round tells whose it is, and whether it is held.
+/// The body of a block of one address. The round determines whose it is, and whether it is held.
 fn block_body(alloc: Global, name: &str, number: u32, round: u32) -> Result<String, AllocError> {
     let affinity = affinity((number / 2).wrapping_add(round));
     let is_held = number.wrapping_add(round) % 3 == 0;

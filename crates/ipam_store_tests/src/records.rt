@@ -98,7 +98,7 @@ fn handle_record(alloc: Global, id: Text) -> Result<Record, AllocError>
     }
 }
 
-/// Whether a block was written less often than the revision says.
+/// Whether a block was written less often than its revision.
 pub fn is_counted(revision: u64, new: &Record) -> bool
     ensures { IsTrue result → IsCountedBelow revision new.now }
 {

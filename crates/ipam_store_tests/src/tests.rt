@@ -55,7 +55,7 @@ fn ask_line(
     Ok(())
 }
 
-/// Asks the calls in turn, and says how many there are.
+/// Asks the calls in turn, and returns how many there are.
 fn ask_all(
     rt: &impl Abort,
     alloc: Global,

@@ -1,7 +1,13 @@
 //! A program of tests that answers a table. Each line of its input has a kind and a question, as
 //! `cidr|10.0.0.0/24`; its output has the answer after them.
+//!
+//! Or it plays scenarios, with a blank line between two. Each has a title, then steps, and after a step
+//! the lines that are wanted of it, as `= 0`. The output has each title and how many lines these were.
 #![tactic(auto)]
 
+mod scenario;
+
+pub use scenario::{Plays, play_scenarios, played, wanted};
 use std::alloc::{AllocError, Global};
 use std::io;
 

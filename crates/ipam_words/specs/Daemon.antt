@@ -12,8 +12,8 @@ abbrev pub is_of_daemon : Asked → Bool
 is_of_daemon Cni = false
 is_of_daemon Play = false
 is_of_daemon Apply = true
-is_of_daemon (Get kind) = false
-is_of_daemon (Show view) = false
+is_of_daemon (Get kind) = true
+is_of_daemon (Show view) = true
 is_of_daemon (Routes node) = true
 is_of_daemon (Release node cidr) = true
 is_of_daemon (Gen count) = false

@@ -18,8 +18,8 @@ pub struct DaemonAsk<'a> {
 /// The daemon that is asked, and what it is asked. Takes no memory.
 ///
 /// Words that begin with `--daemon ADDRESS` ask the daemon at that address, which is any text, what follows.
-/// `apply`, `routes NODE` and `release NODE CIDR` ask the daemon that is named, where one is. No daemon can be
-/// asked anything else: after `--daemon ADDRESS` that is none, and other words ask no daemon.
+/// `apply`, `get`, `show`, `routes NODE` and `release NODE CIDR` ask the daemon that is named, where one is. No
+/// daemon can be asked anything else: after `--daemon ADDRESS` that is none, and other words ask no daemon.
 pub fn daemon_asked<'a>(words: &'a [String], named: Option<&'a str>) -> Option<DaemonAsk<'a>>
     ensures { option_map ask_of result
         ≡ daemon_asked (map string_bytes words.now) (option_map (λ t. t.now) named.entry) }
@@ -75,11 +75,13 @@ fn is_of_daemon(command: &Command<'_>) -> bool
     ensures { result ≡ is_of_daemon (asked_by command.now) }
 {
     match command {
-        Command::Apply | Command::Routes(_) | Command::Release(_, _) => true,
-        Command::Cni
-        | Command::Play
+        Command::Apply
         | Command::Get(_)
         | Command::Show(_)
+        | Command::Routes(_)
+        | Command::Release(_, _) => true,
+        Command::Cni
+        | Command::Play
         | Command::Gen(_)
         | Command::Audit(_)
         | Command::Serve(_, _)

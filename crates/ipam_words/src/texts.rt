@@ -25,7 +25,7 @@ Without it:
   ipam --help          writes this; so ipam --version the version
 
 ADDRESS is the path of a socket file, from /, or HOST:PORT for TCP. While a daemon holds the database, apply,
-routes and release ask it: ipam --daemon ADDRESS WORDS, or with IPAM_DAEMON=ADDRESS in the environment.
+show, get, routes and release ask it: ipam --daemon ADDRESS WORDS, or with IPAM_DAEMON=ADDRESS set.
 ";
 
 /// The text that `--version` writes: the program and its version, with a line feed.

@@ -5,6 +5,8 @@ ghost use Rattle.ipam_environment.specs.Values.{last_value};
 ghost use Rattle.ipam_words.specs.Daemon.{ask_of, daemon_asked};
 
 use crate::telling::{tell_unasked, tell_unreached};
+use ipam_asked_rows::get;
+use ipam_asked_views::show;
 use ipam_client::{Address, Connector, Connects, Limits};
 use ipam_environment::daemon_named;
 use ipam_io::{Link, Sink, StdSink, StdSource};
@@ -61,6 +63,8 @@ fn ask_at(rt: &HostRuntime, address: &str, command: &Command<'_>) -> u8 {
 fn ask_over<L: Link>(rt: &HostRuntime, command: &Command<'_>, link: &mut L) -> End {
     let mut sink = StdSink::new(io::writer(rt));
     match command {
+        Command::Get(kind) => get(rt.alloc(), &mut sink, link, *kind),
+        Command::Show(view) => show(rt.alloc(), &mut sink, link, view),
         Command::Routes(node) => routes(rt.alloc(), &mut sink, link, node),
         Command::Release(node, block) => release(rt.alloc(), &mut sink, link, node, *block),
         _ => apply(rt.alloc(), &mut StdSource::new(rt.stdin()), &mut sink, link),

@@ -64,5 +64,6 @@ fn serve_stored<
     address: &str,
     workers: u8,
 ) -> Served {
-    serve(threads, alloc, keeper, opening, address, workers)
+    let (served, _keeper) = serve(threads, alloc, keeper, opening, address, workers);
+    served
 }

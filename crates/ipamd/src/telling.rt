@@ -3,12 +3,13 @@
 use ipam_sqlite::StorageFault;
 
 /// The words that begin a command.
-const FIRST_WORDS: [&str; 12] = [
+const FIRST_WORDS: [&str; 13] = [
     "cni",
     "play",
     "gen",
     "apply",
     "get",
+    "show",
     "routes",
     "release",
     "audit",
@@ -18,19 +19,28 @@ const FIRST_WORDS: [&str; 12] = [
     "--version",
 ];
 
-/// Tells which of the words is unknown, or that the command doesn't take those that follow it.
+/// Tells which of the words is wrong: the first, or those that follow one that begins a command.
 pub(crate) fn tell_unknown(rt: &HostRuntime, words: &[String]) {
-    let first = match words {
-        [first, ..] => first.as_str(),
-        [] => "",
+    let _ = match words {
+        [first, ..] if first.as_str() == "\u{fffd}" => {
+            eprintln!(rt; "ipam: a word is no UTF-8; ipam --help tells the words")
+        }
+        [first] if begins_command(first.as_str()) => {
+            eprintln!(rt; "ipam: {first} wants more words; ipam --help tells the words")
+        }
+        [first, word] if begins_command(first.as_str()) => {
+            eprintln!(rt; "ipam: {first} does not take {word:?}; ipam --help tells the words")
+        }
+        [first, ..] if begins_command(first.as_str()) => {
+            eprintln!(rt; "ipam: {first} does not take these words; ipam --help tells the words")
+        }
+        [first, ..] => eprintln!(rt; "ipam: unknown word {first:?}; ipam --help tells the words"),
+        [] => Ok(()),
     };
-    let _ = if first == "\u{fffd}" {
-        eprintln!(rt; "ipam: a word is no UTF-8; ipam --help tells the words")
-    } else if FIRST_WORDS.contains(&first) {
-        eprintln!(rt; "ipam: {first} does not take these words; ipam --help tells the words")
-    } else {
-        eprintln!(rt; "ipam: unknown word {first:?}; ipam --help tells the words")
-    };
+}
+
+fn begins_command(word: &str) -> bool {
+    FIRST_WORDS.contains(&word)
 }
 
 /// Tells why the database failed.
@@ -46,7 +56,7 @@ pub(crate) fn tell_no_path(rt: &HostRuntime) {
 /// Tells that no daemon is asked these words.
 pub(crate) fn tell_unasked(rt: &HostRuntime) {
     let _ = eprintln!(rt;
-        "ipam: a daemon is asked apply, routes NODE and release NODE CIDR; ipam --help tells the words"
+        "ipam: a daemon is asked apply, get, show, routes NODE and release NODE CIDR; ipam --help tells the words"
     );
 }
 

@@ -1,7 +1,7 @@
 use Rattle.std.proofs.Common.{ℕ, sym, refl, append-nil}
 use Rattle.ipam_records.specs.declared.record.Record.{Record}
 use Rattle.ipam_audit.specs.Reported.{stray_of}
-use Rattle.ipam_audit.proofs.Steps.{step_option}
+use Rattle.ipam_show.proofs.Steps.{step_option}
 use Rattle.ipam_audit.proofs.affinities.add_stray.Goals as goal
 use Rattle.ipam_audit.proofs.affinities.add_stray.Goals.{in-Some+in_ok-push, in_default}
 

@@ -2,7 +2,7 @@ use Rattle.std.proofs.Common.{ℕ}
 use Rattle.std.proofs.lemmas.List.Elements.{filter_map-append}
 use Rattle.ipam_records.specs.declared.record.Record.{Record}
 use Rattle.ipam_audit.specs.Reported.{stray_of, stray_in}
-use Rattle.ipam_audit.proofs.Steps.{step_page}
+use Rattle.ipam_show.proofs.Steps.{step_page}
 use Rattle.ipam_audit.proofs.affinities.stray.Goals as goal
 
 pub loop-page-preserved : goal.loop-page-preserved

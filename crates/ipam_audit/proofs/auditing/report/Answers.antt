@@ -1,4 +1,4 @@
-use Rattle.std.proofs.Common.{◌≡◌, ◌∙◌, ap, length}
+use Rattle.std.proofs.Common.{◌∙◌, ap, length}
 use Rattle.ipam_audit.specs.Reported.{excess_in}
 use Rattle.ipam_audit.proofs.Listing.{report_is}
 use Rattle.ipam_audit.proofs.auditing.report.Goals as goal

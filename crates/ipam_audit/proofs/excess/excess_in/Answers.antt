@@ -1,6 +1,6 @@
 use Rattle.std.proofs.lemmas.Grind.{flat_map-append}
 use Rattle.ipam_audit.specs.Reported.{excess_of, excess_in}
-use Rattle.ipam_audit.proofs.Steps.{step_page}
+use Rattle.ipam_show.proofs.Steps.{step_page}
 use Rattle.ipam_audit.proofs.excess.excess_in.Goals as goal
 
 pub loop-page-preserved : goal.loop-page-preserved

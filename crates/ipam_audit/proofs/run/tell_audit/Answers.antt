@@ -1,4 +1,3 @@
-use Rattle.std.proofs.Common.{◌≡◌, ap, ◌∙◌}
 use Rattle.ipam_commands.specs.Telling.{NotOpened, Opened}
 use Rattle.ipam_audit.specs.Printed.{report_text}
 use Rattle.ipam_audit.specs.Reported.{report_of}

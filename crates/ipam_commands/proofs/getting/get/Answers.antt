@@ -1,5 +1,5 @@
 use Rattle.ipam_commands.specs.Telling.{NotOpened, Opened}
-use Rattle.ipam_commands.specs.Texts.{rows_text}
+use Rattle.ipam_told.specs.Rows.{rows_text}
 use Rattle.ipam_commands.proofs.getting.get.Goals as goal
 
 pub returns-in-Ok-clause-told : goal.returns-in-Ok-clause-told

@@ -1,5 +1,5 @@
 use Rattle.ipam_commands.specs.Telling.{NotOpened, Opened}
-use Rattle.ipam_commands.specs.Shown.{shown_text}
+use Rattle.ipam_told.specs.Shown.{shown_text}
 use Rattle.ipam_laws.proofs.OpenedHistory.{opened_law}
 use Rattle.ipam_words.specs.Views.{seen_by}
 use Rattle.ipam_commands.proofs.showing.show.Goals as goal

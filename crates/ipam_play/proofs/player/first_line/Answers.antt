@@ -1,29 +1,17 @@
-use Rattle.std.proofs.lemmas.Result.{err_from_is_err_and}
-use Rattle.ipam_play.proofs.Players.{first_begins, first_cause}
-use Rattle.ipam_play.proofs.Steps.{comes_of, first_kept, still_stood}
+use Rattle.ipam_play.proofs.Players.{cause_at_first}
 use Rattle.ipam_play.proofs.player.first_line.Goals as goal
-
-pub returns-in_err-play_line-clause-cause : goal.returns-in_err-play_line-clause-cause
-returns-in_err-play_line-clause-cause c = λ base events h is.
-    let (store, opened, stands) = c.in_ok-cluster.ensures.opens base h in
-    let p = err_from_is_err_and c.from_residual-in_err-play_line.result c.from_residual-in_err-play_line.ensures.1 in
-    let cause = first_cause base store c.in_ok-cluster.cluster c.play_line.new.cluster _ _ opened stands c.play_line.result c.args.line.now events is
-    (comes_of _ _ _ _ _ c.args.line.now events is c.play_line.ensures.events) in
-    rw (p.1, p.2) (rw c.in_err-play_line.was at cause)
-
-pub returns-in_err-play_line-clause-kept : goal.returns-in_err-play_line-clause-kept
-returns-in_err-play_line-clause-kept c = λ base h.
-    let (store, opened, stands) = c.in_ok-cluster.ensures.opens base h in
-    let p = err_from_is_err_and c.from_residual-in_err-play_line.result c.from_residual-in_err-play_line.ensures.1 in
-    let kept = first_kept base store c.in_ok-cluster.cluster c.play_line.new.cluster _ _ opened stands c.play_line.result c.args.line.now c.play_line.ensures.events c.play_line.ensures.journal in
-    rw p.1 (rw c.in_err-play_line.was at kept)
 
 pub returns-clause-begun : goal.returns-clause-begun
 returns-clause-begun c = λ base events h is.
     let (store, opened, stands) = c.in_ok-cluster.ensures.opens base h in
-    rw c.in_ok-play_line.was at (first_begins base store c.in_ok-cluster.cluster c.play_line.new.cluster _ _ opened stands c.play_line.result events
-    (comes_of _ _ _ _ _ c.args.line.now events is c.play_line.ensures.events))
+    c.play_first.ensures.begun base store events opened stands is
 
-pub returns-clause-standing : goal.returns-clause-standing
-returns-clause-standing c =
-    (still_stood c.play_line.result _ _ _ _ _ c.play_line.ensures.events c.play_line.ensures.kept c.in_ok-cluster.ensures.standing.0, c.play_line.ensures.timed)
+pub returns-clause-cause : goal.returns-clause-cause
+returns-clause-cause c = λ base events h is.
+    let (store, opened, stands) = c.in_ok-cluster.ensures.opens base h in
+    cause_at_first c.play_first.result base store events (c.play_first.ensures.cause base store events opened stands is)
+
+pub returns-clause-kept : goal.returns-clause-kept
+returns-clause-kept c = λ base h.
+    let (store, opened, stands) = c.in_ok-cluster.ensures.opens base h in
+    c.play_first.ensures.kept base store opened stands

@@ -3,7 +3,7 @@ use Rattle.std.specs.Prelude.{Ok}
 use Rattle.ipam_play.specs.Readings.{TakesLine, TakesNone, coming, readings}
 use Rattle.ipam_play.specs.Script.{script_of}
 use Rattle.ipam_play_run.specs.declared.end.PlayEnd.TheVariants as end
-use Rattle.ipam_play_run.specs.Writing.{HasWritten}
+use Rattle.ipam_play_run.specs.Writing.{HasWrittenJournal}
 use Rattle.ipam_play_run.proofs.Closing.{fault_is_told, fault_not_done, on_front}
 use Rattle.ipam_play_run.proofs.Runs.{all_so_far, answered, answers_known, end_on_next, first_so_far, goes_first, if_known, last_on_next, line_on_next, line_so_far, refused_on_next}
 use Rattle.ipam_play_run.proofs.run.play.Goals as goal
@@ -60,7 +60,7 @@ returns-in-Err-clause-written g c =
     let first = g.K.Sink.written c.args.sink.now in
     let now = g.K.Sink.written c.loop-line.sink in
     let after = coming c.next.new.self (g.S.Source.left c.next.new.source) in
-    if_known (g.S.Source.left c.args.source.now) (λ bytes. HasWritten c.halted.result (script_of (readings bytes)) first (g.K.Sink.written c.halted.new.sink)) (λ bytes is.
+    if_known (g.S.Source.left c.args.source.now) (λ bytes. HasWrittenJournal c.halted.result (script_of (readings bytes)) first (g.K.Sink.written c.halted.new.sink)) (λ bytes is.
     let script = script_of (readings bytes) in
     let goes = c.loop-line.invariant.goes bytes is in
     let a = answers_known after script first now c.loop-line.game c.loop-line.number (c.in-Ok-Line.is ∙ ap Ok c.in-Ok-Line.field-0-is)
@@ -73,7 +73,7 @@ returns-in-Ok-Last-clause-written g c =
     let first = g.K.Sink.written c.args.sink.now in
     let now = g.K.Sink.written c.loop-line.sink in
     let after = coming c.next.new.self (g.S.Source.left c.next.new.source) in
-    if_known (g.S.Source.left c.args.source.now) (λ bytes. HasWritten c.last_line-end.result (script_of (readings bytes)) first (g.K.Sink.written c.last_line-end.new.sink)) (λ bytes is.
+    if_known (g.S.Source.left c.args.source.now) (λ bytes. HasWrittenJournal c.last_line-end.result (script_of (readings bytes)) first (g.K.Sink.written c.last_line-end.new.sink)) (λ bytes is.
     let script = script_of (readings bytes) in
     let goes = c.loop-line.invariant.goes bytes is in
     let a = answers_known after script first now c.loop-line.game c.loop-line.number (c.in-Ok-Last.is ∙ ap Ok c.in-Ok-Last.field-0-is)
@@ -85,7 +85,7 @@ returns-in-Ok-Refused-clause-written g c =
     let first = g.K.Sink.written c.args.sink.now in
     let now = g.K.Sink.written c.loop-line.sink in
     let after = coming c.next.new.self (g.S.Source.left c.next.new.source) in
-    if_known (g.S.Source.left c.args.source.now) (λ bytes. HasWritten c.halted-in-Ok-Refused.result (script_of (readings bytes)) first (g.K.Sink.written c.halted-in-Ok-Refused.new.sink)) (λ bytes is.
+    if_known (g.S.Source.left c.args.source.now) (λ bytes. HasWrittenJournal c.halted-in-Ok-Refused.result (script_of (readings bytes)) first (g.K.Sink.written c.halted-in-Ok-Refused.new.sink)) (λ bytes is.
     let script = script_of (readings bytes) in
     let goes = c.loop-line.invariant.goes bytes is in
     let a = answers_known after script first now c.loop-line.game c.loop-line.number (c.in-Ok-Refused.is ∙ ap Ok c.in-Ok-Refused.field-0-is)
@@ -97,7 +97,7 @@ returns-in-Ok-End-clause-written g c =
     let first = g.K.Sink.written c.args.sink.now in
     let now = g.K.Sink.written c.loop-line.sink in
     let after = coming c.next.new.self (g.S.Source.left c.next.new.source) in
-    if_known (g.S.Source.left c.args.source.now) (λ bytes. HasWritten c.finish.result (script_of (readings bytes)) first (g.K.Sink.written c.finish.new.sink)) (λ bytes is.
+    if_known (g.S.Source.left c.args.source.now) (λ bytes. HasWrittenJournal c.finish.result (script_of (readings bytes)) first (g.K.Sink.written c.finish.new.sink)) (λ bytes is.
     let script = script_of (readings bytes) in
     let goes = c.loop-line.invariant.goes bytes is in
     let a = answers_known after script first now c.loop-line.game c.loop-line.number (c.in-Ok-End.is ∙ ap Ok c.in-Ok-End.field-0-is)
@@ -109,7 +109,7 @@ returns-in-Err-Read-clause-written g c =
     let first = g.K.Sink.written c.args.sink.now in
     let now = g.K.Sink.written c.loop-line.sink in
     let after = coming c.next.new.self (g.S.Source.left c.next.new.source) in
-    if_known (g.S.Source.left c.args.source.now) (λ bytes. HasWritten c.read_fault.result (script_of (readings bytes)) first (g.K.Sink.written c.read_fault.new.sink)) (λ bytes is.
+    if_known (g.S.Source.left c.args.source.now) (λ bytes. HasWrittenJournal c.read_fault.result (script_of (readings bytes)) first (g.K.Sink.written c.read_fault.new.sink)) (λ bytes is.
     let script = script_of (readings bytes) in
     let goes = c.loop-line.invariant.goes bytes is in
     c.read_fault.ensures.written script first c.loop-line.number goes.more goes.on)
@@ -119,7 +119,7 @@ returns-in-Err-Memory-clause-written g c =
     let first = g.K.Sink.written c.args.sink.now in
     let now = g.K.Sink.written c.loop-line.sink in
     let after = coming c.next.new.self (g.S.Source.left c.next.new.source) in
-    if_known (g.S.Source.left c.args.source.now) (λ bytes. HasWritten end.NoMemory (script_of (readings bytes)) first (g.K.Sink.written c.loop-line.sink)) (λ bytes is.
+    if_known (g.S.Source.left c.args.source.now) (λ bytes. HasWrittenJournal end.NoMemory (script_of (readings bytes)) first (g.K.Sink.written c.loop-line.sink)) (λ bytes is.
     let script = script_of (readings bytes) in
     let goes = c.loop-line.invariant.goes bytes is in
     on_front script first now c.loop-line.game c.loop-line.number goes.more goes.on)

@@ -1,4 +1,4 @@
-use Rattle.std.proofs.Common.{◌≡◌, ◌+◌, ◌∙◌, Option, Some, None, ap, sym, drop}
+use Rattle.std.proofs.Common.{◌≡◌, ◌+◌, ◌∙◌, Option, None, ap, sym, drop}
 use Rattle.std.specs.Option.{option_or}
 use Rattle.ipam_records.specs.Pages.{rows_of_pages}
 use Rattle.ipam_show.specs.Address.{Held, held_in, lent_holding}

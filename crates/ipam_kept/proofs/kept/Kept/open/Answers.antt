@@ -1,30 +1,52 @@
-use Rattle.std.proofs.Common.{None, refl}
+use Rattle.std.proofs.Common.{◌≡◌, None, Ok, Err, refl, ◌∙◌}
+use Rattle.ipam_cluster.specs.declared.cluster.Cluster.{Cluster}
+use Rattle.ipam_feed.specs.Shape.{RingValue}
+use Rattle.ipam_kept.specs.Faults.{IsOpening}
+use Rattle.ipam_kept.specs.Opening.{IsFed}
+use Rattle.ipam_kept.specs.Rows.{texts_loaded}
+use Rattle.ipam_opening.specs.Opening.{IsFaultOf}
+use Rattle.ipam_kept.proofs.Openings.{were-loaded, why-not}
 use Rattle.ipam_kept.proofs.Standing.{opened-kept}
 use Rattle.ipam_kept.proofs.kept.Kept.open.Goals as goal
 
-pub returns-in-Ok-open_fed-clause-opened : goal.returns-in-Ok-open_fed-clause-opened
-returns-in-Ok-open_fed-clause-opened g c =
-    let loaded = c.in-Ok.rows.items in
-    let load = c.in-Ok.ensures in
-    let open_fed = c.in-Ok-open_fed.ensures in
+pub returns-in-Ok-clause-opened : goal.returns-in-Ok-clause-opened
+returns-in-Ok-clause-opened g c =
+    let both : Cluster × RingValue = (c.in-Ok.cluster, c.in-Ok.ring) in
+    let opening : IsOpening (IsFed c.args.first) (λ rows fault. IsFaultOf (texts_loaded rows) fault) c.load-loaded.result (Ok both) = rw c.in-Ok.is at c.open_loaded.ensures in
+    let (rows, is, fed) = were-loaded (IsFed c.args.first) (λ rows fault. IsFaultOf (texts_loaded rows) fault) c.load-loaded.result both opening in
+    let ascending = rw is at c.load-loaded.ensures.ascending in
+    let told = rw is at c.load-loaded.ensures.told in
+    let load = c.load-loaded.ensures in
     record {
-      loaded = loaded;
-      told = load.told;
-      opens = open_fed.opens;
-      entries = open_fed.entries;
-      idle = open_fed.idle;
-      stands = opened-kept g.D.Keeper.rows c.args.keeper c.args.first (record { cluster = c.in-Ok-open_fed.cluster; keeper = c.load.new.self; doubt = None; ring = c.in-Ok-open_fed.ring }) loaded load.ascending load.told open_fed.opens open_fed.stands refl load.kept open_fed.fed.counter;
+      loaded = rows.items;
+      told = told;
+      opens = fed.opens;
+      entries = fed.entries;
+      idle = fed.idle;
+      stands = opened-kept g.D.Keeper.rows c.args.keeper c.args.first (record { cluster = c.in-Ok.cluster; keeper = c.load-loaded.new.self; doubt = None; ring = c.in-Ok.ring }) rows.items ascending told fed.opens fed.stands refl load.kept fed.fed.counter;
       sure = refl;
       same_rows = load.kept;
-      no_fault = load.no_fault;
+      no_fault = rw is at load.no_fault;
       same = load.same;
     }
 
-pub returns-in-Ok-open_fed-clause-fed : goal.returns-in-Ok-open_fed-clause-fed
-returns-in-Ok-open_fed-clause-fed g c =
-    let open_fed = c.in-Ok-open_fed.ensures in
-    let load = c.in-Ok.ensures in
+pub returns-in-Ok-clause-fed : goal.returns-in-Ok-clause-fed
+returns-in-Ok-clause-fed g c =
+    let both : Cluster × RingValue = (c.in-Ok.cluster, c.in-Ok.ring) in
+    let opening : IsOpening (IsFed c.args.first) (λ rows fault. IsFaultOf (texts_loaded rows) fault) c.load-loaded.result (Ok both) = rw c.in-Ok.is at c.open_loaded.ensures in
+    let (rows, is, fed) = were-loaded (IsFed c.args.first) (λ rows fault. IsFaultOf (texts_loaded rows) fault) c.load-loaded.result both opening in
+    let ascending = rw is at c.load-loaded.ensures.ascending in
+    let told = rw is at c.load-loaded.ensures.told in
     record {
-      kept_for = opened-kept g.D.Keeper.rows c.args.keeper c.args.first (record { cluster = c.in-Ok-open_fed.cluster; keeper = c.load.new.self; doubt = None; ring = c.in-Ok-open_fed.ring }) c.in-Ok.rows.items load.ascending load.told open_fed.opens open_fed.stands refl load.kept open_fed.fed.counter;
-      follows = open_fed.fed;
+      kept_for = opened-kept g.D.Keeper.rows c.args.keeper c.args.first (record { cluster = c.in-Ok.cluster; keeper = c.load-loaded.new.self; doubt = None; ring = c.in-Ok.ring }) rows.items ascending told fed.opens fed.stands refl c.load-loaded.ensures.kept fed.fed.counter;
+      follows = fed.fed;
+    }
+
+pub returns-in-Err-clause-refused : goal.returns-in-Err-clause-refused
+returns-in-Err-clause-refused g c =
+    let load = c.load-loaded.ensures in
+    record {
+      same_rows = load.kept;
+      same = load.same;
+      fault = why-not (IsFed c.args.first) g.D.Keeper.rows g.D.Keeper.faults c.args.keeper c.load-loaded.new.self c.load-loaded.result c.in-Err.fault (rw c.in-Err.is at c.open_loaded.ensures) load.told load.fault load.no_fault;
     }

@@ -1,9 +1,10 @@
-use Rattle.std.proofs.Common.{refl, sym, subst}
+use Rattle.std.proofs.Common.{◌∙◌, ap, refl, sym, subst}
 use Rattle.std.proofs.lemmas.Result.{err_from_is_err_and}
 use Rattle.ipam_play.specs.Player.{IsStandingStage}
+use Rattle.ipam_play.specs.Script.{events_of}
 use Rattle.ipam_play.specs.Times.{StandsTimed}
 use Rattle.ipam_play.proofs.LineKinds.{some_events}
-use Rattle.ipam_play.proofs.Steps.{counter_line, line_begins, line_plays, line_refused, line_stays, never_both, row_line, still_stood}
+use Rattle.ipam_play.proofs.Steps.{counter_line, counter_told, line_begins, line_plays, line_refused, line_stays, never_both, row_line, still_stood}
 use Rattle.ipam_play.proofs.player.Player.step.Goals as goal
 
 pub returns-in_err-cluster-in_default : goal.returns-in_err-cluster-in_default
@@ -16,6 +17,7 @@ returns-in_err-cluster-in_default c =
           c.in_err-cluster-in_default.ensures.cause c.in_err-cluster-in_default.ensures.kept);
       played = λ base store past h. absurd (never_both c.args.self.now c.in-Gathering.gathering base store past c.in-Gathering.is h);
       playing = λ base store past h. absurd (never_both c.args.self.now c.in-Gathering.gathering base store past c.in-Gathering.is h);
+      counter = λ counter is. absurd (c.in_default.not-Counter counter is);
     }
 
 pub returns-in-Row-clause-gathered : goal.returns-in-Row-clause-gathered
@@ -28,6 +30,9 @@ returns-in-Counter-clause-gathered c =
     rw (c.told-in-Counter.ensures, c.in-Counter.is) (counter_line c.args.self.now _ c.in-Gathering.gathering c.set_counter.new.self c.in-Gathering.is refl refl c.in-Counter.counter c.set_counter.result
     c.set_counter.ensures.again c.set_counter.ensures.set)
 
+pub returns-in-Counter-clause-counter : goal.returns-in-Counter-clause-counter
+returns-in-Counter-clause-counter c = rw c.told-in-Counter.ensures (λ counter is. counter_told c.set_counter.result c.set_counter.ensures.told)
+
 pub returns-in_ok-cluster-in_default : goal.returns-in_ok-cluster-in_default
 returns-in_ok-cluster-in_default c =
     let (events, is) = some_events c.args.line.now c.in_default.not-Row c.in_default.not-Counter in
@@ -37,7 +42,11 @@ returns-in_ok-cluster-in_default c =
           c.in_ok-cluster-in_default.ensures.begun;
       played = λ base store past h. absurd (never_both c.args.self.now c.in-Gathering.gathering base store past c.in-Gathering.is h);
       playing = λ base store past h. absurd (never_both c.args.self.now c.in-Gathering.gathering base store past c.in-Gathering.is h);
+      counter = λ counter is. absurd (c.in_default.not-Counter counter is);
     }
+
+pub returns-in-Playing-clause-counter : goal.returns-in-Playing-clause-counter
+returns-in-Playing-clause-counter c = λ counter is memory. absurd (cc (sym (c.play_line.ensures.of_base (ap events_of is)) ∙ memory))
 
 pub returns-in-Playing-clause-standing : goal.returns-in-Playing-clause-standing
 returns-in-Playing-clause-standing c =

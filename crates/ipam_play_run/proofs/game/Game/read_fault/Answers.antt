@@ -1,13 +1,13 @@
 use Rattle.std.proofs.Common.{◌≡◌, ◌∙◌, subst, sym, ◌⊎◌}
 use Rattle.ipam_play_run.specs.declared.end.PlayEnd.{PlayEnd}
 use Rattle.ipam_play_run.specs.declared.end.PlayEnd.TheVariants as end
-use Rattle.ipam_play_run.specs.Writing.{CountsEnd, HasWritten}
+use Rattle.ipam_play_run.specs.Writing.{CountsEnd, HasWrittenJournal}
 use Rattle.ipam_play_run.proofs.Closing.{counts_end, fault_ends, fault_or_write, fault_so_far}
 use Rattle.ipam_play_run.proofs.game.Game.read_fault.Goals as goal
 
 pub returns-clause-written : goal.returns-clause-written
 returns-clause-written g c = λ script first number more on.
-    subst (λ (e : PlayEnd). HasWritten e script first (g.K.Sink.written c.end.new.sink)) (sym c.ended.ensures)
+    subst (λ (e : PlayEnd). HasWrittenJournal e script first (g.K.Sink.written c.end.new.sink)) (sym c.ended.ensures)
     (fault_ends c.end.result script first (g.K.Sink.written c.args.sink.now) (g.K.Sink.written c.end.new.sink) c.args.self number more on c.end.ensures.wrote c.end.ensures.part)
 
 pub returns-clause-counts : goal.returns-clause-counts

@@ -1,9 +1,12 @@
-use Rattle.std.proofs.Common.{subst, sym, refl}
+use Rattle.std.proofs.Common.{◌≡◌, ◌∙◌, subst, sym, refl}
 use Rattle.std.specs.Prelude.{Err}
 use Rattle.ipam_play_run.specs.declared.game.Game.{Game}
+use Rattle.ipam_play.specs.declared.fault.PlayFault.{PlayFault}
 use Rattle.ipam_play_run.specs.declared.halt.Halt.{Halt}
-use Rattle.ipam_play_run.specs.Halting.{CountsWrites, IsHalted}
+use Rattle.ipam_play_run.specs.declared.halt.Halt.TheVariants as halt
+use Rattle.ipam_play_run.specs.Halting.{CountsWrites, IsHalted, halt_of}
 use Rattle.ipam_play_run.proofs.Games.{WritesJournal, base_halts, base_went, counts_halt, event_halts, event_went, late_halts, never_late, plays_known}
+use Rattle.ipam_play_run.proofs.Steps.{wants_event}
 use Rattle.ipam_play_run.proofs.game.Game.step.Goals as goal
 
 pub returns-in-Ok-clause-event : goal.returns-in-Ok-clause-event
@@ -68,3 +71,13 @@ pub returns-in-Err-clause-counts : goal.returns-in-Err-clause-counts
 returns-in-Err-clause-counts g c =
     let n = g.K.Sink.write_faults c.args.sink.now in
     subst (λ (h : Halt). CountsWrites {T = Unit {0}} (Err h) n n) (sym c.of.ensures) (counts_halt (Unit {0}) c.in-Err.fault n)
+
+pub returns-in-Ok-clause-wants : goal.returns-in-Ok-clause-wants
+returns-in-Ok-clause-wants g c = λ event is memory.
+    wants_event c.step.result c.args.self.now.player c.step.new.self c.args.line.now event is c.step.ensures.played (λ told is_told. absurd (cc (sym c.in-Ok.is ∙ is_told)))
+
+pub returns-in-Err-clause-wants : goal.returns-in-Err-clause-wants
+returns-in-Err-clause-wants g c = λ event is memory.
+    let same : halt_of c.in-Err.fault ≡ halt.Memory = cc (c.of.ensures, memory) in
+    wants_event c.step.result c.args.self.now.player c.step.new.self c.args.line.now event is c.step.ensures.played
+    (λ told is_told. subst (λ (t : PlayFault). halt_of t ≡ halt.Memory) (cc (sym c.in-Err.is ∙ is_told)) same)

@@ -1,0 +1,4 @@
+pub mod Counted
+pub mod Loaded
+pub mod Texts
+pub mod Saying

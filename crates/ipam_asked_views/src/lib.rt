@@ -1,0 +1,7 @@
+//! What an operator is shown of the rows of a running daemon.
+#![tactic(auto)]
+
+mod datastore;
+mod showing;
+
+pub use showing::show;

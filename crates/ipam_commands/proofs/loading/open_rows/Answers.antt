@@ -1,0 +1,5 @@
+use Rattle.ipam_kept.proofs.TextRows.{ascend-by_key}
+use Rattle.ipam_commands.proofs.loading.open_rows.Goals as goal
+
+pub open-requires : goal.open-requires
+open-requires c = ascend-by_key c.args.rows.now c.requires

@@ -1,0 +1,4 @@
+-- Lemmas on pages.
+pub mod Taking
+pub mod Skipping
+pub mod Fronts

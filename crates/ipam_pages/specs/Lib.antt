@@ -1,0 +1,2 @@
+-- A page of the rows of one kind.
+pub mod Page

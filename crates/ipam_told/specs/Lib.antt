@@ -1,0 +1,3 @@
+-- What `get` and `show` tell of rows.
+pub mod Rows
+pub mod Shown
