@@ -173,6 +173,10 @@ def answer_once(server, replies):
         for reply in replies:
             link.recv(65536)
             link.sendall(reply)
+        # (what is asked then is taken and has no reply: a link that is closed at once would fail in the write)
+        link.shutdown(socket.SHUT_WR)
+        while link.recv(65536):
+            pass
 
 
 def asked_of_stranger(program, folder, number, words, replies):
