@@ -99,6 +99,7 @@ def looks(blocks):
     yield ["show"]
     yield ["show", "--json"]
     yield ["show", "blocks"]
+    yield ["audit", "2"]
     for node in ("a", "b", "none"):
         yield ["show", "node", node]
     for _, cidr in blocks[:2]:
@@ -125,12 +126,26 @@ def questions(draw, blocks):
     yield ["apply"], json.dumps(several([pool("t", "10.20.0.0/24"), pool("u", "10.0.0.0/16"), pool("v", "10.30.0.0/24")]))
     yield ["apply"], json.dumps(pool("p", "10.40.0.0/24"))
     yield ["apply"], json.dumps(reservation("x", ["10.50.0.0/24", "10.0.0.9"]))
+    for name in ("x", "x", "r", "none"):
+        yield ["unreserve", name], ""
+        yield ["get", "reservations"], ""
     yield ["apply"], json.dumps(pool("w", "10.0.0.1/24"))
     yield ["apply"], "{"
     yield ["apply"], ""
     yield ["routes", "b"], ""
     for words in looks(blocks):
         yield words, ""
+
+
+def compare_backups(program, folder, number, words):
+    """Backs up over the file and over the daemon. Each new database has the rows that are there, and is not made anew."""
+    files = {side: folder / f"backup-{number}-{side}.db" for side in words}
+    saved = {side: words[side].run(["backup", str(files[side])]) for side in words}
+    compare(f"base {number}: backup", saved["file"], saved["daemon"])
+    for side in words:
+        compare(f"base {number}: the rows of a backup over the {side}", words[side].run(["get"]), Words(program, files[side]).run(["get"]))
+        compare(f"base {number}: a backup that is there", (1, "file exists\n"), words[side].run(["backup", str(files[side])]))
+    compare(f"base {number}: a backup in no folder", *(words[side].run(["backup", str(folder / "none" / "b.db")]) for side in words))
 
 
 def serve(program, database, address):
@@ -161,6 +176,7 @@ def try_base(program, folder, number):
         over_file, over_daemon = Words(program, one), Words(program, other, address)
         for count, (words, given) in enumerate(questions(draw, blocks_of(program, one))):
             compare(f"base {number}: {' '.join(words)}", over_file.run(words, given), over_daemon.run(words, given, count % 2 == 1))
+        compare_backups(program, folder, number, {"file": over_file, "daemon": over_daemon})
     finally:
         daemon.kill()
         daemon.wait()
@@ -208,9 +224,13 @@ def try_strangers(program, folder):
     nobody = Words(program, folder / "none.db", folder / "none.sock")
     compare("nobody answers", (10, "link fault\n"), nobody.run(["routes", "a"]))
     compare("nobody answers apply", (10, "link fault\n"), nobody.run(["apply"], json.dumps(pool("p", "10.0.0.0/24"))))
-    for words in (["get"], ["get", "block"], ["show"], ["show", "10.0.0.1"]):
+    copy = folder / "copy.db"
+    for words in (["get"], ["get", "block"], ["show"], ["show", "10.0.0.1"], ["audit", "2"], ["unreserve", "r"], ["backup", str(copy)]):
         compare(f"nobody answers {words}", (10, "link fault\n"), nobody.run(words))
-    compare("a word that no daemon is asked", (2, "unknown words\n"), nobody.run(["audit", "2"]))
+    compare("nobody answers a backup: its file", False, copy.exists())
+    compare("a word that no daemon is asked", (2, "unknown words\n"), nobody.run(["gen", "2"]))
+    for words in (["audit", "0"], ["unreserve", "a/b"], ["backup"], ["backup", "a", "b"]):
+        compare(f"unknown {words}", (2, "unknown words\n"), nobody.run(words))
     compare("no word", (2, "unknown words\n"), nobody.run([]))
     for number, reply in enumerate(STRANGE):
         compare(f"a reply {reply!r}", (11, "reply fault\n"), asked_of_stranger(program, folder, f"r{number}", ["release", "a", "10.0.0.0/30"], [reply]))
@@ -225,6 +245,11 @@ def try_strangers(program, folder):
     ]):
         got = asked_of_stranger(program, folder, f"g{number}", ["get", "handle"], replies)
         compare(f"get handle, replies {replies!r}", (11, "reply fault\n"), got)
+    for number, words in enumerate((["audit", "2"], ["unreserve", "r"], ["backup", str(copy)])):
+        for more, reply in enumerate(STRANGE):
+            got = asked_of_stranger(program, folder, f"u{number}-{more}", words, [reply])
+            compare(f"{words}, a reply {reply!r}", (11, "reply fault\n"), got)
+    compare("a backup of a stranger: its file", False, copy.exists())
     got = asked_of_stranger(program, folder, "two", ["get", "handle"], [first, page([row("handle/b")])])
     compare("get handle, two pages", (0, "handle/a 1 B\nhandle/b 1 B\n"), got)
     long = page([row("handle/a", "B" * 3_000_000)])

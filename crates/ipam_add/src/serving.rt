@@ -32,23 +32,12 @@ use std::alloc::{AllocError, Global};
 
 /// The rounds of one family of an ADD: what was read is scanned, and by what is picked an address
 /// is assigned or a block is claimed. The request is lent to each call.
-#[derive(Debug)]
+#[derive(Debug, Drop)]
 pub struct Serving {
     family: Family,
     rounds: Rounds,
     left: Left,
     step: Step,
-}
-
-impl Drop for Serving {
-    fn drop(self) {
-        let Serving {
-            family: _,
-            rounds: _,
-            left: _,
-            step: _,
-        } = self;
-    }
 }
 
 #[derive(Debug, Drop)]

@@ -254,13 +254,7 @@ granted-written store later (ListAll kind) (Can revision) sound e = tt
 granted-written store later (Create new) (Can revision) sound e = (put-sound store later revision new sound e, refl)
 granted-written store later (Update new old) (Can revision) sound e = (put-sound store later revision new sound e, refl)
 granted-written store later (Delete k old) (Can revision) sound e = tt
-granted-written store later asked (Found revision found) sound e = tt
-granted-written store later asked Missing sound e = tt
-granted-written store later asked (Listed rows) sound e = tt
-granted-written store later asked (Exists revision) sound e = tt
-granted-written store later asked (Conflict revision) sound e = tt
-granted-written store later asked Full sound e = tt
-granted-written store later asked Spent sound e = tt
+granted-written store later asked other sound e = tt
 
 done-written : (store later : Datastore) (asked : Call) (c : Called) → IsDatastore later → IsDoneBy store later asked c → IsSoundWritten (name_of asked) c.written
 done-written store later asked c sound done =

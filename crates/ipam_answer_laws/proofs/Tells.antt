@@ -139,18 +139,7 @@ write_back-sound Spent new told h = h
 -- the handle that is told of has an id
 pub handle_said-id : (id : List ℕ) (said : Said) → IsHandleId id → IsSoundSaid said → IsHandleId (handle_said id said).id
 handle_said-id id (Found revision (record_of.Handle found)) h told = told.0.id
-handle_said-id id (Found revision (record_of.Config config)) h told = h
-handle_said-id id (Found revision (record_of.Pools pools)) h told = h
-handle_said-id id (Found revision (record_of.Reservations reservations)) h told = h
-handle_said-id id (Found revision (record_of.Block b)) h told = h
-handle_said-id id (Found revision (record_of.Affinity a)) h told = h
-handle_said-id id Missing h told = h
-handle_said-id id (Listed rows) h told = h
-handle_said-id id (Can revision) h told = h
-handle_said-id id (Exists revision) h told = h
-handle_said-id id (Conflict revision) h told = h
-handle_said-id id Full h told = h
-handle_said-id id Spent h told = h
+handle_said-id id other h told = h
 
 -- a block that was read is sound, and its revision fits 64 bits
 abbrev pub IsSoundRead : BlockRead → Type 0
@@ -159,18 +148,7 @@ IsSoundRead (Some found) = IsBlockRecord found.1 × FitsIn64 found.0
 
 pub block_said-sound : (said : Said) → IsSoundSaid said → IsSoundRead (block_said said)
 block_said-sound (Found revision (record_of.Block b)) told = told
-block_said-sound (Found revision (record_of.Handle found)) told = tt
-block_said-sound (Found revision (record_of.Config config)) told = tt
-block_said-sound (Found revision (record_of.Pools pools)) told = tt
-block_said-sound (Found revision (record_of.Reservations reservations)) told = tt
-block_said-sound (Found revision (record_of.Affinity a)) told = tt
-block_said-sound Missing told = tt
-block_said-sound (Listed rows) told = tt
-block_said-sound (Can revision) told = tt
-block_said-sound (Exists revision) told = tt
-block_said-sound (Conflict revision) told = tt
-block_said-sound Full told = tt
-block_said-sound Spent told = tt
+block_said-sound other told = tt
 
 -- the revision of an affinity that was read fits 64 bits
 abbrev pub IsSoundTie : Option (ℕ × Affinity) → Type 0
@@ -179,25 +157,8 @@ IsSoundTie (Some found) = FitsIn64 found.0
 
 pub affinity_said-sound : (said : Said) → IsSoundSaid said → IsSoundTie (affinity_said said)
 affinity_said-sound (Found revision (record_of.Affinity a)) told = told.1
-affinity_said-sound (Found revision (record_of.Block b)) told = tt
-affinity_said-sound (Found revision (record_of.Handle found)) told = tt
-affinity_said-sound (Found revision (record_of.Config config)) told = tt
-affinity_said-sound (Found revision (record_of.Pools pools)) told = tt
-affinity_said-sound (Found revision (record_of.Reservations reservations)) told = tt
-affinity_said-sound Missing told = tt
-affinity_said-sound (Listed rows) told = tt
-affinity_said-sound (Can revision) told = tt
-affinity_said-sound (Exists revision) told = tt
-affinity_said-sound (Conflict revision) told = tt
-affinity_said-sound Full told = tt
-affinity_said-sound Spent told = tt
+affinity_said-sound other told = tt
 
 pub rows_said-sound : (said : Said) → IsSoundSaid said → AllByRecursion IsSoundRow (rows_said said)
 rows_said-sound (Listed rows) told = told
-rows_said-sound (Found revision found) told = tt
-rows_said-sound Missing told = tt
-rows_said-sound (Can revision) told = tt
-rows_said-sound (Exists revision) told = tt
-rows_said-sound (Conflict revision) told = tt
-rows_said-sound Full told = tt
-rows_said-sound Spent told = tt
+rows_said-sound other told = tt

@@ -1,6 +1,6 @@
 -- Each sound request calls by sound names and comes to a sound answer, whatever sound replies it hears.
-use Rattle.std.proofs.Common.{◌≡◌, ℕ, ◌+◌, ◌-◌, ◌<◌, ◌≤◌, inl, inr, Bool, true, false, cond, List, [], ◌∷◌, ◌++◌, map, Option, Some, None, ◌&&◌, not, refl, sym, ap, ◌∙◌, subst, arith}
-use Rattle.std.specs.Prelude.{Contains, MatchOption, length, nat_le}
+use Rattle.std.proofs.Common.{◌≡◌, ℕ, ◌+◌, ◌-◌, ◌<◌, ◌≤◌, inr, Bool, true, false, cond, List, [], ◌∷◌, ◌++◌, map, Option, Some, None, ◌&&◌, not, refl, sym, subst, arith}
+use Rattle.std.specs.Prelude.{Contains, length, nat_le}
 use Rattle.std.specs.List.{AllByRecursion, filter, find, list_any}
 use Rattle.std.proofs.lemmas.List.Elements.{All-contains, recursion_from_All}
 use Rattle.ipam_addr.specs.declared.address.Family.{Family}
@@ -67,8 +67,8 @@ use Rattle.ipam_model.specs.AddThis as this
 use Rattle.ipam_model.specs.Admin as change
 use Rattle.ipam_model.specs.Affinities.{BlockRead, release}
 use Rattle.ipam_model.specs.Assigning.{Target, target_in, assign, claim_for}
-use Rattle.ipam_model.specs.Choice.{Share, Takes, Claims, Leaves, by_share, share_of, is_block_at, block_in_found, block_at, is_confirmed_for, is_reserved, is_unowned_and_empty, may_claim, has_free_address, room_of, rank_of_block, rank_at, Rank, Own, Unconfirmed, Unclaimed, Foreign, Ranked, Seen, Pick, Unknown, Lacks, Picks, IsBest, choice_in, choice_of, pick_of}
-use Rattle.ipam_model.proofs.ChoiceLemmas.{choice_is, pick-ranked}
+use Rattle.ipam_model.specs.Choice.{Share, Takes, Claims, Leaves, by_share, share_of, is_block_at, block_in_found, block_at, is_confirmed_for, is_reserved, is_unowned_and_empty, may_claim, has_free_address, room_of, rank_of_block, rank_at, Rank, Own, Unconfirmed, Unclaimed, Foreign, Ranked, Seen, Pick, Unknown, Lacks, Picks, choice_of, pick_of}
+use Rattle.ipam_model.proofs.ChoiceLemmas.{pick-ranked}
 use Rattle.ipam_model.specs.Counting.{freeing_all, freeing_one, free}
 use Rattle.ipam_model.specs.Look as look
 use Rattle.ipam_model.specs.Owners.{is_owner_in}
@@ -78,11 +78,11 @@ use Rattle.ipam_model.specs.Requests.{word_of, told_as}
 use Rattle.ipam_model.specs.SoundRequest.{IsSoundRequest}
 use Rattle.ipam_model.specs.Step.{all_left, Part, goes, with_retries, in_rounds}
 use Rattle.ipam_model.specs.Told.{of_add, of_add_this, of_del, of_check, of_release, of_collect, of_admin, of_probe}
-use Rattle.ipam_model.specs.Usable.{Asked, families_if, is_usable, pool_of, unknown_name, usable_pool_of}
-use Rattle.ipam_laws.proofs.ChosenSlots.{chosen-slot, slot_in}
-use Rattle.ipam_laws.proofs.Members.{in-find, in-nothing, in-place}
+use Rattle.ipam_model.specs.Usable.{Asked, families_if, is_usable, pool_of, usable_pool_of}
+use Rattle.ipam_laws.proofs.Members.{in-find, in-nothing}
 use Rattle.ipam_laws.proofs.RequestSteps.{key-changed}
 use Rattle.ipam_laws.proofs.SoundBlocks.{slot-of-pool}
+use Rattle.ipam_laws.proofs.WordSteps.{picked-slot}
 use Rattle.ipam_answer_laws.specs.Answers.{FitsIn64, IsSoundScan, IsSoundGiven, IsSoundItem, IsSoundAnswer, IsSoundCollection}
 use Rattle.ipam_answer_laws.proofs.Tells.{Any, AreSoundStops, Comes, IsSoundRead, IsSoundRow, IsSoundSaid, IsSoundStop, Tells, block_said-sound, bound-tells, followed-tells, on_write-tells, rounds-tells, rows_said-sound, settled-tells, tries-tells, write_back-sound}
 use Rattle.ipam_answer_laws.proofs.TellsParts.{IsSoundDone, IsSoundSeen, IsSoundTarget, assign-tells, claim_for-tells, five_reads-tells, free-tells, release-tells}
@@ -211,25 +211,6 @@ rank_at-sound asked seen slot None rank h e = by (may_claim asked seen && has_fr
     by : (b : Bool) → cond b (Some (Unclaimed None)) None ≡ Some rank → IsSoundRank rank
     by true f = let same : Unclaimed None ≡ rank = cc f in subst (λ (x : Rank). IsSoundRank x) same tt
     by false f = absurd (cc f)
-
--- it is a slot of a pool that was seen
-picked-slot : (asked : Asked) (seen : Seen) (found : Ranked) → pick_of asked seen ≡ Picks found → (pool : Pool) × Contains seen.pools pool × IsSlotOf pool found.slot
-picked-slot asked seen found e = by (unknown_name asked seen.pools) (choice_is asked seen)
-  where
-    chosen_is : slot_in (choice_of asked seen) ≡ Some found.slot
-    chosen_is = ap (λ pick. slot_in (choice_in pick)) e ∙ chosen-slot found.slot found.rank
-
-    by : (o : Option ℕ) → MatchOption o (IsBest asked seen (choice_of asked seen)) (λ place. choice_of asked seen ≡ NoPool place) → (pool : Pool) × Contains seen.pools pool × IsSlotOf pool found.slot
-    by (Some place) h = let none = ap slot_in h in absurd (cc (none, chosen_is))
-    by None (inl (nothing, is)) = let none = ap slot_in is in absurd (cc (none, chosen_is))
-    by None (inr (first, is)) =
-        let best = first.best.ranked in
-        let slots : Some best.slot ≡ Some found.slot = sym (chosen-slot best.slot best.rank) ∙ (sym (ap slot_in is) ∙ chosen_is) in
-        let same : best.slot ≡ found.slot = cc slots in (
-          first.candidate.pool,
-          in-place seen.pools first.best.place first.candidate.pool first.candidate.at_place,
-          record { number = first.best.number; within = first.candidate.within; is = sym same ∙ first.candidate.is_slot },
-        )
 
 -- what was picked is a CIDR, for a sound cause
 record IsSoundPick (ranked : Ranked) : Type 0 where
@@ -444,18 +425,7 @@ counted-ranges (count ∷ counts) h = (h.0.range, counted-ranges counts h.1)
 
 handle_said-ranges : (id : List ℕ) (said : Said) → IsSoundSaid said → AllByRecursion IsCidr (map (λ (count : CidrValue × ℕ). count.0) (handle_said id said).counts)
 handle_said-ranges id (Found revision (record_of.Handle found)) told = counted-ranges found.counts (recursion_from_All _ found.counts told.0.ranges)
-handle_said-ranges id (Found revision (record_of.Config config)) told = tt
-handle_said-ranges id (Found revision (record_of.Pools pools)) told = tt
-handle_said-ranges id (Found revision (record_of.Reservations reservations)) told = tt
-handle_said-ranges id (Found revision (record_of.Block b)) told = tt
-handle_said-ranges id (Found revision (record_of.Affinity a)) told = tt
-handle_said-ranges id Missing told = tt
-handle_said-ranges id (Listed rows) told = tt
-handle_said-ranges id (Can revision) told = tt
-handle_said-ranges id (Exists revision) told = tt
-handle_said-ranges id (Conflict revision) told = tt
-handle_said-ranges id Full told = tt
-handle_said-ranges id Spent told = tt
+handle_said-ranges id other told = tt
 
 del-tells : (id : List ℕ) → IsHandleId id → Tells SaysDel (remove.del_word id)
 del-tells id named = (

@@ -1,5 +1,5 @@
 -- Pages that are asked for one after the other.
-use Rattle.std.proofs.Common.{◌≡◌, Bool, true, false, List, [], sym, subst, Result, Ok}
+use Rattle.std.proofs.Common.{◌≡◌, Bool, true, false, List, [], subst, Result, Ok}
 use Rattle.ipam_operator.specs.declared.asking.AskFault.{AskFault}
 use Rattle.ipam_operator.specs.Asking.{Wire}
 use Rattle.ipam_records.specs.declared.call.Row.{Row}

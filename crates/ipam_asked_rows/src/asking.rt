@@ -39,7 +39,8 @@ pub fn ask_rows<L: Link>(
     ask_kinds(alloc, link, &mut lines, kinds)
 }
 
-fn ask_kinds<L: Link>(
+/// The same where these bytes were read already.
+pub fn ask_kinds<L: Link>(
     alloc: Global,
     link: &mut L,
     lines: &mut Lines<REPLY_BYTES>,

@@ -7,5 +7,5 @@ mod getting;
 mod page;
 mod row;
 
-pub use asking::ask_rows;
+pub use asking::{ask_kinds, ask_rows};
 pub use getting::get;

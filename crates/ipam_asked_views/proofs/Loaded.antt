@@ -1,13 +1,9 @@
 -- What comes of a row that is loaded.
-use Rattle.std.proofs.Common.{◌≡◌, ℕ, ◌&&◌, Bool, true, false, Option, Some, None, IsSome, Result, Ok, Err, is_none, refl, sym}
-use Rattle.ipam_json.specs.Members.{only_if}
-use Rattle.ipam_records.specs.declared.call.Row.{Row}
-use Rattle.ipam_records.specs.declared.fault.TextFault.{TextFault}
+use Rattle.std.proofs.Common.{◌≡◌, ℕ, true, Option, Some, None, IsSome, refl}
 use Rattle.ipam_records.specs.declared.record.Record.{Record}
 use Rattle.ipam_records.specs.Datastore.{Datastore, row_of, with_row}
 use Rattle.ipam_records.specs.Key.{key_of}
-use Rattle.ipam_records.specs.RecordReading.{record_reading}
-use Rattle.ipam_asked_views.specs.Datastore.{may_load, with_record, with_text}
+use Rattle.ipam_asked_views.specs.Datastore.{may_load, with_record}
 
 none_told : {A : Type 0} (o : Option A) → (IsSome o → ⊥) → o ≡ None
 none_told None h = refl
@@ -20,9 +16,6 @@ pub with_place : (revision : ℕ) (found : Record) (store : Datastore) → may_l
     → Some (record store { rows = with_row (revision, found) store.rows }) ≡ with_record revision found store
 with_place revision found store may none = rw (may, none) refl
 
-pub without_place : (revision : ℕ) (found : Record) (store : Datastore) → may_load revision found store ≡ false → None ≡ with_record revision found store
-without_place revision found store may = rw may refl
-
 pub with_other : (revision : ℕ) (found : Record) (store : Datastore) → may_load revision found store ≡ true → IsSome (row_of (key_of found) store.rows)
     → None ≡ with_record revision found store
 with_other revision found store may there = by (row_of (key_of found) store.rows) refl there
@@ -30,12 +23,3 @@ with_other revision found store may there = by (row_of (key_of found) store.rows
     by : (o : Option (ℕ × Record)) → row_of (key_of found) store.rows ≡ o → IsSome o → None ≡ with_record revision found store
     by None is h = absurd (cc h)
     by (Some other) is h = rw (may, is) refl
-
--- a row that is not read has no place
-pub unread : (row : Row) (store : Datastore) (fault : TextFault) → record_reading row.key row.body ≡ Err fault → None ≡ with_text row store
-unfolding with_text
-unread row store fault is = rw is refl
-
-pub read_as : (row : Row) (store : Datastore) (found : Record) → record_reading row.key row.body ≡ Ok found → with_record row.revision found store ≡ with_text row store
-unfolding with_text
-read_as row store found is = rw is refl

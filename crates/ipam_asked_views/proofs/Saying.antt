@@ -1,7 +1,6 @@
 -- What is told of rows that came.
-use Rattle.std.proofs.Common.{◌≡◌, ℕ, List, Option, Some, None, subst}
+use Rattle.std.proofs.Common.{◌≡◌, ℕ, List, Option, subst}
 use Rattle.ipam_operator.specs.declared.end.End.{End}
-use Rattle.ipam_operator.specs.declared.end.End.TheVariants as end
 use Rattle.ipam_operator.specs.Telling.{Says}
 use Rattle.ipam_records.specs.Datastore.{Datastore}
 use Rattle.ipam_words.specs.Views.{Seen}

@@ -1,5 +1,5 @@
 -- Rows that are loaded one after the other.
-use Rattle.std.proofs.Common.{◌≡◌, ℕ, ◌+◌, ◌<◌, ◌≤◌, List, [], ◌∷◌, drop, get_or, length, Option, Some, None, refl, sym, ap, ◌∙◌, add-one, drop-cons, drop_of_length-le}
+use Rattle.std.proofs.Common.{◌≡◌, ℕ, ◌+◌, ◌<◌, List, ◌∷◌, drop, get_or, length, Option, Some, refl, sym, ap, ◌∙◌, add-one, drop-cons}
 use Rattle.ipam_json.specs.Members.{◌>>=◌}
 use Rattle.ipam_records.specs.declared.call.Row.{Row}
 use Rattle.ipam_records.specs.Datastore.{Datastore}
@@ -16,11 +16,3 @@ pub texts_next : (rows : List Row) (i : ℕ) (row : Row) → row ≡ get_or rows
     → Some next ≡ with_text row store → with_texts (drop i rows) store ≡ all → with_texts (drop (i + 1) rows) next ≡ all
 texts_next rows i row is within store next all one so_far =
     ap (λ (o : Option Datastore). o >>= with_texts (drop (i + 1) rows)) one ∙ first_text rows i row is within store all so_far
-
-pub texts_none : (rows : List Row) (i : ℕ) (row : Row) → row ≡ get_or rows i row → i < length rows → (store : Datastore) (all : Option Datastore)
-    → None ≡ with_text row store → with_texts (drop i rows) store ≡ all → None ≡ all
-texts_none rows i row is within store all none so_far =
-    ap (λ (o : Option Datastore). o >>= with_texts (drop (i + 1) rows)) none ∙ first_text rows i row is within store all so_far
-
-pub texts_end : (rows : List Row) (i : ℕ) → length rows ≤ i → (store : Datastore) (all : Option Datastore) → with_texts (drop i rows) store ≡ all → Some store ≡ all
-texts_end rows i over store all so_far = ap (λ (rs : List Row). with_texts rs store) (sym (drop_of_length-le rows over)) ∙ so_far

@@ -20,7 +20,7 @@ use std::alloc::{AllocError, Global};
 ///
 /// What holds of several rows at once is not looked for, since rows of two pages may have stood at two
 /// moments.
-pub(crate) fn datastore_of(alloc: Global, rows: &[Row]) -> Result<Option<Store>, AllocError>
+pub fn datastore_of(alloc: Global, rows: &[Row]) -> Result<Option<Store>, AllocError>
     ensures store { IfOk result (λ found. option_map (λ s. s.store) found ≡ datastore_of rows.now) }
     ensures few { IfOk result (λ found. IfSome found (λ s. length (blocks_kept s.store) ≤ most_blocks)) }
 {

@@ -4,4 +4,5 @@
 mod datastore;
 mod showing;
 
+pub use datastore::datastore_of;
 pub use showing::show;

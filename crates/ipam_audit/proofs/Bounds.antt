@@ -4,20 +4,22 @@ use Rattle.std.proofs.lemmas.List.{length-map}
 use Rattle.std.proofs.lemmas.List.FromFn.{length-range_with_len}
 use Rattle.std.proofs.lemmas.List.Sorted.{length_permutation}
 use Rattle.std.specs.List.{All}
-use Rattle.std.proofs.lemmas.List.Elements.{All-head, All-tail}
+use Rattle.std.proofs.lemmas.List.Elements.{All-filter, All-head, All-tail}
 use Rattle.ipam_block.specs.Shape.{BlockValue}
 use Rattle.ipam_block.specs.Sound.{IsBlock, held_ordinals, ordinals_below}
 use Rattle.ipam_addr.specs.Width.{cidr_size}
 use Rattle.ipam_records.specs.declared.record.Record.{Record}
 use Rattle.ipam_records.specs.declared.record.Record.TheVariants as record_of
-use Rattle.ipam_records.specs.Datastore.{Datastore}
-use Rattle.ipam_records.specs.Sound.{IsRow, IsRecord}
-use Rattle.ipam_model.specs.Consistent.{IsConsistent}
+use Rattle.ipam_records.specs.declared.key.Kind.TheVariants as kind
+use Rattle.ipam_records.specs.Datastore.{Datastore, most_blocks, row_key, rows_of_kind}
+use Rattle.ipam_records.specs.KeyOrder.{is_of_kind}
+use Rattle.ipam_records.specs.Sound.{IsDatastore, IsRow, IsRecord}
 use Rattle.ipam_model.specs.Owners.{owners, owners_in, owners_in_row}
 use Rattle.std.proofs.lemmas.Grind.{flat_map-append}
 use Rattle.std.specs.Global.{Vec}
 use Rattle.ipam_records.specs.Pages.{rows_of_pages}
 use Rattle.ipam_records.proofs.RowSearch.{rows-take-drop}
+use Rattle.ipam_audit.proofs.Listing.{owners-listed}
 
 held_few : (b : BlockValue) → IsBlock b → length b.allocations ≤ 4096
 held_few b is =
@@ -43,11 +45,13 @@ few_in counter (row ∷ rows) all =
     let rest = few_in counter rows (All-tail (IsRow counter) row rows all) in
     simp length-append (omega arith)
 
--- so many in a datastore of so few rows
-pub owners_small : (store : Datastore) → IsConsistent store → length (owners store) < 2 ^ 64
-owners_small store consistent =
-    let few = few_in store.counter store.rows consistent.sound.rows in
-    let rows = consistent.few_rows in
+-- so many in a datastore of so few blocks
+pub owners_small : (store : Datastore) → IsDatastore store → length (rows_of_kind kind.Block store) ≤ most_blocks → length (owners store) < 2 ^ 64
+owners_small store sound few =
+    let blocks = rows_of_kind kind.Block store in
+    let each = All-filter (λ row. is_of_kind kind.Block (row_key row)) (IsRow store.counter) store.rows sound.rows in
+    let owned = few_in store.counter blocks each in
+    let listed = ap length (owners-listed store) in
     omega arith
 
 -- what is owned in a part of the pages is no more than in all of them

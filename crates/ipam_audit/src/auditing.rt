@@ -1,8 +1,9 @@
 //! The audit of rows.
-ghost use Rattle.std.specs.Prelude.{◌≡◌, ◌≤◌, ◌<◌, ◌^◌, length, IfOk, IfErr};
+ghost use Rattle.std.specs.Prelude.{◌≡◌, ◌≤◌, ◌<◌, length, IfOk, IfErr};
 ghost use Rattle.ipam_cluster.specs.Turns.{texts_in};
 ghost use Rattle.ipam_model.specs.Opened.{AreByKey};
-ghost use Rattle.ipam_model.specs.Owners.{owners};
+ghost use Rattle.ipam_records.specs.declared.key.Kind.TheVariants as kind;
+ghost use Rattle.ipam_records.specs.Datastore.{most_blocks, rows_of_kind};
 ghost use Rattle.ipam_opening.specs.Opening.{IsFaultOf};
 ghost use Rattle.ipam_audit.specs.Reported.{report_of};
 ghost use Rattle.ipam_audit.specs.Parts.{IsReportOf};
@@ -40,20 +41,23 @@ pub fn audit<R: Threads + Sync>(
     ensures refused { IfErr result (IsFaultOf (texts_in base.now)) }
 {
     let store = open(alloc, base.rows.as_slice(), base.counter)?;
-    match report(rt, alloc, &store, workers) {
+    match report_on(rt, alloc, &store, workers) {
         Ok(report) => Ok(report),
         Err(_) => Err(OpenFault::Memory),
     }
 }
 
-fn report<R: Threads + Sync>(
+/// Reports on these rows: with 1 to 16 workers, and the same for every number of them. What holds of several
+/// rows at once need not hold of these.
+pub fn report_on<R: Threads + Sync>(
     rt: &R,
     alloc: Global,
     store: &Store,
     workers: u8,
 ) -> Result<Report, AllocError>
     requires some { 0 < workers }
-    requires few { length (owners store.now.store) < 2 ^ 64 }
+    requires few { workers ≤ MOST_WORKERS }
+    requires few_blocks { length (rows_of_kind kind.Block store.now.store) ≤ most_blocks }
     ensures { IfOk result (λ report. report ≡ report_of store.now.store) }
 {
     let handles = listing(store, Kind::Handle);

@@ -13,8 +13,9 @@ mod report;
 mod run;
 mod words;
 
-pub use auditing::audit;
+pub use auditing::{audit, report_on};
 pub use ipam_cluster::Base;
 pub use ipam_opening::OpenFault as AuditFault;
+pub use printed::report_text;
 pub use report::{Excess, Report};
 pub use run::run_audit;

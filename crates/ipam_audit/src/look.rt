@@ -6,6 +6,7 @@ ghost use Rattle.ipam_block.specs.Operations.{is_owned};
 ghost use Rattle.ipam_records.specs.declared.key.Key.TheVariants as key;
 ghost use Rattle.ipam_records.specs.Datastore.{rows_of_kind, row_of};
 ghost use Rattle.ipam_records.specs.Listing.{rows_of};
+ghost use Rattle.ipam_records.specs.Sound.{IsDatastore};
 ghost use Rattle.ipam_model.specs.CountLaw.{held_count};
 ghost use Rattle.ipam_audit.specs.Reported.{has_node};
 ghost use Rattle.ipam_audit.specs.Parts.{block_in_row};
@@ -17,7 +18,8 @@ use ipam_store::Store;
 
 /// The rows of the kind.
 pub(crate) fn listing(store: &Store, kind: Kind) -> Listing<'_>
-    ensures { rows_of result ≡ rows_of_kind kind store.now.store }
+    ensures rows { rows_of result ≡ rows_of_kind kind store.now.store }
+    ensures sound { IsDatastore store.now.store }
 {
     match store.reply(&Call::List(kind)) {
         Reply::Listed(listing) => listing,

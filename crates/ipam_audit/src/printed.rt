@@ -10,7 +10,7 @@ use std::alloc::{AllocError, Global};
 
 /// The lines of the report.
 #[tactic(auto, unfolding(crate::specs::Printed::report_text))]
-pub(crate) fn report_text(alloc: Global, report: &Report) -> Result<String, AllocError>
+pub fn report_text(alloc: Global, report: &Report) -> Result<String, AllocError>
     ensures { IfOk result (λ text. string_bytes text ≡ report_text report.now) }
 {
     let mut out = String::new(alloc);

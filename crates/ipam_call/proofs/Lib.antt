@@ -6,3 +6,4 @@ pub mod Wholes
 pub mod Statuses
 pub mod Empty
 pub mod Tellings
+pub mod ErrorTexts

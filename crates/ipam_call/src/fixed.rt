@@ -22,148 +22,40 @@ pub enum FixedError {
     Memory,
 }
 
+/// The text of an error in the version that is spelled so.
+macro_rules! text_in {
+    ($version:literal, $code:literal, $details:literal, $message:literal) => {
+        concat!(
+            "{\"cniVersion\":\"", $version, "\",\"code\":", $code, ",\"details\":\"", $details, "\",\"msg\":\"",
+            $message, "\"}\n"
+        )
+    };
+}
+
+/// The text of an error in each version.
+macro_rules! text {
+    ($version:expr, $code:literal, $details:literal, $message:literal) => {
+        match $version {
+            Version::V0_3_0 => text_in!("0.3.0", $code, $details, $message),
+            Version::V0_3_1 => text_in!("0.3.1", $code, $details, $message),
+            Version::V0_4_0 => text_in!("0.4.0", $code, $details, $message),
+            Version::V1_0_0 => text_in!("1.0.0", $code, $details, $message),
+            Version::V1_1_0 => text_in!("1.1.0", $code, $details, $message),
+        }
+    };
+}
+
 /// The text of the error in this version. Takes no memory.
+#[tactic(auto, unfolding(crate::proofs::ErrorTexts::text_computed))]
 pub fn fixed_text(version: Version, error: FixedError) -> &'static str
     ensures { result.now ≡ error_text (fixed_error version error) }
 {
     match error {
-        FixedError::Read => read_text(version),
-        FixedError::Keeper => keeper_text(version),
-        FixedError::Undecodable => undecodable_text(version),
-        FixedError::Link => link_text(version),
-        FixedError::Reply => reply_text(version),
-        FixedError::Memory => memory_text(version),
-    }
-}
-
-fn read_text(version: Version) -> &'static str
-    ensures { result.now ≡ error_text (fixed_error version FixedError.Read) }
-{
-    match version {
-        Version::V0_3_0 => {
-            "{\"cniVersion\":\"0.3.0\",\"code\":5,\"details\":\"read\",\"msg\":\"input or output fault\"}\n"
-        }
-        Version::V0_3_1 => {
-            "{\"cniVersion\":\"0.3.1\",\"code\":5,\"details\":\"read\",\"msg\":\"input or output fault\"}\n"
-        }
-        Version::V0_4_0 => {
-            "{\"cniVersion\":\"0.4.0\",\"code\":5,\"details\":\"read\",\"msg\":\"input or output fault\"}\n"
-        }
-        Version::V1_0_0 => {
-            "{\"cniVersion\":\"1.0.0\",\"code\":5,\"details\":\"read\",\"msg\":\"input or output fault\"}\n"
-        }
-        Version::V1_1_0 => {
-            "{\"cniVersion\":\"1.1.0\",\"code\":5,\"details\":\"read\",\"msg\":\"input or output fault\"}\n"
-        }
-    }
-}
-
-fn keeper_text(version: Version) -> &'static str
-    ensures { result.now ≡ error_text (fixed_error version FixedError.Keeper) }
-{
-    match version {
-        Version::V0_3_0 => {
-            "{\"cniVersion\":\"0.3.0\",\"code\":5,\"details\":\"keeper\",\"msg\":\"input or output fault\"}\n"
-        }
-        Version::V0_3_1 => {
-            "{\"cniVersion\":\"0.3.1\",\"code\":5,\"details\":\"keeper\",\"msg\":\"input or output fault\"}\n"
-        }
-        Version::V0_4_0 => {
-            "{\"cniVersion\":\"0.4.0\",\"code\":5,\"details\":\"keeper\",\"msg\":\"input or output fault\"}\n"
-        }
-        Version::V1_0_0 => {
-            "{\"cniVersion\":\"1.0.0\",\"code\":5,\"details\":\"keeper\",\"msg\":\"input or output fault\"}\n"
-        }
-        Version::V1_1_0 => {
-            "{\"cniVersion\":\"1.1.0\",\"code\":5,\"details\":\"keeper\",\"msg\":\"input or output fault\"}\n"
-        }
-    }
-}
-
-fn undecodable_text(version: Version) -> &'static str
-    ensures { result.now ≡ error_text (fixed_error version FixedError.Undecodable) }
-{
-    match version {
-        Version::V0_3_0 => {
-            "{\"cniVersion\":\"0.3.0\",\"code\":6,\"details\":\"\",\"msg\":\"cannot decode network configuration\"}\n"
-        }
-        Version::V0_3_1 => {
-            "{\"cniVersion\":\"0.3.1\",\"code\":6,\"details\":\"\",\"msg\":\"cannot decode network configuration\"}\n"
-        }
-        Version::V0_4_0 => {
-            "{\"cniVersion\":\"0.4.0\",\"code\":6,\"details\":\"\",\"msg\":\"cannot decode network configuration\"}\n"
-        }
-        Version::V1_0_0 => {
-            "{\"cniVersion\":\"1.0.0\",\"code\":6,\"details\":\"\",\"msg\":\"cannot decode network configuration\"}\n"
-        }
-        Version::V1_1_0 => {
-            "{\"cniVersion\":\"1.1.0\",\"code\":6,\"details\":\"\",\"msg\":\"cannot decode network configuration\"}\n"
-        }
-    }
-}
-
-fn link_text(version: Version) -> &'static str
-    ensures { result.now ≡ error_text (fixed_error version FixedError.Link) }
-{
-    match version {
-        Version::V0_3_0 => {
-            "{\"cniVersion\":\"0.3.0\",\"code\":111,\"details\":\"link\",\"msg\":\"no reply from the daemon\"}\n"
-        }
-        Version::V0_3_1 => {
-            "{\"cniVersion\":\"0.3.1\",\"code\":111,\"details\":\"link\",\"msg\":\"no reply from the daemon\"}\n"
-        }
-        Version::V0_4_0 => {
-            "{\"cniVersion\":\"0.4.0\",\"code\":111,\"details\":\"link\",\"msg\":\"no reply from the daemon\"}\n"
-        }
-        Version::V1_0_0 => {
-            "{\"cniVersion\":\"1.0.0\",\"code\":111,\"details\":\"link\",\"msg\":\"no reply from the daemon\"}\n"
-        }
-        Version::V1_1_0 => {
-            "{\"cniVersion\":\"1.1.0\",\"code\":111,\"details\":\"link\",\"msg\":\"no reply from the daemon\"}\n"
-        }
-    }
-}
-
-fn reply_text(version: Version) -> &'static str
-    ensures { result.now ≡ error_text (fixed_error version FixedError.Reply) }
-{
-    match version {
-        Version::V0_3_0 => {
-            "{\"cniVersion\":\"0.3.0\",\"code\":111,\"details\":\"reply\",\"msg\":\"no reply from the daemon\"}\n"
-        }
-        Version::V0_3_1 => {
-            "{\"cniVersion\":\"0.3.1\",\"code\":111,\"details\":\"reply\",\"msg\":\"no reply from the daemon\"}\n"
-        }
-        Version::V0_4_0 => {
-            "{\"cniVersion\":\"0.4.0\",\"code\":111,\"details\":\"reply\",\"msg\":\"no reply from the daemon\"}\n"
-        }
-        Version::V1_0_0 => {
-            "{\"cniVersion\":\"1.0.0\",\"code\":111,\"details\":\"reply\",\"msg\":\"no reply from the daemon\"}\n"
-        }
-        Version::V1_1_0 => {
-            "{\"cniVersion\":\"1.1.0\",\"code\":111,\"details\":\"reply\",\"msg\":\"no reply from the daemon\"}\n"
-        }
-    }
-}
-
-fn memory_text(version: Version) -> &'static str
-    ensures { result.now ≡ error_text (fixed_error version FixedError.Memory) }
-{
-    match version {
-        Version::V0_3_0 => {
-            "{\"cniVersion\":\"0.3.0\",\"code\":101,\"details\":\"\",\"msg\":\"want of memory\"}\n"
-        }
-        Version::V0_3_1 => {
-            "{\"cniVersion\":\"0.3.1\",\"code\":101,\"details\":\"\",\"msg\":\"want of memory\"}\n"
-        }
-        Version::V0_4_0 => {
-            "{\"cniVersion\":\"0.4.0\",\"code\":101,\"details\":\"\",\"msg\":\"want of memory\"}\n"
-        }
-        Version::V1_0_0 => {
-            "{\"cniVersion\":\"1.0.0\",\"code\":101,\"details\":\"\",\"msg\":\"want of memory\"}\n"
-        }
-        Version::V1_1_0 => {
-            "{\"cniVersion\":\"1.1.0\",\"code\":101,\"details\":\"\",\"msg\":\"want of memory\"}\n"
-        }
+        FixedError::Read => text!(version, 5, "read", "input or output fault"),
+        FixedError::Keeper => text!(version, 5, "keeper", "input or output fault"),
+        FixedError::Undecodable => text!(version, 6, "", "cannot decode network configuration"),
+        FixedError::Link => text!(version, 111, "link", "no reply from the daemon"),
+        FixedError::Reply => text!(version, 111, "reply", "no reply from the daemon"),
+        FixedError::Memory => text!(version, 101, "", "want of memory"),
     }
 }

@@ -131,26 +131,7 @@ HasNoAddresses (Some (Addresses addresses)) = ⊥
 
 status-told : (found : Answer) → HasNoAddresses (status_reply_of found)
 status-told (answer.Added given) = tt
-status-told (answer.AddedThis given) = tt
-status-told (answer.Exhausted scan) = tt
-status-told (answer.NoPool name moment) = tt
-status-told (answer.NotInPool moment) = tt
-status-told (answer.Taken holder moment) = tt
-status-told (answer.NotAffine cidr moment) = tt
-status-told (answer.Deleted moment) = tt
-status-told answer.Checked = tt
-status-told (answer.NotRecorded address moment) = tt
-status-told answer.Released = tt
-status-told (answer.NoAffinity moment) = tt
-status-told (answer.Collected collected) = tt
-status-told (answer.Done revision) = tt
-status-told (answer.Refused number name) = tt
-status-told (answer.Again lost claims) = tt
-status-told answer.Full = tt
-status-told (answer.CountFull moment) = tt
-status-told answer.Spent = tt
-status-told answer.Fault = tt
-status-told (answer.Ready scans) = tt
+status-told other = tt
 
 zero-told : (o : Option CniReply) (said : CniReply) → HasNoAddresses o → o ≡ Some said → reply_status said ≡ 0 → o ≡ Some Success
 zero-told o (Addresses addresses) none e zero = absurd (subst HasNoAddresses e none)

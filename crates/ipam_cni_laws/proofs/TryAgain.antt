@@ -28,27 +28,8 @@ abbrev IsAgain : Answer → Type 0
 IsAgain found = (lost claims : ℕ) × (found ≡ answer.Again lost claims)
 
 failure-again : (found : Answer) → SaysTryAgain (failure_of found) → IsAgain found
-failure-again (answer.Added given) h = absurd h
-failure-again (answer.AddedThis given) h = absurd h
-failure-again (answer.Exhausted scan) h = absurd h
-failure-again (answer.NoPool name moment) h = absurd h
-failure-again (answer.NotInPool moment) h = absurd h
-failure-again (answer.Taken holder moment) h = absurd h
-failure-again (answer.NotAffine cidr moment) h = absurd h
-failure-again (answer.Deleted moment) h = absurd h
-failure-again answer.Checked h = absurd h
-failure-again (answer.NotRecorded address moment) h = absurd h
-failure-again answer.Released h = absurd h
-failure-again (answer.NoAffinity moment) h = absurd h
-failure-again (answer.Collected collected) h = absurd h
-failure-again (answer.Done revision) h = absurd h
-failure-again (answer.Refused number name) h = absurd h
 failure-again (answer.Again lost claims) h = (lost, claims, refl)
-failure-again answer.Full h = absurd h
-failure-again (answer.CountFull moment) h = absurd h
-failure-again answer.Spent h = absurd h
-failure-again answer.Fault h = absurd h
-failure-again (answer.Ready scans) h = absurd h
+failure-again other h = absurd h
 
 add-again : (found : Answer) → SaysTryAgain (reply_to_add found) → IsAgain found
 add-again (answer.Added given) h = absurd h

@@ -14,23 +14,12 @@ use ipam_records::{Call, Heard};
 use std::alloc::{AllocError, Global};
 
 /// The leaks are freed, one after the other. The blocks were listed at the moments.
-#[derive(Debug)]
+#[derive(Debug, Drop)]
 pub struct Frees {
     b1: u64,
     b2: u64,
     tally: Tally,
     freeing: Freeing,
-}
-
-impl Drop for Frees {
-    fn drop(self) {
-        let Frees {
-            b1: _,
-            b2: _,
-            tally: _,
-            freeing: _,
-        } = self;
-    }
 }
 
 impl Frees {

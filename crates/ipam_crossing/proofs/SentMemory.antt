@@ -20,5 +20,8 @@ rows_send = Vec-send Row.the_row row_send
 failing_send : IsSend (Vec.the_row (Tuple (u64 ∷ bool ∷ [])) Heap.the_row ghosts)
 failing_send = Vec-send (Tuple (u64 ∷ bool ∷ [])) (pair_send u64 bool (search sendable) (search sendable))
 
+unsettled_send : IsSend (Vec.the_row u64 Heap.the_row ghosts)
+unsettled_send = Vec-send u64 (search sendable)
+
 pub memory_send : IsSend MemoryKeeper.the_row
-memory_send = view_send inside.the_row _ _ _ _ (declared_send inside.the_type (search (rows_send, failing_send, sendable)))
+memory_send = view_send inside.the_row _ _ _ _ (declared_send inside.the_type (search (rows_send, failing_send, unsettled_send, sendable)))

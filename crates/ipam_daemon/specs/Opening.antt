@@ -19,11 +19,12 @@ pub record IsUnopened {D : Type 0} (tells : Tells D) (faults name : D → ℕ) (
   pub not_opened : IsNotOpened tells faults name keeper (after, fault)
   pub told : served ≡ end_of fault
 
--- the rows were opened, and serving them ended: there was no memory, or listening failed
+-- the rows were opened, and serving them ended: there was no memory, listening failed, or the keeper failed to
+-- make sure of what a session did
 pub record IsServedOut {D : Type 0} (tells : Tells D) (faults name : D → ℕ) (keeper : D) (served : Served) : Type 0 where
   pub kept : Kept D
   pub opened : IsOpened tells faults name keeper 0 kept
-  pub told : (served ≡ NoMemory) ⊎ (served ≡ ListenFault)
+  pub told : (served ≡ NoMemory) ⊎ (served ≡ ListenFault) ⊎ (served ≡ KeeperFault)
 
 -- how the daemon ends: its rows were not opened, and the keeper came back; or they were, and it serves no more
 abbrev pub IsEnd : {D : Type 0} → Tells D → (faults name : D → ℕ) → D → Served → Option D → Type 0

@@ -70,7 +70,7 @@ impl<S: Serves, C: Clock> Desk<S, C> {
         gate: &mut G,
         link: &mut L,
     ) -> SessionEnd
-        ensures served { (held : List ℕ) × Session S.came result
+        ensures served { (held : List ℕ) × Session S.keeps result
             (talk_at (server_at self.old.pass (G.turns gate.old) None) (arc_value self.old.opening) (G.lines gate.old) (L.left link.old) (L.written link.old))
             (talk_at (server_at self.new.pass (G.turns gate.new) None) (arc_value self.old.opening) (G.lines gate.new) (prepend_known held (L.left link.new)) (L.written link.new)) }
         ensures same { IsSamePass self.old.pass self.new.pass }

@@ -12,7 +12,8 @@ pub fn log_end<R: Log>(rt: &R, end: SessionEnd) {
         | SessionEnd::WriteFault
         | SessionEnd::Halted
         | SessionEnd::Worn
-        | SessionEnd::Memory => warn!(rt; target: "ipam", "session ended early"),
+        | SessionEnd::Memory
+        | SessionEnd::KeeperFault => warn!(rt; target: "ipam", "session ended early"),
     }
 }
 

@@ -4,6 +4,7 @@
 //! after another. The thread that accepts connections hands them over through a channel.
 #![tactic(auto)]
 
+mod alarm;
 mod asking;
 mod channel;
 mod crew;
@@ -18,6 +19,7 @@ mod serving;
 mod staff;
 mod worker;
 
+pub use alarm::Alarm;
 pub use ending::log_end;
 pub use handing::{Attends, Hands, Takes, hand_over, work};
 pub use host::Host;

@@ -16,7 +16,7 @@ use std::time::{Clock, Duration};
 /// Opens the keeper's rows, with their history yet to be written. On `Err` the keeper comes back.
 pub fn open_kept<D: Keeper>(alloc: Global, keeper: D) -> Result<Kept<D>, (D, Served)>
     ensures opened { IfOk result (IsOpened D.rows D.faults D.name keeper 0) }
-    ensures new { IfOk result (IsNewlyKept D.rows) }
+    ensures new { IfOk result (IsNewlyKept D.rows D.settled) }
     ensures not_opened { IfErr result (λ back. IsUnopened D.rows D.faults D.name keeper back.0 back.1) }
 {
     match Kept::open(alloc, keeper, 0) {
@@ -53,7 +53,7 @@ pub(crate) fn share<D: Keeper + Drop>(
     alloc: Global,
     kept: Kept<D>,
 ) -> Result<(Shared<D>, Pass), AllocError>
-    requires { IsNewlyKept D.rows kept }
+    requires { IsNewlyKept D.rows D.settled kept }
     ensures own { IfOk result (λ r. r.1.lock ≡ r.0) }
     ensures idle { IfOk result (λ r. runs_in r.1 ≡ None) }
 {

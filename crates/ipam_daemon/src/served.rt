@@ -10,7 +10,7 @@ use std::alloc::{AllocError, Global};
 /// Why the daemon serves no more.
 #[derive(Debug, Drop)]
 pub enum Served {
-    /// The keeper failed to load its rows.
+    /// The keeper failed to load its rows, or to make sure of what a session did.
     KeeperFault,
     /// There was no memory to begin with.
     NoMemory,

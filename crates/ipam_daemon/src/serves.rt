@@ -1,11 +1,9 @@
 //! What workers serve over.
-ghost use Rattle.std.specs.Prelude.{◌≡◌, ℕ, List, Option, None, IfSome, IfNone};
+ghost use Rattle.std.specs.Prelude.{◌≡◌, ℕ, List, None, IfSome, IfNone};
 ghost use Rattle.std.specs.Io.KnownBytes.{prepend_known};
 ghost use Rattle.atomic_table.specs.Seated.{TableId};
-ghost use Rattle.ipam_model.specs.declared.answer.Answer.{Answer};
-ghost use Rattle.ipam_shared.specs.PassValue.{PassValue};
 ghost use Rattle.ipam_shared.specs.Passes.{IsSamePass, runs_in};
-ghost use Rattle.ipam_serve.specs.Keeping.{CameOf};
+ghost use Rattle.ipam_serve.specs.Keeping.{AtKeeper, at_keeper};
 ghost use Rattle.ipam_serve.specs.Lines.{server_at};
 ghost use Rattle.ipam_serve.specs.Sessions.{RoseIf, Session, is_halted, is_read_fault, is_write_fault, talk_at};
 ghost use Rattle.ipam_daemon.specs.Crews.{IsSpent};
@@ -22,8 +20,8 @@ pub trait Serves {
     /// The lock whose passes these are.
     ghost id: { Self → TableId };
 
-    /// What came at the keeper of a line with this answer, or with none, from the one pass to the other.
-    ghost came: { Option Answer → PassValue → PassValue → Type 0 };
+    /// What comes at the keeper of what is served.
+    ghost keeps: { AtKeeper };
 
     /// Splits off a pass with a slot of its own, where there is one left.
     fn split_off(&self, pass: &mut Pass) -> Option<Pass>
@@ -49,7 +47,7 @@ pub trait Serves {
     ) -> SessionEnd
         requires own { pass.old.lock ≡ id self.now }
         requires idle { runs_in pass.old ≡ None }
-        ensures served { (held : List ℕ) × Session came result
+        ensures served { (held : List ℕ) × Session keeps result
             (talk_at (server_at pass.old (G.turns gate.old) (C.ahead clock.old)) opening.now (G.lines gate.old) (L.left link.old) (L.written link.old))
             (talk_at (server_at pass.new (G.turns gate.new) (C.ahead clock.new)) opening.now (G.lines gate.new) (prepend_known held (L.left link.new)) (L.written link.new)) }
         ensures idle { runs_in pass.new ≡ None }
@@ -62,7 +60,7 @@ pub trait Serves {
 impl<D: Keeper> Serves for Shared<D> {
     ghost id = { λ shared. shared };
 
-    ghost came = { CameOf D.rows D.given D.faults };
+    ghost keeps = { at_keeper D.rows D.settled D.given D.faults D.broken };
 
     fn split_off(&self, pass: &mut Pass) -> Option<Pass> {
         self.split(pass)

@@ -4,6 +4,7 @@ ghost use Rattle.ipam_shared.specs.Passes.{IsNewlyKept};
 ghost use Rattle.ipam_daemon.specs.Opening.{IsEnd};
 ghost use Rattle.ipam_daemon.specs.Served.{ListenFaults};
 
+use crate::alarm::Alarm;
 use crate::host::Host;
 use crate::opening::open_kept;
 use crate::served::Served;
@@ -14,12 +15,16 @@ use ipam_socket::{Address, Failed, Limits, Listens, SocketListener, Stream};
 use std::alloc::Global;
 use std::fs::Files;
 use std::net::{Net, TcpListener, TcpStream};
+use std::sync::Arc;
 
 /// Opens the keeper's rows and serves sessions of this opening at the address, by up to so many workers:
 /// at a socket file, where the address begins with a slash, and else at an IP address or the name of a
-/// host, a colon and a port. It ends where the rows are not opened or listening fails, and else goes on
-/// as long as connections can be accepted; sessions that are served by then are left to end with the
-/// process. The socket file is removed at the end. Where its rows are not opened, the keeper comes back.
+/// host, a colon and a port. It ends where the rows are not opened or listening fails, and, once a session ended since
+/// the keeper failed to make sure of what it did, at the next connection; else it goes on as long as connections can
+/// be accepted.
+/// Sessions that are served by then are left to end with the process. The socket file is removed at the end.
+/// Where its rows are not opened, the keeper comes back.
+#[tactic(auto, using(crate::proofs::Ended::nothing_opened))]
 pub fn serve<
     R: Host + Files + Net<Listener = TcpListener, Stream = TcpStream>,
     D: Keeper + Send + Drop + 'static,
@@ -33,6 +38,9 @@ pub fn serve<
 ) -> (Served, Option<D>)
     ensures { IsEnd D.rows D.faults D.name keeper result.0 result.1 }
 {
+    let Ok(alarm) = Arc::new(alloc, Alarm::new()) else {
+        return (Served::NoMemory, Some(keeper));
+    };
     let mut listener = SocketListener::new(&rt, alloc, Address::of(address));
     let limits = Limits::of_session();
     serve_by(
@@ -44,11 +52,12 @@ pub fn serve<
         workers,
         limits,
         Leaving::AtWork,
+        alarm,
     )
 }
 
-/// The same over this listener, within these limits, and with this end. It ends with a fault of
-/// listening exactly where the listener failed.
+/// The same over this listener, within these limits, with this end and this alarm. It ends with a fault of
+/// listening exactly where the listener failed. Where the alarm is raised, it ends once the next connection comes.
 #[tactic(auto, using(crate::proofs::Ended::served_out, crate::proofs::Ended::unopened))]
 pub fn serve_by<R: Host, D: Keeper + Send + Drop + 'static, L: Listens<Stream>>(
     rt: R,
@@ -59,6 +68,7 @@ pub fn serve_by<R: Host, D: Keeper + Send + Drop + 'static, L: Listens<Stream>>(
     workers: u8,
     limits: Limits,
     leaving: Leaving,
+    alarm: Arc<Alarm, Global>,
 ) -> (Served, Option<D>)
     ensures ended { IsEnd D.rows D.faults D.name keeper result.0 result.1 }
     ensures listening { ListenFaults result.0 (L.faults listener.old) (L.faults listener.new) }
@@ -69,7 +79,9 @@ pub fn serve_by<R: Host, D: Keeper + Send + Drop + 'static, L: Listens<Stream>>(
     };
     match listener.open() {
         Ok(()) => {
-            let served = serve_at(rt, alloc, kept, opening, listener, workers, limits, leaving);
+            let served = serve_at(
+                rt, alloc, kept, opening, listener, workers, limits, leaving, alarm,
+            );
             listener.close();
             (served, None)
         }
@@ -90,16 +102,20 @@ fn serve_at<R: Host, D: Keeper + Send + Drop + 'static, L: Listens<Stream>>(
     workers: u8,
     limits: Limits,
     leaving: Leaving,
+    alarm: Arc<Alarm, Global>,
 ) -> Served
-    requires { IsNewlyKept D.rows kept }
-    ensures ended { (result ≡ Served.NoMemory) ⊎ (result ≡ Served.ListenFault) }
+    requires { IsNewlyKept D.rows D.settled kept }
+    ensures ended { (result ≡ Served.NoMemory) ⊎ (result ≡ Served.ListenFault) ⊎ (result ≡ Served.KeeperFault) }
     ensures listening { ListenFaults result (L.faults listener.old) (L.faults listener.new) }
 {
-    match engage(rt, alloc, kept, opening, workers, limits) {
+    match engage(rt, alloc, kept, opening, workers, limits, alarm) {
         Ok(mut staff) => {
-            staff.accept_all(&rt, listener);
+            let accepted = staff.accept_all(&rt, listener);
             staff.leave(&rt, leaving);
-            Served::ListenFault
+            match accepted {
+                Ok(()) => Served::KeeperFault,
+                Err(Failed) => Served::ListenFault,
+            }
         }
         Err(_) => Served::NoMemory,
     }

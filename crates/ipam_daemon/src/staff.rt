@@ -7,6 +7,7 @@ ghost use Rattle.ipam_shared.specs.Passes.{IsNewlyKept, runs_in};
 ghost use Rattle.ipam_daemon.specs.Crews.{IsEngaged};
 ghost use Rattle.ipam_daemon.specs.Handing.{IsHandedOver, raised};
 
+use crate::alarm::Alarm;
 use crate::channel::{HandingEnd, channel};
 use crate::crew::{Crew, hire};
 use crate::handing::hand_over;
@@ -41,6 +42,7 @@ pub struct Staff<S: Serves, R> {
     threads: Vec<JoinHandle<()>>,
     thread_faults: u64,
     own: Worker<S, R>,
+    alarm: Arc<Alarm, Global>,
 }
 
 impl<S: Serves + Drop, C: Clock + Copy + Drop> Staff<S, C> {
@@ -91,30 +93,27 @@ impl<S: Serves + Drop, C: Clock + Copy + Drop> Staff<S, C> {
         }
     }
 
-    /// Has connections served as `accept` does, until accepting fails.
+    /// Has connections served as `accept` does, until accepting fails, or a session ended since the keeper failed.
     pub(crate) fn accept_all<R: Wait + Log + Clock, L: Listens<Stream>>(
         &mut self,
         rt: &R,
         listener: &mut L,
-    )
-        ensures { Rose (L.faults listener.old) (L.faults listener.new) }
+    ) -> Result<(), Failed>
+        ensures fault { OnErr result (Rose (L.faults listener.old) (L.faults listener.new)) }
+        ensures no_fault { OnOk result (L.faults listener.new ≡ L.faults listener.old) }
     {
         for _ in rt.forever() {
-            if let Err(Failed) = self.accept(rt, listener, endless()) {
-                return;
+            if self.alarm.is_raised() {
+                return Ok(());
             }
+            self.accept(rt, listener, 1)?;
         }
         unreachable!()
     }
 }
 
-/// More connections than ever come.
-fn endless() -> u64 {
-    u64::MAX
-}
-
 /// So many workers over this opening of the cluster, or fewer where the system makes no more threads or the cluster has
-/// no more slots.
+/// no more slots. They raise this alarm.
 pub fn engage<R: Host, D: Keeper + Send + Drop + 'static>(
     rt: R,
     alloc: Global,
@@ -122,12 +121,13 @@ pub fn engage<R: Host, D: Keeper + Send + Drop + 'static>(
     opening: Opening,
     workers: u8,
     limits: Limits,
+    alarm: Arc<Alarm, Global>,
 ) -> Result<Staff<Shared<D>, R>, AllocError>
-    requires { IsNewlyKept D.rows kept }
+    requires { IsNewlyKept D.rows D.settled kept }
     ensures engaged { IfOk result (λ staff. IsEngaged workers 0 (vec_len staff.threads) 0 staff.thread_faults staff.own.desk.pass) }
 {
     let (shared, pass) = share(alloc, kept)?;
-    engage_over(rt, alloc, shared, opening, pass, workers, limits)
+    engage_over(rt, alloc, shared, opening, pass, workers, limits, alarm)
 }
 
 /// The same, over what may be used by many threads.
@@ -139,6 +139,7 @@ fn engage_over<R: Host, S: Serves + Send + Sync + Drop + 'static>(
     mut pass: Pass,
     workers: u8,
     limits: Limits,
+    alarm: Arc<Alarm, Global>,
 ) -> Result<Staff<S, R>, AllocError>
     requires own { pass.lock ≡ S.id shared }
     requires idle { runs_in pass ≡ None }
@@ -150,15 +151,17 @@ fn engage_over<R: Host, S: Serves + Send + Sync + Drop + 'static>(
     let (to, from) = channel(alloc)?;
     let mut crew = Crew::new(&rt, alloc, &from);
     hire_all(
-        rt, alloc, &shared, &opening, &queue, &mut pass, &mut crew, workers, limits,
+        rt, alloc, &shared, &opening, &queue, &alarm, &mut pass, &mut crew, workers, limits,
     )?;
     let (threads, thread_faults) = crew.into_parts();
-    let own = Worker::new(alloc, shared, opening, queue, pass, rt, limits);
+    let raised = Arc::try_clone(&alarm)?;
+    let own = Worker::new(alloc, shared, opening, queue, pass, rt, limits, raised);
     Ok(Staff {
         to,
         threads,
         thread_faults,
         own,
+        alarm,
     })
 }
 
@@ -171,6 +174,7 @@ fn hire_all<R: Host, S: Serves + Send + Sync + Drop + 'static>(
     shared: &Arc<S, Global>,
     opening: &Arc<Opening, Global>,
     queue: &Arc<Queue, Global>,
+    alarm: &Arc<Alarm, Global>,
     pass: &mut Pass,
     crew: &mut Crew<'_, R>,
     workers: u8,
@@ -186,8 +190,8 @@ fn hire_all<R: Host, S: Serves + Send + Sync + Drop + 'static>(
             return Ok(());
         };
         let (shared, opening) = (Arc::try_clone(shared)?, Arc::try_clone(opening)?);
-        let queue = Arc::try_clone(queue)?;
-        let worker = Worker::new(alloc, shared, opening, queue, other, rt, limits);
+        let (queue, alarm) = (Arc::try_clone(queue)?, Arc::try_clone(alarm)?);
+        let worker = Worker::new(alloc, shared, opening, queue, other, rt, limits, alarm);
         if !hire(crew, worker)? {
             return Ok(());
         }

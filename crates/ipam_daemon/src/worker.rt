@@ -4,13 +4,14 @@ ghost use Rattle.std.specs.Arc.{arc_value};
 ghost use Rattle.ipam_io.specs.Counts.{next_count};
 ghost use Rattle.ipam_shared.specs.Passes.{runs_in};
 
+use crate::alarm::Alarm;
 use crate::asking::Asking;
 use crate::desk::Desk;
 use crate::ending::{log_end, log_refused};
 use crate::handing::Attends;
 use crate::serves::Serves;
 use ipam_patience::Queue;
-use ipam_serve::Opening;
+use ipam_serve::{Opening, SessionEnd};
 use ipam_shared::Pass;
 use ipam_socket::{Limits, SocketLink, Stream, StreamPeer};
 use log::Log;
@@ -24,11 +25,12 @@ pub(crate) struct Worker<S: Serves, C> {
     desk: Desk<S, C>,
     clock: C,
     limits: Limits,
+    alarm: Arc<Alarm, Global>,
 }
 
 impl<S: Serves, C: Clock + Copy> Worker<S, C> {
     /// A worker that serves sessions of this opening by this pass, with this queue of requests and within
-    /// these limits.
+    /// these limits, and raises this alarm.
     pub(crate) fn new(
         alloc: Global,
         shared: Arc<S, Global>,
@@ -37,6 +39,7 @@ impl<S: Serves, C: Clock + Copy> Worker<S, C> {
         pass: Pass,
         clock: C,
         limits: Limits,
+        alarm: Arc<Alarm, Global>,
     ) -> Worker<S, C>
         requires own { pass.lock ≡ S.id (arc_value shared) }
         requires idle { runs_in pass ≡ None }
@@ -47,10 +50,12 @@ impl<S: Serves, C: Clock + Copy> Worker<S, C> {
             desk: Desk::new(alloc, shared, opening, queue, pass, clock),
             clock,
             limits,
+            alarm,
         }
     }
 
-    /// Serves a session over the connection to its end, which is logged.
+    /// Serves a session over the connection to its end, which is logged. Where it ended since the keeper failed,
+    /// the alarm is raised.
     fn serve<R: Wait + Log>(&mut self, rt: &R, stream: &Stream)
         ensures { self.new.desk.sessions ≡ next_count self.old.desk.sessions }
     {
@@ -61,6 +66,9 @@ impl<S: Serves, C: Clock + Copy> Worker<S, C> {
             log_refused(rt);
         } else {
             log_end(rt, end);
+        }
+        if end == SessionEnd::KeeperFault {
+            self.alarm.raise();
         }
     }
 }

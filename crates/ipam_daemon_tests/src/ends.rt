@@ -1,6 +1,7 @@
 //! What is written and logged at ends.
-use crate::calls::{called_with, input_of};
-use crate::loopback::{OPENED, free, keeper_of, listening, opening, reached};
+use crate::calls::{called_over, called_with, input_of};
+use crate::loopback::{OPENED, free, keeper_of, listening, opening, reached, socket_path};
+use ipam_client::{Address, Connector, Connects, Limits};
 use ipam_daemon::{Host, Keeper, Served, SessionEnd, log_end, serve, tell_served};
 use ipam_io::MemorySink;
 use ipam_keeper::MemoryKeeper;
@@ -9,8 +10,10 @@ use log::sink::Memory;
 use std::alloc::{AllocError, Global};
 use std::fs::Files;
 use std::net::{Net, TcpListener, TcpStream};
-use std::str;
 use std::test::Fail;
+use std::thread::join;
+use std::time::Duration;
+use std::{str, thread};
 
 const CLOSED: &str = "[INFO  ipam] session closed";
 
@@ -27,6 +30,7 @@ fn each_session_is_logged_once(rt: HostRuntime) -> Result<(), Fail> {
         (SessionEnd::Halted, EARLY),
         (SessionEnd::Worn, EARLY),
         (SessionEnd::Memory, EARLY),
+        (SessionEnd::KeeperFault, EARLY),
     ];
     for (end, line) in ends {
         let log = Memory::new(rt.alloc());
@@ -128,6 +132,57 @@ fn serving_ends_at_once(rt: HostRuntime) -> Result<(), Fail> {
     Ok(())
 }
 
+/// A keeper that fails to make sure of what the first line did. Its first settling is the opening's.
+fn unsettled(alloc: Global) -> Result<MemoryKeeper, AllocError> {
+    let mut listed = Vec::new(alloc);
+    listed.push(2)?;
+    Ok(free(alloc)?.failing_to_settle(listed))
+}
+
+/// What an ADD is told over the first connection that is made to the address, for which it tries some 20
+/// seconds.
+fn called_once(rt: &HostRuntime, address: &str) -> Result<String, AllocError> {
+    for _ in 0..2000 {
+        let mut connector = Connector::new(rt, Address::of(address), Limits::of_call());
+        if let Some(mut link) = connector.connect() {
+            return called_over(rt.alloc(), "ADD", &mut link);
+        }
+        thread::sleep(rt, Duration::from_millis(10));
+    }
+    String::from_str(rt.alloc(), "nobody listens")
+}
+
+/// Makes a connection to the address and leaves it.
+fn knock(rt: &HostRuntime, address: &str) {
+    let mut connector = Connector::new(rt, Address::of(address), Limits::of_call());
+    let link = connector.connect();
+    drop(link);
+}
+
+/// What the first line is told, and then a connection more, at which the daemon ends.
+fn called_and_left(rt: &HostRuntime, address: &str) -> Result<String, AllocError> {
+    let told = called_once(rt, address);
+    knock(rt, address);
+    told
+}
+
+#[test]
+fn a_failed_settling_ends_the_daemon(rt: HostRuntime) -> Result<(), Fail> {
+    let path = socket_path(&rt, "unsettled")?;
+    let keeper = unsettled(rt.alloc())?;
+    let (called, served) = join(
+        &rt,
+        || called_and_left(&rt, path.as_str()),
+        || told_served(rt, rt.alloc(), keeper, path.as_str()),
+    );
+    assert_eq!(rt;
+        called?.as_str(),
+        no_reply(rt.alloc(), "reply", "1.0.0")?.as_str()
+    );
+    assert_eq!(rt; served?.as_str(), "5 keeper fault\n");
+    Ok(())
+}
+
 /// An address, standard input, whether a read of it fails, and the version that is told.
 const UNREACHED: [(&str, &str, bool, &str); 7] = [
     ("127.0.0.1", r#"{"cniVersion":"1.0.0"}"#, false, "1.0.0"),
@@ -144,10 +199,11 @@ const UNREACHED: [(&str, &str, bool, &str); 7] = [
     ("127.0.0.1", r#"{"cniVersion":"0.4.0"}"#, true, "1.0.0"),
 ];
 
-/// What is told of a call that has no link, in this version.
-fn no_link(alloc: Global, version: &str) -> Result<String, AllocError> {
+/// What is told of a call without a reply, in this version: it had no link, or a link that ended before the
+/// reply.
+fn no_reply(alloc: Global, details: &str, version: &str) -> Result<String, AllocError> {
     format!(in alloc;
-        "1 {{\"cniVersion\":\"{version}\",\"code\":111,\"details\":\"link\",\"msg\":\"no reply from the daemon\"}}\n"
+        "1 {{\"cniVersion\":\"{version}\",\"code\":111,\"details\":\"{details}\",\"msg\":\"no reply from the daemon\"}}\n"
     )
 }
 
@@ -158,13 +214,16 @@ fn a_call_that_reaches_nobody_has_no_link(rt: HostRuntime) -> Result<(), Fail> {
     drop(listener);
     let source = input_of(rt.alloc(), r#"{"cniVersion":"1.0.0"}"#, false)?;
     let found = called_with(&rt, "ADD", left.as_str(), source)?;
-    assert_eq!(rt; found.as_str(), no_link(rt.alloc(), "1.0.0")?.as_str());
+    assert_eq!(rt;
+        found.as_str(),
+        no_reply(rt.alloc(), "link", "1.0.0")?.as_str()
+    );
     for (address, input, is_failing, version) in UNREACHED {
         let source = input_of(rt.alloc(), input, is_failing)?;
         let found = called_with(&rt, "ADD", address, source)?;
         assert_eq!(rt;
             found.as_str(),
-            no_link(rt.alloc(), version)?.as_str(),
+            no_reply(rt.alloc(), "link", version)?.as_str(),
             "{address} {input}"
         );
     }

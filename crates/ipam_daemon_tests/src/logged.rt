@@ -1,11 +1,12 @@
 //! A session is logged once, by its end.
 use crate::clients::connected;
 use crate::loopback::{OPENED, free, limits_of, listening, opening, reached, socket_path};
-use ipam_daemon::{Host, Listens, engage, open_kept};
+use ipam_daemon::{Alarm, Host, Listens, engage, open_kept};
 use log::sink::{Lines, Memory};
 use log::{Level, Logged};
 use std::alloc::AllocError;
 use std::process::Abort;
+use std::sync::Arc;
 use std::test::Fail;
 
 const CLOSED: &str = "[INFO  ipam] session closed";
@@ -60,6 +61,7 @@ fn logged<R: Host>(
         opening(alloc, OPENED)?,
         0,
         limits_of(40_000),
+        Arc::new(alloc, Alarm::new())?,
     )?;
     let _ = staff.accept(&log, &mut listener, 1);
     staff.dismiss(&host);

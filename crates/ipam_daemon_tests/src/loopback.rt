@@ -1,12 +1,13 @@
 //! The daemon at a port of the loopback, or at a socket file.
 use ipam_daemon::{
-    Address, Host, Limits, Listens, Opening, SocketListener, Stream, engage, open_kept,
+    Address, Alarm, Host, Limits, Listens, Opening, SocketListener, Stream, engage, open_kept,
 };
 use ipam_keeper::{KeepFault, Keeper, MemoryKeeper};
 use ipam_socket::Failed;
 use ipam_text::Text;
 use std::alloc::{AllocError, Global};
 use std::process;
+use std::sync::Arc;
 use std::time::Duration;
 
 /// A pool of eight addresses, and a block of the node `a` with none given out, as `REVISION KEY BODY`.
@@ -149,7 +150,10 @@ pub(crate) fn serve_all<R: Host, D: Keeper + Send + Drop + 'static, L: Listens<S
     let Ok(opening) = opening(alloc, OPENED) else {
         return false;
     };
-    match engage(rt, alloc, kept, opening, workers, limits) {
+    let Ok(alarm) = Arc::new(alloc, Alarm::new()) else {
+        return false;
+    };
+    match engage(rt, alloc, kept, opening, workers, limits, alarm) {
         Ok(mut staff) => {
             let _ = staff.accept(&rt, listener, connections);
             staff.dismiss(&rt);

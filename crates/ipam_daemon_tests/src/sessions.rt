@@ -6,9 +6,12 @@ use crate::loopback::{
 };
 use crate::scripts::{AT_A_FILE, CUT, EITHER, OVER_TCP};
 use crate::turns::two_sessions;
-use ipam_daemon::{Address, Host, Leaving, Listens, Served, SocketListener, open_kept, serve_by};
+use ipam_daemon::{
+    Address, Alarm, Host, Leaving, Listens, Served, SocketListener, open_kept, serve_by,
+};
 use std::alloc::AllocError;
 use std::process::Abort;
+use std::sync::Arc;
 use std::test::Fail;
 use std::thread;
 use std::thread::join;
@@ -158,6 +161,7 @@ fn serve_few<R: Host + Sync>(
         2,
         limits_of(LONG),
         Leaving::Done,
+        Arc::new(alloc, Alarm::new())?,
     );
     Ok(matches!(served, Served::ListenFault))
 }

@@ -151,7 +151,7 @@ pub(crate) fn two_sessions<R: Threads + Wait + Sync, D: Keeper + Send + Drop>(
     alloc: Global,
     kept: Kept<D>,
 ) -> Option<(String, String)>
-    requires { IsNewlyKept D.rows kept }
+    requires { IsNewlyKept D.rows D.settled kept }
 {
     match Shared::new(alloc, kept) {
         Ok((shared, pass)) => split_and_serve(rt, alloc, &shared, pass),

@@ -146,14 +146,7 @@ told_from word n =
 told-from : (t : Told) → told_from (told_word t) (told_number t) ≡ t
 unfolding told_from told_word told_number
 told-from told.Nothing = refl
-told-from (told.Found revision) = refl
-told-from told.Missing = refl
-told-from (told.Listed count) = refl
-told-from (told.Done revision) = refl
-told-from (told.Exists revision) = refl
-told-from (told.Conflict revision) = refl
-told-from told.Full = refl
-told-from told.Spent = refl
+told-from other = refl
 
 no-number : (t : Told) → has_number (told_word t) ≡ false → told_number t ≡ 0
 unfolding told_word told_number has_number

@@ -238,14 +238,7 @@ has_number word = bytes_eq word (codes "found") || bytes_eq word (codes "listed"
 pub told-parts : (t : Told) → told_text t ≡ told_word t ++ number_part (has_number (told_word t)) (told_number t)
 unfolding told_word told_number has_number
 told-parts told.Nothing = refl
-told-parts (told.Found revision) = refl
-told-parts told.Missing = refl
-told-parts (told.Listed count) = refl
-told-parts (told.Done revision) = refl
-told-parts (told.Exists revision) = refl
-told-parts (told.Conflict revision) = refl
-told-parts told.Full = refl
-told-parts told.Spent = refl
+told-parts other = refl
 
 pub told_word-visible : (t : Told) → IsVisible (told_word t)
 unfolding told_word
@@ -330,26 +323,7 @@ closed-ends (object ms) e = record { by = 125; other = λ same. omega arith; end
 
 answer-closed : (a : Answer) → is_closed (answer_data a) ≡ true
 answer-closed (answer.Added givens) = refl
-answer-closed (answer.AddedThis given) = refl
-answer-closed (answer.Exhausted scan) = refl
-answer-closed (answer.NoPool name moment) = refl
-answer-closed (answer.NotInPool moment) = refl
-answer-closed (answer.Taken holder moment) = refl
-answer-closed (answer.NotAffine cidr moment) = refl
-answer-closed (answer.Deleted moment) = refl
-answer-closed answer.Checked = refl
-answer-closed (answer.NotRecorded address moment) = refl
-answer-closed answer.Released = refl
-answer-closed (answer.NoAffinity moment) = refl
-answer-closed (answer.Collected collection) = refl
-answer-closed (answer.Done revision) = refl
-answer-closed (answer.Refused refusal name) = refl
-answer-closed (answer.Again lost claims) = refl
-answer-closed answer.Full = refl
-answer-closed (answer.CountFull moment) = refl
-answer-closed answer.Spent = refl
-answer-closed answer.Fault = refl
-answer-closed (answer.Ready scans) = refl
+answer-closed other = refl
 
 answer-ends : (a : Answer) → EndsOtherwise (answer_text a)
 unfolding answer_text

@@ -26,6 +26,14 @@ known_without key = option_map (rows_without key)
 abbrev pub IsOldOrNew : (old changed new : Option (List Row)) → Type 0
 IsOldOrNew old changed new = (new ≡ old) ⊎ (new ≡ changed)
 
+-- the sure rows are as they were, or all rows are sure
+abbrev pub SettlesOrNot : (old new rows : Option (List Row)) → Type 0
+SettlesOrNot old new rows = (new ≡ old) ⊎ (new ≡ rows)
+
+-- a call of a keeper that is out of order fails, and leaves it so
+abbrev pub StaysBroken : {T : Type 0} → (before : Type 0) → Result T KeepFault → (after : Type 0) → Type 0
+StaysBroken before result after = before → (result ≡ Err Failed) × after
+
 -- a fact of a call that failed, and of one that found no memory
 abbrev pub OnFailed : {T : Type 0} → Result T KeepFault → Type 0 → Type 0
 OnFailed (Ok value) p = ⊤

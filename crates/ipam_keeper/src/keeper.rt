@@ -3,7 +3,7 @@ ghost use Rattle.std.specs.Prelude.{◌≡◌, ℕ, ◌≤◌, List, Option, IfO
 ghost use Rattle.ipam_io.specs.Counts.{Rose};
 ghost use Rattle.ipam_records.specs.declared.call.Row.{Row as KeptRow};
 ghost use Rattle.ipam_keeper.specs.Rows.{Ascend, row_with};
-ghost use Rattle.ipam_keeper.specs.Keeping.{Change, PutIn, TakeOut, IsTold, known_with, known_without, IsOldOrNew, OnFailed, OnMemory, UnlessFailed};
+ghost use Rattle.ipam_keeper.specs.Keeping.{Change, PutIn, TakeOut, IsTold, known_with, known_without, IsOldOrNew, SettlesOrNot, StaysBroken, OnFailed, OnMemory, UnlessFailed};
 
 use ipam_records::Row;
 
@@ -17,9 +17,19 @@ pub enum KeepFault {
 }
 
 /// What rows are kept in, one for each key.
+///
+/// A keeper may take a put or a removal and make sure of it later: only what a settling that went well came
+/// after outlasts a crash of the process or the machine.
 pub trait Keeper {
     /// The rows, where the keeper tells them.
     ghost rows: { Self → Option (List KeptRow) };
+
+    /// The rows that are sure, where the keeper tells them: a crash leaves these, or the rows that a later
+    /// call makes sure of.
+    ghost settled: { Self → Option (List KeptRow) };
+
+    /// Whether it is out of order: what it took may be lost, and each later call fails.
+    ghost broken: { Self → Type 0 };
 
     /// How many calls failed. It stays at `u64::MAX` once it is there.
     ghost faults: { Self → ℕ };
@@ -36,6 +46,8 @@ pub trait Keeper {
         ensures ascending { IfOk result (λ loaded. Ascend loaded.items) }
         ensures told { IfOk result (λ loaded. IsTold (rows self.old) loaded.items) }
         ensures kept { rows self.new ≡ rows self.old }
+        ensures settled { settled self.new ≡ settled self.old }
+        ensures once_broken { StaysBroken (broken self.old) result (broken self.new) }
 
         ensures fault { OnFailed result (Rose (faults self.old) (faults self.new)) }
         ensures no_fault { UnlessFailed result (faults self.new ≡ faults self.old) }
@@ -52,6 +64,8 @@ pub trait Keeper {
         ensures given { OnFailed result
             (given self.old (PutIn (row_with key.now revision body.now)) self.new) }
         ensures unchanged { OnMemory result (rows self.new ≡ rows self.old) }
+        ensures settled { SettlesOrNot (settled self.old) (settled self.new) (rows self.new) }
+        ensures once_broken { StaysBroken (broken self.old) result (broken self.new) }
 
         ensures fault { OnFailed result (Rose (faults self.old) (faults self.new)) }
         ensures no_fault { UnlessFailed result (faults self.new ≡ faults self.old) }
@@ -66,6 +80,24 @@ pub trait Keeper {
             (known_without key.now (rows self.old)) (rows self.new)) }
         ensures given { OnFailed result (given self.old (TakeOut key.now) self.new) }
         ensures unchanged { OnMemory result (rows self.new ≡ rows self.old) }
+        ensures settled { SettlesOrNot (settled self.old) (settled self.new) (rows self.new) }
+        ensures once_broken { StaysBroken (broken self.old) result (broken self.new) }
+
+        ensures fault { OnFailed result (Rose (faults self.old) (faults self.new)) }
+        ensures no_fault { UnlessFailed result (faults self.new ≡ faults self.old) }
+        ensures never_falls { faults self.old ≤ faults self.new }
+
+        ensures same { name self.new ≡ name self.old };
+
+    /// Makes sure of all that it took, so that a crash no longer takes it back. A settling that fails leaves the
+    /// keeper out of order.
+    fn settle(&mut self) -> Result<(), KeepFault>
+        ensures done { OnOk result (settled self.new ≡ rows self.new) }
+        ensures kept { rows self.new ≡ rows self.old }
+        ensures unchanged { OnMemory result (settled self.new ≡ settled self.old) }
+        ensures settled { SettlesOrNot (settled self.old) (settled self.new) (rows self.new) }
+        ensures breaks { OnFailed result (broken self.new) }
+        ensures once_broken { StaysBroken (broken self.old) result (broken self.new) }
 
         ensures fault { OnFailed result (Rose (faults self.old) (faults self.new)) }
         ensures no_fault { UnlessFailed result (faults self.new ≡ faults self.old) }
@@ -77,6 +109,10 @@ pub trait Keeper {
 /// A keeper that is lent is the same keeper.
 impl<K: Keeper> Keeper for &mut K {
     ghost rows = { λ keeper. K.rows keeper.now };
+
+    ghost settled = { λ keeper. K.settled keeper.now };
+
+    ghost broken = { λ keeper. K.broken keeper.now };
 
     ghost faults = { λ keeper. K.faults keeper.now };
 
@@ -94,5 +130,9 @@ impl<K: Keeper> Keeper for &mut K {
 
     fn remove(&mut self, key: &str) -> Result<(), KeepFault> {
         Keeper::remove(&mut **self, key)
+    }
+
+    fn settle(&mut self) -> Result<(), KeepFault> {
+        Keeper::settle(&mut **self)
     }
 }

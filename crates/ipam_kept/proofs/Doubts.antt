@@ -29,7 +29,7 @@ use Rattle.ipam_model.specs.Consistent.{IsConsistent}
 use Rattle.ipam_model.specs.FateLaw.{IsSameCall}
 use Rattle.ipam_model.specs.History.{Base, Lawful, cluster_at, store_at}
 use Rattle.ipam_model.specs.Named.{name_of}
-use Rattle.ipam_model.specs.Opened.{IsTextOf, text_of, texts_of}
+use Rattle.ipam_model.specs.Opened.{IsTextOf, OpensAs, text_of, texts_of}
 use Rattle.ipam_model.specs.Reads.{StoredRecord}
 use Rattle.ipam_laws.proofs.Fates.{any_fate}
 use Rattle.ipam_laws.proofs.Members.{all-of, out-map}
@@ -76,11 +76,19 @@ texts-loaded rows store sound are = record {
   };
 }
 
+-- the rows of the datastore at the end of a lawful history open as it
+pub opens-so : (base : Base) (history : List Entry) (rows : List RowText) → IsConsistent base.store → Lawful base history → AreTextsOf rows (store_at base history) → OpensAs (texts_loaded rows) (record {
+  rows = (store_at base history).rows;
+  counter = (texts_loaded rows).counter;
+})
+opens-so base history rows consistent lawful are =
+    opened_again base history consistent lawful (texts_loaded rows) (texts-loaded rows (store_at base history) (consistent_law base history consistent lawful).sound are)
+
 opens-lawful : (base : Base) (history : List Entry) (rows : List RowText) → IsConsistent base.store → Lawful base history → AreTextsOf rows (store_at base history) → OpensAsLawful rows base
 opens-lawful base history rows consistent lawful are = record {
   history = history;
   lawful = lawful;
-  opens = opened_again base history consistent lawful (texts_loaded rows) (texts-loaded rows (store_at base history) (consistent_law base history consistent lawful).sound are);
+  opens = opens-so base history rows consistent lawful are;
 }
 
 pub kept_opens : KeptOpensLaw

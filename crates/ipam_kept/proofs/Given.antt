@@ -6,9 +6,9 @@ use Rattle.ipam_records.specs.Datastore.{Datastore}
 use Rattle.ipam_records.specs.Sound.{IsDatastore}
 use Rattle.ipam_keeper.specs.declared.keeper.KeepFault.{KeepFault}
 use Rattle.ipam_keeper.specs.declared.keeper.KeepFault.TheVariants.{Failed, Memory}
-use Rattle.ipam_keeper.specs.Keeping.{IsOldOrNew, OnFailed, OnMemory}
+use Rattle.ipam_keeper.specs.Keeping.{IsOldOrNew, OnFailed, OnMemory, SettlesOrNot}
 use Rattle.ipam_kept.specs.declared.write.RowWrite.{RowWrite}
-use Rattle.ipam_kept.specs.Giving.{StayKept, WereGiven, known_after, known_written}
+use Rattle.ipam_kept.specs.Giving.{SettlesGiven, StayKept, WereGiven, known_after, known_written}
 use Rattle.ipam_kept.specs.Rows.{AreKept, AreTextsOf, AreToldKept, key_written, row_back, rows_after}
 use Rattle.ipam_kept.proofs.StoreTexts.{back-after, back-own, texts-stand}
 
@@ -59,6 +59,13 @@ failed-after store done told between new doubt left last stay sure is old_or_new
 pub same-after : (store : Datastore) (told between new : Option (List RowText)) (doubt left last : Option RowWrite) → StayKept store told doubt between left → last ≡ left → new ≡ between → StayKept store told doubt new last
 same-after store told between new doubt left last stay same rows sound are =
     stay-same store between new left last rows same sound (stay sound are)
+
+-- what is sure then
+pub settles-after : (store : Datastore) (told between rows : Option (List RowText)) (doubt left : Option RowWrite) (old mid new : Option (List RowText)) → StayKept store told doubt between left → left ≡ None → SettlesOrNot old mid between → SettlesOrNot mid new rows → SettlesGiven store told doubt old new rows
+settles-after store told between rows doubt left old mid new stay sure first (inr all) sound are = inl (inr all)
+settles-after store told between rows doubt left old mid new stay sure (inl same) (inl also) sound are = inl (inl (also ∙ same))
+settles-after store told between rows doubt left old mid new stay sure (inr all) (inl also) sound are =
+    inr (subst (λ (t : Option (List RowText)). AreToldKept t store None) (sym (also ∙ all)) (subst (λ (d : Option RowWrite). AreToldKept between store d) sure (stay sound are)))
 
 -- what a keeper answered when the row was put back
 module _ (store : Datastore) (sound : IsDatastore store) (failed : RowWrite) (told new : Option (List RowText)) (are : AreToldKept told store (Some failed)) where

@@ -5,4 +5,5 @@ pub mod Given
 pub mod Fed
 pub mod Standing
 pub mod FedStanding
+pub mod SureStanding
 pub mod Openings

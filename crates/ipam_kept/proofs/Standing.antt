@@ -45,7 +45,7 @@ use Rattle.ipam_kept.proofs.TextRows.{ascend-by_key}
 store-is : (cluster : Cluster) (base : Base) (history : List Entry) → StandsFor cluster base history → cluster.store.store ≡ store_at base history
 store-is cluster base history h = h.is_cluster.store
 
-sound-store : (cluster : Cluster) (base : Base) (history : List Entry) → StandsFor cluster base history → IsDatastore cluster.store.store
+pub sound-store : (cluster : Cluster) (base : Base) (history : List Entry) → StandsFor cluster base history → IsDatastore cluster.store.store
 sound-store cluster base history h =
     subst (λ (s : Datastore). IsDatastore s) (sym (store-is cluster base history h)) (consistent_law base history h.stands.consistent h.stands.lawful).sound
 
@@ -257,7 +257,7 @@ module _ {D : Type 0} (tells : Tells D) (old new : Kept D) (prepared : Prepared)
 -- what a call did on a cluster that is the same as another
 module _ {D : Type 0} (gives : Gives D) (faults : D → ℕ) (slot : ℕ) (old : Kept D) (cluster : Cluster) (same : IsUnchanged old.cluster cluster) (new : Kept D) (told : Entry) where
   abbrev between : Kept D
-  between = record { cluster = cluster; keeper = old.keeper; doubt = old.doubt; ring = old.ring }
+  between = record { cluster = cluster; keeper = old.keeper; doubt = old.doubt; ring = old.ring; settled = old.settled }
 
   doubt-over : StaysInDoubt gives between new ⊎ ComesInDoubt gives slot between new told → StaysInDoubt gives old new ⊎ ComesInDoubt gives slot old new told
   doubt-over (inl stays) = inl (record {

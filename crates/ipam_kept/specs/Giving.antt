@@ -5,7 +5,7 @@ use Rattle.ipam_records.specs.declared.call.Row.{Row as RowText}
 use Rattle.ipam_records.specs.declared.call.Write.{Write}
 use Rattle.ipam_records.specs.Datastore.{Datastore}
 use Rattle.ipam_records.specs.Sound.{IsDatastore}
-use Rattle.ipam_keeper.specs.Keeping.{Change}
+use Rattle.ipam_keeper.specs.Keeping.{Change, SettlesOrNot}
 use Rattle.ipam_kept.specs.declared.write.RowWrite.{RowWrite}
 use Rattle.ipam_kept.specs.Rows.{AreToldKept, change_of, key_written, row_back, rows_after, texts_written}
 
@@ -27,6 +27,11 @@ abbrev pub WereGiven : Option Write → Datastore → (told : Option (List RowTe
 WereGiven write store told doubt new =
     IsDatastore store → AreToldKept told store doubt
     → (between : Option (List RowText)) × AreToldKept between store None × (new ≡ known_written write between)
+
+-- what is sure then: what was, or all rows, or the datastore's, once what was in doubt was put back
+abbrev pub SettlesGiven : Datastore → (told : Option (List RowText)) (doubt : Option RowWrite) → (old new rows : Option (List RowText)) → Type 0
+SettlesGiven store told doubt old new rows =
+    IsDatastore store → AreToldKept told store doubt → SettlesOrNot old new rows ⊎ AreToldKept new store None
 
 -- ---- what a keeper was given by a call that failed
 

@@ -6,5 +6,6 @@ pub mod Faults
 pub mod Giving
 pub mod Kept
 pub mod Feed
+pub mod Sure
 pub mod Opening
 pub mod Turning

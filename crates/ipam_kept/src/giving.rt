@@ -2,11 +2,11 @@
 ghost use Rattle.std.specs.Prelude.{◌≡◌, ◌⊎◌, ◌≤◌, Some, None, IfOk, OnOk, OnErr};
 ghost use Rattle.std.specs.Option.{option_copied};
 ghost use Rattle.ipam_io.specs.Counts.{Rose};
-ghost use Rattle.ipam_keeper.specs.Keeping.{IsOldOrNew, OnFailed, OnMemory, UnlessFailed};
+ghost use Rattle.ipam_keeper.specs.Keeping.{IsOldOrNew, OnFailed, OnMemory, SettlesOrNot, UnlessFailed};
 ghost use Rattle.ipam_model.specs.Opened.{text_of};
 ghost use Rattle.ipam_records.specs.Datastore.{row_of};
 ghost use Rattle.ipam_records.specs.KeyText.{key_bytes};
-ghost use Rattle.ipam_kept.specs.Giving.{FailsBack, FailsWith, StayKept, WereGiven, known_after};
+ghost use Rattle.ipam_kept.specs.Giving.{FailsBack, FailsWith, SettlesGiven, StayKept, WereGiven, known_after};
 ghost use Rattle.ipam_kept.specs.Rows.{change_of, putting_back, row_back, row_read, texts_written};
 
 use crate::write::RowWrite;
@@ -31,6 +31,8 @@ pub(crate) fn give<D: Keeper>(
     ensures failed { OnFailed result (FailsWith D.given (option_copied write.entry) store.now.store
         doubt.old doubt.new keeper.old keeper.new) }
     ensures memory { OnMemory result ((doubt.new ≡ doubt.old) ⊎ (doubt.new ≡ None)) }
+    ensures settled { SettlesGiven store.now.store (D.rows keeper.old) doubt.old
+        (D.settled keeper.old) (D.settled keeper.new) (D.rows keeper.new) }
 
     ensures fault { OnFailed result (Rose (D.faults keeper.old) (D.faults keeper.new)) }
     ensures no_fault { UnlessFailed result (D.faults keeper.new ≡ D.faults keeper.old) }
@@ -55,6 +57,7 @@ fn put_back<D: Keeper>(
     ensures failed { OnFailed result (FailsBack D.given store.now.store doubt.old doubt.new keeper.old keeper.new) }
     ensures still { OnErr result (doubt.new ≡ doubt.old) }
     ensures kept { StayKept store.now.store (D.rows keeper.old) doubt.old (D.rows keeper.new) doubt.new }
+    ensures settled { SettlesOrNot (D.settled keeper.old) (D.settled keeper.new) (D.rows keeper.new) }
 
     ensures fault { OnFailed result (Rose (D.faults keeper.old) (D.faults keeper.new)) }
     ensures no_fault { UnlessFailed result (D.faults keeper.new ≡ D.faults keeper.old) }
@@ -86,6 +89,7 @@ fn give_write<D: Keeper>(
     ensures failed { OnFailed result (doubt.new ≡ Some (texts_written write.now)) }
     ensures given { OnFailed result (D.given keeper.old (change_of (texts_written write.now)) keeper.new) }
     ensures sure { UnlessFailed result (doubt.new ≡ None) }
+    ensures settled { SettlesOrNot (D.settled keeper.old) (D.settled keeper.new) (D.rows keeper.new) }
 
     ensures fault { OnFailed result (Rose (D.faults keeper.old) (D.faults keeper.new)) }
     ensures no_fault { UnlessFailed result (D.faults keeper.new ≡ D.faults keeper.old) }
@@ -108,6 +112,7 @@ fn give_row<D: Keeper>(keeper: &mut D, write: &RowWrite) -> Result<(), KeepFault
         (known_after write.now (D.rows keeper.old)) (D.rows keeper.new)) }
     ensures given { OnFailed result (D.given keeper.old (change_of write.now) keeper.new) }
     ensures unchanged { OnMemory result (D.rows keeper.new ≡ D.rows keeper.old) }
+    ensures settled { SettlesOrNot (D.settled keeper.old) (D.settled keeper.new) (D.rows keeper.new) }
 
     ensures fault { OnFailed result (Rose (D.faults keeper.old) (D.faults keeper.new)) }
     ensures no_fault { UnlessFailed result (D.faults keeper.new ≡ D.faults keeper.old) }

@@ -1,4 +1,4 @@
-ghost use Rattle.std.specs.Prelude.{◌≡◌, ◌↔◌, ◌<◌, ◌≤◌, ◌+◌, ◌^◌, ◌⊎◌, ℕ, List, [], Some, None, IsSome, IsNone, IfOk, IfErr, IfSome, IfNone, OnErr, Err, option_map};
+ghost use Rattle.std.specs.Prelude.{◌≡◌, ◌↔◌, ◌<◌, ◌≤◌, ◌+◌, ◌^◌, ◌⊎◌, ℕ, List, [], Some, None, IsSome, IsNone, IfOk, IfErr, IfSome, IfNone, OnOk, OnErr, Err, option_map};
 ghost use Rattle.std.specs.Option.{option_copied};
 ghost use Rattle.ipam_model.specs.declared.entry.Entry.TheVariants as entry;
 ghost use Rattle.ipam_model.specs.declared.entry.SlotState.TheVariants as state;
@@ -9,7 +9,7 @@ ghost use Rattle.std.specs.List.{All};
 
 use crate::feed::{prepare, push};
 use crate::giving::give;
-use crate::loaded::Feeding;
+use crate::loaded::{Feeding, load_sure};
 use crate::opener::open_loaded;
 use crate::write::RowWrite;
 use ipam_cluster::{BeginFault, Cluster, FeedFault, PrepareFault, Prepared};
@@ -40,6 +40,8 @@ pub struct Kept<D> {
     pub(crate) doubt: Option<RowWrite>,
     /// The feed of the cluster's routes.
     pub(crate) ring: Ring,
+    /// How many entries there were when the keeper was last made sure of all rows.
+    pub(crate) settled: u64,
 }
 
 impl<D: Drop> Drop for Kept<D> {
@@ -49,6 +51,7 @@ impl<D: Drop> Drop for Kept<D> {
             keeper: _,
             doubt: _,
             ring: _,
+            settled: _,
         } = self;
     }
 }
@@ -61,25 +64,30 @@ impl<D: Keeper> Kept<D> {
     ghost use Rattle.ipam_model.specs.declared.entry.Entry.{Entry as OneEntry};
     ghost use Rattle.ipam_model.specs.History.{Base};
     ghost use Rattle.ipam_kept.specs.Opening.{IsNotOpened, IsOpened};
+    ghost use Rattle.ipam_kept.specs.Sure.{SureFor, SureWith, StaysSure};
     ghost use Rattle.ipam_kept.specs.Turning.{IsDone, IsFailed, IsRefused};
+    ghost use Rattle.ipam_io.specs.Counts.{Rose};
+    ghost use Rattle.ipam_keeper.specs.Keeping.{OnFailed, StaysBroken, UnlessFailed};
     ghost use Rattle.ipam_cluster.specs.Preparing.{IsPrepared};
 
-    /// Opens the rows of the keeper, with their greatest revision as the counter, in a cluster in which
-    /// nothing runs. On `Err` the keeper comes back.
+    /// Has the keeper make sure of its rows, and opens them, with their greatest revision as the counter, in
+    /// a cluster in which nothing runs. On `Err` the keeper comes back.
     pub fn open(alloc: Global, keeper: D, first: u64) -> Result<Kept<D>, (D, KeptFault)>
         requires { first ≤ 2 ^ 62 + SLOTS }
         ensures opened { IfOk result (IsOpened D.rows D.faults D.name keeper first) }
         ensures fed { IfOk result (λ kept. FedFor D.rows kept (record { store = kept.cluster.store.store; first = first }) []) }
+        ensures sure { IfOk result (λ kept. SureFor D.settled kept (record { store = kept.cluster.store.store; first = first }) []) }
         ensures refused { IfErr result (IsNotOpened D.rows D.faults D.name keeper) }
     {
         let mut keeper = keeper;
-        let loaded = keeper.load();
+        let loaded = load_sure(&mut keeper);
         match open_loaded(Feeding { alloc, first }, loaded) {
             Ok((cluster, ring)) => Ok(Kept {
                 cluster,
                 keeper,
                 doubt: None,
                 ring,
+                settled: first,
             }),
             Err(fault) => Err((keeper, fault)),
         }
@@ -94,8 +102,10 @@ impl<D: Keeper> Kept<D> {
         ensures entry { IfOk result (λ began. began ≡ entry.Began slot request.now) }
         ensures keeps { IfOk result (KeepsWith D.rows self.old self.new) }
         ensures feeds { IfOk result (FedWith D.rows self.old self.new) }
+        ensures sure { IfOk result (SureWith D.rows D.settled self.old self.new) }
         ensures unchanged { OnErr result (Stays D.rows self.old self.new) }
         ensures still_fed { OnErr result (StaysFed D.rows self.old self.new) }
+        ensures still_sure { OnErr result (StaysSure D.rows D.settled self.old self.new) }
         ensures keeper { LeavesKeeper self.old self.new }
     {
         self.cluster.begin(alloc, slot, request)
@@ -120,8 +130,10 @@ impl<D: Keeper> Kept<D> {
         ensures entry { IfOk result (λ fed. fed ≡ entry.Fed slot at live.now) }
         ensures keeps { IfOk result (KeepsWith D.rows self.old self.new) }
         ensures feeds { IfOk result (FedWith D.rows self.old self.new) }
+        ensures sure { IfOk result (SureWith D.rows D.settled self.old self.new) }
         ensures unchanged { OnErr result (Stays D.rows self.old self.new) }
         ensures still_fed { OnErr result (StaysFed D.rows self.old self.new) }
+        ensures still_sure { OnErr result (StaysSure D.rows D.settled self.old self.new) }
         ensures keeper { LeavesKeeper self.old self.new }
     {
         self.cluster.feed(alloc, slot, live, at)
@@ -139,10 +151,12 @@ impl<D: Keeper> Kept<D> {
         ensures turned { IfOk result (λ told. IsDone D.faults slot self.old self.new told ⊎ IsFailed D.given D.faults slot self.old self.new told) }
         ensures keeps { IfOk result (KeepsWith D.rows self.old self.new) }
         ensures feeds { IfOk result (FedWith D.rows self.old self.new) }
+        ensures sure { IfOk result (SureWith D.rows D.settled self.old self.new) }
         ensures others { (other : ℕ) → ¬ (other ≡ slot) → slot_of self.new.cluster other ≡ slot_of self.old.cluster other }
         ensures refused { OnErr result (IsRefused D.faults self.old self.new) }
         ensures unchanged { OnErr result (Stays D.rows self.old self.new) }
         ensures still_fed { OnErr result (StaysFed D.rows self.old self.new) }
+        ensures still_sure { OnErr result (StaysSure D.rows D.settled self.old self.new) }
         ensures same { D.name self.new.keeper ≡ D.name self.old.keeper }
     {
         let prepared = self.cluster.prepare(alloc, slot)?;
@@ -158,10 +172,12 @@ impl<D: Keeper> Kept<D> {
         ensures turned { IfOk result (λ told. IsDone D.faults prepared.slot self.old self.new told ⊎ IsFailed D.given D.faults prepared.slot self.old self.new told) }
         ensures keeps { IfOk result (KeepsWith D.rows self.old self.new) }
         ensures feeds { IfOk result (FedWith D.rows self.old self.new) }
+        ensures sure { IfOk result (SureWith D.rows D.settled self.old self.new) }
         ensures others { IfOk result (λ told. (other : ℕ) → ¬ (other ≡ prepared.slot) → slot_of self.new.cluster other ≡ slot_of self.old.cluster other) }
         ensures refused { OnErr result (IsRefused D.faults self.old self.new) }
         ensures unchanged { OnErr result (Stays D.rows self.old self.new) }
         ensures still_fed { OnErr result (StaysFed D.rows self.old self.new) }
+        ensures still_sure { OnErr result (StaysSure D.rows D.settled self.old self.new) }
         ensures same { D.name self.new.keeper ≡ D.name self.old.keeper }
     {
         let Kept {
@@ -169,6 +185,7 @@ impl<D: Keeper> Kept<D> {
             keeper,
             doubt,
             ring,
+            settled: _,
         } = self;
         let Ok(()) = prepare(ring, prepared.write()) else {
             return Err(PrepareFault::Memory);
@@ -190,13 +207,37 @@ impl<D: Keeper> Kept<D> {
         ensures entry { IfSome result (λ stopped. stopped ≡ entry.Stopped slot) }
         ensures keeps { IfSome result (KeepsWith D.rows self.old self.new) }
         ensures feeds { IfSome result (FedWith D.rows self.old self.new) }
+        ensures sure { IfSome result (SureWith D.rows D.settled self.old self.new) }
         ensures idle_after { slot_of self.new.cluster slot ≡ None }
         ensures others { (other : ℕ) → ¬ (other ≡ slot) → slot_of self.new.cluster other ≡ slot_of self.old.cluster other }
         ensures unchanged { IfNone result (Stays D.rows self.old self.new) }
         ensures still_fed { IfNone result (StaysFed D.rows self.old self.new) }
+        ensures still_sure { IfNone result (StaysSure D.rows D.settled self.old self.new) }
         ensures keeper { LeavesKeeper self.old self.new }
     {
         self.cluster.stop(slot)
+    }
+
+    /// Has the keeper make sure of all rows. On `Err` it may have made sure of them or not, and where it failed
+    /// it is out of order. The cluster stays as it is.
+    pub fn settle(&mut self) -> Result<(), KeepFault>
+        ensures done { OnOk result (D.settled self.new.keeper ≡ D.rows self.new.keeper) }
+        ensures counted { OnOk result (self.new.settled ≡ self.new.cluster.entries) }
+        ensures uncounted { OnErr result (self.new.settled ≡ self.old.settled) }
+        ensures rest { self.new ≡ record self.old { keeper = self.new.keeper; settled = self.new.settled } }
+        ensures rows { D.rows self.new.keeper ≡ D.rows self.old.keeper }
+        ensures unchanged { Stays D.rows self.old self.new }
+        ensures still_fed { StaysFed D.rows self.old self.new }
+        ensures still_sure { StaysSure D.rows D.settled self.old self.new }
+        ensures breaks { OnFailed result (D.broken self.new.keeper) }
+        ensures once_broken { StaysBroken (D.broken self.old.keeper) result (D.broken self.new.keeper) }
+        ensures fault { OnFailed result (Rose (D.faults self.old.keeper) (D.faults self.new.keeper)) }
+        ensures no_fault { UnlessFailed result (D.faults self.new.keeper ≡ D.faults self.old.keeper) }
+        ensures same { D.name self.new.keeper ≡ D.name self.old.keeper }
+    {
+        self.keeper.settle()?;
+        self.settled = self.cluster.entries();
+        Ok(())
     }
 
     /// The datastore's revision, and its routes by node, then by family and base.
@@ -238,6 +279,14 @@ impl<D> Kept<D> {
         }
     }
 
+    /// How many entries there were when the keeper was last made sure of all rows. What a crash leaves is of
+    /// no earlier moment.
+    pub fn settled(&self) -> u64
+        ensures { result ≡ self.now.settled }
+    {
+        self.settled
+    }
+
     /// The cluster, without its keeper.
     pub fn cluster(&self) -> &Cluster
         ensures { result.now ≡ self.now.cluster }
@@ -254,6 +303,7 @@ impl<D> Kept<D> {
             keeper,
             doubt: _,
             ring: _,
+            settled: _,
         } = self;
         keeper
     }

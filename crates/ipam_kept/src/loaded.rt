@@ -1,7 +1,9 @@
 //! The rows that a keeper loads.
-ghost use Rattle.std.specs.Prelude.{◌≡◌, ◌≤◌, ◌+◌, ◌^◌, ℕ, [], None, IfOk, IfErr};
+ghost use Rattle.std.specs.Prelude.{◌≡◌, ◌≤◌, ◌+◌, ◌^◌, ℕ, [], None, IfOk, IfErr, OnOk};
 ghost use Rattle.ipam_cluster.specs.Cluster.{StandsFor, slot_of};
 ghost use Rattle.ipam_feed.specs.Follows.{Follows};
+ghost use Rattle.ipam_io.specs.Counts.{Rose};
+ghost use Rattle.ipam_keeper.specs.Keeping.{IsTold, OnFailed, UnlessFailed};
 ghost use Rattle.ipam_keeper.specs.Rows.{Ascend};
 ghost use Rattle.ipam_model.specs.declared.limits.TheConstants.{SLOTS};
 ghost use Rattle.ipam_model.specs.Opened.{OpensAs};
@@ -13,8 +15,24 @@ use crate::feed::open_ring;
 use crate::opener::Opens;
 use ipam_cluster::{Base, Cluster, OpenFault};
 use ipam_feed::Ring;
+use ipam_keeper::{KeepFault, Keeper};
 use ipam_records::Row;
 use std::alloc::Global;
+
+/// Loads all rows, and has the keeper make sure of them.
+pub(crate) fn load_sure<D: Keeper>(keeper: &mut D) -> Result<Vec<Row>, KeepFault>
+    ensures ascending { IfOk result (λ loaded. Ascend loaded.items) }
+    ensures told { IfOk result (λ loaded. IsTold (D.rows keeper.old) loaded.items) }
+    ensures kept { D.rows keeper.new ≡ D.rows keeper.old }
+    ensures settled { OnOk result (D.settled keeper.new ≡ D.rows keeper.new) }
+    ensures fault { OnFailed result (Rose (D.faults keeper.old) (D.faults keeper.new)) }
+    ensures no_fault { UnlessFailed result (D.faults keeper.new ≡ D.faults keeper.old) }
+    ensures same { D.name keeper.new ≡ D.name keeper.old }
+{
+    let rows = keeper.load()?;
+    keeper.settle()?;
+    Ok(rows)
+}
 
 /// What opens rows in a cluster in which nothing runs, with their greatest revision as the counter and so
 /// many entries, and with the feed of its routes.

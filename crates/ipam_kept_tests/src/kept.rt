@@ -13,7 +13,7 @@ use ipam_solo::run_alone;
 use std::alloc::{AllocError, Global};
 
 /// What is in front of the first `⇒`, and what is after it.
-fn parts(text: &str) -> (&str, &str) {
+pub(crate) fn parts(text: &str) -> (&str, &str) {
     text.split_once('⇒').unwrap_or((text, ""))
 }
 
@@ -72,7 +72,11 @@ fn ran_all<D: Keeper>(alloc: Global, kept: &mut Kept<D>, texts: &str) -> Result<
 }
 
 /// What comes of the request of the text, which is an administrator's.
-fn ran<D: Keeper>(alloc: Global, kept: &mut Kept<D>, text: &str) -> Result<String, AllocError>
+pub(crate) fn ran<D: Keeper>(
+    alloc: Global,
+    kept: &mut Kept<D>,
+    text: &str,
+) -> Result<String, AllocError>
     requires idle { NothingRuns kept.old }
     requires kept { IsKept D.rows kept.old }
     ensures idle { NothingRuns kept.new }

@@ -1,9 +1,10 @@
-//! Tests of a kept cluster of which a write fails, and of one call by itself. Each line of the
+//! Tests of a kept cluster of which a write or a settling fails, and of one call by itself. Each line of the
 //! input has a kind and a question; the output has the answer after them.
 #![tactic(auto)]
 
 mod freed;
 mod kept;
+mod settled;
 mod told;
 
 use std::alloc::{AllocError, Global};
@@ -13,6 +14,7 @@ use std::io;
 fn answer(alloc: Global, kind: &str, text: &str) -> Result<String, AllocError> {
     match kind {
         "kept" => kept::kept_text(alloc, text),
+        "settled" => settled::settled_text(alloc, text),
         "free" => freed::free_text(alloc, text),
         _ => Err(AllocError),
     }

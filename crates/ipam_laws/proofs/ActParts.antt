@@ -66,13 +66,7 @@ Any trail a = Unit {0}
 
 pub back-apart : (said : Said) (new : Record) → IsNoBlock (key_of new) → IsApart (write_back said new)
 back-apart (Found revision found) new h = h
-back-apart Missing new h = h
-back-apart (Listed rows) new h = h
-back-apart (Can revision) new h = h
-back-apart (Exists revision) new h = h
-back-apart (Conflict revision) new h = h
-back-apart Full new h = h
-back-apart Spent new h = h
+back-apart other new h = h
 
 lowering-apart : (h : handle.HandleValue) (counts : List (CidrValue × ℕ)) (revision : ℕ) → IsApart (written_or_deleted h counts revision)
 lowering-apart h [] revision = tt

@@ -399,11 +399,8 @@ IsTold request _ trail = Unit {0}
 
 stop-told : (request : AddRequest) (trail : Trail) (left : Left) (why : Stop) → AddEnds request trail (Stops left why) → IsRefusal request (stop_answer add_stops left why) trail
 unfolding AddEnds IsRefusal
-stop-told request trail left OutOfTries k = tt
-stop-told request trail left OutOfClaims k = tt
-stop-told request trail left NoRoom k = tt
 stop-told request trail left (CountAtLimit moment) k = k
-stop-told request trail left NoRevisions k = tt
+stop-told request trail left other k = tt
 
 add-comes : (request : AddRequest) → Comes (λ trail told. IsRefusal request told trail) [] (add_word request)
 unfolding AddEnds
@@ -421,10 +418,7 @@ told-comes request =
     Comes-bound (λ trail told. IsRefusal request told trail) (λ trail told. IsTold request told trail) (λ one. Ends (of_add one)) (add_word request) [] (add-comes request) ends
   where
     ends : (trail : Trail) (told : AddAnswer) → IsRefusal request told trail → IsTold request (of_add told) trail
-    ends trail (add.Added given) k = k
-    ends trail (add.Exhausted scan) k = k
-    ends trail (add.NoPool called moment) k = k
     ends trail (add.Again lost claims) k = tt
     ends trail add.Full k = tt
-    ends trail (add.CountFull moment) k = k
     ends trail add.Spent k = tt
+    ends trail other k = k

@@ -353,9 +353,6 @@ leaves-nothing request =
   where
     ends : (trail : Trail) (told : AddAnswer) → TellsBare request told trail → LeavesNothing request (of_add told) trail
     ends trail (add.Added given) k = tt
-    ends trail (add.Exhausted scan) k = k
-    ends trail (add.NoPool called moment) k = k
     ends trail (add.Again lost claims) k = tt
-    ends trail add.Full k = k
-    ends trail (add.CountFull moment) k = k
     ends trail add.Spent k = tt
+    ends trail other k = k

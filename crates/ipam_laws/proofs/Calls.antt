@@ -84,23 +84,11 @@ can-remove store k asked r e = ap (λ n. written store (Remove n k)) (can-next s
 
 granted-get : (k : Key) (reply : Said) → write_granted (call.Get k) reply ≡ None
 granted-get k (Can revision) = refl
-granted-get k (Found revision found) = refl
-granted-get k Missing = refl
-granted-get k (Listed rows) = refl
-granted-get k (Exists revision) = refl
-granted-get k (Conflict revision) = refl
-granted-get k Full = refl
-granted-get k Spent = refl
+granted-get k other = refl
 
 granted-list : (kind : Kind) (reply : Said) → write_granted (call.List kind) reply ≡ None
 granted-list kind (Can revision) = refl
-granted-list kind (Found revision found) = refl
-granted-list kind Missing = refl
-granted-list kind (Listed rows) = refl
-granted-list kind (Exists revision) = refl
-granted-list kind (Conflict revision) = refl
-granted-list kind Full = refl
-granted-list kind Spent = refl
+granted-list kind other = refl
 
 pub behind-get : (store : Datastore) (k : Key) → behind store (call.Get k) ≡ store
 behind-get store k = ap (λ w. store_with w store) (granted-get k (reply_of store (call.Get k)))

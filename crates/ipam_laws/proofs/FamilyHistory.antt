@@ -333,23 +333,7 @@ of-round a request trail upto is h (answer.Exhausted scan) k = chosen-span (span
 of-round a request trail upto is h (answer.NoPool called moment) (scan, place, at, called_so, k) = (scan, place, at, chosen-span (span_of a) request scan (NoPool place) trail upto h k)
 of-round a request trail upto is h (answer.CountFull moment) k = (k.cidr, (aimed-span a request moment trail upto is h k).0)
 of-round a request trail upto is h (answer.Added given) k = all-from-rounds (span_of a) request trail upto h (families_of request) given k
-of-round a request trail upto is h (answer.AddedThis given) k = tt
-of-round a request trail upto is h (answer.NotInPool moment) k = tt
-of-round a request trail upto is h (answer.Taken id moment) k = tt
-of-round a request trail upto is h (answer.NotAffine cidr moment) k = tt
-of-round a request trail upto is h (answer.Deleted moment) k = tt
-of-round a request trail upto is h answer.Checked k = tt
-of-round a request trail upto is h (answer.NotRecorded address moment) k = tt
-of-round a request trail upto is h answer.Released k = tt
-of-round a request trail upto is h (answer.NoAffinity moment) k = tt
-of-round a request trail upto is h (answer.Collected collected) k = tt
-of-round a request trail upto is h (answer.Done revision) k = tt
-of-round a request trail upto is h (answer.Refused number about) k = tt
-of-round a request trail upto is h (answer.Again lost claims) k = tt
-of-round a request trail upto is h answer.Full k = tt
-of-round a request trail upto is h answer.Spent k = tt
-of-round a request trail upto is h answer.Fault k = tt
-of-round a request trail upto is h (answer.Ready scans) k = tt
+of-round a request trail upto is h other k = tt
 
 failed-round : (a : Answered) (request : AddRequest) (told : Answer) → Lawful a.base (history_of a) → a.call.answer ≡ Some told → a.call.fate ≢ Well → IsOfRound a request told
 failed-round a request told h given failed =

@@ -340,20 +340,8 @@ module _ (request : Request) where
 
 pub back-writes : (said : Said) (new : Record) → is_write (name_of (write_back said new)) ≡ true
 back-writes (Found revision found) new = refl
-back-writes Missing new = refl
-back-writes (Listed rows) new = refl
-back-writes (Can revision) new = refl
-back-writes (Exists revision) new = refl
-back-writes (Conflict revision) new = refl
-back-writes Full new = refl
-back-writes Spent new = refl
+back-writes other new = refl
 
 pub back-new : (said : Said) (new : Record) → new_record (write_back said new) ≡ Some new
 back-new (Found revision found) new = refl
-back-new Missing new = refl
-back-new (Listed rows) new = refl
-back-new (Can revision) new = refl
-back-new (Exists revision) new = refl
-back-new (Conflict revision) new = refl
-back-new Full new = refl
-back-new Spent new = refl
+back-new other new = refl

@@ -199,21 +199,4 @@ probe-right a request trail is there (answer.NoPool name moment) (scan, place, a
         at_pools = at;
       },
     )
-probe-right a request trail is there (answer.Added given) h = absurd h
-probe-right a request trail is there (answer.AddedThis given) h = absurd h
-probe-right a request trail is there (answer.NotInPool moment) h = absurd h
-probe-right a request trail is there (answer.Taken id moment) h = absurd h
-probe-right a request trail is there (answer.NotAffine cidr moment) h = absurd h
-probe-right a request trail is there (answer.Deleted moment) h = absurd h
-probe-right a request trail is there answer.Checked h = absurd h
-probe-right a request trail is there (answer.NotRecorded address moment) h = absurd h
-probe-right a request trail is there answer.Released h = absurd h
-probe-right a request trail is there (answer.NoAffinity moment) h = absurd h
-probe-right a request trail is there (answer.Collected collected) h = absurd h
-probe-right a request trail is there (answer.Done revision) h = absurd h
-probe-right a request trail is there (answer.Refused number about) h = absurd h
-probe-right a request trail is there (answer.Again lost claims) h = absurd h
-probe-right a request trail is there answer.Full h = absurd h
-probe-right a request trail is there (answer.CountFull moment) h = absurd h
-probe-right a request trail is there answer.Spent h = absurd h
-probe-right a request trail is there answer.Fault h = absurd h
+probe-right a request trail is there other h = absurd h

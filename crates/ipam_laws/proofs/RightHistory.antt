@@ -145,22 +145,7 @@ change-right a setting trail is there calls (answer.Refused number about) h s = 
 change-right a setting trail is there calls (answer.Again lost claims) h s = s
 change-right a setting trail is there calls answer.Full h s = (s, no-add a (Admin setting) is (λ add e. cc e) (λ add address e. cc e))
 change-right a setting trail is there calls answer.Spent h s = s
-change-right a setting trail is there calls (answer.Added given) h s = absurd h
-change-right a setting trail is there calls (answer.AddedThis given) h s = absurd h
-change-right a setting trail is there calls (answer.Exhausted scan) h s = absurd h
-change-right a setting trail is there calls (answer.NoPool called moment) h s = absurd h
-change-right a setting trail is there calls (answer.NotInPool moment) h s = absurd h
-change-right a setting trail is there calls (answer.Taken id moment) h s = absurd h
-change-right a setting trail is there calls (answer.NotAffine block moment) h s = absurd h
-change-right a setting trail is there calls (answer.Deleted moment) h s = absurd h
-change-right a setting trail is there calls answer.Checked h s = absurd h
-change-right a setting trail is there calls (answer.NotRecorded address moment) h s = absurd h
-change-right a setting trail is there calls answer.Released h s = absurd h
-change-right a setting trail is there calls (answer.NoAffinity moment) h s = absurd h
-change-right a setting trail is there calls (answer.Collected collected) h s = absurd h
-change-right a setting trail is there calls (answer.CountFull moment) h s = absurd h
-change-right a setting trail is there calls answer.Fault h s = absurd h
-change-right a setting trail is there calls (answer.Ready scans) h s = absurd h
+change-right a setting trail is there calls other h s = absurd h
 
 pub change_answers : ChangeAnswersLaw
 unfolding SaysOfTrail
@@ -177,22 +162,7 @@ release-right a node cidr trail c l is there calls (answer.NoAffinity moment) h 
 release-right a node cidr trail c l is there calls (answer.Again lost claims) h s = s
 release-right a node cidr trail c l is there calls answer.Full h s = (s, no-add a (Release node cidr) is (λ add e. cc e) (λ add address e. cc e))
 release-right a node cidr trail c l is there calls answer.Spent h s = s
-release-right a node cidr trail c l is there calls (answer.Added given) h s = absurd h
-release-right a node cidr trail c l is there calls (answer.AddedThis given) h s = absurd h
-release-right a node cidr trail c l is there calls (answer.Exhausted scan) h s = absurd h
-release-right a node cidr trail c l is there calls (answer.NoPool called moment) h s = absurd h
-release-right a node cidr trail c l is there calls (answer.NotInPool moment) h s = absurd h
-release-right a node cidr trail c l is there calls (answer.Taken id moment) h s = absurd h
-release-right a node cidr trail c l is there calls (answer.NotAffine block moment) h s = absurd h
-release-right a node cidr trail c l is there calls (answer.Deleted moment) h s = absurd h
-release-right a node cidr trail c l is there calls answer.Checked h s = absurd h
-release-right a node cidr trail c l is there calls (answer.NotRecorded address moment) h s = absurd h
-release-right a node cidr trail c l is there calls (answer.Collected collected) h s = absurd h
-release-right a node cidr trail c l is there calls (answer.Done revision) h s = absurd h
-release-right a node cidr trail c l is there calls (answer.Refused number about) h s = absurd h
-release-right a node cidr trail c l is there calls (answer.CountFull moment) h s = absurd h
-release-right a node cidr trail c l is there calls answer.Fault h s = absurd h
-release-right a node cidr trail c l is there calls (answer.Ready scans) h s = absurd h
+release-right a node cidr trail c l is there calls other h s = absurd h
 
 pub release_answers : ReleaseAnswersLaw
 unfolding SaysOfTrail
@@ -212,19 +182,7 @@ this-right a request address trail c l is there (answer.Again lost claims) h s =
 this-right a request address trail c l is there answer.Full h s = (s, λ add adds. calm-nothing a trail c l there h)
 this-right a request address trail c l is there (answer.CountFull moment) h s = (request, inr (address, is), limit-right a request address c l moment trail is there h.0, calm-nothing a trail c l there h.1)
 this-right a request address trail c l is there answer.Spent h s = s
-this-right a request address trail c l is there (answer.Added given) h s = absurd h
-this-right a request address trail c l is there (answer.Exhausted scan) h s = absurd h
-this-right a request address trail c l is there (answer.NoPool called moment) h s = absurd h
-this-right a request address trail c l is there (answer.Deleted moment) h s = absurd h
-this-right a request address trail c l is there answer.Checked h s = absurd h
-this-right a request address trail c l is there (answer.NotRecorded other moment) h s = absurd h
-this-right a request address trail c l is there answer.Released h s = absurd h
-this-right a request address trail c l is there (answer.NoAffinity moment) h s = absurd h
-this-right a request address trail c l is there (answer.Collected collected) h s = absurd h
-this-right a request address trail c l is there (answer.Done revision) h s = absurd h
-this-right a request address trail c l is there (answer.Refused number about) h s = absurd h
-this-right a request address trail c l is there answer.Fault h s = absurd h
-this-right a request address trail c l is there (answer.Ready scans) h s = absurd h
+this-right a request address trail c l is there other h s = absurd h
 
 pub this_answers : ThisAnswersLaw
 unfolding SaysOfTrail
@@ -239,24 +197,7 @@ unfolding OfDel IsStopRight
 del-right a id trail c l is there (answer.Deleted moment) h s = (id, is, deleted-right a id moment trail c l there h)
 del-right a id trail c l is there (answer.Again lost claims) h s = s
 del-right a id trail c l is there answer.Spent h s = s
-del-right a id trail c l is there (answer.Added given) h s = absurd h
-del-right a id trail c l is there (answer.AddedThis given) h s = absurd h
-del-right a id trail c l is there (answer.Exhausted scan) h s = absurd h
-del-right a id trail c l is there (answer.NoPool called moment) h s = absurd h
-del-right a id trail c l is there (answer.NotInPool moment) h s = absurd h
-del-right a id trail c l is there (answer.Taken held moment) h s = absurd h
-del-right a id trail c l is there (answer.NotAffine block moment) h s = absurd h
-del-right a id trail c l is there answer.Checked h s = absurd h
-del-right a id trail c l is there (answer.NotRecorded other moment) h s = absurd h
-del-right a id trail c l is there answer.Released h s = absurd h
-del-right a id trail c l is there (answer.NoAffinity moment) h s = absurd h
-del-right a id trail c l is there (answer.Collected collected) h s = absurd h
-del-right a id trail c l is there (answer.Done revision) h s = absurd h
-del-right a id trail c l is there (answer.Refused number about) h s = absurd h
-del-right a id trail c l is there answer.Full h s = absurd h
-del-right a id trail c l is there (answer.CountFull moment) h s = absurd h
-del-right a id trail c l is there answer.Fault h s = absurd h
-del-right a id trail c l is there (answer.Ready scans) h s = absurd h
+del-right a id trail c l is there other h s = absurd h
 
 pub del_answers : DelAnswersLaw
 unfolding SaysOfTrail
@@ -340,24 +281,7 @@ unfolding OfCollect IsStopRight
 collect-right a request trail t is there (answer.Collected collected) h s = (request, is, collected-right a request collected trail t.0 t.1 is t.2 there h)
 collect-right a request trail t is there (answer.Again lost claims) h s = s
 collect-right a request trail t is there answer.Spent h s = s
-collect-right a request trail t is there (answer.Added given) h s = absurd h
-collect-right a request trail t is there (answer.AddedThis given) h s = absurd h
-collect-right a request trail t is there (answer.Exhausted scan) h s = absurd h
-collect-right a request trail t is there (answer.NoPool called moment) h s = absurd h
-collect-right a request trail t is there (answer.NotInPool moment) h s = absurd h
-collect-right a request trail t is there (answer.Taken held moment) h s = absurd h
-collect-right a request trail t is there (answer.NotAffine block moment) h s = absurd h
-collect-right a request trail t is there (answer.Deleted moment) h s = absurd h
-collect-right a request trail t is there answer.Checked h s = absurd h
-collect-right a request trail t is there (answer.NotRecorded other moment) h s = absurd h
-collect-right a request trail t is there answer.Released h s = absurd h
-collect-right a request trail t is there (answer.NoAffinity moment) h s = absurd h
-collect-right a request trail t is there (answer.Done revision) h s = absurd h
-collect-right a request trail t is there (answer.Refused number about) h s = absurd h
-collect-right a request trail t is there answer.Full h s = absurd h
-collect-right a request trail t is there (answer.CountFull moment) h s = absurd h
-collect-right a request trail t is there answer.Fault h s = absurd h
-collect-right a request trail t is there (answer.Ready scans) h s = absurd h
+collect-right a request trail t is there other h s = absurd h
 
 pub collect_answers : CollectAnswersLaw
 unfolding SaysOfTrail

@@ -15,7 +15,7 @@ use Rattle.ipam_records.specs.declared.record.Record.{Record}
 use Rattle.ipam_records.specs.declared.record.Record.TheVariants as record_of
 use Rattle.ipam_records.specs.Datastore.{Datastore, reply_of}
 use Rattle.ipam_records.specs.Label.{Point, Nowhere, Claiming, Claimed, idle, standing}
-use Rattle.ipam_records.specs.Said.{Said, Found, Missing, Listed, Can, Exists, Conflict, Full, Spent}
+use Rattle.ipam_records.specs.Said.{Said, Found, Can, Full, Spent}
 use Rattle.ipam_records.specs.Word.{Asks, Ends, Word}
 use Rattle.ipam_model.specs.declared.outcome.ClaimAnswer.{ClaimAnswer}
 use Rattle.ipam_model.specs.declared.outcome.ClaimAnswer.TheVariants as claimed
@@ -44,18 +44,7 @@ use Rattle.ipam_laws.proofs.Trails.{AgreesAll, Did, Trail}
 
 pub affinity-found : (said : Said) (found : ℕ × Affinity) → affinity_said said ≡ Some found → said ≡ Found found.0 (record_of.Affinity found.1)
 affinity-found (Found revision (record_of.Affinity a)) found e = let same : (revision, a) ≡ found = cc e in ap (λ (p : ℕ × Affinity). Found p.0 (record_of.Affinity p.1)) same
-affinity-found (Found revision (record_of.Config config)) found e = absurd (cc e)
-affinity-found (Found revision (record_of.Pools pools)) found e = absurd (cc e)
-affinity-found (Found revision (record_of.Reservations reservations)) found e = absurd (cc e)
-affinity-found (Found revision (record_of.Block b)) found e = absurd (cc e)
-affinity-found (Found revision (record_of.Handle h)) found e = absurd (cc e)
-affinity-found Missing found e = absurd (cc e)
-affinity-found (Listed rows) found e = absurd (cc e)
-affinity-found (Can revision) found e = absurd (cc e)
-affinity-found (Exists revision) found e = absurd (cc e)
-affinity-found (Conflict revision) found e = absurd (cc e)
-affinity-found Full found e = absurd (cc e)
-affinity-found Spent found e = absurd (cc e)
+affinity-found other found e = absurd (cc e)
 
 -- ---- a write of a block that holds what it held
 

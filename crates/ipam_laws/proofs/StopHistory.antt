@@ -270,24 +270,7 @@ unfolding ToldStop IsStopRight
 stop-right a trail is calls (answer.Again lost claims) h = again-right a trail lost claims calls h
 stop-right a trail is calls answer.Full h = full-right a trail is h
 stop-right a trail is calls answer.Spent h = (earlier-calls a h.moment h.store h.asked h.before trail h.is calls).1 ∙ ap told_of h.spent
-stop-right a trail is calls (answer.Added given) h = tt
-stop-right a trail is calls (answer.AddedThis given) h = tt
-stop-right a trail is calls (answer.Exhausted scan) h = tt
-stop-right a trail is calls (answer.NoPool called moment) h = tt
-stop-right a trail is calls (answer.CountFull moment) h = tt
-stop-right a trail is calls (answer.NotInPool moment) h = tt
-stop-right a trail is calls (answer.Taken id moment) h = tt
-stop-right a trail is calls (answer.NotAffine cidr moment) h = tt
-stop-right a trail is calls (answer.Deleted moment) h = tt
-stop-right a trail is calls answer.Checked h = tt
-stop-right a trail is calls (answer.NotRecorded address moment) h = tt
-stop-right a trail is calls answer.Released h = tt
-stop-right a trail is calls (answer.NoAffinity moment) h = tt
-stop-right a trail is calls (answer.Collected collected) h = tt
-stop-right a trail is calls (answer.Done revision) h = tt
-stop-right a trail is calls (answer.Refused number about) h = tt
-stop-right a trail is calls answer.Fault h = tt
-stop-right a trail is calls (answer.Ready scans) h = tt
+stop-right a trail is calls other h = tt
 
 -- an answer that is no fault is that of a call that went well
 pub went-well : (a : Answered) (told : Answer) → Lawful a.base (history_of a) → a.call.answer ≡ Some told → told ≢ answer.Fault → a.call.fate ≡ Well

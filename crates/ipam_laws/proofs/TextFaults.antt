@@ -37,26 +37,7 @@ fault-same fault.Key fault.Key e = refl
 fault-same fault.Table fault.Table e = refl
 fault-same fault.Unsound fault.Unsound e = refl
 fault-same fault.Memory fault.Memory e = refl
-fault-same fault.Form fault.Key e = absurd (cc e)
-fault-same fault.Form fault.Table e = absurd (cc e)
-fault-same fault.Form fault.Unsound e = absurd (cc e)
-fault-same fault.Form fault.Memory e = absurd (cc e)
-fault-same fault.Key fault.Form e = absurd (cc e)
-fault-same fault.Key fault.Table e = absurd (cc e)
-fault-same fault.Key fault.Unsound e = absurd (cc e)
-fault-same fault.Key fault.Memory e = absurd (cc e)
-fault-same fault.Table fault.Form e = absurd (cc e)
-fault-same fault.Table fault.Key e = absurd (cc e)
-fault-same fault.Table fault.Unsound e = absurd (cc e)
-fault-same fault.Table fault.Memory e = absurd (cc e)
-fault-same fault.Unsound fault.Form e = absurd (cc e)
-fault-same fault.Unsound fault.Key e = absurd (cc e)
-fault-same fault.Unsound fault.Table e = absurd (cc e)
-fault-same fault.Unsound fault.Memory e = absurd (cc e)
-fault-same fault.Memory fault.Form e = absurd (cc e)
-fault-same fault.Memory fault.Key e = absurd (cc e)
-fault-same fault.Memory fault.Table e = absurd (cc e)
-fault-same fault.Memory fault.Unsound e = absurd (cc e)
+fault-same one other e = absurd (cc e)
 
 pub fault-told : (which : TextFault) (r : Result Record TextFault) → reads_fault which r ≡ true → r ≡ Err which
 unfolding reads_fault

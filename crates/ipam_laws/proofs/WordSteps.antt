@@ -322,7 +322,7 @@ rank_at-known known asked seen slot None rank name at h e = by (may_claim asked 
 -- ---- the slot that is picked
 
 -- it is a slot of a pool that was seen
-picked-slot : (asked : Asked) (seen : Seen) (found : Ranked) → pick_of asked seen ≡ Picks found → (pool : Pool) × Contains seen.pools pool × IsSlotOf pool found.slot
+pub picked-slot : (asked : Asked) (seen : Seen) (found : Ranked) → pick_of asked seen ≡ Picks found → (pool : Pool) × Contains seen.pools pool × IsSlotOf pool found.slot
 picked-slot asked seen found e = by (unknown_name asked seen.pools) (choice_is asked seen)
   where
     chosen_is : slot_in (choice_of asked seen) ≡ Some found.slot

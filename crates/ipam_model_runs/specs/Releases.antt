@@ -1,9 +1,10 @@
 -- Releases of an affinity that race with ADDs.
-use Rattle.std.specs.Prelude.{[], ◌∷◌, ◌++◌, Some, None, codes}
+use Rattle.std.specs.Prelude.{ℕ, ◌+◌, List, [], ◌∷◌, ◌++◌, Some, None, codes}
 use Rattle.ipam_affinity.specs.declared.state.State.TheVariants.{Pending, Confirmed, PendingDeletion}
 use Rattle.ipam_records.specs.declared.key.Key.TheVariants as key
 use Rattle.ipam_model.specs.declared.answer.Answer.TheVariants as answer
 use Rattle.ipam_model.specs.declared.entry.CallName.TheVariants as name
+use Rattle.ipam_model.specs.declared.entry.Entry.{Entry}
 use Rattle.ipam_model.specs.declared.entry.Entry.TheVariants as entry
 use Rattle.ipam_model.specs.declared.entry.Fate.TheVariants.{Well}
 use Rattle.ipam_model.specs.declared.entry.Told.TheVariants as told
@@ -15,6 +16,28 @@ use Rattle.ipam_model_runs.specs.Setting.{v4, slot0, pool_row, base_of, ready_ba
 
 abbrev pub release_first : Request
 release_first = request.Release (codes "a") slot0
+
+-- The ADD takes the first address of the block that it claimed. The last write was at the revision `last`, and that
+-- of the block at `block`. With this one the block has so many writes. The reads begin at c, and the write is at w.
+abbrev pub first_taken : (last block count c w : ℕ) → List Entry
+first_taken last block count c w =
+    five_reads 0 1 1
+    ++ get_handle 0 (codes "n.c1") told.Missing
+    ∷ created 0 (key.Handle (codes "n.c1")) (last + 1) (handle_of (codes "n.c1") slot0 1) None
+    ∷ updated 0 (key.Block slot0) block (last + 2)
+    (block_record slot0 (Some (codes "a")) (held 0 (codes "n.c1") count ∷ []) (1 ∷ 2 ∷ 3 ∷ []) count)
+    (Some (given (v4 0) c w))
+    ∷ []
+
+-- The same after a claim of the block, which is nobody's and is confirmed.
+abbrev pub claimed_anew : (last block count c w : ℕ) → List Entry
+claimed_anew last block count c w =
+    five_reads 0 0 1
+    ++ get_affinity 0 (codes "a") slot0 told.Missing
+    ∷ created 0 (key.Affinity (codes "a") slot0) (last + 1) (affinity_of (codes "a") slot0 Pending) None
+    ∷ updated 0 (key.Block slot0) block (last + 2) (block_record slot0 (Some (codes "a")) [] queue4 count) None
+    ∷ updated 0 (key.Affinity (codes "a") slot0) (last + 1) (last + 3) (affinity_of (codes "a") slot0 Confirmed) None
+    ∷ first_taken (last + 3) (last + 2) (count + 1) c w
 
 -- A claim is overtaken before its write of the block, which the release creates. The ADD loses this
 -- race, claims the block that is nobody's now, and takes its first address.
@@ -35,18 +58,7 @@ ReleasedBeforeTheClaim = goes bare_base
     ∷ created 1 (key.Block slot0) 4 (block_record slot0 None [] queue4 0) None
     ∷ deleted 1 (key.Affinity (codes "a") slot0) 3 5 (Some answer.Released)
     ∷ did_read 0 (name.Create (key.Block slot0)) (told.Exists 4)
-    ∷ five_reads 0 0 1
-    ++ get_affinity 0 (codes "a") slot0 told.Missing
-    ∷ created 0 (key.Affinity (codes "a") slot0) 6 (affinity_of (codes "a") slot0 Pending) None
-    ∷ updated 0 (key.Block slot0) 4 7 (block_record slot0 (Some (codes "a")) [] queue4 1) None
-    ∷ updated 0 (key.Affinity (codes "a") slot0) 6 8 (affinity_of (codes "a") slot0 Confirmed) None
-    ∷ five_reads 0 1 1
-    ++ get_handle 0 (codes "n.c1") told.Missing
-    ∷ created 0 (key.Handle (codes "n.c1")) 9 (handle_of (codes "n.c1") slot0 1) None
-    ∷ updated 0 (key.Block slot0) 7 10
-    (block_record slot0 (Some (codes "a")) (held 0 (codes "n.c1") 2 ∷ []) (1 ∷ 2 ∷ 3 ∷ []) 2)
-    (Some (given (v4 0) 25 32))
-    ∷ [])
+    ∷ claimed_anew 5 4 1 25 32)
 
 -- The ADD finds the affinity marked for deletion, takes it back and confirms it again. The release
 -- has read the block before, so its write is lost.
@@ -68,13 +80,7 @@ AffinityTakenBack = goes ready_base
     ∷ updated 0 (key.Affinity (codes "a") slot0) 5 7 (affinity_of (codes "a") slot0 Confirmed) None
     ∷ did_read 1 (name.Update (key.Block slot0) 3) (told.Conflict 6)
     ∷ entry.Stopped 1
-    ∷ five_reads 0 1 1
-    ++ get_handle 0 (codes "n.c1") told.Missing
-    ∷ created 0 (key.Handle (codes "n.c1")) 8 (handle_of (codes "n.c1") slot0 1) None
-    ∷ updated 0 (key.Block slot0) 6 9
-    (block_record slot0 (Some (codes "a")) (held 0 (codes "n.c1") 2 ∷ []) (1 ∷ 2 ∷ 3 ∷ []) 2)
-    (Some (given (v4 0) 17 24))
-    ∷ [])
+    ∷ first_taken 7 6 2 17 24)
 
 -- ---- a release with nobody beside it
 
@@ -142,18 +148,7 @@ MarkTakenBack = goes ready_base
     ∷ get_affinity 1 (codes "a") slot0 (told.Found 6)
     ∷ updated 1 (key.Block slot0) 7 8 (block_record slot0 None [] queue4 2) None
     ∷ deleted 1 (key.Affinity (codes "a") slot0) 6 9 (Some answer.Released)
-    ∷ five_reads 0 0 1
-    ++ get_affinity 0 (codes "a") slot0 told.Missing
-    ∷ created 0 (key.Affinity (codes "a") slot0) 10 (affinity_of (codes "a") slot0 Pending) None
-    ∷ updated 0 (key.Block slot0) 8 11 (block_record slot0 (Some (codes "a")) [] queue4 3) None
-    ∷ updated 0 (key.Affinity (codes "a") slot0) 10 12 (affinity_of (codes "a") slot0 Confirmed) None
-    ∷ five_reads 0 1 1
-    ++ get_handle 0 (codes "n.c1") told.Missing
-    ∷ created 0 (key.Handle (codes "n.c1")) 13 (handle_of (codes "n.c1") slot0 1) None
-    ∷ updated 0 (key.Block slot0) 11 14
-    (block_record slot0 (Some (codes "a")) (held 0 (codes "n.c1") 4 ∷ []) (1 ∷ 2 ∷ 3 ∷ []) 4)
-    (Some (given (v4 0) 30 37))
-    ∷ [])
+    ∷ claimed_anew 9 8 3 30 37)
 
 -- The ADD takes the affinity back after the release's write of the block. The release loses its
 -- deletion, and reads the affinity again.

@@ -5,7 +5,7 @@ use Rattle.ipam_resources.specs.declared.resource.Resource.{Resource}
 use Rattle.ipam_resources.specs.Documents.{document_reading}
 use Rattle.ipam_operator.specs.declared.end.End.{End}
 use Rattle.ipam_operator.specs.Asking.{Comes, Wire}
-use Rattle.ipam_operator.specs.Applying.{DocumentEnds, Good, Outside, AskedResourcesEnd}
+use Rattle.ipam_operator.specs.Applying.{DocumentEnds, Good, AskedOutside, AskedResourcesEnd}
 
 pub known-nil : (known : Option (List ℕ)) → prepend_known [] known ≡ known
 known-nil None = refl
@@ -20,7 +20,7 @@ comes-anew line held left after none comes =
 abbrev pub wire : (sent : Option (List ℕ)) (send_faults : ℕ) (coming : Option (List ℕ)) (read_faults : ℕ) → Wire
 wire sent send_faults coming read_faults = record { sent = sent; send_faults = send_faults; coming = coming; read_faults = read_faults }
 
-abbrev pub outside : (sent : Option (List ℕ)) (send_faults : ℕ) (coming : Option (List ℕ)) (read_faults : ℕ) (written : Option (List ℕ)) (write_faults : ℕ) → Outside
+abbrev pub outside : (sent : Option (List ℕ)) (send_faults : ℕ) (coming : Option (List ℕ)) (read_faults : ℕ) (written : Option (List ℕ)) (write_faults : ℕ) → AskedOutside
 outside sent send_faults coming read_faults written write_faults = record {
   wire = wire sent send_faults coming read_faults;
   written = written;
@@ -40,9 +40,9 @@ wire-anew sent send_faults left read_faults = ap (λ (w : Option (List ℕ)). wi
 
 -- how a document ends whose lines begin with none held
 pub good-anew : (document : List ℕ) (resources : List Resource) → document_reading document ≡ Ok resources → (held : List ℕ) → held ≡ []
-    → (sent : Option (List ℕ)) (send_faults : ℕ) (left : Option (List ℕ)) (read_faults : ℕ) (written : Option (List ℕ)) (write_faults : ℕ) (new : Outside) (last : End)
+    → (sent : Option (List ℕ)) (send_faults : ℕ) (left : Option (List ℕ)) (read_faults : ℕ) (written : Option (List ℕ)) (write_faults : ℕ) (new : AskedOutside) (last : End)
     → AskedResourcesEnd resources (outside sent send_faults (prepend_known held left) read_faults written write_faults) new last
     → DocumentEnds document (outside sent send_faults left read_faults written write_faults) new last
 good-anew document resources is held none sent send_faults left read_faults written write_faults new last ends =
     Good resources is
-    (subst (λ (o : Outside). AskedResourcesEnd resources o new last) (outside-anew held none sent send_faults left read_faults written write_faults) ends)
+    (subst (λ (o : AskedOutside). AskedResourcesEnd resources o new last) (outside-anew held none sent send_faults left read_faults written write_faults) ends)

@@ -82,13 +82,13 @@ TakesMemory (Err ask_fault.Memory) = Unit {0}
 -- ---- one resource
 
 -- what there is outside
-pub record Outside : Type 0 where
+pub record AskedOutside : Type 0 where
   pub wire : Wire
   -- the bytes that the sink took
   pub written : Option (List ℕ)
   pub write_faults : ℕ
 
-abbrev pub outside_of : (sent : Option (List ℕ)) (send_faults : ℕ) (coming : Option (List ℕ)) (read_faults : ℕ) (written : Option (List ℕ)) (write_faults : ℕ) → Outside
+abbrev pub outside_of : (sent : Option (List ℕ)) (send_faults : ℕ) (coming : Option (List ℕ)) (read_faults : ℕ) (written : Option (List ℕ)) (write_faults : ℕ) → AskedOutside
 outside_of sent send_faults coming read_faults written write_faults = record {
   wire = record { sent = sent; send_faults = send_faults; coming = coming; read_faults = read_faults };
   written = written;
@@ -97,22 +97,22 @@ outside_of sent send_faults coming read_faults written write_faults = record {
 
 -- The resource's request was asked, and what it came to is told. Where that takes memory and there was none,
 -- nothing is.
-pub record IsTold (one : Resource) (came : Result OperatorAnswer AskFault) (old new : Outside) (last : End) : Type 0 where
+pub record IsTold (one : Resource) (came : Result OperatorAnswer AskFault) (old new : AskedOutside) (last : End) : Type 0 where
   pub asked : Asks answer_of_line (request_line (Admin one.change)) came old.wire new.wire
   pub told : Says (TakesMemory came) old.written new.written old.write_faults new.write_faults (item_line one came) (item_end came) last
 
 -- ---- all of them
 
 -- each was asked for, answered as done, and told
-abbrev pub AreApplied : List Resource → (old new : Outside) → Type 0
+abbrev pub AreApplied : List Resource → (old new : AskedOutside) → Type 0
 AreApplied [] old new = new ≡ old
 AreApplied (one ∷ more) old new =
-    (between : Outside) × (came : Result OperatorAnswer AskFault) × IsTold one came old between end.Done × AreApplied more between new
+    (between : AskedOutside) × (came : Result OperatorAnswer AskFault) × IsTold one came old between end.Done × AreApplied more between new
 
 -- How the resources end: each is applied; or those before one are, and the run ends at that one.
-pub data AskedResourcesEnd (resources : List Resource) (old new : Outside) : End → Type 0 where
+pub data AskedResourcesEnd (resources : List Resource) (old new : AskedOutside) : End → Type 0 where
   All : AreApplied resources old new → AskedResourcesEnd resources old new end.Done
-  UpTo : (front : List Resource) (one : Resource) (rest : List Resource) (between : Outside) (came : Result OperatorAnswer AskFault) (last : End)
+  UpTo : (front : List Resource) (one : Resource) (rest : List Resource) (between : AskedOutside) (came : Result OperatorAnswer AskFault) (last : End)
       → resources ≡ front ++ one ∷ rest → AreApplied front old between
       → IsTold one came between new last → last ≢ end.Done → AskedResourcesEnd resources old new last
 
@@ -129,7 +129,7 @@ DocumentSays document_fault.Memory old new faults faults' last = (new ≡ old) �
 
 -- How a document ends. All of it is read first: a bad one is refused by its first fault, and nothing is asked.
 -- One that is too long or no text is refused whether or not there is memory.
-pub data DocumentEnds (document : List ℕ) (old new : Outside) (last : End) : Type 0 where
+pub data DocumentEnds (document : List ℕ) (old new : AskedOutside) (last : End) : Type 0 where
   Good : (resources : List Resource) → document_reading document ≡ Ok resources
       → AskedResourcesEnd resources old new last → DocumentEnds document old new last
   Bad : (why : DocumentFault) → (why ≢ document_fault.Memory → document_reading document ≡ Err why)
@@ -139,7 +139,7 @@ pub data DocumentEnds (document : List ℕ) (old new : Outside) (last : End) : T
 
 -- How `apply` ends: with what the source's document comes to; or the source failed, or there was no
 -- memory for the document, and nothing is asked.
-pub data ApplyEnds (left left' : Option (List ℕ)) (faults faults' : ℕ) (old new : Outside) (last : End) : Type 0 where
+pub data ApplyEnds (left left' : Option (List ℕ)) (faults faults' : ℕ) (old new : AskedOutside) (last : End) : Type 0 where
   Read : (document : List ℕ) → left ≡ prepend_known document left' → (length document ≤ DOCUMENT_MAX → IsAtEnd left')
       → length document ≤ DOCUMENT_MAX + 1 → faults' ≡ faults
       → DocumentEnds document old new last → ApplyEnds left left' faults faults' old new last

@@ -4,5 +4,6 @@ pub mod Answers
 pub mod Routes
 pub mod Telling
 pub mod Releasing
+pub mod Unreserving
 pub mod Routing
 pub mod Applying

@@ -9,6 +9,7 @@ mod end;
 mod releasing;
 mod routing;
 mod telling;
+mod unreserving;
 
 pub use answer::{OperatorAnswer, json_of_line};
 pub use applying::apply;
@@ -17,3 +18,4 @@ pub use end::End;
 pub use releasing::release;
 pub use routing::routes;
 pub use telling::{tell, tell_fault, tell_made, unreached};
+pub use unreserving::{NO_RESERVATION, unreserve};

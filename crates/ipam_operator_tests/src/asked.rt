@@ -1,24 +1,34 @@
 //! A word is asked of a daemon.
+use crate::target::backed_up;
+use ipam_asked_audit::audit;
 use ipam_asked_rows::get;
 use ipam_asked_views::show;
 use ipam_io::{MemoryLink, MemorySink, MemorySource};
-use ipam_operator::{End, apply, release, routes};
+use ipam_operator::{End, apply, release, routes, unreserve};
+use ipam_upkeep::{Upkeep, upkeep_asked};
 use ipam_words::{Command, read_words};
 use std::alloc::{AllocError, Global};
+use std::thread::Threads;
 
 /// How many bytes may be sent or written where nothing else is stated.
 const ROOM: usize = 65_536;
 
-/// What fails: the call of the source, or of the link, of this number; and how many bytes may be written.
+/// What fails: the call of the source or of the link, or the put of a new database, of this number; and how
+/// many bytes may be written.
 #[derive(Clone, Copy)]
 struct Failing {
     source: u64,
     link: u64,
+    keeper: u64,
     room: usize,
 }
 
 /// The line, and after it what the word came to.
-pub(crate) fn asked(alloc: Global, line: &str) -> Result<String, AllocError> {
+pub(crate) fn asked<R: Threads + Sync>(
+    rt: &R,
+    alloc: Global,
+    line: &str,
+) -> Result<String, AllocError> {
     let (words, rest) = line.split_once('|').unwrap_or((line, ""));
     let (input, rest) = rest.split_once('|').unwrap_or((rest, ""));
     let (failing, replies) = rest.split_once('|').unwrap_or((rest, ""));
@@ -26,7 +36,7 @@ pub(crate) fn asked(alloc: Global, line: &str) -> Result<String, AllocError> {
     let mut source = source_of(alloc, input, failing)?;
     let mut sink = MemorySink::new(alloc, failing.room, Vec::new(alloc))?;
     let mut link = link_of(alloc, replies, failing)?;
-    let status = run(alloc, words, &mut source, &mut sink, &mut link)?;
+    let status = run(rt, alloc, words, failing, &mut source, &mut sink, &mut link)?;
     let sent = shown(alloc, link.written())?;
     let written = shown(alloc, sink.written())?;
     format!(in alloc; "{line}|{status}|{sent}|{written}")
@@ -39,11 +49,13 @@ fn failing_of(text: &str) -> Failing {
     let mut failing = Failing {
         source: 0,
         link: 0,
+        keeper: u64::MAX,
         room: ROOM,
     };
     match what {
         "source" => failing.source = number,
         "link" => failing.link = number,
+        "keeper" => failing.keeper = number,
         "room" => failing.room = (number % 65_536) as usize,
         _ => {}
     }
@@ -87,9 +99,11 @@ fn shown(alloc: Global, bytes: &[u8]) -> Result<String, AllocError> {
 }
 
 /// The exit status of the words, or `unknown`.
-fn run(
+fn run<R: Threads + Sync>(
+    rt: &R,
     alloc: Global,
     words: &str,
+    failing: Failing,
     source: &mut MemorySource,
     sink: &mut MemorySink,
     link: &mut MemoryLink,
@@ -98,22 +112,31 @@ fn run(
     for word in words.split(' ') {
         list.push(String::from_str(alloc, word)?)?;
     }
-    match end_of(alloc, list.as_slice(), source, sink, link) {
+    match end_of(rt, alloc, list.as_slice(), failing, source, sink, link)? {
         Some(end) => format!(in alloc; "{}", end.code()),
         None => String::from_str(alloc, "unknown"),
     }
 }
 
-fn end_of(
+fn end_of<R: Threads + Sync>(
+    rt: &R,
     alloc: Global,
     words: &[String],
+    failing: Failing,
     source: &mut MemorySource,
     sink: &mut MemorySink,
     link: &mut MemoryLink,
-) -> Option<End> {
+) -> Result<Option<End>, AllocError> {
+    if let Some(asked) = upkeep_asked(words, None) {
+        return Ok(Some(match asked.upkeep {
+            Upkeep::Audit(workers) => audit(rt, alloc, sink, link, workers),
+            Upkeep::Unreserve(name) => unreserve(alloc, sink, link, name),
+            Upkeep::Backup(_) => backed_up(alloc, sink, link, failing.keeper)?,
+        }));
+    }
     match read_words(words) {
-        Some(command) => ask(alloc, &command, source, sink, link),
-        None => None,
+        Some(command) => Ok(ask(alloc, &command, source, sink, link)),
+        None => Ok(None),
     }
 }
 

@@ -4,13 +4,14 @@
 #![tactic(auto)]
 
 mod asked;
+mod target;
 
 use asked::asked;
 use std::io;
 
 fn main(rt: HostRuntime) -> io::Result<()> {
     for line in rt.lines(rt.alloc()) {
-        let answered = asked(rt.alloc(), line?.as_str())?;
+        let answered = asked(&rt, rt.alloc(), line?.as_str())?;
         println!(rt; "{answered}")?;
     }
     Ok(())

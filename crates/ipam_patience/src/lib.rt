@@ -8,5 +8,5 @@ mod queued;
 mod sleeps;
 
 pub use patience::Patience;
-pub use queue::{MOST_WAITS, Place, Queue};
+pub use queue::{MOST_WAITS, Others, Place, Queue};
 pub use queued::Queued;

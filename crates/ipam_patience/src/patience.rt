@@ -12,4 +12,8 @@ pub trait Patience {
 
     /// Lets those go on that came after: the request has its answer, or comes to none for now.
     fn leave(&mut self);
+
+    /// Lets those finish that waited when the last request was left, before what was written is made sure of:
+    /// so that it is done once for all of them. Where nobody waited it takes no time.
+    fn before_settling<R: Wait>(&mut self, rt: &R);
 }

@@ -24,6 +24,8 @@ pub struct Queue {
     next: AtomicU64,
     // the last number that may go on
     turn: AtomicU64,
+    // how many wait until others have left
+    outside: AtomicU64,
     // what is rung for a number: the one of the number modulo their count
     bells: [AtomicU64; BELLS],
 }
@@ -36,12 +38,20 @@ pub struct Place {
     pub waits: u32,
 }
 
+/// Those who had a place in a queue at some time.
+#[derive(Clone, Copy, Debug)]
+pub struct Others {
+    // the number of the place behind theirs
+    behind: u64,
+}
+
 impl Queue {
     /// A queue in which nobody has a place.
     pub fn new() -> Queue {
         Queue {
             next: AtomicU64::new(0),
             turn: AtomicU64::new(0),
+            outside: AtomicU64::new(0),
             bells: array::from_fn(|_| AtomicU64::new(0)),
         }
     }
@@ -51,15 +61,20 @@ impl Queue {
         ensures { result.waits ≤ MOST_WAITS }
     {
         let number = self.next.fetch_add(1, Ordering::SeqCst);
+        let waits = self.await_turn(rt, number);
+        Place { number, waits }
+    }
+
+    /// Waits until this number may go on, and tells how often it waited.
+    fn await_turn<R: Wait>(&self, rt: &R, number: u64) -> u32
+        ensures { result ≤ MOST_WAITS }
+    {
         for waits in 0..MOST_WAITS {
             if self.may_go_on(rt, number) {
-                return Place { number, waits };
+                return waits;
             }
         }
-        Place {
-            number,
-            waits: MOST_WAITS,
-        }
+        MOST_WAITS
     }
 
     /// Whether this number may go on. Where it may not, waits once, and gives up the number before where nothing
@@ -92,20 +107,38 @@ impl Queue {
         }
     }
 
-    /// Leaves the place, and lets the next one go on.
-    pub fn leave(&self, place: Place) {
+    /// Leaves the place, and lets the next one go on. Those are told who have a place by then.
+    pub fn leave(&self, place: Place) -> Others {
         let next = place.number.saturating_add(1);
         if self.turn.fetch_max(next, Ordering::SeqCst) < next {
             self.ring(next);
         }
+        Others {
+            behind: self.next.load(Ordering::SeqCst),
+        }
     }
 
-    /// Wakes who waits with this number. Who takes it after the look finds that it may go on.
+    /// Waits, with no place in the queue, until these have left it, and tells how often it waited. Who keeps
+    /// others waiting for too long is given up here too.
+    pub fn outwait<R: Wait>(&self, rt: &R, others: Others) -> u32
+        ensures { result ≤ MOST_WAITS }
+    {
+        if others.behind <= self.turn.load(Ordering::SeqCst) {
+            return 0;
+        }
+        self.outside.fetch_add(1, Ordering::SeqCst);
+        let waits = self.await_turn(rt, others.behind);
+        self.outside.fetch_sub(1, Ordering::SeqCst);
+        waits
+    }
+
+    /// Wakes all who wait for this number, be it their own or the one behind others. Who takes it after the
+    /// look finds that it may go on, and so does who waits outside after it.
     fn ring(&self, number: u64) {
-        if number < self.next.load(Ordering::SeqCst) {
+        if number < self.next.load(Ordering::SeqCst) || 0 < self.outside.load(Ordering::SeqCst) {
             let bell = &self.bells[bell_of(number)];
             bell.fetch_add(1, Ordering::SeqCst);
-            bell.wake_one();
+            bell.wake_all();
         }
     }
 }

@@ -1,6 +1,6 @@
 //! The patience of sessions that share a queue.
 use crate::patience::Patience;
-use crate::queue::{Place, Queue};
+use crate::queue::{Others, Place, Queue};
 use crate::sleeps::Sleeps;
 use std::alloc::Global;
 use std::sync::{Arc, Wait};
@@ -11,6 +11,8 @@ use std::sync::{Arc, Wait};
 pub struct Queued {
     queue: Arc<Queue, Global>,
     place: Option<Place>,
+    // who had a place when the last one was left, until they were waited for
+    others: Option<Others>,
     sleeps: Sleeps,
 }
 
@@ -20,6 +22,7 @@ impl Queued {
         Queued {
             queue,
             place: None,
+            others: None,
             sleeps: Sleeps::new(slot),
         }
     }
@@ -27,6 +30,7 @@ impl Queued {
 
 impl Patience for Queued {
     fn enter<R: Wait>(&mut self, rt: &R) {
+        self.others = None;
         self.place = Some(self.queue.enter(rt));
     }
 
@@ -36,7 +40,13 @@ impl Patience for Queued {
 
     fn leave(&mut self) {
         if let Some(place) = self.place.take() {
-            self.queue.leave(place);
+            self.others = Some(self.queue.leave(place));
+        }
+    }
+
+    fn before_settling<R: Wait>(&mut self, rt: &R) {
+        if let Some(others) = self.others.take() {
+            self.queue.outwait(rt, others);
         }
     }
 }

@@ -18,7 +18,7 @@ use Rattle.ipam_shared.specs.declared.faults.SharedFault.TheVariants.{Inner, Spe
 use Rattle.ipam_shared.specs.declared.faults.SpentPass.{SpentPass as Spent}
 use Rattle.ipam_shared.specs.Deeds.{told_if}
 use Rattle.ipam_shared.specs.PassValue.{PassValue}
-use Rattle.ipam_shared.specs.Passes.{IsSamePass, runs_in}
+use Rattle.ipam_shared.specs.Passes.{IsSamePass, IsTold, runs_in}
 use Rattle.ipam_shared.specs.Turning.{SeesNext, UnlessSpent, WaitsFor}
 use Rattle.ipam_serve.specs.declared.ran.Broken.{Broken}
 use Rattle.ipam_serve.specs.declared.ran.Ran.{Ran}
@@ -49,12 +49,15 @@ not-spent : {T E : Type 0} (fault : SharedFault E) (left : ℕ) → ((◌≡◌ 
 not-spent fault left spent enough e = let none = spent.0 (ap Err e) in absurd (omega arith)
 
 module _ {T E : Type 0} (old new : PassValue) (fault : SharedFault E) (spent : (◌≡◌ {A = Result T (SharedFault E)} (Err fault) (Err SpentPass)) ↔ (old.left ≡ 0)) (enough : 2 ≤ old.left) where
+  pub spent-not : fault ≡ SpentPass → ⊥
+  spent-not = not-spent {T = T} fault old.left spent enough
+
   pub sees-none : UnlessSpent {T = T} {E = E} (Err fault) (SeesNext old [] new) → SeesNext old [] new
   sees-none sees = unless-err T fault (SeesNext old [] new) (not-spent {T = T} fault old.left spent enough) sees
 
-  pub took-err : IsSamePass old new → UnlessSpent {T = T} {E = E} (Err fault) (SeesNext old [] new) → UnlessSpent {T = T} {E = E} (Err fault) (new.left + 1 ≡ old.left) → Took old [] 1 new
-  took-err same sees left =
-      took-none old new same (sees-none sees) (unless-err T fault (new.left + 1 ≡ old.left) (not-spent {T = T} fault old.left spent enough) left) enough
+  pub took-err : IsSamePass old new → UnlessSpent {T = T} {E = E} (Err fault) (SeesNext old [] new) → UnlessSpent {T = T} {E = E} (Err fault) (IsTold old new) → UnlessSpent {T = T} {E = E} (Err fault) (new.left + 1 ≡ old.left) → Took old [] 1 new
+  took-err same sees knows left =
+      took-none old new same (sees-none sees) (unless-err T fault (IsTold old new) (not-spent {T = T} fault old.left spent enough) knows) (unless-err T fault (new.left + 1 ≡ old.left) (not-spent {T = T} fault old.left spent enough) left) enough
 
   pub one-err : UnlessSpent {T = T} {E = E} (Err fault) (new.left + 1 ≡ old.left) → new.left + 1 ≡ old.left
   one-err left = unless-err T fault (new.left + 1 ≡ old.left) (not-spent {T = T} fault old.left spent enough) left
@@ -71,18 +74,18 @@ called-done old new c own same sees lawful took = from c.answer refl
       λ request asked. told-can old new c told request same sees lawful own e asked,
     )
 
-called-as : (old new : PassValue) (told : Entry) (c : OneCall) → told ≡ entry.Called c → c.slot ≡ old.slot → IsSamePass old new → SeesNext old (told ∷ []) new → new.left + 1 ≡ old.left → 2 ≤ old.left → Lawful new.base new.seen → Called old (answer_told told) new
-called-as old new told c is own same sees left enough lawful =
-    let took = took-known old new told (entry.Called c) is same sees left enough in
+called-as : (old new : PassValue) (told : Entry) (c : OneCall) → told ≡ entry.Called c → c.slot ≡ old.slot → IsSamePass old new → SeesNext old (told ∷ []) new → IsTold old new → new.left + 1 ≡ old.left → 2 ≤ old.left → Lawful new.base new.seen → Called old (answer_told told) new
+called-as old new told c is own same sees knows left enough lawful =
+    let took = took-known old new told (entry.Called c) is same sees knows left enough in
     subst (λ (e : Entry). Called old (answer_told e) new) (sym is)
     (called-done old new c own same (subst (λ (e : Entry). SeesNext old (e ∷ []) new) is sees) lawful took)
 
 pub called-so : {D : Type 0} (gives : Gives D) (faults : D → ℕ) (before after : Kept D) (old new : PassValue) (told : Entry) → IsDone faults old.slot before after told ⊎ IsFailed gives faults old.slot before after told
-    → IsSamePass old new → SeesNext old (told ∷ []) new → new.left + 1 ≡ old.left → 2 ≤ old.left → Lawful new.base new.seen → Called old (answer_told told) new
-called-so gives faults before after old new told (inl d) same sees left enough lawful =
-    called-as old new told d.turn.told d.turn.is_called d.turn.own same sees left enough lawful
-called-so gives faults before after old new told (inr f) same sees left enough lawful =
-    called-as old new told f.turn.told f.turn.is_called f.turn.own same sees left enough lawful
+    → IsSamePass old new → SeesNext old (told ∷ []) new → IsTold old new → new.left + 1 ≡ old.left → 2 ≤ old.left → Lawful new.base new.seen → Called old (answer_told told) new
+called-so gives faults before after old new told (inl d) same sees knows left enough lawful =
+    called-as old new told d.turn.told d.turn.is_called d.turn.own same sees knows left enough lawful
+called-so gives faults before after old new told (inr f) same sees knows left enough lawful =
+    called-as old new told f.turn.told f.turn.is_called f.turn.own same sees knows left enough lawful
 
 -- what waited still does
 still-waits : (old new : PassValue) → IsSamePass old new → SeesNext old [] new → is_waiting (runs_in old) ≡ true → is_waiting (runs_in new) ≡ true
@@ -96,9 +99,9 @@ waits-called old new (Err broken) why h waiting same sees took = tt
 
 -- ---- a list
 
-pub fed-so : (old new : PassValue) (told : Entry) (at : ℕ) (live : List (List ℕ)) → told ≡ entry.Fed old.slot at live → IsSamePass old new → SeesNext old (told ∷ []) new → new.left + 1 ≡ old.left → 2 ≤ old.left → Lawful new.base new.seen → Fed old live at feeding.Fed new
-fed-so old new told at live is same sees left enough lawful = (
-  took-known old new told (entry.Fed old.slot at live) is same sees left enough,
+pub fed-so : (old new : PassValue) (told : Entry) (at : ℕ) (live : List (List ℕ)) → told ≡ entry.Fed old.slot at live → IsSamePass old new → SeesNext old (told ∷ []) new → IsTold old new → new.left + 1 ≡ old.left → 2 ≤ old.left → Lawful new.base new.seen → Fed old live at feeding.Fed new
+fed-so old new told at live is same sees knows left enough lawful = (
+  took-known old new told (entry.Fed old.slot at live) is same sees knows left enough,
   fed-due old new at live same (subst (λ (e : Entry). SeesNext old (e ∷ []) new) is sees) lawful,
 )
 
@@ -114,9 +117,9 @@ too-soon-so old new live at (Err broken) why h early waits same sees took = tt
 -- ---- a stop
 
 pub stop-so : (old new : PassValue) (told : Option Entry) → ((◌≡◌ {A = Result (Option Entry) Spent} (Ok told) (Ok None)) ↔ (0 < old.left × runs_in old ≡ None)) → IfSome told (λ stopped. stopped ≡ entry.Stopped old.slot) → IsSome (runs_in old)
-    → IsSamePass old new → SeesNext old (told_if told) new → new.left + 1 ≡ old.left → 2 ≤ old.left → Took old (entry.Stopped old.slot ∷ []) 0 new
-stop-so old new None idle is runs same sees left enough = let none = (idle.0 refl).1 in absurd (cc (none, runs))
-stop-so old new (Some told) idle is runs same sees left enough = took-known old new told (entry.Stopped old.slot) is same sees left enough
+    → IsSamePass old new → SeesNext old (told_if told) new → IsTold old new → new.left + 1 ≡ old.left → 2 ≤ old.left → Took old (entry.Stopped old.slot ∷ []) 0 new
+stop-so old new None idle is runs same sees knows left enough = let none = (idle.0 refl).1 in absurd (cc (none, runs))
+stop-so old new (Some told) idle is runs same sees knows left enough = took-known old new told (entry.Stopped old.slot) is same sees knows left enough
 
 -- ---- what ran
 

@@ -107,7 +107,7 @@ module _ {D : Type 0} (tells : Tells D) (gives : Gives D) (faults : D → ℕ) w
 
   pub makes-then : (one two three : PassValue) → MakesCalls tells gives faults one two → MakesCalls tells gives faults two three → MakesCalls tells gives faults one three
   makes-then one two three a b = record {
-    same = b.same ∙ ap (λ (p : PassValue). record p { left = three.left; seen = three.seen }) a.same;
+    same = b.same ∙ ap (λ (p : PassValue). record p { left = three.left; seen = three.seen; moment = three.moment; sure = three.sure }) a.same;
     more = b.more ++ a.more;
     grew = b.grew ∙ ap (λ s. b.more ++ s) a.grew ∙ sym (append_assoc b.more a.more one.seen);
     made = made-append one.base one.slot b.more a.more one.seen later a.made;

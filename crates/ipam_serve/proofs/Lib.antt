@@ -8,4 +8,5 @@ pub mod Running
 pub mod Going
 pub mod LineParts
 pub mod Routing
+pub mod Settled
 pub mod Sessions

@@ -1,5 +1,5 @@
 -- What a turn takes, and turns one after another.
-use Rattle.std.proofs.Common.{◌≡◌, ◌≤◌, ℕ, ◌+◌, arith, length-append, List, [], ◌∷◌, ◌++◌, length, Option, Some, None, refl, sym, ap, ◌∙◌, subst, append_assoc}
+use Rattle.std.proofs.Common.{◌≡◌, ◌⊎◌, ◌<◌, ◌≤◌, ℕ, inl, inr, ◌+◌, arith, length-append, List, [], ◌∷◌, ◌++◌, length, Option, Some, None, refl, sym, ap, ◌∙◌, subst, append_assoc}
 use Rattle.std.specs.Prelude.{option_map}
 use Rattle.ipam_model.specs.declared.answer.Answer.{Answer}
 use Rattle.ipam_model.specs.declared.entry.Called.{Called as OneCall}
@@ -8,13 +8,13 @@ use Rattle.ipam_model.specs.declared.entry.Entry.TheVariants as entry
 use Rattle.ipam_model.specs.declared.request.Request.{Request}
 use Rattle.ipam_model.specs.Answered.{Answered}
 use Rattle.ipam_model.specs.CanAnswer.{CanAnswer}
-use Rattle.ipam_model.specs.History.{Lawful, cluster_at}
+use Rattle.ipam_model.specs.History.{Lawful, cluster_at, moment_of}
 use Rattle.ipam_model.specs.Moments.{request_in}
 use Rattle.ipam_laws.proofs.OwnAnswers.{own_answers}
 use Rattle.ipam_shared.specs.PassValue.{PassValue}
-use Rattle.ipam_shared.specs.Passes.{IsSamePass, runs_in}
+use Rattle.ipam_shared.specs.Passes.{IsSamePass, IsTold, runs_in}
 use Rattle.ipam_shared.specs.Turning.{SeesNext}
-use Rattle.ipam_serve.specs.Gains.{Gained, Passed, Took, asked_after, asked_in, calls_in, counted, of_slot}
+use Rattle.ipam_serve.specs.Gains.{Gained, Passed, Settles, Took, asked_after, asked_in, calls_in, counted, of_slot}
 use Rattle.ipam_serve.proofs.Entries.{asked_after-append, calls_in-append, mapped-add, of_slot-append, of_slot-told}
 use Rattle.ipam_shared.proofs.Slots.{runs-past}
 use Rattle.ipam_serve.proofs.Slots.{next-asked}
@@ -22,8 +22,8 @@ use Rattle.ipam_serve.proofs.Slots.{next-asked}
 -- ---- one turn
 
 -- a turn that tells of so many entries
-took-told : (old new : PassValue) (told : List Entry) (spared : ℕ) → IsSamePass old new → SeesNext old told new → new.left + 1 ≡ old.left → 2 ≤ old.left → length told + spared ≡ 1 → Took old told spared new
-took-told old new told spared same sees left enough one = record {
+took-told : (old new : PassValue) (told : List Entry) (spared : ℕ) → IsSamePass old new → SeesNext old told new → IsTold old new → new.left + 1 ≡ old.left → 2 ≤ old.left → length told + spared ≡ 1 → Took old told spared new
+took-told old new told spared same sees knows left enough one = record {
   same = same;
   gained = record {
     more = told ++ sees.between;
@@ -34,17 +34,19 @@ took-told old new told spared same sees left enough one = record {
   at_least = omega arith;
   at_most = omega arith;
   one_stays = λ some. omega arith;
+  sure = knows.sure;
+  told = inr knows.moment;
 }
 
-pub took-one : (old new : PassValue) (told : Entry) → IsSamePass old new → SeesNext old (told ∷ []) new → new.left + 1 ≡ old.left → 2 ≤ old.left → Took old (told ∷ []) 0 new
-took-one old new told same sees left enough = took-told old new (told ∷ []) 0 same sees left enough refl
+pub took-one : (old new : PassValue) (told : Entry) → IsSamePass old new → SeesNext old (told ∷ []) new → IsTold old new → new.left + 1 ≡ old.left → 2 ≤ old.left → Took old (told ∷ []) 0 new
+took-one old new told same sees knows left enough = took-told old new (told ∷ []) 0 same sees knows left enough refl
 
-pub took-none : (old new : PassValue) → IsSamePass old new → SeesNext old [] new → new.left + 1 ≡ old.left → 2 ≤ old.left → Took old [] 1 new
-took-none old new same sees left enough = took-told old new [] 1 same sees left enough refl
+pub took-none : (old new : PassValue) → IsSamePass old new → SeesNext old [] new → IsTold old new → new.left + 1 ≡ old.left → 2 ≤ old.left → Took old [] 1 new
+took-none old new same sees knows left enough = took-told old new [] 1 same sees knows left enough refl
 
-pub took-known : (old new : PassValue) (told known : Entry) → told ≡ known → IsSamePass old new → SeesNext old (told ∷ []) new → new.left + 1 ≡ old.left → 2 ≤ old.left → Took old (known ∷ []) 0 new
-took-known old new told known is same sees left enough =
-    subst (λ (e : Entry). Took old (e ∷ []) 0 new) is (took-one old new told same sees left enough)
+pub took-known : (old new : PassValue) (told known : Entry) → told ≡ known → IsSamePass old new → SeesNext old (told ∷ []) new → IsTold old new → new.left + 1 ≡ old.left → 2 ≤ old.left → Took old (known ∷ []) 0 new
+took-known old new told known is same sees knows left enough =
+    subst (λ (e : Entry). Took old (e ∷ []) 0 new) is (took-one old new told same sees knows left enough)
 
 -- no turn
 pub took-nothing : (pass : PassValue) → Took pass [] 0 pass
@@ -56,6 +58,8 @@ took-nothing pass = record {
   at_least = omega arith;
   at_most = omega arith;
   one_stays = λ some. some;
+  sure = refl;
+  told = inl refl;
 }
 
 pub took-spared : (old new : PassValue) (entries : List Entry) (few more : ℕ) → few ≤ more → Took old entries few new → Took old entries more new
@@ -66,6 +70,8 @@ took-spared old new entries few more less t = record {
   at_least = t.at_least;
   at_most = let most = t.at_most in omega arith;
   one_stays = t.one_stays;
+  sure = t.sure;
+  told = t.told;
 }
 
 pub took-rest : (pass : PassValue) → Took pass [] 1 pass
@@ -86,19 +92,75 @@ then-gained slot one two three earlier later a b = record {
   own = of_slot-append slot b.more a.more ∙ ap (λ l. l ++ of_slot slot a.more) b.own ∙ ap (λ l. later ++ l) a.own;
 }
 
-pub took-then : (one two three : PassValue) (earlier later : List Entry) (m n : ℕ) → Took one earlier m two → Took two later n three → Took one (later ++ earlier) (m + n) three
-took-then one two three earlier later m n a b =
+-- what the turns come to, be it known what is sure or not
+pub record Went (old : PassValue) (entries : List Entry) (spared : ℕ) (new : PassValue) : Type 0 where
+  pub same : IsSamePass old new
+  pub gained : Gained old.slot old.seen entries new.seen
+  pub runs : asked_in (runs_in new) ≡ asked_after (asked_in (runs_in old)) entries
+  pub at_least : new.left + length entries ≤ old.left
+  pub at_most : old.left ≤ new.left + length entries + spared
+  pub one_stays : 0 < old.left → 0 < new.left
+
+pub went-took : (old new : PassValue) (entries : List Entry) (spared : ℕ) → Took old entries spared new → Went old entries spared new
+went-took old new entries spared t = record { same = t.same; gained = t.gained; runs = t.runs; at_least = t.at_least; at_most = t.at_most; one_stays = t.one_stays }
+
+pub went-settles : (old new : PassValue) → Settles old new → Went old [] 1 new
+unfolding asked_after
+went-settles old new s = record {
+  same = s.same;
+  gained = s.gained;
+  runs = ap asked_in s.runs;
+  at_least = let least = s.at_least in omega arith;
+  at_most = let most = s.at_most in omega arith;
+  one_stays = s.one_stays;
+}
+
+pub went-spared : (old new : PassValue) (entries : List Entry) (few more : ℕ) → few ≤ more → Went old entries few new → Went old entries more new
+went-spared old new entries few more less w = record {
+  same = w.same;
+  gained = w.gained;
+  runs = w.runs;
+  at_least = w.at_least;
+  at_most = let most = w.at_most in omega arith;
+  one_stays = w.one_stays;
+}
+
+pub went-slot : (old new : PassValue) (entries : List Entry) (spared : ℕ) → Went old entries spared new → new.slot ≡ old.slot
+went-slot old new entries spared w = ap (λ (p : PassValue). p.slot) w.same
+
+pub went-then : (one two three : PassValue) (earlier later : List Entry) (m n : ℕ) → Went one earlier m two → Went two later n three → Went one (later ++ earlier) (m + n) three
+went-then one two three earlier later m n a b =
     let least = a.at_least in
     let least' = b.at_least in
     let most = a.at_most in
     let most' = b.at_most in
     record {
-      same = b.same ∙ ap (λ (p : PassValue). record p { left = three.left; seen = three.seen }) a.same;
-      gained = then-gained one.slot one.seen two.seen three.seen earlier later a.gained (subst (λ (s : ℕ). Gained s two.seen later three.seen) (took-slot one two earlier m a) b.gained);
+      same = b.same ∙ ap (λ (p : PassValue). record p { left = three.left; seen = three.seen; moment = three.moment; sure = three.sure }) a.same;
+      gained = then-gained one.slot one.seen two.seen three.seen earlier later a.gained (subst (λ (s : ℕ). Gained s two.seen later three.seen) (went-slot one two earlier m a) b.gained);
       runs = b.runs ∙ ap (λ o. asked_after o later) a.runs ∙ sym (asked_after-append (asked_in (runs_in one)) later earlier);
       at_least = simp length-append (omega arith);
       at_most = simp length-append (omega arith);
       one_stays = λ some. b.one_stays (a.one_stays some);
+    }
+
+-- all that was seen was told of by then
+told-then : (one two three : PassValue) → (two ≡ one) ⊎ (two.moment ≡ moment_of two.base two.seen) → (three ≡ two) ⊎ (three.moment ≡ moment_of three.base three.seen) → (three ≡ one) ⊎ (three.moment ≡ moment_of three.base three.seen)
+told-then one two three a (inr is) = inr is
+told-then one two three (inl first) (inl second) = inl (second ∙ first)
+told-then one two three (inr is) (inl second) = inr (subst (λ (p : PassValue). p.moment ≡ moment_of p.base p.seen) (sym second) is)
+
+pub took-then : (one two three : PassValue) (earlier later : List Entry) (m n : ℕ) → Took one earlier m two → Took two later n three → Took one (later ++ earlier) (m + n) three
+took-then one two three earlier later m n a b =
+    let w = went-then one two three earlier later m n (went-took one two earlier m a) (went-took two three later n b) in
+    record {
+      same = w.same;
+      gained = w.gained;
+      runs = w.runs;
+      at_least = w.at_least;
+      at_most = w.at_most;
+      one_stays = w.one_stays;
+      sure = b.sure ∙ a.sure;
+      told = told-then one two three a.told b.told;
     }
 
 pub passed-nothing : (turns : Option ℕ) → Passed [] turns turns

@@ -1,5 +1,5 @@
 -- What a pass gains by turns, and how often the gate was passed before them.
-use Rattle.std.specs.Prelude.{◌≡◌, ℕ, zero, suc, ◌+◌, ◌<◌, ◌≤◌, ◌==◌, Bool, false, not, List, [], ◌∷◌, ◌++◌, length, Option, Some, None, option_map, if◌then◌else◌}
+use Rattle.std.specs.Prelude.{◌≡◌, ◌⊎◌, ℕ, zero, suc, ◌+◌, ◌<◌, ◌≤◌, ◌==◌, Bool, false, not, List, [], ◌∷◌, ◌++◌, length, Option, Some, None, option_map, if◌then◌else◌}
 use Rattle.ipam_io.specs.Counts.{next_count}
 use Rattle.ipam_records.specs.Word.{waits}
 use Rattle.ipam_model.specs.declared.answer.Answer.{Answer}
@@ -8,7 +8,7 @@ use Rattle.ipam_model.specs.declared.entry.Entry.TheVariants as entry
 use Rattle.ipam_model.specs.declared.request.Request.{Request}
 use Rattle.ipam_model.specs.Cluster.{Running}
 use Rattle.ipam_model.specs.Course.{is_due}
-use Rattle.ipam_model.specs.History.{slot_of_entry}
+use Rattle.ipam_model.specs.History.{moment_of, slot_of_entry}
 use Rattle.ipam_shared.specs.PassValue.{PassValue}
 use Rattle.ipam_shared.specs.Passes.{IsSamePass, runs_in}
 
@@ -54,7 +54,8 @@ pub record Gained (slot : ℕ) (earlier entries later : List Entry) : Type 0 whe
   pub own : of_slot slot more ≡ entries
 
 -- The pass took turns, by which its slot gained these entries, the newest first. No more than so many
--- turns were spared an entry, and none was taken with less than two turns left.
+-- turns were spared an entry, and none was taken with less than two turns left. It knows no more to be sure
+-- than before; and it took no turn, or the last one told it of all that it has seen.
 pub record Took (old : PassValue) (entries : List Entry) (spared : ℕ) (new : PassValue) : Type 0 where
   pub same : IsSamePass old new
   pub gained : Gained old.slot old.seen entries new.seen
@@ -62,6 +63,18 @@ pub record Took (old : PassValue) (entries : List Entry) (spared : ℕ) (new : P
   pub at_least : new.left + length entries ≤ old.left
   pub at_most : old.left ≤ new.left + length entries + spared
   pub one_stays : 0 < old.left → 0 < new.left
+  pub sure : new.sure ≡ old.sure
+  pub told : (new ≡ old) ⊎ (new.moment ≡ moment_of new.base new.seen)
+
+-- The pass took at most one turn, in which it made sure of what it was told of. Its slot gained nothing.
+pub record Settles (old new : PassValue) : Type 0 where
+  pub same : IsSamePass old new
+  pub gained : Gained old.slot old.seen [] new.seen
+  pub runs : runs_in new ≡ runs_in old
+  pub at_least : new.left ≤ old.left
+  pub at_most : old.left ≤ new.left + 1
+  pub one_stays : 0 < old.left → 0 < new.left
+  pub moment : new.moment ≡ old.moment
 
 -- ---- the gate
 

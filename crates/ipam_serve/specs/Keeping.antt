@@ -12,6 +12,8 @@ use Rattle.ipam_kept.specs.Kept.{KeptFor, Tells}
 use Rattle.ipam_kept.specs.Turning.{IsDone, IsFailed}
 use Rattle.ipam_shared.specs.PassValue.{PassValue}
 use Rattle.ipam_shared.specs.Passes.{IsSamePass}
+use Rattle.ipam_shared.specs.Settling.{FailsToSettle, FindsNoMemory, WasSettled}
+use Rattle.ipam_shared.specs.Turning.{SeesNext, WasDone}
 
 module _ {D : Type 0} (tells : Tells D) (gives : Gives D) (faults : D → ℕ) where
   -- The call was done, the keeper's count of faults stands, and the answer is no fault; or the call
@@ -62,3 +64,34 @@ module _ {D : Type 0} (tells : Tells D) (gives : Gives D) (faults : D → ℕ) w
   pub record CameOf (answer : Option Answer) (old new : PassValue) : Type 0 where
     pub calls : MakesCalls old new
     pub fault : answer ≡ Some Fault → KeeperFailed old new
+
+-- ---- all that comes at the keeper
+
+-- What came of a line's calls, by the line's answer and the pass before and after it; what a pass stands for
+-- once it made sure of all that it was told of; and what a turn was in which the keeper failed to, or found no
+-- memory.
+pub record AtKeeper : Type 1 where
+  pub came : Option Answer → (old new : PassValue) → Type 0
+  pub settled : PassValue → Type 0
+  pub failed : (old new : PassValue) → Type 0
+  pub starved : (old new : PassValue) → Type 0
+
+module _ {D : Type 0} (tells sure : Tells D) (gives : Gives D) (faults : D → ℕ) (broken : D → Type 0) where
+  -- in the turn the keeper failed to make sure of what it had, and its count of faults rose
+  pub record FailedToSettle (old new : PassValue) : Type 0 where
+    pub sees : SeesNext old [] new
+    pub done : WasDone tells (FailsToSettle tells sure faults broken old.moment) [] new
+
+  -- in the turn the keeper found no memory to make sure of it, and did not fail
+  pub record FoundNoMemory (old new : PassValue) : Type 0 where
+    pub sees : SeesNext old [] new
+    pub done : WasDone tells (FindsNoMemory tells sure faults broken old.moment) [] new
+
+  -- so it is at a keeper that tells these rows, and these to be sure
+  abbrev pub at_keeper : AtKeeper
+  at_keeper = record {
+    came = CameOf tells gives faults;
+    settled = WasSettled tells sure;
+    failed = FailedToSettle;
+    starved = FoundNoMemory;
+  }

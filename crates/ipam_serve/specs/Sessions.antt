@@ -1,11 +1,10 @@
 -- What a session comes to: lines that are read, done and replied to, one after another, up to its end.
-use Rattle.std.specs.Prelude.{◌≡◌, ◌≢◌, ◌⊎◌, ℕ, ◌+◌, ◌≤◌, ⊤, Bool, true, false, List, [], ◌∷◌, ◌++◌, length, Option, None, IsSome, IfSome, option_map, Result, Ok, Err}
+use Rattle.std.specs.Prelude.{◌≡◌, ◌≢◌, ◌⊎◌, ℕ, ◌+◌, ◌*◌, ◌<◌, ◌≤◌, ⊤, Bool, true, false, List, [], ◌∷◌, ◌++◌, length, Option, None, IsSome, IfSome, option_map, Result, Ok, Err}
 use Rattle.std.specs.Io.KnownBytes.{prepend_known, append_known}
 use Rattle.ipam_io.specs.Counts.{Rose, next_count}
 use Rattle.ipam_io.specs.Streams.{AppendsPrefix}
 use Rattle.ipam_lines.specs.declared.limits.TheConstants.{SESSION_LINE_BYTES}
 use Rattle.ipam_lines.specs.Feeds.{IsLine, IsTooLong}
-use Rattle.ipam_model.specs.declared.answer.Answer.{Answer}
 use Rattle.ipam_model.specs.declared.entry.Entry.{Entry}
 use Rattle.ipam_model.specs.declared.entry.Entry.TheVariants as entry
 use Rattle.ipam_session.specs.declared.replies.Reply.{Reply}
@@ -16,7 +15,8 @@ use Rattle.ipam_serve.specs.declared.ends.SessionEnd.{SessionEnd}
 use Rattle.ipam_serve.specs.declared.ends.SessionEnd.TheVariants as end
 use Rattle.ipam_serve.specs.declared.ran.Broken.{Broken}
 use Rattle.ipam_serve.specs.declared.ran.Broken.TheVariants as broken
-use Rattle.ipam_serve.specs.Gains.{Gained, Passed}
+use Rattle.ipam_serve.specs.Gains.{Gained, Passed, Settles}
+use Rattle.ipam_serve.specs.Keeping.{AtKeeper}
 use Rattle.ipam_serve.specs.Lines.{Breaks, Replies, Server, TellsOpened, WearsOut, asked_by}
 use Rattle.ipam_serve.specs.Runs.{Taker}
 
@@ -55,20 +55,28 @@ pub record ReadsLine (line : List ℕ) (old new : Option (List ℕ)) : Type 0 wh
   pub is_line : IsLine SESSION_LINE_BYTES line
   pub bytes : old ≡ prepend_known (line ++ 10 ∷ []) new
 
--- what came at the keeper of a line's calls, by the line's answer and the pass before and after it
-abbrev pub Comes : Type 1
-Comes = Option Answer → (old new : PassValue) → Type 0
+-- the server, with the pass as it was before
+abbrev pub server_before : PassValue → Server → Server
+server_before pass server = record { taker = record { pass = pass; turns = server.taker.turns }; ahead = server.ahead }
 
-module _ (came : Comes) where
-  -- the gate was asked, the line was read and done, and its reply was written
+module _ (at : AtKeeper) where
+  -- The line was done, which left this pass, and replied to. What it told rests on what this pass was told of.
+  pub record Told (line : List ℕ) (reply : Reply) (old : Talk) (middle : PassValue) (new : Talk) : Type 0 where
+    pub replies : Replies (asked_by line) reply old.server (server_before middle new.server)
+    pub opened : TellsOpened old.opened (asked_by line) reply
+    pub keeper : at.came replies.answer old.server.taker.pass middle
+    pub settles : Settles middle new.server.taker.pass
+
+  -- The gate was asked, the line was read and done, all that was told of it was made sure of, and then its
+  -- reply was written.
   pub record Exchanges (x : Exchange) (old new : Talk) : Type 0 where
     pub asks : AsksOnce old new
     pub reads : ReadsLine x.line old.coming new.coming
-    pub replies : Replies (asked_by x.line) x.reply old.server new.server
-    pub opened : TellsOpened old.opened (asked_by x.line) x.reply
+    pub middle : PassValue
+    pub told : Told x.line x.reply old middle new
+    pub settled : at.settled new.server.taker.pass
     pub same : new.opened ≡ old.opened
     pub writes : new.written ≡ append_known old.written (reply_line x.reply)
-    pub keeper : came replies.answer old.server.taker.pass new.server.taker.pass
 
   -- these exchanges were made, one after another; the newest stands first
   abbrev pub Talks : List Exchange → Talk → Talk → Type 0
@@ -77,50 +85,93 @@ module _ (came : Comes) where
 
 -- ---- the end
 
--- what stands after the whole exchanges: nothing, a line that was not done to its end, or one whose
--- reply was not wholly written
+-- what stands after the whole exchanges: nothing, a line that was not done to its end, one of which was not
+-- made sure what it did, or one whose reply was not wholly written
 pub data Rest : Type 0 where
   Nothing : Rest
   Undone : (line : List ℕ) → Rest
+  Unsettled : (line : List ℕ) → Reply → Rest
   Untold : (line : List ℕ) → Reply → Rest
 
-module _ (came : Comes) where
+module _ (at : AtKeeper) where
   -- the gate was asked, and the line was read, and done as far as it came
   pub record LeavesUndone (line : List ℕ) (old new : Talk) : Type 0 where
     pub asks : AsksOnce old new
     pub reads : ReadsLine line old.coming new.coming
     pub breaks : Breaks (asked_by line) old.server new.server
     pub writes : new.written ≡ old.written
-    pub keeper : came None old.server.taker.pass new.server.taker.pass
+    pub keeper : at.came None old.server.taker.pass new.server.taker.pass
 
-  -- the gate was asked, the line was read and done, and of its reply a front part was written
+  -- Why it was not made sure of what a line did: the keeper failed in the turn that should have; there was no
+  -- turn for it, since one stays for the last stop; or there was no memory.
+  abbrev pub Unsettles : SessionEnd → (old new : PassValue) → Type 0
+  Unsettles end.Closed old new = ⊥
+  Unsettles end.Cut old new = ⊥
+  Unsettles end.LineTooLong old new = ⊥
+  Unsettles end.ReadFault old new = ⊥
+  Unsettles end.WriteFault old new = ⊥
+  Unsettles end.Halted old new = ⊥
+  Unsettles end.Worn old new = (new ≡ old) × (new.left < 2)
+  Unsettles end.Memory old new = at.starved old new
+  Unsettles end.KeeperFault old new = at.failed old new
+
+  -- the gate was asked, the line was read and done, what was told of it was not made sure of, and nothing
+  -- of its reply was written
+  pub record LeavesUnsettled (how : SessionEnd) (line : List ℕ) (reply : Reply) (old new : Talk) : Type 0 where
+    pub asks : AsksOnce old new
+    pub reads : ReadsLine line old.coming new.coming
+    pub middle : PassValue
+    pub told : Told at line reply old middle new
+    pub why : Unsettles how middle new.server.taker.pass
+    pub writes : new.written ≡ old.written
+
+  -- the gate was asked, the line was read and done, all that was told of it was made sure of, and then a front
+  -- part of its reply was written
   pub record LeavesUntold (line : List ℕ) (reply : Reply) (old new : Talk) : Type 0 where
     pub asks : AsksOnce old new
     pub reads : ReadsLine line old.coming new.coming
-    pub replies : Replies (asked_by line) reply old.server new.server
-    pub opened : TellsOpened old.opened (asked_by line) reply
+    pub middle : PassValue
+    pub told : Told at line reply old middle new
+    pub settled : at.settled new.server.taker.pass
     pub writes : AppendsPrefix old.written new.written (reply_line reply)
-    pub keeper : came replies.answer old.server.taker.pass new.server.taker.pass
 
-  abbrev pub Leaves : Rest → Talk → Talk → Type 0
-  Leaves Nothing old new = new ≡ asked_once old
-  Leaves (Undone line) old new = LeavesUndone line old new
-  Leaves (Untold line reply) old new = LeavesUntold line reply old new
+  -- Why a reply is not wholly written: what it rests on was not made sure of, and nothing of it is written; or
+  -- it was, and a front part is written.
+  abbrev pub EndsReply : SessionEnd → Reply → (old : PassValue) → (written : Option (List ℕ)) → (new : PassValue) → (written' : Option (List ℕ)) → Type 0
+  EndsReply how reply old written new written' =
+      (Unsettles how old new × (written' ≡ written))
+      ⊎ (at.settled new × AppendsPrefix written written' (reply_line reply) × ((how ≡ end.WriteFault) ⊎ (how ≡ end.Memory)))
+
+  abbrev pub Leaves : SessionEnd → Rest → Talk → Talk → Type 0
+  Leaves how Nothing old new = new ≡ asked_once old
+  Leaves how (Undone line) old new = LeavesUndone line old new
+  Leaves how (Unsettled line reply) old new = LeavesUnsettled how line reply old new
+  Leaves how (Untold line reply) old new = LeavesUntold line reply old new
 
 abbrev pub IsUndone : Rest → Type 0
 IsUndone Nothing = ⊥
 IsUndone (Undone line) = ⊤
+IsUndone (Unsettled line reply) = ⊥
 IsUndone (Untold line reply) = ⊥
+
+abbrev pub IsUnsettled : Rest → Type 0
+IsUnsettled Nothing = ⊥
+IsUnsettled (Undone line) = ⊥
+IsUnsettled (Unsettled line reply) = ⊤
+IsUnsettled (Untold line reply) = ⊥
 
 abbrev pub IsUntold : Rest → Type 0
 IsUntold Nothing = ⊥
 IsUntold (Undone line) = ⊥
+IsUntold (Unsettled line reply) = ⊥
 IsUntold (Untold line reply) = ⊤
 
--- the line that was not done to its end wore the pass or the history out
+-- the line that was not done to its end wore the pass or the history out, or no turn was left to make sure of
+-- what a line did
 abbrev pub IsWornAt : Rest → (first last : PassValue) → Type 0
 IsWornAt Nothing first last = ⊥
 IsWornAt (Undone line) first last = WearsOut (asked_by line) first last
+IsWornAt (Unsettled line reply) first last = last.left < 2
 IsWornAt (Untold line reply) first last = ⊥
 
 -- why the session ends so, where this stands after its whole exchanges, and then these bytes were to come
@@ -134,25 +185,27 @@ IsCause end.WriteFault rest coming first last = IsUntold rest
 IsCause end.Halted rest coming first last = (rest ≡ Nothing) ⊎ IsUndone rest
 IsCause end.Worn rest coming first last = IsWornAt rest first last
 IsCause end.Memory rest coming first last = ⊤
+IsCause end.KeeperFault rest coming first last = IsUnsettled rest
 
 -- how many whole lines were read
 abbrev pub lines_in : Rest → ℕ
 lines_in Nothing = 0
 lines_in (Undone line) = 1
+lines_in (Unsettled line reply) = 1
 lines_in (Untold line reply) = 1
 
-module _ (came : Comes) where
+module _ (at : AtKeeper) where
   -- from here the session ends
   pub record Ends (how : SessionEnd) (old new : Talk) : Type 0 where
     pub rest : Rest
-    pub leaves : Leaves came rest old new
+    pub leaves : Leaves at how rest old new
     pub cause : IsCause how rest old.coming old.server.taker.pass new.server.taker.pass
 
   -- whole exchanges were made, and then the session ended
   pub record Serves (how : SessionEnd) (old new : Talk) : Type 0 where
     pub exchanges : List Exchange
     pub between : Talk
-    pub talks : Talks came exchanges old between
+    pub talks : Talks at exchanges old between
     pub ends : Ends how between new
 
   abbrev pub lines_read : {how : SessionEnd} {old new : Talk} → Serves how old new → ℕ
@@ -173,25 +226,30 @@ StopsLast old new = ((runs_in old ≡ None) × (new ≡ old)) ⊎ IsStopped old 
 
 -- ---- the whole
 
--- What it came to, with so many lines read: each entry of the slot took a turn, and no more than one turn
--- for each line and one more was spared an entry.
+-- What it came to, with so many lines read: each entry of the slot took a turn, and no more than two turns
+-- for each line, of which one makes sure of what it did, and one more were spared an entry.
 pub record Sums (lines : ℕ) (old new : Taker) : Type 0 where
   pub entries : List Entry
   pub gained : Gained old.pass.slot old.pass.seen entries new.pass.seen
   pub at_least : new.pass.left + length entries ≤ old.pass.left
-  pub at_most : old.pass.left ≤ new.pass.left + length entries + lines + 1
+  pub at_most : old.pass.left ≤ new.pass.left + length entries + 2 * lines + 1
   pub passed : Passed entries old.turns new.turns
+
+-- it knows nothing to be sure yet
+abbrev pub unsure : Talk → Talk
+unsure talk = record talk { server = server_before (record talk.server.taker.pass { sure = None }) talk.server }
 
 -- as it stands with this pass
 abbrev pub with_pass : PassValue → Talk → Talk
 with_pass pass talk = record talk { server = record talk.server { taker = record talk.server.taker { pass = pass } } }
 
--- a session up to its end, with the pass that it had before the last stop
-pub record Session (came : Comes) (how : SessionEnd) (old new : Talk) : Type 0 where
+-- A session up to its end, with the pass that it had before the last stop. Whatever its pass knew to be sure
+-- at first, it makes sure of all that it tells itself.
+pub record Session (at : AtKeeper) (how : SessionEnd) (old new : Talk) : Type 0 where
   pub last : PassValue
-  pub serves : Serves came how old (with_pass last new)
+  pub serves : Serves at how (unsure old) (with_pass last new)
   pub stops : StopsLast last new.server.taker.pass
-  pub sums : Sums (lines_read came serves) old.server.taker new.server.taker
+  pub sums : Sums (lines_read at serves) old.server.taker new.server.taker
 
 -- ---- counts
 

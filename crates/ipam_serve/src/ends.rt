@@ -13,8 +13,10 @@ pub enum SessionEnd {
     WriteFault,
     /// The gate stopped it.
     Halted,
-    /// The pass has too few turns left, or the cluster has 2^62 entries.
+    /// The pass has too few turns left, be it to make sure of what a line did, or the cluster has 2^62 entries.
     Worn,
     /// There was no memory.
     Memory,
+    /// What a line did could not be made sure of, since the keeper failed. It is not replied to.
+    KeeperFault,
 }

@@ -11,6 +11,7 @@ mod patience;
 mod ran;
 mod requests;
 mod session;
+mod settling;
 mod turns;
 
 pub use ends::SessionEnd;

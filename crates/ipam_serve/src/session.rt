@@ -7,9 +7,11 @@ ghost use Rattle.ipam_serve.specs.Lines.{server_at};
 ghost use Rattle.ipam_session.specs.Replies.{reply_line};
 ghost use Rattle.ipam_shared.specs.PassValue.{PassValue};
 ghost use Rattle.ipam_shared.specs.Passes.{IsSamePass, runs_in};
-ghost use Rattle.ipam_serve.specs.Keeping.{CameOf};
+ghost use Rattle.ipam_serve.specs.Keeping.{at_keeper};
 ghost use Rattle.ipam_serve.specs.Runs.{IsAtRest};
-ghost use Rattle.ipam_serve.specs.Sessions.{Ends, Exchange, Exchanges, IsCause, IsStopped, Nothing, ReadsLine, RoseAt, RoseIf, Serves, Session, StopsLast, end_of, is_halted, is_read_fault, is_write_fault, talk_at};
+ghost use Rattle.ipam_shared.specs.Settling.{IsSure, WasSettled};
+ghost use Rattle.ipam_serve.specs.Gains.{Settles};
+ghost use Rattle.ipam_serve.specs.Sessions.{Ends, EndsReply, Exchange, Exchanges, IsCause, IsStopped, Nothing, ReadsLine, RoseAt, RoseIf, Serves, Session, StopsLast, end_of, is_halted, is_read_fault, is_write_fault, talk_at};
 
 use crate::ends::SessionEnd;
 use crate::gates::SessionGate;
@@ -17,6 +19,7 @@ use crate::lines::answer_line;
 use crate::opening::Opening;
 use crate::patience::Patience;
 use crate::ran::Broken;
+use crate::settling::settle;
 use ipam_io::{Clock, Link, Passed, Point};
 use ipam_lines::{Got, Lines, LinesFault, SESSION_LINE_BYTES};
 use ipam_session::{Reply, push_reply};
@@ -25,8 +28,9 @@ use std::alloc::Global;
 use std::sync::Wait;
 
 /// Serves a session over the link, in the pass's slot, until it ends. A line is replied to before the
-/// next is read. What waits in the slot at the end is stopped by one more turn. It waits for the link
-/// and for turns at the cluster.
+/// next is read, and after all was made sure of that it tells: so what is replied outlasts a crash. What
+/// waits in the slot at the end is stopped by one more turn. It waits for the link and for turns at the
+/// cluster.
 pub fn serve_session<R: Wait, L: Link, D: Keeper, G: SessionGate, C: Clock, P: Patience>(
     rt: &R,
     alloc: Global,
@@ -40,7 +44,7 @@ pub fn serve_session<R: Wait, L: Link, D: Keeper, G: SessionGate, C: Clock, P: P
 ) -> SessionEnd
     requires lock { pass.old.lock ≡ shared.now }
     requires idle { runs_in pass.old ≡ None }
-    ensures served { (held : List ℕ) × Session (CameOf D.rows D.given D.faults) result
+    ensures served { (held : List ℕ) × Session (at_keeper D.rows D.settled D.given D.faults D.broken) result
         (talk_at (server_at pass.old (G.turns gate.old) (C.ahead clock.old)) opening.now (G.lines gate.old) (L.left link.old) (L.written link.old))
         (talk_at (server_at pass.new (G.turns gate.new) (C.ahead clock.new)) opening.now (G.lines gate.new) (prepend_known held (L.left link.new)) (L.written link.new)) }
     ensures idle { runs_in pass.new ≡ None }
@@ -49,6 +53,7 @@ pub fn serve_session<R: Wait, L: Link, D: Keeper, G: SessionGate, C: Clock, P: P
     ensures writes { RoseIf (is_write_fault result) (L.write_faults link.old) (L.write_faults link.new) }
     ensures stops { RoseIf (is_halted result) (G.stops gate.old) (G.stops gate.new) }
 {
+    pass.forget_sure();
     let end = serve_lines(
         rt, alloc, shared, opening, pass, gate, clock, patience, link,
     );
@@ -70,7 +75,8 @@ fn serve_lines<R: Wait, D: Keeper, G: SessionGate, C: Clock, P: Patience, L: Lin
 ) -> SessionEnd
     requires lock { pass.old.lock ≡ shared.now }
     requires rests { IsAtRest (runs_in pass.old) }
-    ensures served { (held : List ℕ) × Serves (CameOf D.rows D.given D.faults) result
+    requires sure { IsSure D.rows D.settled pass.old }
+    ensures served { (held : List ℕ) × Serves (at_keeper D.rows D.settled D.given D.faults D.broken) result
         (talk_at (server_at pass.old (G.turns gate.old) (C.ahead clock.old)) opening.now (G.lines gate.old) (L.left link.old) (L.written link.old))
         (talk_at (server_at pass.new (G.turns gate.new) (C.ahead clock.new)) opening.now (G.lines gate.new) (prepend_known held (L.left link.new)) (L.written link.new)) }
     ensures lock { pass.new.lock ≡ pass.old.lock }
@@ -90,7 +96,7 @@ fn serve_lines<R: Wait, D: Keeper, G: SessionGate, C: Clock, P: Patience, L: Lin
     unreachable!()
 }
 
-/// Reads a line, does what it asks and writes its reply.
+/// Reads a line, does what it asks, makes sure of it and writes its reply.
 fn exchange<R: Wait, D: Keeper, G: SessionGate, C: Clock, P: Patience, L: Link>(
     rt: &R,
     alloc: Global,
@@ -105,13 +111,15 @@ fn exchange<R: Wait, D: Keeper, G: SessionGate, C: Clock, P: Patience, L: Link>(
 ) -> Result<(), SessionEnd>
     requires lock { pass.old.lock ≡ shared.now }
     requires rests { IsAtRest (runs_in pass.old) }
-    ensures exchanged { OnOk result ((x : Exchange) × Exchanges (CameOf D.rows D.given D.faults) x
+    requires sure { IsSure D.rows D.settled pass.old }
+    ensures exchanged { OnOk result ((x : Exchange) × Exchanges (at_keeper D.rows D.settled D.given D.faults D.broken) x
         (talk_at (server_at pass.old (G.turns gate.old) (C.ahead clock.old)) opening.now (G.lines gate.old) (prepend_known lines.old (L.left link.old)) (L.written link.old))
         (talk_at (server_at pass.new (G.turns gate.new) (C.ahead clock.new)) opening.now (G.lines gate.new) (prepend_known lines.new (L.left link.new)) (L.written link.new))) }
-    ensures ended { IfErr result (λ how. Ends (CameOf D.rows D.given D.faults) how
+    ensures ended { IfErr result (λ how. Ends (at_keeper D.rows D.settled D.given D.faults D.broken) how
         (talk_at (server_at pass.old (G.turns gate.old) (C.ahead clock.old)) opening.now (G.lines gate.old) (prepend_known lines.old (L.left link.old)) (L.written link.old))
         (talk_at (server_at pass.new (G.turns gate.new) (C.ahead clock.new)) opening.now (G.lines gate.new) (prepend_known lines.new (L.left link.new)) (L.written link.new))) }
     ensures rests { OnOk result (IsAtRest (runs_in pass.new)) }
+    ensures sure { OnOk result (IsSure D.rows D.settled pass.new) }
     ensures lock { pass.new.lock ≡ pass.old.lock }
     ensures reads { RoseAt is_read_fault result (L.read_faults link.old) (L.read_faults link.new) }
     ensures writes { RoseAt is_write_fault result (L.write_faults link.old) (L.write_faults link.new) }
@@ -123,7 +131,7 @@ fn exchange<R: Wait, D: Keeper, G: SessionGate, C: Clock, P: Patience, L: Link>(
                 rt, alloc, shared, opening, pass, gate, clock, patience, line,
             );
             match told {
-                Ok(reply) => write_reply(alloc, link, reply),
+                Ok(reply) => settle_and_reply(rt, alloc, shared, pass, patience, link, reply),
                 Err(broken) => Err(end_of(broken)),
             }
         }
@@ -183,6 +191,38 @@ fn next_line<L: Link>(
         Err(LinesFault::TooLong) => Err(SessionEnd::LineTooLong),
         Err(LinesFault::Read) => Err(SessionEnd::ReadFault),
         Err(LinesFault::Memory) => Err(SessionEnd::Memory),
+    }
+}
+
+/// Makes sure of all that the pass was told of, and then writes the reply.
+fn settle_and_reply<R: Wait, D: Keeper, P: Patience, L: Link>(
+    rt: &R,
+    alloc: Global,
+    shared: &Shared<D>,
+    pass: &mut Pass,
+    patience: &mut P,
+    link: &mut L,
+    reply: Reply,
+) -> Result<(), SessionEnd>
+    requires lock { pass.old.lock ≡ shared.now }
+    requires sure { IsSure D.rows D.settled pass.old }
+    ensures settles { Settles pass.old pass.new }
+    ensures settled { OnOk result (WasSettled D.rows D.settled pass.new) }
+    ensures sure { OnOk result (IsSure D.rows D.settled pass.new) }
+    ensures wrote { OnOk result (L.written link.new ≡ append_known (L.written link.old) (reply_line reply)) }
+    ensures ended { IfErr result (λ how. EndsReply (at_keeper D.rows D.settled D.given D.faults D.broken) how reply
+        pass.old (L.written link.old) pass.new (L.written link.new)) }
+    ensures left { L.left link.new ≡ L.left link.old }
+    ensures reads { RoseAt is_read_fault result (L.read_faults link.old) (L.read_faults link.new) }
+    ensures writes { RoseAt is_write_fault result (L.write_faults link.old) (L.write_faults link.new) }
+    ensures not_halted { IfErr result (λ how. is_halted how ≡ false) }
+{
+    match settle(rt, shared, pass, patience) {
+        Ok(()) => write_reply(alloc, link, reply),
+        Err(end) => {
+            drop(reply);
+            Err(end)
+        }
     }
 }
 

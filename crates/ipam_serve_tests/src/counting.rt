@@ -3,14 +3,15 @@
 use ipam_serve::Patience;
 use std::sync::Wait;
 
-/// Counts the waits, keeps after how many losses the last one came, and counts how often it was entered and
-/// left.
+/// Counts the waits, keeps after how many losses the last one came, and counts how often it was entered, left
+/// and asked before a settling.
 #[derive(Drop)]
 pub(crate) struct Counting {
     pub(crate) waits: u32,
     pub(crate) losses: u32,
     pub(crate) entered: u32,
     pub(crate) left: u32,
+    pub(crate) settlings: u32,
 }
 
 impl Counting {
@@ -20,6 +21,7 @@ impl Counting {
             losses: 0,
             entered: 0,
             left: 0,
+            settlings: 0,
         }
     }
 }
@@ -36,5 +38,9 @@ impl Patience for Counting {
 
     fn leave(&mut self) {
         self.left = self.left.wrapping_add(1);
+    }
+
+    fn before_settling<R: Wait>(&mut self, _rt: &R) {
+        self.settlings = self.settlings.wrapping_add(1);
     }
 }

@@ -83,7 +83,7 @@ fn share<R: Wait, D: Keeper + Drop>(
     at: u32,
     other: &str,
 ) -> Result<Crossed, AllocError>
-    requires newly { IsNewlyKept D.rows kept }
+    requires newly { IsNewlyKept D.rows D.settled kept }
 {
     match Shared::new(alloc, kept) {
         Ok((shared, mut pass)) => match shared.split(&mut pass) {

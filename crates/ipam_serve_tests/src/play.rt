@@ -78,7 +78,7 @@ fn serve<R: Wait, D: Keeper + Drop>(
     scenario: &str,
     told: &mut String,
 ) -> Result<D, AllocError>
-    requires newly { IsNewlyKept D.rows kept }
+    requires newly { IsNewlyKept D.rows D.settled kept }
 {
     match Shared::new(alloc, kept) {
         Ok((shared, mut pass)) => {
@@ -181,6 +181,7 @@ fn name_of(end: SessionEnd) -> &'static str {
         SessionEnd::Halted => "halted",
         SessionEnd::Worn => "worn",
         SessionEnd::Memory => "no memory",
+        SessionEnd::KeeperFault => "keeper fault",
     }
 }
 
@@ -240,13 +241,17 @@ fn first_of(scenario: &str) -> u64
 }
 
 /// The keeper of these rows, each a line `REVISION KEY BODY`. Of its writes, those of the rows first,
-/// counted from 1, those fail that a line `fail N..` of the scenario says.
+/// counted from 1, those fail that a line `fail N..` of the scenario says, and of its settlings, the opening's
+/// first, those that a line `unsettled N..` says.
 pub(crate) fn keeper_of(
     alloc: Global,
     rows: &str,
     scenario: &str,
 ) -> Result<MemoryKeeper, AllocError> {
-    let mut keeper = MemoryKeeper::new(Vec::new(alloc), failing_of(alloc, scenario)?);
+    let mut keeper = MemoryKeeper::new(
+        Vec::new(alloc),
+        failing_of(alloc, scenario)?,
+    ).failing_to_settle(numbers(alloc, scenario, "unsettled ")?);
     for row in rows.lines() {
         put(&mut keeper, row)?;
     }

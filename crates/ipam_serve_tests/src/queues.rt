@@ -45,3 +45,35 @@ fn each_place_that_nobody_leaves_costs_one_wait(rt: HostRuntime) -> Result<(), F
     }
     Ok(())
 }
+
+#[test]
+fn who_left_alone_waits_for_nobody(rt: HostRuntime) -> Result<(), Fail> {
+    let queue = Queue::new();
+    for _ in 0..200 {
+        let place = queue.enter(&rt);
+        let others = queue.leave(place);
+        assert_eq!(rt; queue.outwait(&rt, others), 0);
+    }
+    Ok(())
+}
+
+#[test]
+fn who_left_waits_for_those_behind(rt: HostRuntime) -> Result<(), Fail> {
+    let queue = Queue::new();
+    let first = queue.enter(&rt);
+    let second = queue.enter(&rt);
+    let third = queue.enter(&rt);
+    let others = queue.leave(first);
+    assert_eq!(rt;
+        queue.outwait(&rt, others),
+        1,
+        "the third keeps it waiting once"
+    );
+    let later = queue.enter(&rt);
+    assert_eq!(rt; later.waits, 0, "who is given up is waited for no more");
+    assert_eq!(rt; queue.outwait(&rt, others), 0, "and who came later isn't");
+    queue.leave(third);
+    queue.leave(second);
+    assert_eq!(rt; queue.outwait(&rt, queue.leave(later)), 0);
+    Ok(())
+}

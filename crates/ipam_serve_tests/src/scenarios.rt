@@ -433,3 +433,38 @@ pub(crate) const HANDLES_LEFT: &str = r#"< {"revision":3,"rows":[]}
 < {"revision":5,"rows":[{"body":"{\"block\":{\"10.0.0.0/30\":1},\"handleID\":\"n.c2\"}","key":"handle/n.c2","revision":4}]}
 session closed
 "#;
+
+/// Settlings of the keeper that fail, of which the first is the opening's.
+pub(crate) const SETTLINGS: &str = r#"What could not be made sure of is not replied to.
+unsettled 2
+> {"request":{"add":{"handle":"n.c1","node":"a"}}}
+> {"request":{"del":{"handle":"n.c1"}}}
+session keeper fault
+get handle
+= keeper fault
+
+What was replied to before stays so.
+unsettled 3
+> {"request":{"add":{"handle":"n.c1","node":"a"}}}
+< {"answer":{"added":[{"address":"10.0.0.0","b":5,"c":1,"f":4,"p":2,"r":3,"w":8}]}}
+> {"request":{"del":{"handle":"n.c1"}}}
+session keeper fault
+get handle
+= keeper fault
+
+Where nothing was made, nothing is asked of the keeper.
+unsettled 2
+> {"routes":true}
+< {"revision":3,"routes":[{"cidr":"10.0.0.0/30","node":"a"}]}
+> {"opened":true}
+< {"opened":"7-00000000000000fe"}
+> {"request":{"collect":{"live":[]}}}
+session keeper fault
+get handle
+= keeper fault
+
+A write that the keeper refuses is answered, once the rest is made sure of.
+fail 5
+> {"env":{"CNI_COMMAND":"ADD","CNI_CONTAINERID":"c1","CNI_IFNAME":"eth0","CNI_NETNS":"/x"},"stdin":"{\"cniVersion\":\"1.0.0\",\"name\":\"net\",\"nodename\":\"a\",\"ipam\":{\"type\":\"calico-ipam\"}}"}
+< {"status":1,"stdout":"{\"cniVersion\":\"1.0.0\",\"code\":5,\"details\":\"keeper\",\"msg\":\"input or output fault\"}\n"}
+session closed"#;

@@ -3,7 +3,7 @@ use crate::pages::{many_handles, pages_scenario};
 use crate::play::play;
 use crate::scenarios::{
     ADD_FIRST, ADD_OTHER, CALLS, COLLECTIONS, ENDS, FREE, HANDLES_LEFT, HANDLES_TWICE, HELD, LONG,
-    RELEASE, RELEASED, ROUTES, ROUTES_LEFT, ROUTES_TWICE, ROWS,
+    RELEASE, RELEASED, ROUTES, ROUTES_LEFT, ROUTES_TWICE, ROWS, SETTLINGS,
 };
 use std::alloc::{AllocError, Global};
 use std::process::Abort;
@@ -79,6 +79,13 @@ fn ends_are_told(rt: HostRuntime) -> Result<(), Fail> {
 }
 
 #[test]
+fn what_is_not_sure_is_not_replied(rt: HostRuntime) -> Result<(), Fail> {
+    let count = played(&rt, rt.alloc(), FREE, SETTLINGS)?;
+    assert_eq!(rt; count, 4);
+    Ok(())
+}
+
+#[test]
 fn a_line_has_at_most_1048575_bytes(rt: HostRuntime) -> Result<(), Fail> {
     let count = played(&rt, rt.alloc(), FREE, LONG)?;
     assert_eq!(rt; count, 2);
@@ -102,6 +109,7 @@ fn who_lost_a_race_waits_once(rt: HostRuntime) -> Result<(), Fail> {
     let patience = crossed.patience;
     assert_eq!(rt; (patience.waits, patience.losses), (1, 1));
     assert_eq!(rt; (patience.entered, patience.left), (1, 1));
+    assert_eq!(rt; patience.settlings, 1);
     Ok(())
 }
 

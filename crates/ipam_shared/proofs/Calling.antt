@@ -35,9 +35,9 @@ beside f = ((λ r. let x = f.0 r in (x.0, x.1.0, x.1.1)), λ x. f.1 (x.0, (x.1, 
 
 -- ---- the beginning of a request
 
-module _ {D : Type 0} (tells : Tells D) (request : Request) (old new : PassValue) (answer : Option (Result Entry BeginFault)) (result : Result Entry (SharedFault BeginFault))
+module _ {D : Type 0} (tells sure : Tells D) (request : Request) (old new : PassValue) (answer : Option (Result Entry BeginFault)) (result : Result Entry (SharedFault BeginFault))
     (is : result ≡ answer_of answer) (spent : IsNone answer ↔ (old.left ≡ 0))
-    (turned : IfSome answer (λ given. HadTurn tells (λ before after. Begins old.slot before request given after) old (told_by given) new)) where
+    (turned : IfSome answer (λ given. HadTurn tells sure (λ before after. Begins old.slot before request given after) old (told_by given) new)) where
   pub begin-busy : (result ≡ Err (Inner begin_fault.SlotBusy)) ↔ (0 < old.left × IsSome (runs_in old))
   begin-busy = refuses answer result begin_fault.SlotBusy old.left (λ told. IsSome (runs_in old)) is spent (IfSome_then answer turned (λ given h.
       let some = same-some _ _ (slot-before h) in
@@ -61,9 +61,9 @@ module _ {D : Type 0} (tells : Tells D) (request : Request) (old new : PassValue
 
 -- ---- the second list
 
-module _ {D : Type 0} (tells : Tells D) (live : List (List ℕ)) (at : ℕ) (old new : PassValue) (answer : Option (Result Entry FeedFault)) (result : Result Entry (SharedFault FeedFault))
+module _ {D : Type 0} (tells sure : Tells D) (live : List (List ℕ)) (at : ℕ) (old new : PassValue) (answer : Option (Result Entry FeedFault)) (result : Result Entry (SharedFault FeedFault))
     (is : result ≡ answer_of answer) (spent : IsNone answer ↔ (old.left ≡ 0))
-    (turned : IfSome answer (λ given. HadTurn tells (λ before after. Feeds old.slot before live at given after) old (told_by given) new)) where
+    (turned : IfSome answer (λ given. HadTurn tells sure (λ before after. Feeds old.slot before live at given after) old (told_by given) new)) where
   pub feed-not_waiting : (result ≡ Err (Inner feed_fault.NotWaiting)) ↔ (0 < old.left × ¬ (state_of (runs_in old) ≡ state.Waiting))
   feed-not_waiting = refuses answer result feed_fault.NotWaiting old.left (λ told. ¬ (state_of (runs_in old) ≡ state.Waiting)) is spent (IfSome_then answer turned (λ given h.
       let same = same-state _ _ (slot-before h) in
@@ -104,9 +104,9 @@ module _ {D : Type 0} (tells : Tells D) (live : List (List ℕ)) (at : ℕ) (old
 
 -- ---- a call
 
-module _ {D : Type 0} (tells : Tells D) (gives : Gives D) (faults : D → ℕ) (old new : PassValue) (answer : Option (Result Entry PrepareFault)) (result : Result Entry (SharedFault PrepareFault))
+module _ {D : Type 0} (tells sure : Tells D) (gives : Gives D) (faults : D → ℕ) (old new : PassValue) (answer : Option (Result Entry PrepareFault)) (result : Result Entry (SharedFault PrepareFault))
     (is : result ≡ answer_of answer) (spent : IsNone answer ↔ (old.left ≡ 0))
-    (turned : IfSome answer (λ given. HadTurn tells (λ before after. Calls old.slot before gives faults given after) old (told_by given) new)) where
+    (turned : IfSome answer (λ given. HadTurn tells sure (λ before after. Calls old.slot before gives faults given after) old (told_by given) new)) where
   pub turn-idle : (result ≡ Err (Inner prepare_fault.SlotIdle)) ↔ (0 < old.left × runs_in old ≡ None)
   turn-idle = refuses answer result prepare_fault.SlotIdle old.left (λ told. runs_in old ≡ None) is spent (IfSome_then answer turned (λ given h.
       let none = same-none _ _ (slot-before h) in
@@ -135,34 +135,34 @@ abbrev pub Done : {D : Type 0} → Gives D → (D → ℕ) → (slot : ℕ) → 
 Done gives faults slot told before after = IsDone faults slot before after told ⊎ IsFailed gives faults slot before after told
 
 -- a call was made, and did what an answered one does
-turned-by : {D : Type 0} (tells : Tells D) (gives : Gives D) (faults : D → ℕ) (old new : PassValue) (answer : Option (Result Entry PrepareFault))
-    → IfSome answer (λ given. HadTurn tells (λ before after. Calls old.slot before gives faults given after) old (told_by given) new)
+turned-by : {D : Type 0} (tells sure : Tells D) (gives : Gives D) (faults : D → ℕ) (old new : PassValue) (answer : Option (Result Entry PrepareFault))
+    → IfSome answer (λ given. HadTurn tells sure (λ before after. Calls old.slot before gives faults given after) old (told_by given) new)
     → IfOk (answer_of answer) (λ told. WasDone tells (Done gives faults old.slot told) (told_by (answer_of answer)) new)
-turned-by tells gives faults old new None h = tt
-turned-by tells gives faults old new (Some (Ok told)) h = done-as (λ before after d. d.turned) h.done
-turned-by tells gives faults old new (Some (Err fault)) h = tt
+turned-by tells sure gives faults old new None h = tt
+turned-by tells sure gives faults old new (Some (Ok told)) h = done-as (λ before after d. d.turned) h.done
+turned-by tells sure gives faults old new (Some (Err fault)) h = tt
 
-refused-by : {D : Type 0} (tells : Tells D) (gives : Gives D) (faults : D → ℕ) (old new : PassValue) (answer : Option (Result Entry PrepareFault))
-    → IfSome answer (λ given. HadTurn tells (λ before after. Calls old.slot before gives faults given after) old (told_by given) new)
+refused-by : {D : Type 0} (tells sure : Tells D) (gives : Gives D) (faults : D → ℕ) (old new : PassValue) (answer : Option (Result Entry PrepareFault))
+    → IfSome answer (λ given. HadTurn tells sure (λ before after. Calls old.slot before gives faults given after) old (told_by given) new)
     → IfErr (answer_of answer) (λ fault. UnlessSpent (answer_of answer) (WasDone tells (IsRefused faults) (told_by (answer_of answer)) new))
-refused-by tells gives faults old new None h = tt
-refused-by tells gives faults old new (Some (Ok told)) h = tt
-refused-by tells gives faults old new (Some (Err fault)) h = done-as (λ before after d. d.refused) h.done
+refused-by tells sure gives faults old new None h = tt
+refused-by tells sure gives faults old new (Some (Ok told)) h = tt
+refused-by tells sure gives faults old new (Some (Err fault)) h = done-as (λ before after d. d.refused) h.done
 
-module _ {D : Type 0} (tells : Tells D) (gives : Gives D) (faults : D → ℕ) (old new : PassValue) (answer : Option (Result Entry PrepareFault)) (result : Result Entry (SharedFault PrepareFault))
+module _ {D : Type 0} (tells sure : Tells D) (gives : Gives D) (faults : D → ℕ) (old new : PassValue) (answer : Option (Result Entry PrepareFault)) (result : Result Entry (SharedFault PrepareFault))
     (is : result ≡ answer_of answer)
-    (turned : IfSome answer (λ given. HadTurn tells (λ before after. Calls old.slot before gives faults given after) old (told_by given) new)) where
+    (turned : IfSome answer (λ given. HadTurn tells sure (λ before after. Calls old.slot before gives faults given after) old (told_by given) new)) where
   pub turn-turned : IfOk result (λ told. WasDone tells (Done gives faults old.slot told) (told_by result) new)
-  turn-turned = subst (λ r. IfOk r (λ told. WasDone tells (Done gives faults old.slot told) (told_by r) new)) (sym is) (turned-by tells gives faults old new answer turned)
+  turn-turned = subst (λ r. IfOk r (λ told. WasDone tells (Done gives faults old.slot told) (told_by r) new)) (sym is) (turned-by tells sure gives faults old new answer turned)
 
   pub turn-refused : IfErr result (λ fault. UnlessSpent result (WasDone tells (IsRefused faults) (told_by result) new))
-  turn-refused = subst (λ r. IfErr r (λ fault. UnlessSpent r (WasDone tells (IsRefused faults) (told_by r) new))) (sym is) (refused-by tells gives faults old new answer turned)
+  turn-refused = subst (λ r. IfErr r (λ fault. UnlessSpent r (WasDone tells (IsRefused faults) (told_by r) new))) (sym is) (refused-by tells sure gives faults old new answer turned)
 
 -- ---- a stop
 
-module _ {D : Type 0} (tells : Tells D) (old new : PassValue) (spare : Spent) where
+module _ {D : Type 0} (tells sure : Tells D) (old new : PassValue) (spare : Spent) where
   stopped-idle : (answer : Option (Option Entry)) → (IsNone answer ↔ (old.left ≡ 0))
-      → IfSome answer (λ given. HadTurn tells (λ before after. Stops old.slot before given after) old (told_if given) new)
+      → IfSome answer (λ given. HadTurn tells sure (λ before after. Stops old.slot before given after) old (told_if given) new)
       → (ok_or answer spare ≡ Ok None) ↔ (0 < old.left × runs_in old ≡ None)
   stopped-idle None spent h = ((λ e. cc), λ x. let none = spent.0 refl in let some = x.0 in absurd (omega arith))
   stopped-idle (Some given) spent h =
@@ -171,15 +171,15 @@ module _ {D : Type 0} (tells : Tells D) (old new : PassValue) (spare : Spent) wh
       ((λ e. (had-left h, none.0 (exact.0 cc))), λ x. let e = exact.1 (none.1 x.1) in cc)
 
   stopped-keeper : (answer : Option (Option Entry))
-      → IfSome answer (λ given. HadTurn tells (λ before after. Stops old.slot before given after) old (told_if given) new)
+      → IfSome answer (λ given. HadTurn tells sure (λ before after. Stops old.slot before given after) old (told_if given) new)
       → IfOk (ok_or answer spare) (λ told. WasDone tells LeavesKeeper (told_stopped (ok_or answer spare)) new)
   stopped-keeper None h = tt
   stopped-keeper (Some given) h = done-as (λ before after d. d.keeper) h.done
 
-module _ {D : Type 0} (tells : Tells D) (old new : PassValue) (spare : Spent) (answer : Option (Option Entry)) (result : Result (Option Entry) Spent) (is : result ≡ ok_or answer spare)
-    (turned : IfSome answer (λ given. HadTurn tells (λ before after. Stops old.slot before given after) old (told_if given) new)) where
+module _ {D : Type 0} (tells sure : Tells D) (old new : PassValue) (spare : Spent) (answer : Option (Option Entry)) (result : Result (Option Entry) Spent) (is : result ≡ ok_or answer spare)
+    (turned : IfSome answer (λ given. HadTurn tells sure (λ before after. Stops old.slot before given after) old (told_if given) new)) where
   pub stop-idle : (IsNone answer ↔ (old.left ≡ 0)) → (result ≡ Ok None) ↔ (0 < old.left × runs_in old ≡ None)
-  stop-idle spent = subst (λ r. (r ≡ Ok None) ↔ (0 < old.left × runs_in old ≡ None)) (sym is) (stopped-idle tells old new spare answer spent turned)
+  stop-idle spent = subst (λ r. (r ≡ Ok None) ↔ (0 < old.left × runs_in old ≡ None)) (sym is) (stopped-idle tells sure old new spare answer spent turned)
 
   pub stop-keeper : IfOk result (λ told. WasDone tells LeavesKeeper (told_stopped result) new)
-  stop-keeper = subst (λ r. IfOk r (λ told. WasDone tells LeavesKeeper (told_stopped r) new)) (sym is) (stopped-keeper tells old new spare answer turned)
+  stop-keeper = subst (λ r. IfOk r (λ told. WasDone tells LeavesKeeper (told_stopped r) new)) (sym is) (stopped-keeper tells sure old new spare answer turned)

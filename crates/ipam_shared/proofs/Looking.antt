@@ -16,13 +16,13 @@ pub kept-consistent : {D : Type 0} (tells : Tells D) (kept : Kept D) → IsKept 
 kept-consistent tells kept (base, (history, h)) =
     subst IsConsistent (sym h.cluster.is_cluster.store) (consistent_law base history h.cluster.stands.consistent h.cluster.stands.lawful)
 
-module _ {D T : Type 0} (tells : Tells D) (told_of : Datastore → T → Type 0) (old new : PassValue) where
-  told-look : (spare : Spent) (answer : Option T) → IfSome answer (λ given. HadTurn tells (λ (before after : Kept D). told_of before.cluster.store.store given) old [] new)
+module _ {D T : Type 0} (tells sure : Tells D) (told_of : Datastore → T → Type 0) (old new : PassValue) where
+  told-look : (spare : Spent) (answer : Option T) → IfSome answer (λ given. HadTurn tells sure (λ (before after : Kept D). told_of before.cluster.store.store given) old [] new)
       → IfOk (ok_or answer spare) (λ told. told_of (store_at new.base new.seen) told)
   told-look spare None h = tt
   told-look spare (Some given) h = subst (λ (s : Datastore). told_of s given) h.done.stood.cluster.is_cluster.store h.done.deed
 
   pub look-told : (spare : Spent) (answer : Option T) (result : Result T Spent) → result ≡ ok_or answer spare
-      → IfSome answer (λ given. HadTurn tells (λ (before after : Kept D). told_of before.cluster.store.store given) old [] new)
+      → IfSome answer (λ given. HadTurn tells sure (λ (before after : Kept D). told_of before.cluster.store.store given) old [] new)
       → IfOk result (λ told. told_of (store_at new.base new.seen) told)
   look-told spare answer result is turned = subst (λ r. IfOk r (λ told. told_of (store_at new.base new.seen) told)) (sym is) (told-look spare answer turned)

@@ -16,30 +16,30 @@ use Rattle.ipam_shared.specs.Turning.{HadTurn, answer_of}
 use Rattle.ipam_shared.proofs.Answering.{refusal}
 use Rattle.ipam_shared.proofs.Turning.{had-left}
 
-module _ {D E : Type 0} (tells : Tells D) (old new : PassValue) where
-  told-routes : (answer : Option (Result (ℕ × Vec Route) E)) → IfSome answer (λ given. HadTurn tells (λ before after. TellsRoutes tells before given) old [] new)
+module _ {D E : Type 0} (tells sure : Tells D) (old new : PassValue) where
+  told-routes : (answer : Option (Result (ℕ × Vec Route) E)) → IfSome answer (λ given. HadTurn tells sure (λ before after. TellsRoutes tells before given) old [] new)
       → IfOk (answer_of answer) (λ told. AreRoutes new.base new.seen told.0 told.1.items)
   told-routes None h = tt
   told-routes (Some (Ok told)) h = h.done.deed new.base new.seen h.done.fed
   told-routes (Some (Err fault)) h = tt
 
   pub routes-routes : (answer : Option (Result (ℕ × Vec Route) E)) (result : Result (ℕ × Vec Route) (SharedFault E)) → result ≡ answer_of answer
-      → IfSome answer (λ given. HadTurn tells (λ before after. TellsRoutes tells before given) old [] new)
+      → IfSome answer (λ given. HadTurn tells sure (λ before after. TellsRoutes tells before given) old [] new)
       → IfOk result (λ told. AreRoutes new.base new.seen told.0 told.1.items)
   routes-routes answer result is turned = subst (λ r. IfOk r (λ told. AreRoutes new.base new.seen told.0 told.1.items)) (sym is) (told-routes answer turned)
 
-module _ {D : Type 0} (tells : Tells D) (revision : ℕ) (old new : PassValue) where
-  told-changes : (answer : Option (Result (ℕ × Vec Change) SinceFault)) → IfSome answer (λ given. HadTurn tells (λ before after. TellsChanges tells before revision given) old [] new)
+module _ {D : Type 0} (tells sure : Tells D) (revision : ℕ) (old new : PassValue) where
+  told-changes : (answer : Option (Result (ℕ × Vec Change) SinceFault)) → IfSome answer (λ given. HadTurn tells sure (λ before after. TellsChanges tells before revision given) old [] new)
       → IfOk (answer_of answer) (λ told. AreChanges new.base new.seen revision told.0 told.1.items)
   told-changes None h = tt
   told-changes (Some (Ok told)) h = h.done.deed.changes new.base new.seen h.done.fed
   told-changes (Some (Err fault)) h = tt
 
-module _ {D : Type 0} (tells : Tells D) (revision : ℕ) (old new : PassValue) (answer : Option (Result (ℕ × Vec Change) SinceFault)) (result : Result (ℕ × Vec Change) (SharedFault SinceFault))
+module _ {D : Type 0} (tells sure : Tells D) (revision : ℕ) (old new : PassValue) (answer : Option (Result (ℕ × Vec Change) SinceFault)) (result : Result (ℕ × Vec Change) (SharedFault SinceFault))
     (is : result ≡ answer_of answer) (spent : IsNone answer ↔ (old.left ≡ 0))
-    (turned : IfSome answer (λ given. HadTurn tells (λ before after. TellsChanges tells before revision given) old [] new)) where
+    (turned : IfSome answer (λ given. HadTurn tells sure (λ before after. TellsChanges tells before revision given) old [] new)) where
   pub since-changes : IfOk result (λ told. AreChanges new.base new.seen revision told.0 told.1.items)
-  since-changes = subst (λ r. IfOk r (λ told. AreChanges new.base new.seen revision told.0 told.1.items)) (sym is) (told-changes tells revision old new answer turned)
+  since-changes = subst (λ r. IfOk r (λ told. AreChanges new.base new.seen revision told.0 told.1.items)) (sym is) (told-changes tells sure revision old new answer turned)
 
   pub since-compacted : (floor : ℕ) → ((result ≡ Err (Inner (Compacted floor))) ↔ (0 < old.left × IsCompacted new.base new.seen revision floor))
   since-compacted floor = subst (λ r. (r ≡ Err (Inner (Compacted floor))) ↔ (0 < old.left × IsCompacted new.base new.seen revision floor)) (sym is)

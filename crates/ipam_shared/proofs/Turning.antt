@@ -14,9 +14,9 @@ pub drop-told : (told rest : List Entry) → drop (length told) (told ++ rest) �
 drop-told [] rest = refl
 drop-told (new ∷ told) rest = drop-told told rest
 
-module _ {D : Type 0} {tells : Tells D} {did : Kept D → Kept D → Type 0} {old new : PassValue} {told : List Entry} where
+module _ {D : Type 0} {tells sure : Tells D} {did : Kept D → Kept D → Type 0} {old new : PassValue} {told : List Entry} where
   -- what ran in the slot when the turn came is what ran there at the end of what the pass had seen
-  pub slot-before : (h : HadTurn tells did old told new) → IsSlot (slot_of h.done.before.cluster old.slot) (runs_in old)
+  pub slot-before : (h : HadTurn tells sure did old told new) → IsSlot (slot_of h.done.before.cluster old.slot) (runs_in old)
   slot-before h =
       let base : new.base ≡ old.base = ap (λ (p : PassValue). p.base) h.same in
       let seen : met told new ≡ h.sees.between ++ old.seen = ap (drop (length told)) h.sees.seen ∙ drop-told told (h.sees.between ++ old.seen) in
@@ -25,10 +25,10 @@ module _ {D : Type 0} {tells : Tells D} {did : Kept D → Kept D → Type 0} {ol
       subst (IsSlot (slot_of h.done.before.cluster old.slot)) runs (h.done.stood.cluster.is_cluster.slots old.slot)
 
   -- as many entries were there when the turn came as its moment says
-  pub entries-met : (h : HadTurn tells did old told new) → h.done.before.cluster.entries ≡ moment_met told new
+  pub entries-met : (h : HadTurn tells sure did old told new) → h.done.before.cluster.entries ≡ moment_met told new
   entries-met h = h.done.stood.cluster.is_cluster.entries ∙ entries-are new.base (met told new)
 
-  pub had-left : HadTurn tells did old told new → 0 < old.left
+  pub had-left : HadTurn tells sure did old told new → 0 < old.left
   had-left h = let left = h.left in omega arith
 
 pub done-as : {D : Type 0} {tells : Tells D} {did did' : Kept D → Kept D → Type 0} {told : List Entry} {new : PassValue}

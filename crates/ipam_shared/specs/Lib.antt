@@ -4,3 +4,4 @@ pub mod Deeds
 pub mod PassValue
 pub mod Passes
 pub mod Turning
+pub mod Settling

@@ -10,12 +10,13 @@ use Rattle.ipam_running.specs.Running.{grace_of}
 use Rattle.ipam_kept.specs.declared.kept.Kept.{Kept}
 use Rattle.ipam_kept.specs.Feed.{FedFor}
 use Rattle.ipam_kept.specs.Kept.{KeptFor, Tells}
+use Rattle.ipam_kept.specs.Sure.{SureFor}
 use Rattle.ipam_shared.specs.declared.faults.SharedFault.{SharedFault}
 use Rattle.ipam_shared.specs.declared.faults.SharedFault.TheVariants.{SpentPass, Inner}
 use Rattle.ipam_shared.specs.declared.faults.SpentPass.{SpentPass as Spent}
 use Rattle.ipam_shared.specs.Deeds.{told_by, told_if}
 use Rattle.ipam_shared.specs.PassValue.{PassValue}
-use Rattle.ipam_shared.specs.Passes.{IsSamePass}
+use Rattle.ipam_shared.specs.Passes.{IsSamePass, IsTold}
 
 -- ---- answers
 
@@ -69,12 +70,14 @@ pub record WasDone {D : Type 0} (tells : Tells D) (did : (before after : Kept D)
   pub deed : did before after
   pub stands : KeptFor tells after new.base new.seen
 
--- all of it
-pub record HadTurn {D : Type 0} (tells : Tells D) (did : (before after : Kept D) → Type 0) (old : PassValue) (told : List Entry) (new : PassValue) : Type 0 where
+-- all of it; and the keeper was then sure of what it had at a moment of what the pass has seen
+pub record HadTurn {D : Type 0} (tells sure : Tells D) (did : (before after : Kept D) → Type 0) (old : PassValue) (told : List Entry) (new : PassValue) : Type 0 where
   pub left : new.left + 1 ≡ old.left
   pub same : IsSamePass old new
   pub sees : SeesNext old told new
+  pub knows : IsTold old new
   pub done : WasDone tells did told new
+  pub is_sure : SureFor sure done.after new.base new.seen
 
 -- ---- the slot
 

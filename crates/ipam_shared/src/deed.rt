@@ -6,7 +6,7 @@ ghost use Rattle.ipam_model.specs.History.{Base, slot_of_entry};
 ghost use Rattle.ipam_cluster.specs.Cluster.{slot_of};
 ghost use Rattle.ipam_kept.specs.declared.kept.Kept.{Kept as KeptValue};
 ghost use Rattle.ipam_kept.specs.Kept.{IsKept};
-ghost use Rattle.ipam_kept.specs.Feed.{FedFor};
+ghost use Rattle.ipam_kept.specs.Sure.{HeldFor};
 ghost use Rattle.turn_lock.specs.Histories.{AtMostOneBy};
 
 use crate::locked::Locked;
@@ -35,10 +35,12 @@ pub(crate) trait Deed<D: Keeper> {
         requires kept { IsKept D.rows kept.old }
         ensures does { does self slot kept.old result kept.new }
         ensures own { AtMostOneBy slot_of_entry slot (told result) }
-        ensures keeps { (base : Base) (history : List OneEntry) → FedFor D.rows kept.old base history → FedFor D.rows kept.new base (told result ++ history) };
+        ensures keeps { (base : Base) (history : List OneEntry) → HeldFor D.rows D.settled kept.old base history
+            → HeldFor D.rows D.settled kept.new base (told result ++ history) };
 }
 
-/// The deed, in this slot. It also answers whether something runs there after it.
+/// The deed, in this slot. It also answers whether something runs there after it, and how many entries there
+/// are.
 #[derive(Drop)]
 pub(crate) struct InSlot<W> {
     pub(crate) slot: u8,
@@ -46,20 +48,22 @@ pub(crate) struct InSlot<W> {
 }
 
 impl<D: Keeper, W: Deed<D>> Step<Locked<D>> for InSlot<W> {
-    type Out = (W::Answer, bool);
+    type Out = (W::Answer, bool, u64);
 
     ghost by = { λ step. step.slot };
 
     ghost can = { λ step locked. (step.slot < SLOTS) × W.can step.deed × IsKept D.rows locked.kept };
 
-    ghost does = { λ step before out after. W.does step.deed step.slot before.kept out.0 after.kept × (IsTrue out.1 ↔ IsSome (slot_of after.kept.cluster step.slot)) };
+    ghost does = { λ step before out after. W.does step.deed step.slot before.kept out.0 after.kept
+        × (IsTrue out.1 ↔ IsSome (slot_of after.kept.cluster step.slot)) × (out.2 ≡ after.kept.cluster.entries) };
 
     ghost adds = { λ step before out after. W.told out.0 };
 
-    fn run(self, value: &mut Locked<D>) -> (W::Answer, bool) {
+    fn run(self, value: &mut Locked<D>) -> (W::Answer, bool, u64) {
         let InSlot { slot, deed } = self;
         let answer = deed.run(&mut value.kept, slot);
         let running = value.kept.cluster().state(slot) != SlotState::Idle;
-        (answer, running)
+        let entries = value.kept.cluster().entries();
+        (answer, running, entries)
     }
 }

@@ -4,11 +4,12 @@ ghost use Rattle.std.specs.List.{All};
 ghost use Rattle.ipam_records.specs.Sound.{IsHandleId};
 ghost use Rattle.ipam_model.specs.SoundRequest.{IsSoundRequest};
 ghost use Rattle.ipam_shared.specs.Deeds.{told_by, told_if, Begins, Feeds, Calls, Stops, TellsRoutes, TellsChanges};
+ghost use Rattle.ipam_shared.specs.Settling.{Settles};
 
 use crate::deed::Deed;
 use crate::look::Look;
 use ipam_kept::{
-    BeginFault, Change, FeedFault, Keeper, Kept, Memory, PrepareFault, Route, SinceFault,
+    BeginFault, Change, FeedFault, KeepFault, Keeper, Kept, Memory, PrepareFault, Route, SinceFault,
 };
 use ipam_model::{Entry, Request};
 use ipam_text::Text;
@@ -92,6 +93,31 @@ impl<D: Keeper> Deed<D> for Stop {
 
     fn run(self, kept: &mut Kept<D>, slot: u8) -> Option<Entry> {
         kept.stop(slot)
+    }
+}
+
+/// The keeper makes sure of all rows, unless so many entries are sure already. It answers how many are.
+#[derive(Drop)]
+pub(crate) struct Settle {
+    pub(crate) moment: u64,
+}
+
+impl<D: Keeper> Deed<D> for Settle {
+    type Answer = Result<u64, KeepFault>;
+
+    ghost can = { λ deed. Unit {0} };
+
+    ghost does = { λ deed slot before answer after. Settles D.rows D.settled D.faults D.broken deed.moment before answer after };
+
+    ghost told = { λ answer. [] };
+
+    fn run(self, kept: &mut Kept<D>, slot: u8) -> Result<u64, KeepFault> {
+        let sure = kept.settled();
+        if self.moment <= sure {
+            return Ok(sure);
+        }
+        kept.settle()?;
+        Ok(kept.settled())
     }
 }
 

@@ -16,7 +16,7 @@ mod shared;
 
 pub use faults::{SharedFault, SpentPass};
 pub use ipam_kept::{
-    BeginFault, Change, FeedFault, Keeper, Kept, Memory, PrepareFault, Route, SinceFault,
+    BeginFault, Change, FeedFault, KeepFault, Keeper, Kept, Memory, PrepareFault, Route, SinceFault,
 };
 pub use look::Look;
 pub use pass::Pass;

@@ -1,6 +1,6 @@
 // The kept cluster as the value of a lock.
 ghost use Rattle.ipam_model.specs.History.{slot_of_entry};
-ghost use Rattle.ipam_kept.specs.Feed.{FedFor};
+ghost use Rattle.ipam_kept.specs.Sure.{HeldFor};
 ghost use Rattle.ipam_shared.specs.Origins.{base_opened};
 
 use crate::opened::Opened;
@@ -25,7 +25,7 @@ impl<D: Keeper> Booked for Locked<D> {
 
     ghost first = { λ opened. opened.first };
 
-    ghost stands = { λ locked opened history. FedFor D.rows locked.kept (base_opened opened) history };
+    ghost stands = { λ locked opened history. HeldFor D.rows D.settled locked.kept (base_opened opened) history };
 
     fn entries(&self) -> u64 {
         self.kept.cluster().entries()

@@ -1,5 +1,5 @@
 // A pass.
-ghost use Rattle.std.specs.Prelude.{◌≡◌, ◌+◌, ◌<◌, ◌≤◌, ◌↔◌, IsTrue, IsSome};
+ghost use Rattle.std.specs.Prelude.{◌≡◌, ◌+◌, ◌<◌, ◌≤◌, ◌↔◌, Some, None, IsTrue, IsSome};
 ghost use Rattle.ipam_model.specs.declared.limits.TheConstants.{SLOTS};
 
 use crate::opened::Opened;
@@ -14,6 +14,10 @@ use turn_lock::Turns;
 pub struct Pass {
     pub(crate) turns: Turns<Opened, Entry>,
     pub(crate) running: bool,
+    /// How many entries there were when it was told of all that there was.
+    pub(crate) moment: u64,
+    /// So many entries it knows to be sure.
+    pub(crate) sure: Option<u64>,
 }
 
 impl Model for Pass {
@@ -30,14 +34,15 @@ impl Model for Pass {
 
     ghost use Rattle.ipam_shared.specs.Passes.{value_of, IsPass};
 
-    ghost view = { λ pass. value_of pass.turns };
+    ghost view = { λ pass. value_of pass.turns pass.moment pass.sure };
 
-    ghost invariant = { λ pass. IsPass (value_of pass.turns) pass.running };
+    ghost invariant = { λ pass. IsPass (value_of pass.turns pass.moment pass.sure) pass.running };
 }
 
 impl Pass {
     ghost use Rattle.ipam_model.specs.Right.{IsRight};
-    ghost use Rattle.ipam_shared.specs.Passes.{runs_in};
+    ghost use Rattle.ipam_shared.specs.Passes.{runs_in, IsReached};
+    ghost use Rattle.ipam_shared.specs.Settling.{KnowsSure};
 
     /// Its slot, from 0 to 63. No two passes of a lock have one slot.
     pub fn slot(&self) -> u8
@@ -66,6 +71,47 @@ impl Pass {
         ensures { IsTrue result ↔ IsSome (runs_in self.now) }
     {
         self.running
+    }
+
+    /// Whether it knows all to be sure that it was told of. With that all is sure that was done in its slot.
+    pub fn is_sure(&self) -> bool
+        ensures sure { IsTrue result ↔ KnowsSure self.now }
+        ensures reached { IsReached self.now }
+    {
+        match self.sure {
+            Some(count) => self.moment <= count,
+            None => false,
+        }
+    }
+
+    /// How many entries there were when it was told of all that there was.
+    pub(crate) fn moment(&self) -> u64
+        ensures is { result ≡ self.now.moment }
+        ensures reached { IsReached self.now }
+    {
+        self.moment
+    }
+
+    /// Has it be told of what there was at this moment, and no more.
+    pub(crate) fn tell(&mut self, moment: u64)
+        requires { IsReached (record self.old { moment = moment }) }
+        ensures { self.new ≡ record self.old { moment = moment } }
+    {
+        self.moment = moment;
+    }
+
+    /// Has it know so many entries to be sure.
+    pub(crate) fn know_sure(&mut self, count: u64)
+        ensures { self.new ≡ record self.old { sure = Some count } }
+    {
+        self.sure = Some(count);
+    }
+
+    /// Has it know nothing to be sure any more, until its next settling.
+    pub fn forget_sure(&mut self)
+        ensures { self.new ≡ record self.old { sure = None } }
+    {
+        self.sure = None;
     }
 
     /// Whether all other passes of the lock were joined into it, directly or through joined ones.

@@ -15,17 +15,18 @@ ghost use Rattle.ipam_kept.specs.Feed.{AreChanges, AreRoutes, IsAhead, IsCompact
 ghost use Rattle.ipam_kept.specs.Kept.{LeavesKeeper};
 ghost use Rattle.ipam_kept.specs.Turning.{IsDone, IsFailed, IsRefused};
 ghost use Rattle.ipam_shared.specs.Deeds.{told_by};
-ghost use Rattle.ipam_shared.specs.Passes.{runs_in, IsLawfulPass, IsNewlyKept, IsSamePass, IsSplit, KeptPast, own_base};
+ghost use Rattle.ipam_shared.specs.Passes.{runs_in, IsLawfulPass, IsNewlyKept, IsSamePass, IsSplit, IsTold, KeptPast, own_base};
+ghost use Rattle.ipam_shared.specs.Settling.{IsSure, KnowsSure, SettlesAs, WasSettled};
 ghost use Rattle.ipam_shared.specs.Turning.{OnSpent, UnlessSpent, told_stopped, answer_of, moment_met, SeesNext, WasDone, HadTurn, WaitsFor};
 
 use crate::deed::{Deed, InSlot};
-use crate::deeds::{Begin, Call, Feed, Looks, Routes, RoutesSince, Stop};
+use crate::deeds::{Begin, Call, Feed, Looks, Routes, RoutesSince, Settle, Stop};
 use crate::faults::{SharedFault, SpentPass};
 use crate::locked::Locked;
 use crate::look::Look;
 use crate::pass::Pass;
 use ipam_kept::{
-    BeginFault, Change, FeedFault, Keeper, Kept, Memory, PrepareFault, Route, SinceFault,
+    BeginFault, Change, FeedFault, KeepFault, Keeper, Kept, Memory, PrepareFault, Route, SinceFault,
 };
 use ipam_model::{Entry, Request};
 use ipam_text::Text;
@@ -70,19 +71,23 @@ impl<D: Keeper> Shared<D> {
     /// The kept cluster under a lock, and its first pass, on slot 0, with 2^62 turns. Of the cluster no
     /// entry was made since it was opened. It comes back where there is no memory.
     pub fn new(alloc: Global, kept: Kept<D>) -> Result<(Shared<D>, Pass), Kept<D>>
-        requires { IsNewlyKept D.rows kept }
+        requires { IsNewlyKept D.rows D.settled kept }
         ensures pass { IfOk result (λ r. (r.1.lock ≡ r.0) × (r.1.left ≡ FIRST_TURNS) × (r.1.slot ≡ 0) × (r.1.made ≡ 1) × (r.1.joined ≡ 0)) }
         ensures base { IfOk result (λ r. r.1.base ≡ own_base kept) }
         ensures seen { IfOk result (λ r. r.1.seen ≡ []) }
+        ensures moment { IfOk result (λ r. (r.1.moment ≡ kept.cluster.entries) × (r.1.sure ≡ None)) }
         ensures idle { IfOk result (λ r. runs_in r.1 ≡ None) }
         ensures refused { IfErr result (λ k. k ≡ kept) }
     {
+        let moment = kept.cluster().entries();
         match TurnLock::new(alloc, Locked { kept }) {
             Ok((lock, turns)) => Ok((
                 Shared { lock },
                 Pass {
                     turns,
                     running: false,
+                    moment,
+                    sure: None,
                 },
             )),
             Err(Locked { kept }) => Err(kept),
@@ -104,6 +109,8 @@ impl<D: Keeper> Shared<D> {
         Some(Pass {
             turns,
             running: false,
+            moment: pass.moment,
+            sure: None,
         })
     }
 
@@ -122,7 +129,12 @@ impl<D: Keeper> Shared<D> {
         ensures lawful { IsLawfulPass into.new }
         ensures slot { runs_in into.new ≡ runs_in into.old }
     {
-        let Pass { turns, running: _ } = other;
+        let Pass {
+            turns,
+            running: _,
+            moment: _,
+            sure: _,
+        } = other;
         self.lock.join(&mut into.turns, turns);
     }
 
@@ -134,7 +146,12 @@ impl<D: Keeper> Shared<D> {
         ensures { KeptPast D.rows result pass }
     {
         let Shared { lock } = self;
-        let Pass { turns, running: _ } = pass;
+        let Pass {
+            turns,
+            running: _,
+            moment: _,
+            sure: _,
+        } = pass;
         lock.close(turns).kept
     }
 
@@ -149,13 +166,14 @@ impl<D: Keeper> Shared<D> {
         requires can { W.can deed }
         ensures spent { IsNone result ↔ (pass.old.left ≡ 0) }
         ensures unchanged { IfNone result (pass.new ≡ pass.old) }
-        ensures turned { IfSome result (λ answer. HadTurn D.rows (λ before after. W.does deed pass.old.slot before answer after) pass.old (W.told answer) pass.new) }
+        ensures turned { IfSome result (λ answer. HadTurn D.rows D.settled (λ before after. W.does deed pass.old.slot before answer after) pass.old (W.told answer) pass.new) }
         ensures lawful { IsLawfulPass pass.new }
     {
         let slot = pass.turns.number();
         match self.lock.turn(rt, &mut pass.turns, InSlot { slot, deed }) {
-            Ok((answer, running)) => {
+            Ok((answer, running, entries)) => {
                 pass.running = running;
+                pass.moment = entries;
                 Some(answer)
             }
             Err(InSlot { slot: _, deed: _ }) => None,
@@ -176,6 +194,7 @@ impl<D: Keeper> Shared<D> {
         ensures unchanged { OnSpent result (pass.new ≡ pass.old) }
         ensures left { UnlessSpent result (pass.new.left + 1 ≡ pass.old.left) }
         ensures same { IsSamePass pass.old pass.new }
+        ensures knows { UnlessSpent result (IsTold pass.old pass.new) }
         ensures seen { UnlessSpent result (SeesNext pass.old (told_by result) pass.new) }
         ensures lawful { IsLawfulPass pass.new }
         ensures busy { (result ≡ Err (SharedFault.Inner BeginFault.SlotBusy)) ↔ (0 < pass.old.left × IsSome (runs_in pass.old)) }
@@ -203,6 +222,7 @@ impl<D: Keeper> Shared<D> {
         ensures unchanged { OnSpent result (pass.new ≡ pass.old) }
         ensures left { UnlessSpent result (pass.new.left + 1 ≡ pass.old.left) }
         ensures same { IsSamePass pass.old pass.new }
+        ensures knows { UnlessSpent result (IsTold pass.old pass.new) }
         ensures seen { UnlessSpent result (SeesNext pass.old (told_by result) pass.new) }
         ensures lawful { IsLawfulPass pass.new }
         ensures not_waiting { (result ≡ Err (SharedFault.Inner FeedFault.NotWaiting))
@@ -231,6 +251,7 @@ impl<D: Keeper> Shared<D> {
         ensures unchanged { OnSpent result (pass.new ≡ pass.old) }
         ensures left { UnlessSpent result (pass.new.left + 1 ≡ pass.old.left) }
         ensures same { IsSamePass pass.old pass.new }
+        ensures knows { UnlessSpent result (IsTold pass.old pass.new) }
         ensures seen { UnlessSpent result (SeesNext pass.old (told_by result) pass.new) }
         ensures lawful { IsLawfulPass pass.new }
         ensures idle { (result ≡ Err (SharedFault.Inner PrepareFault.SlotIdle)) ↔ (0 < pass.old.left × runs_in pass.old ≡ None) }
@@ -252,6 +273,7 @@ impl<D: Keeper> Shared<D> {
         ensures unchanged { IfErr result (λ spent. pass.new ≡ pass.old) }
         ensures left { IfOk result (λ told. pass.new.left + 1 ≡ pass.old.left) }
         ensures same { IsSamePass pass.old pass.new }
+        ensures knows { IfOk result (λ told. IsTold pass.old pass.new) }
         ensures seen { IfOk result (λ told. SeesNext pass.old (told_stopped result) pass.new) }
         ensures lawful { IsLawfulPass pass.new }
         ensures idle { (result ≡ Ok None) ↔ (0 < pass.old.left × runs_in pass.old ≡ None) }
@@ -260,6 +282,34 @@ impl<D: Keeper> Shared<D> {
         ensures keeper { IfOk result (λ told. WasDone D.rows LeavesKeeper (told_stopped result) pass.new) }
     {
         self.take_turn(rt, pass, Stop).ok_or(SpentPass)
+    }
+
+    /// Has all be made sure that the pass was told of before, by one turn. Where the settling of another
+    /// pass made sure of it, nothing is asked of the keeper. On `Ok` the pass knows it.
+    pub fn settle<R: Wait>(&self, rt: &R, pass: &mut Pass) -> Result<(), SharedFault<KeepFault>>
+        requires lock { pass.old.lock ≡ self.now }
+        ensures spent { (result ≡ Err SharedFault.SpentPass) ↔ (pass.old.left ≡ 0) }
+        ensures unchanged { OnSpent result (pass.new ≡ pass.old) }
+        ensures left { UnlessSpent result (pass.new.left + 1 ≡ pass.old.left) }
+        ensures same { IsSamePass pass.old pass.new }
+        ensures moment { pass.new.moment ≡ pass.old.moment }
+        ensures seen { UnlessSpent result (SeesNext pass.old [] pass.new) }
+        ensures lawful { IsLawfulPass pass.new }
+        ensures settled { IfOk result (λ done. WasSettled D.rows D.settled pass.new) }
+        ensures knows { IfOk result (λ done. KnowsSure pass.new × IsSure D.rows D.settled pass.new) }
+        ensures not_known { IfErr result (λ fault. pass.new.sure ≡ pass.old.sure) }
+        ensures keeper { UnlessSpent result (WasDone D.rows (SettlesAs D.rows D.settled D.faults D.broken pass.old.moment result) [] pass.new) }
+    {
+        let moment = pass.moment();
+        let settled = answered(self.take_turn(rt, pass, Settle { moment }));
+        pass.tell(moment);
+        match settled {
+            Ok(count) => {
+                pass.know_sure(count);
+                Ok(())
+            }
+            Err(fault) => Err(fault),
+        }
     }
 
     /// The datastore's revision, and its routes by node, then by family and base, at the end of what the
@@ -274,6 +324,7 @@ impl<D: Keeper> Shared<D> {
         ensures unchanged { OnSpent result (pass.new ≡ pass.old) }
         ensures left { UnlessSpent result (pass.new.left + 1 ≡ pass.old.left) }
         ensures same { IsSamePass pass.old pass.new }
+        ensures knows { UnlessSpent result (IsTold pass.old pass.new) }
         ensures seen { UnlessSpent result (SeesNext pass.old [] pass.new) }
         ensures lawful { IsLawfulPass pass.new }
         ensures routes { IfOk result (λ told. AreRoutes pass.new.base pass.new.seen told.0 told.1.items) }
@@ -294,6 +345,7 @@ impl<D: Keeper> Shared<D> {
         ensures unchanged { OnSpent result (pass.new ≡ pass.old) }
         ensures left { UnlessSpent result (pass.new.left + 1 ≡ pass.old.left) }
         ensures same { IsSamePass pass.old pass.new }
+        ensures knows { UnlessSpent result (IsTold pass.old pass.new) }
         ensures seen { UnlessSpent result (SeesNext pass.old [] pass.new) }
         ensures lawful { IsLawfulPass pass.new }
         ensures changes { IfOk result (λ told. AreChanges pass.new.base pass.new.seen revision told.0 told.1.items) }
@@ -317,6 +369,7 @@ impl<D: Keeper> Shared<D> {
         ensures unchanged { IfErr result (λ spent. pass.new ≡ pass.old) }
         ensures left { IfOk result (λ told. pass.new.left + 1 ≡ pass.old.left) }
         ensures same { IsSamePass pass.old pass.new }
+        ensures knows { IfOk result (λ told. IsTold pass.old pass.new) }
         ensures seen { IfOk result (λ told. SeesNext pass.old [] pass.new) }
         ensures lawful { IsLawfulPass pass.new }
         ensures told { IfOk result (λ told. L.tells look (store_at pass.new.base pass.new.seen) told) }

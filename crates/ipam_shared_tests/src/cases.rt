@@ -1,7 +1,7 @@
 // Which case a text is.
 
 use crate::workers::Job;
-use crate::{after, threads, turns, two};
+use crate::{after, settled, threads, turns, two};
 use std::alloc::{AllocError, Global};
 use std::io;
 use std::sync::Wait;
@@ -37,6 +37,7 @@ fn told_of<R: Threads + Wait + Sync>(
         "two" => two::told(rt, alloc),
         "grants" => threads::told_grants(rt, alloc, small(one), small(other)),
         "turns" => threads::told_turns(rt, alloc, Job::Turns(small(other)), small(one)),
+        "settled" => settled::told(rt, alloc, one),
         "kept" => turns::told(alloc, small(one)),
         _ => String::from_str(alloc, "no such case"),
     }

@@ -35,7 +35,7 @@ pub fn each_seventh(alloc: Global, writes: u64) -> Result<Vec<(u64, bool)>, Allo
 /// What the keeper has, opened after so many entries. None where its rows are not opened.
 pub fn open<D: Keeper + Drop>(alloc: Global, keeper: D, first: u64) -> Option<Kept<D>>
     requires { first ≤ 2 ^ 62 }
-    ensures { IfSome result (IsNewlyKept D.rows) }
+    ensures { IfSome result (IsNewlyKept D.rows D.settled) }
 {
     match Kept::open(alloc, keeper, first) {
         Ok(kept) => Some(kept),
@@ -54,7 +54,7 @@ pub fn share<D: Keeper + Drop>(alloc: Global, keeper: D) -> Option<(Shared<D>, P
 }
 
 fn share_kept<D: Keeper + Drop>(alloc: Global, kept: Kept<D>) -> Option<(Shared<D>, Pass)>
-    requires { IsNewlyKept D.rows kept }
+    requires { IsNewlyKept D.rows D.settled kept }
     ensures { IfSome result (λ opened. opened.1.lock ≡ opened.0) }
 {
     match Shared::new(alloc, kept) {

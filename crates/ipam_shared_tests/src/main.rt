@@ -7,6 +7,7 @@ mod cases;
 mod keepers;
 mod passes;
 mod requests;
+mod settled;
 mod team;
 mod threads;
 mod turns;

@@ -4,6 +4,8 @@ use Rattle.ipam_addr.specs.Holding.{first_address, holds_address}
 use Rattle.ipam_addr.specs.Shape.{CidrValue}
 use Rattle.ipam_records.specs.BlockLists.{is_node}
 use Rattle.ipam_show.specs.declared.counting.BlockCount.{BlockCount}
+use Rattle.ipam_show.specs.declared.sums.Amount.{Amount}
+use Rattle.ipam_show.specs.declared.sums.Amount.TheVariants.{Used, Free, Reserved}
 use Rattle.ipam_show.specs.declared.sums.Scope.{Scope}
 use Rattle.ipam_show.specs.declared.sums.Scope.TheVariants.{All, Pool, Node}
 
@@ -27,24 +29,23 @@ is_within (Node node) = is_of_node node.now
 -- ---- how many addresses of them are used, how many could still be given, how many are neither, and how
 -- many blocks they are
 
-abbrev pub used_for : (BlockCount → Bool) → BlockCount → ℕ
-used_for test c = if test c then c.used else 0
-
-abbrev pub free_for : (BlockCount → Bool) → BlockCount → ℕ
-free_for test c = if test c then c.free else 0
-
 -- what is neither assigned nor could be given is reserved
-abbrev pub reserved_for : (BlockCount → Bool) → BlockCount → ℕ
-reserved_for test c = if test c then c.size - c.used - c.free else 0
+abbrev pub amount_of : Amount → BlockCount → ℕ
+amount_of Used c = c.used
+amount_of Free c = c.free
+amount_of Reserved c = c.size - c.used - c.free
+
+abbrev pub amount_for : Amount → (BlockCount → Bool) → BlockCount → ℕ
+amount_for amount test c = if test c then amount_of amount c else 0
 
 abbrev pub used_sum : (BlockCount → Bool) → List BlockCount → ℕ
-used_sum test = sum_by (used_for test)
+used_sum test = sum_by (amount_for Used test)
 
 abbrev pub free_sum : (BlockCount → Bool) → List BlockCount → ℕ
-free_sum test = sum_by (free_for test)
+free_sum test = sum_by (amount_for Free test)
 
 abbrev pub reserved_sum : (BlockCount → Bool) → List BlockCount → ℕ
-reserved_sum test = sum_by (reserved_for test)
+reserved_sum test = sum_by (amount_for Reserved test)
 
 abbrev pub block_sum : (BlockCount → Bool) → List BlockCount → ℕ
 block_sum test = count_by test

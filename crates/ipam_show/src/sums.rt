@@ -1,6 +1,6 @@
 //! What the blocks of a pool, of a node, or all of them come to.
-ghost use Rattle.std.specs.Prelude.{◌≡◌, ◌<◌, ◌^◌, length};
-ghost use Rattle.ipam_show.specs.Scopes.{block_sum, free_for, free_sum, is_of_node, is_within, reserved_for, reserved_sum, used_for, used_sum};
+ghost use Rattle.std.specs.Prelude.{◌≡◌, ◌<◌, ◌^◌, length, sum_by};
+ghost use Rattle.ipam_show.specs.Scopes.{amount_for, amount_of, block_sum, free_sum, is_of_node, is_within, reserved_sum, used_sum};
 
 use crate::counting::BlockCount;
 use ipam_addr::Cidr;
@@ -42,21 +42,7 @@ pub(crate) fn used_sum(scope: &Scope<'_>, counts: &[BlockCount]) -> u64
     ensures sum { result ≡ used_sum (is_within scope.now) counts.now }
     ensures small { result < 2 ^ 48 }
 {
-    let mut total = 0u64;
-    for count in counts {
-        total += u64::from(used_for(scope, count));
-    }
-    total
-}
-
-fn used_for(scope: &Scope<'_>, count: &BlockCount) -> u16
-    ensures { result ≡ used_for (is_within scope.now) count.now }
-{
-    if is_within(scope, count) {
-        count.used
-    } else {
-        0
-    }
+    amount_sum(Amount::Used, scope, counts)
 }
 
 /// How many addresses of them could still be given.
@@ -64,21 +50,7 @@ pub(crate) fn free_sum(scope: &Scope<'_>, counts: &[BlockCount]) -> u64
     requires { length counts.now < 2 ^ 32 }
     ensures { result ≡ free_sum (is_within scope.now) counts.now }
 {
-    let mut total = 0u64;
-    for count in counts {
-        total += u64::from(free_for(scope, count));
-    }
-    total
-}
-
-fn free_for(scope: &Scope<'_>, count: &BlockCount) -> u16
-    ensures { result ≡ free_for (is_within scope.now) count.now }
-{
-    if is_within(scope, count) {
-        count.free
-    } else {
-        0
-    }
+    amount_sum(Amount::Free, scope, counts)
 }
 
 /// How many addresses of them are neither used nor could be given: they are reserved.
@@ -86,23 +58,51 @@ pub(crate) fn reserved_sum(scope: &Scope<'_>, counts: &[BlockCount]) -> u64
     requires { length counts.now < 2 ^ 32 }
     ensures { result ≡ reserved_sum (is_within scope.now) counts.now }
 {
+    amount_sum(Amount::Reserved, scope, counts)
+}
+
+/// Which of the addresses of a block are counted.
+#[derive(Clone, Copy)]
+pub(crate) enum Amount {
+    Used,
+    /// Those that could still be given.
+    Free,
+    /// Those that are neither.
+    Reserved,
+}
+
+fn amount_sum(amount: Amount, scope: &Scope<'_>, counts: &[BlockCount]) -> u64
+    requires { length counts.now < 2 ^ 32 }
+    ensures sum { result ≡ sum_by (amount_for amount (is_within scope.now)) counts.now }
+    ensures small { result < 2 ^ 48 }
+{
     let mut total = 0u64;
     for count in counts {
-        total += u64::from(reserved_for(scope, count));
+        total += u64::from(amount_for(amount, scope, count));
     }
     total
 }
 
-fn reserved_for(scope: &Scope<'_>, count: &BlockCount) -> u16
-    ensures { result ≡ reserved_for (is_within scope.now) count.now }
+fn amount_for(amount: Amount, scope: &Scope<'_>, count: &BlockCount) -> u16
+    ensures { result ≡ amount_for amount (is_within scope.now) count.now }
 {
     if is_within(scope, count) {
-        count
-            .size
-            .saturating_sub(count.used)
-            .saturating_sub(count.free)
+        amount_of(amount, count)
     } else {
         0
+    }
+}
+
+fn amount_of(amount: Amount, count: &BlockCount) -> u16
+    ensures { result ≡ amount_of amount count.now }
+{
+    match amount {
+        Amount::Used => count.used,
+        Amount::Free => count.free,
+        Amount::Reserved => count
+            .size
+            .saturating_sub(count.used)
+            .saturating_sub(count.free),
     }
 }
 

@@ -2,3 +2,4 @@
 pub mod Answers
 pub mod Known
 pub mod Order
+pub mod Refused

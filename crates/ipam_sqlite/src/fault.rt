@@ -40,6 +40,8 @@ pub enum StorageFault {
     Refused,
     /// A reader was asked to write where there is no file.
     NoFile,
+    /// The database found no memory, and let go of changes that were not on the disk yet.
+    NoMemory,
 }
 
 impl fmt::Display for StorageFault {
@@ -67,6 +69,7 @@ impl fmt::Display for StorageFault {
                 "a row of the database is not a text, a whole number and a text, or its key is out of order",
             StorageFault::Refused => "the database refused the row",
             StorageFault::NoFile => "there is no database file",
+            StorageFault::NoMemory => "memory ran out before changes were on the disk",
         })
     }
 }

@@ -3,11 +3,11 @@ ghost use Rattle.std.specs.Prelude.{◌≡◌, ◌≤◌, Err, None, IfOk, IfSom
 ghost use Rattle.ipam_io.specs.Counts.{next_count};
 ghost use Rattle.ipam_keeper.specs.Rows.{Ascend};
 ghost use Rattle.ipam_keeper.specs.Keeping.{OnFailed, UnlessFailed};
-ghost use Rattle.ipam_sqlite.specs.Known.{faults_of, unopened};
+ghost use Rattle.ipam_sqlite.specs.Known.{faults_of, unopened, IsOut};
 ghost use Rattle.ipam_sqlite.specs.Answers.{answer_of};
 
 use crate::fault::{StorageFault, Trouble};
-use crate::opened::Opened;
+use crate::opened::{Opened, Syncs};
 use crate::opening::{Aim, open_database};
 use crate::tally::Tally;
 use ipam_keeper::{KeepFault, Keeper, Row};
@@ -17,9 +17,11 @@ use std::alloc::Global;
 /// A keeper over the table `rows(key TEXT PRIMARY KEY, revision INTEGER NOT NULL, body TEXT NOT
 /// NULL)` of a database file. It does not tell its rows.
 ///
-/// Each change is committed, and on the disk, before its call answers. Each refusal but want of
-/// memory is a fault. Before and after each change the names of the file and its log are looked at:
-/// where one of them no longer leads to the file that was opened, this call and all later ones fail.
+/// When its changes are on the disk is said at its making. Each refusal but want of memory is a fault. Before
+/// and after something is put on the disk the names of the file and its log are looked at: where one of them no
+/// longer leads to the file that was opened, this call and all later ones fail. So they do once a settling
+/// failed, and once a call failed that took back changes that waited for their settling. Such a call is a fault
+/// also where what it wanted was memory.
 pub struct SqliteKeeper<S: Alter> {
     opened: Result<Opened<S>, Trouble>,
     tally: Tally,
@@ -38,15 +40,25 @@ impl<S: Alter + Drop> Drop for SqliteKeeper<S> {
 
 impl SqliteKeeper<FileStore<File>> {
     /// Opens the file, or makes it with the mode 0640 and its table. The file is locked while the
-    /// keeper is there, so a second one on the same file is refused.
+    /// keeper is there, so a second one on the same file is refused. Each change is put on the disk at once.
     ///
     /// Where this finds no memory, each call answers `Memory`. Where it fails otherwise, each call
     /// counts a fault and answers `Failed`, and `why` tells the cause.
     pub fn open(rt: &HostRuntime, path: &str) -> SqliteKeeper<FileStore<File>>
         ensures { faults_of result ≡ 0 }
     {
+        SqliteKeeper::open_with(rt, path, Syncs::AtOnce)
+    }
+
+    /// The same, where it is said when changes are put on the disk.
+    pub fn open_with(rt: &HostRuntime, path: &str, syncs: Syncs) -> SqliteKeeper<FileStore<File>>
+        ensures { faults_of result ≡ 0 }
+    {
         let opened = match open_database(rt, path, Aim::Keep) {
-            Ok(Some(opened)) => Ok(opened),
+            Ok(Some(mut opened)) => {
+                opened.sync(syncs);
+                Ok(opened)
+            }
             Ok(None) => Err(Trouble::Fault(StorageFault::NoFile)),
             Err(trouble) => Err(trouble),
         };
@@ -69,23 +81,42 @@ impl<S: Alter> SqliteKeeper<S> {
 }
 
 impl<S: Alter + Drop> SqliteKeeper<S> {
-    /// Counts the answer of a change. Where the files are gone, they are let go, and no later call
-    /// does anything.
-    fn changed(&mut self, answer: Result<(), Trouble>) -> Result<(), KeepFault>
+    /// Counts the answer of a load or a change. Where the files are gone, or changes that it took are, the
+    /// files are let go, and no later call does anything.
+    fn answered<T>(&mut self, answer: Result<T, Trouble>) -> Result<T, KeepFault>
         ensures answer { result ≡ answer_of answer }
+        ensures out { IsOut self.old → IsOut self.new }
         ensures fault { OnFailed result (faults_of self.new ≡ next_count (faults_of self.old)) }
         ensures no_fault { UnlessFailed result (faults_of self.new ≡ faults_of self.old) }
         ensures never_falls { faults_of self.old ≤ faults_of self.new }
     {
-        if answer == Err(Trouble::Fault(StorageFault::FileGone)) {
-            self.opened = Err(Trouble::Fault(StorageFault::FileGone));
+        if let Err(Trouble::Fault(fault)) = &answer {
+            self.let_go_if_lost(*fault);
         }
         self.tally.counted(answer)
+    }
+
+    /// Lets the files go where a call that failed for this cause found them gone, or took back changes.
+    fn let_go_if_lost(&mut self, fault: StorageFault)
+        ensures out { IsOut self.old → IsOut self.new }
+        ensures tally { self.new.tally ≡ self.old.tally }
+    {
+        let is_lost = match &self.opened {
+            Ok(opened) => fault == StorageFault::FileGone || opened.has_lost(),
+            Err(_) => false,
+        };
+        if is_lost {
+            self.opened = Err(Trouble::Fault(fault));
+        }
     }
 }
 
 impl<S: Alter + Drop> Keeper for SqliteKeeper<S> {
     ghost rows = { λ _. None };
+
+    ghost settled = { λ _. None };
+
+    ghost broken = { IsOut };
 
     ghost faults = { faults_of };
 
@@ -96,6 +127,7 @@ impl<S: Alter + Drop> Keeper for SqliteKeeper<S> {
     fn load(&mut self) -> Result<Vec<Row>, KeepFault>
         ensures ascending { IfOk result (λ loaded. Ascend loaded.items) }
         ensures unopened { IfSome (unopened self.old) (λ fault. result ≡ Err fault) }
+        ensures out { IsOut self.old → IsOut self.new }
         ensures fault { OnFailed result (faults_of self.new ≡ next_count (faults_of self.old)) }
         ensures no_fault { UnlessFailed result (faults_of self.new ≡ faults_of self.old) }
         ensures never_falls { faults_of self.old ≤ faults_of self.new }
@@ -104,11 +136,12 @@ impl<S: Alter + Drop> Keeper for SqliteKeeper<S> {
             Ok(opened) => opened.rows(self.alloc),
             Err(trouble) => Err(*trouble),
         };
-        self.tally.counted(answer)
+        self.answered(answer)
     }
 
     fn put(&mut self, key: &str, revision: u64, body: &str) -> Result<(), KeepFault>
         ensures unopened { IfSome (unopened self.old) (λ fault. result ≡ Err fault) }
+        ensures out { IsOut self.old → IsOut self.new }
         ensures fault { OnFailed result (faults_of self.new ≡ next_count (faults_of self.old)) }
         ensures no_fault { UnlessFailed result (faults_of self.new ≡ faults_of self.old) }
         ensures never_falls { faults_of self.old ≤ faults_of self.new }
@@ -117,11 +150,12 @@ impl<S: Alter + Drop> Keeper for SqliteKeeper<S> {
             Ok(opened) => opened.put(key, revision, body),
             Err(trouble) => Err(*trouble),
         };
-        self.changed(answer)
+        self.answered(answer)
     }
 
     fn remove(&mut self, key: &str) -> Result<(), KeepFault>
         ensures unopened { IfSome (unopened self.old) (λ fault. result ≡ Err fault) }
+        ensures out { IsOut self.old → IsOut self.new }
         ensures fault { OnFailed result (faults_of self.new ≡ next_count (faults_of self.old)) }
         ensures no_fault { UnlessFailed result (faults_of self.new ≡ faults_of self.old) }
         ensures never_falls { faults_of self.old ≤ faults_of self.new }
@@ -130,6 +164,23 @@ impl<S: Alter + Drop> Keeper for SqliteKeeper<S> {
             Ok(opened) => opened.remove(key),
             Err(trouble) => Err(*trouble),
         };
-        self.changed(answer)
+        self.answered(answer)
+    }
+
+    fn settle(&mut self) -> Result<(), KeepFault>
+        ensures unopened { IfSome (unopened self.old) (λ fault. result ≡ Err fault) }
+        ensures breaks { OnFailed result (IsOut self.new) }
+        ensures fault { OnFailed result (faults_of self.new ≡ next_count (faults_of self.old)) }
+        ensures no_fault { UnlessFailed result (faults_of self.new ≡ faults_of self.old) }
+        ensures never_falls { faults_of self.old ≤ faults_of self.new }
+    {
+        let answer = match &mut self.opened {
+            Ok(opened) => opened.settle(),
+            Err(trouble) => Err(*trouble),
+        };
+        if let Err(Trouble::Fault(fault)) = answer {
+            self.opened = Err(Trouble::Fault(fault));
+        }
+        self.tally.counted(answer)
     }
 }

@@ -1,8 +1,10 @@
 //! The keeper over a file that is opened by the first call that needs it.
-ghost use Rattle.std.specs.Prelude.{◌≡◌, ◌≤◌, None, IfOk};
+ghost use Rattle.std.specs.Prelude.{◌≡◌, ◌≤◌, ◌↔◌, None, Err, IfOk};
 ghost use Rattle.ipam_io.specs.Counts.{next_count};
 ghost use Rattle.ipam_keeper.specs.Rows.{Ascend};
-ghost use Rattle.ipam_keeper.specs.Keeping.{OnFailed, UnlessFailed};
+ghost use Rattle.ipam_keeper.specs.Keeping.{OnFailed, OnMemory, UnlessFailed, StaysBroken};
+ghost use Rattle.ipam_sqlite.specs.Answers.{answer_of};
+ghost use Rattle.ipam_sqlite.specs.Refused.{IsRefused, AnswersRefused};
 
 use crate::fault::{StorageFault, Trouble};
 use crate::opened::Opened;
@@ -45,7 +47,7 @@ impl State {
 }
 
 /// A keeper as `SqliteKeeper`, whose file the first load, put or removal opens. It does not tell its
-/// rows.
+/// rows, and puts each change on the disk at once, so that a settling has nothing to do.
 ///
 /// Where a call finds no memory to open the file, it answers `Memory`, and the next one tries again.
 /// Where the opening fails otherwise, or the file or its log is gone, that call and all later ones count
@@ -120,6 +122,7 @@ impl FileKeeper {
 
     /// Opens the file, unless it is open.
     fn ready(&mut self) -> Result<(), Trouble>
+        ensures refused { IsRefused self.old.state → AnswersRefused result self.new.state }
         ensures tally { self.new.tally ≡ self.old.tally }
     {
         match &self.state {
@@ -151,6 +154,7 @@ impl FileKeeper {
     /// The rows of the file, and none where a reader found no file.
     fn rows(&mut self) -> Result<Vec<Row>, Trouble>
         ensures ascending { IfOk result (λ loaded. Ascend loaded.items) }
+        ensures refused { IsRefused self.old.state → AnswersRefused result self.new.state }
         ensures tally { self.new.tally ≡ self.old.tally }
     {
         self.ready()?;
@@ -162,6 +166,8 @@ impl FileKeeper {
 
     /// The answer of a change. Where the files are gone, they are let go, and no later call does anything.
     fn changed(&mut self, answer: Result<(), Trouble>) -> Result<(), KeepFault>
+        ensures answer { result ≡ answer_of answer }
+        ensures refused { IsRefused self.old.state → IsRefused self.new.state }
         ensures fault { OnFailed result (self.new.tally.faults ≡ next_count self.old.tally.faults) }
         ensures no_fault { UnlessFailed result (self.new.tally.faults ≡ self.old.tally.faults) }
         ensures never_falls { self.old.tally.faults ≤ self.new.tally.faults }
@@ -173,6 +179,7 @@ impl FileKeeper {
     }
 
     fn put_row(&mut self, key: &str, revision: u64, body: &str) -> Result<(), Trouble>
+        ensures refused { IsRefused self.old.state → AnswersRefused result self.new.state }
         ensures tally { self.new.tally ≡ self.old.tally }
     {
         self.ready()?;
@@ -183,6 +190,7 @@ impl FileKeeper {
     }
 
     fn remove_row(&mut self, key: &str) -> Result<(), Trouble>
+        ensures refused { IsRefused self.old.state → AnswersRefused result self.new.state }
         ensures tally { self.new.tally ≡ self.old.tally }
     {
         self.ready()?;
@@ -196,6 +204,10 @@ impl FileKeeper {
 impl Keeper for FileKeeper {
     ghost rows = { λ _. None };
 
+    ghost settled = { λ _. None };
+
+    ghost broken = { λ keeper. IsRefused keeper.state };
+
     ghost faults = { λ keeper. keeper.tally.faults };
 
     ghost name = { λ _. 0 };
@@ -203,6 +215,7 @@ impl Keeper for FileKeeper {
     ghost given = { λ before change after. Unit {0} };
 
     fn load(&mut self) -> Result<Vec<Row>, KeepFault>
+        ensures refused { StaysBroken (IsRefused self.old.state) result (IsRefused self.new.state) }
         ensures ascending { IfOk result (λ loaded. Ascend loaded.items) }
         ensures fault { OnFailed result (self.new.tally.faults ≡ next_count self.old.tally.faults) }
         ensures no_fault { UnlessFailed result (self.new.tally.faults ≡ self.old.tally.faults) }
@@ -213,6 +226,7 @@ impl Keeper for FileKeeper {
     }
 
     fn put(&mut self, key: &str, revision: u64, body: &str) -> Result<(), KeepFault>
+        ensures refused { StaysBroken (IsRefused self.old.state) result (IsRefused self.new.state) }
         ensures fault { OnFailed result (self.new.tally.faults ≡ next_count self.old.tally.faults) }
         ensures no_fault { UnlessFailed result (self.new.tally.faults ≡ self.old.tally.faults) }
         ensures never_falls { self.old.tally.faults ≤ self.new.tally.faults }
@@ -222,6 +236,7 @@ impl Keeper for FileKeeper {
     }
 
     fn remove(&mut self, key: &str) -> Result<(), KeepFault>
+        ensures refused { StaysBroken (IsRefused self.old.state) result (IsRefused self.new.state) }
         ensures fault { OnFailed result (self.new.tally.faults ≡ next_count self.old.tally.faults) }
         ensures no_fault { UnlessFailed result (self.new.tally.faults ≡ self.old.tally.faults) }
         ensures never_falls { self.old.tally.faults ≤ self.new.tally.faults }
@@ -229,10 +244,25 @@ impl Keeper for FileKeeper {
         let answer = self.remove_row(key);
         self.changed(answer)
     }
+
+    fn settle(&mut self) -> Result<(), KeepFault>
+        ensures state { self.new.state ≡ self.old.state }
+        ensures refused { (result ≡ Err KeepFault.Failed) ↔ IsRefused self.old.state }
+        ensures takes_no_memory { OnMemory result ⊥ }
+        ensures fault { OnFailed result (self.new.tally.faults ≡ next_count self.old.tally.faults) }
+        ensures no_fault { UnlessFailed result (self.new.tally.faults ≡ self.old.tally.faults) }
+        ensures never_falls { self.old.tally.faults ≤ self.new.tally.faults }
+    {
+        let answer = match &self.state {
+            State::Refused(fault) => Err(Trouble::Fault(*fault)),
+            State::Closed | State::Open(_) => Ok(()),
+        };
+        self.tally.counted(answer)
+    }
 }
 
 /// Opens the file, folds its log into it and closes both. Where there is no file it does nothing.
-pub fn settle(rt: &HostRuntime, path: &str) -> Result<(), StorageFault> {
+pub fn fold_log(rt: &HostRuntime, path: &str) -> Result<(), StorageFault> {
     let mut keeper = FileKeeper::reader(rt, path);
     match keeper.ready() {
         Ok(()) => {}

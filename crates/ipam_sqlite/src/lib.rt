@@ -13,4 +13,5 @@ mod tally;
 
 pub use fault::StorageFault;
 pub use keeper::SqliteKeeper;
-pub use lazy::{FileKeeper, settle};
+pub use lazy::{FileKeeper, fold_log};
+pub use opened::Syncs;

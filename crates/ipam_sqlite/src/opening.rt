@@ -79,7 +79,7 @@ fn watched<S: Alter + Drop>(
     conn: Connection<S>,
 ) -> Result<Option<Opened<S>>, Trouble> {
     let watch = Watch::over(rt, path, found)?;
-    Ok(Some(Opened { conn, watch }))
+    Ok(Some(Opened::over(conn, watch)))
 }
 
 /// A database without its table, for a reader.

@@ -1,6 +1,8 @@
 //! Tests of the keepers over real files. A line of the input is a case `KEEPER|BEFORE|SCRIPT`; the
 //! output has it with what comes of it: of its lines, why the keeper failed at last, of the rows that
-//! the file `db` has once the keeper is dropped, and how many bytes its log has then.
+//! the file `db` has once the keeper is dropped, and how many bytes its log has then. The keepers are `open`,
+//! which is opened at once, `later`, which is too and puts changes on the disk where it settles, and `new` and
+//! `reader`, which open the file when they have to.
 //!
 //! In data/ are files that cases copy. SQLite 3.40.1 wrote `stock.db`, by Python's module, with the rows
 //! `config 12 {}` and `pools 7 {"pools":[]}`, and `dropped.db`, of which it dropped the table and then
@@ -13,8 +15,8 @@ mod play;
 mod telling;
 
 use crate::files::{change_all, clear, tell_size};
-use crate::play::{again, played_at_once, played_lazily};
-use ipam_sqlite::FileKeeper;
+use crate::play::{played_lazily, played_open, tell_reader};
+use ipam_sqlite::{FileKeeper, Syncs};
 use std::alloc::AllocError;
 use std::io;
 
@@ -30,12 +32,13 @@ fn told_of(rt: &HostRuntime, case: &str) -> Result<String, AllocError> {
     clear(rt);
     change_all(rt, before);
     let told = match keeper {
-        "open" => played_at_once(rt, script)?,
+        "open" => played_open(rt, Syncs::AtOnce, script)?,
+        "later" => played_open(rt, Syncs::AtSettle, script)?,
         "reader" => played_lazily(rt, FileKeeper::reader(rt, "db"), script)?,
         _ => played_lazily(rt, FileKeeper::new(rt, "db"), script)?,
     };
     let mut left = String::new(rt.alloc());
-    again(rt, &mut left)?;
+    tell_reader(rt, "db", &mut left)?;
     left.push_str(" | ")?;
     tell_size(rt, "db-wal", &mut left)?;
     format!(in rt.alloc(); "{case}|{told} | {left}")

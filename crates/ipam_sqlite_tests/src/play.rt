@@ -2,14 +2,18 @@
 use crate::files::{change, tell_mode, tell_size};
 use crate::telling::{tell, tell_loaded, tell_rows, tell_why};
 use ipam_keeper::{KeepFault, Keeper};
-use ipam_sqlite::{FileKeeper, SqliteKeeper, StorageFault};
+use ipam_sqlite::{FileKeeper, SqliteKeeper, StorageFault, Syncs};
 use std::alloc::AllocError;
-use std::io;
+use std::{fs, io};
 
 /// Plays the script over a keeper of the file `db` that is opened at once, and answers what comes of
 /// each line and why the keeper failed at last.
-pub(crate) fn played_at_once(rt: &HostRuntime, script: &str) -> Result<String, AllocError> {
-    let mut keeper = SqliteKeeper::open(rt, "db");
+pub(crate) fn played_open(
+    rt: &HostRuntime,
+    syncs: Syncs,
+    script: &str,
+) -> Result<String, AllocError> {
+    let mut keeper = SqliteKeeper::open_with(rt, "db", syncs);
     let told = played(rt, &mut keeper, script);
     let why = keeper.why();
     with_why(told, why)
@@ -35,9 +39,9 @@ fn with_why(
     Ok(told)
 }
 
-/// `put KEY REVISION BODY`, `remove KEY` and `load` are calls of the keeper; `other` opens a second
-/// keeper of `db`, and `again` one that reads it. `mode NAME` and `size NAME` report on a file. Other
-/// lines change files, as `change` does.
+/// `put KEY REVISION BODY`, `remove KEY`, `load` and `settle` are calls of the keeper; `other` opens a
+/// second keeper of `db`, and `again` one that reads it. `left` tells the rows that a kill would leave here.
+/// `mode NAME` and `size NAME` report on a file. Other lines change files, as `change` does.
 fn played<K: Keeper>(rt: &HostRuntime, keeper: &mut K, script: &str) -> Result<String, AllocError> {
     let mut told = String::new(rt.alloc());
     for line in script.split("; ") {
@@ -60,8 +64,10 @@ fn step<K: Keeper>(
         "put" => tell(told, put(keeper, rest)),
         "remove" => tell(told, keeper.remove(rest)),
         "load" => tell_rows(told, keeper.load()),
+        "settle" => tell(told, keeper.settle()),
         "other" => other(rt, told),
-        "again" => again(rt, told),
+        "again" => tell_reader(rt, "db", told),
+        "left" => left(rt, told),
         "mode" => tell_mode(rt, rest, told),
         "size" => tell_size(rt, rest, told),
         _ => tell_change(told, change(rt, word, rest)),
@@ -82,9 +88,21 @@ fn other(rt: &HostRuntime, told: &mut String) -> Result<(), AllocError> {
     tell_loaded(told, rows, why)
 }
 
-/// Tells of a second keeper of the file, which reads.
-pub(crate) fn again(rt: &HostRuntime, told: &mut String) -> Result<(), AllocError> {
-    let mut keeper = FileKeeper::reader(rt, "db");
+/// Tells of a copy of the file and its log, made while the keeper has them.
+fn left(rt: &HostRuntime, told: &mut String) -> Result<(), AllocError> {
+    for (name, copy) in [("db", "x"), ("db-wal", "x-wal")] {
+        let _ = fs::copy(rt, name, copy);
+    }
+    tell_reader(rt, "x", told)
+}
+
+/// Tells of a keeper that reads the file.
+pub(crate) fn tell_reader(
+    rt: &HostRuntime,
+    name: &str,
+    told: &mut String,
+) -> Result<(), AllocError> {
+    let mut keeper = FileKeeper::reader(rt, name);
     let rows = keeper.load();
     let why = keeper.why();
     tell_loaded(told, rows, why)

@@ -1,5 +1,5 @@
 -- A store that keeps its rows keeps them when one is put in or taken out.
-use Rattle.std.proofs.Common.{Result, Ok, Err, OnOk, OnErr, ◌⊎◌, inl, inr, None, IsSome, ◌≡◌, ℕ, ◌+◌, ◌^◌, ◌<◌, ◌≤◌, List, [], length, not, ◌&&◌, ◌||◌, nat_lt, Bool, true, ap, sym, ◌∙◌, arith, refl, subst}
+use Rattle.std.proofs.Common.{Result, Ok, Err, OnOk, OnErr, ◌⊎◌, inl, inr, None, IsSome, ◌≡◌, ◌↔◌, ℕ, ◌+◌, ◌^◌, ◌<◌, ◌≤◌, List, [], length, not, ◌&&◌, ◌||◌, nat_lt, Bool, true, ap, sym, ◌∙◌, arith, refl, subst}
 use Rattle.std.proofs.lemmas.Bool.Decides.{nat_tests}
 use Rattle.std.specs.List.Sorted.{IsStrictlySortedBy}
 use Rattle.std.proofs.lemmas.List.Elements.{All-nil}
@@ -12,7 +12,7 @@ use Rattle.ipam_records.specs.declared.key.Kind.TheVariants as kind
 use Rattle.ipam_records.specs.declared.call.Write.TheVariants.{Put, Remove}
 use Rattle.ipam_records.specs.Key.{key_of}
 use Rattle.ipam_records.specs.KeyOrder.{is_of_kind}
-use Rattle.ipam_records.specs.Datastore.{Datastore, row_key, row_of, with_row, without_row, rows_of_kind, granted, last_revision, most_rows, most_blocks}
+use Rattle.ipam_records.specs.Datastore.{Datastore, row_key, row_of, with_row, without_row, written, rows_of_kind, granted, last_revision, most_rows, most_blocks}
 use Rattle.ipam_records.specs.Sound.{IsRow}
 use Rattle.ipam_store.specs.Shelf.{shelf_of}
 use Rattle.ipam_store.specs.Granted.{IsGranted, IsSoundWrite, HasRoomFor}
@@ -25,7 +25,11 @@ use Rattle.ipam_store.proofs.Shelves.{row_of-shelved, with_row-shelved, without_
 use Rattle.ipam_store.specs.declared.shelf.Shelf.{Shelf}
 use Rattle.ipam_store.specs.declared.shelf.Shelf.TheVariants.{Singles, Blocks, Affinities, Handles}
 use Rattle.ipam_store.specs.Lists.{Lists, all_rows, list_on, with_list, IsOn, AreShelved}
-use Rattle.ipam_store.specs.Keeping.{IsKept}
+use Rattle.ipam_store.specs.Keeping.{IsKept, content_in, lists_in}
+use Rattle.ipam_store.specs.Shape.{StoreValue}
+use Rattle.ipam_store.specs.declared.store.LoadFault.{LoadFault}
+use Rattle.ipam_store.specs.declared.store.LoadFault.TheVariants.{There}
+use Rattle.ipam_store.specs.declared.store.Store.TheInside.{Inside}
 
 pub IsKept-none : (counter : ℕ) → counter ≤ 2 ^ 62 → IsKept (record { singles = []; blocks = []; affinities = []; handles = [] }) counter
 unfolding IsStrictlySortedBy
@@ -106,10 +110,10 @@ later_row old new up row r = record { is_record = r.is_record; some = r.some; gi
 pub later_rows : (old new : ℕ) → old ≤ new → (rows : List (ℕ × Record)) → All (IsRow old) rows → All (IsRow new) rows
 later_rows old new up rows all = λ i d l. later_row old new up _ (all i d l)
 
-pub stored-put : (lists : Lists) → AreShelved lists → (new : ℕ × Record) (s : Shelf) → shelf_of (row_key new) ≡ s → (rows : List (ℕ × Record)) → rows ≡ with_row new (list_on s lists) → all_rows (with_list s rows lists) ≡ with_row new (all_rows lists)
+stored-put : (lists : Lists) → AreShelved lists → (new : ℕ × Record) (s : Shelf) → shelf_of (row_key new) ≡ s → (rows : List (ℕ × Record)) → rows ≡ with_row new (list_on s lists) → all_rows (with_list s rows lists) ≡ with_row new (all_rows lists)
 stored-put lists sh new s on rows e = ap (λ r. all_rows (with_list s r lists)) e ∙ sym (with_row-shelved lists sh new s on)
 
-pub stored-remove : (lists : Lists) → AreShelved lists → (k : Key) (s : Shelf) → shelf_of k ≡ s → (rows : List (ℕ × Record)) → rows ≡ without_row k (list_on s lists) → all_rows (with_list s rows lists) ≡ without_row k (all_rows lists)
+stored-remove : (lists : Lists) → AreShelved lists → (k : Key) (s : Shelf) → shelf_of k ≡ s → (rows : List (ℕ × Record)) → rows ≡ without_row k (list_on s lists) → all_rows (with_list s rows lists) ≡ without_row k (all_rows lists)
 stored-remove lists sh k s on rows e = ap (λ r. all_rows (with_list s r lists)) e ∙ sym (without_row-shelved lists sh k s on)
 
 -- the row has room, or stands for another
@@ -176,7 +180,7 @@ put_fits lists counter kept value s on rows replaced (inl room) = inl room
 put_fits lists counter kept value s on rows replaced (inr there) =
     inr (replaced (subst IsSome (row_of-shelved lists kept.shelved (key_of value) s on) there))
 
-pub put-kept : (lists : Lists) (counter : ℕ) → IsKept lists counter → (revision : ℕ) (value : Record) → IsGranted (store_of lists counter) (Put revision value) → IsSoundWrite (Put revision value) → (s : Shelf) → shelf_of (key_of value) ≡ s → (rows : List (ℕ × Record)) → rows ≡ with_row (revision, value) (list_on s lists) → (IsSome (row_of (key_of value) (list_on s lists)) → length rows ≡ length (list_on s lists)) → (row_of (key_of value) (list_on s lists) ≡ None → length rows ≡ length (list_on s lists) + 1) → IsKept (with_list s rows lists) revision
+put-kept : (lists : Lists) (counter : ℕ) → IsKept lists counter → (revision : ℕ) (value : Record) → IsGranted (store_of lists counter) (Put revision value) → IsSoundWrite (Put revision value) → (s : Shelf) → shelf_of (key_of value) ≡ s → (rows : List (ℕ × Record)) → rows ≡ with_row (revision, value) (list_on s lists) → (IsSome (row_of (key_of value) (list_on s lists)) → length rows ≡ length (list_on s lists)) → (row_of (key_of value) (list_on s lists) ≡ None → length rows ≡ length (list_on s lists) + 1) → IsKept (with_list s rows lists) revision
 put-kept lists counter kept revision value granted sound s on rows e replaced added =
     let grown : length rows ≤ length (list_on s lists) + 1 =
     by_cases (row_of (key_of value) (list_on s lists))
@@ -188,7 +192,7 @@ put-kept lists counter kept revision value granted sound s on rows e replaced ad
     kept-put lists counter kept revision (omega arith) (omega arith) (revision, value) row s on rows e grown
     (put_fits lists counter kept value s on rows replaced facts.may)
 
-pub remove-kept : (lists : Lists) (counter : ℕ) → IsKept lists counter → (revision : ℕ) (k : Key) → IsGranted (store_of lists counter) (Remove revision k) → (s : Shelf) → shelf_of k ≡ s → (rows : List (ℕ × Record)) → rows ≡ without_row k (list_on s lists) → length rows ≤ length (list_on s lists) → IsKept (with_list s rows lists) revision
+remove-kept : (lists : Lists) (counter : ℕ) → IsKept lists counter → (revision : ℕ) (k : Key) → IsGranted (store_of lists counter) (Remove revision k) → (s : Shelf) → shelf_of k ≡ s → (rows : List (ℕ × Record)) → rows ≡ without_row k (list_on s lists) → length rows ≤ length (list_on s lists) → IsKept (with_list s rows lists) revision
 remove-kept lists counter kept revision k granted s on rows e fewer =
     let facts = facts-from_granted (store_of lists counter) (Remove revision k) granted in
     let is : revision ≡ counter + 1 = facts.next.is in
@@ -201,26 +205,52 @@ same_list Blocks lists counter kept = kept
 same_list Affinities lists counter kept = kept
 same_list Handles lists counter kept = kept
 
-same_rows : (s : Shelf) (lists : Lists) → all_rows (with_list s (list_on s lists) lists) ≡ all_rows lists
-same_rows Singles lists = refl
-same_rows Blocks lists = refl
-same_rows Affinities lists = refl
-same_rows Handles lists = refl
-
-pub load-kept : {E : Type 0} (lists : Lists) (counter : ℕ) → IsKept lists counter → (new : ℕ × Record) → IsRow counter new → HasRoomFor (store_of lists counter) new.1 → (s : Shelf) → shelf_of (row_key new) ≡ s → (rows : List (ℕ × Record)) (r : Result (Unit {0}) E) → OnOk r (rows ≡ with_row new (list_on s lists)) → OnOk r (length rows ≡ length (list_on s lists) + 1) → OnErr r (rows ≡ list_on s lists) → IsKept (with_list s rows lists) counter
+load-kept : {E : Type 0} (lists : Lists) (counter : ℕ) → IsKept lists counter → (new : ℕ × Record) → IsRow counter new → HasRoomFor (store_of lists counter) new.1 → (s : Shelf) → shelf_of (row_key new) ≡ s → (rows : List (ℕ × Record)) (r : Result (Unit {0}) E) → OnOk r (rows ≡ with_row new (list_on s lists)) → OnOk r (length rows ≡ length (list_on s lists) + 1) → OnErr r (rows ≡ list_on s lists) → IsKept (with_list s rows lists) counter
 load-kept lists counter kept new row room s on rows (Ok x) e grown none =
     kept-put lists counter kept counter (omega arith) kept.sound.counted new row s on rows e (omega (arith, grown)) (inl room)
 load-kept lists counter kept new row room s on rows (Err x) none grown e =
     subst (λ r. IsKept (with_list s r lists) counter) (sym e) (same_list s lists counter kept)
 
-pub load-stored : {E : Type 0} (lists : Lists) → AreShelved lists → (counter : ℕ) (new : ℕ × Record) (s : Shelf) → shelf_of (row_key new) ≡ s → (rows : List (ℕ × Record)) (r : Result (Unit {0}) E) → OnOk r (rows ≡ with_row new (list_on s lists)) → OnOk r (store_of (with_list s rows lists) counter ≡ record { rows = with_row new (all_rows lists); counter = counter })
+load-stored : {E : Type 0} (lists : Lists) → AreShelved lists → (counter : ℕ) (new : ℕ × Record) (s : Shelf) → shelf_of (row_key new) ≡ s → (rows : List (ℕ × Record)) (r : Result (Unit {0}) E) → OnOk r (rows ≡ with_row new (list_on s lists)) → OnOk r (store_of (with_list s rows lists) counter ≡ record { rows = with_row new (all_rows lists); counter = counter })
 load-stored lists sh counter new s on rows (Ok x) e =
     let same = stored-put lists sh new s on rows e in
     λ i. record { rows = same i; counter = counter }
 load-stored lists sh counter new s on rows (Err x) e = tt
 
-pub load-unchanged : {E : Type 0} (lists : Lists) (counter : ℕ) (s : Shelf) (rows : List (ℕ × Record)) (r : Result (Unit {0}) E) → OnErr r (rows ≡ list_on s lists) → OnErr r (store_of (with_list s rows lists) counter ≡ store_of lists counter)
-load-unchanged lists counter s rows (Ok x) e = tt
-load-unchanged lists counter s rows (Err x) e =
-    let same : all_rows (with_list s rows lists) ≡ all_rows lists = ap (λ r. all_rows (with_list s r lists)) e ∙ same_rows s lists in
-    λ i. record { rows = same i; counter = counter }
+-- ---- the same, of what contracts see of a store
+abbrev rows_at : ℕ → List (ℕ × Record) → Datastore
+rows_at counter rows = record { rows = rows; counter = counter }
+
+module _ (inside : Inside) (view : StoreValue) (view_is : content_in inside ≡ view) where
+  abbrev lists : Lists
+  lists = lists_in inside
+
+  pub load-keeps : {E : Type 0} → IsKept lists inside.counter → (new : ℕ × Record) → IsRow view.store.counter new → HasRoomFor view.store new.1 → (s : Shelf) → shelf_of (row_key new) ≡ s → (rows : List (ℕ × Record)) (r : Result (Unit {0}) E) → OnOk r (rows ≡ with_row new (list_on s lists)) → OnOk r (length rows ≡ length (list_on s lists) + 1) → OnErr r (rows ≡ list_on s lists) → IsKept (with_list s rows lists) inside.counter
+  load-keeps kept new row room s on rows r ok grown err =
+      let here = subst (λ (v : StoreValue). IsRow v.store.counter new) (sym view_is) row in
+      let fits = subst (λ (v : StoreValue). HasRoomFor v.store new.1) (sym view_is) room in
+      load-kept lists inside.counter kept new here fits s on rows r ok grown err
+
+  pub load-stores : {E : Type 0} → AreShelved lists → (new : ℕ × Record) (s : Shelf) → shelf_of (row_key new) ≡ s → (rows : List (ℕ × Record)) (r : Result (Unit {0}) E) → OnOk r (rows ≡ with_row new (list_on s lists)) → OnOk r (store_of (with_list s rows lists) inside.counter ≡ record view.store { rows = with_row new view.store.rows })
+  load-stores sh new s on rows r ok =
+      subst (λ (v : StoreValue). OnOk r (store_of (with_list s rows lists) inside.counter ≡ record v.store { rows = with_row new v.store.rows })) view_is (load-stored lists sh inside.counter new s on rows r ok)
+
+  pub load-there : AreShelved lists → (k : Key) (s : Shelf) → shelf_of k ≡ s → (r : Result (Unit {0}) LoadFault) → ((r ≡ Err There) ↔ IsSome (row_of k (list_on s lists))) → (r ≡ Err There) ↔ IsSome (row_of k view.store.rows)
+  load-there sh k s on r there =
+      subst (λ o. (r ≡ Err There) ↔ IsSome o) (sym (row_of-shelved lists sh k s on) ∙ ap (λ (v : StoreValue). row_of k v.store.rows) view_is) there
+
+  pub put-keeps : IsKept lists inside.counter → (revision : ℕ) (value : Record) → IsGranted view.store (Put revision value) → IsSoundWrite (Put revision value) → (s : Shelf) → shelf_of (key_of value) ≡ s → (rows : List (ℕ × Record)) → rows ≡ with_row (revision, value) (list_on s lists) → (IsSome (row_of (key_of value) (list_on s lists)) → length rows ≡ length (list_on s lists)) → (row_of (key_of value) (list_on s lists) ≡ None → length rows ≡ length (list_on s lists) + 1) → IsKept (with_list s rows lists) revision
+  put-keeps kept revision value granted =
+      put-kept lists inside.counter kept revision value (subst (λ (v : StoreValue). IsGranted v.store (Put revision value)) (sym view_is) granted)
+
+  pub put-stores : AreShelved lists → (revision : ℕ) (value : Record) (s : Shelf) → shelf_of (key_of value) ≡ s → (rows : List (ℕ × Record)) → rows ≡ with_row (revision, value) (list_on s lists) → store_of (with_list s rows lists) revision ≡ written view.store (Put revision value)
+  put-stores sh revision value s on rows e =
+      ap (rows_at revision) (stored-put lists sh (revision, value) s on rows e) ∙ ap (λ (v : StoreValue). written v.store (Put revision value)) view_is
+
+  pub remove-keeps : IsKept lists inside.counter → (revision : ℕ) (k : Key) → IsGranted view.store (Remove revision k) → (s : Shelf) → shelf_of k ≡ s → (rows : List (ℕ × Record)) → rows ≡ without_row k (list_on s lists) → length rows ≤ length (list_on s lists) → IsKept (with_list s rows lists) revision
+  remove-keeps kept revision k granted =
+      remove-kept lists inside.counter kept revision k (subst (λ (v : StoreValue). IsGranted v.store (Remove revision k)) (sym view_is) granted)
+
+  pub remove-stores : AreShelved lists → (revision : ℕ) (k : Key) (s : Shelf) → shelf_of k ≡ s → (rows : List (ℕ × Record)) → rows ≡ without_row k (list_on s lists) → store_of (with_list s rows lists) revision ≡ written view.store (Remove revision k)
+  remove-stores sh revision k s on rows e =
+      ap (rows_at revision) (stored-remove lists sh k s on rows e) ∙ ap (λ (v : StoreValue). written v.store (Remove revision k)) view_is

@@ -52,11 +52,14 @@ fn ask_at(rt: &HostRuntime, address: &str, command: &Command<'_>) -> u8 {
     let mut connector = Connector::new(rt, Address::of(address), Limits::of_call());
     match connector.connect() {
         Some(mut link) => ask_over(rt, command, &mut link).code(),
-        None => {
-            tell_unreached(rt, address);
-            unreached(&mut StdSink::new(io::writer(rt))).code()
-        }
+        None => unreached_at(rt, address),
     }
+}
+
+/// Tells that nobody answers at the address.
+pub(crate) fn unreached_at(rt: &HostRuntime, address: &str) -> u8 {
+    tell_unreached(rt, address);
+    unreached(&mut StdSink::new(io::writer(rt))).code()
 }
 
 /// Asks over the link.

@@ -1,20 +1,25 @@
 //! The program: its commands over standard input and output, and over a database file, and its daemon.
 #![tactic(auto)]
 
+ghost use Rattle.ipam_upkeep.specs.Words.{IsFit, of_upkeep};
+
 mod asking;
+mod new_file;
 mod no_file;
 mod process;
 mod serving;
 mod stored;
 mod telling;
+mod upkeep;
 
 use asking::{ask, asked_of};
 use ipam_client::call;
-use ipam_command::NO_MEMORY;
+use ipam_command::{DONE, NO_MEMORY, WRITE_FAULT};
 use ipam_daemon::Host;
-use ipam_environment::{Database, call_variables, database_named};
-use ipam_io::{StdSink, StdSource};
+use ipam_environment::{Database, call_variables, daemon_named, database_named};
+use ipam_io::{Sink, StdSink, StdSource};
 use ipam_text::Seq;
+use ipam_upkeep::{Upkeep, UpkeepAsk, help_asked, help_of, help_text, upkeep_asked};
 use ipam_words::{Command, read_words};
 use process::{entries_of, words_of};
 use serving::serve_database;
@@ -26,6 +31,7 @@ use std::process::ExitCode;
 use std::thread::Threads;
 use stored::{Use, run_at, run_at_none};
 use telling::tell_unknown;
+use upkeep::{ask_upkeep, back_up, unreserve};
 
 fn main(rt: HostRuntime) -> ExitCode {
     match run(&rt, rt) {
@@ -41,21 +47,81 @@ fn run<R: Host + Files + Net<Listener = TcpListener, Stream = TcpStream> + Sync>
 ) -> Result<u8, AllocError> {
     let words = words_of(rt)?;
     let entries = entries_of(rt)?;
+    if let Some(text) = help_for(rt, &words)? {
+        return Ok(write_help(rt, text.as_str()));
+    }
+    if let Some(asked) = upkeep_asked(&words, daemon_named(&entries)) {
+        return run_upkeep(rt, &threads, &words, &entries, &asked);
+    }
     if let Some(asked) = asked_of(&words, &entries) {
         return Ok(ask(rt, &asked));
     }
-    match read_words(&words) {
+    run_command_of(rt, threads, &words, &entries)
+}
+
+/// Runs the command that the words name.
+fn run_command_of<R: Host + Files + Net<Listener = TcpListener, Stream = TcpStream> + Sync>(
+    rt: &HostRuntime,
+    threads: R,
+    words: &[String],
+    entries: &[Seq<u8>],
+) -> Result<u8, AllocError> {
+    match read_words(words) {
         Some(Command::Serve(address, workers)) => serve_database(
-            rt, threads, &entries, address, workers,
+            rt, threads, entries, address, workers,
         ),
-        Some(Command::Call(address)) => call_at(rt, &entries, address),
+        Some(Command::Call(address)) => call_at(rt, entries, address),
         Some(Command::Get(_) | Command::Show(_) | Command::Routes(_) | Command::Audit(_)) => {
-            run_stored(rt, &threads, &words, &entries, Use::Look)
+            run_stored(rt, &threads, words, entries, Use::Look)
         }
-        Some(_) => run_stored(rt, &threads, &words, &entries, Use::Keep),
+        Some(_) => run_stored(rt, &threads, words, entries, Use::Keep),
         None => {
-            tell_unknown(rt, &words);
-            run_stored(rt, &threads, &words, &entries, Use::Keep)
+            tell_unknown(rt, words);
+            run_stored(rt, &threads, words, entries, Use::Keep)
+        }
+    }
+}
+
+/// What `--help` writes, or `WORD --help` where the help tells of the word.
+fn help_for(rt: &HostRuntime, words: &[String]) -> Result<Option<String>, AllocError> {
+    if let Some(word) = help_asked(words) {
+        return help_of(rt.alloc(), word);
+    }
+    match read_words(words) {
+        Some(Command::Help) => Ok(Some(help_text(rt.alloc())?)),
+        _ => Ok(None),
+    }
+}
+
+fn write_help(rt: &HostRuntime, text: &str) -> u8 {
+    match StdSink::new(io::writer(rt)).write(text.as_bytes()) {
+        Ok(()) => DONE,
+        Err(_) => WRITE_FAULT,
+    }
+}
+
+/// Asks the daemon, or the database where no daemon is named.
+fn run_upkeep<R: Threads + Sync>(
+    rt: &HostRuntime,
+    threads: &R,
+    words: &[String],
+    entries: &[Seq<u8>],
+    asked: &UpkeepAsk<'_>,
+) -> Result<u8, AllocError>
+    requires { IsFit (of_upkeep asked.now.upkeep) }
+{
+    if let Some(address) = asked.daemon {
+        return Ok(ask_upkeep(rt, threads, address, &asked.upkeep));
+    }
+    match asked.upkeep {
+        Upkeep::Audit(_) => run_stored(rt, threads, words, entries, Use::Look),
+        Upkeep::Backup(path) => {
+            let database = database_named(rt.alloc(), entries)?;
+            Ok(back_up(rt, &database, path))
+        }
+        Upkeep::Unreserve(name) => {
+            let database = database_named(rt.alloc(), entries)?;
+            Ok(unreserve(rt, &database, name))
         }
     }
 }

@@ -19,9 +19,13 @@ impl NoFile {
 }
 
 impl Keeper for NoFile {
-    ghost use Rattle.std.specs.Prelude.{None};
+    ghost use Rattle.std.specs.Prelude.{None, ⊤};
 
     ghost rows = { λ _. None };
+
+    ghost settled = { λ _. None };
+
+    ghost broken = { λ _. ⊤ };
 
     ghost faults = { λ keeper. keeper.faults };
 
@@ -40,6 +44,11 @@ impl Keeper for NoFile {
     }
 
     fn remove(&mut self, _key: &str) -> Result<(), KeepFault> {
+        self.faults = self.faults.saturating_add(1);
+        Err(KeepFault::Failed)
+    }
+
+    fn settle(&mut self) -> Result<(), KeepFault> {
         self.faults = self.faults.saturating_add(1);
         Err(KeepFault::Failed)
     }

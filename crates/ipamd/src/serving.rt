@@ -1,9 +1,9 @@
 //! The daemon over the database.
-use crate::telling::{tell_no_path, tell_why};
+use crate::telling::{tell_no_path, tell_reading, tell_why};
 use ipam_daemon::{Host, Opening, Served, new_opening, serve, tell_served};
 use ipam_environment::{Database, database_named};
 use ipam_io::StdSink;
-use ipam_sqlite::{SqliteKeeper, settle};
+use ipam_sqlite::{SqliteKeeper, Syncs, fold_log};
 use ipam_text::Seq;
 use sqlite::Alter;
 use std::alloc::{AllocError, Global};
@@ -42,12 +42,13 @@ fn serve_at<R: Host + Files + Net<Listener = TcpListener, Stream = TcpStream>>(
     address: &str,
     workers: u8,
 ) -> Served {
-    let keeper = SqliteKeeper::open(rt, path);
+    tell_reading(rt, path);
+    let keeper = SqliteKeeper::open_with(rt, path, Syncs::AtSettle);
     if let Some(why) = keeper.why() {
         tell_why(rt, path, why);
     }
     let served = serve_stored(threads, rt.alloc(), keeper, opening, address, workers);
-    let _ = settle(rt, path);
+    let _ = fold_log(rt, path);
     served
 }
 

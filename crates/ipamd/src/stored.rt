@@ -1,6 +1,6 @@
 //! Commands over the database.
 use crate::no_file::NoFile;
-use crate::telling::{tell_no_path, tell_why};
+use crate::telling::{tell_no_path, tell_reading, tell_why};
 use ipam_audit::run_audit;
 use ipam_command::run_command;
 use ipam_io::{StdSink, StdSource};
@@ -30,6 +30,9 @@ pub(crate) fn run_at<R: Threads + Sync>(
     path: &str,
     aim: Use,
 ) -> u8 {
+    if reads_rows(words) {
+        tell_reading(rt, path);
+    }
     let mut keeper = match aim {
         Use::Keep => FileKeeper::new(rt, path),
         Use::Look => FileKeeper::reader(rt, path),
@@ -39,6 +42,14 @@ pub(crate) fn run_at<R: Threads + Sync>(
         tell_why(rt, path, why);
     }
     status
+}
+
+/// Whether the command begins with reading all rows.
+fn reads_rows(words: &[String]) -> bool {
+    match read_words(words) {
+        None | Some(Command::Play | Command::Gen(_) | Command::Help | Command::Version) => false,
+        Some(_) => true,
+    }
 }
 
 /// The same where the environment names a database and no path of one: what asks for its rows fails.

@@ -1,9 +1,14 @@
 //! What is told on standard error: a line for the cause of what standard output tells shortly. Where it
 //! can't be written, nothing else changes.
 use ipam_sqlite::StorageFault;
+use std::fs;
+use std::io::{self, IsTerminal};
+
+/// A database of so many bytes has some 50,000 rows, and reading them takes a while.
+const LARGE: u64 = 16 * 1024 * 1024;
 
 /// The words that begin a command.
-const FIRST_WORDS: [&str; 13] = [
+const FIRST_WORDS: [&str; 15] = [
     "cni",
     "play",
     "gen",
@@ -12,7 +17,9 @@ const FIRST_WORDS: [&str; 13] = [
     "show",
     "routes",
     "release",
+    "unreserve",
     "audit",
+    "backup",
     "serve",
     "call",
     "--help",
@@ -43,6 +50,20 @@ fn begins_command(word: &str) -> bool {
     FIRST_WORDS.contains(&word)
 }
 
+/// Tells a person at a terminal that the rows of a large database are being read.
+pub(crate) fn tell_reading(rt: &HostRuntime, path: &str) {
+    if rt.stderr().is_terminal() && is_large(rt, path) {
+        let _ = eprintln!(rt; "ipam: {path}: reading its rows");
+    }
+}
+
+fn is_large(rt: &HostRuntime, path: &str) -> bool {
+    match fs::metadata(rt, path) {
+        Ok(found) => found.len() >= LARGE,
+        Err(_) => false,
+    }
+}
+
 /// Tells why the database failed.
 pub(crate) fn tell_why(rt: &HostRuntime, path: &str, why: StorageFault) {
     let _ = eprintln!(rt; "ipam: {path}: {why}");
@@ -56,11 +77,23 @@ pub(crate) fn tell_no_path(rt: &HostRuntime) {
 /// Tells that no daemon is asked these words.
 pub(crate) fn tell_unasked(rt: &HostRuntime) {
     let _ = eprintln!(rt;
-        "ipam: a daemon is asked apply, get, show, routes NODE and release NODE CIDR; ipam --help tells the words"
+        "ipam: a daemon is asked apply, get, show, routes NODE, release NODE CIDR, unreserve NAME, audit N and backup FILE; ipam --help tells the words"
     );
 }
 
 /// Tells that nobody answers at the address.
 pub(crate) fn tell_unreached(rt: &HostRuntime, address: &str) {
     let _ = eprintln!(rt; "ipam: no daemon answers at {address:?}");
+}
+
+/// Tells that a backup makes a new file.
+pub(crate) fn tell_there(rt: &HostRuntime, path: &str) {
+    let _ = eprintln!(rt;
+        "ipam: {path}: a backup makes a new file, and this one or its log is there"
+    );
+}
+
+/// Tells why the file of a backup was not made.
+pub(crate) fn tell_unmade(rt: &HostRuntime, path: &str, error: &io::Error) {
+    let _ = eprintln!(rt; "ipam: {path}: the file of the backup is not made: {error}");
 }

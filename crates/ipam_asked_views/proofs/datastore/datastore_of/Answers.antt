@@ -1,5 +1,5 @@
-use Rattle.std.proofs.Common.{◌≤◌, length, sym, subst, rules}
-use Rattle.ipam_asked_views.proofs.Texts.{texts_end, texts_next, texts_none}
+use Rattle.std.proofs.Common.{rules}
+use Rattle.ipam_asked_views.proofs.Texts.{texts_next}
 use Rattle.ipam_asked_views.specs.Datastore.{datastore_of}
 use Rattle.ipam_asked_views.proofs.datastore.datastore_of.Goals as goal
 

@@ -1,7 +1,7 @@
 use Rattle.std.proofs.Common.{◌∷◌, ◌∙◌, refl}
 use Rattle.std.specs.Io.KnownBytes.{prepend_known}
 use Rattle.ipam_serve.specs.Sessions.{Talk, talk_at}
-use Rattle.ipam_serve.specs.Keeping.{CameOf}
+use Rattle.ipam_serve.specs.Keeping.{at_keeper}
 use Rattle.ipam_serve.proofs.Sessions.{talks-none}
 use Rattle.ipam_serve.proofs.session.serve_lines.Goals as goal
 use Rattle.ipam_serve.specs.Lines.{server_at}
@@ -11,6 +11,9 @@ exchange-requires-clause-lock g c = c.loop.invariant.lock ∙ c.requires.lock
 
 pub exchange-requires-clause-rests : goal.exchange-requires-clause-rests
 exchange-requires-clause-rests g c = c.loop.invariant.rests
+
+pub exchange-requires-clause-sure : goal.exchange-requires-clause-sure
+exchange-requires-clause-sure g c = c.loop.invariant.sure
 
 pub loop-preserved : goal.loop-preserved
 loop-preserved g c =
@@ -22,6 +25,7 @@ loop-preserved g c =
       finite = tt;
       lock = c.in-Ok.ensures.lock ∙ c.loop.invariant.lock;
       rests = c.in-Ok.ensures.rests;
+      sure = c.in-Ok.ensures.sure;
       talks = (next.0 ∷ made.0, (between, made.1, next.1));
       reads = c.in-Ok.ensures.reads ∙ c.loop.invariant.reads;
       writes = c.in-Ok.ensures.writes ∙ c.loop.invariant.writes;
@@ -34,7 +38,8 @@ loop-init g c = record {
   finite = tt;
   lock = refl;
   rests = c.requires.rests;
-  talks = talks-none (CameOf g.D.Keeper.rows g.D.Keeper.given g.D.Keeper.faults) (server_at c.args.pass.now (g.G.SessionGate.turns c.args.gate.now) (g.C.Clock.ahead c.args.clock.now))
+  sure = c.requires.sure;
+  talks = talks-none (at_keeper g.D.Keeper.rows g.D.Keeper.settled g.D.Keeper.given g.D.Keeper.faults g.D.Keeper.broken) (server_at c.args.pass.now (g.G.SessionGate.turns c.args.gate.now) (g.C.Clock.ahead c.args.clock.now))
       c.args.opening.now (g.G.SessionGate.lines c.args.gate.now) (g.L.Source.left c.args.link.now) (g.L.Sink.written c.args.link.now) c.new-lines.result c.new-lines.ensures;
   reads = refl;
   writes = refl;

@@ -9,9 +9,9 @@ returns-then-left-lt2-clause-not_begun g c = took-rest c.args.pass.now
 pub returns-in-Ok-clause-begun : goal.returns-in-Ok-clause-begun
 returns-in-Ok-clause-begun g c =
     let enough : 2 ≤ c.args.pass.now.left = rw (← c.left.ensures) c.if-left-lt2.false in
-    took-known c.args.pass.now c.begin.new.pass c.in-Ok.entry _ c.in-Ok.ensures.entry c.in-Ok.ensures.same c.in-Ok.ensures.seen c.in-Ok.ensures.left enough
+    took-known c.args.pass.now c.begin.new.pass c.in-Ok.entry _ c.in-Ok.ensures.entry c.in-Ok.ensures.same c.in-Ok.ensures.seen c.in-Ok.ensures.knows c.in-Ok.ensures.left enough
 
 pub returns-in-Err-clause-not_begun : goal.returns-in-Err-clause-not_begun
 returns-in-Err-clause-not_begun g c =
     let enough : 2 ≤ c.args.pass.now.left = rw (← c.left.ensures) c.if-left-lt2.false in
-    took-err c.args.pass.now c.begin.new.pass c.in-Err.fault c.in-Err.ensures.spent enough c.in-Err.ensures.same c.in-Err.ensures.seen c.in-Err.ensures.left
+    took-err c.args.pass.now c.begin.new.pass c.in-Err.fault c.in-Err.ensures.spent enough c.in-Err.ensures.same c.in-Err.ensures.seen c.in-Err.ensures.knows c.in-Err.ensures.left

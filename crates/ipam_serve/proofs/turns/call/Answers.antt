@@ -12,7 +12,7 @@ returns-in-Ok-clause-called g c =
     let enough : 2 ≤ c.args.pass.now.left = rw (← c.left.ensures) c.if-left-lt2.false in
     rw c.told.ensures
     (called-so g.D.Keeper.given g.D.Keeper.faults c.in-Ok.ensures.turned.before c.in-Ok.ensures.turned.after c.args.pass.now c.turn.new.pass c.in-Ok.entry
-    c.in-Ok.ensures.turned.deed c.in-Ok.ensures.same c.in-Ok.ensures.seen c.in-Ok.ensures.left enough c.in-Ok.ensures.lawful.lawful)
+    c.in-Ok.ensures.turned.deed c.in-Ok.ensures.same c.in-Ok.ensures.seen c.in-Ok.ensures.knows c.in-Ok.ensures.left enough c.in-Ok.ensures.lawful.lawful)
 
 pub returns-in-Err-clause-called : goal.returns-in-Err-clause-called
 returns-in-Err-clause-called g c =
@@ -20,13 +20,13 @@ returns-in-Err-clause-called g c =
     let sees = sees-none c.args.pass.now c.turn.new.pass c.in-Err.fault c.in-Err.ensures.spent enough c.in-Err.ensures.seen in
     waits-called c.args.pass.now c.turn.new.pass c.not_called.result _ c.not_called.ensures.waits
     (λ e. (c.in-Err.ensures.waiting.0 (ap Err e)).1) c.in-Err.ensures.same sees
-    (took-err c.args.pass.now c.turn.new.pass c.in-Err.fault c.in-Err.ensures.spent enough c.in-Err.ensures.same c.in-Err.ensures.seen c.in-Err.ensures.left)
+    (took-err c.args.pass.now c.turn.new.pass c.in-Err.fault c.in-Err.ensures.spent enough c.in-Err.ensures.same c.in-Err.ensures.seen c.in-Err.ensures.knows c.in-Err.ensures.left)
 
 pub returns-in-Err-clause-not_called : goal.returns-in-Err-clause-not_called
 returns-in-Err-clause-not_called g c =
     let enough : 2 ≤ c.args.pass.now.left = rw (← c.left.ensures) c.if-left-lt2.false in
     on-err c.not_called.result
-    (took-err c.args.pass.now c.turn.new.pass c.in-Err.fault c.in-Err.ensures.spent enough c.in-Err.ensures.same c.in-Err.ensures.seen c.in-Err.ensures.left)
+    (took-err c.args.pass.now c.turn.new.pass c.in-Err.fault c.in-Err.ensures.spent enough c.in-Err.ensures.same c.in-Err.ensures.seen c.in-Err.ensures.knows c.in-Err.ensures.left)
 
 pub returns-then-left-lt2-clause-keeper : goal.returns-then-left-lt2-clause-keeper
 returns-then-left-lt2-clause-keeper g c = makes-nothing g.D.Keeper.rows g.D.Keeper.given g.D.Keeper.faults c.args.pass.now
@@ -39,4 +39,4 @@ pub returns-in-Err-clause-keeper : goal.returns-in-Err-clause-keeper
 returns-in-Err-clause-keeper g c =
     let enough : 2 ≤ c.args.pass.now.left = rw (← c.left.ensures) c.if-left-lt2.false in
     makes-none g.D.Keeper.rows g.D.Keeper.given g.D.Keeper.faults c.args.pass.now c.turn.new.pass 1
-    (took-err c.args.pass.now c.turn.new.pass c.in-Err.fault c.in-Err.ensures.spent enough c.in-Err.ensures.same c.in-Err.ensures.seen c.in-Err.ensures.left)
+    (took-err c.args.pass.now c.turn.new.pass c.in-Err.fault c.in-Err.ensures.spent enough c.in-Err.ensures.same c.in-Err.ensures.seen c.in-Err.ensures.knows c.in-Err.ensures.left)

@@ -9,7 +9,7 @@ returns-then-left-lt2-clause-not_fed g c = took-rest c.args.pass.now
 pub returns-in-Ok-clause-fed : goal.returns-in-Ok-clause-fed
 returns-in-Ok-clause-fed g c =
     let enough : 2 ≤ c.args.pass.now.left = rw (← c.left.ensures) c.if-left-lt2.false in
-    fed-so c.args.pass.now c.feed.new.pass c.in-Ok.entry c.args.at c.args.live.now c.in-Ok.ensures.entry c.in-Ok.ensures.same c.in-Ok.ensures.seen c.in-Ok.ensures.left enough c.in-Ok.ensures.lawful.lawful
+    fed-so c.args.pass.now c.feed.new.pass c.in-Ok.entry c.args.at c.args.live.now c.in-Ok.ensures.entry c.in-Ok.ensures.same c.in-Ok.ensures.seen c.in-Ok.ensures.knows c.in-Ok.ensures.left enough c.in-Ok.ensures.lawful.lawful
 
 pub returns-in-Err-clause-fed : goal.returns-in-Err-clause-fed
 returns-in-Err-clause-fed g c =
@@ -17,10 +17,10 @@ returns-in-Err-clause-fed g c =
     let sees = sees-none c.args.pass.now c.feed.new.pass c.in-Err.fault c.in-Err.ensures.spent enough c.in-Err.ensures.seen in
     too-soon-so c.args.pass.now c.feed.new.pass c.args.live.now c.args.at c.not_fed.result _ c.not_fed.ensures.too_soon
     (λ since grace e. let t = (c.in-Err.ensures.too_soon since grace).0 (ap Err e) in (t.1, t.2)) c.requires.waits c.in-Err.ensures.same sees
-    (took-err c.args.pass.now c.feed.new.pass c.in-Err.fault c.in-Err.ensures.spent enough c.in-Err.ensures.same c.in-Err.ensures.seen c.in-Err.ensures.left)
+    (took-err c.args.pass.now c.feed.new.pass c.in-Err.fault c.in-Err.ensures.spent enough c.in-Err.ensures.same c.in-Err.ensures.seen c.in-Err.ensures.knows c.in-Err.ensures.left)
 
 pub returns-in-Err-clause-not_fed : goal.returns-in-Err-clause-not_fed
 returns-in-Err-clause-not_fed g c =
     let enough : 2 ≤ c.args.pass.now.left = rw (← c.left.ensures) c.if-left-lt2.false in
     on-err c.not_fed.result
-    (took-err c.args.pass.now c.feed.new.pass c.in-Err.fault c.in-Err.ensures.spent enough c.in-Err.ensures.same c.in-Err.ensures.seen c.in-Err.ensures.left)
+    (took-err c.args.pass.now c.feed.new.pass c.in-Err.fault c.in-Err.ensures.spent enough c.in-Err.ensures.same c.in-Err.ensures.seen c.in-Err.ensures.knows c.in-Err.ensures.left)

@@ -11,7 +11,7 @@ returns-then-left-lt2-clause-took g c = took-rest c.args.pass.now
 pub returns-in-Ok-clause-took : goal.returns-in-Ok-clause-took
 returns-in-Ok-clause-took g c =
     let enough : 2 ≤ c.args.pass.now.left = rw (← c.left.ensures) c.if-left-lt2.false in
-    took-none c.args.pass.now c.routes_since.new.pass c.in-Ok.ensures.same c.in-Ok.ensures.seen c.in-Ok.ensures.left enough
+    took-none c.args.pass.now c.routes_since.new.pass c.in-Ok.ensures.same c.in-Ok.ensures.seen c.in-Ok.ensures.knows c.in-Ok.ensures.left enough
 
 pub returns-in-Ok-clause-runs : goal.returns-in-Ok-clause-runs
 returns-in-Ok-clause-runs g c = untold-runs c.args.pass.now c.routes_since.new.pass c.in-Ok.ensures.same c.in-Ok.ensures.seen
@@ -24,7 +24,7 @@ returns-in-Ok-clause-told g c =
 pub returns-in-Err-clause-took : goal.returns-in-Err-clause-took
 returns-in-Err-clause-took g c =
     let enough : 2 ≤ c.args.pass.now.left = rw (← c.left.ensures) c.if-left-lt2.false in
-    took-err c.args.pass.now c.routes_since.new.pass c.in-Err.fault c.in-Err.ensures.spent enough c.in-Err.ensures.same c.in-Err.ensures.seen c.in-Err.ensures.left
+    took-err c.args.pass.now c.routes_since.new.pass c.in-Err.fault c.in-Err.ensures.spent enough c.in-Err.ensures.same c.in-Err.ensures.seen c.in-Err.ensures.knows c.in-Err.ensures.left
 
 pub returns-in-Err-clause-runs : goal.returns-in-Err-clause-runs
 returns-in-Err-clause-runs g c =

@@ -1,4 +1,4 @@
-use Rattle.std.proofs.Common.{◌≡◌, None, Ok, Err, refl, ◌∙◌}
+use Rattle.std.proofs.Common.{◌≡◌, [], None, Ok, Err, refl, ◌∙◌, arith}
 use Rattle.ipam_cluster.specs.declared.cluster.Cluster.{Cluster}
 use Rattle.ipam_feed.specs.Shape.{RingValue}
 use Rattle.ipam_kept.specs.Faults.{IsOpening}
@@ -7,23 +7,24 @@ use Rattle.ipam_kept.specs.Rows.{texts_loaded}
 use Rattle.ipam_opening.specs.Opening.{IsFaultOf}
 use Rattle.ipam_kept.proofs.Openings.{were-loaded, why-not}
 use Rattle.ipam_kept.proofs.Standing.{opened-kept}
+use Rattle.ipam_kept.proofs.SureStanding.{all-sure}
 use Rattle.ipam_kept.proofs.kept.Kept.open.Goals as goal
 
 pub returns-in-Ok-clause-opened : goal.returns-in-Ok-clause-opened
 returns-in-Ok-clause-opened g c =
     let both : Cluster × RingValue = (c.in-Ok.cluster, c.in-Ok.ring) in
-    let opening : IsOpening (IsFed c.args.first) (λ rows fault. IsFaultOf (texts_loaded rows) fault) c.load-loaded.result (Ok both) = rw c.in-Ok.is at c.open_loaded.ensures in
-    let (rows, is, fed) = were-loaded (IsFed c.args.first) (λ rows fault. IsFaultOf (texts_loaded rows) fault) c.load-loaded.result both opening in
-    let ascending = rw is at c.load-loaded.ensures.ascending in
-    let told = rw is at c.load-loaded.ensures.told in
-    let load = c.load-loaded.ensures in
+    let opening : IsOpening (IsFed c.args.first) (λ rows fault. IsFaultOf (texts_loaded rows) fault) c.load_sure-loaded.result (Ok both) = rw c.in-Ok.is at c.open_loaded.ensures in
+    let (rows, is, fed) = were-loaded (IsFed c.args.first) (λ rows fault. IsFaultOf (texts_loaded rows) fault) c.load_sure-loaded.result both opening in
+    let ascending = rw is at c.load_sure-loaded.ensures.ascending in
+    let told = rw is at c.load_sure-loaded.ensures.told in
+    let load = c.load_sure-loaded.ensures in
     record {
       loaded = rows.items;
       told = told;
       opens = fed.opens;
       entries = fed.entries;
       idle = fed.idle;
-      stands = opened-kept g.D.Keeper.rows c.args.keeper c.args.first (record { cluster = c.in-Ok.cluster; keeper = c.load-loaded.new.self; doubt = None; ring = c.in-Ok.ring }) rows.items ascending told fed.opens fed.stands refl load.kept fed.fed.counter;
+      stands = opened-kept g.D.Keeper.rows c.args.keeper c.args.first (record { cluster = c.in-Ok.cluster; keeper = c.load_sure-loaded.new.keeper; doubt = None; ring = c.in-Ok.ring; settled = c.args.first }) rows.items ascending told fed.opens fed.stands refl load.kept fed.fed.counter;
       sure = refl;
       same_rows = load.kept;
       no_fault = rw is at load.no_fault;
@@ -33,20 +34,28 @@ returns-in-Ok-clause-opened g c =
 pub returns-in-Ok-clause-fed : goal.returns-in-Ok-clause-fed
 returns-in-Ok-clause-fed g c =
     let both : Cluster × RingValue = (c.in-Ok.cluster, c.in-Ok.ring) in
-    let opening : IsOpening (IsFed c.args.first) (λ rows fault. IsFaultOf (texts_loaded rows) fault) c.load-loaded.result (Ok both) = rw c.in-Ok.is at c.open_loaded.ensures in
-    let (rows, is, fed) = were-loaded (IsFed c.args.first) (λ rows fault. IsFaultOf (texts_loaded rows) fault) c.load-loaded.result both opening in
-    let ascending = rw is at c.load-loaded.ensures.ascending in
-    let told = rw is at c.load-loaded.ensures.told in
+    let opening : IsOpening (IsFed c.args.first) (λ rows fault. IsFaultOf (texts_loaded rows) fault) c.load_sure-loaded.result (Ok both) = rw c.in-Ok.is at c.open_loaded.ensures in
+    let (rows, is, fed) = were-loaded (IsFed c.args.first) (λ rows fault. IsFaultOf (texts_loaded rows) fault) c.load_sure-loaded.result both opening in
+    let ascending = rw is at c.load_sure-loaded.ensures.ascending in
+    let told = rw is at c.load_sure-loaded.ensures.told in
     record {
-      kept_for = opened-kept g.D.Keeper.rows c.args.keeper c.args.first (record { cluster = c.in-Ok.cluster; keeper = c.load-loaded.new.self; doubt = None; ring = c.in-Ok.ring }) rows.items ascending told fed.opens fed.stands refl c.load-loaded.ensures.kept fed.fed.counter;
+      kept_for = opened-kept g.D.Keeper.rows c.args.keeper c.args.first (record { cluster = c.in-Ok.cluster; keeper = c.load_sure-loaded.new.keeper; doubt = None; ring = c.in-Ok.ring; settled = c.args.first }) rows.items ascending told fed.opens fed.stands refl c.load_sure-loaded.ensures.kept fed.fed.counter;
       follows = fed.fed;
     }
 
+pub returns-in-Ok-clause-sure : goal.returns-in-Ok-clause-sure
+returns-in-Ok-clause-sure g c =
+    let both : Cluster × RingValue = (c.in-Ok.cluster, c.in-Ok.ring) in
+    let opening : IsOpening (IsFed c.args.first) (λ rows fault. IsFaultOf (texts_loaded rows) fault) c.load_sure-loaded.result (Ok both) = rw c.in-Ok.is at c.open_loaded.ensures in
+    let (rows, is, fed) = were-loaded (IsFed c.args.first) (λ rows fault. IsFaultOf (texts_loaded rows) fault) c.load_sure-loaded.result both opening in
+    all-sure g.D.Keeper.rows g.D.Keeper.settled (record { cluster = c.in-Ok.cluster; keeper = c.load_sure-loaded.new.keeper; doubt = None; ring = c.in-Ok.ring; settled = c.args.first }) (record { store = c.in-Ok.cluster.store.store; first = c.args.first }) []
+    (returns-in-Ok-clause-fed g c).kept_for (omega arith) (rw is at c.load_sure-loaded.ensures.settled)
+
 pub returns-in-Err-clause-refused : goal.returns-in-Err-clause-refused
 returns-in-Err-clause-refused g c =
-    let load = c.load-loaded.ensures in
+    let load = c.load_sure-loaded.ensures in
     record {
       same_rows = load.kept;
       same = load.same;
-      fault = why-not (IsFed c.args.first) g.D.Keeper.rows g.D.Keeper.faults c.args.keeper c.load-loaded.new.self c.load-loaded.result c.in-Err.fault (rw c.in-Err.is at c.open_loaded.ensures) load.told load.fault load.no_fault;
+      fault = why-not (IsFed c.args.first) g.D.Keeper.rows g.D.Keeper.faults c.args.keeper c.load_sure-loaded.new.keeper c.load_sure-loaded.result c.in-Err.fault (rw c.in-Err.is at c.open_loaded.ensures) load.told load.fault load.no_fault;
     }

@@ -7,10 +7,10 @@ use Rattle.ipam_shared.proofs.shared.Shared.join.Goals as goal
 
 pub invariant_of-into : goal.invariant_of-into
 invariant_of-into g c = let e = c.join.ensures in
-    joined-pass g.D.Keeper.rows c.into.inside.turns c.join.new.into c.into.inside.running c.into.invariant e.same e.seen e.stood
+    joined-pass g.D.Keeper.rows g.D.Keeper.settled c.into.inside.turns c.join.new.into c.into.inside.moment c.into.inside.sure c.into.inside.running c.into.invariant e.same e.seen e.stood
 
 pub returns-clause-slot : goal.returns-clause-slot
-returns-clause-slot g c = let e = c.join.ensures in grown-runs c.into.inside.turns c.join.new.into e.same e.seen ∙ ap runs_in c.into.view_is
+returns-clause-slot g c = let e = c.join.ensures in grown-runs c.into.inside.turns c.join.new.into c.into.inside.moment c.into.inside.sure e.same e.seen ∙ ap runs_in c.into.view_is
 
 pub returns-clause-base : goal.returns-clause-base
 returns-clause-base g c = sym (ap (λ (p : PassValue). p.base) c.other.view_is) ∙ ap base_in c.join.ensures.origin

@@ -1,0 +1,2 @@
+-- How a reservation is taken back.
+pub mod Unreserving

@@ -1,0 +1,2 @@
+-- The upkeep that words name.
+pub mod Words

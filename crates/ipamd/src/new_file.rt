@@ -1,0 +1,154 @@
+//! A database file that a backup makes.
+ghost use Rattle.std.specs.Prelude.{◌≡◌, ◌≤◌};
+ghost use Rattle.ipam_io.specs.Counts.{next_count};
+ghost use Rattle.ipam_keeper.specs.Keeping.{OnFailed, UnlessFailed};
+
+use ipam_backup::Target;
+use ipam_keeper::{KeepFault, Keeper, Row};
+use ipam_sqlite::{FileKeeper, StorageFault};
+use ipam_text::Text;
+use std::alloc::AllocError;
+use std::fs::OpenOptions;
+use std::os::unix::fs::OpenOptionsExt;
+use std::{fs, io};
+
+/// The mode of the file.
+const MODE: u32 = 0o640;
+
+/// Why the file was not made.
+#[derive(Clone, Copy, Debug)]
+pub(crate) enum NotMade {
+    /// The file is there, or a log or journal of its name.
+    There,
+    /// The system refused it.
+    Failed(io::Error),
+    /// There was no memory.
+    Memory,
+}
+
+/// A keeper over a file that was not there before.
+pub(crate) struct NewFile {
+    keeper: FileKeeper,
+    faults: u64,
+}
+
+impl Drop for NewFile {
+    fn drop(self) {
+        let NewFile {
+            keeper: _,
+            faults: _,
+        } = self;
+    }
+}
+
+impl NewFile {
+    /// Makes the file, with no byte in it.
+    pub(crate) fn make(rt: &HostRuntime, path: &str) -> Result<NewFile, NotMade> {
+        match has_leavings(rt, path) {
+            Ok(false) => {}
+            Ok(true) => return Err(NotMade::There),
+            Err(AllocError) => return Err(NotMade::Memory),
+        }
+        match OpenOptions::new()
+            .write(true)
+            .create_new(true)
+            .mode(MODE)
+            .open(rt, path)
+        {
+            Ok(_) => Ok(NewFile {
+                keeper: FileKeeper::new(rt, path),
+                faults: 0,
+            }),
+            Err(error) if error.kind() == io::ErrorKind::AlreadyExists => Err(NotMade::There),
+            Err(error) => Err(NotMade::Failed(error)),
+        }
+    }
+
+    /// Why the last call that failed did so.
+    pub(crate) fn why(&self) -> Option<StorageFault> {
+        self.keeper.why()
+    }
+
+    /// Counts an answer that is a failure.
+    fn counted<T>(&mut self, answer: Result<T, KeepFault>) -> Result<T, KeepFault>
+        ensures answer { result ≡ answer }
+        ensures keeper { self.new.keeper ≡ self.old.keeper }
+        ensures fault { OnFailed result (self.new.faults ≡ next_count self.old.faults) }
+        ensures no_fault { UnlessFailed result (self.new.faults ≡ self.old.faults) }
+        ensures never_falls { self.old.faults ≤ self.new.faults }
+    {
+        match answer {
+            Ok(value) => Ok(value),
+            Err(KeepFault::Memory) => Err(KeepFault::Memory),
+            Err(KeepFault::Failed) => {
+                self.faults = self.faults.saturating_add(1);
+                Err(KeepFault::Failed)
+            }
+        }
+    }
+}
+
+/// Whether there is a log or a journal that a file of this name had.
+fn has_leavings(rt: &HostRuntime, path: &str) -> Result<bool, AllocError> {
+    let log = Text::of(format!(in rt.alloc(); "{path}-wal")?);
+    let journal = Text::of(format!(in rt.alloc(); "{path}-journal")?);
+    Ok(is_there(rt, log.as_str()) || is_there(rt, journal.as_str()))
+}
+
+fn is_there(rt: &HostRuntime, path: &str) -> bool {
+    fs::symlink_metadata(rt, path).is_ok()
+}
+
+/// Removes the file that was made and its log, as far as that can be done.
+pub(crate) fn unmake(rt: &HostRuntime, path: &str) {
+    let _ = fs::remove_file(rt, path);
+    if let Ok(log) = format!(in rt.alloc(); "{path}-wal") {
+        let _ = fs::remove_file(rt, log.as_str());
+    }
+}
+
+impl Keeper for NewFile {
+    ghost use Rattle.std.specs.Prelude.{None};
+    ghost use Rattle.ipam_sqlite.specs.Refused.{IsRefused};
+
+    ghost rows = { λ _. None };
+
+    ghost settled = { λ _. None };
+
+    ghost broken = { λ file. IsRefused file.keeper.state };
+
+    ghost faults = { λ file. file.faults };
+
+    ghost name = { λ _. 0 };
+
+    ghost given = { λ before change after. Unit {0} };
+
+    fn load(&mut self) -> Result<Vec<Row>, KeepFault> {
+        let answer = self.keeper.load();
+        self.counted(answer)
+    }
+
+    fn put(&mut self, key: &str, revision: u64, body: &str) -> Result<(), KeepFault> {
+        let answer = self.keeper.put(key, revision, body);
+        self.counted(answer)
+    }
+
+    fn remove(&mut self, key: &str) -> Result<(), KeepFault> {
+        let answer = self.keeper.remove(key);
+        self.counted(answer)
+    }
+
+    fn settle(&mut self) -> Result<(), KeepFault> {
+        let answer = self.keeper.settle();
+        self.counted(answer)
+    }
+}
+
+impl Target for NewFile {
+    ghost closed = { λ _. Unit {0} };
+
+    fn close(&mut self) -> Result<(), KeepFault> {
+        let answer = self.keeper.close();
+        self.counted(answer)
+    }
+}

@@ -1,0 +1,150 @@
+//! An audit over a daemon, a backup, and a reservation that is taken back.
+ghost use Rattle.ipam_records.specs.Sound.{IsName};
+ghost use Rattle.ipam_upkeep.specs.Words.{IsFit, of_upkeep};
+
+use crate::asking::unreached_at;
+use crate::new_file::{NewFile, NotMade, unmake};
+use crate::no_file::NoFile;
+use crate::telling::{tell_no_path, tell_reading, tell_there, tell_unmade, tell_why};
+use ipam_asked_audit::audit;
+use ipam_backup::{back_up_asked, back_up_kept};
+use ipam_client::{Address, Connector, Connects, Limits};
+use ipam_environment::Database;
+use ipam_io::{Link, StdSink};
+use ipam_keeper::Keeper;
+use ipam_operator::{End, tell};
+use ipam_sqlite::FileKeeper;
+use ipam_upkeep::Upkeep;
+use std::io;
+use std::thread::Threads;
+
+/// Asks the daemon at the address, and answers the exit status. `threads` is the runtime too: what makes threads.
+pub(crate) fn ask_upkeep<R: Threads + Sync>(
+    rt: &HostRuntime,
+    threads: &R,
+    address: &str,
+    upkeep: &Upkeep<'_>,
+) -> u8
+    requires { IsFit (of_upkeep upkeep.now) }
+{
+    let mut connector = Connector::new(rt, Address::of(address), Limits::of_call());
+    match connector.connect() {
+        Some(mut link) => ask_over(rt, threads, upkeep, &mut link),
+        None => unreached_at(rt, address),
+    }
+}
+
+/// Asks over the link.
+fn ask_over<R: Threads + Sync, L: Link>(
+    rt: &HostRuntime,
+    threads: &R,
+    upkeep: &Upkeep<'_>,
+    link: &mut L,
+) -> u8
+    requires { IsFit (of_upkeep upkeep.now) }
+{
+    let mut sink = StdSink::new(io::writer(rt));
+    match upkeep {
+        Upkeep::Audit(workers) => audit(threads, rt.alloc(), &mut sink, link, *workers).code(),
+        Upkeep::Unreserve(name) => {
+            ipam_operator::unreserve(rt.alloc(), &mut sink, link, name).code()
+        }
+        Upkeep::Backup(path) => match new_file(rt, path) {
+            Ok(mut file) => {
+                let end = back_up_asked(rt.alloc(), &mut sink, link, &mut file);
+                finished(rt, path, file, end)
+            }
+            Err(status) => status,
+        },
+    }
+}
+
+/// Removes the reservation of this name from the database, and answers the exit status.
+pub(crate) fn unreserve(rt: &HostRuntime, database: &Database, name: &str) -> u8
+    requires { IsName name.now }
+{
+    match database {
+        Database::File(path) => {
+            tell_reading(rt, path.as_str());
+            let mut keeper = FileKeeper::new(rt, path.as_str());
+            let status = unreserve_kept(rt, &mut keeper, name);
+            tell_cause(rt, path.as_str(), &keeper);
+            status
+        }
+        Database::NoPath => {
+            tell_no_path(rt);
+            unreserve_kept(rt, &mut NoFile::new(), name)
+        }
+    }
+}
+
+fn unreserve_kept<D: Keeper>(rt: &HostRuntime, keeper: &mut D, name: &str) -> u8
+    requires { IsName name.now }
+{
+    let mut sink = StdSink::new(io::writer(rt));
+    ipam_unreserve::unreserve(rt.alloc(), &mut sink, keeper, name).code()
+}
+
+/// Puts the rows of the database into a new one at the path, and answers the exit status.
+pub(crate) fn back_up(rt: &HostRuntime, database: &Database, path: &str) -> u8 {
+    match database {
+        Database::File(source) => {
+            tell_reading(rt, source.as_str());
+            let mut keeper = FileKeeper::reader(rt, source.as_str());
+            let status = back_up_from(rt, &mut keeper, path);
+            tell_cause(rt, source.as_str(), &keeper);
+            status
+        }
+        Database::NoPath => {
+            tell_no_path(rt);
+            back_up_from(rt, &mut NoFile::new(), path)
+        }
+    }
+}
+
+fn back_up_from<D: Keeper>(rt: &HostRuntime, from: &mut D, path: &str) -> u8 {
+    match new_file(rt, path) {
+        Ok(mut file) => {
+            let mut sink = StdSink::new(io::writer(rt));
+            let end = back_up_kept(rt.alloc(), &mut sink, from, &mut file);
+            finished(rt, path, file, end)
+        }
+        Err(status) => status,
+    }
+}
+
+/// Tells why the last call that failed did so, if one did.
+fn tell_cause(rt: &HostRuntime, path: &str, keeper: &FileKeeper) {
+    if let Some(why) = keeper.why() {
+        tell_why(rt, path, why);
+    }
+}
+
+/// The file that is made for a backup, or the exit status where none is.
+fn new_file(rt: &HostRuntime, path: &str) -> Result<NewFile, u8> {
+    let mut sink = StdSink::new(io::writer(rt));
+    match NewFile::make(rt, path) {
+        Ok(file) => Ok(file),
+        Err(NotMade::There) => {
+            tell_there(rt, path);
+            Err(tell(&mut sink, "file exists\n", End::Refused).code())
+        }
+        Err(NotMade::Failed(error)) => {
+            tell_unmade(rt, path, &error);
+            Err(tell(&mut sink, "keeper fault\n", End::KeeperFault).code())
+        }
+        Err(NotMade::Memory) => Err(End::NoMemory.code()),
+    }
+}
+
+/// Leaves the file where the backup is whole and told, and removes it else.
+fn finished(rt: &HostRuntime, path: &str, file: NewFile, end: End) -> u8 {
+    if let Some(why) = file.why() {
+        tell_why(rt, path, why);
+    }
+    drop(file);
+    if end != End::Done {
+        unmake(rt, path);
+    }
+    end.code()
+}
