@@ -128,7 +128,7 @@ def questions(draw, blocks):
     yield ["apply"], json.dumps(reservation("x", ["10.50.0.0/24", "10.0.0.9"]))
     for name in ("x", "x", "r", "none"):
         yield ["unreserve", name], ""
-        yield ["get", "reservations"], ""
+        yield ["show", "10.0.0.9"], ""
     yield ["apply"], json.dumps(pool("w", "10.0.0.1/24"))
     yield ["apply"], "{"
     yield ["apply"], ""
