@@ -13,9 +13,9 @@ Run it from the top of the repository: python3 tools/tables/address_table.py
 
 import ipaddress
 import random
-from pathlib import Path
 
-OUT = Path(__file__).resolve().parents[2] / "crates/ipam_leaf_tests"
+from table_lines import put
+
 IPV6_LINES = 340
 IPV4_LINES = 120
 
@@ -135,12 +135,6 @@ def lines(texts, count, version):
         made.append(f"addr|{text}|{want}")
 
 
-def put(path, made):
-    """Puts the lines in front of the file's lines of other kinds."""
-    others = [line for line in path.read_text().split("\n") if not line.startswith("addr|")]
-    path.write_text("\n".join(made + others))
-
-
 def main():
     rng = random.Random(20260101)
     table = []
@@ -148,8 +142,7 @@ def main():
         made = lines(texts(rng), count, version)
         print(f"IPv{version}", len(made), "lines,", sum(line.endswith("|!") for line in made), "refused")
         table += made
-    put(OUT / "stdin", [line.rpartition("|")[0] for line in table])
-    put(OUT / "stdout", table)
+    put("ipam_leaf_tests", ["addr"], [line.rpartition("|")[::2] for line in table])
 
 
 if __name__ == "__main__":

@@ -1,5 +1,5 @@
 #!/usr/bin/env python3
-"""Writes the input and the output of crates/ipam_cni_tests: CNI calls with one thing broken each, and their replies.
+"""Writes scenarios of crates/ipam_command_tests: CNI calls with one thing broken each, and their replies.
 
 In each call one thing is broken: a member, a variable, a version or the input (the calls of
 tools/tables/cni_table.py with code and details), the rows, or what the call asks of the rows. This script states
@@ -10,11 +10,9 @@ Run it from the top of the repository: python3 tools/tables/broken_calls.py
 """
 
 import json
-from pathlib import Path
 
 from cni_table import GONE, good_config, good_env, stated_calls, text_of, with_member, with_variable
-
-OUT = Path(__file__).resolve().parents[2] / "crates/ipam_cni_tests"
+from scenarios import replace
 
 MESSAGES = {
     1: "incompatible CNI version",
@@ -46,7 +44,7 @@ def refusal(version, code, details):
 def call(env, stdin, reply):
     pairs = "¦".join(f"{name}={value}" for name, value in env)
     assert "⇒" not in pairs + stdin and "\n" not in pairs + stdin
-    return [f"bare {pairs}⇒{stdin}", f"= {reply}"]
+    return [f"bare cni⇒{pairs}⇒{stdin}", f"= {reply}"]
 
 
 def unchanged(lines):
@@ -272,21 +270,14 @@ def wish_scenarios():
         yield scenario(f"There is {title}", rows(changes) + unchanged(call(env, stdin, refusal(version, code, details))))
 
 
-def told_of(scenario):
-    """The line that is told of a scenario: its title, and how many answers it has."""
-    return f"{scenario.splitlines()[0]} {scenario.count(chr(10) + '= ')}\n"
-
-
 def main():
     stated = list(stated_scenarios())
     made_well = list(good_scenario())
     broken = sum(count for _, count in stated)
     scenarios = [text for text, _ in stated] + made_well + list(row_scenarios()) + list(wish_scenarios())
     calls, over_rows = broken + len(GOOD_REPLIES), len(BROKEN_ROWS) + len(BROKEN_WISHES)
-    table = "\n\n".join(scenarios) + "\n"
-    assert table.count("\nbare ") == calls + over_rows
-    (OUT / "stdin").write_text(table)
-    (OUT / "stdout").write_text("".join(map(told_of, scenarios)))
+    assert sum(text.count("\nbare ") for text in scenarios) == calls + over_rows
+    replace(("Each is refused with the code ", "Rows have ", "There is ", *made_well), scenarios)
     print(f"{broken} calls with one thing broken, {len(GOOD_REPLIES)} without, and {over_rows} over rows")
 
 

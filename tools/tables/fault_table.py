@@ -4,8 +4,8 @@
 Stops: four requests race in four slots, an ADD on each of two nodes, the release of a block and a
 collection, round by round. For each turn of theirs, and for each of `stop`, `fail` and `lose` in its
 place, the others go on to their ends. Then everything is stopped and opened again, and both handles are
-deleted. The second allocator has to leave no owner. A row of the table is the run, a sign for each
-line of its script.
+deleted. The second allocator has to leave no owner. The table has the script of each run, and the last line
+of its journal.
 
 Doubts: a call by itself of which a write fails, done or not. The table has its reply, the replies to the
 calls after it, and the rows that are left.
@@ -23,11 +23,10 @@ TOP = Path(__file__).resolve().parents[2]
 sys.path.append(str(TOP / "tools/second"))
 # pylint: disable=wrong-import-position
 from play_table import POOLS, add, begin, delete
-from resource_table import escaped
+from scenarios import replace
 from second_allocator import Script, compact
 from second_records import Block
 
-OUT = TOP / "crates/ipam_fault_tests"
 LIVE = '["n.c2"]'
 
 # ---- stops
@@ -42,6 +41,7 @@ BEGUN = POOLS + (
 LINES = {str(slot): f"turn {slot}\n" for slot in range(4)}
 LINES |= {"w": f"feed 3 {LIVE}\n", "r": "restart\n", "x": delete("n.c1"), "y": delete("n.c2")}
 LINES |= {"c": begin(0, '{"collect":{"live":[]}}'), "z": "feed 0 []\n"}
+NO_OWNER = "No stop and no failure in the place of a turn leaves an owner."
 IN_PLACE = {"stop": "efgh", "fail": "ijkl", "lose": "mnop"}
 for word, signs in IN_PLACE.items():
     LINES |= {sign: f"{word} {slot}\n" for slot, sign in enumerate(signs)}
@@ -90,6 +90,11 @@ class Run:
         last = self.script.cluster.journal[-1]
         assert last.endswith('"items":[]}}') and not self.slots, last
 
+    def told(self):
+        """The run as a command of which the last line is told."""
+        script = BEGUN + "".join(map(LINES.get, self.signs))
+        return f"last play⇒⇒{script.replace(chr(10), '␤')}\n= 0 {self.script.cluster.journal[-1]}"
+
 
 def stops():
     whole = Run()
@@ -107,7 +112,7 @@ def stops():
             run.add(signs[slot])
             run.follow(turns[place + 1 :])
             run.clean()
-            runs.append(run.signs)
+            runs.append(run)
     return turns, runs
 
 
@@ -213,33 +218,16 @@ def write_states(place):
 # ---- the files
 
 
-def constant(name, text):
-    return f'\npub(crate) const {name}: &str = "\\\n{escaped(text)}\\\n";\n'
-
-
-def write(name, about, text):
-    head = "// Written by tools/tables/fault_table.py: change that, and not this file.\n"
-    (OUT / f"src/{name}.rt").write_text(f"{head}// {about}\n{text}")
-
-
-def told_of(scenario):
-    """The line that is written of a scenario: its title, and how many lines come of it."""
-    return f"{scenario.splitlines()[0]} {scenario.count(chr(10) + '= ')}\n"
-
-
 def main():
     if sys.argv[1:2] == ["--states"]:
         write_states(Path(sys.argv[2]))
         return
     turns, runs = stops()
-    signs = [f"{sign}{line}" for sign, line in LINES.items()]
-    text = constant("BEGUN", BEGUN) + constant("LINES", "".join(f"{one}‡" for one in signs))
-    text += constant("RUNS", "\n".join(runs))
-    write("stop_table", "Runs with a stop in the place of each turn, a sign for each line.", text)
     scenarios = doubts()
-    (OUT / "stdin").write_text("\n".join(scenarios))
-    (OUT / "stdout").write_text("".join(map(told_of, scenarios)))
-    print(f"{len(turns)} turns, {len(runs)} runs, {sum(map(len, runs))} signs; {len(scenarios)} doubts")
+    whole = "\n".join([NO_OWNER, *(run.told() for run in runs)])
+    replace((NO_OWNER, "Write "), [text.rstrip("\n") for text in scenarios] + [whole])
+    signs = sum(len(run.signs) for run in runs)
+    print(f"{len(turns)} turns, {len(runs)} runs, {signs} signs; {len(scenarios)} doubts")
 
 
 if __name__ == "__main__":

@@ -1,5 +1,5 @@
 #!/usr/bin/env python3
-"""Writes crates/ipam_select_tests/src/table_tests.rt: selector texts and what must be read from each.
+"""Writes the lines `selector|..` of stdin and stdout of crates/ipam_leaf_tests: selector texts and what must be read from each.
 
 The parser, the printer and the matcher below were written only from the grammar. A line has a text,
 the printed form of what it is read as, and `y` or `n` for each of three lists of labels. A text that is
@@ -10,9 +10,9 @@ Run it from the top of the repository: python3 tools/tables/selector_table.py
 
 import random
 import re
-from pathlib import Path
 
-OUT = Path(__file__).resolve().parents[2] / "crates/ipam_select_tests/src/table_tests.rt"
+from table_lines import put
+
 RANDOM_LINES = 90
 KEY = re.compile(r"[A-Za-z0-9_./-]+")
 TEXT_MAX, KEY_MAX, VALUE_MAX, DEPTH_MAX = 1024, 317, 253, 32
@@ -474,120 +474,13 @@ def all_texts():
         yield damaged(rng, text) if n % 3 == 2 else text
 
 
-def escaped(text):
-    text = text.replace("\\", "\\\\").replace('"', '\\"').replace("\t", "\\t")
-    # after a line's end in the source the blanks in front would be dropped
-    return "\\x20" + text[1:] if text.startswith(" ") else text
-
-
-def list_source(group):
-    """The line that makes one list, laid out as the formatter does."""
-    if not group:
-        return "    lists.push(labels(alloc, &[])?)?;"
-    pairs = "".join(f'            ("{key}", "{value}"),\n' for key, value in group)
-    return f"    lists.push(labels(\n        alloc,\n        &[\n{pairs}        ],\n    )?)?;"
-
-
 def main():
-    lines, seen = [], set()
-    for text in all_texts():
-        if text not in seen and "⇒" not in text and "\n" not in text:
-            seen.add(text)
-            lines.append(escaped(f"{text}⇒{answer(text)}"))
-    labels = "\n".join(list_source(group) for group in LABELS)
-    source = TEMPLATE.replace("LINES", "\\n\\\n".join(lines)).replace("COUNT", str(len(lines))).replace("LISTS", labels)
-    OUT.write_text(source)
-    good = sum("⇒form" not in line and "⇒long" not in line for line in lines)
-    print(f"{len(lines)} lines, {good} of them good, {sum(l.endswith('⇒long') for l in lines)} long")
+    texts = [text for text in dict.fromkeys(all_texts()) if "⇒" not in text and "\n" not in text]
+    put("ipam_leaf_tests", ["selector"], [(f"selector|{text}", answer(text)) for text in texts])
+    answers = [answer(text) for text in texts]
+    good = len(texts) - answers.count("form") - answers.count("long")
+    print(f"{len(texts)} lines, {good} of them good, {answers.count('long')} long")
 
-
-TEMPLATE = """// Written by tools/tables/selector_table.py: change that, and not this file.
-// Each line has a text, the printed form of what it is read as, and whether it admits each of three
-// lists of labels; or `form` or `long`, where the text is refused.
-use ipam_select::{SelectFault, Selector, push_selector};
-use ipam_text::Text;
-use std::alloc::{AllocError, Global};
-use std::test::Fail;
-
-const TABLE: &str = "\\
-LINES\\n\\
-";
-
-type Labels = Vec<(Text, Text)>;
-
-fn labels(alloc: Global, pairs: &[(&str, &str)]) -> Result<Labels, AllocError> {
-    let mut all = Vec::new(alloc);
-    for (key, value) in pairs {
-        let key = Text::copied(alloc, key)?;
-        all.push((key, Text::copied(alloc, value)?))?;
-    }
-    Ok(all)
-}
-
-fn lists(alloc: Global) -> Result<Vec<Labels>, AllocError> {
-    let mut lists = Vec::new(alloc);
-LISTS
-    Ok(lists)
-}
-
-// What the line of the table has for a selector that was read.
-fn described(alloc: Global, selector: &Selector, lists: &[Labels]) -> Result<String, AllocError> {
-    let mut out = String::new(alloc);
-    push_selector(&mut out, selector)?;
-    out.push_str("⇒")?;
-    for labels in lists {
-        out.push_str(if selector.admits(labels) { "y" } else { "n" })?;
-    }
-    if !selector.is_sound() {
-        out.push_str(" unsound")?;
-    }
-    Ok(out)
-}
-
-// What the line of the table has for the text.
-fn answer(alloc: Global, text: &[u8], lists: &[Labels]) -> Result<String, AllocError> {
-    match Selector::read(alloc, text) {
-        Ok(selector) => described(alloc, &selector, lists),
-        Err(SelectFault::Form) => String::from_str(alloc, "form"),
-        Err(SelectFault::Long) => String::from_str(alloc, "long"),
-        Err(SelectFault::Memory) => String::from_str(alloc, "memory"),
-    }
-}
-
-#[test]
-fn reads_the_table(rt: HostRuntime) -> Result<(), Fail> {
-    let alloc = rt.alloc();
-    let lists = lists(alloc)?;
-    let mut count = 0usize;
-    for line in TABLE.lines() {
-        if let Some((text, want)) = line.split_once('⇒') {
-            let found = answer(alloc, text.as_bytes(), &lists)?;
-            assert_eq!(rt; found.as_str(), want, "{text}");
-            count = count.wrapping_add(1);
-        }
-    }
-    assert_eq!(rt; count, COUNT);
-    Ok(())
-}
-
-// A value that is no UTF-8, and bytes that no token has.
-#[test]
-fn refuses_bytes_that_are_no_text(rt: HostRuntime) -> Result<(), Fail> {
-    let alloc = rt.alloc();
-    let none = Vec::new(alloc);
-    let texts: [&[u8]; 4] = [
-        b"a == '\\xff'",
-        b"a == '\\xc3'",
-        b"a == 'x'\\xff",
-        b"a ==\\x0b'x'",
-    ];
-    for text in texts {
-        let found = answer(alloc, text, &none)?;
-        assert_eq!(rt; found.as_str(), "form");
-    }
-    Ok(())
-}
-"""
 
 if __name__ == "__main__":
     main()

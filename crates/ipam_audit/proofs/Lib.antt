@@ -5,3 +5,4 @@ pub mod Bounds
 pub mod Counting
 pub mod Opened
 pub mod Sharing
+mod Causes

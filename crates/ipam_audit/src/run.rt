@@ -1,8 +1,11 @@
 //! The program's words `audit N`.
-ghost use Rattle.std.specs.Prelude.{◌≡◌, ◌≤◌, ◌<◌, None, IsSome, IfOk, IfErr, OnOk, map, string_bytes};
+ghost use Rattle.std.specs.Prelude.{◌≡◌, ◌≤◌, ◌<◌, None, Err, IsSome, IfOk, IfErr, OnOk, map, string_bytes};
+ghost use Rattle.std.specs.Thread.{IsSync};
 ghost use Rattle.ipam_kept.specs.Faults.{not_loaded, not_opened};
 ghost use Rattle.ipam_commands.specs.Telling.{IsNotLoaded, ReportsRows, Writes};
 ghost use Rattle.ipam_commands.specs.declared.status.Status.TheVariants.{UnknownWords};
+ghost use Rattle.ipam_io.specs.Counts.{Rose};
+ghost use Rattle.ipam_keeper.specs.Keeping.{IsTold, OnFailed, UnlessFailed};
 ghost use Rattle.ipam_keeper.specs.Rows.{Ascend};
 ghost use Rattle.ipam_kept.specs.Rows.{texts_loaded};
 ghost use Rattle.ipam_opening.specs.Opening.{IsFaultOf};
@@ -82,10 +85,60 @@ fn tell_audit<R: Threads + Sync, K: Sink, D: Keeper>(
     }
 }
 
-/// The report on the keeper's rows.
-fn audit_kept<R: Threads + Sync, D: Keeper>(
+/// What takes the memory for an audit of a keeper's rows. What is generic over it knows nothing of it, and so
+/// can't state by itself that it found none.
+trait Audits {
+    /// It found no memory.
+    ghost wants: { Self → Type 0 };
+
+    /// All rows, by ascending bytes of their keys.
+    fn load<D: Keeper>(&self, keeper: &mut D) -> Result<Vec<Row>, KeepFault>
+        ensures ascending { IfOk result (λ loaded. Ascend loaded.items) }
+        ensures told { IfOk result (λ loaded. IsTold (D.rows keeper.old) loaded.items) }
+        ensures kept { D.rows keeper.new ≡ D.rows keeper.old }
+        ensures fault { OnFailed result (Rose (D.faults keeper.old) (D.faults keeper.new)) }
+        ensures no_fault { UnlessFailed result (D.faults keeper.new ≡ D.faults keeper.old) }
+        ensures same { D.name keeper.new ≡ D.name keeper.old }
+        ensures wants { result ≡ Err KeepFault.Memory → wants self.now };
+
+    /// The report on these rows, with their greatest revision as the counter.
+    fn audit<R: Threads + Sync>(
+        &self,
+        rt: &R,
+        workers: u8,
+        rows: Vec<Row>,
+    ) -> Result<Report, OpenFault>
+        requires sync { IsSync R.row }
+        requires by_key { Ascend rows.items }
+        requires some { 0 < workers }
+        requires few { workers ≤ MOST_WORKERS }
+        ensures report { IfOk result (IsReportOf (texts_loaded rows.items)) }
+        ensures refused { IfErr result (IsFaultOf (texts_loaded rows.items)) }
+        ensures wants { result ≡ Err OpenFault.Memory → wants self.now };
+}
+
+impl Audits for Global {
+    ghost wants = { λ _. Unit {0} };
+
+    fn load<D: Keeper>(&self, keeper: &mut D) -> Result<Vec<Row>, KeepFault> {
+        keeper.load()
+    }
+
+    fn audit<R: Threads + Sync>(
+        &self,
+        rt: &R,
+        workers: u8,
+        rows: Vec<Row>,
+    ) -> Result<Report, OpenFault> {
+        audit_loaded(rt, *self, workers, rows)
+    }
+}
+
+/// The report on the keeper's rows. `Memory` is returned only where loading or auditing them found none.
+#[tactic(auto, using(crate::proofs::Causes::loading_has_cause, crate::proofs::Causes::opening_has_cause))]
+fn audit_kept<R: Threads + Sync, T: Audits + Drop, D: Keeper>(
     rt: &R,
-    alloc: Global,
+    alloc: T,
     workers: u8,
     keeper: &mut D,
 ) -> Result<Report, KeptFault>
@@ -94,14 +147,15 @@ fn audit_kept<R: Threads + Sync, D: Keeper>(
     ensures reported { IfOk result (IsReportTold (D.rows keeper.old)) }
     ensures no_fault { OnOk result (D.faults keeper.new ≡ D.faults keeper.old) }
     ensures refused { IfErr result (IsNotLoaded (D.rows keeper.old) (D.faults keeper.old) (D.faults keeper.new)) }
+    ensures want_of_memory_has_its_cause { IfErr result (λ fault. fault ≡ KeptFault.Memory → T.wants alloc) }
     ensures same_rows { D.rows keeper.new ≡ D.rows keeper.old }
     ensures same { D.name keeper.new ≡ D.name keeper.old }
 {
-    let rows = match keeper.load() {
+    let rows = match alloc.load(keeper) {
         Ok(rows) => rows,
         Err(fault) => return Err(not_loaded(fault)),
     };
-    match audit_loaded(rt, alloc, workers, rows) {
+    match alloc.audit(rt, workers, rows) {
         Ok(report) => Ok(report),
         Err(fault) => Err(not_opened(fault)),
     }

@@ -7,6 +7,7 @@
 mod alarm;
 mod asking;
 mod channel;
+mod common;
 mod crew;
 mod desk;
 mod ending;

@@ -9,6 +9,7 @@ ghost use Rattle.ipam_daemon.specs.Handing.{IsHandedOver, raised};
 
 use crate::alarm::Alarm;
 use crate::channel::{HandingEnd, channel};
+use crate::common::Common;
 use crate::crew::{Crew, hire};
 use crate::handing::hand_over;
 use crate::host::Host;
@@ -16,7 +17,6 @@ use crate::opening::share;
 use crate::serves::Serves;
 use crate::worker::Worker;
 use ipam_kept::{Keeper, Kept};
-use ipam_patience::Queue;
 use ipam_serve::Opening;
 use ipam_shared::{Pass, Shared};
 use ipam_socket::{Failed, Limits, Listens, Stream};
@@ -145,23 +145,19 @@ fn engage_over<R: Host, S: Serves + Send + Sync + Drop + 'static>(
     requires idle { runs_in pass ≡ None }
     ensures engaged { IfOk result (λ staff. IsEngaged workers 0 (vec_len staff.threads) 0 staff.thread_faults staff.own.desk.pass) }
 {
-    let shared = Arc::new(alloc, shared)?;
-    let opening = Arc::new(alloc, opening)?;
-    let queue = Arc::new(alloc, Queue::new())?;
+    let common = Common::of(alloc, shared, opening, alarm)?;
+    let raised = Arc::try_clone(&common.alarm)?;
     let (to, from) = channel(alloc)?;
     let mut crew = Crew::new(&rt, alloc, &from);
-    hire_all(
-        rt, alloc, &shared, &opening, &queue, &alarm, &mut pass, &mut crew, workers, limits,
-    )?;
+    hire_all(rt, alloc, &common, &mut pass, &mut crew, workers, limits)?;
     let (threads, thread_faults) = crew.into_parts();
-    let raised = Arc::try_clone(&alarm)?;
-    let own = Worker::new(alloc, shared, opening, queue, pass, rt, limits, raised);
+    let own = Worker::new(alloc, common, pass, rt, limits);
     Ok(Staff {
         to,
         threads,
         thread_faults,
         own,
-        alarm,
+        alarm: raised,
     })
 }
 
@@ -171,27 +167,22 @@ fn engage_over<R: Host, S: Serves + Send + Sync + Drop + 'static>(
 fn hire_all<R: Host, S: Serves + Send + Sync + Drop + 'static>(
     rt: R,
     alloc: Global,
-    shared: &Arc<S, Global>,
-    opening: &Arc<Opening, Global>,
-    queue: &Arc<Queue, Global>,
-    alarm: &Arc<Alarm, Global>,
+    common: &Common<S>,
     pass: &mut Pass,
     crew: &mut Crew<'_, R>,
     workers: u8,
     limits: Limits,
 ) -> Result<(), AllocError>
-    requires own { pass.old.lock ≡ S.id (arc_value shared.now) }
+    requires own { pass.old.lock ≡ S.id (arc_value common.now.shared) }
     ensures own { pass.new.lock ≡ pass.old.lock }
     ensures same { runs_in pass.new ≡ runs_in pass.old }
     ensures engaged { OnOk result (IsEngaged workers (vec_len crew.old.threads) (vec_len crew.new.threads) crew.old.faults crew.new.faults pass.new) }
 {
     for _ in 0..workers {
-        let Some(other) = shared.split_off(pass) else {
+        let Some(other) = common.shared.split_off(pass) else {
             return Ok(());
         };
-        let (shared, opening) = (Arc::try_clone(shared)?, Arc::try_clone(opening)?);
-        let (queue, alarm) = (Arc::try_clone(queue)?, Arc::try_clone(alarm)?);
-        let worker = Worker::new(alloc, shared, opening, queue, other, rt, limits, alarm);
+        let worker = Worker::new(alloc, common.another()?, other, rt, limits);
         if !hire(crew, worker)? {
             return Ok(());
         }

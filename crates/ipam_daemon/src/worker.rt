@@ -6,12 +6,12 @@ ghost use Rattle.ipam_shared.specs.Passes.{runs_in};
 
 use crate::alarm::Alarm;
 use crate::asking::Asking;
+use crate::common::Common;
 use crate::desk::Desk;
 use crate::ending::{log_end, log_refused};
 use crate::handing::Attends;
 use crate::serves::Serves;
-use ipam_patience::Queue;
-use ipam_serve::{Opening, SessionEnd};
+use ipam_serve::SessionEnd;
 use ipam_shared::Pass;
 use ipam_socket::{Limits, SocketLink, Stream, StreamPeer};
 use log::Log;
@@ -29,23 +29,26 @@ pub(crate) struct Worker<S: Serves, C> {
 }
 
 impl<S: Serves, C: Clock + Copy> Worker<S, C> {
-    /// A worker that serves sessions of this opening by this pass, with this queue of requests and within
-    /// these limits, and raises this alarm.
+    /// A worker that serves sessions by this pass, with what it has in common with others and within these
+    /// limits.
     pub(crate) fn new(
         alloc: Global,
-        shared: Arc<S, Global>,
-        opening: Arc<Opening, Global>,
-        queue: Arc<Queue, Global>,
+        common: Common<S>,
         pass: Pass,
         clock: C,
         limits: Limits,
-        alarm: Arc<Alarm, Global>,
     ) -> Worker<S, C>
-        requires own { pass.lock ≡ S.id (arc_value shared) }
+        requires own { pass.lock ≡ S.id (arc_value common.shared) }
         requires idle { runs_in pass ≡ None }
         ensures pass { result.desk.pass ≡ pass }
         ensures sessions { result.desk.sessions ≡ 0 }
     {
+        let Common {
+            shared,
+            opening,
+            queue,
+            alarm,
+        } = common;
         Worker {
             desk: Desk::new(alloc, shared, opening, queue, pass, clock),
             clock,

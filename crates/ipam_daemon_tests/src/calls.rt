@@ -27,16 +27,19 @@ fn environment(alloc: Global, command: &str) -> Result<Vec<(Text, Text)>, AllocE
     Ok(environment)
 }
 
-/// The configuration, as standard input.
-fn input(alloc: Global) -> Result<MemorySource, AllocError> {
-    let bytes = Vec::from_slice(alloc, CONFIGURATION.as_bytes())?;
-    Ok(MemorySource::new(bytes, Vec::new(alloc)))
+/// Standard input of this text, whose first read fails where it is to.
+fn input(alloc: Global, text: &str, is_failing: bool) -> Result<MemorySource, AllocError> {
+    let mut failing = Vec::new(alloc);
+    if is_failing {
+        failing.push(1)?;
+    }
+    Ok(MemorySource::new(Vec::from_slice(alloc, text.as_bytes())?, failing))
 }
 
 /// The status, and what was written.
-fn told(alloc: Global, status: u8, sink: &MemorySink) -> Result<String, AllocError> {
+pub(crate) fn told(alloc: Global, status: u8, sink: &MemorySink) -> Result<String, AllocError> {
     let written = str::from_utf8(sink.written()).unwrap_or("no text");
-    format!(in alloc; "{status} {written}")
+    format!(in alloc; "{status} {written:?}")
 }
 
 /// Makes this call over the link, and tells its status and what it writes.
@@ -46,7 +49,7 @@ pub(crate) fn called_over<L: Link>(
     link: &mut L,
 ) -> Result<String, AllocError> {
     let environment = environment(alloc, command)?;
-    let mut source = input(alloc)?;
+    let mut source = input(alloc, CONFIGURATION, false)?;
     let mut sink = MemorySink::new(alloc, ROOM, Vec::new(alloc))?;
     let status = run_call(alloc, environment.as_slice(), &mut source, &mut sink, link);
     told(alloc, status, &sink)
@@ -58,10 +61,12 @@ pub(crate) fn called_with(
     rt: &HostRuntime,
     command: &str,
     address: &str,
-    mut source: MemorySource,
+    text: &str,
+    is_failing: bool,
 ) -> Result<String, AllocError> {
     let alloc = rt.alloc();
     let environment = environment(alloc, command)?;
+    let mut source = input(alloc, text, is_failing)?;
     let mut sink = MemorySink::new(alloc, ROOM, Vec::new(alloc))?;
     let env = environment.as_slice();
     let status = call(rt, alloc, address, env, &mut source, &mut sink);
@@ -74,18 +79,5 @@ pub(crate) fn called_at(
     command: &str,
     address: &str,
 ) -> Result<String, AllocError> {
-    called_with(rt, command, address, input(rt.alloc())?)
-}
-
-/// Standard input of this text, of which each read fails where it is to.
-pub(crate) fn input_of(
-    alloc: Global,
-    text: &str,
-    is_failing: bool,
-) -> Result<MemorySource, AllocError> {
-    let mut failing = Vec::new(alloc);
-    if is_failing {
-        failing.push(1)?;
-    }
-    Ok(MemorySource::new(Vec::from_slice(alloc, text.as_bytes())?, failing))
+    called_with(rt, command, address, CONFIGURATION, false)
 }

@@ -1,11 +1,11 @@
 //! Clients of the daemon, as a script has them.
 //!
-//! Each line of a script begins with the letter of a client, `a` for the first. `a > TEXT` sends a line,
-//! `a . TEXT` a text without a line feed, `a * TEXT` a line after the head of a web page's request.
-//! `a < TEXT` reads a line, which should be this. `a = COMMAND TEXT` makes a CNI call, whose status and
-//! output should be these. `a !` closes.
+//! Each line of a script begins with the letter of a client, `a` for the first. `a > TEXT` sends a line, and
+//! `a . TEXT` a text without a line feed, both with a carriage return and a line feed for each `␍␊`. `a <` reads
+//! a line, and `a call COMMAND` makes a CNI call, whose status and output are told. `a !` closes.
 use crate::calls::called_over;
 use crate::loopback::limits_of;
+use crate::rows::push_line;
 use ipam_io::Sink;
 use ipam_lines::{Got, Lines, LinesFault};
 use ipam_socket::{Address, SocketLink, Stream, connect};
@@ -19,9 +19,6 @@ const MOST_REPLY: usize = 65_536;
 /// How many milliseconds a client waits for a reply.
 const MOST_WAIT: u64 = 40_000;
 
-/// What a browser sends before what a page has it send.
-const HEAD: &str = "POST / HTTP/1.1\r\nHost: localhost\r\n\r\n";
-
 /// A client that is connected.
 #[derive(Drop)]
 pub(crate) struct Client<'a> {
@@ -31,7 +28,7 @@ pub(crate) struct Client<'a> {
 
 impl<'a> Client<'a> {
     /// Connects to this address. A read that gets nothing for a long time then fails.
-    pub(crate) fn connect(rt: &'a HostRuntime, address: &str) -> Option<Client<'a>> {
+    fn connect(rt: &'a HostRuntime, address: &str) -> Option<Client<'a>> {
         let stream = connect(rt, Address::of(address), Duration::from_millis(MOST_WAIT))?;
         Some(Client {
             link: SocketLink::of_call(rt, stream, limits_of(MOST_WAIT)),
@@ -39,46 +36,52 @@ impl<'a> Client<'a> {
         })
     }
 
-    /// Sends the text. A client that can't sends less.
-    pub(crate) fn say(&mut self, text: &str) {
-        let _ = self.link.write(text.as_bytes());
-    }
-
-    /// Sends the text between these, in one write.
-    fn send(
+    /// Does what the word says, and tells what comes of it.
+    fn act(
         &mut self,
         alloc: Global,
+        word: &str,
+        text: &str,
         told: &mut String,
-        (head, text, end): (&str, &str, &str),
     ) -> Result<(), AllocError> {
-        let piece = format!(in alloc; "{head}{text}{end}")?;
-        match self.link.write(piece.as_bytes()) {
-            Ok(()) => Ok(()),
-            Err(_) => told.push_str("not sent\n"),
+        match word {
+            ">" => self.send(alloc, text, "\n", told),
+            "." => self.send(alloc, text, "", told),
+            "<" => self.receive(told),
+            "call" => push_line(told, called_over(alloc, text, &mut self.link)?.as_str()),
+            _ => Ok(()),
         }
     }
 
-    /// Makes the CNI call that the text begins with, and tells its status and output.
-    fn call(&mut self, alloc: Global, told: &mut String, text: &str) -> Result<(), AllocError> {
-        let (command, _) = text.split_once(' ').unwrap_or((text, ""));
-        let called = called_over(alloc, command, &mut self.link)?;
-        told.push_str(called.as_str().trim_end())?;
-        told.push_str("\n")
+    /// Sends the text and its end in one write.
+    fn send(
+        &mut self,
+        alloc: Global,
+        text: &str,
+        end: &str,
+        told: &mut String,
+    ) -> Result<(), AllocError> {
+        let mut piece = text.replace(alloc, "␍␊", "\r\n")?;
+        piece.push_str(end)?;
+        match self.link.write(piece.as_bytes()) {
+            Ok(()) => Ok(()),
+            Err(_) => push_line(told, "not sent"),
+        }
     }
 
     /// Reads the next line, and tells it, or that there is none.
     fn receive(&mut self, told: &mut String) -> Result<(), AllocError> {
         match self.lines.next(&mut self.link) {
-            Ok(Got::Line(line)) => told.push_str(str::from_utf8(line.as_slice()).unwrap_or(
-                "no text",
-            ))?,
-            Ok(Got::End) => told.push_str("end")?,
-            Ok(Got::Cut) => told.push_str("half a line")?,
-            Err(LinesFault::TooLong) => told.push_str("a long line")?,
-            Err(LinesFault::Read) => told.push_str("no reply")?,
-            Err(LinesFault::Memory) => return Err(AllocError),
+            Ok(Got::Line(line)) => push_line(
+                told,
+                str::from_utf8(line.as_slice()).unwrap_or("no text"),
+            ),
+            Ok(Got::End) => push_line(told, "end"),
+            Ok(Got::Cut) => push_line(told, "half a line"),
+            Err(LinesFault::TooLong) => push_line(told, "a long line"),
+            Err(LinesFault::Read) => push_line(told, "no reply"),
+            Err(LinesFault::Memory) => Err(AllocError),
         }
-        told.push_str("\n")
     }
 }
 
@@ -86,7 +89,7 @@ impl<'a> Client<'a> {
 pub(crate) fn connected<'a>(
     rt: &'a HostRuntime,
     address: &str,
-    count: u8,
+    count: u64,
 ) -> Result<Vec<Option<Client<'a>>>, AllocError> {
     let mut clients = Vec::new(rt.alloc());
     for _ in 0..count {
@@ -116,7 +119,7 @@ fn step(
 ) -> Result<(), AllocError> {
     let (name, rest) = line.split_once(' ').unwrap_or((line, ""));
     let (word, text) = rest.split_once(' ').unwrap_or((rest, ""));
-    let Some(place) = clients.get_mut(place_of(name)) else {
+    let Some(place) = clients.get_mut("abcde".find(name).unwrap_or(usize::MAX)) else {
         return Ok(());
     };
     if word == "!" {
@@ -124,60 +127,7 @@ fn step(
         return Ok(());
     }
     match place {
-        Some(client) => act(alloc, client, word, text, told),
-        None => told.push_str("closed\n"),
+        Some(client) => client.act(alloc, word, text, told),
+        None => push_line(told, "closed"),
     }
-}
-
-fn act(
-    alloc: Global,
-    client: &mut Client<'_>,
-    word: &str,
-    text: &str,
-    told: &mut String,
-) -> Result<(), AllocError> {
-    match word {
-        ">" => client.send(alloc, told, ("", text, "\n")),
-        "." => client.send(alloc, told, ("", text, "")),
-        "*" => client.send(alloc, told, (HEAD, text, "\n")),
-        "<" => client.receive(told),
-        "=" => client.call(alloc, told, text),
-        _ => Ok(()),
-    }
-}
-
-/// The place of the client with this letter. Other names have a place that no client has.
-fn place_of(name: &str) -> usize {
-    match name {
-        "a" => 0,
-        "b" => 1,
-        "c" => 2,
-        "d" => 3,
-        _ => usize::MAX,
-    }
-}
-
-/// The line that should be told after this act, if there is one.
-fn wanted_of(act: &str) -> Option<&str> {
-    match act.split_once(' ') {
-        Some(("<", text)) => Some(text),
-        Some(("=", call)) => match call.split_once(' ') {
-            Some((_, text)) => Some(text),
-            None => None,
-        },
-        _ => None,
-    }
-}
-
-/// The lines that should be read.
-pub(crate) fn wanted(alloc: Global, script: &str) -> Result<String, AllocError> {
-    let mut wanted = String::new(alloc);
-    for line in script.lines() {
-        let (_, rest) = line.split_once(' ').unwrap_or((line, ""));
-        if let Some(text) = wanted_of(rest) {
-            wanted.push_str(text)?;
-            wanted.push_str("\n")?;
-        }
-    }
-    Ok(wanted)
 }

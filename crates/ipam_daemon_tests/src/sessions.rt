@@ -1,202 +1,146 @@
-//! Sessions at once, one after another, and with no worker.
-use crate::calls::called_at;
-use crate::clients::{connected, play, wanted};
-use crate::loopback::{
-    Few, OPENED, free, limits_of, listening, opening, reached, serve_all, socket_path,
-};
-use crate::scripts::{AT_A_FILE, CUT, EITHER, OVER_TCP};
-use crate::turns::two_sessions;
-use ipam_daemon::{
-    Address, Alarm, Host, Leaving, Listens, Served, SocketListener, open_kept, serve_by,
-};
-use std::alloc::AllocError;
-use std::process::Abort;
-use std::sync::Arc;
-use std::test::Fail;
-use std::thread;
-use std::thread::join;
-use std::time::Duration;
+//! Sessions over a shared cluster, one after the other, and the rows that they leave.
+ghost use Rattle.std.specs.Prelude.{◌≡◌, ◌+◌, ◌≤◌, ◌^◌, None};
+ghost use Rattle.ipam_shared.specs.Passes.{IsSamePass, runs_in};
 
-/// A port of the loopback that the system chooses.
-const ANY_PORT: &str = "127.0.0.1:0";
+use crate::counting::Counting;
+use crate::rows::{keeper_of, numbers, push_line};
+use crate::served::{served, share};
+use ipam_daemon::Serves;
+use ipam_io::ListGate;
+use ipam_keeper::Row;
+use ipam_patience::Queue;
+use ipam_shared::{Keeper, Pass, Shared};
+use std::alloc::{AllocError, Global};
+use std::sync::{Arc, Wait};
 
-/// How many milliseconds are waited where nothing should be cut off.
-const LONG: u64 = 40_000;
+/// What stands before the end of each session.
+const END: &str = "\n= session ";
 
-const ADDED: &str = "0 {\"cniVersion\":\"1.0.0\",\"ips\":[{\"address\":\"10.0.0.0/32\"}]}\n";
+/// The most entries that a cluster may be opened with.
+const MOST_FIRST: u64 = 1 << 62;
 
-/// An address that was given back is the last to be given again.
-const ADDED_NEXT: &str = "0 {\"cniVersion\":\"1.0.0\",\"ips\":[{\"address\":\"10.0.0.1/32\"}]}\n";
-
-const DELETED: &str = "0 ";
-
-/// How many workers and clients the head of a script has, and how many milliseconds.
-fn counts_of(head: &str) -> (u8, u8, u64) {
-    let mut words = head.split(' ');
-    let workers = words.next().unwrap_or("").parse().unwrap_or(0);
-    let clients = words.next().unwrap_or("").parse().unwrap_or(0);
-    let millis = words.next().unwrap_or("").parse().unwrap_or(0);
-    (workers, clients, millis)
-}
-
-/// Has the script played by its clients against its workers at the address. Gives what is told, or
-/// nothing where nobody was served.
-fn played<R: Host + Sync>(
-    host: R,
-    rt: &HostRuntime,
-    address: &str,
-    script: &str,
+/// What is told of up to three sessions over these rows, each of which goes up to the line of its end, and of
+/// the rows whose keys begin as a line `get START` says.
+pub(crate) fn told<R: Wait>(
+    rt: &R,
+    alloc: Global,
+    rows: &str,
+    steps: &str,
 ) -> Result<String, AllocError> {
-    let alloc = rt.alloc();
-    let (head, _) = script.split_once('\n').unwrap_or((script, ""));
-    let (workers, clients, millis) = counts_of(head);
-    let Some(mut listener) = listening(rt, address) else {
-        return String::from_str(alloc, "no listener");
-    };
-    let reached = reached(alloc, &listener, address)?;
-    let connected = connected(rt, reached.as_str(), clients)?;
-    let keeper = free(alloc)?;
-    let (told, _) = join(
-        &host,
-        move || play(alloc, connected, script),
-        || serve_all(
-            host,
-            alloc,
-            keeper,
-            &mut listener,
-            workers,
-            u64::from(clients),
-            limits_of(millis),
-        ),
-    );
-    listener.close();
-    told
-}
-
-/// Plays each script at the address, and counts them.
-fn play_each<R: Host + Sync + Abort>(
-    host: R,
-    rt: &HostRuntime,
-    address: &str,
-    scripts: &str,
-) -> Result<u8, Fail> {
-    let mut count = 0u8;
-    for script in scripts.split("\n\n") {
-        let told = played(host, rt, address, script)?;
-        assert_eq!(host;
-            told.as_str(),
-            wanted(rt.alloc(), script)?.as_str(),
-            "{script}"
-        );
-        count = count.wrapping_add(1);
+    let keeper = keeper_of(alloc, rows, steps)?;
+    match share(alloc, keeper, first_of(steps)) {
+        Some((shared, pass)) => told_over(rt, alloc, shared, pass, steps),
+        None => Err(AllocError),
     }
-    Ok(count)
 }
 
-#[test]
-fn scripts_are_played(rt: HostRuntime) -> Result<(), Fail> {
-    let path = socket_path(&rt, "scripts")?;
-    let tables = [
-        (ANY_PORT, EITHER, 6),
-        (path.as_str(), EITHER, 6),
-        (path.as_str(), AT_A_FILE, 3),
-        (ANY_PORT, OVER_TCP, 3),
-        (ANY_PORT, CUT, 1),
-        (path.as_str(), CUT, 1),
-    ];
-    for (address, scripts, count) in tables {
-        assert_eq!(rt; play_each(rt, &rt, address, scripts)?, count, "{address}");
-    }
-    Ok(())
-}
-
-#[test]
-fn a_session_between_two_turns_holds_up_no_other(rt: HostRuntime) -> Result<(), Fail> {
-    let Ok(kept) = open_kept(rt.alloc(), free(rt.alloc())?) else {
-        return Err(Fail::new("not opened"));
-    };
-    let (waited, answered) = two_sessions(&rt, rt.alloc(), kept).ok_or("no memory")?;
-    assert_eq!(rt;
-        answered.as_str(),
-        "{\"status\":0,\"stdout\":\"{\\\"cniVersion\\\":\\\"1.0.0\\\",\\\"ips\\\":[{\\\"address\\\":\\\"10.0.0.0/32\\\"}]}\\n\"}\nClosed"
-    );
-    assert_eq!(rt;
-        waited.as_str(),
-        "{\"status\":0,\"stdout\":\"{\\\"cniVersion\\\":\\\"1.0.0\\\",\\\"ips\\\":[{\\\"address\\\":\\\"10.0.0.1/32\\\"}]}\\n\"}\nClosed"
-    );
-    Ok(())
-}
-
-/// Makes the call at the address once somebody listens there, for up to some 20 seconds.
-fn called_soon(rt: &HostRuntime, command: &str, address: &str) -> Result<String, AllocError> {
-    for _ in 0..2000 {
-        let told = called_at(rt, command, address)?;
-        if !told.as_str().contains("no reply from the daemon") {
-            return Ok(told);
-        }
-        thread::sleep(rt, Duration::from_millis(10));
-    }
-    called_at(rt, command, address)
-}
-
-/// Serves so many connections at the address, and tells whether the end is that of a listener that
-/// failed.
-fn serve_few<R: Host + Sync>(
-    host: R,
-    rt: &HostRuntime,
-    address: &str,
-    connections: u64,
-) -> Result<bool, AllocError> {
-    let alloc = rt.alloc();
-    let mut few = Few::new(
-        SocketListener::new(rt, alloc, Address::of(address)),
-        connections,
-    );
-    let (served, _keeper) = serve_by(
-        host,
-        alloc,
-        free(alloc)?,
-        opening(alloc, OPENED)?,
-        &mut few,
-        2,
-        limits_of(LONG),
-        Leaving::Done,
-        Arc::new(alloc, Alarm::new())?,
-    );
-    Ok(matches!(served, Served::ListenFault))
-}
-
-/// What the calls that are made one after another are told.
-fn calls_of(rt: &HostRuntime, address: &str) -> Result<String, AllocError> {
-    let mut told = String::new(rt.alloc());
-    for command in ["ADD", "DEL", "ADD"] {
-        told.push_str(called_soon(rt, command, address)?.as_str())?;
-        told.push_str("|")?;
-    }
+fn told_over<R: Wait, D: Keeper + Drop>(
+    rt: &R,
+    alloc: Global,
+    shared: Shared<D>,
+    mut pass: Pass,
+    steps: &str,
+) -> Result<String, AllocError>
+    requires lock { pass.lock ≡ shared }
+    requires idle { runs_in pass ≡ None }
+    requires last { pass.joined + 1 ≡ pass.made }
+{
+    let mut told = String::new(alloc);
+    let served = serve_each(rt, alloc, &shared, &mut pass, steps, &mut told);
+    let keeper = shared.close(pass).into_keeper();
+    served?;
+    tell_rows(alloc, keeper, steps, &mut told)?;
     Ok(told)
 }
 
-/// A port of the loopback at an address that nobody else uses, which stays free.
-fn free_port(rt: &HostRuntime, host: &str) -> Result<String, AllocError> {
-    match listening(rt, host) {
-        Some(listener) => reached(rt.alloc(), &listener, host),
-        None => String::from_str(rt.alloc(), host),
+fn serve_each<R: Wait, S: Serves>(
+    rt: &R,
+    alloc: Global,
+    shared: &S,
+    pass: &mut Pass,
+    steps: &str,
+    told: &mut String,
+) -> Result<(), AllocError>
+    requires lock { pass.old.lock ≡ S.id shared.now }
+    requires idle { runs_in pass.old ≡ None }
+    ensures same { IsSamePass pass.old pass.new }
+{
+    let mut parts = steps.split(END);
+    let first = parts.next().unwrap_or("");
+    let second = parts.next().unwrap_or("");
+    let third = parts.next();
+    let after = parts.next();
+    serve(rt, alloc, shared, pass, first, told)?;
+    if third.is_some() {
+        serve(rt, alloc, shared, pass, second, told)?;
     }
+    if after.is_some() {
+        serve(rt, alloc, shared, pass, third.unwrap_or(""), told)?;
+    }
+    Ok(())
 }
 
-#[test]
-fn calls_are_served_at_an_address(rt: HostRuntime) -> Result<(), Fail> {
-    let port = free_port(&rt, "127.77.0.2:0")?;
-    let path = socket_path(&rt, "calls")?;
-    let wanted = format!(in rt.alloc(); "{ADDED}|{DELETED}|{ADDED_NEXT}|")?;
-    for address in [port.as_str(), path.as_str()] {
-        let (told, is_fault) = join(
-            &rt,
-            || calls_of(&rt, address),
-            || serve_few(rt, &rt, address, 3),
-        );
-        assert_eq!(rt; told?.as_str(), wanted.as_str(), "{address}");
-        assert!(rt; is_fault?, "{address}");
+/// Serves the session whose lines these are. A gate stops it at the passes that a line `stop N..` says.
+fn serve<R: Wait, S: Serves>(
+    rt: &R,
+    alloc: Global,
+    shared: &S,
+    pass: &mut Pass,
+    lines: &str,
+    told: &mut String,
+) -> Result<(), AllocError>
+    requires lock { pass.old.lock ≡ S.id shared.now }
+    requires idle { runs_in pass.old ≡ None }
+    ensures same { IsSamePass pass.old pass.new }
+    ensures idle { runs_in pass.new ≡ None }
+{
+    let mut gate = ListGate::new(numbers(alloc, lines, "stop ")?);
+    let mut patience = Counting::new(Arc::new(alloc, Queue::new())?, pass.slot());
+    let session = served(rt, alloc, shared, pass, &mut gate, &mut patience, lines)?;
+    told.push_str(session.as_str())
+}
+
+/// How many entries there are before the first session: the number of a line `first N`, or 0.
+fn first_of(steps: &str) -> u64
+    ensures { result ≤ 2 ^ 62 }
+{
+    for line in steps.lines() {
+        if let Some(number) = line.strip_prefix("first ") {
+            return number.parse().unwrap_or(0u64).min(MOST_FIRST);
+        }
+    }
+    0
+}
+
+fn tell_rows<D: Keeper + Drop>(
+    alloc: Global,
+    mut keeper: D,
+    steps: &str,
+    told: &mut String,
+) -> Result<(), AllocError> {
+    let Ok(rows) = keeper.load() else {
+        return push_line(told, "keeper fault");
+    };
+    for line in steps.lines() {
+        if let Some(start) = line.strip_prefix("get ") {
+            push_rows(alloc, &rows, start, told)?;
+        }
+    }
+    Ok(())
+}
+
+fn push_rows(
+    alloc: Global,
+    rows: &[Row],
+    start: &str,
+    told: &mut String,
+) -> Result<(), AllocError> {
+    for row in rows {
+        let (key, revision, body) = (row.key.as_str(), row.revision, row.body.as_str());
+        if key.starts_with(start) {
+            let line = format!(in alloc; "{key} {revision} {body}")?;
+            push_line(told, line.as_str())?;
+        }
     }
     Ok(())
 }

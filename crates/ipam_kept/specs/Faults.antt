@@ -6,8 +6,10 @@ use Rattle.ipam_keeper.specs.declared.keeper.KeepFault.{KeepFault}
 use Rattle.ipam_keeper.specs.declared.keeper.KeepFault.TheVariants as keeping
 use Rattle.ipam_opening.specs.declared.fault.OpenFault.{OpenFault}
 use Rattle.ipam_opening.specs.declared.fault.OpenFault.TheVariants as opening
+use Rattle.ipam_opening.specs.Opening.{IsFaultOf}
 use Rattle.ipam_kept.specs.declared.kept.KeptFault.{KeptFault}
 use Rattle.ipam_kept.specs.declared.kept.KeptFault.TheVariants.{Keeper, Refused, Memory}
+use Rattle.ipam_kept.specs.Rows.{texts_loaded}
 
 abbrev pub not_loaded : KeepFault → KeptFault
 not_loaded keeping.Failed = Keeper
@@ -24,3 +26,7 @@ IsOpening opens refuses (Ok rows) (Ok opened) = opens rows.items opened
 IsOpening opens refuses (Ok rows) (Err fault) = (why : OpenFault) × refuses rows.items why × (fault ≡ not_opened why)
 IsOpening opens refuses (Err why) (Ok opened) = ⊥
 IsOpening opens refuses (Err why) (Err fault) = fault ≡ not_loaded why
+
+-- Why rows were not opened: the fault is theirs, and want of memory comes only with what is so where none was found.
+abbrev pub IsWhyNot : (wants : Type 0) → List RowText → OpenFault → Type 0
+IsWhyNot wants rows fault = IsFaultOf (texts_loaded rows) fault × ((fault ≡ opening.Memory) → wants)

@@ -9,7 +9,7 @@ ghost use Rattle.std.specs.List.{All};
 
 use crate::feed::{prepare, push};
 use crate::giving::give;
-use crate::loaded::{Feeding, load_sure};
+use crate::loaded::{Feeding, OpensKept};
 use crate::opener::open_loaded;
 use crate::write::RowWrite;
 use ipam_cluster::{BeginFault, Cluster, FeedFault, PrepareFault, Prepared};
@@ -72,15 +72,22 @@ impl<D: Keeper> Kept<D> {
 
     /// Has the keeper make sure of its rows, and opens them, with their greatest revision as the counter, in
     /// a cluster in which nothing runs. On `Err` the keeper comes back.
-    pub fn open(alloc: Global, keeper: D, first: u64) -> Result<Kept<D>, (D, KeptFault)>
+    ///
+    /// `Memory` is returned only where loading or opening the rows found none.
+    pub fn open<T: OpensKept + Drop>(
+        alloc: T,
+        keeper: D,
+        first: u64,
+    ) -> Result<Kept<D>, (D, KeptFault)>
         requires { first ≤ 2 ^ 62 + SLOTS }
         ensures opened { IfOk result (IsOpened D.rows D.faults D.name keeper first) }
         ensures fed { IfOk result (λ kept. FedFor D.rows kept (record { store = kept.cluster.store.store; first = first }) []) }
         ensures sure { IfOk result (λ kept. SureFor D.settled kept (record { store = kept.cluster.store.store; first = first }) []) }
         ensures refused { IfErr result (IsNotOpened D.rows D.faults D.name keeper) }
+        ensures want_of_memory_has_its_cause { IfErr result (λ answer. answer.1 ≡ KeptFault.Memory → T.wants alloc) }
     {
         let mut keeper = keeper;
-        let loaded = load_sure(&mut keeper);
+        let loaded = alloc.load_sure(&mut keeper);
         match open_loaded(Feeding { alloc, first }, loaded) {
             Ok((cluster, ring)) => Ok(Kept {
                 cluster,

@@ -17,7 +17,7 @@ pub use ipam_feed::{Change, Route, SinceFault};
 pub use ipam_keeper::{KeepFault, Keeper};
 pub use kept::{Kept, KeptFault};
 pub use laws::{what_is_kept_may_be_opened, what_is_sure_may_be_opened};
-pub use loaded::greatest_revision;
+pub use loaded::{OpensKept, greatest_revision};
 pub use opener::{Opens, open_loaded};
 pub use std::alloc::AllocError as Memory;
 pub use write::RowWrite;

@@ -1,22 +1,29 @@
 //! The answer to a question of each kind.
-use crate::{addresses as addr, pools, reservations as reserved, streams};
-use ipam_table::Answers;
+use crate::{
+    addresses as addr, clocks, lines, links, pools, reservations as reserved, selectors, streams,
+};
 use std::alloc::{AllocError, Global};
 
-pub(crate) struct Leaves;
+/// The answer to a question of this kind. Two kinds need the system: its clock, and the loopback. A kind
+/// that is not known is answered as want of memory.
+pub(crate) fn answer(rt: &HostRuntime, kind: &str, text: &str) -> Result<String, AllocError> {
+    match kind {
+        "system" => clocks::system_text(rt),
+        "socket" => links::socket_text(rt, text),
+        _ => addr_answer(rt.alloc(), kind, text),
+    }
+}
 
-impl Answers for Leaves {
-    fn answer(&self, alloc: Global, kind: &str, text: &str) -> Result<String, AllocError> {
-        match kind {
-            "addr" => addr::addr_text(alloc, text),
-            "cidr" => addr::cidr_text(alloc, text),
-            "name" => addr::name_text(alloc, text),
-            "length" => addr::length_text(alloc, text),
-            "slot" => addr::slot_text(alloc, text),
-            "overlap" => addr::overlap_text(alloc, text),
-            "state" => addr::state_text(alloc, text),
-            _ => pool_answer(alloc, kind, text),
-        }
+fn addr_answer(alloc: Global, kind: &str, text: &str) -> Result<String, AllocError> {
+    match kind {
+        "addr" => addr::addr_text(alloc, text),
+        "cidr" => addr::cidr_text(alloc, text),
+        "name" => addr::name_text(alloc, text),
+        "length" => addr::length_text(alloc, text),
+        "slot" => addr::slot_text(alloc, text),
+        "overlap" => addr::overlap_text(alloc, text),
+        "state" => addr::state_text(alloc, text),
+        _ => pool_answer(alloc, kind, text),
     }
 }
 
@@ -51,6 +58,19 @@ fn stream_answer(alloc: Global, kind: &str, text: &str) -> Result<String, AllocE
         "std sink" => streams::std_sink_text(alloc, text),
         "link" => streams::link_text(alloc, text),
         "gate" => streams::gate_text(alloc, text),
+        _ => line_answer(alloc, kind, text),
+    }
+}
+
+fn line_answer(alloc: Global, kind: &str, text: &str) -> Result<String, AllocError> {
+    match kind {
+        "readings" => clocks::readings_text(alloc, text),
+        "times" => clocks::times_text(alloc, text),
+        "lines" => lines::lines_text(alloc, text),
+        "pieces" => lines::pieces_text(alloc, text),
+        "stream" => links::stream_text(alloc, text),
+        "selector" => selectors::selector_text(alloc, text),
+        "selector bytes" => selectors::bytes_text(alloc, text),
         _ => Err(AllocError),
     }
 }

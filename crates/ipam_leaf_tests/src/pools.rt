@@ -1,5 +1,6 @@
 //! A table of three pools.
 use crate::addresses::{addr_of, cidr_of};
+use ipam_addr::Cidr;
 use ipam_pool::{Mode, Pool, PoolTable};
 use ipam_select::{NodeSelector, Selector};
 use ipam_text::Text;
@@ -20,14 +21,19 @@ fn pool_of(alloc: Global, text: &str) -> Result<Pool, AllocError> {
         return Err(AllocError);
     };
     let cidr = cidr_of(cidr)?;
-    Ok(Pool {
-        name: Text::copied(alloc, name)?,
+    let name = Text::copied(alloc, name)?;
+    Ok(pool(alloc, name, cidr, size.parse().unwrap_or(0)))
+}
+
+fn pool(alloc: Global, name: Text, cidr: Cidr, size: u8) -> Pool {
+    Pool {
+        name,
         cidr,
-        size: size.parse::<u8>().unwrap_or(0),
+        size,
         disabled: false,
         mode: Mode::Automatic,
         selector: NodeSelector::all(alloc),
-    })
+    }
 }
 
 /// Adds the pool, and returns why it was refused.

@@ -64,13 +64,28 @@ pub(crate) fn room_text(alloc: Global, text: &str) -> Result<String, AllocError>
     let (cidrs, rest) = parts(text);
     let (pool, rest) = rest.split_once(' ').unwrap_or((rest, ""));
     let (size, from) = rest.split_once(' ').unwrap_or((rest, ""));
-    let pool = cidr_of(pool)?;
-    let size = size.parse::<u8>().unwrap_or(0);
-    let from = from.parse::<u128>().unwrap_or(0);
+    let reserved = reserved(alloc, cidrs)?;
+    let from = from.parse().unwrap_or(0);
+    next_text(
+        alloc,
+        &reserved,
+        cidr_of(pool)?,
+        size.parse().unwrap_or(0),
+        from,
+    )
+}
+
+fn next_text(
+    alloc: Global,
+    reserved: &Reserved,
+    pool: Cidr,
+    size: u8,
+    from: u128,
+) -> Result<String, AllocError> {
     if !has_slots(pool, size) {
         return Err(AllocError);
     }
-    let found = reserved(alloc, cidrs)?.next_slot_with_room(pool, size, from);
+    let found = reserved.next_slot_with_room(pool, size, from);
     format!(in alloc; "{found:?}")
 }
 

@@ -59,7 +59,7 @@ fn reads<S: Source>(alloc: Global, source: &mut S, times: &str) -> Result<String
     Ok(out)
 }
 
-fn read_word(read: Result<usize, Failed>) -> &'static str {
+pub(crate) fn read_word(read: Result<usize, Failed>) -> &'static str {
     match read {
         Ok(0) => "0",
         Ok(1) => "1",
@@ -83,7 +83,7 @@ fn writes<S: Sink>(alloc: Global, sink: &mut S, pieces: &str) -> Result<String, 
     Ok(out)
 }
 
-fn write_word(written: Result<(), Failed>) -> &'static str {
+pub(crate) fn write_word(written: Result<(), Failed>) -> &'static str {
     match written {
         Ok(()) => ".",
         Err(_) => "!",

@@ -6,6 +6,7 @@ mod fault;
 mod gathering;
 mod lines;
 mod offset;
+mod opener;
 mod player;
 mod playing;
 mod refusal;

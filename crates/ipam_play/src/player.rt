@@ -14,6 +14,7 @@ ghost use Rattle.ipam_model.specs.Course.{Event};
 use crate::cluster::OpenCluster;
 use crate::fault::PlayFault;
 use crate::gathering::{GatherFault, Gathering};
+use crate::opener::OpensBase;
 use crate::playing::play_line;
 use ipam_cluster::OpenFault;
 use ipam_model::Entry;
@@ -123,18 +124,20 @@ impl Player {
     }
 }
 
-/// Opens the base that was gathered.
-fn opened(alloc: Global, gathering: &Gathering) -> Result<OpenCluster, PlayFault>
+/// Opens the base that was gathered. `Memory` is returned only where the base or its opening found none: a base
+/// that is refused is told so.
+fn opened<T: OpensBase + Drop>(alloc: T, gathering: &Gathering) -> Result<OpenCluster, PlayFault>
     ensures opens { (base : Gathered) → Gathers gathering.now base → IfOk result (λ opened. (store : Datastore)
         × IsOpened base store × StandsFor opened.cluster (base_of store) []) }
     ensures fault { (base : Gathered) → Gathers gathering.now base → IfErr result (λ told.
         (told ≡ PlayFault.Memory) ⊎ IsNotOpened base told) }
     ensures standing { IfOk result StandsTimed }
+    ensures want_of_memory_has_its_cause { IfErr result (λ told. told ≡ PlayFault.Memory → T.wants alloc) }
 {
-    let Ok(base) = gathering.base(alloc) else {
+    let Ok(base) = alloc.base(gathering) else {
         return Err(PlayFault::Memory);
     };
-    match OpenCluster::open(alloc, &base) {
+    match alloc.open(&base) {
         Ok(cluster) => Ok(cluster),
         Err(fault) => Err(not_opened(fault)),
     }

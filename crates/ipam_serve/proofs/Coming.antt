@@ -55,6 +55,9 @@ module _ {T E : Type 0} (old new : PassValue) (fault : SharedFault E) (spent : (
   pub sees-none : UnlessSpent {T = T} {E = E} (Err fault) (SeesNext old [] new) → SeesNext old [] new
   sees-none sees = unless-err T fault (SeesNext old [] new) (not-spent {T = T} fault old.left spent enough) sees
 
+  pub knows-err : UnlessSpent {T = T} {E = E} (Err fault) (IsTold old new) → IsTold old new
+  knows-err knows = unless-err T fault (IsTold old new) (not-spent {T = T} fault old.left spent enough) knows
+
   pub took-err : IsSamePass old new → UnlessSpent {T = T} {E = E} (Err fault) (SeesNext old [] new) → UnlessSpent {T = T} {E = E} (Err fault) (IsTold old new) → UnlessSpent {T = T} {E = E} (Err fault) (new.left + 1 ≡ old.left) → Took old [] 1 new
   took-err same sees knows left =
       took-none old new same (sees-none sees) (unless-err T fault (IsTold old new) (not-spent {T = T} fault old.left spent enough) knows) (unless-err T fault (new.left + 1 ≡ old.left) (not-spent {T = T} fault old.left spent enough) left) enough

@@ -59,30 +59,6 @@ feeds-told old middle new live at told (took, due) on =
 pub feeds-broken : (old : Taker) (middle : PassValue) (new : Taker) (live : List (List ℕ)) (at : ℕ) → Fed old.pass live at feeding.Fed middle → WentOn (record { pass = middle; turns = old.turns }) None 1 new → DoesPart old (Feeds live at) 1 new
 feeds-broken old middle new live at (took, due) on = does-part old new (Feeds live at) None 1 (fed-then old middle new live at None 1 took on)
 
--- ---- an answer that must come
-
-module _ (ran : Ran) (r : Result Answer Broken) where
-  pub to-answer : (old new : Taker) → IfOk r (λ told. ran ≡ Answered told) → WentOn old (answer_ran ran) (spared_by ran) new → IfOk r (λ told. WentOn old (Some told) 0 new)
-  to-answer old new is h = from r is
-    where
-      from : (s : Result Answer Broken) → IfOk s (λ told. ran ≡ Answered told) → IfOk s (λ told. WentOn old (Some told) 0 new)
-      from (Ok told) e = subst (λ (one : Ran). WentOn old (answer_ran one) (spared_by one) new) e h
-      from (Err broken) e = tt
-
-  pub to-broken : (old new : Taker) → OnErr r (ran ≡ Waits) → WentOn old (answer_ran ran) (spared_by ran) new → OnErr r (WentOn old None 1 new)
-  to-broken old new is h = from r is
-    where
-      from : (s : Result Answer Broken) → OnErr s (ran ≡ Waits) → OnErr s (WentOn old None 1 new)
-      from (Ok told) e = tt
-      from (Err broken) e = subst (λ (one : Ran). WentOn old (answer_ran one) (spared_by one) new) e h
-
-  pub to-can : (P : Answer → Type 0) → IfOk r (λ told. ran ≡ Answered told) → IfAnswered ran P → IfOk r P
-  to-can P is h = from r is
-    where
-      from : (s : Result Answer Broken) → IfOk s (λ told. ran ≡ Answered told) → IfOk s P
-      from (Ok told) e = subst (λ (one : Ran). IfAnswered one P) e h
-      from (Err broken) e = tt
-
 pub memory-worn : {T : Type 0} (r : Result T Broken) (p : Type 0) → OnErr r (r ≡ Err Memory) → OnWorn r p
 memory-worn (Ok value) p is = tt
 memory-worn (Err Halted) p is = tt

@@ -4,9 +4,12 @@ pub mod Slots
 pub mod Turning
 pub mod Keeping
 pub mod Coming
+pub mod Looking
 pub mod Running
 pub mod Going
+pub mod Onward
 pub mod LineParts
 pub mod Routing
+pub mod Outcomes
 pub mod Settled
 pub mod Sessions

@@ -7,5 +7,7 @@ pub mod Spans
 pub mod Faults
 pub mod Turns
 pub mod Runs
+pub mod Going
 pub mod Lines
+pub mod Outcomes
 pub mod Sessions

@@ -1,5 +1,5 @@
 -- What a session's turns come to.
-use Rattle.std.specs.Prelude.{◌≡◌, ℕ, true, false, List, [], ◌∷◌, Option, Some, None, option_map}
+use Rattle.std.specs.Prelude.{◌≡◌, ℕ, ◌+◌, ◌<◌, true, false, List, [], ◌∷◌, Option, Some, None, Result, IfSome, IfNone, OnOk, option_map}
 use Rattle.ipam_model.specs.declared.answer.Answer.{Answer}
 use Rattle.ipam_model.specs.declared.entry.Called.{Called as OneCall}
 use Rattle.ipam_model.specs.declared.entry.Entry.{Entry}
@@ -14,10 +14,12 @@ use Rattle.ipam_shared.specs.declared.faults.SharedFault.{SharedFault}
 use Rattle.ipam_shared.specs.declared.faults.SharedFault.TheVariants.{Inner, SpentPass}
 use Rattle.ipam_shared.specs.PassValue.{PassValue}
 use Rattle.ipam_shared.specs.Passes.{runs_in}
+use Rattle.ipam_serve.specs.declared.ran.Broken.{Broken}
 use Rattle.ipam_serve.specs.declared.ran.Ran.{Ran}
 use Rattle.ipam_serve.specs.declared.ran.Ran.TheVariants.{Answered, Waits}
 use Rattle.ipam_serve.specs.declared.turns.Feeding.{Feeding}
 use Rattle.ipam_serve.specs.declared.turns.Feeding.TheVariants as feeding
+use Rattle.ipam_serve.specs.Faults.{OnHalted, OnWorn}
 use Rattle.ipam_serve.specs.Gains.{Took, asked_in, is_early, is_waiting}
 
 -- what an entry tells of a call's answer
@@ -56,3 +58,19 @@ IsToldOf SpentPass since = ⊥
 IsToldOf (Inner (fault_of.Compacted floor)) since = since ≡ Compacted floor
 IsToldOf (Inner (fault_of.Ahead counter)) since = since ≡ Ahead counter
 IsToldOf (Inner fault_of.Memory) since = ⊥
+
+-- One turn was taken, by which the slot gained nothing and what runs still does; or too few were left. No gate
+-- was passed.
+pub record TakesOne {T : Type 0} (result : Result T Broken) (old new : PassValue) : Type 0 where
+  pub took : Took old [] 1 new
+  pub one : OnOk result (new.left + 1 ≡ old.left)
+  pub runs : runs_in new ≡ runs_in old
+  pub worn : OnWorn result (new.left < 2)
+  pub not_halted : OnHalted result ⊥
+
+-- the same, with what was told, or nothing where too few turns were left
+pub record TakesLook {T : Type 0} (told : Option T) (old new : PassValue) : Type 0 where
+  pub took : Took old [] 1 new
+  pub one : IfSome told (λ value. new.left + 1 ≡ old.left)
+  pub runs : runs_in new ≡ runs_in old
+  pub worn : IfNone told (new.left < 2)

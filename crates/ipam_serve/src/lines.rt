@@ -5,19 +5,18 @@ ghost use Rattle.ipam_io.specs.Readings.{prepend_known_readings};
 ghost use Rattle.ipam_records.specs.Sound.{IsHandleId};
 ghost use Rattle.ipam_model.specs.SoundRequest.{IsSoundRequest};
 ghost use Rattle.ipam_model.specs.CanAnswer.{CanAnswer};
-ghost use Rattle.ipam_model.specs.Cluster.{Running};
 ghost use Rattle.ipam_session.specs.Calls.{IsOfCall, IsSoundBegun, call_begun, call_told, is_of_call};
 ghost use Rattle.ipam_session.specs.Lines.{called};
 ghost use Rattle.ipam_session.specs.Wishes.{IsSoundWish};
-ghost use Rattle.ipam_serve.specs.Spans.{Calls, IsTimeless};
+ghost use Rattle.ipam_serve.specs.Spans.{IsTimeless};
 ghost use Rattle.ipam_session.specs.declared.wish.Wish.TheVariants as wish;
-ghost use Rattle.ipam_shared.specs.PassValue.{PassValue};
 ghost use Rattle.ipam_shared.specs.Passes.{runs_in};
-ghost use Rattle.ipam_serve.specs.Faults.{Halts, IsWorn, OnHalted, OnWorn};
+ghost use Rattle.ipam_serve.specs.Faults.{Halts, OnWorn};
 ghost use Rattle.ipam_serve.specs.Gains.{is_waiting};
 ghost use Rattle.ipam_serve.specs.Keeping.{MakesCalls};
-ghost use Rattle.ipam_serve.specs.Lines.{Breaks, IsUnanswered, Replies, Server, TellsRun, WearsOut, asked_by, is_collect, reading, reply_fed, reply_ran, server_at, timed};
-ghost use Rattle.ipam_serve.specs.Runs.{DoesPart, IsAtRest};
+ghost use Rattle.ipam_serve.specs.Lines.{Breaks, Replies, WearsOut, asked_by, is_collect, reading, reply_fed, reply_ran, server_at, timed};
+ghost use Rattle.ipam_serve.specs.Outcomes.{Comes, ComesOfCall};
+ghost use Rattle.ipam_serve.specs.Runs.{IsAtRest};
 
 use crate::gates::SessionGate;
 use crate::opening::Opening;
@@ -107,18 +106,12 @@ fn answer_wish<R: Wait, D: Keeper, G: SessionGate, C: Clock, P: Patience>(
     requires lock { pass.old.lock ≡ shared.now }
     requires rests { IsAtRest (runs_in pass.old) }
     requires sound { IsSoundWish wish }
-    ensures replied { IfOk result (λ reply. Replies (Some wish) reply
+    ensures comes { Comes D.rows D.given D.faults (Some wish) result
         (server_at pass.old (G.turns gate.old) (C.ahead clock.old))
-        (server_at pass.new (G.turns gate.new) (C.ahead clock.new))) }
-    ensures broken { OnErr result (Breaks (Some wish)
-        (server_at pass.old (G.turns gate.old) (C.ahead clock.old))
-        (server_at pass.new (G.turns gate.new) (C.ahead clock.new))) }
-    ensures rests { OnOk result (IsAtRest (runs_in pass.new)) }
-    ensures worn { OnWorn result (WearsOut (Some wish) pass.old pass.new) }
+        (server_at pass.new (G.turns gate.new) (C.ahead clock.new)) }
     ensures opened { wish ≡ Wish.Opened
         → IfOk result (λ reply. reply ≡ Reply.Opened opening.now) }
     ensures stops { Halts result (G.stops gate.old) (G.stops gate.new) }
-    ensures keeper { MakesCalls D.rows D.given D.faults pass.old pass.new }
     ensures lines { G.lines gate.new ≡ G.lines gate.old }
 {
     match wish {
@@ -175,16 +168,10 @@ fn answer_call<R: Wait, D: Keeper, G: SessionGate, C: Clock, P: Patience>(
 ) -> Result<Reply, Broken>
     requires lock { pass.old.lock ≡ shared.now }
     requires rests { IsAtRest (runs_in pass.old) }
-    ensures replied { IfOk result (λ reply. Replies (Some (wish.Cni env stdin)) reply
+    ensures comes { Comes D.rows D.given D.faults (Some (wish.Cni env stdin)) result
         (server_at pass.old (G.turns gate.old) (C.ahead clock.old))
-        (server_at pass.new (G.turns gate.new) (C.ahead clock.new))) }
-    ensures broken { OnErr result (Breaks (Some (wish.Cni env stdin))
-        (server_at pass.old (G.turns gate.old) (C.ahead clock.old))
-        (server_at pass.new (G.turns gate.new) (C.ahead clock.new))) }
-    ensures rests { OnOk result (IsAtRest (runs_in pass.new)) }
-    ensures worn { OnWorn result (WearsOut (Some (wish.Cni env stdin)) pass.old pass.new) }
+        (server_at pass.new (G.turns gate.new) (C.ahead clock.new)) }
     ensures stops { Halts result (G.stops gate.old) (G.stops gate.new) }
-    ensures keeper { MakesCalls D.rows D.given D.faults pass.old pass.new }
     ensures lines { G.lines gate.new ≡ G.lines gate.old }
 {
     if pass.running() {
@@ -231,16 +218,10 @@ fn answer_request<R: Wait, D: Keeper, G: SessionGate, C: Clock, P: Patience>(
     requires lock { pass.old.lock ≡ shared.now }
     requires rests { IsAtRest (runs_in pass.old) }
     requires sound { IsSoundRequest request.old }
-    ensures replied { IfOk result (λ reply. Replies (Some (wish.Request request.old)) reply
+    ensures comes { Comes D.rows D.given D.faults (Some (wish.Request request.old)) result
         (server_at pass.old (G.turns gate.old) (C.ahead clock.old))
-        (server_at pass.new (G.turns gate.new) (C.ahead clock.new))) }
-    ensures broken { OnErr result (Breaks (Some (wish.Request request.old))
-        (server_at pass.old (G.turns gate.old) (C.ahead clock.old))
-        (server_at pass.new (G.turns gate.new) (C.ahead clock.new))) }
-    ensures rests { OnOk result (IsAtRest (runs_in pass.new)) }
-    ensures worn { OnWorn result (WearsOut (Some (wish.Request request.old)) pass.old pass.new) }
+        (server_at pass.new (G.turns gate.new) (C.ahead clock.new)) }
     ensures stops { Halts result (G.stops gate.old) (G.stops gate.new) }
-    ensures keeper { MakesCalls D.rows D.given D.faults pass.old pass.new }
     ensures lines { G.lines gate.new ≡ G.lines gate.old }
 {
     if pass.running() {
@@ -267,16 +248,10 @@ fn answer_feed<R: Wait, D: Keeper, G: SessionGate, C: Clock, P: Patience>(
     requires lock { pass.old.lock ≡ shared.now }
     requires rests { IsAtRest (runs_in pass.old) }
     requires sound { All IsHandleId live.now }
-    ensures replied { IfOk result (λ reply. Replies (Some (wish.Feed live.now)) reply
+    ensures comes { Comes D.rows D.given D.faults (Some (wish.Feed live.now)) result
         (server_at pass.old (G.turns gate.old) (C.ahead clock.old))
-        (server_at pass.new (G.turns gate.new) (C.ahead clock.new))) }
-    ensures broken { OnErr result (Breaks (Some (wish.Feed live.now))
-        (server_at pass.old (G.turns gate.old) (C.ahead clock.old))
-        (server_at pass.new (G.turns gate.new) (C.ahead clock.new))) }
-    ensures rests { OnOk result (IsAtRest (runs_in pass.new)) }
-    ensures worn { OnWorn result (WearsOut (Some (wish.Feed live.now)) pass.old pass.new) }
+        (server_at pass.new (G.turns gate.new) (C.ahead clock.new)) }
     ensures stops { Halts result (G.stops gate.old) (G.stops gate.new) }
-    ensures keeper { MakesCalls D.rows D.given D.faults pass.old pass.new }
     ensures lines { G.lines gate.new ≡ G.lines gate.old }
 {
     if pass.running() {
@@ -299,16 +274,10 @@ fn feed_waiting<R: Wait, D: Keeper, G: SessionGate, C: Clock, P: Patience>(
     requires lock { pass.old.lock ≡ shared.now }
     requires waits { is_waiting (runs_in pass.old) ≡ true }
     requires sound { All IsHandleId live.now }
-    ensures replied { IfOk result (λ reply. Replies (Some (wish.Feed live.now)) reply
+    ensures comes { Comes D.rows D.given D.faults (Some (wish.Feed live.now)) result
         (server_at pass.old (G.turns gate.old) (C.ahead clock.old))
-        (server_at pass.new (G.turns gate.new) (C.ahead clock.new))) }
-    ensures broken { OnErr result (Breaks (Some (wish.Feed live.now))
-        (server_at pass.old (G.turns gate.old) (C.ahead clock.old))
-        (server_at pass.new (G.turns gate.new) (C.ahead clock.new))) }
-    ensures rests { OnOk result (IsAtRest (runs_in pass.new)) }
-    ensures worn { OnWorn result (WearsOut (Some (wish.Feed live.now)) pass.old pass.new) }
+        (server_at pass.new (G.turns gate.new) (C.ahead clock.new)) }
     ensures stops { Halts result (G.stops gate.old) (G.stops gate.new) }
-    ensures keeper { MakesCalls D.rows D.given D.faults pass.old pass.new }
     ensures lines { G.lines gate.new ≡ G.lines gate.old }
 {
     let at = clock.now();
@@ -326,16 +295,10 @@ fn answer_stop<R: Wait, D: Keeper>(
 ) -> Result<Reply, Broken>
     requires lock { pass.old.lock ≡ shared.now }
     requires rests { IsAtRest (runs_in pass.old) }
-    ensures replied { (turns : Option ℕ) (ahead : Option (ℕ → ℕ)) → IfOk result (λ reply. Replies (Some wish.Stop) reply
+    ensures comes { (turns : Option ℕ) (ahead : Option (ℕ → ℕ)) → Comes D.rows D.given D.faults (Some wish.Stop) result
         (server_at pass.old turns ahead)
-        (server_at pass.new turns ahead)) }
-    ensures broken { (turns : Option ℕ) (ahead : Option (ℕ → ℕ)) → OnErr result (Breaks (Some wish.Stop)
-        (server_at pass.old turns ahead)
-        (server_at pass.new turns ahead)) }
-    ensures rests { OnOk result (IsAtRest (runs_in pass.new)) }
-    ensures worn { OnWorn result (WearsOut (Some wish.Stop) pass.old pass.new) }
-    ensures not_halted { OnHalted result ⊥ }
-    ensures keeper { MakesCalls D.rows D.given D.faults pass.old pass.new }
+        (server_at pass.new turns ahead) }
+    ensures stops { (count : ℕ) → Halts result count count }
 {
     if pass.running() {
         return stop_waiting(rt, shared, pass);
@@ -351,16 +314,10 @@ fn stop_waiting<R: Wait, D: Keeper>(
 ) -> Result<Reply, Broken>
     requires lock { pass.old.lock ≡ shared.now }
     requires waits { is_waiting (runs_in pass.old) ≡ true }
-    ensures replied { (turns : Option ℕ) (ahead : Option (ℕ → ℕ)) → IfOk result (λ reply. Replies (Some wish.Stop) reply
+    ensures comes { (turns : Option ℕ) (ahead : Option (ℕ → ℕ)) → Comes D.rows D.given D.faults (Some wish.Stop) result
         (server_at pass.old turns ahead)
-        (server_at pass.new turns ahead)) }
-    ensures broken { (turns : Option ℕ) (ahead : Option (ℕ → ℕ)) → OnErr result (Breaks (Some wish.Stop)
-        (server_at pass.old turns ahead)
-        (server_at pass.new turns ahead)) }
-    ensures rests { OnOk result (IsAtRest (runs_in pass.new)) }
-    ensures worn { OnWorn result (WearsOut (Some wish.Stop) pass.old pass.new) }
-    ensures not_halted { OnHalted result ⊥ }
-    ensures keeper { MakesCalls D.rows D.given D.faults pass.old pass.new }
+        (server_at pass.new turns ahead) }
+    ensures stops { (count : ℕ) → Halts result count count }
 {
     match stop(rt, shared, pass) {
         Ok(()) => Ok(Reply::Stopped),
@@ -376,16 +333,10 @@ fn answer_routes<R: Wait, D: Keeper>(
 ) -> Result<Reply, Broken>
     requires lock { pass.old.lock ≡ shared.now }
     requires rests { IsAtRest (runs_in pass.old) }
-    ensures replied { (turns : Option ℕ) (ahead : Option (ℕ → ℕ)) → IfOk result (λ reply. Replies (Some wish.Routes) reply
+    ensures comes { (turns : Option ℕ) (ahead : Option (ℕ → ℕ)) → Comes D.rows D.given D.faults (Some wish.Routes) result
         (server_at pass.old turns ahead)
-        (server_at pass.new turns ahead)) }
-    ensures broken { (turns : Option ℕ) (ahead : Option (ℕ → ℕ)) → OnErr result (Breaks (Some wish.Routes)
-        (server_at pass.old turns ahead)
-        (server_at pass.new turns ahead)) }
-    ensures rests { IsAtRest (runs_in pass.new) }
-    ensures worn { OnWorn result (WearsOut (Some wish.Routes) pass.old pass.new) }
-    ensures not_halted { OnHalted result ⊥ }
-    ensures keeper { MakesCalls D.rows D.given D.faults pass.old pass.new }
+        (server_at pass.new turns ahead) }
+    ensures stops { (count : ℕ) → Halts result count count }
 {
     match routes(rt, shared, pass) {
         Ok((revision, routes)) => Ok(Reply::Routes(revision, Seq::of(routes))),
@@ -402,16 +353,10 @@ fn answer_since<R: Wait, D: Keeper>(
 ) -> Result<Reply, Broken>
     requires lock { pass.old.lock ≡ shared.now }
     requires rests { IsAtRest (runs_in pass.old) }
-    ensures replied { (turns : Option ℕ) (ahead : Option (ℕ → ℕ)) → IfOk result (λ reply. Replies (Some (wish.RoutesSince revision)) reply
+    ensures comes { (turns : Option ℕ) (ahead : Option (ℕ → ℕ)) → Comes D.rows D.given D.faults (Some (wish.RoutesSince revision)) result
         (server_at pass.old turns ahead)
-        (server_at pass.new turns ahead)) }
-    ensures broken { (turns : Option ℕ) (ahead : Option (ℕ → ℕ)) → OnErr result (Breaks (Some (wish.RoutesSince revision))
-        (server_at pass.old turns ahead)
-        (server_at pass.new turns ahead)) }
-    ensures rests { IsAtRest (runs_in pass.new) }
-    ensures worn { OnWorn result (WearsOut (Some (wish.RoutesSince revision)) pass.old pass.new) }
-    ensures not_halted { OnHalted result ⊥ }
-    ensures keeper { MakesCalls D.rows D.given D.faults pass.old pass.new }
+        (server_at pass.new turns ahead) }
+    ensures stops { (count : ℕ) → Halts result count count }
 {
     match routes_since(rt, shared, pass, revision) {
         Ok(since) => Ok(Reply::RoutesSince(since)),
@@ -430,16 +375,10 @@ fn answer_rows<R: Wait, D: Keeper>(
 ) -> Result<Reply, Broken>
     requires lock { pass.old.lock ≡ shared.now }
     requires rests { IsAtRest (runs_in pass.old) }
-    ensures replied { (turns : Option ℕ) (ahead : Option (ℕ → ℕ)) → IfOk result (λ reply. Replies (Some (wish.Rows kind after)) reply
+    ensures comes { (turns : Option ℕ) (ahead : Option (ℕ → ℕ)) → Comes D.rows D.given D.faults (Some (wish.Rows kind after)) result
         (server_at pass.old turns ahead)
-        (server_at pass.new turns ahead)) }
-    ensures broken { (turns : Option ℕ) (ahead : Option (ℕ → ℕ)) → OnErr result (Breaks (Some (wish.Rows kind after))
-        (server_at pass.old turns ahead)
-        (server_at pass.new turns ahead)) }
-    ensures rests { IsAtRest (runs_in pass.new) }
-    ensures worn { OnWorn result (WearsOut (Some (wish.Rows kind after)) pass.old pass.new) }
-    ensures not_halted { OnHalted result ⊥ }
-    ensures keeper { MakesCalls D.rows D.given D.faults pass.old pass.new }
+        (server_at pass.new turns ahead) }
+    ensures stops { (count : ℕ) → Halts result count count }
 {
     answer_page(rt, alloc, shared, pass, kind, &after)
 }
@@ -454,16 +393,10 @@ fn answer_page<R: Wait, D: Keeper>(
 ) -> Result<Reply, Broken>
     requires lock { pass.old.lock ≡ shared.now }
     requires rests { IsAtRest (runs_in pass.old) }
-    ensures replied { (turns : Option ℕ) (ahead : Option (ℕ → ℕ)) → IfOk result (λ reply. Replies (Some (wish.Rows kind after.now)) reply
+    ensures comes { (turns : Option ℕ) (ahead : Option (ℕ → ℕ)) → Comes D.rows D.given D.faults (Some (wish.Rows kind after.now)) result
         (server_at pass.old turns ahead)
-        (server_at pass.new turns ahead)) }
-    ensures broken { (turns : Option ℕ) (ahead : Option (ℕ → ℕ)) → OnErr result (Breaks (Some (wish.Rows kind after.now))
-        (server_at pass.old turns ahead)
-        (server_at pass.new turns ahead)) }
-    ensures rests { IsAtRest (runs_in pass.new) }
-    ensures worn { OnWorn result (WearsOut (Some (wish.Rows kind after.now)) pass.old pass.new) }
-    ensures not_halted { OnHalted result ⊥ }
-    ensures keeper { MakesCalls D.rows D.given D.faults pass.old pass.new }
+        (server_at pass.new turns ahead) }
+    ensures stops { (count : ℕ) → Halts result count count }
 {
     match page(rt, alloc, shared, pass, kind, after) {
         Ok(page) => Ok(Reply::Rows(page)),
@@ -480,16 +413,10 @@ fn answer_usage<R: Wait, D: Keeper>(
 ) -> Result<Reply, Broken>
     requires lock { pass.old.lock ≡ shared.now }
     requires rests { IsAtRest (runs_in pass.old) }
-    ensures replied { (turns : Option ℕ) (ahead : Option (ℕ → ℕ)) → IfOk result (λ reply. Replies (Some wish.Usage) reply
+    ensures comes { (turns : Option ℕ) (ahead : Option (ℕ → ℕ)) → Comes D.rows D.given D.faults (Some wish.Usage) result
         (server_at pass.old turns ahead)
-        (server_at pass.new turns ahead)) }
-    ensures broken { (turns : Option ℕ) (ahead : Option (ℕ → ℕ)) → OnErr result (Breaks (Some wish.Usage)
-        (server_at pass.old turns ahead)
-        (server_at pass.new turns ahead)) }
-    ensures rests { IsAtRest (runs_in pass.new) }
-    ensures worn { OnWorn result (WearsOut (Some wish.Usage) pass.old pass.new) }
-    ensures not_halted { OnHalted result ⊥ }
-    ensures keeper { MakesCalls D.rows D.given D.faults pass.old pass.new }
+        (server_at pass.new turns ahead) }
+    ensures stops { (count : ℕ) → Halts result count count }
 {
     match usage(rt, alloc, shared, pass) {
         Ok((revision, pools)) => Ok(Reply::Usage(revision, Seq::of(pools))),
@@ -499,12 +426,8 @@ fn answer_usage<R: Wait, D: Keeper>(
 
 /// The text of the opening.
 fn answer_opened(alloc: Global, opening: &Opening) -> Result<Reply, Broken>
-    ensures replied { (server : Server) → IfOk result (λ reply. Replies (Some Wish.Opened) reply server server) }
-    ensures broken { (server : Server) → OnErr result (Breaks (Some Wish.Opened) server server) }
-    ensures rests { (runs : Option Running) → IsAtRest runs → OnOk result (IsAtRest runs) }
-    ensures worn { (old new : PassValue) → OnWorn result (WearsOut (Some Wish.Opened) old new) }
     ensures opened { IfOk result (λ reply. reply ≡ Reply.Opened opening.now) }
-    ensures not_halted { OnHalted result ⊥ }
+    ensures memory { OnErr result (result ≡ Err Broken.Memory) }
 {
     match Text::copied(alloc, opening.text()) {
         Ok(text) => Ok(Reply::Opened(text)),
@@ -528,17 +451,10 @@ fn tell_run<R: Wait, D: Keeper, G: SessionGate, P: Patience>(
     requires sound { IsSoundRequest request.now }
     requires of_call { IsTrue (is_of_call request.now) }
     requires timeless { IsTimeless request.now }
-    ensures told { IfOk result (λ reply. TellsRun request.now version
-        (record { pass = pass.old; turns = G.turns gate.old }) reply
-        (record { pass = pass.new; turns = G.turns gate.new })) }
-    ensures broken { OnErr result (DoesPart
-        (record { pass = pass.old; turns = G.turns gate.old }) (Calls request.now) 2
-        (record { pass = pass.new; turns = G.turns gate.new })) }
-    ensures idle { OnOk result (runs_in pass.new ≡ None) }
-    ensures worn { OnWorn result (IsWorn pass.new) }
-    ensures unanswered { OnWorn result (IsUnanswered pass.old pass.new) }
+    ensures comes { ComesOfCall D.rows D.given D.faults request.now version result
+        (record { pass = pass.old; turns = G.turns gate.old })
+        (record { pass = pass.new; turns = G.turns gate.new }) }
     ensures stops { Halts result (G.stops gate.old) (G.stops gate.new) }
-    ensures keeper { MakesCalls D.rows D.given D.faults pass.old pass.new }
     ensures lines { G.lines gate.new ≡ G.lines gate.old }
 {
     match run_call(rt, alloc, shared, pass, gate, patience, request) {

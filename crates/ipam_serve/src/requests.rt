@@ -1,5 +1,5 @@
 //! What a session's slot is given goes on to its answer. The gate is passed before each call.
-ghost use Rattle.std.specs.Prelude.{◌≡◌, ◌⊎◌, [], ◌∷◌, Some, None, Err, true, IsSome, IfOk, OnOk, OnErr, IfSome, option_map};
+ghost use Rattle.std.specs.Prelude.{◌≡◌, ◌⊎◌, Some, None, true, IsSome, IfOk, OnOk, OnErr, IfSome};
 ghost use Rattle.std.specs.List.{All};
 ghost use Rattle.ipam_records.specs.Sound.{IsHandleId};
 ghost use Rattle.ipam_model.specs.declared.request.Request.{Request as Asked};
@@ -7,14 +7,13 @@ ghost use Rattle.ipam_model.specs.declared.request.Request.TheVariants.{Collect}
 ghost use Rattle.ipam_model.specs.CanAnswer.{CanAnswer};
 ghost use Rattle.ipam_model.specs.SoundRequest.{IsSoundCollect, IsSoundRequest};
 ghost use Rattle.ipam_shared.specs.Passes.{runs_in};
-ghost use Rattle.ipam_io.specs.Counts.{next_count};
-ghost use Rattle.ipam_serve.specs.Faults.{Halts, IfAnswered, IsWorn, OnWaits, OnWorn, answer_ran, spared_by};
-ghost use Rattle.ipam_serve.specs.Gains.{Took, asked_in, is_early, is_waiting};
+ghost use Rattle.ipam_serve.specs.Faults.{Halts, IfAnswered, IsWorn, OnWaits, OnWorn, answer_ran, found_of, spared_by};
+ghost use Rattle.ipam_serve.specs.Gains.{asked_in, is_early, is_waiting};
 ghost use Rattle.ipam_serve.specs.Keeping.{MakesCalls};
 ghost use Rattle.ipam_serve.specs.Lines.{IsUnanswered};
-ghost use Rattle.ipam_serve.specs.Runs.{Does, DoesPart, FeedsList, WentOn};
+ghost use Rattle.ipam_serve.specs.Going.{FeedsOwn, GoesOnTo, GoesToAnswer, Steps};
+ghost use Rattle.ipam_serve.specs.Runs.{Does, DoesPart, FeedsList};
 ghost use Rattle.ipam_serve.specs.Spans.{Begins, Calls, Feeds, IsTimeless, list_deed, own_feed};
-ghost use Rattle.ipam_serve.specs.Turns.{Called};
 
 use crate::gates::SessionGate;
 use crate::patience::{Losses, Patience};
@@ -80,19 +79,10 @@ pub(crate) fn run_on<R: Wait, D: Keeper, G: SessionGate, P: Patience>(
 ) -> Result<Ran, Broken>
     requires lock { pass.old.lock ≡ shared.now }
     requires runs { IsSome (runs_in pass.old) }
-    ensures ran { IfOk result (λ ran. WentOn
-        (record { pass = pass.old; turns = G.turns gate.old }) (answer_ran ran) (spared_by ran)
-        (record { pass = pass.new; turns = G.turns gate.new })) }
-    ensures broken { OnErr result (WentOn
-        (record { pass = pass.old; turns = G.turns gate.old }) None 1
-        (record { pass = pass.new; turns = G.turns gate.new })) }
-    ensures can_answer { (request : Asked) → asked_in (runs_in pass.old) ≡ Some request
-        → IfOk result (λ ran. IfAnswered ran (CanAnswer request)) }
-    ensures waits { IfOk result (λ ran. OnWaits ran (is_waiting (runs_in pass.new) ≡ true)) }
-    ensures worn { OnWorn result (IsWorn pass.new) }
-    ensures runs { OnWorn result (IsSome (runs_in pass.new)) }
+    ensures went { GoesOnTo D.rows D.given D.faults result
+        (record { pass = pass.old; turns = G.turns gate.old })
+        (record { pass = pass.new; turns = G.turns gate.new }) }
     ensures stops { Halts result (G.stops gate.old) (G.stops gate.new) }
-    ensures keeper { MakesCalls D.rows D.given D.faults pass.old pass.new }
     ensures lines { G.lines gate.new ≡ G.lines gate.old }
 {
     let mut losses = Losses::none();
@@ -122,12 +112,10 @@ fn step_on<R: Wait, D: Keeper, G: SessionGate>(
 ) -> Result<Option<Ran>, Broken>
     requires lock { pass.old.lock ≡ shared.now }
     requires runs { IsSome (runs_in pass.old) }
-    ensures step { IfOk result (λ ran. Called pass.old ran pass.new) }
-    ensures no_step { OnErr result (Took pass.old [] 1 pass.new) }
-    ensures passed { G.turns gate.new ≡ option_map next_count (G.turns gate.old) }
-    ensures worn { OnWorn result (IsWorn pass.new) }
+    ensures steps { Steps D.rows D.given D.faults result
+        (record { pass = pass.old; turns = G.turns gate.old })
+        (record { pass = pass.new; turns = G.turns gate.new }) }
     ensures stops { Halts result (G.stops gate.old) (G.stops gate.new) }
-    ensures keeper { MakesCalls D.rows D.given D.faults pass.old pass.new }
     ensures lines { G.lines gate.new ≡ G.lines gate.old }
 {
     match gate.pass(Point::Turn) {
@@ -138,48 +126,6 @@ fn step_on<R: Wait, D: Keeper, G: SessionGate>(
 
 /// Goes on with what runs to its answer. What waits though it was fed would never be answered; no
 /// request does, and one that did would be told as want of memory.
-fn run_to_answer<R: Wait, D: Keeper, G: SessionGate, P: Patience>(
-    rt: &R,
-    alloc: Global,
-    shared: &Shared<D>,
-    pass: &mut Pass,
-    gate: &mut G,
-    patience: &mut P,
-) -> Result<Answer, Broken>
-    requires lock { pass.old.lock ≡ shared.now }
-    requires runs { IsSome (runs_in pass.old) }
-    ensures ran { IfOk result (λ told. WentOn
-        (record { pass = pass.old; turns = G.turns gate.old }) (Some told) 0
-        (record { pass = pass.new; turns = G.turns gate.new })) }
-    ensures broken { OnErr result (WentOn
-        (record { pass = pass.old; turns = G.turns gate.old }) None 1
-        (record { pass = pass.new; turns = G.turns gate.new })) }
-    ensures can_answer { (request : Asked) → asked_in (runs_in pass.old) ≡ Some request
-        → IfOk result (CanAnswer request) }
-    ensures worn { OnWorn result (IsWorn pass.new) }
-    ensures runs { OnWorn result (IsSome (runs_in pass.new)) }
-    ensures stops { Halts result (G.stops gate.old) (G.stops gate.new) }
-    ensures keeper { MakesCalls D.rows D.given D.faults pass.old pass.new }
-    ensures lines { G.lines gate.new ≡ G.lines gate.old }
-{
-    match run_on(rt, alloc, shared, pass, gate, patience) {
-        Ok(ran) => answer_of(ran),
-        Err(broken) => Err(broken),
-    }
-}
-
-fn answer_of(ran: Ran) -> Result<Answer, Broken>
-    ensures told { IfOk result (λ told. ran ≡ Ran.Answered told) }
-    ensures waits { OnErr result (ran ≡ Ran.Waits) }
-    ensures memory { OnErr result (result ≡ Err Broken.Memory) }
-{
-    match ran {
-        Ran::Answered(answer) => Ok(answer),
-        Ran::Waits => Err(Broken::Memory),
-    }
-}
-
-/// The same, as an answer that there may be.
 fn run_fed<R: Wait, D: Keeper, G: SessionGate, P: Patience>(
     rt: &R,
     alloc: Global,
@@ -190,23 +136,24 @@ fn run_fed<R: Wait, D: Keeper, G: SessionGate, P: Patience>(
 ) -> Result<Option<Answer>, Broken>
     requires lock { pass.old.lock ≡ shared.now }
     requires runs { IsSome (runs_in pass.old) }
-    ensures ran { IfOk result (λ found. IsSome found × WentOn
-        (record { pass = pass.old; turns = G.turns gate.old }) found 0
-        (record { pass = pass.new; turns = G.turns gate.new })) }
-    ensures broken { OnErr result (WentOn
-        (record { pass = pass.old; turns = G.turns gate.old }) None 1
-        (record { pass = pass.new; turns = G.turns gate.new })) }
-    ensures can_answer { (request : Asked) → asked_in (runs_in pass.old) ≡ Some request
-        → IfOk result (λ found. IfSome found (CanAnswer request)) }
-    ensures worn { OnWorn result (IsWorn pass.new) }
-    ensures runs { OnWorn result (IsSome (runs_in pass.new)) }
+    ensures went { GoesToAnswer D.rows D.given D.faults result
+        (record { pass = pass.old; turns = G.turns gate.old })
+        (record { pass = pass.new; turns = G.turns gate.new }) }
     ensures stops { Halts result (G.stops gate.old) (G.stops gate.new) }
-    ensures keeper { MakesCalls D.rows D.given D.faults pass.old pass.new }
     ensures lines { G.lines gate.new ≡ G.lines gate.old }
 {
-    match run_to_answer(rt, alloc, shared, pass, gate, patience) {
-        Ok(answer) => Ok(Some(answer)),
+    match run_on(rt, alloc, shared, pass, gate, patience) {
+        Ok(ran) => found_of(ran),
         Err(broken) => Err(broken),
+    }
+}
+
+fn found_of(ran: Ran) -> Result<Option<Answer>, Broken>
+    ensures { result ≡ found_of ran }
+{
+    match ran {
+        Ran::Answered(answer) => Ok(Some(answer)),
+        Ran::Waits => Err(Broken::Memory),
     }
 }
 
@@ -305,18 +252,10 @@ fn feed_own<R: Wait, D: Keeper, G: SessionGate, P: Patience>(
     requires asked { asked_in (runs_in pass.old) ≡ Some request.now }
     requires sound { IsSoundRequest request.now }
     requires timeless { IsTimeless request.now }
-    ensures fed { IfOk result (λ told. Does
-        (record { pass = pass.old; turns = G.turns gate.old }) (own_feed request.now) (Some told) 0
-        (record { pass = pass.new; turns = G.turns gate.new })) }
-    ensures broken { OnErr result (DoesPart
-        (record { pass = pass.old; turns = G.turns gate.old }) (own_feed request.now) 1
-        (record { pass = pass.new; turns = G.turns gate.new })) }
-    ensures can_answer { IfOk result (CanAnswer request.now) }
-    ensures idle { OnOk result (runs_in pass.new ≡ None) }
-    ensures worn { OnWorn result (IsWorn pass.new) }
-    ensures runs { OnWorn result (IsSome (runs_in pass.new)) }
+    ensures fed { FeedsOwn D.rows D.given D.faults (own_feed request.now) request.now result
+        (record { pass = pass.old; turns = G.turns gate.old })
+        (record { pass = pass.new; turns = G.turns gate.new }) }
     ensures stops { Halts result (G.stops gate.old) (G.stops gate.new) }
-    ensures keeper { MakesCalls D.rows D.given D.faults pass.old pass.new }
     ensures lines { G.lines gate.new ≡ G.lines gate.old }
 {
     match request {
@@ -339,18 +278,10 @@ fn feed_first<R: Wait, D: Keeper, G: SessionGate, P: Patience>(
     requires asked { asked_in (runs_in pass.old) ≡ Some (Collect asked.now) }
     requires sound { IsSoundCollect asked.now }
     requires timeless { IsTimeless (Collect asked.now) }
-    ensures fed { IfOk result (λ told. Does
-        (record { pass = pass.old; turns = G.turns gate.old }) (Feeds asked.now.live 0) (Some told) 0
-        (record { pass = pass.new; turns = G.turns gate.new })) }
-    ensures broken { OnErr result (DoesPart
-        (record { pass = pass.old; turns = G.turns gate.old }) (Feeds asked.now.live 0) 1
-        (record { pass = pass.new; turns = G.turns gate.new })) }
-    ensures can_answer { IfOk result (CanAnswer (Collect asked.now)) }
-    ensures idle { OnOk result (runs_in pass.new ≡ None) }
-    ensures worn { OnWorn result (IsWorn pass.new) }
-    ensures runs { OnWorn result (IsSome (runs_in pass.new)) }
+    ensures fed { FeedsOwn D.rows D.given D.faults (Feeds asked.now.live 0) (Collect asked.now) result
+        (record { pass = pass.old; turns = G.turns gate.old })
+        (record { pass = pass.new; turns = G.turns gate.new }) }
     ensures stops { Halts result (G.stops gate.old) (G.stops gate.new) }
-    ensures keeper { MakesCalls D.rows D.given D.faults pass.old pass.new }
     ensures lines { G.lines gate.new ≡ G.lines gate.old }
 {
     let live = asked.live.as_slice();

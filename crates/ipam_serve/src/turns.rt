@@ -1,5 +1,5 @@
 //! One turn of a session's slot. Each leaves a turn for the last stop.
-ghost use Rattle.std.specs.Prelude.{◌≡◌, ◌≢◌, ◌⊎◌, ◌+◌, ◌<◌, ◌≤◌, ◌^◌, [], ◌∷◌, Some, None, Ok, Err, true, false, IsSome, IfOk, IfSome, IfNone, OnOk, OnErr, ℕ};
+ghost use Rattle.std.specs.Prelude.{◌≡◌, ◌≢◌, ◌⊎◌, ◌+◌, ◌<◌, ◌≤◌, ◌^◌, [], ◌∷◌, Some, None, Ok, Err, true, false, IsSome, IfOk, IfSome, OnOk, OnErr, ℕ};
 ghost use Rattle.std.specs.List.{All};
 ghost use Rattle.ipam_records.specs.Sound.{IsHandleId};
 ghost use Rattle.ipam_model.specs.declared.entry.Entry.TheVariants as entry;
@@ -15,7 +15,7 @@ ghost use Rattle.ipam_kept.specs.Feed.{AreRoutes};
 ghost use Rattle.ipam_model.specs.History.{store_at};
 ghost use Rattle.ipam_serve.specs.Lines.{page_seen, since_in};
 ghost use Rattle.ipam_serve.specs.Looks.{IsUsage};
-ghost use Rattle.ipam_serve.specs.Turns.{Called, Fed, IsToldOf, answer_told};
+ghost use Rattle.ipam_serve.specs.Turns.{Called, Fed, IsToldOf, TakesLook, TakesOne, answer_told};
 
 use crate::looks::{PageLook, UsageLook};
 use crate::patience::Losses;
@@ -220,12 +220,8 @@ pub(crate) fn routes<R: Wait, D: Keeper>(
     pass: &mut Pass,
 ) -> Result<(u64, Vec<Route>), Broken>
     requires lock { pass.old.lock ≡ shared.now }
-    ensures took { Took pass.old [] 1 pass.new }
-    ensures one { OnOk result (pass.new.left + 1 ≡ pass.old.left) }
-    ensures runs { runs_in pass.new ≡ runs_in pass.old }
+    ensures turn { TakesOne result pass.old pass.new }
     ensures told { IfOk result (λ told. AreRoutes pass.new.base pass.new.seen told.0 told.1.items) }
-    ensures worn { OnWorn result (pass.new.left < 2) }
-    ensures not_halted { OnHalted result ⊥ }
 {
     if pass.left() < 2 {
         return Err(Broken::Worn);
@@ -244,12 +240,8 @@ pub(crate) fn routes_since<R: Wait, D: Keeper>(
     revision: u64,
 ) -> Result<Since, Broken>
     requires lock { pass.old.lock ≡ shared.now }
-    ensures took { Took pass.old [] 1 pass.new }
-    ensures one { OnOk result (pass.new.left + 1 ≡ pass.old.left) }
-    ensures runs { runs_in pass.new ≡ runs_in pass.old }
+    ensures turn { TakesOne result pass.old pass.new }
     ensures told { IfOk result (λ since. since ≡ since_in pass.new revision) }
-    ensures worn { OnWorn result (pass.new.left < 2) }
-    ensures not_halted { OnHalted result ⊥ }
 {
     if pass.left() < 2 {
         return Err(Broken::Worn);
@@ -283,11 +275,8 @@ fn look<R: Wait, D: Keeper, L: Look + Drop>(
     look: L,
 ) -> Option<L::Told>
     requires lock { pass.old.lock ≡ shared.now }
-    ensures took { Took pass.old [] 1 pass.new }
-    ensures one { IfSome result (λ told. pass.new.left + 1 ≡ pass.old.left) }
-    ensures runs { runs_in pass.new ≡ runs_in pass.old }
+    ensures turn { TakesLook result pass.old pass.new }
     ensures told { IfSome result (λ told. L.tells look (store_at pass.new.base pass.new.seen) told) }
-    ensures worn { IfNone result (pass.new.left < 2) }
 {
     if pass.left() < 2 {
         return None;
@@ -308,12 +297,8 @@ pub(crate) fn page<R: Wait, D: Keeper>(
     after: &Option<Key>,
 ) -> Result<Page, Broken>
     requires lock { pass.old.lock ≡ shared.now }
-    ensures took { Took pass.old [] 1 pass.new }
-    ensures one { OnOk result (pass.new.left + 1 ≡ pass.old.left) }
-    ensures runs { runs_in pass.new ≡ runs_in pass.old }
+    ensures turn { TakesOne result pass.old pass.new }
     ensures told { IfOk result (λ page. page ≡ page_seen pass.new kind after.now) }
-    ensures worn { OnWorn result (pass.new.left < 2) }
-    ensures not_halted { OnHalted result ⊥ }
 {
     match look(rt, shared, pass, PageLook { alloc, kind, after }) {
         Some(Ok(page)) => Ok(page),
@@ -330,12 +315,8 @@ pub(crate) fn usage<R: Wait, D: Keeper>(
     pass: &mut Pass,
 ) -> Result<(u64, Vec<PoolUsage>), Broken>
     requires lock { pass.old.lock ≡ shared.now }
-    ensures took { Took pass.old [] 1 pass.new }
-    ensures one { OnOk result (pass.new.left + 1 ≡ pass.old.left) }
-    ensures runs { runs_in pass.new ≡ runs_in pass.old }
+    ensures turn { TakesOne result pass.old pass.new }
     ensures told { IfOk result (λ usage. IsUsage (store_at pass.new.base pass.new.seen) usage.0 usage.1.items) }
-    ensures worn { OnWorn result (pass.new.left < 2) }
-    ensures not_halted { OnHalted result ⊥ }
 {
     match look(rt, shared, pass, UsageLook { alloc }) {
         Some(Ok(usage)) => Ok(usage),

@@ -3,9 +3,10 @@ ghost use Rattle.std.specs.Prelude.{◌≤◌, ◌<◌, ◌^◌};
 ghost use Rattle.ipam_model.specs.SoundRequest.{IsSoundRequest};
 ghost use Rattle.ipam_kept.specs.Kept.{IsKept};
 
+use crate::passes::without_entry;
 use crate::{keepers, requests};
 use ipam_keeper::{Keeper, MemoryKeeper};
-use ipam_model::{Entry, Request, SLOTS};
+use ipam_model::{Request, SLOTS};
 use ipam_shared::{BeginFault, FeedFault, Kept, PrepareFault};
 use std::alloc::{AllocError, Global};
 
@@ -60,18 +61,9 @@ fn step_told<D: Keeper>(alloc: Global, kept: &mut Kept<D>, step: &str) -> &'stat
 {
     let (word, slot) = step.split_once(' ').unwrap_or((step, ""));
     let slot = slot.parse::<u8>().unwrap_or(u8::MAX);
-    if usize::from(slot) < SLOTS {
-        step_in(alloc, kept, word, slot)
-    } else {
-        "no such slot"
+    if usize::from(slot) >= SLOTS {
+        return "no such slot";
     }
-}
-
-fn step_in<D: Keeper>(alloc: Global, kept: &mut Kept<D>, word: &str, slot: u8) -> &'static str
-    requires slot { slot < SLOTS }
-    requires kept { IsKept D.rows kept.old }
-    ensures { IsKept D.rows kept.new }
-{
     match word {
         "begin" => begun(alloc, kept, slot),
         "feed" => fed(alloc, kept, slot),
@@ -93,7 +85,8 @@ fn begun<D: Keeper>(alloc: Global, kept: &mut Kept<D>, slot: u8) -> &'static str
     }
 }
 
-fn begun_of<D: Keeper>(
+/// What comes of this request that is begun in the slot.
+pub fn begun_of<D: Keeper>(
     alloc: Global,
     kept: &mut Kept<D>,
     slot: u8,
@@ -104,15 +97,12 @@ fn begun_of<D: Keeper>(
     requires sound { IsSoundRequest request.now }
     ensures { IsKept D.rows kept.new }
 {
-    told_begun(kept.begin(alloc, slot, request))
+    told_begun(without_entry(kept.begin(alloc, slot, request)))
 }
 
-fn told_begun(begun: Result<Entry, BeginFault>) -> &'static str {
+fn told_begun(begun: Result<(), BeginFault>) -> &'static str {
     match begun {
-        Ok(entry) => {
-            drop(entry);
-            "began"
-        }
+        Ok(()) => "began",
         Err(BeginFault::SlotBusy) => "busy",
         Err(BeginFault::Worn) => "worn",
         Err(BeginFault::Memory) => "no memory",
@@ -124,15 +114,12 @@ fn fed<D: Keeper>(alloc: Global, kept: &mut Kept<D>, slot: u8) -> &'static str
     requires kept { IsKept D.rows kept.old }
     ensures { IsKept D.rows kept.new }
 {
-    told_fed(kept.feed(alloc, slot, &[], 0))
+    told_fed(without_entry(kept.feed(alloc, slot, &[], 0)))
 }
 
-fn told_fed(fed: Result<Entry, FeedFault>) -> &'static str {
+fn told_fed(fed: Result<(), FeedFault>) -> &'static str {
     match fed {
-        Ok(entry) => {
-            drop(entry);
-            "fed"
-        }
+        Ok(()) => "fed",
         Err(FeedFault::NotWaiting) => "not waiting",
         Err(FeedFault::TooSoon { .. }) => "too soon",
         Err(FeedFault::Worn) => "worn",
@@ -140,20 +127,18 @@ fn told_fed(fed: Result<Entry, FeedFault>) -> &'static str {
     }
 }
 
-fn turned<D: Keeper>(alloc: Global, kept: &mut Kept<D>, slot: u8) -> &'static str
+/// What comes of a turn of the slot.
+pub fn turned<D: Keeper>(alloc: Global, kept: &mut Kept<D>, slot: u8) -> &'static str
     requires slot { slot < SLOTS }
     requires kept { IsKept D.rows kept.old }
     ensures { IsKept D.rows kept.new }
 {
-    told_turned(kept.turn(alloc, slot))
+    told_turned(without_entry(kept.turn(alloc, slot)))
 }
 
-fn told_turned(turned: Result<Entry, PrepareFault>) -> &'static str {
+fn told_turned(turned: Result<(), PrepareFault>) -> &'static str {
     match turned {
-        Ok(entry) => {
-            drop(entry);
-            "turned"
-        }
+        Ok(()) => "turned",
         Err(PrepareFault::SlotIdle) => "idle",
         Err(PrepareFault::Waiting) => "waiting",
         Err(PrepareFault::Worn) => "worn",
@@ -166,15 +151,12 @@ fn stopped<D: Keeper>(kept: &mut Kept<D>, slot: u8) -> &'static str
     requires kept { IsKept D.rows kept.old }
     ensures { IsKept D.rows kept.new }
 {
-    told_stopped(kept.stop(slot))
+    told_stopped(without_entry(kept.stop(slot).ok_or(())))
 }
 
-fn told_stopped(stopped: Option<Entry>) -> &'static str {
+fn told_stopped(stopped: Result<(), ()>) -> &'static str {
     match stopped {
-        Some(entry) => {
-            drop(entry);
-            "stopped"
-        }
-        None => "idle",
+        Ok(()) => "stopped",
+        Err(()) => "idle",
     }
 }

@@ -6,7 +6,7 @@ use crate::requests;
 use ipam_addr::Addr;
 use ipam_keeper::Keeper;
 use ipam_model::{Answer, Entry, Given, Request};
-use ipam_shared::{Pass, Shared};
+use ipam_shared::{Pass, PrepareFault, Shared, SharedFault};
 use std::alloc::Global;
 use std::sync::Wait;
 
@@ -40,12 +40,17 @@ pub fn begin<R: Wait, D: Keeper>(
     requires sound { IsSoundRequest request.now }
     ensures { pass.new.lock ≡ pass.old.lock }
 {
-    match shared.begin(rt, alloc, pass, request) {
+    without_entry(shared.begin(rt, alloc, pass, request)).is_ok()
+}
+
+/// What came of it, without the entry. This is dropped here, in one place, since its drop is dear to check.
+pub fn without_entry<F>(told: Result<Entry, F>) -> Result<(), F> {
+    match told {
         Ok(entry) => {
             drop(entry);
-            true
+            Ok(())
         }
-        Err(_) => false,
+        Err(fault) => Err(fault),
     }
 }
 
@@ -59,16 +64,18 @@ pub fn turn<R: Wait, D: Keeper>(
     requires { pass.old.lock ≡ shared.now }
     ensures { pass.new.lock ≡ pass.old.lock }
 {
-    match shared.turn(rt, alloc, pass) {
-        Ok(entry) => told(entry),
-        Err(_) => Turned::Nothing,
-    }
+    told(shared.turn(rt, alloc, pass))
 }
 
-fn told(entry: Entry) -> Turned {
-    let told = told_in(&entry);
-    drop(entry);
-    told
+fn told(turned: Result<Entry, SharedFault<PrepareFault>>) -> Turned {
+    match turned {
+        Ok(entry) => {
+            let told = told_in(&entry);
+            drop(entry);
+            told
+        }
+        Err(_) => Turned::Nothing,
+    }
 }
 
 fn told_in(entry: &Entry) -> Turned {

@@ -46,6 +46,16 @@ pub fn del(alloc: Global, handle: &str) -> Option<Box<Request>>
     read(alloc, text)
 }
 
+/// An ADD of the handle by this node, and its DEL.
+pub fn add_and_del(alloc: Global, node: u8, handle: &str) -> Option<(Box<Request>, Box<Request>)>
+    ensures add { IfSome result (λ both. IsSoundRequest both.0.value) }
+    ensures del { IfSome result (λ both. IsSoundRequest both.1.value) }
+{
+    let one = add(alloc, node, handle)?;
+    let other = del(alloc, handle)?;
+    Some((one, other))
+}
+
 /// Whether the handle holds the address.
 pub fn check(alloc: Global, handle: &str, address: Addr) -> Option<Box<Request>>
     ensures { IfSome result (λ boxed. IsSoundRequest boxed.value) }

@@ -40,18 +40,34 @@ fn told_by_two<R: Wait, D: Keeper>(
     let Some(mut other) = shared.split(one) else {
         return String::from_str(alloc, "not split");
     };
+    let told = told_of_settlings(rt, alloc, shared, one, &mut other);
+    if !other.running() {
+        shared.join(one, other);
+    }
+    told
+}
+
+fn told_of_settlings<R: Wait, D: Keeper>(
+    rt: &R,
+    alloc: Global,
+    shared: &Shared<D>,
+    one: &mut Pass,
+    other: &mut Pass,
+) -> Result<String, AllocError>
+    requires one { one.old.lock ≡ shared.now }
+    requires other { other.old.lock ≡ shared.now }
+    ensures one { one.new.lock ≡ shared.now }
+    ensures other { other.new.lock ≡ shared.now }
+{
     add(rt, alloc, shared, one, "n.c1");
-    add(rt, alloc, shared, &mut other, "n.c3");
-    let by_other = settled(rt, shared, &mut other);
+    add(rt, alloc, shared, other, "n.c3");
+    let by_other = settled(rt, shared, other);
     let before = one.is_sure();
     let first = settled(rt, shared, one);
     let between = one.is_sure();
     add(rt, alloc, shared, one, "n.c2");
     let after = one.is_sure();
     let second = settled(rt, shared, one);
-    if !other.running() {
-        shared.join(one, other);
-    }
     format!(in alloc; "other {by_other}, {before} {first} {between}, {after} {second}")
 }
 

@@ -2,11 +2,12 @@
 ghost use Rattle.ipam_model.specs.SoundRequest.{IsSoundRequest};
 ghost use Rattle.ipam_kept.specs.Kept.{IsKept};
 
+use crate::after::{begun_of, turned};
 use crate::workers::MANY;
 use crate::{keepers, requests};
 use ipam_keeper::Keeper;
-use ipam_model::{Entry, Request, SlotState};
-use ipam_shared::{BeginFault, Kept, PrepareFault};
+use ipam_model::{Request, SlotState};
+use ipam_shared::Kept;
 use std::alloc::{AllocError, Global};
 
 /// How many of so many turns were made in slot 0, by ADDs and DELs of one handle.
@@ -30,12 +31,9 @@ fn made_over<D: Keeper + Drop>(alloc: Global, keeper: D, turns: u32) -> u64 {
 fn made_in<D: Keeper>(alloc: Global, kept: &mut Kept<D>, turns: u32) -> u64
     requires { IsKept D.rows kept.old }
 {
-    match (
-        requests::add(alloc, 0, "n.c0"),
-        requests::del(alloc, "n.c0"),
-    ) {
-        (Some(add), Some(del)) => take(alloc, kept, &add, &del, turns),
-        _ => 0,
+    match requests::add_and_del(alloc, 0, "n.c0") {
+        Some((add, del)) => take(alloc, kept, &add, &del, turns),
+        None => 0,
     }
 }
 
@@ -74,48 +72,10 @@ fn go_on<D: Keeper>(
     ensures { IsKept D.rows kept.new }
 {
     if kept.cluster().state(0) != SlotState::Idle {
-        turn(alloc, kept)
+        turned(alloc, kept, 0) == "turned"
     } else if adds {
-        begin(alloc, kept, add)
+        begun_of(alloc, kept, 0, add) == "began"
     } else {
-        begin(alloc, kept, del)
-    }
-}
-
-/// Begins the request, and says whether it could.
-fn begin<D: Keeper>(alloc: Global, kept: &mut Kept<D>, request: &Request) -> bool
-    requires kept { IsKept D.rows kept.old }
-    requires sound { IsSoundRequest request.now }
-    ensures { IsKept D.rows kept.new }
-{
-    is_begun(kept.begin(alloc, 0, request))
-}
-
-/// Makes the next call, and says whether it could.
-fn turn<D: Keeper>(alloc: Global, kept: &mut Kept<D>) -> bool
-    requires kept { IsKept D.rows kept.old }
-    ensures { IsKept D.rows kept.new }
-{
-    is_turned(kept.turn(alloc, 0))
-}
-
-// Apart from the call, so that the entry is dropped in one place.
-fn is_begun(begun: Result<Entry, BeginFault>) -> bool {
-    match begun {
-        Ok(entry) => {
-            drop(entry);
-            true
-        }
-        Err(_) => false,
-    }
-}
-
-fn is_turned(turned: Result<Entry, PrepareFault>) -> bool {
-    match turned {
-        Ok(entry) => {
-            drop(entry);
-            true
-        }
-        Err(_) => false,
+        begun_of(alloc, kept, 0, del) == "began"
     }
 }

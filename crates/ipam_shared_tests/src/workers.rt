@@ -219,12 +219,9 @@ fn made_turns<R: Wait, D: Keeper>(
     let Ok(handle) = handle_of(alloc, slot, 0) else {
         return 0;
     };
-    match (
-        requests::add(alloc, slot, handle.as_str()),
-        requests::del(alloc, handle.as_str()),
-    ) {
-        (Some(add), Some(del)) => take(rt, alloc, shared, pass, &add, &del, turns),
-        _ => 0,
+    match requests::add_and_del(alloc, slot, handle.as_str()) {
+        Some((add, del)) => take(rt, alloc, shared, pass, &add, &del, turns),
+        None => 0,
     }
 }
 

@@ -36,11 +36,6 @@ module _ {D : Type 0} (tells : Tells D) (faults name : D → ℕ) (request : Req
   abbrev pub Came : Answer → Type 0
   Came told = (begun : Kept D) × Begins tells request old begun × CameToEnd tells faults name request begun new told
 
-  -- it did not begin; or it did, and was stopped at a step that found no memory
-  abbrev pub Wanted : Type 0
-  Wanted = IsUnbegun tells old new
-      ⊎ ((begun last : Kept D) × Begins tells request old begun × Wants tells faults name request begun last × IsStop tells last new)
-
   -- ---- an answer
 
   pub came-answered : MayBegin tells request old → (told : Answer) → Came told → IsAnswered tells faults request old new told ⊎ IsFaulted tells faults request old new told
@@ -58,7 +53,17 @@ module _ {D : Type 0} (tells : Tells D) (faults name : D → ℕ) (request : Req
   pub came-same : (told : Answer) → Came told → name new.keeper ≡ name old.keeper
   came-same told (begun, begins, came) = came.same ∙ ap name begins.keeper.keeper
 
-  -- ---- want of memory
+-- ---- want of memory
+
+module _ {D : Type 0} (tells : Tells D) (faults name : D → ℕ) (request : Request) (old new : Kept D) (found : Type 0) where
+  -- it did not begin; or it did, and was stopped at a step that found no memory
+  abbrev pub Wanted : Type 0
+  Wanted = (IsUnbegun tells old new × found)
+      ⊎ ((begun last : Kept D) × Begins tells request old begun × (Wants tells faults name request begun last × found) × IsStop tells last new)
+
+  pub has-cause : Wanted → found
+  has-cause (inl (none, cause)) = cause
+  has-cause (inr (begun, last, begins, (wants, cause), stop)) = cause
 
   -- the steps that were made before
   far-so : (begun last : Kept D) → Wants tells faults name request begun last → SoFar tells faults request begun last
@@ -70,19 +75,19 @@ module _ {D : Type 0} (tells : Tells D) (faults name : D → ℕ) (request : Req
       stop-keeps tells request last new stop.told (there tells request last runs) stop.idle stop.is_stop stop.keeps
 
   pub wanted-stopped : MayBegin tells request old → Wanted → IsStopped tells faults request old new
-  wanted-stopped may (inl none) = not-begun tells faults request old new none.unchanged none.keeper
-  wanted-stopped may (inr (begun, last, begins, wants, stop)) =
+  wanted-stopped may (inl (none, cause)) = not-begun tells faults request old new none.unchanged none.keeper
+  wanted-stopped may (inr (begun, last, begins, (wants, cause), stop)) =
       stopped tells faults request old begun last new begins.keeps begins.keeper (far-so begun last wants) (stops-so may begun last begins wants stop) stop.keeper
 
   pub wanted-idle : MayBegin tells request old → Wanted → NothingRuns new
-  wanted-idle may (inl none) = stays-idle tells old new may.idle none.unchanged
-  wanted-idle may (inr (begun, last, begins, wants, stop)) =
+  wanted-idle may (inl (none, cause)) = stays-idle tells old new may.idle none.unchanged
+  wanted-idle may (inr (begun, last, begins, (wants, cause), stop)) =
       stopped-idle tells faults request old begun last new may.kept may.idle begins.keeps (far-so begun last wants) stop.idle_after stop.others
 
   pub wanted-kept : MayBegin tells request old → Wanted → IsKept tells new
   wanted-kept may wanted = let whole = wanted-stopped may wanted in kept-all tells old new whole.entries may.kept whole.keeps
 
   pub wanted-same : Wanted → name new.keeper ≡ name old.keeper
-  wanted-same (inl none) = ap name none.keeper.keeper
-  wanted-same (inr (begun, last, begins, wants, stop)) =
+  wanted-same (inl (none, cause)) = ap name none.keeper.keeper
+  wanted-same (inr (begun, last, begins, (wants, cause), stop)) =
       ap name stop.keeper.keeper ∙ (wants.same ∙ (wants.went.same ∙ ap name begins.keeper.keeper))

@@ -20,6 +20,10 @@ pub err-both : {T E : Type 0} {A B P : Type 0} (r : Result T E) → OnErr r A �
 err-both (Ok value) a b so = tt
 err-both (Err e) a b so = so a b
 
+pub err-pair : {T E : Type 0} (A B : Type 0) (r : Result T E) → OnErr r A → OnErr r B → OnErr r (A × B)
+err-pair A B (Ok value) a b = tt
+err-pair A B (Err e) a b = (a, b)
+
 pub no-answer : (o : Option Answer) → ((told : Answer) → o ≡ Some told → ⊥) → o ≡ None
 no-answer None not = refl
 no-answer (Some told) not = absurd (not told refl)

@@ -8,3 +8,4 @@ mod steps;
 pub use ipam_kept::{Keeper, Kept};
 pub use solo::run_alone;
 pub use std::alloc::AllocError as Memory;
+pub use steps::MakesSteps;

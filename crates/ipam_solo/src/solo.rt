@@ -6,10 +6,10 @@ ghost use Rattle.ipam_kept.specs.Kept.{IsKept};
 ghost use Rattle.ipam_solo.specs.Solo.{HasNoGrace, IsAnswered, IsFaulted, IsStopped, NothingRuns};
 
 use crate::going::run;
-use crate::steps::Alone;
+use crate::steps::{Alone, MakesSteps};
 use ipam_kept::{Keeper, Kept};
 use ipam_model::{Answer, Request};
-use std::alloc::{AllocError, Global};
+use std::alloc::AllocError;
 
 /// Runs the request by itself in slot 0, to its answer. A collection is fed its own first list, at that
 /// list's time.
@@ -17,8 +17,8 @@ use std::alloc::{AllocError, Global};
 /// The answer is `Fault` exactly where the keeper failed. On `Err` beginning the request or one of its steps
 /// found no memory, and what had begun was stopped. So it is where the cluster has 2^62 entries, which no
 /// process lives to see.
-pub fn run_alone<D: Keeper>(
-    alloc: Global,
+pub fn run_alone<T: MakesSteps + Drop, D: Keeper>(
+    alloc: T,
     kept: &mut Kept<D>,
     request: &Request,
 ) -> Result<Answer, AllocError>
@@ -30,6 +30,7 @@ pub fn run_alone<D: Keeper>(
         ⊎ IsFaulted D.rows D.faults request.now kept.old kept.new told) }
     ensures can_answer { IfOk result (CanAnswer request.now) }
     ensures stopped { OnErr result (IsStopped D.rows D.faults request.now kept.old kept.new) }
+    ensures want_of_memory_has_its_cause { OnErr result (T.wants alloc) }
     ensures idle { NothingRuns kept.new }
     ensures kept { IsKept D.rows kept.new }
     ensures same { D.name kept.new.keeper ≡ D.name kept.old.keeper }

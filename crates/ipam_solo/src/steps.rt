@@ -14,19 +14,67 @@ use ipam_kept::{BeginFault, FeedFault, Keeper, Kept, PrepareFault};
 use ipam_model::{Answer, CollectRequest, Entry, Request, SlotState};
 use std::alloc::{AllocError, Global};
 
+/// What takes the memory for the steps of a request that runs by itself. What is generic over it knows nothing
+/// of it, and so can't state by itself that it found none.
+pub trait MakesSteps {
+    /// It found no memory, or there are 2^62 entries.
+    ghost wants: { Self → Type 0 };
+
+    /// Begins the request. On `Err` nothing has changed.
+    fn begin<D: Keeper>(&self, kept: &mut Kept<D>, request: &Request) -> Result<(), AllocError>
+        requires sound { IsSoundRequest request.now }
+        requires idle { NothingRuns kept.old }
+        ensures begun { OnOk result (KeepsWith D.rows kept.old kept.new (entry.Began 0 request.now)) }
+        ensures unchanged { OnErr result (Stays D.rows kept.old kept.new) }
+        ensures keeper { LeavesKeeper kept.old kept.new }
+        ensures wants { OnErr result (wants self.now) };
+
+    /// Makes the next call, or feeds the collection that waits its own first list; with the answer, once
+    /// there is one. On `Err` the cluster is as it was.
+    fn step<D: Keeper>(
+        &self,
+        kept: &mut Kept<D>,
+        request: &Request,
+    ) -> Result<Option<Answer>, AllocError>
+        requires sound { IsSoundRequest request.now }
+        requires no_grace { HasNoGrace request.now }
+        requires runs { Runs D.rows request.now kept.old }
+        ensures stepped { IfOk result (IsStep D.rows D.faults request.now kept.old kept.new) }
+        ensures unchanged { OnErr result (Stays D.rows kept.old kept.new) }
+        ensures no_step { OnErr result (IsNoStep D.faults kept.old kept.new) }
+        ensures same { D.name kept.new.keeper ≡ D.name kept.old.keeper }
+        ensures wants { OnErr result (wants self.now) };
+}
+
+impl MakesSteps for Global {
+    ghost wants = { λ _. Unit {0} };
+
+    fn begin<D: Keeper>(&self, kept: &mut Kept<D>, request: &Request) -> Result<(), AllocError> {
+        begin(*self, kept, request)
+    }
+
+    fn step<D: Keeper>(
+        &self,
+        kept: &mut Kept<D>,
+        request: &Request,
+    ) -> Result<Option<Answer>, AllocError> {
+        step(*self, kept, request)
+    }
+}
+
 /// A request that goes on by itself in slot 0.
 #[derive(Drop)]
-pub(crate) struct Alone<'a> {
-    pub(crate) alloc: Global,
+pub(crate) struct Alone<'a, T> {
+    pub(crate) alloc: T,
     pub(crate) request: &'a Request,
 }
 
-impl<'a, D: Keeper> Going<Kept<D>> for Alone<'a> {
+impl<'a, T: MakesSteps, D: Keeper> Going<Kept<D>> for Alone<'a, T> {
     ghost may = { λ alone kept. MayBegin D.rows alone.request.now kept };
 
     ghost begins = { λ alone start now. Begins D.rows alone.request.now start now };
 
-    ghost unbegun = { λ _ start now. IsUnbegun D.rows start now };
+    ghost unbegun = { λ alone start now. IsUnbegun D.rows start now × T.wants alone.alloc };
 
     ghost runs = { λ alone kept. MayGoOn D.rows alone.request.now kept };
 
@@ -34,18 +82,18 @@ impl<'a, D: Keeper> Going<Kept<D>> for Alone<'a> {
 
     ghost ends = { λ alone start now answer. CameToEnd D.rows D.faults D.name alone.request.now start now answer };
 
-    ghost wants = { λ alone start now. Wants D.rows D.faults D.name alone.request.now start now };
+    ghost wants = { λ alone start now. Wants D.rows D.faults D.name alone.request.now start now × T.wants alone.alloc };
 
     ghost stops = { λ _ last now. IsStop D.rows last now };
 
     ghost left = { λ alone kept. 2 ^ 62 - kept.cluster.entries };
 
     fn begin(&self, kept: &mut Kept<D>) -> Result<(), AllocError> {
-        begin(self.alloc, kept, self.request)
+        self.alloc.begin(kept, self.request)
     }
 
     fn step(&self, kept: &mut Kept<D>) -> Result<Option<Answer>, AllocError> {
-        step(self.alloc, kept, self.request)
+        self.alloc.step(kept, self.request)
     }
 
     fn stop(&self, kept: &mut Kept<D>) {

@@ -75,13 +75,18 @@ pub(crate) fn look(rt: &HostRuntime, path: &str) -> Result<Found, Trouble> {
 
 /// Which file this is, and its length: a regular one with one name.
 fn file_of(found: &Metadata) -> Result<(FileId, u64), Trouble> {
-    if !found.is_file() {
+    if !is_regular(found) {
         return Err(Trouble::Fault(StorageFault::NotAFile));
     }
     if found.nlink() != 1 {
         return Err(Trouble::Fault(StorageFault::HardLink));
     }
     Ok((FileId::of(found), found.len()))
+}
+
+/// It has no contract, so that no proof computes with the number of a kind of file.
+fn is_regular(found: &Metadata) -> bool {
+    found.is_file()
 }
 
 /// Refuses a link that leads to no file.

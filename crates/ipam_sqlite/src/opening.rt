@@ -161,9 +161,14 @@ fn is_ours(row: &Row) -> Result<bool, Trouble> {
 fn is_spelled(statement: &str, spelling: &str) -> bool {
     let bare = statement
         .bytes()
-        .filter(|byte| !byte.is_ascii_whitespace())
+        .filter(|byte| !is_blank(*byte))
         .map(|byte| byte.to_ascii_lowercase());
     bare.eq(spelling.bytes())
+}
+
+/// It has no contract, so that no proof goes through the ranges of blanks.
+fn is_blank(byte: u8) -> bool {
+    byte.is_ascii_whitespace()
 }
 
 fn has_objects<S: Alter>(conn: &mut Connection<S>) -> Result<bool, Trouble> {

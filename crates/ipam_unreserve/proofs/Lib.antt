@@ -1,1 +1,2 @@
 pub mod UnreserveRuns
+mod Refusals

@@ -23,8 +23,13 @@ use Rattle.ipam_commands.specs.Telling.{AreBroken, FaultWrites}
 
 -- ---- what the request comes to
 
--- what an answer to the request comes to; `Again` and the answers to other requests come to nothing. Of the
--- refusals it can have one alone: that no reservation has the name
+-- of a refusal: that no reservation has this name, which has the number 8
+abbrev pub IsNotThere : (name : List ℕ) → Answer → Type 0
+IsNotThere name (answer.Refused number about) = (number ≡ 8) × (about ≡ name)
+IsNotThere name _ = Unit {0}
+
+-- What an answer to the request comes to; `Again` and the answers to other requests come to nothing. Of the
+-- refusals it has one alone, `IsNotThere`.
 abbrev pub outcome_of : Answer → Option (Result UnreserveOutcome KeptFault)
 outcome_of (answer.Done revision) = Some (Ok outcome.Unreserved)
 outcome_of (answer.Refused number name) = Some (Ok outcome.NoReservation)

@@ -3,12 +3,14 @@ ghost use Rattle.std.specs.Prelude.{◌≡◌, ◌≢◌, [], IfOk, IsSome, Some
 ghost use Rattle.ipam_records.specs.Sound.{IsName};
 ghost use Rattle.ipam_model.specs.declared.request.Admin.TheVariants.{Unreserve};
 ghost use Rattle.ipam_model.specs.declared.request.Request.TheVariants.{Admin as Changes};
+ghost use Rattle.ipam_model.specs.Alone.{alone_over};
+ghost use Rattle.ipam_model.specs.History.{Base};
 ghost use Rattle.ipam_model.specs.SoundRequest.{IsSoundRequest};
 ghost use Rattle.ipam_kept.specs.declared.kept.KeptFault.{KeptFault as Fault};
 ghost use Rattle.ipam_kept.specs.Kept.{KeptFor, opened};
 ghost use Rattle.ipam_solo.specs.Solo.{HasNoGrace, NothingRuns};
 ghost use Rattle.ipam_unreserve.specs.declared.outcome.UnreserveOutcome.{UnreserveOutcome as Outcome};
-ghost use Rattle.ipam_unreserve.specs.Unreserving.{IsUnreserve, UnreserveEnds, UnreserveRuns, UnreserveWrites, outcome_of};
+ghost use Rattle.ipam_unreserve.specs.Unreserving.{IsNotThere, IsUnreserve, UnreserveEnds, UnreserveRuns, UnreserveWrites, outcome_of};
 ghost use Rattle.ipam_commands.specs.Telling.{Writes};
 
 use crate::outcome::UnreserveOutcome;
@@ -22,7 +24,7 @@ use ipam_text::Text;
 use std::alloc::{AllocError, Global};
 
 /// Removes the reservation of this name, as a request that runs by itself over the keeper's rows, and writes
-/// what came of it.
+/// what came of it. By itself the request has one refusal alone: that no reservation has the name.
 pub fn unreserve<K: Sink, D: Keeper>(
     alloc: Global,
     sink: &mut K,
@@ -34,6 +36,7 @@ pub fn unreserve<K: Sink, D: Keeper>(
         × UnreserveEnds (Changes (Unreserve name.now)) came (D.rows keeper.old) (D.rows keeper.new) (D.faults keeper.old) (D.faults keeper.new)
         × UnreserveWrites (λ text own. Writes (K.written sink.old) (K.written sink.new)
         (K.write_faults sink.old) (K.write_faults sink.new) text own result) (result ≢ Status.NoMemory) came }
+    ensures one_refusal { (base : Base) → IsNotThere name.now (alone_over base (Changes (Unreserve name.now))).0 }
     ensures rest { K.write_rest sink.new ≡ K.write_rest sink.old }
 {
     match come_to(alloc, keeper, name) {

@@ -71,14 +71,19 @@ fn run_command_of<R: Host + Files + Net<Listener = TcpListener, Stream = TcpStre
             rt, threads, entries, address, workers,
         ),
         Some(Command::Call(address)) => call_at(rt, entries, address),
-        Some(Command::Get(_) | Command::Show(_) | Command::Routes(_) | Command::Audit(_)) => {
-            run_stored(rt, &threads, words, entries, Use::Look)
-        }
-        Some(_) => run_stored(rt, &threads, words, entries, Use::Keep),
+        Some(command) => run_stored(rt, &threads, words, entries, use_of(&command)),
         None => {
             tell_unknown(rt, words);
             run_stored(rt, &threads, words, entries, Use::Keep)
         }
+    }
+}
+
+/// What the command does with the database.
+fn use_of(command: &Command<'_>) -> Use {
+    match command {
+        Command::Get(_) | Command::Show(_) | Command::Routes(_) | Command::Audit(_) => Use::Look,
+        _ => Use::Keep,
     }
 }
 

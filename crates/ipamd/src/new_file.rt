@@ -1,8 +1,4 @@
 //! A database file that a backup makes.
-ghost use Rattle.std.specs.Prelude.{◌≡◌, ◌≤◌};
-ghost use Rattle.ipam_io.specs.Counts.{next_count};
-ghost use Rattle.ipam_keeper.specs.Keeping.{OnFailed, UnlessFailed};
-
 use ipam_backup::Target;
 use ipam_keeper::{KeepFault, Keeper, Row};
 use ipam_sqlite::{FileKeeper, StorageFault};
@@ -29,38 +25,22 @@ pub(crate) enum NotMade {
 /// A keeper over a file that was not there before.
 pub(crate) struct NewFile {
     keeper: FileKeeper,
-    faults: u64,
 }
 
 impl Drop for NewFile {
     fn drop(self) {
-        let NewFile {
-            keeper: _,
-            faults: _,
-        } = self;
+        let NewFile { keeper: _ } = self;
     }
 }
 
 impl NewFile {
     /// Makes the file, with no byte in it.
     pub(crate) fn make(rt: &HostRuntime, path: &str) -> Result<NewFile, NotMade> {
-        match has_leavings(rt, path) {
-            Ok(false) => {}
-            Ok(true) => return Err(NotMade::There),
-            Err(AllocError) => return Err(NotMade::Memory),
-        }
-        match OpenOptions::new()
-            .write(true)
-            .create_new(true)
-            .mode(MODE)
-            .open(rt, path)
-        {
-            Ok(_) => Ok(NewFile {
+        match make_file(rt, path) {
+            Ok(()) => Ok(NewFile {
                 keeper: FileKeeper::new(rt, path),
-                faults: 0,
             }),
-            Err(error) if error.kind() == io::ErrorKind::AlreadyExists => Err(NotMade::There),
-            Err(error) => Err(NotMade::Failed(error)),
+            Err(why) => Err(why),
         }
     }
 
@@ -68,23 +48,34 @@ impl NewFile {
     pub(crate) fn why(&self) -> Option<StorageFault> {
         self.keeper.why()
     }
+}
 
-    /// Counts an answer that is a failure.
-    fn counted<T>(&mut self, answer: Result<T, KeepFault>) -> Result<T, KeepFault>
-        ensures answer { result ≡ answer }
-        ensures keeper { self.new.keeper ≡ self.old.keeper }
-        ensures fault { OnFailed result (self.new.faults ≡ next_count self.old.faults) }
-        ensures no_fault { UnlessFailed result (self.new.faults ≡ self.old.faults) }
-        ensures never_falls { self.old.faults ≤ self.new.faults }
+/// Makes the file, unless a log or a journal of its name is there.
+fn make_file(rt: &HostRuntime, path: &str) -> Result<(), NotMade> {
+    match has_leavings(rt, path) {
+        Ok(false) => open_new(rt, path),
+        Ok(true) => Err(NotMade::There),
+        Err(AllocError) => Err(NotMade::Memory),
+    }
+}
+
+fn open_new(rt: &HostRuntime, path: &str) -> Result<(), NotMade> {
+    match OpenOptions::new()
+        .write(true)
+        .create_new(true)
+        .mode(MODE)
+        .open(rt, path)
     {
-        match answer {
-            Ok(value) => Ok(value),
-            Err(KeepFault::Memory) => Err(KeepFault::Memory),
-            Err(KeepFault::Failed) => {
-                self.faults = self.faults.saturating_add(1);
-                Err(KeepFault::Failed)
-            }
-        }
+        Ok(_) => Ok(()),
+        Err(error) => Err(why_unopened(error)),
+    }
+}
+
+fn why_unopened(error: io::Error) -> NotMade {
+    if error.kind() == io::ErrorKind::AlreadyExists {
+        NotMade::There
+    } else {
+        NotMade::Failed(error)
     }
 }
 
@@ -117,30 +108,26 @@ impl Keeper for NewFile {
 
     ghost broken = { λ file. IsRefused file.keeper.state };
 
-    ghost faults = { λ file. file.faults };
+    ghost faults = { λ file. file.keeper.tally.faults };
 
     ghost name = { λ _. 0 };
 
     ghost given = { λ before change after. Unit {0} };
 
     fn load(&mut self) -> Result<Vec<Row>, KeepFault> {
-        let answer = self.keeper.load();
-        self.counted(answer)
+        self.keeper.load()
     }
 
     fn put(&mut self, key: &str, revision: u64, body: &str) -> Result<(), KeepFault> {
-        let answer = self.keeper.put(key, revision, body);
-        self.counted(answer)
+        self.keeper.put(key, revision, body)
     }
 
     fn remove(&mut self, key: &str) -> Result<(), KeepFault> {
-        let answer = self.keeper.remove(key);
-        self.counted(answer)
+        self.keeper.remove(key)
     }
 
     fn settle(&mut self) -> Result<(), KeepFault> {
-        let answer = self.keeper.settle();
-        self.counted(answer)
+        self.keeper.settle()
     }
 }
 
@@ -148,7 +135,6 @@ impl Target for NewFile {
     ghost closed = { λ _. Unit {0} };
 
     fn close(&mut self) -> Result<(), KeepFault> {
-        let answer = self.keeper.close();
-        self.counted(answer)
+        self.keeper.close()
     }
 }

@@ -75,10 +75,26 @@ fn run_over<R: Threads + Sync, D: Keeper>(
     variables: &[(Text, Text)],
     keeper: &mut D,
 ) -> u8 {
+    if is_audit(words) {
+        let mut sink = StdSink::new(io::writer(rt));
+        run_audit(threads, rt.alloc(), words, &mut sink, keeper)
+    } else {
+        run_words(rt, words, variables, keeper)
+    }
+}
+
+fn is_audit(words: &[String]) -> bool {
+    matches!(read_words(words), Some(Command::Audit(_)))
+}
+
+/// Runs a command that needs no threads.
+fn run_words<D: Keeper>(
+    rt: &HostRuntime,
+    words: &[String],
+    variables: &[(Text, Text)],
+    keeper: &mut D,
+) -> u8 {
     let mut source = StdSource::new(rt.stdin());
     let mut sink = StdSink::new(io::writer(rt));
-    match read_words(words) {
-        Some(Command::Audit(_)) => run_audit(threads, rt.alloc(), words, &mut sink, keeper),
-        _ => run_command(rt.alloc(), words, variables, &mut source, &mut sink, keeper),
-    }
+    run_command(rt.alloc(), words, variables, &mut source, &mut sink, keeper)
 }

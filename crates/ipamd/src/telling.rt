@@ -8,46 +8,39 @@ use std::io::{self, IsTerminal};
 const LARGE: u64 = 16 * 1024 * 1024;
 
 /// The words that begin a command.
-const FIRST_WORDS: [&str; 15] = [
-    "cni",
-    "play",
-    "gen",
-    "apply",
-    "get",
-    "show",
-    "routes",
-    "release",
-    "unreserve",
-    "audit",
-    "backup",
-    "serve",
-    "call",
-    "--help",
-    "--version",
-];
+const FIRST_WORDS: &str =
+    "cni play gen apply get show routes release unreserve audit backup serve call --help --version";
 
 /// Tells which of the words is wrong: the first, or those that follow one that begins a command.
 pub(crate) fn tell_unknown(rt: &HostRuntime, words: &[String]) {
-    let _ = match words {
-        [first, ..] if first.as_str() == "\u{fffd}" => {
-            eprintln!(rt; "ipam: a word is no UTF-8; ipam --help tells the words")
-        }
-        [first] if begins_command(first.as_str()) => {
-            eprintln!(rt; "ipam: {first} wants more words; ipam --help tells the words")
-        }
-        [first, word] if begins_command(first.as_str()) => {
+    if let [first, rest @ ..] = words {
+        tell_unknown_after(rt, first.as_str(), rest);
+    }
+}
+
+fn tell_unknown_after(rt: &HostRuntime, first: &str, rest: &[String]) {
+    if first == "\u{fffd}" {
+        let _ = eprintln!(rt; "ipam: a word is no UTF-8; ipam --help tells the words");
+    } else if begins_command(first) {
+        tell_rest(rt, first, rest);
+    } else {
+        let _ = eprintln!(rt; "ipam: unknown word {first:?}; ipam --help tells the words");
+    }
+}
+
+/// Tells what is wrong with the words that follow the one that begins a command.
+fn tell_rest(rt: &HostRuntime, first: &str, rest: &[String]) {
+    let _ = match rest {
+        [] => eprintln!(rt; "ipam: {first} wants more words; ipam --help tells the words"),
+        [word] => {
             eprintln!(rt; "ipam: {first} does not take {word:?}; ipam --help tells the words")
         }
-        [first, ..] if begins_command(first.as_str()) => {
-            eprintln!(rt; "ipam: {first} does not take these words; ipam --help tells the words")
-        }
-        [first, ..] => eprintln!(rt; "ipam: unknown word {first:?}; ipam --help tells the words"),
-        [] => Ok(()),
+        _ => eprintln!(rt; "ipam: {first} does not take these words; ipam --help tells the words"),
     };
 }
 
 fn begins_command(word: &str) -> bool {
-    FIRST_WORDS.contains(&word)
+    FIRST_WORDS.split(' ').any(|first| first == word)
 }
 
 /// Tells a person at a terminal that the rows of a large database are being read.

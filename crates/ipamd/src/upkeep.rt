@@ -43,19 +43,28 @@ fn ask_over<R: Threads + Sync, L: Link>(
 ) -> u8
     requires { IsFit (of_upkeep upkeep.now) }
 {
-    let mut sink = StdSink::new(io::writer(rt));
     match upkeep {
-        Upkeep::Audit(workers) => audit(threads, rt.alloc(), &mut sink, link, *workers).code(),
+        Upkeep::Audit(workers) => {
+            let mut sink = StdSink::new(io::writer(rt));
+            audit(threads, rt.alloc(), &mut sink, link, *workers).code()
+        }
         Upkeep::Unreserve(name) => {
+            let mut sink = StdSink::new(io::writer(rt));
             ipam_operator::unreserve(rt.alloc(), &mut sink, link, name).code()
         }
-        Upkeep::Backup(path) => match new_file(rt, path) {
-            Ok(mut file) => {
-                let end = back_up_asked(rt.alloc(), &mut sink, link, &mut file);
-                finished(rt, path, file, end)
-            }
-            Err(status) => status,
-        },
+        Upkeep::Backup(path) => back_up_over(rt, path, link),
+    }
+}
+
+/// Puts the rows of the daemon into a new database at the path.
+fn back_up_over<L: Link>(rt: &HostRuntime, path: &str, link: &mut L) -> u8 {
+    match new_file(rt, path) {
+        Ok(mut file) => {
+            let mut sink = StdSink::new(io::writer(rt));
+            let end = back_up_asked(rt.alloc(), &mut sink, link, &mut file);
+            finished(rt, path, file, end)
+        }
+        Err(status) => status,
     }
 }
 
@@ -64,18 +73,23 @@ pub(crate) fn unreserve(rt: &HostRuntime, database: &Database, name: &str) -> u8
     requires { IsName name.now }
 {
     match database {
-        Database::File(path) => {
-            tell_reading(rt, path.as_str());
-            let mut keeper = FileKeeper::new(rt, path.as_str());
-            let status = unreserve_kept(rt, &mut keeper, name);
-            tell_cause(rt, path.as_str(), &keeper);
-            status
-        }
+        Database::File(path) => unreserve_at(rt, path.as_str(), name),
         Database::NoPath => {
             tell_no_path(rt);
             unreserve_kept(rt, &mut NoFile::new(), name)
         }
     }
+}
+
+/// The same from the database file at the path.
+fn unreserve_at(rt: &HostRuntime, path: &str, name: &str) -> u8
+    requires { IsName name.now }
+{
+    tell_reading(rt, path);
+    let mut keeper = FileKeeper::new(rt, path);
+    let status = unreserve_kept(rt, &mut keeper, name);
+    tell_cause(rt, path, &keeper);
+    status
 }
 
 fn unreserve_kept<D: Keeper>(rt: &HostRuntime, keeper: &mut D, name: &str) -> u8
@@ -88,18 +102,21 @@ fn unreserve_kept<D: Keeper>(rt: &HostRuntime, keeper: &mut D, name: &str) -> u8
 /// Puts the rows of the database into a new one at the path, and answers the exit status.
 pub(crate) fn back_up(rt: &HostRuntime, database: &Database, path: &str) -> u8 {
     match database {
-        Database::File(source) => {
-            tell_reading(rt, source.as_str());
-            let mut keeper = FileKeeper::reader(rt, source.as_str());
-            let status = back_up_from(rt, &mut keeper, path);
-            tell_cause(rt, source.as_str(), &keeper);
-            status
-        }
+        Database::File(source) => back_up_file(rt, source.as_str(), path),
         Database::NoPath => {
             tell_no_path(rt);
             back_up_from(rt, &mut NoFile::new(), path)
         }
     }
+}
+
+/// The same with the rows of the database file at the source.
+fn back_up_file(rt: &HostRuntime, source: &str, path: &str) -> u8 {
+    tell_reading(rt, source);
+    let mut keeper = FileKeeper::reader(rt, source);
+    let status = back_up_from(rt, &mut keeper, path);
+    tell_cause(rt, source, &keeper);
+    status
 }
 
 fn back_up_from<D: Keeper>(rt: &HostRuntime, from: &mut D, path: &str) -> u8 {
@@ -122,19 +139,29 @@ fn tell_cause(rt: &HostRuntime, path: &str, keeper: &FileKeeper) {
 
 /// The file that is made for a backup, or the exit status where none is.
 fn new_file(rt: &HostRuntime, path: &str) -> Result<NewFile, u8> {
-    let mut sink = StdSink::new(io::writer(rt));
     match NewFile::make(rt, path) {
         Ok(file) => Ok(file),
-        Err(NotMade::There) => {
-            tell_there(rt, path);
-            Err(tell(&mut sink, "file exists\n", End::Refused).code())
-        }
-        Err(NotMade::Failed(error)) => {
-            tell_unmade(rt, path, &error);
-            Err(tell(&mut sink, "keeper fault\n", End::KeeperFault).code())
-        }
-        Err(NotMade::Memory) => Err(End::NoMemory.code()),
+        Err(why) => Err(tell_not_made(rt, path, &why)),
     }
+}
+
+fn tell_not_made(rt: &HostRuntime, path: &str, why: &NotMade) -> u8 {
+    match why {
+        NotMade::There => {
+            tell_there(rt, path);
+            say(rt, "file exists\n", End::Refused)
+        }
+        NotMade::Failed(error) => {
+            tell_unmade(rt, path, error);
+            say(rt, "keeper fault\n", End::KeeperFault)
+        }
+        NotMade::Memory => End::NoMemory.code(),
+    }
+}
+
+/// Writes the text to standard output, and answers the exit status of this end.
+fn say(rt: &HostRuntime, text: &str, end: End) -> u8 {
+    tell(&mut StdSink::new(io::writer(rt)), text, end).code()
 }
 
 /// Leaves the file where the backup is whole and told, and removes it else.

@@ -7,7 +7,7 @@ use Rattle.ipam_daemon.proofs.staff.hire_all.Given as goal
 
 abbrev pub invariant-loop : goal.invariant-loop
 invariant-loop g l =
-    (l.pass.lock ≡ g.S.Serves.id (arc_value l.shared))
+    (l.pass.lock ≡ g.S.Serves.id (arc_value l.common.shared))
     × (l.pass.lock ≡ l.initial.pass.lock)
     × (runs_in l.pass ≡ runs_in l.initial.pass)
     × (vec_len l.crew.threads ≡ vec_len l.initial.crew.threads + l.counter)

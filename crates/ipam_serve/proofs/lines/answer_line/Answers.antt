@@ -4,6 +4,21 @@ use Rattle.ipam_serve.proofs.Keeping.{makes-nothing}
 use Rattle.ipam_serve.proofs.lines.answer_line.Goals as goal
 use Rattle.ipam_serve.specs.Lines.{server_at}
 
+pub returns-in-Ok-clause-replied : goal.returns-in-Ok-clause-replied
+returns-in-Ok-clause-replied g c = rw c.in-Ok.ensures.read c.answer_wish.ensures.comes.replied
+
+pub returns-in-Ok-clause-broken : goal.returns-in-Ok-clause-broken
+returns-in-Ok-clause-broken g c = rw c.in-Ok.ensures.read c.answer_wish.ensures.comes.broken
+
+pub returns-in-Ok-clause-rests : goal.returns-in-Ok-clause-rests
+returns-in-Ok-clause-rests g c = c.answer_wish.ensures.comes.rests
+
+pub returns-in-Ok-clause-worn : goal.returns-in-Ok-clause-worn
+returns-in-Ok-clause-worn g c = rw c.in-Ok.ensures.read c.answer_wish.ensures.comes.worn
+
+pub returns-in-Ok-clause-keeper : goal.returns-in-Ok-clause-keeper
+returns-in-Ok-clause-keeper g c = c.answer_wish.ensures.comes.keeper
+
 pub returns-in-Err-Unreadable-clause-replied : goal.returns-in-Err-Unreadable-clause-replied
 returns-in-Err-Unreadable-clause-replied g c =
     rw (c.in-Err-Unreadable.ensures.unreadable (ap Err c.in-Err-Unreadable.field-0-is)) (unread (server_at c.args.pass.now (g.G.SessionGate.turns c.args.gate.now) (g.C.Clock.ahead c.args.clock.now)))

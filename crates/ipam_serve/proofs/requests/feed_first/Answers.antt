@@ -1,5 +1,7 @@
+use Rattle.ipam_model.specs.declared.request.Request.TheVariants.{Collect}
 use Rattle.ipam_shared.specs.Passes.{runs_in}
-use Rattle.ipam_serve.proofs.Running.{due-own, never-early}
+use Rattle.ipam_serve.proofs.Onward.{own-fed-of, own-unfed-of}
+use Rattle.ipam_serve.proofs.Running.{never-early}
 use Rattle.ipam_serve.proofs.requests.feed_first.Goals as goal
 
 pub unreachable-requires : goal.unreachable-requires
@@ -7,15 +9,12 @@ unreachable-requires g c =
     never-early (runs_in c.args.pass.now) c.args.asked.now c.requires.asked c.requires.timeless (rw c.in-Ok-None.field-0-is at c.in-Ok-None.ensures.fed).0
 
 pub returns-in-Ok-Some-clause-fed : goal.returns-in-Ok-Some-clause-fed
-returns-in-Ok-Some-clause-fed g c = rw (← c.as_slice-live.ensures) (rw c.in-Ok-Some.field-0-is at c.in-Ok-Some.ensures.fed).2
+returns-in-Ok-Some-clause-fed g c =
+    own-fed-of g.D.Keeper.rows g.D.Keeper.given g.D.Keeper.faults (record { pass = c.args.pass.now; turns = g.G.SessionGate.turns c.args.gate.now }) (record { pass = c.run_feed.new.pass; turns = g.G.SessionGate.turns c.run_feed.new.gate })
+    c.as_slice-live.result.now c.args.asked.now.live c.as_slice-live.ensures (Collect c.args.asked.now) c.in-Ok-Some.answer (rw c.in-Ok-Some.field-0-is at c.in-Ok-Some.ensures.fed)
+    (rw c.in-Ok-Some.field-0-is at (c.in-Ok-Some.ensures.can_answer _ c.requires.asked)) c.run_feed.ensures.keeper
 
-pub returns-in-Ok-Some-clause-idle : goal.returns-in-Ok-Some-clause-idle
-returns-in-Ok-Some-clause-idle g c = (rw c.in-Ok-Some.field-0-is at c.in-Ok-Some.ensures.fed).1
-
-pub returns-in-Ok-Some-clause-can_answer : goal.returns-in-Ok-Some-clause-can_answer
-returns-in-Ok-Some-clause-can_answer g c = rw c.in-Ok-Some.field-0-is at (c.in-Ok-Some.ensures.can_answer _ c.requires.asked)
-
-pub returns-in-Err-clause-broken : goal.returns-in-Err-clause-broken
-returns-in-Err-clause-broken g c =
-    rw (← c.as_slice-live.ensures)
-    (rw (due-own (runs_in c.args.pass.now) c.args.asked.now c.requires.asked c.requires.timeless) at c.in-Err.ensures.broken)
+pub returns-in-Err-clause-fed : goal.returns-in-Err-clause-fed
+returns-in-Err-clause-fed g c =
+    own-unfed-of g.D.Keeper.rows g.D.Keeper.given g.D.Keeper.faults (record { pass = c.args.pass.now; turns = g.G.SessionGate.turns c.args.gate.now }) (record { pass = c.run_feed.new.pass; turns = g.G.SessionGate.turns c.run_feed.new.gate })
+    c.as_slice-live.result.now c.args.asked.now.live c.as_slice-live.ensures c.args.asked.now c.in-Err.broken c.requires.asked c.requires.timeless c.in-Err.ensures.broken c.in-Err.ensures.worn c.in-Err.ensures.runs c.run_feed.ensures.keeper

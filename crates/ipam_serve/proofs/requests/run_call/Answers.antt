@@ -13,13 +13,13 @@ pub returns-in-Ok-Waits-clause-ran : goal.returns-in-Ok-Waits-clause-ran
 returns-in-Ok-Waits-clause-ran g c =
     call-fed (record { pass = c.args.pass.now; turns = g.G.SessionGate.turns c.args.gate.now }) (record { pass = c.run_request.new.pass; turns = g.G.SessionGate.turns c.run_request.new.gate })
     (record { pass = c.feed_own.new.pass; turns = g.G.SessionGate.turns c.feed_own.new.gate })
-    c.args.request.now c.feed_own.result (rw c.in-Ok-Waits.field-0-is at c.in-Ok-Waits.ensures.ran) c.feed_own.ensures.fed
+    c.args.request.now c.feed_own.result (rw c.in-Ok-Waits.field-0-is at c.in-Ok-Waits.ensures.ran) c.feed_own.ensures.fed.fed
 
 pub returns-in-Ok-Waits-clause-broken : goal.returns-in-Ok-Waits-clause-broken
 returns-in-Ok-Waits-clause-broken g c =
     call-broken (record { pass = c.args.pass.now; turns = g.G.SessionGate.turns c.args.gate.now }) (record { pass = c.run_request.new.pass; turns = g.G.SessionGate.turns c.run_request.new.gate })
     (record { pass = c.feed_own.new.pass; turns = g.G.SessionGate.turns c.feed_own.new.gate })
-    c.args.request.now c.feed_own.result (rw c.in-Ok-Waits.field-0-is at c.in-Ok-Waits.ensures.ran) c.feed_own.ensures.broken
+    c.args.request.now c.feed_own.result (rw c.in-Ok-Waits.field-0-is at c.in-Ok-Waits.ensures.ran) c.feed_own.ensures.fed.broken
 
 pub returns-in-Err-clause-broken : goal.returns-in-Err-clause-broken
 returns-in-Err-clause-broken g c =
@@ -27,8 +27,17 @@ returns-in-Err-clause-broken g c =
     c.args.request.now c.in-Err.ensures.broken
 
 pub returns-in-Ok-Waits-clause-unanswered : goal.returns-in-Ok-Waits-clause-unanswered
-returns-in-Ok-Waits-clause-unanswered g c = worn-so c.feed_own.result _ _ inr c.feed_own.ensures.runs
+returns-in-Ok-Waits-clause-unanswered g c = worn-so c.feed_own.result _ _ inr c.feed_own.ensures.fed.runs
 
 pub returns-in-Ok-Waits-clause-keeper : goal.returns-in-Ok-Waits-clause-keeper
 returns-in-Ok-Waits-clause-keeper g c =
-    makes-then g.D.Keeper.rows g.D.Keeper.given g.D.Keeper.faults c.args.pass.now c.run_request.new.pass c.feed_own.new.pass c.run_request.ensures.keeper c.feed_own.ensures.keeper
+    makes-then g.D.Keeper.rows g.D.Keeper.given g.D.Keeper.faults c.args.pass.now c.run_request.new.pass c.feed_own.new.pass c.run_request.ensures.keeper c.feed_own.ensures.fed.keeper
+
+pub returns-in-Ok-Waits-clause-can_answer : goal.returns-in-Ok-Waits-clause-can_answer
+returns-in-Ok-Waits-clause-can_answer g c = c.feed_own.ensures.fed.can_answer
+
+pub returns-in-Ok-Waits-clause-idle : goal.returns-in-Ok-Waits-clause-idle
+returns-in-Ok-Waits-clause-idle g c = c.feed_own.ensures.fed.idle
+
+pub returns-in-Ok-Waits-clause-worn : goal.returns-in-Ok-Waits-clause-worn
+returns-in-Ok-Waits-clause-worn g c = c.feed_own.ensures.fed.worn

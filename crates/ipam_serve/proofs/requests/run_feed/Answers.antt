@@ -12,16 +12,16 @@ run_fed-requires-clause-runs g c =
 pub returns-in-Ok-Fed-clause-fed : goal.returns-in-Ok-Fed-clause-fed
 returns-in-Ok-Fed-clause-fed g c =
     fed-found (record { pass = c.args.pass.now; turns = g.G.SessionGate.turns c.args.gate.now }) c.feed.new.pass (record { pass = c.run_fed.new.pass; turns = g.G.SessionGate.turns c.run_fed.new.gate })
-    c.args.live.now c.args.at c.run_fed.result (rw c.in-Ok-Fed.field-0-is at c.in-Ok-Fed.ensures.fed) c.run_fed.ensures.ran
+    c.args.live.now c.args.at c.run_fed.result (rw c.in-Ok-Fed.field-0-is at c.in-Ok-Fed.ensures.fed) c.run_fed.ensures.went.ran
 
 pub returns-in-Ok-Fed-clause-broken : goal.returns-in-Ok-Fed-clause-broken
 returns-in-Ok-Fed-clause-broken g c =
     fed-broken (record { pass = c.args.pass.now; turns = g.G.SessionGate.turns c.args.gate.now }) c.feed.new.pass (record { pass = c.run_fed.new.pass; turns = g.G.SessionGate.turns c.run_fed.new.gate })
-    c.args.live.now c.args.at c.run_fed.result (rw c.in-Ok-Fed.field-0-is at c.in-Ok-Fed.ensures.fed) c.run_fed.ensures.broken
+    c.args.live.now c.args.at c.run_fed.result (rw c.in-Ok-Fed.field-0-is at c.in-Ok-Fed.ensures.fed) c.run_fed.ensures.went.broken
 
 pub returns-in-Ok-Fed-clause-can_answer : goal.returns-in-Ok-Fed-clause-can_answer
 returns-in-Ok-Fed-clause-can_answer g c request asked =
-    c.run_fed.ensures.can_answer request
+    c.run_fed.ensures.went.can_answer request
     ((fed-runs c.args.pass.now c.feed.new.pass c.args.live.now c.args.at c.requires.waits (rw c.in-Ok-Fed.field-0-is at c.in-Ok-Fed.ensures.fed)).0 ∙ asked)
 
 pub returns-in-Ok-TooSoon-clause-fed : goal.returns-in-Ok-TooSoon-clause-fed
@@ -39,10 +39,16 @@ returns-in-Err-clause-runs g c = worn-any c.in-Err.broken _ (still-runs c.args.p
 pub returns-in-Ok-Fed-clause-keeper : goal.returns-in-Ok-Fed-clause-keeper
 returns-in-Ok-Fed-clause-keeper g c =
     makes-then g.D.Keeper.rows g.D.Keeper.given g.D.Keeper.faults c.args.pass.now c.feed.new.pass c.run_fed.new.pass
-    (makes-fed g.D.Keeper.rows g.D.Keeper.given g.D.Keeper.faults c.args.pass.now c.feed.new.pass c.args.live.now c.args.at (rw c.in-Ok-Fed.field-0-is at c.in-Ok-Fed.ensures.fed).0) c.run_fed.ensures.keeper
+    (makes-fed g.D.Keeper.rows g.D.Keeper.given g.D.Keeper.faults c.args.pass.now c.feed.new.pass c.args.live.now c.args.at (rw c.in-Ok-Fed.field-0-is at c.in-Ok-Fed.ensures.fed).0) c.run_fed.ensures.went.keeper
 
 pub returns-in-Ok-TooSoon-clause-keeper : goal.returns-in-Ok-TooSoon-clause-keeper
 returns-in-Ok-TooSoon-clause-keeper g c = makes-none g.D.Keeper.rows g.D.Keeper.given g.D.Keeper.faults c.args.pass.now c.feed.new.pass 1 (rw c.in-Ok-TooSoon.field-0-is at c.in-Ok-TooSoon.ensures.fed).0
 
 pub returns-in-Err-clause-keeper : goal.returns-in-Err-clause-keeper
 returns-in-Err-clause-keeper g c = makes-none g.D.Keeper.rows g.D.Keeper.given g.D.Keeper.faults c.args.pass.now c.feed.new.pass 1 c.in-Err.ensures.not_fed
+
+pub returns-in-Ok-Fed-clause-worn : goal.returns-in-Ok-Fed-clause-worn
+returns-in-Ok-Fed-clause-worn g c = c.run_fed.ensures.went.worn
+
+pub returns-in-Ok-Fed-clause-runs : goal.returns-in-Ok-Fed-clause-runs
+returns-in-Ok-Fed-clause-runs g c = c.run_fed.ensures.went.runs

@@ -11,40 +11,43 @@ run_on-requires-clause-runs g c =
 pub returns-in-Ok-clause-ran : goal.returns-in-Ok-clause-ran
 returns-in-Ok-clause-ran g c =
     ran-begun (record { pass = c.args.pass.now; turns = g.G.SessionGate.turns c.args.gate.now }) c.begin.new.pass (record { pass = c.run_on.new.pass; turns = g.G.SessionGate.turns c.run_on.new.gate })
-    c.args.request.now c.run_on.result c.in-Ok.ensures.begun c.run_on.ensures.ran
+    c.args.request.now c.run_on.result c.in-Ok.ensures.begun c.run_on.ensures.went.ran
 
 pub returns-in-Ok-clause-broken : goal.returns-in-Ok-clause-broken
 returns-in-Ok-clause-broken g c =
     broken-begun (record { pass = c.args.pass.now; turns = g.G.SessionGate.turns c.args.gate.now }) c.begin.new.pass (record { pass = c.run_on.new.pass; turns = g.G.SessionGate.turns c.run_on.new.gate })
-    c.args.request.now c.run_on.result c.in-Ok.ensures.begun c.run_on.ensures.broken
+    c.args.request.now c.run_on.result c.in-Ok.ensures.begun c.run_on.ensures.went.broken
 
 pub returns-in-Ok-clause-can_answer : goal.returns-in-Ok-clause-can_answer
 returns-in-Ok-clause-can_answer g c =
-    c.run_on.ensures.can_answer c.args.request.now (begun-asked c.args.pass.now c.begin.new.pass c.args.request.now c.in-Ok.ensures.begun)
+    c.run_on.ensures.went.can_answer c.args.request.now (begun-asked c.args.pass.now c.begin.new.pass c.args.request.now c.in-Ok.ensures.begun)
 
 pub returns-in-Ok-clause-idle : goal.returns-in-Ok-clause-idle
 returns-in-Ok-clause-idle g c =
     ran-idle (record { pass = c.begin.new.pass; turns = g.G.SessionGate.turns c.args.gate.now }) (record { pass = c.run_on.new.pass; turns = g.G.SessionGate.turns c.run_on.new.gate })
-    c.run_on.result c.run_on.ensures.ran
+    c.run_on.result c.run_on.ensures.went.ran
 
 pub returns-in-Ok-clause-waits : goal.returns-in-Ok-clause-waits
 returns-in-Ok-clause-waits g c =
     ran-waits (record { pass = c.begin.new.pass; turns = g.G.SessionGate.turns c.args.gate.now }) (record { pass = c.run_on.new.pass; turns = g.G.SessionGate.turns c.run_on.new.gate })
-    c.args.request.now c.run_on.result (begun-asked c.args.pass.now c.begin.new.pass c.args.request.now c.in-Ok.ensures.begun) c.run_on.ensures.ran c.run_on.ensures.waits
+    c.args.request.now c.run_on.result (begun-asked c.args.pass.now c.begin.new.pass c.args.request.now c.in-Ok.ensures.begun) c.run_on.ensures.went.ran c.run_on.ensures.went.waits
 
 pub returns-in-Err-clause-broken : goal.returns-in-Err-clause-broken
 returns-in-Err-clause-broken g c =
     not-begun (record { pass = c.args.pass.now; turns = g.G.SessionGate.turns c.args.gate.now }) c.begin.new.pass _ c.in-Err.ensures.not_begun
 
 pub returns-in-Ok-clause-unanswered : goal.returns-in-Ok-clause-unanswered
-returns-in-Ok-clause-unanswered g c = worn-so c.run_on.result _ _ inr c.run_on.ensures.runs
+returns-in-Ok-clause-unanswered g c = worn-so c.run_on.result _ _ inr c.run_on.ensures.went.runs
 
 pub returns-in-Err-clause-unanswered : goal.returns-in-Err-clause-unanswered
 returns-in-Err-clause-unanswered g c = worn-any c.in-Err.broken _ (inl c.in-Err.ensures.not_begun.gained)
 
 pub returns-in-Ok-clause-keeper : goal.returns-in-Ok-clause-keeper
 returns-in-Ok-clause-keeper g c =
-    makes-then g.D.Keeper.rows g.D.Keeper.given g.D.Keeper.faults c.args.pass.now c.begin.new.pass c.run_on.new.pass (makes-begun g.D.Keeper.rows g.D.Keeper.given g.D.Keeper.faults c.args.pass.now c.begin.new.pass c.args.request.now c.in-Ok.ensures.begun) c.run_on.ensures.keeper
+    makes-then g.D.Keeper.rows g.D.Keeper.given g.D.Keeper.faults c.args.pass.now c.begin.new.pass c.run_on.new.pass (makes-begun g.D.Keeper.rows g.D.Keeper.given g.D.Keeper.faults c.args.pass.now c.begin.new.pass c.args.request.now c.in-Ok.ensures.begun) c.run_on.ensures.went.keeper
 
 pub returns-in-Err-clause-keeper : goal.returns-in-Err-clause-keeper
 returns-in-Err-clause-keeper g c = makes-none g.D.Keeper.rows g.D.Keeper.given g.D.Keeper.faults c.args.pass.now c.begin.new.pass 1 c.in-Err.ensures.not_begun
+
+pub returns-in-Ok-clause-worn : goal.returns-in-Ok-clause-worn
+returns-in-Ok-clause-worn g c = c.run_on.ensures.went.worn

@@ -2,8 +2,20 @@ use Rattle.ipam_serve.proofs.Turning.{took-rest}
 use Rattle.ipam_serve.proofs.Keeping.{makes-nothing}
 use Rattle.ipam_serve.proofs.requests.step_on.Goals as goal
 
-pub returns-in-Stop-clause-no_step : goal.returns-in-Stop-clause-no_step
-returns-in-Stop-clause-no_step g c = took-rest c.args.pass.now
+pub returns-in-Stop-clause-steps : goal.returns-in-Stop-clause-steps
+returns-in-Stop-clause-steps g c = record {
+  step = tt;
+  no_step = took-rest c.args.pass.now;
+  passed = c.pass.ensures.turn;
+  worn = tt;
+  keeper = makes-nothing g.D.Keeper.rows g.D.Keeper.given g.D.Keeper.faults c.args.pass.now;
+}
 
-pub returns-in-Stop-clause-keeper : goal.returns-in-Stop-clause-keeper
-returns-in-Stop-clause-keeper g c = makes-nothing g.D.Keeper.rows g.D.Keeper.given g.D.Keeper.faults c.args.pass.now
+pub returns-in-Go-clause-steps : goal.returns-in-Go-clause-steps
+returns-in-Go-clause-steps g c = record {
+  step = c.call.ensures.called;
+  no_step = c.call.ensures.not_called;
+  passed = c.pass.ensures.turn;
+  worn = c.call.ensures.worn;
+  keeper = c.call.ensures.keeper;
+}

@@ -1,6 +1,7 @@
 use Rattle.std.proofs.Common.{refl}
 use Rattle.ipam_solo.proofs.Ending.{no-steps, with-begun}
-use Rattle.ipam_solo.proofs.Running.{err-then, on-ok-then}
+use Rattle.ipam_solo.proofs.Running.{on-ok-then}
+use Rattle.ipam_solo.proofs.StepLemmas.{err-both}
 use Rattle.ipam_solo.proofs.steps.AloneGoingKept.begin.Goals as goal
 
 pub returns-clause-begins : goal.returns-clause-begins
@@ -24,4 +25,4 @@ returns-clause-goes g c =
 
 pub returns-clause-unbegun : goal.returns-clause-unbegun
 returns-clause-unbegun g c =
-    err-then c.begin.result c.begin.ensures.unchanged (λ stays. record { unchanged = stays; keeper = c.begin.ensures.keeper })
+    err-both c.begin.result c.begin.ensures.unchanged c.begin.ensures.wants (λ stays found. (record { unchanged = stays; keeper = c.begin.ensures.keeper }, found))

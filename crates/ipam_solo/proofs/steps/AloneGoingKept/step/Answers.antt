@@ -1,7 +1,7 @@
 use Rattle.std.proofs.Common.{arith, ◌∙◌}
 use Rattle.ipam_solo.specs.Steps.{IsStep}
 use Rattle.ipam_solo.proofs.Ending.{far-ends, far-on, no-steps, runs-now}
-use Rattle.ipam_solo.proofs.StepLemmas.{err-both, told-none, told-some}
+use Rattle.ipam_solo.proofs.StepLemmas.{err-both, err-pair, told-none, told-some}
 use Rattle.ipam_solo.proofs.steps.AloneGoingKept.step.Goals as goal
 
 pub returns-clause-runs : goal.returns-clause-runs
@@ -34,10 +34,13 @@ returns-clause-ends g c =
 
 pub returns-clause-wants : goal.returns-clause-wants
 returns-clause-wants g c =
-    err-both c.step.result c.step.ensures.unchanged c.step.ensures.no_step (λ unchanged none start went. record {
-      before = c.args.kept.now;
-      went = went;
-      unchanged = unchanged;
-      no_step = none;
-      same = c.step.ensures.same;
-    })
+    err-both c.step.result (err-pair _ _ c.step.result c.step.ensures.unchanged c.step.ensures.no_step) c.step.ensures.wants (λ both found start went. (
+      record {
+        before = c.args.kept.now;
+        went = went;
+        unchanged = both.0;
+        no_step = both.1;
+        same = c.step.ensures.same;
+      },
+      found,
+    ))
