@@ -1,12 +1,12 @@
 #!/usr/bin/env python3
 """Times the daemon and the commands over a cluster of many nodes, beside those over an empty one.
 
-    bench/cluster.py PROGRAM [NODES] [PODS OF EACH]
+    bench/cluster.py PROGRAM [NODES] [PODS OF EACH] [ROWS OF THE LARGEST FILE]
 
 Each node has one block of 64 addresses, of which its pods hold some. Prints how long the daemon takes until it
 answers, its memory, what ADD and DEL take over a session and by a process that calls the daemon, and what the
-commands take that read the file. Where a session can read rows page by page, ADD and DEL are timed beside a
-reader that does nothing else too.
+commands take that read all rows. Where a daemon can be asked `get`, ADD and DEL are timed too while a process
+asks it, again and again.
 """
 import ipaddress
 import json
@@ -25,7 +25,18 @@ from measured import Checks, median, ran
 CALLS, PROCESSES, PATIENCE = 2_000, 100, 120
 NODES_ASKED = 100
 UNKNOWN_WORDS = 2
-KINDS = "config", "pools", "reservations", "block", "affinity", "handle"
+MOST_ROWS = 262_144
+
+
+class Size:
+    """How large the cluster is. A small one is called less often, and only on the nodes that it has."""
+
+    def __init__(self, nodes=5_000, pods=30, most=MOST_ROWS):
+        self.nodes, self.pods, self.most = nodes, pods, most
+        self.calls, self.processes = min(CALLS, nodes * pods), min(PROCESSES, nodes * pods)
+
+    def node(self, number):
+        return f"node-{number % min(NODES_ASKED, self.nodes)}"
 
 
 def call_line(command, container, node):
@@ -115,15 +126,15 @@ def tell(what, times):
     print(f"  {what:<46}{statistics.median(ordered):>9.3f}{ordered[len(ordered) * 99 // 100]:>9.3f}{ordered[-1]:>9.3f}", flush=True)
 
 
-def time_calls(daemons, checks, held, beside=""):
+def time_calls(size, daemons, checks, held, beside=""):
     """ADD and DEL by turns on each daemon, so that both meet the same moments of the machine."""
     times = {(one.name, word): [] for one in daemons for word in ("ADD", "DEL")}
     for one in daemons:
         for number in range(NODES_ASKED):
-            one.session.called("ADD", f"warm{number}", f"node-{number}")
-            one.session.called("DEL", f"warm{number}", f"node-{number}")
-    for number in range(CALLS):
-        node = f"node-{number % NODES_ASKED}"
+            one.session.called("ADD", f"warm{number}", size.node(number))
+            one.session.called("DEL", f"warm{number}", size.node(number))
+    for number in range(size.calls):
+        node = size.node(number)
         for one in daemons:
             took, address = one.session.called("ADD", f"new{number}", node)
             checks.same(f"{address} was free", one.name == "full" and address in held, False)
@@ -133,76 +144,80 @@ def time_calls(daemons, checks, held, beside=""):
         tell(f"{word}, {name}{beside}", taken)
 
 
-def time_processes(daemons):
+def time_processes(size, daemons):
     times = {(one.name, word): [] for one in daemons for word in ("ADD", "DEL")}
-    for number in range(PROCESSES):
+    for number in range(size.processes):
         for one in daemons:
             for word in ("ADD", "DEL"):
-                times[one.name, word].append(one.process_call(word, f"process{number}", f"node-{number % NODES_ASKED}"))
+                times[one.name, word].append(one.process_call(word, f"process{number}", size.node(number)))
     for (name, word), taken in times.items():
         tell(f"{word} by a process, {name}", taken)
 
 
-def read_pages(session, stop, told):
-    """Reads the rows of all kinds, page by page, until it is stopped."""
+def knows(daemon, words):
+    """Whether this program can ask a daemon these words."""
+    return subprocess.run([daemon.program, "--daemon", daemon.path, *words], capture_output=True).returncode != UNKNOWN_WORDS
+
+
+def get_again(daemon, checks, stop, times):
+    """Runs `get` over the daemon, one process after the other, until it is stopped."""
     while not stop.is_set():
-        start, count, longest = time.perf_counter(), 0, 0
-        for kind in KINDS:
-            ask = {"rows": kind}
-            while not stop.is_set():
-                asked = time.perf_counter()
-                reply = session.asked(ask)
-                longest = max(longest, time.perf_counter() - asked)
-                count += len(reply["rows"])
-                if not reply.get("more"):
-                    break
-                ask = {"rows": kind, "after": reply["rows"][-1]["key"]}
-        if not stop.is_set():
-            told.append((time.perf_counter() - start, count, longest))
+        start = time.perf_counter()
+        one = subprocess.run([daemon.program, "--daemon", daemon.path, "get"], stdout=subprocess.DEVNULL)
+        times.append(time.perf_counter() - start)
+        checks.same(f"get beside calls, {daemon.name}", one.returncode, 0)
 
 
-def time_beside_pages(daemons, checks, held):
-    """ADD and DEL while an operator reads all rows of the same daemon, again and again."""
-    full = daemons[0]
-    reader = Session(full.path)
-    if "rows" not in reader.asked({"rows": "pools"}):
-        print("  (no session of this program can be read from)")
-        return
-    stop, told = threading.Event(), []
-    thread = threading.Thread(target=read_pages, args=(reader, stop, told), daemon=True)
-    thread.start()
-    time_calls([full], checks, held, ", beside a reader")
-    stop.set()
-    thread.join()
-    if told:
-        took, count, longest = (statistics.median(one) for one in zip(*told))
-        print(f"  all {count:.0f} rows by pages took {took:.2f} s, the longest page {longest * 1e3:.1f} ms (medians of {len(told)})")
+def time_beside_get(size, daemons, checks, held):
+    """ADD and DEL while an operator runs `get` over the same daemon, again and again."""
+    for one in daemons:
+        if not knows(one, ["get"]):
+            print("  (this program asks no daemon for rows)")
+            return
+        stop, times = threading.Event(), []
+        thread = threading.Thread(target=get_again, args=(one, checks, stop, times), daemon=True)
+        thread.start()
+        time_calls(size, [one], checks, held, ", beside `get`")
+        stop.set()
+        thread.join()
+        print(f"  `get` ran {len(times)} times beside them, {statistics.median(times):.2f} s each (median)")
+
+
+def without(path):
+    """Takes the file away, and its log."""
+    for one in (path, f"{path}-wal"):
+        if os.path.exists(one):
+            os.remove(one)
+
+
+def run_words(program, folder, file, words):
+    """Runs the words, of which `backup` makes its file anew."""
+    without(f"{folder}/copy.db")
+    return ran([program, *words], "/dev/null", f"{folder}/out", {**os.environ, "IPAM_DB": file})
 
 
 def time_words(program, folder, file, what, words):
-    environment = {**os.environ, "IPAM_DB": file}
-    one = median([ran([program, *words], "/dev/null", f"{folder}/out", environment) for _ in range(3)])
+    one = median([run_words(program, folder, file, words) for _ in range(3)])
     print(f"  {' '.join(word for word in words if word[0] not in '-/'):<18}{what:<20}{one.wall:>9.2f} s {one.processor:>9.2f} s of a processor {one.peak / 1024:>8.0f} MB", flush=True)
     return one.status
 
 
 def time_asked(daemon, folder):
     """The words that read all rows, asked of the daemon, where this program can be asked them."""
-    for words in (["show"], ["get"], ["audit", "4"]):
-        asked = ["--daemon", daemon.path, *words]
-        if subprocess.run([daemon.program, *asked], capture_output=True).returncode != UNKNOWN_WORDS:
-            time_words(daemon.program, folder, "/nowhere", f"a daemon, {daemon.name}", asked)
+    for words in (["show"], ["get"], ["audit", "4"], ["backup", f"{folder}/copy.db"]):
+        if knows(daemon, words):
+            time_words(daemon.program, folder, "/nowhere", f"a daemon, {daemon.name}", ["--daemon", daemon.path, *words])
 
 
-def time_daemons(program, folder, checks, held):
+def time_daemons(size, program, folder, checks, held):
     daemons = [Daemon(program, folder, name) for name in ("full", "empty")]
     try:
         for one in daemons:
             print(f"  the daemon, {one.name}: up after {one.up:.2f} s, {one.memory()[0] >> 10} MB, at most {one.memory()[1] >> 10} MB")
         print(f"  {'milliseconds':<46}{'median':>9}{'99th':>9}{'most':>9}")
-        time_calls(daemons, checks, held)
-        time_processes(daemons)
-        time_beside_pages(daemons, checks, held)
+        time_calls(size, daemons, checks, held)
+        time_processes(size, daemons)
+        time_beside_get(size, daemons, checks, held)
         for one in daemons:
             time_asked(one, folder)
         for one in daemons:
@@ -212,13 +227,16 @@ def time_daemons(program, folder, checks, held):
             one.end()
 
 
-def time_all_words(program, folder, checks):
+def time_all_words(size, program, folder, checks):
+    copy = ["backup", f"{folder}/copy.db"]
     print(f"  {'over a file':<38}{'by the clock':>11}")
-    for words in (["show"], ["show", "blocks"], ["show", "node", "node-7"], ["show", "10.0.0.1"], ["get"], ["audit", "4"]):
+    for words in (["show"], ["show", "blocks"], ["show", "node", "node-7"], ["show", "10.0.0.1"], ["get"], ["audit", "4"], copy):
         for name in ("full", "empty"):
             checks.same(f"{words} over {name}", time_words(program, folder, f"{folder}/{name}.db", name, words), 0)
-    write_file(f"{folder}/most.db", so_many_rows(262_144))
-    checks.same("show over 262,144 rows", time_words(program, folder, f"{folder}/most.db", "262,144 rows", ["show"]), 0)
+    write_file(f"{folder}/most.db", so_many_rows(size.most))
+    for words in (["show"], copy):
+        checks.same(f"{words} over most", time_words(program, folder, f"{folder}/most.db", f"{size.most:,} rows", words), 0)
+    checks.same("the rows of the copy", count_rows(program, copy[1]), size.most)
     daemon = Daemon(program, folder, "most")
     time_asked(daemon, folder)
     daemon.end()
@@ -236,19 +254,16 @@ def addresses(block):
 
 
 def main():
-    program = sys.argv[1]
-    nodes = int(sys.argv[2]) if len(sys.argv) > 2 else 5_000
-    pods = int(sys.argv[3]) if len(sys.argv) > 3 else 30
-    checks = Checks()
+    program, size, checks = sys.argv[1], Size(*map(int, sys.argv[2:])), Checks()
     with tempfile.TemporaryDirectory(dir=os.environ.get("BENCH_FOLDER")) as folder:
-        blocks = [Block(number, 26, f"node-{number}", pods, pods) for number in range(nodes)]
+        blocks = [Block(number, 26, f"node-{number}", size.pods, size.pods) for number in range(size.nodes)]
         rows = rows_of(blocks)
         write_file(f"{folder}/full.db", rows)
         write_file(f"{folder}/empty.db", rows_of([]))
-        print(f"{nodes} nodes, {nodes * pods} pods, {len(rows)} rows, {os.path.getsize(f'{folder}/full.db') >> 20} MB")
-        time_daemons(program, folder, checks, set().union(*map(addresses, blocks)))
+        print(f"{size.nodes} nodes, {size.nodes * size.pods} pods, {len(rows)} rows, {os.path.getsize(f'{folder}/full.db') >> 20} MB")
+        time_daemons(size, program, folder, checks, set().union(*map(addresses, blocks)))
         checks.same("no row is left over", count_rows(program, f"{folder}/full.db"), len(rows))
-        time_all_words(program, folder, checks)
+        time_all_words(size, program, folder, checks)
     checks.end()
 
 

@@ -31,6 +31,7 @@ from kill_client import line_of, owners  # noqa: E402
 PATIENCE = 30
 FIRST_LINE = 10        # seconds that the daemon waits for a first line, and for the rest of a line
 REPLY = 30             # seconds that a call waits for its reply
+AT_ONCE = 3            # seconds in which a daemon ends whose database is gone
 MOST_PEAK = 600        # MB of memory at the peak of sixteen long lines
 MOST_AFTER = 60        # MB that stay
 POOL = {"kind": "IPPool", "metadata": {"name": "pods"}, "spec": {"cidr": "10.0.0.0/16"}}
@@ -423,36 +424,55 @@ def restarts(seen, program, over_tcp):
     daemon.ended()
 
 
-def gone_files(seen, program, over_tcp):
-    def removed(path):
-        os.remove(path)
+def removed(path):
+    os.remove(path)
 
-    def renamed(path):
-        os.rename(path, path + ".old")
 
-    def replaced(path):
-        os.rename(path, path + ".old")
-        with open(path, "wb"):
-            pass
+def renamed(path):
+    os.rename(path, path + ".old")
 
-    for name in ("", "-wal"):
-        for how in (removed, renamed, replaced):
-            daemon = Daemon(program, over_tcp=over_tcp).apply().start()
-            is_up = added(daemon, "before")
-            path = daemon.env["IPAM_DB"] + name
-            if not os.path.exists(path):
-                daemon.ended()
-                seen.lacks(f"ipam.db{name} {how.__name__} under the daemon: there is no such file")
-                continue
-            how(path)
-            answers = [added(daemon, f"c{number}") for number in range(3)] if daemon.process.poll() is None else []
-            end = time.monotonic() + 5
-            while daemon.process.poll() is None and time.monotonic() < end:
-                time.sleep(0.05)
-            status = daemon.process.poll()
-            daemon.ended()
-            seen.say(f"ipam.db{name} {how.__name__} under the daemon",
-                     f"{sum(answers)} of {len(answers)} calls were answered, status {status}", is_up and not any(answers))
+
+def replaced(path):
+    os.rename(path, path + ".old")
+    with open(path, "wb"):
+        pass
+
+
+def gone_file(seen, program, where, name, how):
+    """A file of the database is gone: the next call is not answered, and ends the daemon at once, though a client is
+    silent and no other comes."""
+    what = f"ipam.db{name} {how.__name__} under the daemon at {where}"
+    daemon = Daemon(program, over_tcp=where != "a socket file").apply()
+    if where == "all interfaces":
+        daemon.address = daemon.address.replace("127.0.0.1", "0.0.0.0")
+    daemon.start()
+    silent, is_up = held(daemon), added(daemon, "before")
+    path = daemon.env["IPAM_DB"] + name
+    if not os.path.exists(path):
+        daemon.ended()
+        seen.lacks(f"{what}: there is no such file")
+        return
+    how(path)
+    is_answered = added(daemon, "after")
+    begin = time.monotonic()
+    try:
+        daemon.process.wait(PATIENCE)
+    except subprocess.TimeoutExpired:
+        pass
+    waited, status = time.monotonic() - begin, daemon.process.poll()
+    daemon.ended()
+    silent.close()
+    with open(daemon.log, "rb") as log:
+        is_told = b"keeper fault\n" in log.read()
+    seen.say(what, f"the call after it answered: {is_answered}, status {status} after {waited:.1f} s",
+             is_up and not is_answered and is_told and status == 5 and waited < AT_ONCE)
+
+
+def gone_files(seen, program, places):
+    for where in places:
+        for name in ("", "-wal"):
+            for how in (removed, renamed, replaced):
+                gone_file(seen, program, where, name, how)
 
 
 def strange_files(seen, program):
@@ -580,7 +600,8 @@ def main():
         parts += [(silent_clients, program, True)]
         parts += [(silent_clients, program, False), (deaf_client, program)] if with_files else []
         parts += [(listener_that_never_replies, program)]
-    parts += [(restarts, program, over_tcp), (gone_files, program, over_tcp), (strange_files, program), (modes, program),
+    places = (["a socket file"] if with_files else []) + ["the loopback", "all interfaces"]
+    parts += [(restarts, program, over_tcp), (gone_files, program, places), (strange_files, program), (modes, program),
               (environments, program, over_tcp), (many_at_once, program, over_tcp), (many_plugins, words.plugin),
               (memory, program, over_tcp)]
     for part, *given in parts:

@@ -1,5 +1,5 @@
 #!/usr/bin/env python3
-"""Writes the lines `call|..` of stdin and stdout of crates/cni_types_tests: CNI calls, and what must be read of each.
+"""Writes the lines `call|..` of stdin and stdout of crates/ipam_request_tests: CNI calls, and what must be read of each.
 
 The reader below is written from the rules alone. A line has the environment, standard input, and
 what the call asks or `refused`, the version, the code and the details. The first lines have one
@@ -14,9 +14,9 @@ import ipaddress
 import json
 import random
 import re
-from pathlib import Path
 
-OUT = Path(__file__).resolve().parents[2] / "crates/cni_types_tests"
+from table_lines import put
+
 RANDOM_LINES = 90
 VERSIONS = ["0.3.0", "0.3.1", "0.4.0", "1.0.0", "1.1.0"]
 COMMANDS = ["ADD", "DEL", "CHECK", "VERSION", "GC", "STATUS"]
@@ -402,12 +402,6 @@ def line(env, stdin, want):
     return text, want
 
 
-def put(path, made):
-    """Puts the lines in front of the file's lines of other kinds."""
-    others = [line for line in path.read_text().split("\n") if not line.startswith("call|")]
-    path.write_text("\n".join(made + others))
-
-
 def main():
     lines = []
     for env, stdin, want in stated_calls():
@@ -419,8 +413,7 @@ def main():
         lines.append(line(env, stdin, read(env, stdin)))
     good = len(lines) - stated
     lines += [line(env, stdin, read(env, stdin)) for env, stdin in mixed_calls(random.Random(19))]
-    put(OUT / "stdin", [question for question, _ in lines])
-    put(OUT / "stdout", [f"{question}|{want}" for question, want in lines])
+    put("ipam_request_tests", ["call"], lines)
     print(f"{len(lines)} lines: {stated} with one thing broken, {good} good, {len(lines) - stated - good} mixed")
 
 

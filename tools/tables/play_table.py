@@ -1,9 +1,10 @@
 #!/usr/bin/env python3
 """Writes the scripts that `play` is tested with, and what `play` must write for each.
 
-The second allocator gives what is expected. For scripts that are refused before anything happens, this
-script states it. Some scripts have lines that were worked out by hand, and the second allocator's journal
-has to contain them. For a long journal the table has only a sum of the expected bytes.
+The second allocator gives what is expected. For scripts that are refused before anything happens, and for
+failing input and output, this script states it. Some scripts have lines that were worked out by hand, and
+the second allocator's journal has to contain them. For a long journal the table has only a sum of the
+expected bytes.
 
 Run it from the top of the repository: python3 tools/tables/play_table.py
 """
@@ -15,12 +16,10 @@ TOP = Path(__file__).resolve().parents[2]
 sys.path.append(str(TOP / "tools/second"))
 # pylint: disable=wrong-import-position
 from random_scripts import text_of
-from resource_table import escaped
 from second_allocator import play
 
 OUT = TOP / "crates/ipam_play_tests"
 RANDOM = 16
-ROWS = 14
 
 POOL = '{"blockSize":30,"cidr":"10.0.0.0/29","disabled":false,"name":"p"}'
 POOLS = f'row 1 pools {{"pools":[{POOL}]}}\n'
@@ -304,6 +303,24 @@ REFUSED = [
 ]
 
 
+DELETION = delete("n.c1") + "turn 0\n"
+DELETED = """\
+0 began {"del":{"handle":"n.c1"}}
+0 called get handle/n.c1 well missing - {"deleted":{"k":1}}
+"""
+
+# What is written of these is said beside them too. `×N` is a line of so many bytes that has no line feed; a read gives
+# at most 4,096 bytes.
+FAILING = [
+    ("Where read 1 fails.", DELETION, "read fault\n", 3),
+    ("Where read 2 fails.", DELETION + "×12000", DELETED + "read fault\n", 3),
+    ("Where read 3 fails.", DELETION + "×12000", DELETED + "read fault\n", 3),
+    ("Where write 1 fails.", DELETION, "", 4),
+    ("A line of as many bytes as there may be.", "restart\n×1048576", "line 2: unreadable\n", 8),
+    ("A line of one more.", "restart\n×1048577", "line 2: long\n", 8),
+]
+
+
 def sum_of(text):
     """The 64-bit sum of Fowler, Noll and Vo of the bytes, of their variant 1a."""
     total = 0xCBF29CE484222325
@@ -322,29 +339,18 @@ def worked(script, lines):
     return script, journal, status
 
 
-def row(script, text, status):
-    return f"{script}⇒{status}⇒{text}‡"
-
-
-def constant(name, lines):
-    return f'\npub(crate) const {name}: &str = "\\\n' + "".join(f"{line}\\\n" for line in lines) + '";\n'
-
-
-def tables(name, rows):
-    """The rows, so many in each constant."""
-    groups = [rows[n : n + ROWS] for n in range(0, len(rows), ROWS)]
-    return "".join(constant(f"{name}_{n + 1}", [escaped(row(*one)) for one in group]) for n, group in enumerate(groups))
-
-
-def write(name, about, text):
-    (OUT / f"src/{name}.rt").write_text(f"// Written by tools/tables/play_table.py: change that, and not this file.\n// {about}\n{text}")
+def encoded(script):
+    """The lines of a scenario that make the script: `∎` ends a line that has no line feed, and `¶` is an empty one."""
+    assert "\n= " not in script, script
+    lines = script.split("\n")
+    last = lines.pop()
+    return "".join(f"{line or '¶'}\n" for line in lines) + (last if last.startswith("×") else last and last + "∎")
 
 
 def scenario(title, script, text, status):
-    """The script with a title, and after it the status and the journal that are wanted. `∎` ends a line that has no
-    line feed."""
-    assert "\n\n" not in script and "\n= " not in script, script
-    ended = script if script.endswith("\n") or not script else script + "∎\n"
+    """The script with a title, and after it the status and what is written, which are wanted."""
+    made = encoded(script)
+    ended = made if made.endswith("\n") or not made else made + "\n"
     return f"{title}\n{ended}= {status}\n" + "".join(f"= {line}\n" for line in text.splitlines())
 
 
@@ -356,16 +362,15 @@ def told_of(scenario):
 def main():
     others = [(script, *play(script)) for script in OTHERS]
     summed = [(script, *play(script)) for script in [many_races()] + [text_of(number) for number in range(RANDOM)]]
-    sums = [(script, f"{len(text.encode())} {sum_of(text)}", status) for script, text, status in summed]
-    about = "Scripts, the status of each, and what is written of it."
+    sums = [(script, f"{len(text.encode())} {sum_of(text)}\n", status) for script, text, status in summed]
     scenarios = [scenario(f"Worked script {n + 1}.", *worked(*one)) for n, one in enumerate(WORKED)]
     scenarios += [scenario(f"Script {n + 1}.", *one) for n, one in enumerate(others)]
+    scenarios += [scenario(f"Refused script {n + 1}.", *one) for n, one in enumerate(REFUSED)]
+    scenarios += [scenario(*one) for one in FAILING]
+    scenarios += [scenario(f"Sum of script {n + 1}.", *one) for n, one in enumerate(sums)]
     (OUT / "stdin").write_text("\n".join(scenarios))
     (OUT / "stdout").write_text("".join(map(told_of, scenarios)))
-    write("refused", about, tables("REFUSED", REFUSED))
-    about = "Scripts, the status of each, how many bytes are written of it, and their sum."
-    write("summed", about, constant("SUMMED", [row(*one).replace('"', '\\"').replace("\n", "\\n") for one in sums]))
-    print(f"{len(WORKED)} worked scripts, {len(others)} others, {len(REFUSED)} refused, {len(sums)} long ones")
+    print(f"{len(WORKED)} worked scripts, {len(others)} others, {len(REFUSED)} refused, {len(FAILING)} with faults and long lines, {len(sums)} long ones")
 
 
 if __name__ == "__main__":

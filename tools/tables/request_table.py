@@ -1,7 +1,7 @@
 #!/usr/bin/env python3
-"""Writes tables.rt and table_tests.rt of crates/ipam_request_tests/src: texts of requests and of live lists, and what is read from each.
+"""Writes the lines `request|..` and `live|..` of stdin and stdout of crates/ipam_request_tests: texts of requests and of live lists, and what is read from each.
 
-The reader below was written only from the format, over Python's own `json` and `ipaddress`. A row
+The reader below was written only from the format, over Python's own `json` and `ipaddress`. A line
 has a text, and the printed text of what it is read as, or `unreadable`.
 
 Run it from the top of the repository: python3 tools/tables/request_table.py
@@ -15,12 +15,12 @@ from pathlib import Path
 TOP = Path(__file__).resolve().parents[2]
 sys.path.append(str(TOP / "tools/second"))
 # pylint: disable=wrong-import-position
-from resource_table import Fault, address, below, cidr, escaped, levels, mode, name, of_type, selector, texts_of, truth
+from resource_table import Fault, address, below, cidr, levels, mode, name, of_type, selector, texts_of, truth
 from resource_table import constant, floating, whole
 from second_records import Cidr, address_text
 from selector_table import Bad
+from table_lines import put
 
-OUT = TOP / "crates/ipam_request_tests/src"
 HANDLE = re.compile(r"[A-Za-z0-9][A-Za-z0-9_.-]{0,506}")
 LABEL = re.compile(r"[A-Za-z0-9_./-]{1,317}")
 LEVELS = 127
@@ -318,123 +318,20 @@ def all_requests():
     return plain + changed + [compact(one) for one in WHOLE] + SPELLED
 
 
-# ---- the test's source
-
-ROWS = 100
+# ---- the lines
 
 
-def table(texts, reader):
-    rows = "".join(escaped(f"{one}⇒{answer(one, reader)}‡") + "\\\n" for one in texts)
-    return rows.replace("\x7f", "\\x7f")
+def lines(kind, texts, reader):
+    return [(f"{kind}|{one}", answer(one, reader)) for one in texts]
 
 
 def main():
     requests = all_requests()
-    groups = {f"REQUESTS_{n + 1}": requests[n * ROWS : n * ROWS + ROWS] for n in range((len(requests) + ROWS - 1) // ROWS)}
-    tables = "".join(f'\npub(crate) const {name}: &str = "\\\n{table(group, request)}";\n' for name, group in groups.items())
-    tables += f'\npub(crate) const LIVE: &str = "\\\n{table(LIVE, list_of(handle))}";\n'
-    OUT.mkdir(parents=True, exist_ok=True)
-    (OUT / "tables.rt").write_text(HEAD + TABLES + tables)
-    tests = "".join(TEST.format(test=name.lower(), name=name, count=len(group)) for name, group in groups.items())
-    names = ", ".join(["LIVE", *sorted(groups)])
-    source = SOURCE.replace("NAMES", names).replace("LISTS", str(len(LIVE)))
-    (OUT / "table_tests.rt").write_text(HEAD + source + tests)
+    made = lines("request", requests, request) + lines("live", LIVE, list_of(handle))
+    put("ipam_request_tests", ["request", "live"], made)
     refused = sum(answer(one, request) == "unreadable" for one in requests)
     print(f"{len(requests)} requests, {refused} refused; {len(LIVE)} live lists")
 
-
-HEAD = "// Written by tools/tables/request_table.py: change that, and not this file.\n"
-
-TABLES = """\
-// Each row has a text, and the printed text of what it is read as, or that it is unreadable.
-"""
-
-SOURCE = """\
-use crate::tables::{NAMES};
-use ipam_model::Request;
-use ipam_request_text::{AskFault, is_sound, push_live, push_request, read_live, read_request};
-use ipam_text::Text;
-use std::alloc::{AllocError, Global};
-use std::process::Abort;
-use std::test::Fail;
-
-const UNREADABLE: &str = "unreadable";
-
-/// The printed text of the request that is read.
-fn told(alloc: Global, text: &str) -> Result<String, AllocError> {
-    match read_request(alloc, text.as_bytes()) {
-        Ok(request) => printed(alloc, &request),
-        Err(fault) => refused(alloc, fault),
-    }
-}
-
-fn printed(alloc: Global, request: &Request) -> Result<String, AllocError> {
-    let mut out = String::new(alloc);
-    if is_sound(request) {
-        push_request(alloc, &mut out, request)?;
-    }
-    Ok(out)
-}
-
-/// The printed text of the live list that is read.
-fn told_live(alloc: Global, text: &str) -> Result<String, AllocError> {
-    match read_live(alloc, text) {
-        Ok(live) => printed_live(alloc, live.as_slice()),
-        Err(fault) => refused(alloc, fault),
-    }
-}
-
-fn printed_live(alloc: Global, live: &[Text]) -> Result<String, AllocError> {
-    let mut out = String::new(alloc);
-    push_live(alloc, &mut out, live)?;
-    Ok(out)
-}
-
-fn refused(alloc: Global, fault: AskFault) -> Result<String, AllocError> {
-    match fault {
-        AskFault::Unreadable => String::from_str(alloc, UNREADABLE),
-        AskFault::Memory => Err(AllocError),
-    }
-}
-
-/// How many rows there are, each of which holds, and the printed text of which is read as itself.
-fn rows(rt: &impl Abort, alloc: Global, table: &str) -> Result<usize, AllocError> {
-    let mut count = 0usize;
-    for row in table.split('‡') {
-        if let Some((text, want)) = row.split_once('⇒') {
-            let found = told(alloc, text)?;
-            assert!(rt; found.as_str() == want, "{text}");
-            let again = told(alloc, want)?;
-            assert!(rt; again.as_str() == want, "{want}");
-            count = count.wrapping_add(1);
-        }
-    }
-    Ok(count)
-}
-
-#[test]
-fn reads_live_lists(rt: HostRuntime) -> Result<(), Fail> {
-    let mut count = 0usize;
-    for row in LIVE.split('‡') {
-        if let Some((text, want)) = row.split_once('⇒') {
-            let found = told_live(rt.alloc(), text)?;
-            assert!(&rt; found.as_str() == want, "{text}");
-            count = count.wrapping_add(1);
-        }
-    }
-    assert_eq!(&rt; count, LISTS);
-    Ok(())
-}
-"""
-
-TEST = """
-#[test]
-fn reads_{test}(rt: HostRuntime) -> Result<(), Fail> {{
-    let count = rows(&rt, rt.alloc(), {name})?;
-    assert_eq!(&rt; count, {count});
-    Ok(())
-}}
-"""
 
 if __name__ == "__main__":
     main()

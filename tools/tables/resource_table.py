@@ -1,5 +1,5 @@
 #!/usr/bin/env python3
-"""Writes the lines `document|..` of stdin and stdout of crates/ipam_resources_tests: documents of resources, and what must be read from each.
+"""Writes the lines `document|..` of stdin and stdout of crates/ipam_request_tests: documents of resources, and what must be read from each.
 
 The reader below is written from the format alone, over Python's own `json` and `ipaddress`. In a
 document `␤` stands for a line feed. What is told of it is, for each resource, its line and the text of
@@ -12,16 +12,14 @@ Run it from the top of the repository: python3 tools/tables/resource_table.py
 import ipaddress
 import json
 import re
-from pathlib import Path
 
 from selector_table import TEXT_MAX, Bad, Parser, printed
+from table_lines import put
 
-OUT = Path(__file__).resolve().parents[2] / "crates/ipam_resources_tests"
 NAME = re.compile(r"[A-Za-z0-9][A-Za-z0-9_.-]{0,252}")
 KINDS = ("IPPool", "IPReservation", "IPAMConfig", "IPAMConfiguration")
 LISTS = ("List", "IPPoolList", "IPReservationList")
 LEVELS = 127
-OTHER_KINDS = ("bytes", "byte", "refusal")
 
 
 class Fault(Exception):
@@ -439,34 +437,14 @@ def all_documents():
     return REAL, changed + others + SPELLED
 
 
-# ---- the files
-
-
-def escaped(text):
-    """The text as the lines of a literal, for the tables that stand in a source."""
-    out = []
-    for line in text.split("\n"):
-        line = json.dumps(line, ensure_ascii=False)[1:-1].replace("\ufeff", "\\u{feff}")
-        out.append("\\x20" + line[1:] if line.startswith(" ") else line)
-    return "\\n\\\n".join(out)
-
-
-def question(document):
-    assert "␤" not in document
-    return "document|" + document.replace("\n", "␤")
-
-
-def put(path, made):
-    """Puts the text in front of the file's lines of other kinds."""
-    text = path.read_text()
-    path.write_text(made + text[min(text.index(f"\n{kind}|") for kind in OTHER_KINDS) + 1 :])
+# ---- the lines
 
 
 def main():
     real, others = all_documents()
     documents = real + others
-    put(OUT / "stdin", "".join(f"{question(one)}\n" for one in documents))
-    put(OUT / "stdout", "".join(f"{question(one)}|{answer(one)}\n" for one in documents))
+    assert not any("␤" in one for one in documents)
+    put("ipam_request_tests", ["document"], [("document|" + one, answer(one)) for one in documents])
     refused = sum(answer(one).startswith("refused") for one in documents)
     print(f"{len(documents)} documents, {refused} refused")
 

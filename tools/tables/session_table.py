@@ -1,8 +1,8 @@
 #!/usr/bin/env python3
-"""Writes crates/ipam_session_tests/src/table_tests.rt: lines of a session, and what must be read from each.
+"""Writes the lines `line|..` of stdin and stdout of crates/ipam_request_tests: lines of a session, and what must be read from each.
 
-The reader below was written only from the format, over Python's own `json`. A row has a line and what
-it asks, or `line` if it asks for nothing that is known.
+The reader below was written only from the format, over Python's own `json`. A line of the table has
+a line and what it asks, or `line` if it asks for nothing that is known.
 
 Run it from the top of the repository: python3 tools/tables/session_table.py
 """
@@ -10,11 +10,10 @@ Run it from the top of the repository: python3 tools/tables/session_table.py
 import ipaddress
 import json
 import re
-from pathlib import Path
 
 from resource_table import Fault, parsed
+from table_lines import put
 
-OUT = Path(__file__).resolve().parents[2] / "crates/ipam_session_tests/src/table_tests.rt"
 NAME = re.compile(r"[A-Za-z0-9][A-Za-z0-9_.-]{0,252}")
 KIND = re.compile("config|pools|reservations|block|affinity|handle")
 HANDLE = re.compile(r"[A-Za-z0-9][A-Za-z0-9_.-]{0,506}")
@@ -242,137 +241,15 @@ def cases():
     return GOOD + SPELLINGS + BAD + limits + deep + cut + behind
 
 
-# ---- the source
-
-
-def literal(text):
-    out = []
-    for c in text:
-        if c in '"\\':
-            out.append("\\" + c)
-        elif c == "\t":
-            out.append("\\t")
-        elif c == "\r":
-            out.append("\\r")
-        elif c == "\n":
-            out.append("\\n")
-        else:
-            out.append(c)
-    return "".join(out)
-
-
-def table(rows):
-    return "".join(f"{literal(line)}⇒{literal(told(line))}‡\\n\\\n" for line in rows)
+# ---- the lines
 
 
 def main():
     rows = cases()
-    groups = [rows[n : n + 40] for n in range(0, len(rows), 40)]
-    source = SOURCE
-    for n, group in enumerate(groups):
-        source += f'const LINES_{n + 1}: &str = "\\\n{table(group)}";\n\n'
-    source += TELLING
-    for n, group in enumerate(groups):
-        source += TEST.format(n=n + 1, count=len(group))
-    OUT.write_text(source)
+    put("ipam_request_tests", ["line"], [("line|" + line.replace("\r", "␍"), told(line)) for line in rows])
     unread = sum(told(line) == "line" for line in rows)
     print(f"{len(rows)} lines, {unread} of them refused")
 
-
-SOURCE = """\
-// Written by tools/tables/session_table.py: change that, and not this file.
-// Each row has a line of a session and what it asks, or `line` where it asks nothing that is known.
-use ipam_model::Request;
-use ipam_records::{Key, key_text};
-use ipam_request_text::{push_live, push_request};
-use ipam_session::{AskFault, Wish, read_wish};
-use ipam_text::Text;
-use serde_json::{Map, Value, json, put};
-use std::alloc::{AllocError, Global};
-use std::process::Abort;
-use std::test::Fail;
-
-"""
-
-TELLING = """\
-/// What is read of the line.
-fn told(alloc: Global, line: &str) -> Result<String, AllocError> {
-    match read_wish(alloc, line.as_bytes()) {
-        Ok(wish) => asked(alloc, &wish),
-        Err(AskFault::Unreadable) => String::from_str(alloc, "line"),
-        Err(AskFault::Memory) => Err(AllocError),
-    }
-}
-
-fn asked(alloc: Global, wish: &Wish) -> Result<String, AllocError> {
-    match wish {
-        Wish::Cni(env, stdin) => called(alloc, env.as_slice(), stdin.as_str()),
-        Wish::Request(request) => requested(alloc, request),
-        Wish::Feed(live) => fed(alloc, live.as_slice()),
-        Wish::Stop => String::from_str(alloc, "stop"),
-        Wish::Routes => String::from_str(alloc, "routes"),
-        Wish::RoutesSince(revision) => format!(in alloc; "since {revision}"),
-        Wish::Rows(kind, after) => paged(alloc, kind.name(), after),
-        Wish::Usage => String::from_str(alloc, "usage"),
-        Wish::Opened => String::from_str(alloc, "opened"),
-    }
-}
-
-fn paged(alloc: Global, word: &str, after: &Option<Key>) -> Result<String, AllocError> {
-    let Some(key) = after else {
-        return format!(in alloc; "rows {word}");
-    };
-    let key = key_text(alloc, key)?;
-    let key = key.as_str();
-    format!(in alloc; "rows {word} after {key}")
-}
-
-fn called(alloc: Global, env: &[(Text, Text)], stdin: &str) -> Result<String, AllocError> {
-    let mut members = Map::new(alloc);
-    for pair in env {
-        let value = Value::try_from_str(alloc, pair.1.as_str())?;
-        put(&mut members, alloc, pair.0.as_str(), value)?;
-    }
-    let env = Value::Object(members);
-    let json = json!(in alloc; {"env": env, "stdin": stdin})?;
-    let text = json.to_string(alloc)?;
-    format!(in alloc; "call {text}")
-}
-
-fn requested(alloc: Global, request: &Request) -> Result<String, AllocError> {
-    let mut out = String::from_str(alloc, "request ")?;
-    push_request(alloc, &mut out, request)?;
-    Ok(out)
-}
-
-fn fed(alloc: Global, live: &[Text]) -> Result<String, AllocError> {
-    let mut out = String::from_str(alloc, "feed ")?;
-    push_live(alloc, &mut out, live)?;
-    Ok(out)
-}
-
-/// How many rows there are, each of which holds.
-fn rows(rt: &impl Abort, alloc: Global, table: &str) -> Result<usize, AllocError> {
-    let mut count = 0usize;
-    for row in table.split("‡\\n") {
-        if let Some((line, want)) = row.split_once('⇒') {
-            let found = told(alloc, line)?;
-            assert!(rt; found.as_str() == want, "{line}");
-            count = count.wrapping_add(1);
-        }
-    }
-    Ok(count)
-}
-"""
-
-TEST = """
-#[test]
-fn reads_lines_{n}(rt: HostRuntime) -> Result<(), Fail> {{
-    let count = rows(&rt, rt.alloc(), LINES_{n})?;
-    assert_eq!(rt; count, {count});
-    Ok(())
-}}
-"""
 
 if __name__ == "__main__":
     main()

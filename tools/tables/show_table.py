@@ -1,5 +1,5 @@
 #!/usr/bin/env python3
-"""Writes stdin and stdout of crates/ipam_show_tests: what an operator is shown of ten datastores.
+"""Writes the lines of five kinds of stdin and stdout of crates/ipam_record_tests: what an operator is shown of ten datastores.
 
 Each datastore is made of pools, blocks and reservations, and its rows are written from them. What must be
 shown is counted from the same values, address by address, and not from the rows.
@@ -10,9 +10,8 @@ Run it from the top of the repository: python3 tools/tables/show_table.py
 import collections
 import ipaddress
 import json
-from pathlib import Path
 
-OUT = Path(__file__).resolve().parents[2] / "crates/ipam_show_tests"
+from table_lines import put
 
 def J(v): return json.dumps(v, separators=(',', ':'), ensure_ascii=False)
 def net(c): return ipaddress.ip_network(c)
@@ -116,13 +115,11 @@ extra = {5: ["2001:db8::2", "2001:db8::", "2001:db8::f", "2001:db8::7", "8000::"
   6: ["10.1.0.0", "10.1.0.3", "10.2.0.0", "10.2.0.1", "10.2.0.3", "10.3.0.0", "10.3.0.4", "10.3.0.6", "10.3.0.7", "10.4.0.1", "10.4.0.0", "fd00::", "fd00::1", "fd00::2", "fd00::3", "fd00::4"],
   8: ["10.16.0.3", "10.16.0.4", "10.16.1.41", "10.16.1.0", "10.15.255.255"],
   9: ["ffff:ffff:ffff:ffff:ffff:ffff:ffff:ffff", "ffff:ffff:ffff:ffff:ffff:ffff:ffff:fffe", "fd00:0:0:1::"]}
-out_in, out = [], []
+made = []
 def add(kind, asked, b, text):
-    line = f"{kind}|{asked}{b.rows()}"
-    out_in.append(line); out.append(line + "|" + text.replace("\n", "␤"))
+    made.append((f"{kind}|{asked}{b.rows()}", text))
 for i, b in enumerate(B):
     add("pools", "", b, pools(b)); add("json", "", b, js(b)); add("blocks", "", b, blocks(b))
     for n in (["a", "b", "node-1.example", "c"] if i < 8 else ["a", "z"]): add("node", n, b, node(b, n))
     for a in (extra.get(i, []) + (asks if i < 5 or i == 7 else [])): add("address", a, b, address(b, a))
-(OUT / "stdin").write_text("\n".join(out_in) + "\n")
-(OUT / "stdout").write_text("\n".join(out) + "\n")
+put("ipam_record_tests", ["pools", "json", "blocks", "node", "address"], made)

@@ -1,14 +1,18 @@
-//! What a CNI call of a container begins, and what an answer of the allocator is told as.
+//! What a CNI call begins, and what an answer of the allocator is told as.
 #![tactic(auto)]
 
 mod asking;
 mod asks;
+mod collecting;
 pub mod laws;
+mod probing;
 mod replies;
 mod replying;
 
 pub use asking::ask;
 pub use asks::Ask;
+pub use collecting::{gc, gc_reply};
+pub use probing::{status, status_reply};
 pub use replies::CniReply;
-pub use replying::{failure_of, family_name, reply, told};
+pub use replying::reply;
 pub use std::alloc::AllocError as Memory;

@@ -13,18 +13,18 @@ abbrev pub member_text : Member → List ℕ
 member_text Name = codes "name"
 member_text NodeName = codes "nodename"
 member_text NodeLabels = codes "nodeLabels"
-member_text Ipam = codes "ipam"
-member_text IpamType = codes "ipam.type"
-member_text AssignIpv4 = codes "ipam.assign_ipv4"
-member_text AssignIpv6 = codes "ipam.assign_ipv6"
-member_text Ipv4Pools = codes "ipam.ipv4_pools"
-member_text Ipv6Pools = codes "ipam.ipv6_pools"
 member_text PrevResult = codes "prevResult"
 member_text PrevResultIps = codes "prevResult.ips"
 member_text Attachments = codes "cni.dev/valid-attachments"
 member_text (Attachment index) = attachment_text index []
 member_text (AttachmentContainer index) = attachment_text index (codes ".containerID")
 member_text (AttachmentInterface index) = attachment_text index (codes ".ifname")
+member_text Ipam = codes "ipam"
+member_text IpamType = codes "ipam.type"
+member_text AssignIpv4 = codes "ipam.assign_ipv4"
+member_text AssignIpv6 = codes "ipam.assign_ipv6"
+member_text Ipv4Pools = codes "ipam.ipv4_pools"
+member_text Ipv6Pools = codes "ipam.ipv6_pools"
 
 abbrev pub variable_name : Variable → List ℕ
 variable_name variable.Command = codes "CNI_COMMAND"

@@ -12,8 +12,9 @@ use Rattle.ipam_backup.specs.Filling.{filled}
 
 -- what there is of the new database and of the sink
 pub record BackupSides : Type 0 where
-  -- the rows, where they are told
+  -- the rows, and those that are sure, where they are told
   pub rows : Option (List Row)
+  pub settled : Option (List Row)
   pub faults : ℕ
   -- the bytes that the sink took
   pub written : Option (List ℕ)
@@ -31,16 +32,16 @@ busy_line = codes "datastore busy\n"
 -- the database is as it was, and no call of it failed
 pub record IsUntouched (old new : BackupSides) : Type 0 where
   pub rows : new.rows ≡ old.rows
+  pub settled : new.settled ≡ old.settled
   pub faults : new.faults ≡ old.faults
 
 abbrev pub BackupWrites : (old new : BackupSides) (text : List ℕ) (own last : End) → Type 0
 BackupWrites old new text own last = WritesText old.written new.written old.write_faults new.write_faults text own last
 
--- These rows are put into the database and it is closed, which is `closed`, and their number is told, which takes
--- memory; or the
--- database failed; or there was no memory.
+-- These rows are put into the database, after the last one all of its rows are made sure, and it is closed, which is
+-- `closed`; then their number is told, which takes memory. Or the database failed; or there was no memory.
 pub data BacksUp (closed : Type 0) (rows : List Row) (old new : BackupSides) (last : End) : Type 0 where
-  Saved : closed → new.rows ≡ filled rows old.rows → new.faults ≡ old.faults
+  Saved : closed → new.rows ≡ filled rows old.rows → new.settled ≡ new.rows → new.faults ≡ old.faults
       → Says (Unit {0}) old.written new.written old.write_faults new.write_faults (saved_line (length rows)) end.Done last → BacksUp closed rows old new last
   Failed : Rose old.faults new.faults → BackupWrites old new keeper_line end.KeeperFault last → BacksUp closed rows old new last
   NoRoom : new.faults ≡ old.faults → new.written ≡ old.written → new.write_faults ≡ old.write_faults → last ≡ end.NoMemory → BacksUp closed rows old new last

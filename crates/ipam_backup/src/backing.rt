@@ -15,9 +15,9 @@ use ipam_operator::{End, tell, tell_fault, tell_made};
 use ipam_records::Row;
 use std::alloc::{AllocError, Global};
 
-/// Asks the daemon for all its rows as they stand at one revision, puts them into the new database, closes it,
-/// and writes how many there are. Where the datastore changes each time while they are asked for, the line is
-/// `datastore busy`, and nothing is put in.
+/// Asks the daemon for all its rows as they stand at one revision, puts them into the new database, makes sure of
+/// them at once, closes it, and writes how many there are. Where the datastore changes each time while they are
+/// asked for, the line is `datastore busy`, and nothing is put in.
 pub fn back_up_asked<K: Sink, L: Link, D: Target>(
     alloc: Global,
     sink: &mut K,
@@ -39,8 +39,8 @@ pub fn back_up_asked<K: Sink, L: Link, D: Target>(
           read_faults = L.read_faults link.new;
         })
         × BacksUpAsked (D.closed target.new) came
-        (record { rows = D.rows target.old; faults = D.faults target.old; written = K.written sink.old; write_faults = K.write_faults sink.old })
-        (record { rows = D.rows target.new; faults = D.faults target.new; written = K.written sink.new; write_faults = K.write_faults sink.new })
+        (record { rows = D.rows target.old; settled = D.settled target.old; faults = D.faults target.old; written = K.written sink.old; write_faults = K.write_faults sink.old })
+        (record { rows = D.rows target.new; settled = D.settled target.new; faults = D.faults target.new; written = K.written sink.new; write_faults = K.write_faults sink.new })
         result }
     ensures rest { K.write_rest sink.new ≡ K.write_rest sink.old }
 {
@@ -51,7 +51,8 @@ pub fn back_up_asked<K: Sink, L: Link, D: Target>(
     }
 }
 
-/// Puts all rows of the keeper into the new database, closes it, and writes how many there are.
+/// Puts all rows of the keeper into the new database, makes sure of them at once, closes it, and writes how many
+/// there are.
 pub fn back_up_kept<K: Sink, F: Keeper, D: Target>(
     alloc: Global,
     sink: &mut K,
@@ -59,8 +60,8 @@ pub fn back_up_kept<K: Sink, F: Keeper, D: Target>(
     target: &mut D,
 ) -> End
     ensures told { BacksUpKept (D.closed target.new) (F.rows from.old) (F.faults from.old) (F.faults from.new)
-        (record { rows = D.rows target.old; faults = D.faults target.old; written = K.written sink.old; write_faults = K.write_faults sink.old })
-        (record { rows = D.rows target.new; faults = D.faults target.new; written = K.written sink.new; write_faults = K.write_faults sink.new })
+        (record { rows = D.rows target.old; settled = D.settled target.old; faults = D.faults target.old; written = K.written sink.old; write_faults = K.write_faults sink.old })
+        (record { rows = D.rows target.new; settled = D.settled target.new; faults = D.faults target.new; written = K.written sink.new; write_faults = K.write_faults sink.new })
         result }
     ensures same_rows { F.rows from.new ≡ F.rows from.old }
     ensures rest { K.write_rest sink.new ≡ K.write_rest sink.old }
@@ -72,11 +73,11 @@ pub fn back_up_kept<K: Sink, F: Keeper, D: Target>(
     }
 }
 
-/// Puts the rows into the new database, closes it, and writes how many there are.
+/// Puts the rows into the new database, makes sure of them at once, closes it, and writes how many there are.
 fn back_up<K: Sink, D: Target>(alloc: Global, sink: &mut K, rows: &[Row], target: &mut D) -> End
     ensures told { BacksUp (D.closed target.new) rows.now
-        (record { rows = D.rows target.old; faults = D.faults target.old; written = K.written sink.old; write_faults = K.write_faults sink.old })
-        (record { rows = D.rows target.new; faults = D.faults target.new; written = K.written sink.new; write_faults = K.write_faults sink.new })
+        (record { rows = D.rows target.old; settled = D.settled target.old; faults = D.faults target.old; written = K.written sink.old; write_faults = K.write_faults sink.old })
+        (record { rows = D.rows target.new; settled = D.settled target.new; faults = D.faults target.new; written = K.written sink.new; write_faults = K.write_faults sink.new })
         result }
     ensures rest { K.write_rest sink.new ≡ K.write_rest sink.old }
 {

@@ -6,8 +6,7 @@ ghost use Rattle.cni_asks.specs.Asking.{IsSoundAsk, is_neither_gc_nor_status};
 ghost use Rattle.cni_asks.specs.Replying.{told};
 ghost use Rattle.ipam_cni.specs.Replies.{IsOfCall, begun_by, reply_to};
 
-use cni_asks::{Ask, ask, reply};
-use cni_gc::{gc, gc_reply, status, status_reply};
+use cni_asks::{Ask, ask, gc, gc_reply, reply, status, status_reply};
 use cni_types::{CniGc, CniStatus, Look, Version};
 use ipam_model::{Answer, Request};
 use ipam_text::Text;

@@ -9,8 +9,8 @@ use Rattle.ipam_laws.proofs.AloneProbe.{probe_tells}
 use Rattle.ipam_laws.proofs.OpenedHistory.{opened_law}
 use Rattle.ipam_kept.specs.Kept.{opened}
 use Rattle.cni_asks.specs.declared.replies.CniReply.TheVariants.{Success}
-use Rattle.cni_gc.specs.Begun.{probe_of}
-use Rattle.cni_gc.specs.Replies.{status_reply_of}
+use Rattle.cni_asks.specs.GcAsking.{probe_of}
+use Rattle.cni_asks.specs.GcReplying.{status_reply_of}
 use Rattle.ipam_cni_laws.specs.Alone.{StatusLaw}
 
 -- a status that succeeds is an answer that says that an address can be given

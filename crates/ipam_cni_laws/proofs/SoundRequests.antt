@@ -24,8 +24,8 @@ use Rattle.cni_asks.specs.declared.asks.Ask.{Ask}
 use Rattle.cni_asks.specs.declared.asks.Ask.TheVariants.{Tell, Begin}
 use Rattle.cni_asks.specs.Asking.{add_of, wanting}
 use Rattle.cni_asks.proofs.SoundCalls.{add_sound}
-use Rattle.cni_gc.specs.Begun.{probe_of}
-use Rattle.cni_gc.proofs.SoundProbe.{copy_sound}
+use Rattle.cni_asks.specs.GcAsking.{probe_of}
+use Rattle.cni_asks.proofs.SoundProbe.{copy_sound}
 use Rattle.ipam_cni.specs.Replies.{begun_by}
 use Rattle.ipam_cni_laws.proofs.Spared.{gc-sound}
 

@@ -33,8 +33,8 @@ use Rattle.cni_asks.specs.declared.asks.Ask.TheVariants.{Tell, Begin}
 use Rattle.cni_asks.specs.declared.replies.CniReply.{CniReply}
 use Rattle.cni_asks.specs.declared.replies.CniReply.TheVariants.{Addresses, Success, Failure}
 use Rattle.cni_asks.specs.Replying.{reply_status, told}
-use Rattle.cni_gc.specs.Begun.{collect_of, probe_of}
-use Rattle.cni_gc.specs.Replies.{gc_reply_of, status_reply_of}
+use Rattle.cni_asks.specs.GcAsking.{collect_of, probe_of}
+use Rattle.cni_asks.specs.GcReplying.{gc_reply_of, status_reply_of}
 use Rattle.ipam_cni.specs.Replies.{Answered, Asked, AtOnce, BadRows, ComesTo, Refused, Reply, RequestComesTo, begun_by, reply_to}
 use Rattle.ipam_cni_laws.specs.Spare.{GcLeavesLaw, StatusAddsLaw}
 use Rattle.ipam_cni_laws.proofs.Ready.{ready-as-plain}

@@ -8,7 +8,7 @@ use Rattle.ipam_model.specs.declared.request.Request.TheVariants.{Add, AddThis, 
 use Rattle.ipam_model.specs.Plain.{PlainAnswer, plain_of}
 use Rattle.cni_asks.specs.declared.replies.CniReply.{CniReply}
 use Rattle.cni_asks.specs.Replying.{failure_of, reply_to_add, reply_to_this, reply_to_del, reply_to_check}
-use Rattle.cni_gc.specs.Replies.{gc_reply_of, status_reply_of}
+use Rattle.cni_asks.specs.GcReplying.{gc_reply_of, status_reply_of}
 use Rattle.ipam_cni.specs.Replies.{reply_to}
 use Rattle.ipam_cni_laws.specs.ByRecords.{plain_failure, plain_reply, plain_reply_to_add, plain_reply_to_check, plain_reply_to_del, plain_reply_to_gc, plain_reply_to_status, plain_reply_to_this}
 

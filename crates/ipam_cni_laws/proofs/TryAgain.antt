@@ -19,7 +19,7 @@ use Rattle.cni_asks.specs.declared.asks.Ask.TheVariants.{Begin}
 use Rattle.ipam_kept.specs.Kept.{opened}
 use Rattle.ipam_addr.specs.Shape.{AddrValue}
 use Rattle.cni_asks.specs.Replying.{failure_of, reply_to_add, reply_to_this, reply_to_del, reply_to_check}
-use Rattle.cni_gc.specs.Replies.{gc_reply_of, status_reply_of}
+use Rattle.cni_asks.specs.GcReplying.{gc_reply_of, status_reply_of}
 use Rattle.ipam_cni.specs.Replies.{begun_by, reply_to}
 use Rattle.ipam_cni_laws.specs.Alone.{CallNeverAgainLaw, NoTryAgainLaw, SaysTryAgain}
 use Rattle.ipam_cni_laws.proofs.SoundRequests.{IsSoundOrCheck, asked_sound}

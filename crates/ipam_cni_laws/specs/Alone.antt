@@ -22,7 +22,7 @@ use Rattle.cni_types.specs.Reading.{Pair}
 use Rattle.cni_asks.specs.declared.asks.Ask.TheVariants.{Begin}
 use Rattle.cni_asks.specs.declared.replies.CniReply.{CniReply}
 use Rattle.cni_asks.specs.declared.replies.CniReply.TheVariants.{Success, Failure}
-use Rattle.cni_gc.specs.Begun.{probe_of}
+use Rattle.cni_asks.specs.GcAsking.{probe_of}
 use Rattle.ipam_cni.specs.Replies.{begun_by, reply_to}
 
 -- what a request is told that runs by itself

@@ -22,7 +22,7 @@ use Rattle.cni_types.specs.declared.calls.CniStatus.{CniStatus}
 use Rattle.cni_types.specs.declared.calls.Look.TheVariants.{Gc, Status}
 use Rattle.cni_types.specs.Looking.{look_reading}
 use Rattle.cni_types.specs.Reading.{Pair}
-use Rattle.cni_gc.specs.Begun.{collect_of, probe_of}
+use Rattle.cni_asks.specs.GcAsking.{collect_of, probe_of}
 use Rattle.ipam_cni.specs.Replies.{ComesTo, Reply}
 
 -- ---- GC

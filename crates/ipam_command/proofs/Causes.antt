@@ -18,11 +18,11 @@ use Rattle.ipam_play_run.specs.declared.end.PlayEnd.TheVariants as play
 use Rattle.ipam_gen.specs.declared.end.GenEnd.{GenEnd}
 use Rattle.ipam_gen.specs.declared.end.GenEnd.TheVariants as gen
 use Rattle.ipam_gen.specs.Summary.{CountsFaults}
-use Rattle.ipam_commands.specs.declared.outcome.ReleaseOutcome.{ReleaseOutcome}
-use Rattle.ipam_commands.specs.declared.outcome.ReleaseOutcome.TheVariants as outcome
+use Rattle.ipam_commands.specs.declared.outcome.ChangeOutcome.{ChangeOutcome}
+use Rattle.ipam_commands.specs.declared.outcome.ChangeOutcome.TheVariants as outcome
 use Rattle.ipam_commands.specs.declared.status.Status.{Status}
 use Rattle.ipam_commands.specs.declared.status.Status.TheVariants as status
-use Rattle.ipam_commands.specs.Releasing.{ReleaseEnds, ReleaseWrites, outcome_line, outcome_status}
+use Rattle.ipam_commands.specs.Changing.{ChangeEnds, ChangeWrites, outcome_status, release_line}
 use Rattle.ipam_commands.specs.Statuses.{code_of}
 use Rattle.ipam_commands.specs.Telling.{Cut, FaultWrites, IsNotLoaded, NotOpened, Opened, ReportsRows, Untold, Whole, Writes, keeper_line}
 use Rattle.ipam_told.specs.Shown.{shown_text}
@@ -131,18 +131,18 @@ tell-cause asked says old new code quiet d = record {
 
 -- ---- `release`
 
-outcome-cause : (asked : Option Asked) (old new : CommandOutside) (found : ReleaseOutcome) → reads asked ≡ false → Causes asked old new (outcome_status found)
-outcome-cause asked old new outcome.Released quiet = unread asked old new quiet
-outcome-cause asked old new outcome.NoAffinity quiet = tt
+outcome-cause : (asked : Option Asked) (old new : CommandOutside) (found : ChangeOutcome) → reads asked ≡ false → Causes asked old new (outcome_status found)
+outcome-cause asked old new outcome.Made quiet = unread asked old new quiet
+outcome-cause asked old new outcome.Absent quiet = tt
 outcome-cause asked old new outcome.Full quiet = tt
 outcome-cause asked old new outcome.Spent quiet = tt
 
-came-cause : (asked : Option Asked) (old new : CommandOutside) (made : Request) (came : Result ReleaseOutcome KeptFault) (ending : Status) (told : Type 0) → reads asked ≡ false
-    → ReleaseEnds made came old.rows new.rows old.keeper_faults new.keeper_faults
-    → ReleaseWrites (λ said own. Writes old.written new.written old.write_faults new.write_faults said own ending) told came
+came-cause : (asked : Option Asked) (old new : CommandOutside) (made : Request) (came : Result ChangeOutcome KeptFault) (ending : Status) (told : Type 0) → reads asked ≡ false
+    → ChangeEnds made came old.rows new.rows old.keeper_faults new.keeper_faults
+    → ChangeWrites release_line (λ said own. Writes old.written new.written old.write_faults new.write_faults said own ending) told came
     → Causes asked old new ending
 came-cause asked old new made (Ok found) ending told quiet ends w =
-    by-writes asked old new old.written (outcome_line found) (outcome_status found) ending w.0 (λ e. outcome-cause asked old new found quiet)
+    by-writes asked old new old.written (release_line found) (outcome_status found) ending w.0 (λ e. outcome-cause asked old new found quiet)
 came-cause asked old new made (Err fault.Keeper) ending told quiet ends w =
     by-writes asked old new old.written keeper_line status.KeeperFault ending w (λ e. ends.0)
 came-cause asked old new made (Err (fault.Refused number about)) ending told quiet ends w =

@@ -19,10 +19,10 @@ use Rattle.ipam_gen.specs.declared.end.GenEnd.TheVariants as gen
 use Rattle.ipam_gen.specs.Summary.{CountsFaults, WritesSummary}
 use Rattle.ipam_headline.specs.Generating.{HasCountedRight}
 use Rattle.ipam_headline.specs.Headline.{HasWrittenRight, script_in}
-use Rattle.ipam_commands.specs.declared.outcome.ReleaseOutcome.{ReleaseOutcome}
+use Rattle.ipam_commands.specs.declared.outcome.ChangeOutcome.{ChangeOutcome}
 use Rattle.ipam_commands.specs.declared.status.Status.{Status}
 use Rattle.ipam_commands.specs.declared.status.Status.TheVariants as status
-use Rattle.ipam_commands.specs.Releasing.{ReleaseEnds, ReleaseWrites, outcome_line, outcome_status}
+use Rattle.ipam_commands.specs.Changing.{ChangeEnds, ChangeWrites, outcome_status, release_line}
 use Rattle.ipam_commands.specs.Statuses.{code_of}
 use Rattle.ipam_commands.specs.Telling.{AreOpened, Cut, NotOpened, Opened, ReportsRows, Untold, Whole, Writes}
 use Rattle.ipam_told.specs.Shown.{shown_text}
@@ -110,12 +110,12 @@ module _ (old new : CommandOutside) (well : NoFault old new) (code : ℕ) where
       or-else (λ whole. rules.Broken number about is.0 whole) (at-once (broken_line number about) status.BrokenRows ending has w)
   told-rows says ending has (NotOpened fault.Memory is w) = inl (no-memory ending has w)
 
-  released : (node : List ℕ) (cidr : CidrValue) (came : Result ReleaseOutcome KeptFault) (ending : Status) (told : Type 0) → code ≡ code_of ending
-      → ReleaseEnds (request.Release node cidr) came old.rows new.rows old.keeper_faults new.keeper_faults
-      → ReleaseWrites (λ text own. Writes old.written new.written old.write_faults new.write_faults text own ending) told came
+  released : (node : List ℕ) (cidr : CidrValue) (came : Result ChangeOutcome KeptFault) (ending : Status) (told : Type 0) → code ≡ code_of ending
+      → ChangeEnds (request.Release node cidr) came old.rows new.rows old.keeper_faults new.keeper_faults
+      → ChangeWrites release_line (λ text own. Writes old.written new.written old.write_faults new.write_faults text own ending) told came
       → (code ≡ 6) ⊎ rules.OfRelease node cidr old new (λ text own. IsWhole text own old new code)
   released node cidr (Ok found) ending told has ends w =
-      or-else (λ whole. rules.Came found ends.1 whole) (at-once (outcome_line found) (outcome_status found) ending has w.0)
+      or-else (λ whole. rules.Came found ends.1 whole) (at-once (release_line found) (outcome_status found) ending has w.0)
   released node cidr (Err fault.Keeper) ending told has ends w = absurd (well.keeper ends.0)
   released node cidr (Err (fault.Refused number about)) ending told has ends w =
       or-else (λ whole. rules.NotCome number about ends.1 whole) (at-once (broken_line number about) status.BrokenRows ending has w)

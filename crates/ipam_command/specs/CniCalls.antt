@@ -26,7 +26,7 @@ use Rattle.cni_types.specs.Reading.{Pair}
 use Rattle.cni_asks.specs.declared.asks.Ask.TheVariants.{Begin}
 use Rattle.cni_asks.specs.declared.replies.CniReply.{CniReply}
 use Rattle.cni_asks.specs.Replying.{told}
-use Rattle.cni_gc.specs.Begun.{collect_of, probe_of}
+use Rattle.cni_asks.specs.GcAsking.{collect_of, probe_of}
 use Rattle.ipam_cni.specs.declared.end.CniEnd.{CniEnd}
 use Rattle.ipam_cni.specs.declared.end.CniEnd.TheVariants.{Failed}
 use Rattle.ipam_cni.specs.declared.end.CniFault.TheVariants.{Memory}

@@ -18,8 +18,8 @@ use Rattle.ipam_commands.specs.Telling.{ReportsRows, Writes}
 use Rattle.ipam_told.specs.Shown.{shown_text}
 use Rattle.ipam_commands.specs.Texts.{routes_text}
 use Rattle.ipam_told.specs.Rows.{rows_text}
-use Rattle.ipam_commands.specs.declared.outcome.ReleaseOutcome.{ReleaseOutcome}
-use Rattle.ipam_commands.specs.Releasing.{ReleaseEnds, ReleaseWrites}
+use Rattle.ipam_commands.specs.declared.outcome.ChangeOutcome.{ChangeOutcome}
+use Rattle.ipam_commands.specs.Changing.{ChangeEnds, ChangeWrites, release_line}
 use Rattle.ipam_kept.specs.declared.kept.KeptFault.{KeptFault}
 use Rattle.ipam_model.specs.declared.request.Request.TheVariants as request
 use Rattle.ipam_addr.specs.Shape.{CidrValue}
@@ -101,11 +101,11 @@ pub record DoesTell (text : List RowText → Datastore → List ℕ) (old new : 
 
 -- the release runs by itself over the keeper's rows
 pub record DoesRelease (node : List ℕ) (cidr : CidrValue) (old new : CommandOutside) (status : ℕ) : Type 0 where
-  pub came : Result ReleaseOutcome KeptFault
+  pub came : Result ChangeOutcome KeptFault
   pub ending : Status
   pub has_status : status ≡ code_of ending
-  pub ends : ReleaseEnds (request.Release node cidr) came old.rows new.rows old.keeper_faults new.keeper_faults
-  pub writes : ReleaseWrites (λ said own. Writes old.written new.written old.write_faults new.write_faults said own ending)
+  pub ends : ChangeEnds (request.Release node cidr) came old.rows new.rows old.keeper_faults new.keeper_faults
+  pub writes : ChangeWrites release_line (λ said own. Writes old.written new.written old.write_faults new.write_faults said own ending)
       (ending ≢ status_of.NoMemory) came
   pub source : LeavesSource old new
 

@@ -13,8 +13,8 @@ use Rattle.ipam_play.specs.Played.{Ending, Whole, LineRefused, NotOpened}
 use Rattle.ipam_play_run.specs.Writing.{WritesAll}
 use Rattle.ipam_gen.specs.Summary.{WritesSummary}
 use Rattle.ipam_headline.specs.Headline.{script_in}
-use Rattle.ipam_commands.specs.declared.outcome.ReleaseOutcome.{ReleaseOutcome}
-use Rattle.ipam_commands.specs.Releasing.{IsReleased, OpenedSo, outcome_line, outcome_status}
+use Rattle.ipam_commands.specs.declared.outcome.ChangeOutcome.{ChangeOutcome}
+use Rattle.ipam_commands.specs.Changing.{IsChanged, OpenedSo, outcome_status, release_line}
 use Rattle.ipam_commands.specs.Statuses.{code_of}
 use Rattle.ipam_commands.specs.Telling.{AreBroken, AreOpened}
 use Rattle.ipam_told.specs.Shown.{shown_text}
@@ -82,8 +82,8 @@ pub data OfRows (told : Option (List RowText)) (says : List RowText → Datastor
 
 -- the outcome of the release over the rows that open, or the first rule that they break
 pub data OfRelease (node : List ℕ) (cidr : CidrValue) (old new : CommandOutside) (written : Written) : Type 0 where
-  Came : (found : ReleaseOutcome) → OpenedSo old.rows (λ store. IsReleased store (request.Release node cidr) found new.rows)
-      → written (outcome_line found) (code_of (outcome_status found)) → OfRelease node cidr old new written
+  Came : (found : ChangeOutcome) → OpenedSo old.rows (λ store. IsChanged store (request.Release node cidr) found new.rows)
+      → written (release_line found) (code_of (outcome_status found)) → OfRelease node cidr old new written
   NotCome : (number : ℕ) (about : List ℕ) → AreBroken old.rows number about
       → written (broken_line number about) 7 → OfRelease node cidr old new written
 

@@ -1,6 +1,6 @@
 //! A scenario is played: steps over a keeper in memory, and what comes of them.
 use crate::command::{WELL, push_run, push_run_by_word};
-use crate::rows;
+use crate::{keepers, rows};
 use ipam_keeper::MemoryKeeper;
 use ipam_sqlite::FileKeeper;
 use ipam_table::Plays;
@@ -26,7 +26,8 @@ impl Plays for Commands {
 
 /// Plays a line, and appends what comes of it. `row` puts a row, and `blocks` so many rows; `get` tells
 /// the rows whose keys begin so; `same` tells whether all rows are as they were at the last `keep`; `file`
-/// runs a command over a file. The other words are those of `push_run_by_word`.
+/// runs a command over a file; `keeper` is a case of a keeper of files. The other words are those of
+/// `push_run_by_word`.
 fn step(
     rt: &HostRuntime,
     keeper: &mut MemoryKeeper,
@@ -43,6 +44,7 @@ fn step(
         "keep" => rows::keep(alloc, keeper, kept),
         "same" => rows::push_same(alloc, keeper, kept, told),
         "file" => push_run_over_file(rt, rest, told),
+        "keeper" => keepers::push_case(rt, rest, told),
         _ => push_run_by_word(alloc, keeper, word, rest, told),
     }
 }

@@ -1,4 +1,5 @@
 pub mod CourseRuns
-pub mod ReleaseRuns
+pub mod ChangeRuns
 pub mod RouteLines
 pub mod Loadings
+mod Refusals

@@ -1,6 +1,6 @@
 -- What the operator's commands write.
 pub mod Courses
-pub mod Releasing
+pub mod Changing
 pub mod Telling
 pub mod Texts
 pub mod Statuses

@@ -1,6 +1,7 @@
 //! The operator's commands over a keeper's rows.
 #![tactic(auto)]
 
+mod changing;
 mod getting;
 mod loading;
 mod outcome;
@@ -9,9 +10,10 @@ mod routing;
 mod showing;
 mod status;
 mod telling;
+mod unreserving;
 
 pub use getting::get;
-pub use outcome::ReleaseOutcome;
+pub use outcome::ChangeOutcome;
 pub use releasing::release;
 pub use routing::routes;
 pub use showing::show;
@@ -20,3 +22,4 @@ pub use status::{
     UNKNOWN_WORDS, WRITE_FAULT,
 };
 pub use telling::{tell, tell_fault, tell_made};
+pub use unreserving::unreserve;

@@ -1,32 +1,33 @@
 ghost use Rattle.std.specs.Prelude.{◌≡◌};
-ghost use Rattle.ipam_commands.specs.Releasing.{outcome_line, outcome_status};
+ghost use Rattle.ipam_commands.specs.Changing.{change_line, outcome_status};
 ghost use Rattle.ipam_commands.specs.Telling.{IsSaid};
 
 use crate::status::Status;
 
-/// What a release came to.
+/// What a request that changes one thing came to.
 #[derive(Clone, Copy, Debug, PartialEq, Eq)]
-pub enum ReleaseOutcome {
-    /// The node's affinity to the block was deleted.
-    Released,
-    /// The node has no affinity to the block.
-    NoAffinity,
+pub enum ChangeOutcome {
+    /// The change was made.
+    Made,
+    /// What was to be changed is not there.
+    Absent,
     /// There is no room for one more record.
     Full,
     /// There are no more revisions.
     Spent,
 }
 
-impl ReleaseOutcome {
-    /// The line that is written.
-    pub(crate) fn line(self) -> &'static str
-        ensures { result.now ≡ outcome_line self }
+impl ChangeOutcome {
+    /// The line that is written, where these two say that the change was made, and that there was nothing to
+    /// change.
+    pub(crate) fn line(self, made: &'static str, absent: &'static str) -> &'static str
+        ensures { result.now ≡ change_line made.now absent.now self }
     {
         match self {
-            ReleaseOutcome::Released => "released\n",
-            ReleaseOutcome::NoAffinity => "no affinity\n",
-            ReleaseOutcome::Full => "full\n",
-            ReleaseOutcome::Spent => "spent\n",
+            ChangeOutcome::Made => made,
+            ChangeOutcome::Absent => absent,
+            ChangeOutcome::Full => "full\n",
+            ChangeOutcome::Spent => "spent\n",
         }
     }
 
@@ -35,10 +36,8 @@ impl ReleaseOutcome {
         ensures said { IsSaid result }
     {
         match self {
-            ReleaseOutcome::Released => Status::Done,
-            ReleaseOutcome::NoAffinity | ReleaseOutcome::Full | ReleaseOutcome::Spent => {
-                Status::Refused
-            }
+            ChangeOutcome::Made => Status::Done,
+            ChangeOutcome::Absent | ChangeOutcome::Full | ChangeOutcome::Spent => Status::Refused,
         }
     }
 }

@@ -1,28 +1,81 @@
-//! How who accepts connections learns that nothing more can be served.
-use std::sync::atomic::{AtomicU64, Ordering};
+//! How the thread that accepts connections learns that nothing more can be served.
+ghost use Rattle.std.specs.Prelude.{◌≡◌, IfOk};
+ghost use Rattle.ipam_io.specs.Counts.{next_count};
+ghost use Rattle.ipam_daemon.specs.Alarms.{IsHeeded};
 
-/// An alarm, which is raised once a session ended since the keeper failed to make sure of what it did. From
-/// then on each call of the keeper fails.
+use crate::channel::{HandingEnd, TakingEnd, channel};
+use ipam_serve::SessionEnd;
+use std::alloc::{AllocError, Global};
+use std::sync::atomic::{AtomicU64, Ordering};
+use std::sync::{Arc, Wait};
+
+/// An alert: the alarm was raised.
+#[derive(Clone, Copy, Debug)]
+pub struct Alert;
+
+/// A part of the alarm, which is raised once a session ended since the keeper failed to make sure of what it
+/// did. From then on each call of the keeper fails.
 #[derive(Drop)]
-pub struct Alarm {
+pub(crate) struct Alarm {
     // 0 until it is raised
-    raised: AtomicU64,
+    raised: Arc<AtomicU64, Global>,
+    alerts: HandingEnd<Alert>,
+    // how often it was raised by this part
+    raises: u64,
 }
 
 impl Alarm {
-    /// An alarm that is not raised.
-    pub fn new() -> Alarm {
-        Alarm {
-            raised: AtomicU64::new(0),
+    /// An alarm that is not raised, and where its alerts are taken.
+    pub(crate) fn new(alloc: Global) -> Result<(Alarm, TakingEnd<Alert>), AllocError>
+        ensures { IfOk result (λ made. made.0.raises ≡ 0) }
+    {
+        let (alerts, taken) = channel(alloc, 1)?;
+        let alarm = Alarm {
+            raised: Arc::new(alloc, AtomicU64::new(0))?,
+            alerts,
+            raises: 0,
+        };
+        Ok((alarm, taken))
+    }
+
+    /// Another part of the same alarm, by which it was not raised.
+    pub(crate) fn another(&self) -> Result<Alarm, AllocError>
+        ensures { IfOk result (λ other. other.raises ≡ 0) }
+    {
+        Ok(Alarm {
+            raised: Arc::try_clone(&self.raised)?,
+            alerts: self.alerts.another()?,
+            raises: 0,
+        })
+    }
+
+    /// Raises it once where a session that ended so did since the keeper failed, and else not.
+    pub(crate) fn heed<R: Wait>(&mut self, rt: &R, end: SessionEnd)
+        ensures { IsHeeded end self.old.raises self.new.raises }
+    {
+        match end {
+            SessionEnd::KeeperFault => self.raise(rt),
+            SessionEnd::Closed
+            | SessionEnd::Cut
+            | SessionEnd::LineTooLong
+            | SessionEnd::ReadFault
+            | SessionEnd::WriteFault
+            | SessionEnd::Halted
+            | SessionEnd::Worn
+            | SessionEnd::Memory => {}
         }
     }
 
-    /// Raises it.
-    pub(crate) fn raise(&self) {
+    /// Raises it, and sends an alert. Where the one before waits to be taken, that one is enough.
+    fn raise<R: Wait>(&mut self, rt: &R)
+        ensures { self.new.raises ≡ next_count self.old.raises }
+    {
+        self.raises = self.raises.saturating_add(1);
         self.raised.store(1, Ordering::SeqCst);
+        let _ = self.alerts.offer(rt, Alert);
     }
 
-    /// Whether it was raised.
+    /// Whether it was raised, by any of its parts.
     pub(crate) fn is_raised(&self) -> bool {
         self.raised.load(Ordering::SeqCst) != 0
     }

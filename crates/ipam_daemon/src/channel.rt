@@ -1,49 +1,53 @@
-//! A channel of connections, whose ends count.
+//! A channel of connections, or of alerts, whose ends count.
+ghost use Rattle.std.specs.Prelude.{◌≡◌, true};
+ghost use Rattle.ipam_io.specs.Counts.{next_count};
+
 use crate::handing::{Hands, Takes};
 use crossbeam_channel::{Receiver, Sender};
-use ipam_socket::Stream;
 use std::alloc::{AllocError, Global};
 use std::sync::Wait;
 
-/// How many connections may be accepted before a worker takes them. The system lets others wait.
-const MOST_WAITING: usize = 16;
-
-/// The end of a channel to which connections are handed.
+/// The end of a channel to which items are handed.
 #[derive(Drop)]
-pub(crate) struct HandingEnd {
-    to: Sender<Stream>,
+pub(crate) struct HandingEnd<T> {
+    to: Sender<T>,
     handed: u64,
 }
 
-/// An end of a channel from which connections are taken, each by one of the workers.
+/// An end of a channel from which items are taken, each by one of those that have an end.
 #[derive(Drop)]
-pub(crate) struct TakingEnd {
-    from: Receiver<Stream>,
+pub(crate) struct TakingEnd<T> {
+    from: Receiver<T>,
     taken: u64,
+    is_over: bool,
 }
 
-/// A channel.
-pub(crate) fn channel(alloc: Global) -> Result<(HandingEnd, TakingEnd), AllocError> {
-    let (to, from) = crossbeam_channel::bounded(alloc, MOST_WAITING)?;
-    Ok((HandingEnd { to, handed: 0 }, TakingEnd { from, taken: 0 }))
+/// A channel in which up to so many items wait to be taken.
+pub(crate) fn channel<T: Drop>(
+    alloc: Global,
+    most: usize,
+) -> Result<(HandingEnd<T>, TakingEnd<T>), AllocError> {
+    let (to, from) = crossbeam_channel::bounded(alloc, most)?;
+    let from = TakingEnd {
+        from,
+        taken: 0,
+        is_over: false,
+    };
+    Ok((HandingEnd { to, handed: 0 }, from))
 }
 
-impl TakingEnd {
-    /// Another end of the same channel, from which nothing was taken.
-    pub(crate) fn another(&self) -> Result<TakingEnd, AllocError> {
-        Ok(TakingEnd {
-            from: self.from.clone()?,
-            taken: 0,
+impl<T: Drop> HandingEnd<T> {
+    /// Another end of the same channel, to which nothing was handed.
+    pub(crate) fn another(&self) -> Result<HandingEnd<T>, AllocError> {
+        Ok(HandingEnd {
+            to: self.to.clone()?,
+            handed: 0,
         })
     }
-}
 
-impl Hands<Stream> for HandingEnd {
-    ghost handed = { λ end. end.handed };
-
-    /// Hands the connection over. It comes back where each other end is gone, or there is no memory.
-    fn hand<R: Wait>(&mut self, rt: &R, connection: Stream) -> Result<(), Stream> {
-        match self.to.send(rt, connection) {
+    /// Hands the item over if there is room at once. Else it comes back.
+    pub(crate) fn offer<R: Wait>(&mut self, rt: &R, item: T) -> Result<(), T> {
+        match self.to.try_send(rt, item) {
             Ok(()) => {
                 self.handed = self.handed.saturating_add(1);
                 Ok(())
@@ -53,13 +57,48 @@ impl Hands<Stream> for HandingEnd {
     }
 }
 
-impl Takes<Stream> for TakingEnd {
+impl<T: Drop> TakingEnd<T> {
+    /// Another end of the same channel, from which nothing was taken.
+    pub(crate) fn another(&self) -> Result<TakingEnd<T>, AllocError> {
+        Ok(TakingEnd {
+            from: self.from.clone()?,
+            taken: 0,
+            is_over: false,
+        })
+    }
+}
+
+impl<T: Drop> Hands<T> for HandingEnd<T> {
+    ghost handed = { λ end. end.handed };
+
+    /// Hands the item over. It comes back where each other end is gone, or there is no memory.
+    fn hand<R: Wait>(&mut self, rt: &R, item: T) -> Result<(), T> {
+        match self.to.send(rt, item) {
+            Ok(()) => {
+                self.handed = self.handed.saturating_add(1);
+                Ok(())
+            }
+            Err(refused) => Err(refused.into_inner()),
+        }
+    }
+}
+
+impl<T: Drop> Takes<T> for TakingEnd<T> {
     ghost taken = { λ end. end.taken };
 
-    /// Takes the next connection. None where the other end is gone and nothing is left.
-    fn take<R: Wait>(&mut self, rt: &R) -> Option<Stream> {
-        let connection = self.from.recv(rt).ok()?;
-        self.taken = self.taken.saturating_add(1);
-        Some(connection)
+    ghost over = { λ end. end.is_over ≡ true };
+
+    /// Takes the next item. None where the other end is gone and nothing is left.
+    fn take<R: Wait>(&mut self, rt: &R) -> Option<T> {
+        match self.from.recv(rt) {
+            Ok(item) => {
+                self.taken = self.taken.saturating_add(1);
+                Some(item)
+            }
+            Err(_) => {
+                self.is_over = true;
+                None
+            }
+        }
     }
 }

@@ -15,7 +15,7 @@ pub(crate) struct Common<S> {
     pub(crate) shared: Arc<S, Global>,
     pub(crate) opening: Arc<Opening, Global>,
     pub(crate) queue: Arc<Queue, Global>,
-    pub(crate) alarm: Arc<Alarm, Global>,
+    pub(crate) alarm: Alarm,
 }
 
 impl<S: Drop> Common<S> {
@@ -24,7 +24,7 @@ impl<S: Drop> Common<S> {
         alloc: Global,
         shared: S,
         opening: Opening,
-        alarm: Arc<Alarm, Global>,
+        alarm: Alarm,
     ) -> Result<Common<S>, AllocError>
         ensures { IfOk result (λ common. arc_value common.shared ≡ shared) }
     {
@@ -44,7 +44,7 @@ impl<S: Drop> Common<S> {
             shared: Arc::try_clone(&self.shared)?,
             opening: Arc::try_clone(&self.opening)?,
             queue: Arc::try_clone(&self.queue)?,
-            alarm: Arc::try_clone(&self.alarm)?,
+            alarm: self.alarm.another()?,
         })
     }
 }

@@ -15,14 +15,14 @@ use std::thread::JoinHandle;
 #[derive(Drop)]
 pub(crate) struct Crew<'a, R> {
     rt: &'a R,
-    from: &'a TakingEnd,
+    from: &'a TakingEnd<Stream>,
     threads: Vec<JoinHandle<()>>,
     faults: u64,
 }
 
 impl<'a, R> Crew<'a, R> {
     /// A crew of nobody.
-    pub(crate) fn new(rt: &'a R, alloc: Global, from: &'a TakingEnd) -> Crew<'a, R>
+    pub(crate) fn new(rt: &'a R, alloc: Global, from: &'a TakingEnd<Stream>) -> Crew<'a, R>
         ensures threads { vec_len result.threads ≡ 0 }
         ensures faults { result.faults ≡ 0 }
     {
@@ -63,17 +63,17 @@ pub(crate) fn hire<R: Host, W: Attends<Stream> + Send + Drop + 'static>(
     }
 }
 
-/// Starts a thread in which the worker serves what is taken from the channel. None where the system
+/// Starts a thread in which the worker attends to what is taken from the channel. None where the system
 /// makes no thread.
-fn start<R: Host, W: Attends<Stream> + Send + Drop + 'static>(
+pub(crate) fn start<R: Host, T: Send + Drop + 'static, W: Attends<T> + Send + Drop + 'static>(
     rt: R,
-    from: TakingEnd,
+    from: TakingEnd<T>,
     worker: W,
 ) -> Option<JoinHandle<()>> {
     thread::spawn(&rt, move || work_for(&rt, from, worker)).ok()
 }
 
-/// Serves what is taken from the channel.
-fn work_for<R: Host, W: Attends<Stream> + Drop>(rt: &R, mut from: TakingEnd, mut worker: W) {
+/// Attends to what is taken from the channel.
+fn work_for<R: Host, T: Drop, W: Attends<T> + Drop>(rt: &R, mut from: TakingEnd<T>, mut worker: W) {
     work(rt, &mut from, &mut worker);
 }

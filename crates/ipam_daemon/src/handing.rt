@@ -1,4 +1,4 @@
-//! Connections are handed over, and each is served.
+//! Connections are handed over, and each is served. Alerts are handed over so too.
 ghost use Rattle.std.specs.Prelude.{◌≡◌, ◌≤◌, ℕ, OnSome, IfNone, OnOk, OnErr};
 ghost use Rattle.ipam_io.specs.Counts.{Rose, next_count};
 ghost use Rattle.ipam_daemon.specs.Handing.{IsEachServed, IsHandedOver, IsOneHandedOver, raised};
@@ -8,7 +8,7 @@ use log::Log;
 use std::sync::Wait;
 use std::time::Clock;
 
-/// Who serves connections, each to its end.
+/// Who serves connections, each to its end, or attends to alerts.
 pub trait Attends<T> {
     /// How many were served.
     ghost attended: { Self → ℕ };
@@ -23,10 +23,14 @@ pub trait Takes<T> {
     /// How many were taken.
     ghost taken: { Self → ℕ };
 
+    /// No more can come.
+    ghost over: { Self → Type 0 };
+
     /// Takes the next connection, once there is one. None where no more can come.
     fn take<R: Wait>(&mut self, rt: &R) -> Option<T>
         ensures one { OnSome result (taken self.new ≡ next_count (taken self.old)) }
-        ensures none { IfNone result (taken self.new ≡ taken self.old) };
+        ensures none { IfNone result (taken self.new ≡ taken self.old) }
+        ensures over { IfNone result (over self.new) };
 }
 
 /// Where connections are handed to.
@@ -47,8 +51,9 @@ pub fn work<R: Wait + Log + Clock, T, Q: Takes<T>, W: Attends<T>>(
     connections: &mut Q,
     worker: &mut W,
 )
-    ensures { IsEachServed (Q.taken connections.old) (Q.taken connections.new)
+    ensures each { IsEachServed (Q.taken connections.old) (Q.taken connections.new)
         (W.attended worker.old) (W.attended worker.new) }
+    ensures over { Q.over connections.new }
 {
     for _ in rt.forever() {
         match connections.take(rt) {
@@ -56,6 +61,7 @@ pub fn work<R: Wait + Log + Clock, T, Q: Takes<T>, W: Attends<T>>(
             None => return,
         }
     }
+    unreachable!()
 }
 
 /// Accepts up to so many connections, one after the other, and hands each over, or has it served

@@ -1,7 +1,8 @@
 //! The daemon: it holds a keeper's rows, and serves sessions at a socket file or over TCP.
 //!
 //! Each worker is a thread with a pass of its own of the shared cluster, and serves one connection
-//! after another. The thread that accepts connections hands them over through a channel.
+//! after another. The thread that accepts connections hands them over through a channel. A thread more waits
+//! for the alarm of a worker, and then wakes it by a connection.
 #![tactic(auto)]
 
 mod alarm;
@@ -13,6 +14,7 @@ mod desk;
 mod ending;
 mod handing;
 mod host;
+mod knocker;
 mod opening;
 mod served;
 mod serves;
@@ -20,12 +22,13 @@ mod serving;
 mod staff;
 mod worker;
 
-pub use alarm::Alarm;
+pub use alarm::Alert;
 pub use ending::log_end;
 pub use handing::{Attends, Hands, Takes, hand_over, work};
 pub use host::Host;
 pub use ipam_serve::{Keeper, Opening, SessionEnd};
 pub use ipam_socket::{Address, Limits, Listens, SocketListener, Stream};
+pub use knocker::Knocker;
 pub use opening::{new_opening, open_kept};
 pub use served::{Served, tell_served};
 pub use serves::Serves;

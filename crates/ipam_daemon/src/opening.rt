@@ -55,6 +55,7 @@ pub(crate) fn share<D: Keeper + Drop>(
 ) -> Result<(Shared<D>, Pass), AllocError>
     requires { IsNewlyKept D.rows D.settled kept }
     ensures own { IfOk result (λ r. r.1.lock ≡ r.0) }
+    ensures slot { IfOk result (λ r. r.1.slot ≡ 0) }
     ensures idle { IfOk result (λ r. runs_in r.1 ≡ None) }
 {
     match Shared::new(alloc, kept) {

@@ -27,6 +27,7 @@ pub trait Serves {
     fn split_off(&self, pass: &mut Pass) -> Option<Pass>
         requires own { pass.old.lock ≡ id self.now }
         ensures own { pass.new.lock ≡ pass.old.lock }
+        ensures slot { pass.new.slot ≡ pass.old.slot }
         ensures same { runs_in pass.new ≡ runs_in pass.old }
         ensures other { IfSome result (λ other. other.lock ≡ id self.now) }
         ensures idle { IfSome result (λ other. runs_in other ≡ None) }

@@ -4,8 +4,10 @@ ghost use Rattle.ipam_shared.specs.Passes.{IsNewlyKept};
 ghost use Rattle.ipam_daemon.specs.Opening.{IsEnd};
 ghost use Rattle.ipam_daemon.specs.Served.{ListenFaults};
 
-use crate::alarm::Alarm;
+use crate::alarm::Alert;
+use crate::handing::Attends;
 use crate::host::Host;
+use crate::knocker::Knocker;
 use crate::opening::open_kept;
 use crate::served::Served;
 use crate::staff::{Leaving, engage};
@@ -15,13 +17,12 @@ use ipam_socket::{Address, Failed, Limits, Listens, SocketListener, Stream};
 use std::alloc::Global;
 use std::fs::Files;
 use std::net::{Net, TcpListener, TcpStream};
-use std::sync::Arc;
 
 /// Opens the keeper's rows and serves sessions of this opening at the address, by up to so many workers:
 /// at a socket file, where the address begins with a slash, and else at an IP address or the name of a
-/// host, a colon and a port. It ends where the rows are not opened or listening fails, and, once a session ended since
-/// the keeper failed to make sure of what it did, at the next connection; else it goes on as long as connections can
-/// be accepted.
+/// host, a colon and a port. It ends where the rows are not opened or listening fails, and at once where a session ended
+/// since the keeper failed to make sure of what it did: a knocker wakes it by a connection to the address. Else it goes on
+/// as long as connections can be accepted.
 /// Sessions that are served by then are left to end with the process. The socket file is removed at the end.
 /// Where its rows are not opened, the keeper comes back.
 #[tactic(auto, using(crate::proofs::Ended::nothing_opened))]
@@ -38,7 +39,7 @@ pub fn serve<
 ) -> (Served, Option<D>)
     ensures { IsEnd D.rows D.faults D.name keeper result.0 result.1 }
 {
-    let Ok(alarm) = Arc::new(alloc, Alarm::new()) else {
+    let Ok(knocker) = Knocker::new(rt, alloc, address) else {
         return (Served::NoMemory, Some(keeper));
     };
     let mut listener = SocketListener::new(&rt, alloc, Address::of(address));
@@ -52,14 +53,20 @@ pub fn serve<
         workers,
         limits,
         Leaving::AtWork,
-        alarm,
+        knocker,
     )
 }
 
-/// The same over this listener, within these limits, with this end and this alarm. It ends with a fault of
-/// listening exactly where the listener failed. Where the alarm is raised, it ends once the next connection comes.
+/// The same over this listener, within these limits, with this end and this knocker, which is to make a connection at
+/// each alert. Where it makes none, serving ends once another one comes. It ends with a fault of listening
+/// exactly where the listener failed.
 #[tactic(auto, using(crate::proofs::Ended::served_out, crate::proofs::Ended::unopened))]
-pub fn serve_by<R: Host, D: Keeper + Send + Drop + 'static, L: Listens<Stream>>(
+pub fn serve_by<
+    R: Host,
+    D: Keeper + Send + Drop + 'static,
+    L: Listens<Stream>,
+    K: Attends<Alert> + Send + Drop + 'static,
+>(
     rt: R,
     alloc: Global,
     keeper: D,
@@ -68,7 +75,7 @@ pub fn serve_by<R: Host, D: Keeper + Send + Drop + 'static, L: Listens<Stream>>(
     workers: u8,
     limits: Limits,
     leaving: Leaving,
-    alarm: Arc<Alarm, Global>,
+    knocker: K,
 ) -> (Served, Option<D>)
     ensures ended { IsEnd D.rows D.faults D.name keeper result.0 result.1 }
     ensures listening { ListenFaults result.0 (L.faults listener.old) (L.faults listener.new) }
@@ -80,7 +87,7 @@ pub fn serve_by<R: Host, D: Keeper + Send + Drop + 'static, L: Listens<Stream>>(
     match listener.open() {
         Ok(()) => {
             let served = serve_at(
-                rt, alloc, kept, opening, listener, workers, limits, leaving, alarm,
+                rt, alloc, kept, opening, listener, workers, limits, leaving, knocker,
             );
             listener.close();
             (served, None)
@@ -93,7 +100,12 @@ pub fn serve_by<R: Host, D: Keeper + Send + Drop + 'static, L: Listens<Stream>>(
 }
 
 /// Serves sessions at the listener.
-fn serve_at<R: Host, D: Keeper + Send + Drop + 'static, L: Listens<Stream>>(
+fn serve_at<
+    R: Host,
+    D: Keeper + Send + Drop + 'static,
+    L: Listens<Stream>,
+    K: Attends<Alert> + Send + Drop + 'static,
+>(
     rt: R,
     alloc: Global,
     kept: Kept<D>,
@@ -102,13 +114,13 @@ fn serve_at<R: Host, D: Keeper + Send + Drop + 'static, L: Listens<Stream>>(
     workers: u8,
     limits: Limits,
     leaving: Leaving,
-    alarm: Arc<Alarm, Global>,
+    knocker: K,
 ) -> Served
     requires { IsNewlyKept D.rows D.settled kept }
     ensures ended { (result ≡ Served.NoMemory) ⊎ (result ≡ Served.ListenFault) ⊎ (result ≡ Served.KeeperFault) }
     ensures listening { ListenFaults result (L.faults listener.old) (L.faults listener.new) }
 {
-    match engage(rt, alloc, kept, opening, workers, limits, alarm) {
+    match engage(rt, alloc, kept, opening, workers, limits, knocker) {
         Ok(mut staff) => {
             let accepted = staff.accept_all(&rt, listener);
             staff.leave(&rt, leaving);

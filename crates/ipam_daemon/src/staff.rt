@@ -7,11 +7,11 @@ ghost use Rattle.ipam_shared.specs.Passes.{IsNewlyKept, runs_in};
 ghost use Rattle.ipam_daemon.specs.Crews.{IsEngaged};
 ghost use Rattle.ipam_daemon.specs.Handing.{IsHandedOver, raised};
 
-use crate::alarm::Alarm;
+use crate::alarm::{Alarm, Alert};
 use crate::channel::{HandingEnd, channel};
 use crate::common::Common;
-use crate::crew::{Crew, hire};
-use crate::handing::hand_over;
+use crate::crew::{Crew, hire, start};
+use crate::handing::{Attends, hand_over};
 use crate::host::Host;
 use crate::opening::share;
 use crate::serves::Serves;
@@ -22,9 +22,12 @@ use ipam_shared::{Pass, Shared};
 use ipam_socket::{Failed, Limits, Listens, Stream};
 use log::Log;
 use std::alloc::{AllocError, Global};
-use std::sync::{Arc, Wait};
+use std::sync::Wait;
 use std::thread::{JoinHandle, Threads};
 use std::time::Clock;
+
+/// How many connections may be accepted before a worker takes them. The system lets others wait.
+const MOST_WAITING: usize = 16;
 
 /// What becomes of the workers where serving ends.
 #[derive(Clone, Copy)]
@@ -38,11 +41,10 @@ pub enum Leaving {
 /// Workers in threads of their own, and one more, who serves where none of them was started.
 #[derive(Drop)]
 pub struct Staff<S: Serves, R> {
-    to: HandingEnd,
+    to: HandingEnd<Stream>,
     threads: Vec<JoinHandle<()>>,
     thread_faults: u64,
     own: Worker<S, R>,
-    alarm: Arc<Alarm, Global>,
 }
 
 impl<S: Serves + Drop, C: Clock + Copy + Drop> Staff<S, C> {
@@ -94,6 +96,7 @@ impl<S: Serves + Drop, C: Clock + Copy + Drop> Staff<S, C> {
     }
 
     /// Has connections served as `accept` does, until accepting fails, or a session ended since the keeper failed.
+    /// The latter shows once a connection comes, be it by who knocks.
     pub(crate) fn accept_all<R: Wait + Log + Clock, L: Listens<Stream>>(
         &mut self,
         rt: &R,
@@ -103,7 +106,7 @@ impl<S: Serves + Drop, C: Clock + Copy + Drop> Staff<S, C> {
         ensures no_fault { OnOk result (L.faults listener.new ≡ L.faults listener.old) }
     {
         for _ in rt.forever() {
-            if self.alarm.is_raised() {
+            if self.own.is_alarmed() {
                 return Ok(());
             }
             self.accept(rt, listener, 1)?;
@@ -113,25 +116,34 @@ impl<S: Serves + Drop, C: Clock + Copy + Drop> Staff<S, C> {
 }
 
 /// So many workers over this opening of the cluster, or fewer where the system makes no more threads or the cluster has
-/// no more slots. They raise this alarm.
-pub fn engage<R: Host, D: Keeper + Send + Drop + 'static>(
+/// no more slots. One more thread, if the system makes it, knocks at each alert of theirs.
+pub fn engage<
+    R: Host,
+    D: Keeper + Send + Drop + 'static,
+    K: Attends<Alert> + Send + Drop + 'static,
+>(
     rt: R,
     alloc: Global,
     kept: Kept<D>,
     opening: Opening,
     workers: u8,
     limits: Limits,
-    alarm: Arc<Alarm, Global>,
+    knocker: K,
 ) -> Result<Staff<Shared<D>, R>, AllocError>
     requires { IsNewlyKept D.rows D.settled kept }
     ensures engaged { IfOk result (λ staff. IsEngaged workers 0 (vec_len staff.threads) 0 staff.thread_faults staff.own.desk.pass) }
+    ensures first { IfOk result (λ staff. staff.own.desk.pass.slot ≡ 0) }
 {
     let (shared, pass) = share(alloc, kept)?;
-    engage_over(rt, alloc, shared, opening, pass, workers, limits, alarm)
+    engage_over(rt, alloc, shared, opening, pass, workers, limits, knocker)
 }
 
 /// The same, over what may be used by many threads.
-fn engage_over<R: Host, S: Serves + Send + Sync + Drop + 'static>(
+fn engage_over<
+    R: Host,
+    S: Serves + Send + Sync + Drop + 'static,
+    K: Attends<Alert> + Send + Drop + 'static,
+>(
     rt: R,
     alloc: Global,
     shared: S,
@@ -139,25 +151,28 @@ fn engage_over<R: Host, S: Serves + Send + Sync + Drop + 'static>(
     mut pass: Pass,
     workers: u8,
     limits: Limits,
-    alarm: Arc<Alarm, Global>,
+    knocker: K,
 ) -> Result<Staff<S, R>, AllocError>
     requires own { pass.lock ≡ S.id shared }
+    requires first { pass.slot ≡ 0 }
     requires idle { runs_in pass ≡ None }
     ensures engaged { IfOk result (λ staff. IsEngaged workers 0 (vec_len staff.threads) 0 staff.thread_faults staff.own.desk.pass) }
+    ensures first { IfOk result (λ staff. staff.own.desk.pass.slot ≡ 0) }
 {
+    let (alarm, alerts) = Alarm::new(alloc)?;
     let common = Common::of(alloc, shared, opening, alarm)?;
-    let raised = Arc::try_clone(&common.alarm)?;
-    let (to, from) = channel(alloc)?;
+    let (to, from) = channel(alloc, MOST_WAITING)?;
     let mut crew = Crew::new(&rt, alloc, &from);
     hire_all(rt, alloc, &common, &mut pass, &mut crew, workers, limits)?;
     let (threads, thread_faults) = crew.into_parts();
     let own = Worker::new(alloc, common, pass, rt, limits);
+    // Where the system makes no thread for it, nobody knocks.
+    let _ = start(rt, alerts, knocker);
     Ok(Staff {
         to,
         threads,
         thread_faults,
         own,
-        alarm: raised,
     })
 }
 
@@ -175,6 +190,7 @@ fn hire_all<R: Host, S: Serves + Send + Sync + Drop + 'static>(
 ) -> Result<(), AllocError>
     requires own { pass.old.lock ≡ S.id (arc_value common.now.shared) }
     ensures own { pass.new.lock ≡ pass.old.lock }
+    ensures slot { pass.new.slot ≡ pass.old.slot }
     ensures same { runs_in pass.new ≡ runs_in pass.old }
     ensures engaged { OnOk result (IsEngaged workers (vec_len crew.old.threads) (vec_len crew.new.threads) crew.old.faults crew.new.faults pass.new) }
 {

@@ -3,6 +3,7 @@ ghost use Rattle.std.specs.Prelude.{◌≡◌, None};
 ghost use Rattle.std.specs.Arc.{arc_value};
 ghost use Rattle.ipam_io.specs.Counts.{next_count};
 ghost use Rattle.ipam_shared.specs.Passes.{runs_in};
+ghost use Rattle.ipam_daemon.specs.Alarms.{IsHeeded};
 
 use crate::alarm::Alarm;
 use crate::asking::Asking;
@@ -16,7 +17,7 @@ use ipam_shared::Pass;
 use ipam_socket::{Limits, SocketLink, Stream, StreamPeer};
 use log::Log;
 use std::alloc::Global;
-use std::sync::{Arc, Wait};
+use std::sync::Wait;
 use std::time::Clock;
 
 /// Serves a session over each connection, for as long as its peer is there and keeps the limits.
@@ -25,7 +26,7 @@ pub(crate) struct Worker<S: Serves, C> {
     desk: Desk<S, C>,
     clock: C,
     limits: Limits,
-    alarm: Arc<Alarm, Global>,
+    alarm: Alarm,
 }
 
 impl<S: Serves, C: Clock + Copy> Worker<S, C> {
@@ -57,10 +58,16 @@ impl<S: Serves, C: Clock + Copy> Worker<S, C> {
         }
     }
 
-    /// Serves a session over the connection to its end, which is logged. Where it ended since the keeper failed,
-    /// the alarm is raised.
-    fn serve<R: Wait + Log>(&mut self, rt: &R, stream: &Stream)
-        ensures { self.new.desk.sessions ≡ next_count self.old.desk.sessions }
+    /// Whether a worker raised the alarm.
+    pub(crate) fn is_alarmed(&self) -> bool {
+        self.alarm.is_raised()
+    }
+
+    /// Serves a session over the connection to its end, which is logged. Exactly where it ended since the keeper
+    /// failed, it raises the alarm.
+    fn serve<R: Wait + Log>(&mut self, rt: &R, stream: &Stream) -> SessionEnd
+        ensures counted { self.new.desk.sessions ≡ next_count self.old.desk.sessions }
+        ensures heeded { IsHeeded result self.old.alarm.raises self.new.alarm.raises }
     {
         let mut link = SocketLink::of_session(self.clock, stream, self.limits);
         let mut gate = Asking::new(StreamPeer::new(stream));
@@ -70,9 +77,8 @@ impl<S: Serves, C: Clock + Copy> Worker<S, C> {
         } else {
             log_end(rt, end);
         }
-        if end == SessionEnd::KeeperFault {
-            self.alarm.raise();
-        }
+        self.alarm.heed(rt, end);
+        end
     }
 }
 

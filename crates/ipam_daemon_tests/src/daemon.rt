@@ -1,12 +1,12 @@
 //! Sessions of a daemon at once, one after another, and with no worker.
+use crate::alerts::Alerts;
 use crate::clients::{connected, play};
 use crate::loopback::{ANY_PORT, limits_of, listening, reached, socket_path};
 use crate::rows::{FREE, keeper_of, numbers, opening, push_line};
-use ipam_daemon::{Alarm, Host, Keeper, Listens, Stream, engage, open_kept};
+use ipam_daemon::{Host, Keeper, Listens, Stream, engage, open_kept};
 use log::sink::Memory;
 use log::{Level, Logged};
 use std::alloc::{AllocError, Global};
-use std::sync::Arc;
 use std::thread::join;
 
 /// What is told of the script over TCP, at a socket file, or at both, where the same should be told.
@@ -99,7 +99,7 @@ fn serve<R: Host, D: Keeper + Send + Drop + 'static, L: Listens<Stream>>(
         opening(alloc)?,
         serving.workers,
         limits_of(serving.millis),
-        Arc::new(alloc, Alarm::new())?,
+        Alerts::new(alloc)?,
     )?;
     let log = Logged::new(host, Level::Info, Memory::new(alloc));
     let _ = staff.accept(&log, listener, serving.connections);

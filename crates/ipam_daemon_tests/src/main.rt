@@ -4,6 +4,7 @@
 //! title and how many lines these were, or the lines that came where they are others.
 #![tactic(auto)]
 
+mod alerts;
 mod calls;
 mod cases;
 mod clients;

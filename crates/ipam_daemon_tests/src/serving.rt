@@ -1,15 +1,15 @@
 //! The daemon at an address, from its keeper to its end.
+use crate::alerts::Alerts;
 use crate::calls::called_at;
 use crate::ends::told_end;
 use crate::few::Few;
 use crate::loopback::{ANY_PORT, limits_of, listening, reached, socket_path};
 use crate::rows::{FREE, keeper_of, numbers, opening, push_line};
 use ipam_client::{Connector, Connects};
-use ipam_daemon::{Address, Alarm, Host, Keeper, Leaving, Limits, SocketListener, serve, serve_by};
+use ipam_daemon::{Address, Host, Keeper, Leaving, Limits, SocketListener, serve, serve_by};
 use std::alloc::{AllocError, Global};
 use std::fs::Files;
 use std::net::{Net, TcpListener, TcpStream};
-use std::sync::Arc;
 use std::thread;
 use std::thread::join;
 use std::time::Duration;
@@ -98,20 +98,23 @@ fn told_until_end<
 >(host: R, rt: &HostRuntime, keeper: D, address: &str, steps: &str) -> Result<String, AllocError> {
     let alloc = rt.alloc();
     match numbers(alloc, steps, "few ")?.first() {
-        Some(connections) => told_of_few(host, rt, keeper, address, *connections),
+        Some(connections) => told_of_few(host, rt, keeper, address, *connections, steps),
         None => told_served(host, alloc, keeper, address),
     }
 }
 
-/// Serves so many connections at the address.
+/// Serves so many connections at the address, where nobody knocks. Where a line `alerts` says so, it also tells how
+/// many alerts there were.
 fn told_of_few<R: Host, D: Keeper + Send + Drop + 'static>(
     host: R,
     rt: &HostRuntime,
     keeper: D,
     address: &str,
     connections: u64,
+    steps: &str,
 ) -> Result<String, AllocError> {
     let alloc = rt.alloc();
+    let alerts = Alerts::new(alloc)?;
     let listener = SocketListener::new(rt, alloc, Address::of(address));
     let mut few = Few::new(listener, connections);
     let (served, _keeper) = serve_by(
@@ -123,9 +126,14 @@ fn told_of_few<R: Host, D: Keeper + Send + Drop + 'static>(
         2,
         limits_of(LONG),
         Leaving::Done,
-        Arc::new(alloc, Alarm::new())?,
+        alerts.another()?,
     );
-    told_end(alloc, &served, 64)
+    let end = told_end(alloc, &served, 64)?;
+    if steps.lines().any(|line| line == "alerts") {
+        let count = alerts.count(rt);
+        return format!(in alloc; "{end}, alerts {count}");
+    }
+    Ok(end)
 }
 
 /// What the calls of the lines `call COMMAND` are told, each made once the one before is done. At a line `knock`

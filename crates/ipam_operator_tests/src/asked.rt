@@ -13,13 +13,14 @@ use std::thread::Threads;
 /// How many bytes may be sent or written where nothing else is stated.
 const ROOM: usize = 65_536;
 
-/// What fails: the call of the source or of the link, or the put of a new database, of this number; and how
-/// many bytes may be written.
+/// What fails: the call of the source or of the link, or the put or the settling of a new database, of this
+/// number; and how many bytes may be written.
 #[derive(Clone, Copy)]
 struct Failing {
     source: u64,
     link: u64,
     keeper: u64,
+    settling: u64,
     room: usize,
 }
 
@@ -50,12 +51,14 @@ fn failing_of(text: &str) -> Failing {
         source: 0,
         link: 0,
         keeper: u64::MAX,
+        settling: 0,
         room: ROOM,
     };
     match what {
         "source" => failing.source = number,
         "link" => failing.link = number,
         "keeper" => failing.keeper = number,
+        "settling" => failing.settling = number,
         "room" => failing.room = (number % 65_536) as usize,
         _ => {}
     }
@@ -131,7 +134,7 @@ fn end_of<R: Threads + Sync>(
         return Ok(Some(match asked.upkeep {
             Upkeep::Audit(workers) => audit(rt, alloc, sink, link, workers),
             Upkeep::Unreserve(name) => unreserve(alloc, sink, link, name),
-            Upkeep::Backup(_) => backed_up(alloc, sink, link, failing.keeper)?,
+            Upkeep::Backup(_) => backed_up(alloc, sink, link, failing.keeper, failing.settling)?,
         }));
     }
     match read_words(words) {

@@ -51,16 +51,18 @@ impl Target for MemoryTarget {
     }
 }
 
-/// Backs up into memory, where the put of this number fails, and writes the rows that are in it at the end.
+/// Backs up into memory, where the put and the settling of these numbers fail, and writes the rows that are in it
+/// at the end.
 pub(crate) fn backed_up(
     alloc: Global,
     sink: &mut MemorySink,
     link: &mut MemoryLink,
-    failing: u64,
+    put: u64,
+    settling: u64,
 ) -> Result<End, AllocError> {
-    let failing = vec![in alloc; (failing, false)]?;
+    let keeper = MemoryKeeper::new(Vec::new(alloc), vec![in alloc; (put, false)]?);
     let mut target = MemoryTarget {
-        keeper: MemoryKeeper::new(Vec::new(alloc), failing),
+        keeper: keeper.failing_to_settle(vec![in alloc; settling]?),
     };
     let end = back_up_asked(alloc, sink, link, &mut target);
     if let Ok(rows) = target.load() {

@@ -1,17 +1,12 @@
-//! Tests of scripts that are played, by tables that a second allocator wrote, and of failing input
-//! and output. The program plays the scripts that `tools/tables/play_table.py` writes, and compares
-//! their journals.
+//! Tests of scripts that are played, with the journals that a second allocator wrote, and of failing input
+//! and output. The program plays the scripts that `tools/tables/play_table.py` writes, and compares what is
+//! written of them.
 #![tactic(auto)]
 
-#[cfg(test)]
-mod refused;
+mod played;
 mod scripts;
-#[cfg(test)]
-mod summed;
-#[cfg(test)]
-mod tests;
 
-use crate::scripts::Scripts;
+use crate::played::Scripts;
 use ipam_table::play_scenarios;
 use std::io;
 

@@ -1,29 +1,28 @@
-//! Tests of records and their texts. Each line of the input has a kind and a question, as
-//! `key|block/10.0.0.0/26`; the output has the answer after them.
+//! Tests of records and their texts, and of what an operator is shown of a datastore. Each line of the
+//! input has a kind and a question, as `key|block/10.0.0.0/26`; the output has the answer after them. In
+//! both `␤` stands for a line feed.
 #![tactic(auto)]
 
 mod blocks;
 mod fields;
 mod handles;
 mod keys;
+mod opened;
 mod procedures;
+mod shown;
 
-use ipam_table::{Answers, answer_lines};
 use std::alloc::{AllocError, Global};
 use std::io;
 
-struct Records;
-
-impl Answers for Records {
-    fn answer(&self, alloc: Global, kind: &str, text: &str) -> Result<String, AllocError> {
-        match kind {
-            "key" => keys::key_answer(alloc, text),
-            "record" => keys::record_answer(alloc, text),
-            "field" => fields::field_answer(alloc, text),
-            "written" => fields::written_answer(alloc, text),
-            "removal" => procedures::removal_answer(alloc),
-            _ => change_answer(alloc, kind, text),
-        }
+/// The answer to a question of this kind. A kind that is not known is answered as want of memory.
+fn answer(alloc: Global, kind: &str, text: &str) -> Result<String, AllocError> {
+    match kind {
+        "key" => keys::key_answer(alloc, text),
+        "record" => keys::record_answer(alloc, text),
+        "field" => fields::field_answer(alloc, text),
+        "written" => fields::written_answer(alloc, text),
+        "removal" => procedures::removal_answer(alloc),
+        _ => change_answer(alloc, kind, text),
     }
 }
 
@@ -33,10 +32,21 @@ fn change_answer(alloc: Global, kind: &str, text: &str) -> Result<String, AllocE
         "counts" => handles::counts_answer(alloc, text),
         "block" => blocks::block_answer(alloc, text),
         "room" => blocks::room_answer(alloc, text),
-        _ => Err(AllocError),
+        _ => shown::shown(alloc, kind, text),
     }
 }
 
+/// The line, and after it the answer to its question.
+fn answered(alloc: Global, line: &str) -> Result<String, AllocError> {
+    let (kind, question) = line.split_once('|').unwrap_or((line, ""));
+    let answer = answer(alloc, kind, question)?;
+    format!(in alloc; "{line}|{answer}")
+}
+
 fn main(rt: HostRuntime) -> io::Result<()> {
-    answer_lines(&rt, &Records)
+    for line in rt.lines(rt.alloc()) {
+        let answered = answered(rt.alloc(), line?.as_str())?;
+        println!(rt; "{answered}")?;
+    }
+    Ok(())
 }

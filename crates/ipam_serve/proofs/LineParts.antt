@@ -285,25 +285,25 @@ full asked new wants (inr many) = inr (wants, many)
 
 module _ (old new : PassValue) where
   pub request-wears : (request : Request) → is_waiting (runs_in old) ≡ false → IsWorn new → IsUnanswered old new → WearsOut (Some (wish.Request request)) old new
-  request-wears request idle worn unanswered = record { due = rw idle refl; worn = full (Some (wish.Request request)) new refl worn; unanswered = unanswered }
+  request-wears request idle worn unanswered = record { due = rw idle refl; worn = full (Some (wish.Request request)) new refl worn; unanswered = unanswered; untaken = tt }
 
   pub call-wears : (env : List Pair) (stdin : List ℕ) (request : Request) (version : versions.Version) → is_waiting (runs_in old) ≡ false → call_begun env stdin ≡ Some (Runs request version) → IsWorn new → IsUnanswered old new → WearsOut (Some (wish.Cni env stdin)) old new
-  call-wears env stdin request version idle begun worn unanswered = record { due = rw (idle, begun) refl; worn = full (Some (wish.Cni env stdin)) new refl worn; unanswered = unanswered }
+  call-wears env stdin request version idle begun worn unanswered = record { due = rw (idle, begun) refl; worn = full (Some (wish.Cni env stdin)) new refl worn; unanswered = unanswered; untaken = tt }
 
   pub feed-wears : (live : List (List ℕ)) → is_waiting (runs_in old) ≡ true → IsWorn new → IsSome (runs_in new) → WearsOut (Some (wish.Feed live)) old new
-  feed-wears live waits worn runs = record { due = waits; worn = full (Some (wish.Feed live)) new refl worn; unanswered = inr runs }
+  feed-wears live waits worn runs = record { due = waits; worn = full (Some (wish.Feed live)) new refl worn; unanswered = inr runs; untaken = tt }
 
   pub stop-wears : is_waiting (runs_in old) ≡ true → new ≡ old → new.left < 2 → WearsOut (Some wish.Stop) old new
-  stop-wears waits same few = record { due = waits; worn = inl few; unanswered = inl (subst (λ (p : PassValue). Gained old.slot old.seen [] p.seen) (sym same) (took-nothing old).gained) }
+  stop-wears waits same few = record { due = waits; worn = inl few; unanswered = inl (subst (λ (p : PassValue). Gained old.slot old.seen [] p.seen) (sym same) (took-nothing old).gained); untaken = same }
 
-  pub routes-wears : Took old [] 1 new → new.left < 2 → WearsOut (Some wish.Routes) old new
-  routes-wears took few = record { due = refl; worn = inl few; unanswered = inl took.gained }
+  pub routes-wears : Took old [] 1 new → (new ≡ old) × (new.left < 2) → WearsOut (Some wish.Routes) old new
+  routes-wears took (same, few) = record { due = refl; worn = inl few; unanswered = inl took.gained; untaken = same }
 
-  pub since-wears : (revision : ℕ) → Took old [] 1 new → new.left < 2 → WearsOut (Some (wish.RoutesSince revision)) old new
-  since-wears revision took few = record { due = refl; worn = inl few; unanswered = inl took.gained }
+  pub since-wears : (revision : ℕ) → Took old [] 1 new → (new ≡ old) × (new.left < 2) → WearsOut (Some (wish.RoutesSince revision)) old new
+  since-wears revision took (same, few) = record { due = refl; worn = inl few; unanswered = inl took.gained; untaken = same }
 
-  pub page-wears : (kind : RowKind) (after : Option Key) → Took old [] 1 new → new.left < 2 → WearsOut (Some (wish.Rows kind after)) old new
-  page-wears kind after took few = record { due = refl; worn = inl few; unanswered = inl took.gained }
+  pub page-wears : (kind : RowKind) (after : Option Key) → Took old [] 1 new → (new ≡ old) × (new.left < 2) → WearsOut (Some (wish.Rows kind after)) old new
+  page-wears kind after took (same, few) = record { due = refl; worn = inl few; unanswered = inl took.gained; untaken = same }
 
-  pub usage-wears : Took old [] 1 new → new.left < 2 → WearsOut (Some wish.Usage) old new
-  usage-wears took few = record { due = refl; worn = inl few; unanswered = inl took.gained }
+  pub usage-wears : Took old [] 1 new → (new ≡ old) × (new.left < 2) → WearsOut (Some wish.Usage) old new
+  usage-wears took (same, few) = record { due = refl; worn = inl few; unanswered = inl took.gained; untaken = same }

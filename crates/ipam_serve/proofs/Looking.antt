@@ -12,10 +12,10 @@ use Rattle.ipam_serve.proofs.Turning.{took-none, took-rest}
 
 -- too few turns were left
 pub worn-one : {T : Type 0} (pass : PassValue) → pass.left < 2 → TakesOne {T = T} (Err Worn) pass pass
-worn-one pass few = record { took = took-rest pass; one = tt; runs = refl; worn = few; not_halted = tt }
+worn-one pass few = record { took = took-rest pass; one = tt; runs = refl; worn = (refl, few); not_halted = tt }
 
 pub worn-look : {T : Type 0} (pass : PassValue) → pass.left < 2 → TakesLook {T = T} None pass pass
-worn-look pass few = record { took = took-rest pass; one = tt; runs = refl; worn = few }
+worn-look pass few = record { took = took-rest pass; one = tt; runs = refl; worn = (refl, few) }
 
 module _ (old new : PassValue) (same : IsSamePass old new) (sees : SeesNext old [] new) (knows : IsTold old new) (left : new.left + 1 ≡ old.left) (enough : 2 ≤ old.left) where
   pub told-look : {T : Type 0} (value : T) → TakesLook (Some value) old new

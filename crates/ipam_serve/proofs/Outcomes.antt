@@ -154,7 +154,7 @@ module _ {D : Type 0} (tells : Tells D) (gives : Gives D) (faults : D → ℕ) w
       keeper = makes-none tells gives faults server.taker.pass new 1 took;
     }
 
-    pub comes-unseen : (why : Broken) → Breaks asked server (server_at new server.taker.turns server.ahead) → (new.left < 2 → WearsOut asked server.taker.pass new) → OnWorn {T = Unit {0}} (Err why) (new.left < 2)
+    pub comes-unseen : (why : Broken) → Breaks asked server (server_at new server.taker.turns server.ahead) → ((new ≡ server.taker.pass) × (new.left < 2) → WearsOut asked server.taker.pass new) → OnWorn {T = Unit {0}} (Err why) ((new ≡ server.taker.pass) × (new.left < 2))
         → Comes tells gives faults asked (Err why) server (server_at new server.taker.turns server.ahead)
     comes-unseen why breaks wears worn = record {
       replied = tt;

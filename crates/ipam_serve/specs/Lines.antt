@@ -200,11 +200,25 @@ wants_entry (Some wish.Opened) = false
 abbrev pub IsUnanswered : (old new : PassValue) → Type 0
 IsUnanswered old new = Gained old.slot old.seen [] new.seen ⊎ IsSome (runs_in new)
 
+-- where it wears out, a line that takes one turn alone has not taken it
+abbrev pub KeepsTurn : Option Wish → (old new : PassValue) → Type 0
+KeepsTurn None old new = ⊤
+KeepsTurn (Some (wish.Cni env stdin)) old new = ⊤
+KeepsTurn (Some (wish.Request request)) old new = ⊤
+KeepsTurn (Some (wish.Feed live)) old new = ⊤
+KeepsTurn (Some wish.Stop) old new = new ≡ old
+KeepsTurn (Some wish.Routes) old new = new ≡ old
+KeepsTurn (Some (wish.RoutesSince revision)) old new = new ≡ old
+KeepsTurn (Some (wish.Rows kind after)) old new = new ≡ old
+KeepsTurn (Some wish.Usage) old new = new ≡ old
+KeepsTurn (Some wish.Opened) old new = ⊤
+
 -- The line wanted a turn, of which fewer than two were left, or an entry, for which the history has no room.
 pub record WearsOut (asked : Option Wish) (old new : PassValue) : Type 0 where
   pub due : wants_turn asked (is_waiting (runs_in old)) ≡ true
   pub worn : (new.left < 2) ⊎ ((wants_entry asked ≡ true) × (2 ^ 62 ≤ moment_of new.base new.seen))
   pub unanswered : IsUnanswered old new
+  pub untaken : KeepsTurn asked old new
 
 -- ---- parts of a line
 

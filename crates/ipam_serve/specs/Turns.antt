@@ -65,7 +65,7 @@ pub record TakesOne {T : Type 0} (result : Result T Broken) (old new : PassValue
   pub took : Took old [] 1 new
   pub one : OnOk result (new.left + 1 ≡ old.left)
   pub runs : runs_in new ≡ runs_in old
-  pub worn : OnWorn result (new.left < 2)
+  pub worn : OnWorn result ((new ≡ old) × (new.left < 2))
   pub not_halted : OnHalted result ⊥
 
 -- the same, with what was told, or nothing where too few turns were left
@@ -73,4 +73,4 @@ pub record TakesLook {T : Type 0} (told : Option T) (old new : PassValue) : Type
   pub took : Took old [] 1 new
   pub one : IfSome told (λ value. new.left + 1 ≡ old.left)
   pub runs : runs_in new ≡ runs_in old
-  pub worn : IfNone told (new.left < 2)
+  pub worn : IfNone told ((new ≡ old) × (new.left < 2))

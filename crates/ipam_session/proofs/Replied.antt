@@ -14,7 +14,7 @@ use Rattle.cni_types.specs.Reading.{Pair}
 use Rattle.cni_asks.specs.declared.replies.CniReply.{CniReply}
 use Rattle.cni_asks.specs.Replying.{reply_of, told}
 use Rattle.cni_asks.proofs.AllReplies.{each_has_one}
-use Rattle.cni_gc.proofs.GcReplies.{gc_has_one, status_has_one}
+use Rattle.cni_asks.proofs.GcReplies.{gc_has_one, status_has_one}
 use Rattle.ipam_session.specs.declared.call.CallBegun.{CallBegun}
 use Rattle.ipam_session.specs.declared.call.CallBegun.TheVariants.{Told, Runs}
 use Rattle.ipam_session.specs.declared.refusal.Refusal.TheVariants.{Waiting, NotWaiting, TooSoon, Line}

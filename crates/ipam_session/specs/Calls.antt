@@ -17,8 +17,8 @@ use Rattle.cni_asks.specs.declared.asks.Ask.TheVariants.{Tell, Begin}
 use Rattle.cni_asks.specs.declared.replies.CniReply.{CniReply}
 use Rattle.cni_asks.specs.Asking.{ask_of}
 use Rattle.cni_asks.specs.Replying.{is_of_container, reply_of, told}
-use Rattle.cni_gc.specs.Begun.{collect_of, probe_of}
-use Rattle.cni_gc.specs.Replies.{gc_reply_of, status_reply_of}
+use Rattle.cni_asks.specs.GcAsking.{collect_of, probe_of}
+use Rattle.cni_asks.specs.GcReplying.{gc_reply_of, status_reply_of}
 use Rattle.ipam_session.specs.declared.call.CallBegun.{CallBegun}
 use Rattle.ipam_session.specs.declared.call.CallBegun.TheVariants.{Told, Runs}
 

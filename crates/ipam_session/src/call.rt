@@ -6,8 +6,7 @@ ghost use Rattle.cni_types.specs.Texts.{error_text};
 ghost use Rattle.cni_asks.specs.Asking.{is_neither_gc_nor_status};
 ghost use Rattle.ipam_session.specs.Calls.{ask_of_call, begun_of, begun_at, call_begun, IsSoundBegun, IsOfCall, is_of_call, call_told};
 
-use cni_asks::{Ask, ask, reply};
-use cni_gc::{gc, gc_reply, status, status_reply};
+use cni_asks::{Ask, ask, gc, gc_reply, reply, status, status_reply};
 use cni_types::{CniError, CniGc, CniStatus, Look, LookFault, Version, look, push_error};
 use ipam_model::{Answer, Request};
 use ipam_text::Text;

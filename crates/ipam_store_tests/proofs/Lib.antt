@@ -1,2 +1,3 @@
--- Lemmas on what the tests ask.
+-- Lemmas on what the tests ask, and on rows that are none.
+mod Empty
 pub mod SoundWrites

@@ -5,6 +5,7 @@ ghost use Rattle.ipam_environment.specs.Values.{last_value};
 ghost use Rattle.ipam_words.specs.Daemon.{ask_of, daemon_asked};
 
 use crate::telling::{tell_unasked, tell_unreached};
+use crate::viewed::Viewed;
 use ipam_asked_rows::get;
 use ipam_asked_views::show;
 use ipam_client::{Address, Connector, Connects, Limits};
@@ -51,7 +52,7 @@ fn unasked(rt: &HostRuntime) -> u8 {
 fn ask_at(rt: &HostRuntime, address: &str, command: &Command<'_>) -> u8 {
     let mut connector = Connector::new(rt, Address::of(address), Limits::of_call());
     match connector.connect() {
-        Some(mut link) => ask_over(rt, command, &mut link).code(),
+        Some(link) => ask_over(rt, command, &mut Viewed::new(rt, link)).code(),
         None => unreached_at(rt, address),
     }
 }

@@ -11,6 +11,7 @@ mod serving;
 mod stored;
 mod telling;
 mod upkeep;
+mod viewed;
 
 use asking::{ask, asked_of};
 use ipam_client::call;

@@ -1,8 +1,14 @@
 //! A database file that a backup makes.
+ghost use Rattle.std.specs.Prelude.{◌≡◌, ◌≤◌};
+ghost use Rattle.ipam_io.specs.Counts.{next_count};
+ghost use Rattle.ipam_keeper.specs.Keeping.{OnFailed, UnlessFailed};
+
+use crate::telling::tell_copied;
 use ipam_backup::Target;
 use ipam_keeper::{KeepFault, Keeper, Row};
-use ipam_sqlite::{FileKeeper, StorageFault};
+use ipam_sqlite::{FileKeeper, SqliteKeeper, StorageFault, Syncs};
 use ipam_text::Text;
+use sqlite::{File, FileStore};
 use std::alloc::AllocError;
 use std::fs::OpenOptions;
 use std::os::unix::fs::OpenOptionsExt;
@@ -22,23 +28,43 @@ pub(crate) enum NotMade {
     Memory,
 }
 
-/// A keeper over a file that was not there before.
+/// The key of no row.
+const NO_KEY: &str = "";
+
+/// A keeper over a file that was not there before. Its settling puts all rows on the disk at once.
 pub(crate) struct NewFile {
-    keeper: FileKeeper,
+    rt: HostRuntime,
+    /// None once it was closed.
+    keeper: Option<SqliteKeeper<FileStore<File>>>,
+    /// What folds the log into the file then.
+    closing: FileKeeper,
+    faults: u64,
+    /// How many rows it was given.
+    copied: u64,
 }
 
 impl Drop for NewFile {
     fn drop(self) {
-        let NewFile { keeper: _ } = self;
+        let NewFile {
+            rt: _,
+            keeper: _,
+            closing: _,
+            faults: _,
+            copied: _,
+        } = self;
     }
 }
 
 impl NewFile {
-    /// Makes the file, with no byte in it.
+    /// Makes the file, with no row in it.
     pub(crate) fn make(rt: &HostRuntime, path: &str) -> Result<NewFile, NotMade> {
         match make_file(rt, path) {
             Ok(()) => Ok(NewFile {
-                keeper: FileKeeper::new(rt, path),
+                rt: *rt,
+                keeper: Some(SqliteKeeper::open_with(rt, path, Syncs::AtSettle)),
+                closing: FileKeeper::new(rt, path),
+                faults: 0,
+                copied: 0,
             }),
             Err(why) => Err(why),
         }
@@ -46,7 +72,28 @@ impl NewFile {
 
     /// Why the last call that failed did so.
     pub(crate) fn why(&self) -> Option<StorageFault> {
-        self.keeper.why()
+        match &self.keeper {
+            Some(keeper) => keeper.why(),
+            None => self.closing.why(),
+        }
+    }
+
+    /// Counts an answer that is a failure.
+    fn counted<T>(&mut self, answer: Result<T, KeepFault>) -> Result<T, KeepFault>
+        ensures answer { result ≡ answer }
+        ensures keeper { self.new.keeper ≡ self.old.keeper }
+        ensures fault { OnFailed result (self.new.faults ≡ next_count self.old.faults) }
+        ensures no_fault { UnlessFailed result (self.new.faults ≡ self.old.faults) }
+        ensures never_falls { self.old.faults ≤ self.new.faults }
+    {
+        match answer {
+            Ok(value) => Ok(value),
+            Err(KeepFault::Memory) => Err(KeepFault::Memory),
+            Err(KeepFault::Failed) => {
+                self.faults = self.faults.saturating_add(1);
+                Err(KeepFault::Failed)
+            }
+        }
     }
 }
 
@@ -99,35 +146,53 @@ pub(crate) fn unmake(rt: &HostRuntime, path: &str) {
 }
 
 impl Keeper for NewFile {
-    ghost use Rattle.std.specs.Prelude.{None};
-    ghost use Rattle.ipam_sqlite.specs.Refused.{IsRefused};
+    ghost use Rattle.std.specs.Prelude.{None, IfSome};
+    ghost use Rattle.ipam_sqlite.specs.Known.{IsOut};
 
     ghost rows = { λ _. None };
 
     ghost settled = { λ _. None };
 
-    ghost broken = { λ file. IsRefused file.keeper.state };
+    ghost broken = { λ file. IfSome file.keeper IsOut };
 
-    ghost faults = { λ file. file.keeper.tally.faults };
+    ghost faults = { λ file. file.faults };
 
     ghost name = { λ _. 0 };
 
     ghost given = { λ before change after. Unit {0} };
 
     fn load(&mut self) -> Result<Vec<Row>, KeepFault> {
-        self.keeper.load()
+        let Some(keeper) = &mut self.keeper else {
+            return self.counted(Err(KeepFault::Failed));
+        };
+        let answer = keeper.load();
+        self.counted(answer)
     }
 
     fn put(&mut self, key: &str, revision: u64, body: &str) -> Result<(), KeepFault> {
-        self.keeper.put(key, revision, body)
+        let Some(keeper) = &mut self.keeper else {
+            return self.counted(Err(KeepFault::Failed));
+        };
+        let answer = keeper.put(key, revision, body);
+        self.copied = self.copied.saturating_add(1);
+        tell_copied(&self.rt, self.copied);
+        self.counted(answer)
     }
 
     fn remove(&mut self, key: &str) -> Result<(), KeepFault> {
-        self.keeper.remove(key)
+        let Some(keeper) = &mut self.keeper else {
+            return self.counted(Err(KeepFault::Failed));
+        };
+        let answer = keeper.remove(key);
+        self.counted(answer)
     }
 
     fn settle(&mut self) -> Result<(), KeepFault> {
-        self.keeper.settle()
+        let Some(keeper) = &mut self.keeper else {
+            return self.counted(Err(KeepFault::Failed));
+        };
+        let answer = keeper.settle();
+        self.counted(answer)
     }
 }
 
@@ -135,6 +200,16 @@ impl Target for NewFile {
     ghost closed = { λ _. Unit {0} };
 
     fn close(&mut self) -> Result<(), KeepFault> {
-        self.keeper.close()
+        self.keeper = None;
+        let answer = fold(&mut self.closing);
+        self.counted(answer)
+    }
+}
+
+/// Opens the file, which taking out the row of no key does, and folds its log into it.
+fn fold(closing: &mut FileKeeper) -> Result<(), KeepFault> {
+    match closing.remove(NO_KEY) {
+        Ok(()) => closing.close(),
+        Err(fault) => Err(fault),
     }
 }

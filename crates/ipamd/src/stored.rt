@@ -1,6 +1,6 @@
 //! Commands over the database.
 use crate::no_file::NoFile;
-use crate::telling::{tell_no_path, tell_reading, tell_why};
+use crate::telling::{tell_missing, tell_no_path, tell_reading, tell_why};
 use ipam_audit::run_audit;
 use ipam_command::run_command;
 use ipam_io::{StdSink, StdSource};
@@ -35,7 +35,10 @@ pub(crate) fn run_at<R: Threads + Sync>(
     }
     let mut keeper = match aim {
         Use::Keep => FileKeeper::new(rt, path),
-        Use::Look => FileKeeper::reader(rt, path),
+        Use::Look => {
+            tell_missing(rt, path);
+            FileKeeper::reader(rt, path)
+        }
     };
     let status = run_over(rt, threads, words, variables, &mut keeper);
     if let Some(why) = keeper.why() {

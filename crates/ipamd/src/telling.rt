@@ -7,6 +7,12 @@ use std::io::{self, IsTerminal};
 /// A database of so many bytes has some 50,000 rows, and reading them takes a while.
 const LARGE: u64 = 16 * 1024 * 1024;
 
+/// How many requests to a daemon there are from one line to the next. Each asks for a resource or a page of rows.
+const EACH_REQUESTS: u64 = 100;
+
+/// How many rows of a backup there are from one line to the next.
+const EACH_ROWS: u64 = 10_000;
+
 /// The words that begin a command.
 const FIRST_WORDS: &str =
     "cni play gen apply get show routes release unreserve audit backup serve call --help --version";
@@ -50,10 +56,45 @@ pub(crate) fn tell_reading(rt: &HostRuntime, path: &str) {
     }
 }
 
+/// Tells that the file of a command that only looks is not there, which is read as no rows.
+pub(crate) fn tell_missing(rt: &HostRuntime, path: &str) {
+    if is_missing(rt, path) {
+        let _ = eprintln!(rt; "ipam: {path}: there is no such file, so there are no rows");
+    }
+}
+
+fn is_missing(rt: &HostRuntime, path: &str) -> bool {
+    match fs::metadata(rt, path) {
+        Ok(_) => false,
+        Err(error) => error.kind() == io::ErrorKind::NotFound,
+    }
+}
+
 fn is_large(rt: &HostRuntime, path: &str) -> bool {
     match fs::metadata(rt, path) {
         Ok(found) => found.len() >= LARGE,
         Err(_) => false,
+    }
+}
+
+/// Tells how many requests a daemon was sent, where a line is due.
+pub(crate) fn tell_sent(rt: &HostRuntime, requests: u64) {
+    if requests % EACH_REQUESTS == 0 {
+        tell_progress(rt, requests, "requests sent");
+    }
+}
+
+/// Tells how many rows the file of a backup was given, where a line is due.
+pub(crate) fn tell_copied(rt: &HostRuntime, rows: u64) {
+    if rows % EACH_ROWS == 0 {
+        tell_progress(rt, rows, "rows copied");
+    }
+}
+
+/// Tells a person at a terminal how far a long work has come.
+fn tell_progress(rt: &HostRuntime, count: u64, what: &str) {
+    if rt.stderr().is_terminal() {
+        let _ = eprintln!(rt; "ipam: {count} {what}");
     }
 }
 

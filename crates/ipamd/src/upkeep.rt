@@ -5,7 +5,8 @@ ghost use Rattle.ipam_upkeep.specs.Words.{IsFit, of_upkeep};
 use crate::asking::unreached_at;
 use crate::new_file::{NewFile, NotMade, unmake};
 use crate::no_file::NoFile;
-use crate::telling::{tell_no_path, tell_reading, tell_there, tell_unmade, tell_why};
+use crate::telling::{tell_missing, tell_no_path, tell_reading, tell_there, tell_unmade, tell_why};
+use crate::viewed::Viewed;
 use ipam_asked_audit::audit;
 use ipam_backup::{back_up_asked, back_up_kept};
 use ipam_client::{Address, Connector, Connects, Limits};
@@ -29,7 +30,7 @@ pub(crate) fn ask_upkeep<R: Threads + Sync>(
 {
     let mut connector = Connector::new(rt, Address::of(address), Limits::of_call());
     match connector.connect() {
-        Some(mut link) => ask_over(rt, threads, upkeep, &mut link),
+        Some(link) => ask_over(rt, threads, upkeep, &mut Viewed::new(rt, link)),
         None => unreached_at(rt, address),
     }
 }
@@ -96,7 +97,7 @@ fn unreserve_kept<D: Keeper>(rt: &HostRuntime, keeper: &mut D, name: &str) -> u8
     requires { IsName name.now }
 {
     let mut sink = StdSink::new(io::writer(rt));
-    ipam_unreserve::unreserve(rt.alloc(), &mut sink, keeper, name).code()
+    ipam_commands::unreserve(rt.alloc(), &mut sink, keeper, name).code()
 }
 
 /// Puts the rows of the database into a new one at the path, and answers the exit status.
@@ -113,6 +114,7 @@ pub(crate) fn back_up(rt: &HostRuntime, database: &Database, path: &str) -> u8 {
 /// The same with the rows of the database file at the source.
 fn back_up_file(rt: &HostRuntime, source: &str, path: &str) -> u8 {
     tell_reading(rt, source);
+    tell_missing(rt, source);
     let mut keeper = FileKeeper::reader(rt, source);
     let status = back_up_from(rt, &mut keeper, path);
     tell_cause(rt, source, &keeper);

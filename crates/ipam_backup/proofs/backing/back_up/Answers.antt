@@ -4,7 +4,7 @@ use Rattle.ipam_backup.proofs.backing.back_up.Goals as goal
 
 pub returns-in-Ok-clause-told : goal.returns-in-Ok-clause-told
 returns-in-Ok-clause-told g c =
-    Saved c.in-Ok.ensures.closed c.in-Ok.ensures.filled c.in-Ok.ensures.no_fault (c.tell_made.ensures.written (saved_line (length c.args.rows.now)) (search rules))
+    Saved c.in-Ok.ensures.closed c.in-Ok.ensures.filled c.in-Ok.ensures.settled c.in-Ok.ensures.no_fault (c.tell_made.ensures.written (saved_line (length c.args.rows.now)) (search rules))
 
 pub returns-in-Err-Failed-clause-told : goal.returns-in-Err-Failed-clause-told
 returns-in-Err-Failed-clause-told g c = Failed (search rules) c.tell.ensures.written

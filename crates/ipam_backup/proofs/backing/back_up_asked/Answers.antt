@@ -7,8 +7,8 @@ returns-in-Ok-Some-clause-told g c =
 
 pub returns-in-Ok-None-clause-told : goal.returns-in-Ok-None-clause-told
 returns-in-Ok-None-clause-told g c =
-    (Ok None, c.in-Ok-None.ensures.asked.0, rw c.in-Ok-None.field-0-is at c.in-Ok-None.ensures.asked.1, (record { rows = refl; faults = refl }, c.tell.ensures.written))
+    (Ok None, c.in-Ok-None.ensures.asked.0, rw c.in-Ok-None.field-0-is at c.in-Ok-None.ensures.asked.1, (record { rows = refl; settled = refl; faults = refl }, c.tell.ensures.written))
 
 pub returns-in-Err-clause-told : goal.returns-in-Err-clause-told
 returns-in-Err-clause-told g c =
-    (Err c.in-Err.fault, c.in-Err.ensures.asked.0, c.in-Err.ensures.asked.1, (record { rows = refl; faults = refl }, c.tell_fault.ensures.told))
+    (Err c.in-Err.fault, c.in-Err.ensures.asked.0, c.in-Err.ensures.asked.1, (record { rows = refl; settled = refl; faults = refl }, c.tell_fault.ensures.told))

@@ -9,6 +9,7 @@ abbrev pub invariant-loop : goal.invariant-loop
 invariant-loop g l =
     (l.pass.lock ≡ g.S.Serves.id (arc_value l.common.shared))
     × (l.pass.lock ≡ l.initial.pass.lock)
+    × (l.pass.slot ≡ l.initial.pass.slot)
     × (runs_in l.pass ≡ runs_in l.initial.pass)
     × (vec_len l.crew.threads ≡ vec_len l.initial.crew.threads + l.counter)
     × (l.crew.faults ≡ l.initial.crew.faults)

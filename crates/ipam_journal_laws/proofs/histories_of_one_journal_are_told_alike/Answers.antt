@@ -1,5 +1,0 @@
-use Rattle.ipam_journal_laws.proofs.Alike.{histories_alike}
-use Rattle.ipam_journal_laws.proofs.histories_of_one_journal_are_told_alike.Goals as goal
-
-pub returns : goal.returns
-returns c = histories_alike

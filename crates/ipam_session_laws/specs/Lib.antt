@@ -1,2 +1,0 @@
--- What of an environment is sent.
-pub mod Sent

@@ -1,0 +1,26 @@
+-- What the texts of answers, records, journals and sessions tell.
+pub mod AnswerBack
+pub mod AnswerTexts
+pub mod RecordBodies
+pub mod Tells
+pub mod TellsParts
+pub mod TellsRequests
+pub mod SoundEntries
+pub mod Plain
+pub mod PlainJson
+pub mod PlainKeys
+pub mod WholeLines
+pub mod EntryLines
+pub mod NamedHistories
+pub mod Journals
+pub mod EntriesTold
+pub mod EntriesRead
+pub mod Alike
+pub mod ObjectEnds
+pub mod SameEntries
+pub mod Pairs
+pub mod CallsRead
+pub mod RepliesTaken
+pub mod Looks
+pub mod Variables
+pub mod CallsBegun

@@ -1,2 +1,0 @@
-pub mod UnreserveRuns
-mod Refusals

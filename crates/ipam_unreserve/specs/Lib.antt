@@ -1,2 +1,0 @@
--- How a reservation is taken back.
-pub mod Unreserving
