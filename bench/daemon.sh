@@ -3,7 +3,8 @@
 # connection: calls a second, the median and the 99th percentile. First it uses a file in the folder for
 # temporary files (TMPDIR) and times its sync, and then a file in memory. The words are how many addresses each
 # run adds and deletes (2000), the port (9431) and a program (the one that ./ipam runs): so two programs can be
-# compared at the same time of the same machine. The client is compiled by rustc. With SYNC_MILLIS=4 in the
+# compared at the same time of the same machine. With ROUNDS=10 in the environment all addresses are added and deleted
+# ten times over. The client is compiled by rustc. With SYNC_MILLIS=4 in the
 # environment each sync takes four milliseconds longer, as on a slower disk (bench/slow_sync.c, compiled by cc); then
 # the file in memory is left out.
 set -eu
@@ -36,7 +37,7 @@ for folder in "${folders[@]}"; do
         IPAM_DB=$folder/ipam.db "$program" serve "127.0.0.1:$port" 16 >"$work/said" 2>"$work/log" &
         daemon=$!
         # shellcheck disable=SC2086
-        "$work/client" "$port" "$folder" "$calls" $shape || { cat "$work/said"; exit 1; }
+        "$work/client" "$port" "$folder" "$calls" $shape "${ROUNDS:-1}" || { cat "$work/said"; exit 1; }
         finish
     done
 done

@@ -1,7 +1,7 @@
 // Adds and deletes addresses through a daemon on the loopback, and prints how fast and what was checked.
 //
-// The words are the daemon's port, the folder of its file, how many addresses, how many connections and how many
-// nodes. Each connection has one call under way at a time, as a plugin has, and a thread of its own.
+// The words are the daemon's port, the folder of its file, how many addresses, how many connections, how many nodes
+// and how many rounds, in each of which all addresses are added and deleted. Each connection has one call under way at a time, as a plugin has, and a thread of its own.
 use std::collections::HashSet;
 use std::fs::{remove_file, File};
 use std::io::{Read, Write};
@@ -104,23 +104,71 @@ fn run(connections: &mut [TcpStream], calls: &[Call]) -> (Vec<Reply>, Duration) 
     (replies, start.elapsed())
 }
 
-/// Prints one line on the calls, and gives the replies that are no errors.
-fn told(command: &str, (replies, whole): (Vec<Reply>, Duration)) -> Vec<Reply> {
-    let mut times: Vec<f64> = replies.iter().map(|reply| reply.time.as_secs_f64() * 1000.0).collect();
-    times.sort_by(f64::total_cmp);
-    let count = times.len();
-    let (good, bad): (Vec<_>, Vec<_>) = replies.into_iter().partition(|reply| reply.line.starts_with(GOOD));
-    println!(
-        "  {command}: {:.0} a second, median {:.3} ms, 99th percentile {:.3} ms, {} of {count} refused",
-        count as f64 / whole.as_secs_f64(),
-        times[count / 2],
-        times[(count * 99 / 100).min(count - 1)],
-        bad.len(),
-    );
-    if let Some(first) = bad.first() {
-        println!("    the first refusal: {}", first.line.trim_end());
+/// What came of the calls of one command.
+#[derive(Default)]
+struct Calls {
+    times: Vec<f64>,
+    whole: Duration,
+    good: usize,
+    refusal: Option<String>,
+}
+
+impl Calls {
+    /// Counts these replies, and gives those that are no errors.
+    fn count(&mut self, (replies, whole): (Vec<Reply>, Duration)) -> Vec<Reply> {
+        self.whole += whole;
+        self.times.extend(replies.iter().map(|reply| reply.time.as_secs_f64() * 1000.0));
+        let (good, bad): (Vec<_>, Vec<_>) = replies.into_iter().partition(|reply| reply.line.starts_with(GOOD));
+        self.good += good.len();
+        if let (None, Some(first)) = (&self.refusal, bad.into_iter().next()) {
+            self.refusal = Some(first.line);
+        }
+        good
     }
-    good
+
+    /// Prints one line on them.
+    fn tell(&mut self, command: &str) {
+        self.times.sort_by(f64::total_cmp);
+        let count = self.times.len();
+        println!(
+            "  {command}: {:.0} a second, median {:.3} ms, 99th percentile {:.3} ms, {} of {count} refused",
+            count as f64 / self.whole.as_secs_f64(),
+            self.times[count / 2],
+            self.times[(count * 99 / 100).min(count - 1)],
+            count - self.good,
+        );
+        if let Some(first) = &self.refusal {
+            println!("    the first refusal: {}", first.trim_end());
+        }
+    }
+}
+
+/// Adds so many addresses, deletes all that were given, and adds one more, which is deleted as well.
+fn one_round(
+    connections: &mut [TcpStream],
+    calls: usize,
+    nodes: usize,
+    round: usize,
+    added: &mut Calls,
+    deleted: &mut Calls,
+) {
+    let name = |place: usize| format!("r{round}c{place}");
+    let adds: Vec<_> = (0..calls).map(|place| Call::new("ADD", place, &name(place), nodes)).collect();
+    let good = added.count(run(connections, &adds));
+    let addresses: HashSet<_> = good.iter().map(address).collect();
+    if addresses.len() != good.len() {
+        fail("an address was given twice");
+    }
+    let dels: Vec<_> = good
+        .iter()
+        .map(|reply| Call::new("DEL", reply.place, &name(reply.place), nodes))
+        .collect();
+    deleted.count(run(connections, &dels));
+    let again = asked(&mut connections[0], &Call::new("ADD", 0, "again", nodes).line);
+    if !again.starts_with(GOOD) {
+        fail(&format!("no address after all were deleted: {}", again.trim_end()));
+    }
+    asked(&mut connections[0], &Call::new("DEL", 0, "again", nodes).line);
 }
 
 /// The address in the reply of an ADD.
@@ -150,35 +198,28 @@ fn sync_time(folder: &str) -> f64 {
 
 fn main() {
     let words: Vec<String> = std::env::args().skip(1).collect();
-    let [port, folder, calls, count, nodes] = &words[..] else {
-        fail("words: PORT FOLDER ADDRESSES CONNECTIONS NODES");
+    let [port, folder, calls, count, nodes, rounds] = &words[..] else {
+        fail("words: PORT FOLDER ADDRESSES CONNECTIONS NODES ROUNDS");
     };
     let number = |word: &String| word.parse::<usize>().unwrap();
-    let (calls, count, nodes) = (number(calls), number(count), number(nodes));
+    let (calls, count, nodes, rounds) = (number(calls), number(count), number(nodes), number(rounds));
     let mut connections: Vec<_> = (0..count).map(|_| connect(port)).collect();
     let made = asked(&mut connections[0], POOL);
     if !made.contains("\"done\"") {
         fail(&format!("no pool: {}", made.trim_end()));
     }
-    println!("{folder}, a sync takes {:.3} ms; {count} connections, {nodes} nodes, {calls} addresses", sync_time(folder));
-    let adds: Vec<_> = (0..calls).map(|place| Call::new("ADD", place, &format!("c{place}"), nodes)).collect();
-    let good = told("ADD", run(&mut connections, &adds));
-    let addresses: HashSet<_> = good.iter().map(address).collect();
-    if addresses.len() != good.len() {
-        fail("an address was given twice");
-    }
-    let dels: Vec<_> = good
-        .iter()
-        .map(|reply| Call::new("DEL", reply.place, &format!("c{}", reply.place), nodes))
-        .collect();
-    let gone = told("DEL", run(&mut connections, &dels));
-    let again = asked(&mut connections[0], &Call::new("ADD", 0, "again", nodes).line);
-    if !again.starts_with(GOOD) {
-        fail(&format!("no address after all were deleted: {}", again.trim_end()));
-    }
     println!(
-        "  checked: {} addresses, none given twice; {} deleted, without an error; and one more is given after that",
-        addresses.len(),
-        gone.len(),
+        "{folder}, a sync takes {:.3} ms; {count} connections, {nodes} nodes, {rounds} rounds of {calls} addresses",
+        sync_time(folder)
+    );
+    let (mut added, mut deleted) = (Calls::default(), Calls::default());
+    for round in 0..rounds {
+        one_round(&mut connections, calls, nodes, round, &mut added, &mut deleted);
+    }
+    added.tell("ADD");
+    deleted.tell("DEL");
+    println!(
+        "  checked: {} addresses, none given twice at a time; {} deleted, without an error; and one more is given after that",
+        added.good, deleted.good,
     );
 }

@@ -20,7 +20,7 @@ rustc -O -o "$work/client" "$top/bench/daemon_client.rs"
 IPAM_DB=$work/ipam.db valgrind --tool=callgrind --callgrind-out-file="$work/counted" \
     "$("$top/bench/program.sh")" serve "127.0.0.1:$port" 1 >"$work/said" 2>"$work/log" &
 daemon=$!
-"$work/client" "$port" "$work" "$calls" 1 1 >"$work/checked" || { cat "$work/said" "$work/checked"; exit 1; }
+"$work/client" "$port" "$work" "$calls" 1 1 1 >"$work/checked" || { cat "$work/said" "$work/checked"; exit 1; }
 finish
 callgrind_annotate --inclusive=yes --threshold=100 "$work/counted" | awk '
     { count = $1; gsub(",", "", count) }

@@ -1,6 +1,6 @@
 #!/usr/bin/env python3
 """Runs the gate and prints the processor seconds that each crate took, for its proof, its tests and
-its must-fail edits.
+its wrong bodies.
 
 It looks twice a second at the provers that descend from the gate's process, so a prover that lives
 for less than half a second is missed. Usage, at the top of the repository:
@@ -50,7 +50,7 @@ def part_of(words):
     if len(words) < 2 or not words[0].endswith("/rattle") or "--crate-name" not in words:
         return None
     crate = words[words.index("--crate-name") + 1]
-    if any("rt-edits-" in word for word in words):
+    if "--only" in words or any("rt-edits-" in word for word in words):
         return crate, "edits"
     return crate, "tests" if "--test" in words else "proof"
 

@@ -1,5 +1,5 @@
 #!/usr/bin/env python3
-"""Writes the scripts that `play` is tested with, and what `play` must write for each.
+"""Writes scenarios of crates/ipam_command_tests: the scripts that `play` is tested with, and what `play` must write for each.
 
 The second allocator gives what is expected. For scripts that are refused before anything happens, and for
 failing input and output, this script states it. Some scripts have lines that were worked out by hand, and
@@ -17,8 +17,8 @@ sys.path.append(str(TOP / "tools/second"))
 # pylint: disable=wrong-import-position
 from random_scripts import text_of
 from second_allocator import play
+from scenarios import replace
 
-OUT = TOP / "crates/ipam_play_tests"
 RANDOM = 16
 
 POOL = '{"blockSize":30,"cidr":"10.0.0.0/29","disabled":false,"name":"p"}'
@@ -312,12 +312,12 @@ DELETED = """\
 # What is written of these is said beside them too. `×N` is a line of so many bytes that has no line feed; a read gives
 # at most 4,096 bytes.
 FAILING = [
-    ("Where read 1 fails.", DELETION, "read fault\n", 3),
-    ("Where read 2 fails.", DELETION + "×12000", DELETED + "read fault\n", 3),
-    ("Where read 3 fails.", DELETION + "×12000", DELETED + "read fault\n", 3),
-    ("Where write 1 fails.", DELETION, "", 4),
-    ("A line of as many bytes as there may be.", "restart\n×1048576", "line 2: unreadable\n", 8),
-    ("A line of one more.", "restart\n×1048577", "line 2: long\n", 8),
+    ("Where read 1 fails.", "script read 1", DELETION, "read fault\n", 3),
+    ("Where read 2 fails.", "script read 2", DELETION + "×12000", DELETED + "read fault\n", 3),
+    ("Where read 3 fails.", "script read 3", DELETION + "×12000", DELETED + "read fault\n", 3),
+    ("Where write 1 fails.", "script write 1", DELETION, "", 4),
+    ("A line of as many bytes as there may be.", "script", "restart\n×1048576", "line 2: unreadable\n", 8),
+    ("A line of one more.", "script", "restart\n×1048577", "line 2: long\n", 8),
 ]
 
 
@@ -347,29 +347,24 @@ def encoded(script):
     return "".join(f"{line or '¶'}\n" for line in lines) + (last if last.startswith("×") else last and last + "∎")
 
 
-def scenario(title, script, text, status):
-    """The script with a title, and after it the status and what is written, which are wanted."""
+def scenario(title, way, script, text, status):
+    """The way in which the script is played, with a title, then the script, the status and what is written, which are wanted."""
     made = encoded(script)
     ended = made if made.endswith("\n") or not made else made + "\n"
-    return f"{title}\n{ended}= {status}\n" + "".join(f"= {line}\n" for line in text.splitlines())
-
-
-def told_of(scenario):
-    """The line that is written of a scenario: its title, and how many lines come of it."""
-    return f"{scenario.splitlines()[0]} {scenario.count(chr(10) + '= ')}\n"
+    return f"{title}\n{way}\n{ended}= {status}\n" + "".join(f"= {line}\n" for line in text.splitlines())
 
 
 def main():
     others = [(script, *play(script)) for script in OTHERS]
     summed = [(script, *play(script)) for script in [many_races()] + [text_of(number) for number in range(RANDOM)]]
     sums = [(script, f"{len(text.encode())} {sum_of(text)}\n", status) for script, text, status in summed]
-    scenarios = [scenario(f"Worked script {n + 1}.", *worked(*one)) for n, one in enumerate(WORKED)]
-    scenarios += [scenario(f"Script {n + 1}.", *one) for n, one in enumerate(others)]
-    scenarios += [scenario(f"Refused script {n + 1}.", *one) for n, one in enumerate(REFUSED)]
+    scenarios = [scenario(f"Worked script {n + 1}.", "script", *worked(*one)) for n, one in enumerate(WORKED)]
+    scenarios += [scenario(f"Script {n + 1}.", "script", *one) for n, one in enumerate(others)]
+    scenarios += [scenario(f"Refused script {n + 1}.", "script", *one) for n, one in enumerate(REFUSED)]
     scenarios += [scenario(*one) for one in FAILING]
-    scenarios += [scenario(f"Sum of script {n + 1}.", *one) for n, one in enumerate(sums)]
-    (OUT / "stdin").write_text("\n".join(scenarios))
-    (OUT / "stdout").write_text("".join(map(told_of, scenarios)))
+    scenarios += [scenario(f"Sum of script {n + 1}.", "script sum", *one) for n, one in enumerate(sums)]
+    titles = ("Worked script ", "Script ", "Refused script ", "Sum of script ", *(one[0] for one in FAILING))
+    replace(titles, [text.rstrip("\n") for text in scenarios])
     print(f"{len(WORKED)} worked scripts, {len(others)} others, {len(REFUSED)} refused, {len(FAILING)} with faults and long lines, {len(sums)} long ones")
 
 

@@ -16,7 +16,7 @@ use Rattle.ipam_model.specs.CanAnswer.{CanAnswer, IsOwnAnswer}
 use Rattle.ipam_model.specs.Told.{of_add, of_add_this, of_del, of_check}
 use Rattle.ipam_addr.specs.Shape.{AddrValue}
 use Rattle.cni_asks.specs.declared.replies.CniReply.{CniReply}
-use Rattle.cni_asks.specs.Replying.{is_of_container, is_success, failure_of, reply_of, reply_to_add, reply_to_this, reply_to_del, reply_to_check, reply_status}
+use Rattle.cni_asks.specs.Replying.{is_of_container, is_success, failure_of, cni_reply_of, reply_to_add, reply_to_this, reply_to_del, reply_to_check, reply_status}
 
 to_add : (one : AddAnswer) → IsSome (reply_to_add (of_add one))
 to_add (add.Added given) = refl
@@ -46,7 +46,7 @@ to_check : (one : CheckAnswer) → IsSome (reply_to_check (of_check one))
 to_check check.Checked = refl
 to_check (check.NotRecorded address moment) = refl
 
-to_own : (asked : Request) (found : Answer) → IsTrue (is_of_container asked) → IsOwnAnswer asked found → IsSome (reply_of asked found)
+to_own : (asked : Request) (found : Answer) → IsTrue (is_of_container asked) → IsOwnAnswer asked found → IsSome (cni_reply_of asked found)
 to_own (Add request) found h own = subst (λ a. IsSome (reply_to_add a)) (sym own.1) (to_add own.0)
 to_own (AddThis request address) found h own = subst (λ a. IsSome (reply_to_this address a)) (sym own.1) (to_this address own.0)
 to_own (Del id) found h own = subst (λ a. IsSome (reply_to_del a)) (sym own.1) (to_del own.0)
@@ -56,7 +56,7 @@ to_own (Collect request) found h own = absurd (cc h)
 to_own (Admin change) found h own = absurd (cc h)
 to_own (Probe request) found h own = absurd (cc h)
 
-to_fault : (asked : Request) → IsTrue (is_of_container asked) → IsSome (reply_of asked answer.Fault)
+to_fault : (asked : Request) → IsTrue (is_of_container asked) → IsSome (cni_reply_of asked answer.Fault)
 to_fault (Add request) h = refl
 to_fault (AddThis request address) h = refl
 to_fault (Del id) h = refl
@@ -66,9 +66,9 @@ to_fault (Collect request) h = absurd (cc h)
 to_fault (Admin change) h = absurd (cc h)
 to_fault (Probe request) h = absurd (cc h)
 
-pub each_has_one : (asked : Request) (found : Answer) → IsTrue (is_of_container asked) → CanAnswer asked found → IsSome (reply_of asked found)
+pub each_has_one : (asked : Request) (found : Answer) → IsTrue (is_of_container asked) → CanAnswer asked found → IsSome (cni_reply_of asked found)
 each_has_one asked found h (inl own) = to_own asked found h own
-each_has_one asked found h (inr fault) = subst (λ a. IsSome (reply_of asked a)) (sym fault) (to_fault asked h)
+each_has_one asked found h (inr fault) = subst (λ a. IsSome (cni_reply_of asked a)) (sym fault) (to_fault asked h)
 
 -- ---- success
 
@@ -123,7 +123,7 @@ unfolding IsStatus
 status_to_check answer.Checked = refl
 status_to_check other = failure_status other
 
-status_of_reply : (asked : Request) (found : Answer) → IsStatus (is_success found) (reply_of asked found)
+status_of_reply : (asked : Request) (found : Answer) → IsStatus (is_success found) (cni_reply_of asked found)
 unfolding IsStatus
 status_of_reply (Add request) found = status_to_add found
 status_of_reply (AddThis request address) found = status_to_this address found
@@ -142,7 +142,7 @@ unfolding IsStatus
 told_so true reply h = (λ _. refl, λ _. h)
 told_so false reply h = (λ zero. absurd (not_both (reply_status reply) h zero), λ never. absurd (cc never))
 
-pub success_told : (asked : Request) (found : Answer) (reply : CniReply) → reply_of asked found ≡ Some reply
+pub success_told : (asked : Request) (found : Answer) (reply : CniReply) → cni_reply_of asked found ≡ Some reply
     → (reply_status reply ≡ 0) ↔ IsTrue (is_success found)
 success_told asked found reply h =
     told_so (is_success found) reply (subst (IsStatus (is_success found)) h (status_of_reply asked found))

@@ -6,7 +6,7 @@ use Rattle.ipam_model.specs.declared.outcome.CollectAnswer.{CollectAnswer}
 use Rattle.ipam_model.specs.declared.outcome.CollectAnswer.TheVariants as collect
 use Rattle.ipam_model.specs.declared.outcome.ProbeAnswer.{ProbeAnswer}
 use Rattle.ipam_model.specs.declared.outcome.ProbeAnswer.TheVariants as probe
-use Rattle.ipam_model.specs.CanAnswer.{IsTold}
+use Rattle.ipam_model.specs.CanAnswer.{IsOneAnswer}
 use Rattle.ipam_model.specs.Told.{of_collect, of_probe}
 use Rattle.cni_asks.specs.declared.replies.CniReply.{CniReply}
 use Rattle.cni_asks.specs.Replying.{is_success, reply_status}
@@ -18,7 +18,7 @@ to_collect (collect.Collected collected) = refl
 to_collect (collect.Again lost) = refl
 to_collect collect.Spent = refl
 
-collect_has_one : (found : Answer) → IsTold of_collect found ⊎ (found ≡ answer.Fault) → IsSome (gc_reply_of found)
+collect_has_one : (found : Answer) → IsOneAnswer of_collect found ⊎ (found ≡ answer.Fault) → IsSome (gc_reply_of found)
 collect_has_one found (inl own) = subst (λ a. IsSome (gc_reply_of a)) (sym own.1) (to_collect own.0)
 collect_has_one found (inr fault) = subst (λ a. IsSome (gc_reply_of a)) (sym fault) refl
 
@@ -30,7 +30,7 @@ to_probe (probe.Ready scans) = refl
 to_probe (probe.Exhausted scan) = refl
 to_probe (probe.NoPool name moment) = refl
 
-probe_has_one : (found : Answer) → IsTold of_probe found ⊎ (found ≡ answer.Fault) → IsSome (status_reply_of found)
+probe_has_one : (found : Answer) → IsOneAnswer of_probe found ⊎ (found ≡ answer.Fault) → IsSome (status_reply_of found)
 probe_has_one found (inl own) = subst (λ a. IsSome (status_reply_of a)) (sym own.1) (to_probe own.0)
 probe_has_one found (inr fault) = subst (λ a. IsSome (status_reply_of a)) (sym fault) refl
 

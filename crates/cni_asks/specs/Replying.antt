@@ -75,15 +75,15 @@ is_of_container (Admin change) = false
 is_of_container (Probe probe) = false
 
 -- what a call is answered whose request came to this answer
-abbrev pub reply_of : Request → Answer → Option CniReply
-reply_of (Add add) found = reply_to_add found
-reply_of (AddThis add address) found = reply_to_this address found
-reply_of (Del id) found = reply_to_del found
-reply_of (Check id addresses) found = reply_to_check found
-reply_of (Release node cidr) found = None
-reply_of (Collect collect) found = None
-reply_of (Admin change) found = None
-reply_of (Probe probe) found = None
+abbrev pub cni_reply_of : Request → Answer → Option CniReply
+cni_reply_of (Add add) found = reply_to_add found
+cni_reply_of (AddThis add address) found = reply_to_this address found
+cni_reply_of (Del id) found = reply_to_del found
+cni_reply_of (Check id addresses) found = reply_to_check found
+cni_reply_of (Release node cidr) found = None
+cni_reply_of (Collect collect) found = None
+cni_reply_of (Admin change) found = None
+cni_reply_of (Probe probe) found = None
 
 -- What was asked was done: addresses were given, the handle holds nothing any more or all that was
 -- asked about, what leaked was freed, or an address could be given.

@@ -4,7 +4,7 @@ ghost use Rattle.ipam_addr.specs.Text.{address_text, cidr_text_of};
 ghost use Rattle.ipam_model.specs.CanAnswer.{CanAnswer};
 ghost use Rattle.cni_types.specs.Texts.{error_text, result_text};
 ghost use Rattle.cni_asks.specs.declared.replies.CniReply.TheVariants.{Failure};
-ghost use Rattle.cni_asks.specs.Replying.{family_name, limit_text, failure_of, addresses_of, reply_to_add, reply_to_this, reply_to_del, reply_to_check, is_of_container, is_success, reply_of, told};
+ghost use Rattle.cni_asks.specs.Replying.{family_name, limit_text, failure_of, addresses_of, reply_to_add, reply_to_this, reply_to_del, reply_to_check, is_of_container, is_success, cni_reply_of, told};
 
 use crate::replies::CniReply;
 use cni_types::{CniError, Code, Version, push_error, push_result};
@@ -25,7 +25,7 @@ pub fn reply(
     requires of_container { IsTrue (is_of_container request.now) }
     requires can_answer { CanAnswer request.now answer.now }
     ensures told { IfOk result
-        (λ r. option_map (told version) (reply_of request.now answer.now) ≡ Some r) }
+        (λ r. option_map (told version) (cni_reply_of request.now answer.now) ≡ Some r) }
     ensures success { IfOk result (λ r. (r.0 ≡ 0) ↔ IsTrue (is_success answer.now)) }
 {
     match reply_of(alloc, request, answer)? {
@@ -77,7 +77,7 @@ fn reply_of(
     request: &Request,
     answer: &Answer,
 ) -> Result<Option<CniReply>, AllocError>
-    ensures { IfOk result (λ r. r ≡ reply_of request.now answer.now) }
+    ensures { IfOk result (λ r. r ≡ cni_reply_of request.now answer.now) }
 {
     match request {
         Request::Add(_) => reply_to_add(alloc, answer),

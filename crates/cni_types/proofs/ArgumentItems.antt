@@ -1,7 +1,7 @@
 -- Arguments, an item at a time.
 use Rattle.std.proofs.Common.{◌≡◌, ◌≢◌, ℕ, suc, ◌<◌, List, [], ◌∷◌, ◌++◌, length, get_or, ◌&&◌, Bool, true, false, refl, ap, ◌∙◌, arith, ne_eqb, if◌then◌else◌}
 use Rattle.std.specs.List.{list_all, after_first}
-use Rattle.cni_types.specs.Environment.{is_equals, items_of, is_argument, has_key, argument_from}
+use Rattle.cni_types.specs.Environment.{is_equals, items_of, is_argument, item_has_key, argument_from}
 
 -- no byte of the list is `;`
 abbrev pub Lacks : List ℕ → Type 0
@@ -36,8 +36,8 @@ and_true false = refl
 pub all-one : (text : List ℕ) → Lacks text → list_all is_argument (items_of text) ≡ is_argument text
 all-one text h = ap (list_all is_argument) (items_of-one text h) ∙ and_true (is_argument text)
 
-pub argument-first : (key found text item rest : List ℕ) → text ≡ item ++ 59 ∷ rest → Lacks item → argument_from key found (items_of text) ≡ argument_from key (if has_key key item then after_first is_equals item else found) (items_of rest)
+pub argument-first : (key found text item rest : List ℕ) → text ≡ item ++ 59 ∷ rest → Lacks item → argument_from key found (items_of text) ≡ argument_from key (if item_has_key key item then after_first is_equals item else found) (items_of rest)
 argument-first key found text item rest e h = ap (λ t. argument_from key found (items_of t)) e ∙ ap (argument_from key found) (items_of-first item rest h)
 
-pub argument-one : (key found text : List ℕ) → Lacks text → argument_from key found (items_of text) ≡ (if has_key key text then after_first is_equals text else found)
+pub argument-one : (key found text : List ℕ) → Lacks text → argument_from key found (items_of text) ≡ (if item_has_key key text then after_first is_equals text else found)
 argument-one key found text h = ap (argument_from key found) (items_of-one text h)

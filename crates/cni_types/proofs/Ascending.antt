@@ -13,7 +13,7 @@ use Rattle.serde_json.specs.Find.{get, get_member}
 use Rattle.serde_json.specs.Read.{read, max_depth, of_json, of_items, of_members, number_of}
 use Rattle.ipam_json.specs.Canonical.{IsBeforeFirst}
 use Rattle.ipam_json.proofs.Constructors.{good-put}
-use Rattle.cni_types.specs.Reading.{Pair, text_of}
+use Rattle.cni_types.specs.Reading.{Pair, text_or_empty}
 use Rattle.cni_types.specs.Asked.{labels_after}
 use Rattle.cni_types.specs.Sound.{KeysAscend}
 
@@ -128,8 +128,8 @@ keys-labels_after : (labels : List Pair) (ms : Members) → map (λ (p : Pair). 
 unfolding keys
 keys-labels_after labels no_members = sym (append-nil (map (λ (p : Pair). p.0) labels))
 keys-labels_after labels (member k d ms) =
-    keys-labels_after (labels ++ (k, text_of d) ∷ []) ms
-    ∙ ap (λ ks. ks ++ keys ms) (map_push (λ (p : Pair). p.0) labels (k, text_of d))
+    keys-labels_after (labels ++ (k, text_or_empty d) ∷ []) ms
+    ∙ ap (λ ks. ks ++ keys ms) (map_push (λ (p : Pair). p.0) labels (k, text_or_empty d))
     ∙ append_assoc (map (λ (p : Pair). p.0) labels) (k ∷ []) (keys ms)
 
 pub labels-ascend : (ms : Members) → MembersAscend ms → KeysAscend (labels_after [] ms)

@@ -13,9 +13,9 @@ use Rattle.ipam_addr.specs.Names.{is_name_byte, is_name_within, is_name_text, is
 use Rattle.ipam_addr.specs.Shape.{AddrValue}
 use Rattle.cni_types.specs.declared.refusal.Member.TheVariants.{Attachment, AttachmentContainer}
 use Rattle.ipam_pool.specs.declared.table.TheConstants.{MOST_POOLS}
-use Rattle.cni_types.specs.Reading.{Pair, ◌>>◌, demand, text_of, text_at, is_object, is_name_at, are_few, are_few_members}
-use Rattle.cni_types.specs.Configuration.{is_label_byte, is_label_key, is_label_text, is_label_value, are_all_labels, are_label_members, are_labels, is_pool_text, are_all_pools, are_pool_items, are_pools, address_in, are_all_addresses, are_address_items, are_addresses, attachment_tested, attachments_tested_from, attachment_items_tested, attachments_tested}
-use Rattle.cni_types.specs.Asked.{handle_of, items_found, texts_after, labels_after, labels_found, with_address, addresses_after, live_after}
+use Rattle.cni_types.specs.Reading.{Pair, ◌>>◌, demand, text_or_empty, text_or_empty_at, is_object, is_name_at, are_few, are_few_members}
+use Rattle.cni_types.specs.Configuration.{is_key_byte, is_label_key, is_label_text, is_label_value, are_all_labels, are_label_members, are_labels, is_pool_text, are_all_pools, are_pool_items, are_pools, address_with_prefix_in, are_all_addresses, are_address_items, are_addresses, attachment_tested, attachments_tested_from, attachment_items_tested, attachments_tested}
+use Rattle.cni_types.specs.Asked.{container_handle, items_found, listed_texts_after, labels_after, labels_found, with_address, listed_addresses_after, live_after}
 use Rattle.cni_types.specs.Sound.{IsHandleId, IsLabel, IsPoolName, ArePoolNames}
 use Rattle.ipam_block.specs.declared.limits.TheConstants.{CHECKED_MAX}
 
@@ -56,12 +56,12 @@ longer few most (c ∷ text) more h k short =
 pub name_small : (text : List ℕ) → is_name_text text ≡ true → length text ≤ 253
 name_small text h = (name_parts 253 text h).1
 
-pub handle_of-sound : (network container : List ℕ) → is_name_text network ≡ true → is_name_text container ≡ true → IsHandleId (handle_of network container)
+pub handle_of-sound : (network container : List ℕ) → is_name_text network ≡ true → is_name_text container ≡ true → IsHandleId (container_handle network container)
 handle_of-sound network container h k =
     let n = name_parts 253 network h in
     let c = name_parts 253 container k in
     let dotted : is_name_within 507 (network ++ (46 ∷ container)) ≡ true = longer 253 507 network (46 ∷ container) h c.0 (omega arith) in
-    let grouped : handle_of network container ≡ network ++ (46 ∷ container) = append_assoc network (46 ∷ []) container in
+    let grouped : container_handle network container ≡ network ++ (46 ∷ container) = append_assoc network (46 ∷ []) container in
     ap is_handle_text grouped ∙ dotted
 
 -- ---- labels
@@ -70,9 +70,9 @@ small_value : (o : Option (List ℕ)) → is_label_text o ≡ true → length (u
 small_value None h = absurd cc
 small_value (Some text) h = leb-true _ _ h
 
-label-sound : (key : List ℕ) (d : Data) → is_label_key key ≡ true → is_label_value d ≡ true → IsLabel (key, text_of d)
+label-sound : (key : List ℕ) (d : Data) → is_label_key key ≡ true → is_label_value d ≡ true → IsLabel (key, text_or_empty d)
 label-sound key d h k =
-    let (front, bytes) = and_parts (nat_lt 0 (length key) && nat_le (length key) 317) (list_all is_label_byte key) h in
+    let (front, bytes) = and_parts (nat_lt 0 (length key) && nat_le (length key) 317) (list_all is_key_byte key) h in
     let (some, small) = and_parts (nat_lt 0 (length key)) (nat_le (length key) 317) front in
     record {
       key_some = ltb-true _ _ some;
@@ -86,13 +86,13 @@ labels_after-sound labels no_members h k = h
 labels_after-sound labels (member key d ms) h k =
     let (here, later) = and_parts (is_label_key key && is_label_value d) (are_all_labels ms) k in
     let (good_key, good_value) = and_parts (is_label_key key) (is_label_value d) here in
-    labels_after-sound (labels ++ (key, text_of d) ∷ []) ms (All-push IsLabel labels (key, text_of d) h (label-sound key d good_key good_value)) later
+    labels_after-sound (labels ++ (key, text_or_empty d) ∷ []) ms (All-push IsLabel labels (key, text_or_empty d) h (label-sound key d good_key good_value)) later
 
 length-labels_after : (labels : List Pair) (ms : Members) → length (labels_after labels ms) ≡ length labels + length (member_list ms)
 length-labels_after labels no_members = omega arith
 length-labels_after labels (member key d ms) =
-    let more = length-labels_after (labels ++ (key, text_of d) ∷ []) ms in
-    let push = length-append labels ((key, text_of d) ∷ []) in
+    let more = length-labels_after (labels ++ (key, text_or_empty d) ∷ []) ms in
+    let push = length-append labels ((key, text_or_empty d) ∷ []) in
     omega (arith, more, push)
 
 -- few labels, each sound, where the test says so
@@ -117,20 +117,20 @@ labels-sound (Some d) h = members-sound (as_object d) h
 
 -- ---- pools
 
-texts_after-sound : (texts : List (List ℕ)) (ds : Items) → All IsPoolName texts → are_all_pools ds ≡ true → All IsPoolName (texts_after texts ds)
+texts_after-sound : (texts : List (List ℕ)) (ds : Items) → All IsPoolName texts → are_all_pools ds ≡ true → All IsPoolName (listed_texts_after texts ds)
 texts_after-sound texts no_items h k = h
 texts_after-sound texts (item d ds) h k =
-    let (here, later) = and_parts (is_pool_text (text_of d)) (are_all_pools ds) k in
-    texts_after-sound (texts ++ text_of d ∷ []) ds (All-push IsPoolName texts (text_of d) h here) later
+    let (here, later) = and_parts (is_pool_text (text_or_empty d)) (are_all_pools ds) k in
+    texts_after-sound (texts ++ text_or_empty d ∷ []) ds (All-push IsPoolName texts (text_or_empty d) h here) later
 
-length-texts_after : (texts : List (List ℕ)) (ds : Items) → length (texts_after texts ds) ≡ length texts + length (item_list ds)
+length-texts_after : (texts : List (List ℕ)) (ds : Items) → length (listed_texts_after texts ds) ≡ length texts + length (item_list ds)
 length-texts_after texts no_items = omega arith
 length-texts_after texts (item d ds) =
-    let more = length-texts_after (texts ++ text_of d ∷ []) ds in
-    let push = length-append texts (text_of d ∷ []) in
+    let more = length-texts_after (texts ++ text_or_empty d ∷ []) ds in
+    let push = length-append texts (text_or_empty d ∷ []) in
     omega (arith, more, push)
 
-pool_items-sound : (o : Option Items) → are_pool_items o ≡ true → ArePoolNames (texts_after [] (unwrap_or o no_items))
+pool_items-sound : (o : Option Items) → are_pool_items o ≡ true → ArePoolNames (listed_texts_after [] (unwrap_or o no_items))
 pool_items-sound None h = absurd cc
 pool_items-sound (Some ds) h =
     let (few, each) = and_parts (are_few MOST_POOLS ds) (are_all_pools ds) h in
@@ -138,7 +138,7 @@ pool_items-sound (Some ds) h =
     let len = length-texts_after [] ds in
     record { few = omega (arith, len, short); each = texts_after-sound [] ds (All-nil IsPoolName) each }
 
-pub pools-sound : (o : Option Data) → are_pools o ≡ true → ArePoolNames (texts_after [] (items_found o))
+pub pools-sound : (o : Option Data) → are_pools o ≡ true → ArePoolNames (listed_texts_after [] (items_found o))
 pools-sound None h = record { few = omega arith; each = All-nil IsPoolName }
 pools-sound (Some d) h = pool_items-sound (as_array d) h
 
@@ -148,21 +148,21 @@ length-with_address : (addresses : List AddrValue) (o : Option AddrValue) → le
 length-with_address addresses None = omega arith
 length-with_address addresses (Some a) = omega (arith, length-append addresses (a ∷ []))
 
-length-addresses_after : (addresses : List AddrValue) (ds : Items) → length (addresses_after addresses ds) ≤ length addresses + length (item_list ds)
+length-addresses_after : (addresses : List AddrValue) (ds : Items) → length (listed_addresses_after addresses ds) ≤ length addresses + length (item_list ds)
 length-addresses_after addresses no_items = omega arith
 length-addresses_after addresses (item d ds) =
-    let more = length-addresses_after (with_address addresses (address_in d)) ds in
-    let one = length-with_address addresses (address_in d) in
+    let more = length-addresses_after (with_address addresses (address_with_prefix_in d)) ds in
+    let one = length-with_address addresses (address_with_prefix_in d) in
     omega (arith, more, one)
 
-address_items-few : (o : Option Items) → are_address_items o ≡ true → length (addresses_after [] (unwrap_or o no_items)) ≤ 64
+address_items-few : (o : Option Items) → are_address_items o ≡ true → length (listed_addresses_after [] (unwrap_or o no_items)) ≤ 64
 address_items-few None h = absurd cc
 address_items-few (Some ds) h =
     let short : length (item_list ds) ≤ 64 = leb-true _ _ (and_parts (are_few CHECKED_MAX ds) (are_all_addresses ds) h).0 in
     let len = length-addresses_after [] ds in
     omega (arith, len, short)
 
-pub addresses-few : (o : Option Data) → are_addresses o ≡ true → length (addresses_after [] (items_found o)) ≤ 64
+pub addresses-few : (o : Option Data) → are_addresses o ≡ true → length (listed_addresses_after [] (items_found o)) ≤ 64
 addresses-few None h = omega arith
 addresses-few (Some d) h = address_items-few (as_array d) h
 
@@ -178,13 +178,13 @@ live-sound_from : (network : List ℕ) (live : List (List ℕ)) (index : ℕ) (d
 live-sound_from network live index no_items n h k = h
 live-sound_from network live index (item d ds) n h k =
     let both = passed_both (attachment_tested index d) (attachments_tested_from (index + 1) ds) tt k in
-    let handle = handle_of network (text_at (codes "containerID") d) in
-    let good : IsHandleId handle = handle_of-sound network (text_at (codes "containerID") d) n (attachment-named index d both.0) in
+    let handle = container_handle network (text_or_empty_at (codes "containerID") d) in
+    let good : IsHandleId handle = handle_of-sound network (text_or_empty_at (codes "containerID") d) n (attachment-named index d both.0) in
     live-sound_from network (live ++ handle ∷ []) (index + 1) ds n (All-push IsHandleId live handle h good) both.1
 
 live_items-sound : (network : List ℕ) (o : Option Items) → is_name_text network ≡ true → attachment_items_tested o ≡ Ok tt → All IsHandleId (live_after network [] (unwrap_or o no_items))
 live_items-sound network None n h = absurd cc
 live_items-sound network (Some ds) n h = live-sound_from network [] 0 ds n (All-nil IsHandleId) h
 
-pub live-sound : (d : Data) → is_name_at (codes "name") d ≡ true → attachments_tested d ≡ Ok tt → All IsHandleId (live_after (text_at (codes "name") d) [] (items_found (get (codes "cni.dev/valid-attachments") d)))
-live-sound d n h = live_items-sound (text_at (codes "name") d) (option_and_then as_array (get (codes "cni.dev/valid-attachments") d)) n h
+pub live-sound : (d : Data) → is_name_at (codes "name") d ≡ true → attachments_tested d ≡ Ok tt → All IsHandleId (live_after (text_or_empty_at (codes "name") d) [] (items_found (get (codes "cni.dev/valid-attachments") d)))
+live-sound d n h = live_items-sound (text_or_empty_at (codes "name") d) (option_and_then as_array (get (codes "cni.dev/valid-attachments") d)) n h

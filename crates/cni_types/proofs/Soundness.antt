@@ -16,8 +16,8 @@ use Rattle.cni_types.specs.declared.refusal.Refusal.{Refusal}
 use Rattle.cni_types.specs.declared.refusal.Variable.{Variable}
 use Rattle.cni_types.specs.declared.refusal.Variable.TheVariants.{ContainerId, Netns, Ifname, Args}
 use Rattle.cni_types.specs.declared.version.Version as versions
-use Rattle.cni_types.specs.Reading.{Pair, ◌>>=◌, text_at, inside, is_object, is_object_at, is_name_at}
-use Rattle.cni_types.specs.Environment.{variable, argument, items_of, is_argument, is_address_asked, is_short, is_interface, is_namespace_there, are_arguments, container_tested, environment_tested}
+use Rattle.cni_types.specs.Reading.{Pair, ◌>>=◌, text_or_empty_at, inside, is_object, is_object_at, is_name_at}
+use Rattle.cni_types.specs.Environment.{variable, argument, items_of, is_argument, is_address_asked, is_short_value, is_interface, is_namespace_there, are_arguments, container_tested, environment_tested}
 use Rattle.cni_types.specs.Configuration.{are_labels, choice, wants_ipv4, wants_ipv6, are_pools, are_addresses, network_tested, families_tested, result_tested, attachments_tested, wishes_tested, check_tested, gc_tested, configuration_tested}
 use Rattle.cni_types.specs.Asked.{labels_found, labels_asked, handle_asked, argument_asked, secondary_asked, add_asked, status_asked, asked}
 use Rattle.cni_types.specs.Looking.{only_object, is_for_versions, input_text, object_in, decoded, compatible, in_configuration, in_environment, all_tested, tested, looked, or_error, look_from, command_in, look_reading}
@@ -96,8 +96,8 @@ container-told needed env h =
 arguments-short : (text : List ℕ) → are_arguments text ≡ true → (length (argument (codes "K8S_POD_NAMESPACE") text) ≤ 253) × (length (argument (codes "K8S_POD_NAME") text) ≤ 253)
 unfolding are_arguments
 arguments-short text h =
-    let a = and_parts (list_all is_argument (items_of text) && is_address_asked (argument (codes "IP") text) && is_short (argument (codes "K8S_POD_NAMESPACE") text)) (is_short (argument (codes "K8S_POD_NAME") text)) h in
-    let b = and_parts (list_all is_argument (items_of text) && is_address_asked (argument (codes "IP") text)) (is_short (argument (codes "K8S_POD_NAMESPACE") text)) a.0 in
+    let a = and_parts (list_all is_argument (items_of text) && is_address_asked (argument (codes "IP") text) && is_short_value (argument (codes "K8S_POD_NAMESPACE") text)) (is_short_value (argument (codes "K8S_POD_NAME") text)) h in
+    let b = and_parts (list_all is_argument (items_of text) && is_address_asked (argument (codes "IP") text)) (is_short_value (argument (codes "K8S_POD_NAMESPACE") text)) a.0 in
     (leb-true _ _ b.1, leb-true _ _ a.1)
 
 -- ---- the parts of what is asked
@@ -106,7 +106,7 @@ secondary-sound : (env : List Pair) (d : Data) → IsNetwork d → IsContainer e
 unfolding secondary_asked
 secondary-sound env d network container =
     let short = arguments-short (variable Args env) container.arguments in
-    recorded-sound (argument_asked (codes "K8S_POD_NAMESPACE") env) (text_at (codes "name") d) (text_at (codes "nodename") d) (argument_asked (codes "K8S_POD_NAME") env) short.0 (name_small (text_at (codes "name") d) network.name) (name_small (text_at (codes "nodename") d) network.node) short.1
+    recorded-sound (argument_asked (codes "K8S_POD_NAMESPACE") env) (text_or_empty_at (codes "name") d) (text_or_empty_at (codes "nodename") d) (argument_asked (codes "K8S_POD_NAME") env) short.0 (name_small (text_or_empty_at (codes "name") d) network.name) (name_small (text_or_empty_at (codes "nodename") d) network.node) short.1
 
 none_ascend : KeysAscend []
 unfolding IsStrictlySortedBy
@@ -131,7 +131,7 @@ labels_asked-sound d up network =
 
 handle-sound : (env : List Pair) (d : Data) → IsNetwork d → IsContainer env → IsHandleId (handle_asked env d)
 handle-sound env d network container =
-    handle_of-sound (text_at (codes "name") d) (variable ContainerId env) network.name container.id
+    handle_of-sound (text_or_empty_at (codes "name") d) (variable ContainerId env) network.name container.id
 
 add-sound : (version : versions.Version) (env : List Pair) (d : Data) → NamesAscend d → IsNetwork d → AreWishes d → IsContainer env → IsSoundAdd (add_asked version env d)
 unfolding add_asked

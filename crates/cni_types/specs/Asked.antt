@@ -15,35 +15,35 @@ use Rattle.cni_types.specs.declared.command.Command.{Command}
 use Rattle.cni_types.specs.declared.command.Command.TheVariants.{Add, Del, Check, Version, Gc, Status}
 use Rattle.cni_types.specs.declared.refusal.Variable.TheVariants.{ContainerId, Args}
 use Rattle.cni_types.specs.declared.version.Version as versions
-use Rattle.cni_types.specs.Reading.{Pair, text_of, text_at, inside}
+use Rattle.cni_types.specs.Reading.{Pair, text_or_empty, text_or_empty_at, inside}
 use Rattle.cni_types.specs.Environment.{variable, argument}
-use Rattle.cni_types.specs.Configuration.{wants_ipv4, wants_ipv6, address_in}
+use Rattle.cni_types.specs.Configuration.{wants_ipv4, wants_ipv6, address_with_prefix_in}
 
 -- the name of a network, a dot and the id of a container
-abbrev pub handle_of : (network container : List ℕ) → List ℕ
-handle_of network container = network ++ codes "." ++ container
+abbrev pub container_handle : (network container : List ℕ) → List ℕ
+container_handle network container = network ++ codes "." ++ container
 
 -- the handle of the call's own container
 abbrev pub handle_asked : List Pair → Data → List ℕ
-handle_asked env d = handle_of (text_at (codes "name") d) (variable ContainerId env)
+handle_asked env d = container_handle (text_or_empty_at (codes "name") d) (variable ContainerId env)
 
 -- the items that were found, or none
 abbrev pub items_found : Option Data → Items
 items_found o = unwrap_or (option_and_then as_array o) no_items
 
 -- the texts, and after them those that the items are
-abbrev pub texts_after : List (List ℕ) → Items → List (List ℕ)
-texts_after texts no_items = texts
-texts_after texts (item d ds) = texts_after (texts ++ text_of d ∷ []) ds
+abbrev pub listed_texts_after : List (List ℕ) → Items → List (List ℕ)
+listed_texts_after texts no_items = texts
+listed_texts_after texts (item d ds) = listed_texts_after (texts ++ text_or_empty d ∷ []) ds
 
 -- the pools of this name
 abbrev pub pools_asked : List ℕ → Data → List (List ℕ)
-pools_asked name d = texts_after [] (items_found (inside (codes "ipam") name d))
+pools_asked name d = listed_texts_after [] (items_found (inside (codes "ipam") name d))
 
 -- the labels, and after them those that the members are
 abbrev pub labels_after : List Pair → Members → List Pair
 labels_after labels no_members = labels
-labels_after labels (member key d ms) = labels_after (labels ++ (key, text_of d) ∷ []) ms
+labels_after labels (member key d ms) = labels_after (labels ++ (key, text_or_empty d) ∷ []) ms
 
 abbrev pub labels_found : Option Members → List Pair
 labels_found None = []
@@ -66,14 +66,14 @@ argument_asked key env = argument key (variable Args env)
 unfoldable pub secondary_asked : List Pair → Data → List Pair
 secondary_asked env d =
     unless_empty (codes "namespace") (argument_asked (codes "K8S_POD_NAMESPACE") env)
-    ++ (codes "network", text_at (codes "name") d) ∷ (codes "node", text_at (codes "nodename") d)
+    ++ (codes "network", text_or_empty_at (codes "name") d) ∷ (codes "node", text_or_empty_at (codes "nodename") d)
     ∷ unless_empty (codes "pod") (argument_asked (codes "K8S_POD_NAME") env)
 
 unfoldable pub add_asked : versions.Version → List Pair → Data → CniAdd
 add_asked version env d = record {
   version = version;
   handle = handle_asked env d;
-  node = text_at (codes "nodename") d;
+  node = text_or_empty_at (codes "nodename") d;
   secondary = secondary_asked env d;
   labels = labels_asked d;
   ipv4 = wants_ipv4 d;
@@ -91,35 +91,35 @@ with_address addresses None = addresses
 with_address addresses (Some a) = addresses ++ a ∷ []
 
 -- the addresses, and after them those that the items have
-abbrev pub addresses_after : List AddrValue → Items → List AddrValue
-addresses_after addresses no_items = addresses
-addresses_after addresses (item d ds) = addresses_after (with_address addresses (address_in d)) ds
+abbrev pub listed_addresses_after : List AddrValue → Items → List AddrValue
+listed_addresses_after addresses no_items = addresses
+listed_addresses_after addresses (item d ds) = listed_addresses_after (with_address addresses (address_with_prefix_in d)) ds
 
 abbrev pub check_asked : versions.Version → List Pair → Data → CniCheck
 check_asked version env d = record {
   version = version;
   handle = handle_asked env d;
-  addresses = addresses_after [] (items_found (inside (codes "prevResult") (codes "ips") d));
+  addresses = listed_addresses_after [] (items_found (inside (codes "prevResult") (codes "ips") d));
 }
 
 -- the handles, and after them those of the attachments
 abbrev pub live_after : List ℕ → List (List ℕ) → Items → List (List ℕ)
 live_after network live no_items = live
 live_after network live (item d ds) =
-    live_after network (live ++ handle_of network (text_at (codes "containerID") d) ∷ []) ds
+    live_after network (live ++ container_handle network (text_or_empty_at (codes "containerID") d) ∷ []) ds
 
 abbrev pub gc_asked : versions.Version → Data → CniGc
 gc_asked version d = record {
   version = version;
-  network = text_at (codes "name") d;
-  node = text_at (codes "nodename") d;
-  live = live_after (text_at (codes "name") d) [] (items_found (get (codes "cni.dev/valid-attachments") d));
+  network = text_or_empty_at (codes "name") d;
+  node = text_or_empty_at (codes "nodename") d;
+  live = live_after (text_or_empty_at (codes "name") d) [] (items_found (get (codes "cni.dev/valid-attachments") d));
 }
 
 abbrev pub status_asked : versions.Version → Data → CniStatus
 status_asked version d = record {
   version = version;
-  node = text_at (codes "nodename") d;
+  node = text_or_empty_at (codes "nodename") d;
   labels = labels_asked d;
   ipv4 = wants_ipv4 d;
   ipv6 = wants_ipv6 d;

@@ -1,6 +1,5 @@
 -- The configuration of a call: what is good, and in which order it is tested.
 use Rattle.std.specs.Prelude.{ℕ, ◌+◌, List, length, nat_lt, nat_le, ◌==◌, Bool, true, false, ◌&&◌, ◌||◌, codes, bytes_eq, Option, Some, None, option_and_then, unwrap_or, is_some, Result, Ok, Err, is_ok, if◌then◌else◌}
-use Rattle.std.specs.Char.{is_ascii_alphanumeric}
 use Rattle.std.specs.List.{list_all, before_first}
 use Rattle.serde_json.specs.Data.{Data, null, boolean, number, string, array, object, Items, no_items, item, Members, no_members, member}
 use Rattle.serde_json.specs.Find.{get, as_str, as_array, as_object}
@@ -15,18 +14,15 @@ use Rattle.cni_types.specs.declared.command.Command.{Command}
 use Rattle.cni_types.specs.declared.command.Command.TheVariants.{Add, Del, Check, Version, Gc, Status}
 use Rattle.cni_types.specs.declared.refusal.Member.{Member}
 use Rattle.cni_types.specs.declared.refusal.Member.TheVariants.{Name, NodeName, NodeLabels, Ipam, IpamType, AssignIpv4, AssignIpv6, Ipv4Pools, Ipv6Pools, PrevResult, PrevResultIps, Attachments, Attachment, AttachmentContainer, AttachmentInterface}
-use Rattle.cni_types.specs.Reading.{◌>>◌, demand, text_of, text_at, text_found, inside, is_object, is_object_at, is_text_at, is_name_at, are_few, are_few_members}
+use Rattle.cni_types.specs.Reading.{◌>>◌, demand, text_or_empty, text_or_empty_at, text_found, inside, is_object, is_object_at, is_text_at, is_name_at, are_few, are_few_members}
 use Rattle.ipam_block.specs.declared.limits.TheConstants.{CHECKED_MAX}
+pub use Rattle.ipam_select.specs.Words.{is_key_byte}
 
 -- ---- the labels of the node
 
--- a letter, a digit, `_`, `.`, `-` or `/`
-abbrev pub is_label_byte : ℕ → Bool
-is_label_byte c = is_ascii_alphanumeric c || c == 95 || c == 46 || c == 45 || c == 47
-
 -- 1 to 317 of these bytes
 abbrev pub is_label_key : List ℕ → Bool
-is_label_key key = nat_lt 0 (length key) && nat_le (length key) LABEL_KEY_BYTES_MAX && list_all is_label_byte key
+is_label_key key = nat_lt 0 (length key) && nat_le (length key) LABEL_KEY_BYTES_MAX && list_all is_key_byte key
 
 abbrev pub is_label_text : Option (List ℕ) → Bool
 is_label_text None = false
@@ -65,13 +61,13 @@ truth_of (string text) = truth_of_text text
 truth_of (array ds) = None
 truth_of (object ms) = None
 
-abbrev pub choice_of : Bool → Option Data → Option Bool
-choice_of default None = Some default
-choice_of default (Some d) = truth_of d
+abbrev pub truth_or_default : Bool → Option Data → Option Bool
+truth_or_default default None = Some default
+truth_or_default default (Some d) = truth_of d
 
 -- whether a family is wanted, where that is said rightly or not at all
 abbrev pub choice : List ℕ → Bool → Data → Option Bool
-choice name default d = choice_of default (inside (codes "ipam") name d)
+choice name default d = truth_or_default default (inside (codes "ipam") name d)
 
 abbrev pub wants_ipv4 : Data → Bool
 wants_ipv4 d = unwrap_or (choice (codes "assign_ipv4") true d) true
@@ -87,7 +83,7 @@ is_pool_text text = is_name_text text || is_ok (cidr_reading text)
 
 abbrev pub are_all_pools : Items → Bool
 are_all_pools no_items = true
-are_all_pools (item d ds) = is_pool_text (text_of d) && are_all_pools ds
+are_all_pools (item d ds) = is_pool_text (text_or_empty d) && are_all_pools ds
 
 -- at most 64 pools
 abbrev pub are_pool_items : Option Items → Bool
@@ -113,12 +109,12 @@ address_with_prefix text =
     if has_prefix (cidr_reading text) then address_of (before_first is_slash text) else None
 
 -- the address of an object
-abbrev pub address_in : Data → Option AddrValue
-address_in d = address_with_prefix (text_at (codes "address") d)
+abbrev pub address_with_prefix_in : Data → Option AddrValue
+address_with_prefix_in d = address_with_prefix (text_or_empty_at (codes "address") d)
 
 abbrev pub are_all_addresses : Items → Bool
 are_all_addresses no_items = true
-are_all_addresses (item d ds) = is_some (address_in d) && are_all_addresses ds
+are_all_addresses (item d ds) = is_some (address_with_prefix_in d) && are_all_addresses ds
 
 -- at most 64 addresses
 abbrev pub are_address_items : Option Items → Bool

@@ -57,14 +57,14 @@ abbrev pub is_argument : List ℕ → Bool
 is_argument item = is_empty item || has_equals item
 
 -- the item's first `=` ends this key
-abbrev pub has_key : List ℕ → List ℕ → Bool
-has_key key item = has_equals item && bytes_eq (before_first is_equals item) key
+abbrev pub item_has_key : List ℕ → List ℕ → Bool
+item_has_key key item = has_equals item && bytes_eq (before_first is_equals item) key
 
 -- the value of the last item with this key, or the one found before
 abbrev pub argument_from : List ℕ → List ℕ → List (List ℕ) → List ℕ
 argument_from key found [] = found
 argument_from key found (item ∷ items) =
-    argument_from key (if has_key key item then after_first is_equals item else found) items
+    argument_from key (if item_has_key key item then after_first is_equals item else found) items
 
 -- the value of a key: of its last item, and empty where it has none
 abbrev pub argument : List ℕ → List ℕ → List ℕ
@@ -74,14 +74,14 @@ argument key text = argument_from key [] (items_of text)
 abbrev pub is_address_asked : List ℕ → Bool
 is_address_asked text = is_empty text || is_some (address_of text)
 
-abbrev pub is_short : List ℕ → Bool
-is_short text = nat_le (length text) VALUE_BYTES_MAX
+abbrev pub is_short_value : List ℕ → Bool
+is_short_value text = nat_le (length text) VALUE_BYTES_MAX
 
 unfoldable pub are_arguments : List ℕ → Bool
 are_arguments text =
     list_all is_argument (items_of text) && is_address_asked (argument (codes "IP") text)
-    && is_short (argument (codes "K8S_POD_NAMESPACE") text)
-    && is_short (argument (codes "K8S_POD_NAME") text)
+    && is_short_value (argument (codes "K8S_POD_NAMESPACE") text)
+    && is_short_value (argument (codes "K8S_POD_NAME") text)
 
 -- ---- the tests in their order
 

@@ -21,7 +21,7 @@ use Rattle.cni_types.specs.declared.version.Version.TheVariants.{V1_0_0}
 use Rattle.cni_types.specs.Version.{version_of}
 use Rattle.cni_types.specs.Command.{command_of, is_in}
 use Rattle.cni_types.specs.Refusal.{member_text, variable_name}
-use Rattle.cni_types.specs.Reading.{Pair, ◌>>=◌, ◌>>◌, text_at, is_object}
+use Rattle.cni_types.specs.Reading.{Pair, ◌>>=◌, ◌>>◌, text_or_empty_at, is_object}
 use Rattle.cni_types.specs.Environment.{variable, is_empty, environment_tested}
 use Rattle.cni_types.specs.Configuration.{configuration_tested}
 use Rattle.cni_types.specs.Asked.{asked}
@@ -56,12 +56,12 @@ decoded command stdin =
 -- ---- the version
 
 -- the configuration's version, where it is supported
-abbrev pub version_in : Data → Option versions.Version
-version_in d = version_of (text_at (codes "cniVersion") d)
+abbrev pub known_version_in : Data → Option versions.Version
+known_version_in d = version_of (text_or_empty_at (codes "cniVersion") d)
 
 -- the version in which an answer is told
 abbrev pub told_version : Data → versions.Version
-told_version d = unwrap_or (version_in d) V1_0_0
+told_version d = unwrap_or (known_version_in d) V1_0_0
 
 abbrev pub version_with : Command → Option versions.Version → Result versions.Version Refusal
 version_with command None = Err refusal.Version
@@ -69,7 +69,7 @@ version_with command (Some version) = if is_in command version then Ok version e
 
 -- the configuration's version, where it is supported and has the command
 abbrev pub compatible : Command → Data → Result versions.Version Refusal
-compatible command d = version_with command (version_in d)
+compatible command d = version_with command (known_version_in d)
 
 -- ---- the tests in their order
 
@@ -104,7 +104,7 @@ unknown_at (Some version) = refusal.Environment variables.Command
 
 -- why a command that is not known is refused
 abbrev pub unknown : Data → Refusal
-unknown d = unknown_at (version_in d)
+unknown d = unknown_at (known_version_in d)
 
 -- what is asked, or why it is refused
 abbrev pub looked : Option Command → List Pair → Data → Result Look Refusal
@@ -122,7 +122,7 @@ code_of (refusal.Environment variable) = InvalidEnvironment
 
 -- the version as it was said, the member's path or the variable's name
 abbrev pub details_of : Data → Refusal → List ℕ
-details_of d refusal.Version = text_at (codes "cniVersion") d
+details_of d refusal.Version = text_or_empty_at (codes "cniVersion") d
 details_of d (refusal.Configuration member) = member_text member
 details_of d (refusal.Environment variable) = variable_name variable
 

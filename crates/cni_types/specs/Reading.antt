@@ -5,10 +5,7 @@ use Rattle.serde_json.specs.Find.{get, as_str, as_object}
 use Rattle.ipam_json.specs.Built.{item_list, member_list}
 use Rattle.ipam_addr.specs.Names.{is_name_text}
 use Rattle.ipam_select.specs.declared.limits.TheConstants.{LABELS_MAX}
-
--- a key and its value
-abbrev pub Pair : Type 0
-Pair = List ℕ × List ℕ
+pub use Rattle.ipam_block.specs.Pairs.{Pair}
 
 infixl 10 ◌>>=◌
 abbrev pub ◌>>=◌ : {A B E : Type 0} → Result A E → (A → Result B E) → Result B E
@@ -25,16 +22,16 @@ demand true e = Ok tt
 demand false e = Err e
 
 -- the text, or the empty one where it is no text
-abbrev pub text_of : Data → List ℕ
-text_of d = unwrap_or (as_str d) []
+abbrev pub text_or_empty : Data → List ℕ
+text_or_empty d = unwrap_or (as_str d) []
 
 -- the text that was found, or the empty one
 abbrev pub text_found : Option Data → List ℕ
 text_found o = unwrap_or (option_and_then as_str o) []
 
 -- the text of this name, or the empty one
-abbrev pub text_at : List ℕ → Data → List ℕ
-text_at name d = text_found (get name d)
+abbrev pub text_or_empty_at : List ℕ → Data → List ℕ
+text_or_empty_at name d = text_found (get name d)
 
 -- the member of a member
 abbrev pub inside : (outer name : List ℕ) → Data → Option Data
@@ -56,7 +53,7 @@ is_text_at name d = is_some (option_and_then as_str (get name d))
 
 -- a member of this name is a name of a network, a node or a container
 abbrev pub is_name_at : List ℕ → Data → Bool
-is_name_at name d = is_name_text (text_at name d)
+is_name_at name d = is_name_text (text_or_empty_at name d)
 
 -- at most this many items
 abbrev pub are_few : ℕ → Items → Bool

@@ -15,7 +15,7 @@ use Rattle.cni_types.specs.declared.calls.CniStatus.{CniStatus}
 use Rattle.cni_types.specs.declared.calls.Look.{Look}
 use Rattle.cni_types.specs.declared.calls.Look.TheVariants.{Version, Add, Del, Check, Gc, Status}
 use Rattle.cni_types.specs.Reading.{Pair}
-use Rattle.cni_types.specs.Configuration.{is_label_byte, is_pool_text}
+use Rattle.cni_types.specs.Configuration.{is_key_byte, is_pool_text}
 
 abbrev pub IsName : List ℕ → Type 0
 IsName text = IsTrue (is_name_text text)
@@ -30,7 +30,7 @@ KeysAscend pairs = IsStrictlySortedBy (slice_cmp nat_cmp) (map (λ pair. pair.0)
 pub record IsLabel (label : Pair) : Type 0 where
   pub key_some : 0 < length label.0
   pub key_small : length label.0 ≤ LABEL_KEY_BYTES_MAX
-  pub key_bytes : IsTrue (list_all is_label_byte label.0)
+  pub key_bytes : IsTrue (list_all is_key_byte label.0)
   pub value_small : length label.1 ≤ LABEL_VALUE_BYTES_MAX
 
 pub record AreLabels (labels : List Pair) : Type 0 where

@@ -14,8 +14,8 @@ use Rattle.cni_types.specs.Version.{version_text, says_family}
 use Rattle.cni_types.specs.Code.{code_number, message}
 
 -- the text of a value, ended by a line feed
-abbrev pub line_of : Data → List ℕ
-line_of d = compact_text d ++ 10 ∷ []
+abbrev pub json_line : Data → List ℕ
+json_line d = compact_text d ++ 10 ∷ []
 
 abbrev pub version_data : Version → Data
 version_data version = string (version_text version)
@@ -30,7 +30,7 @@ error_data error =
     ∷ (codes "msg", string (message error.code)) ∷ [])
 
 unfoldable pub error_text : CniError → List ℕ
-error_text error = line_of (error_data error)
+error_text error = json_line (error_data error)
 
 -- ---- results
 
@@ -62,7 +62,7 @@ result_data version addresses =
     ∷ (codes "ips", array_of (map (entry_data version) addresses)) ∷ [])
 
 unfoldable pub result_text : Version → List AddrValue → List ℕ
-result_text version addresses = line_of (result_data version addresses)
+result_text version addresses = json_line (result_data version addresses)
 
 -- ---- versions
 
@@ -75,4 +75,4 @@ versions_data version =
     ∷ (codes "supportedVersions", array_of (map version_data supported_versions)) ∷ [])
 
 unfoldable pub versions_text : Version → List ℕ
-versions_text version = line_of (versions_data version)
+versions_text version = json_line (versions_data version)

@@ -1,7 +1,7 @@
 //! The variable `CNI_ARGS`: items with `;` between them, each a key, `=` and a value.
 ghost use Rattle.std.specs.Prelude.{◌≡◌, if◌then◌else◌};
 ghost use Rattle.std.specs.List.{list_all, after_first};
-ghost use Rattle.cni_types.specs.Environment.{items_of, is_equals, is_argument, has_key, argument as value_of_key};
+ghost use Rattle.cni_types.specs.Environment.{items_of, is_equals, is_argument, item_has_key, argument as value_of_key};
 
 /// Whether each item is empty or has a `=`.
 pub(crate) fn are_items(text: &str) -> bool
@@ -38,7 +38,7 @@ pub(crate) fn argument<'a>(text: &'a str, key: &str) -> &'a str
 
 /// The item's value where it has this key, else what was found before.
 fn value_or<'a>(found: &'a str, item: &'a str, key: &str) -> &'a str
-    ensures { result.now ≡ (if has_key key.now item.now then after_first is_equals item.now
+    ensures { result.now ≡ (if item_has_key key.now item.now then after_first is_equals item.now
         else found.now) }
 {
     match item.split_once('=') {

@@ -3,7 +3,7 @@ ghost use Rattle.std.specs.Prelude.{◌≡◌, ◌++◌, [], IfOk, OnOk};
 ghost use Rattle.serde_json.specs.Find.{get};
 ghost use Rattle.serde_json.specs.View.{view, items_view, members_view};
 ghost use Rattle.cni_types.specs.Reading.{inside as found_inside};
-ghost use Rattle.cni_types.specs.Asked.{handle_of, handle_asked, items_found, texts_after, pools_asked, labels_after, labels_asked, unless_empty, argument_asked, secondary_asked, add_asked, del_asked, addresses_after, check_asked, live_after, gc_asked, status_asked, asked};
+ghost use Rattle.cni_types.specs.Asked.{container_handle, handle_asked, items_found, listed_texts_after, pools_asked, labels_after, labels_asked, unless_empty, argument_asked, secondary_asked, add_asked, del_asked, listed_addresses_after, check_asked, live_after, gc_asked, status_asked, asked};
 
 use crate::arguments::argument;
 use crate::calls::{CniAdd, CniCheck, CniDel, CniGc, CniStatus, Look};
@@ -133,7 +133,7 @@ fn status_asked(alloc: Global, version: Version, json: &Value) -> Result<CniStat
 
 /// The name of a network, a dot and the id of a container.
 fn handle_of(alloc: Global, network: &str, container: &str) -> Result<Text, AllocError>
-    ensures { IfOk result (λ handle. handle ≡ handle_of network.now container.now) }
+    ensures { IfOk result (λ handle. handle ≡ container_handle network.now container.now) }
 {
     let handle = format!(in alloc; "{network}.{container}")?;
     Ok(Text::of(handle))
@@ -179,7 +179,7 @@ fn pools_asked(alloc: Global, json: &Value, name: &str) -> Result<Seq<Text>, All
 }
 
 fn texts_of(alloc: Global, items: &[Value]) -> Result<Seq<Text>, AllocError>
-    ensures { IfOk result (λ texts. texts ≡ texts_after [] (items_view items.now)) }
+    ensures { IfOk result (λ texts. texts ≡ listed_texts_after [] (items_view items.now)) }
 {
     let mut texts = Vec::new(alloc);
     for item in items {
@@ -189,7 +189,7 @@ fn texts_of(alloc: Global, items: &[Value]) -> Result<Seq<Text>, AllocError>
 }
 
 fn addresses_of(alloc: Global, items: &[Value]) -> Result<Seq<Addr>, AllocError>
-    ensures { IfOk result (λ list. list ≡ addresses_after [] (items_view items.now)) }
+    ensures { IfOk result (λ list. list ≡ listed_addresses_after [] (items_view items.now)) }
 {
     let mut addresses = Vec::new(alloc);
     for item in items {

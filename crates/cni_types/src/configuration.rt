@@ -3,7 +3,7 @@ ghost use Rattle.std.specs.Prelude.{◌≡◌, codes};
 ghost use Rattle.cni_types.specs.Reading.{text_found, inside as found_inside};
 ghost use Rattle.serde_json.specs.View.{view, items_view};
 ghost use Rattle.ipam_addr.specs.Text.{cidr_reading};
-ghost use Rattle.cni_types.specs.Configuration.{truth_of_text, truth_of, choice, wants_ipv4, wants_ipv6, is_pool_text, are_all_pools, are_pools, has_prefix, address_with_prefix, address_in, are_all_addresses, are_addresses, network_tested, families_tested, result_tested, attachment_tested, attachments_tested_from, attachments_tested, wishes_tested, check_tested, gc_tested, configuration_tested};
+ghost use Rattle.cni_types.specs.Configuration.{truth_of_text, truth_of, choice, wants_ipv4, wants_ipv6, is_pool_text, are_all_pools, are_pools, has_prefix, address_with_prefix, address_with_prefix_in, are_all_addresses, are_addresses, network_tested, families_tested, result_tested, attachment_tested, attachments_tested_from, attachments_tested, wishes_tested, check_tested, gc_tested, configuration_tested};
 
 use crate::command::Command;
 use crate::labels::are_labels;
@@ -219,7 +219,7 @@ fn are_all_addresses(items: &[Value]) -> bool
 
 /// The address of an object, before the prefix of its text.
 pub(crate) fn address_in(value: &Value) -> Option<Addr>
-    ensures { result ≡ address_in (view value.now) }
+    ensures { result ≡ address_with_prefix_in (view value.now) }
 {
     address_with_prefix(text_at(value, "address"))
 }

@@ -1,7 +1,7 @@
 //! The environment of a call is tested.
 ghost use Rattle.std.specs.Prelude.{◌≡◌};
 ghost use Rattle.std.specs.List.{list_all};
-ghost use Rattle.cni_types.specs.Environment.{variable as value_of_variable, is_interface_byte, is_interface, is_address_asked, is_short, are_arguments, container_tested, environment_tested};
+ghost use Rattle.cni_types.specs.Environment.{variable as value_of_variable, is_interface_byte, is_interface, is_address_asked, is_short_value, are_arguments, container_tested, environment_tested};
 
 use crate::arguments::{are_items, argument};
 use crate::command::Command;
@@ -93,7 +93,7 @@ fn is_address_asked(text: &str) -> bool
 }
 
 fn is_short(text: &str) -> bool
-    ensures { result ≡ is_short text.now }
+    ensures { result ≡ is_short_value text.now }
 {
     text.len() <= VALUE_BYTES_MAX
 }

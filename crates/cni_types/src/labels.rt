@@ -3,7 +3,7 @@ ghost use Rattle.std.specs.Prelude.{◌≡◌, ◌&&◌, codes};
 ghost use Rattle.std.specs.List.{list_all};
 ghost use Rattle.serde_json.specs.Find.{get};
 ghost use Rattle.serde_json.specs.View.{view, members_view};
-ghost use Rattle.cni_types.specs.Configuration.{is_label_byte, is_label_key, is_label_value, are_all_labels, are_labels};
+ghost use Rattle.cni_types.specs.Configuration.{is_key_byte, is_label_key, is_label_value, are_all_labels, are_labels};
 ghost use Rattle.cni_types.specs.Reading.{are_few_members};
 
 use ipam_select::{LABEL_KEY_BYTES_MAX, LABEL_VALUE_BYTES_MAX, LABELS_MAX};
@@ -59,14 +59,14 @@ fn is_label_key(key: &[u8]) -> bool
 }
 
 fn are_label_bytes(bytes: &[u8]) -> bool
-    ensures { result ≡ list_all is_label_byte bytes.now }
+    ensures { result ≡ list_all is_key_byte bytes.now }
 {
     bytes.iter().all(|&byte| is_label_byte(byte))
 }
 
 /// Whether it is a letter, a digit, `_`, `.`, `-` or `/`.
 fn is_label_byte(byte: u8) -> bool
-    ensures { result ≡ is_label_byte byte }
+    ensures { result ≡ is_key_byte byte }
 {
     byte.is_ascii_alphanumeric() || byte == b'_' || byte == b'.' || byte == b'-' || byte == b'/'
 }

@@ -5,7 +5,7 @@ ghost use Rattle.cni_types.specs.declared.error.CniError.{CniError};
 ghost use Rattle.cni_types.specs.declared.error.LookFault.TheVariants.{Refused};
 ghost use Rattle.cni_types.specs.Configuration.{configuration_tested};
 ghost use Rattle.cni_types.specs.Environment.{environment_tested};
-ghost use Rattle.cni_types.specs.Looking.{only_object, is_for_versions, input_text, object_in, decoded, version_in, told_version, compatible, in_configuration, in_environment, all_tested, tested, unknown, code_of, details_of, error_of, undecodable, look_from, look_reading};
+ghost use Rattle.cni_types.specs.Looking.{only_object, is_for_versions, input_text, object_in, decoded, known_version_in, told_version, compatible, in_configuration, in_environment, all_tested, tested, unknown, code_of, details_of, error_of, undecodable, look_from, look_reading};
 ghost use Rattle.cni_types.specs.Sound.{IsSoundLook};
 
 use crate::asked::asked;
@@ -190,7 +190,7 @@ fn in_environment(command: Command, env: &[(Text, Text)]) -> Result<(), Refusal>
 
 /// The configuration's version, where it is supported.
 fn version_in(json: &Value) -> Option<Version>
-    ensures { result ≡ version_in (view json.now) }
+    ensures { result ≡ known_version_in (view json.now) }
 {
     Version::of(text_at(json, "cniVersion"))
 }

@@ -1,7 +1,7 @@
 //! What the members of a JSON object hold. None of this takes memory.
 ghost use Rattle.std.specs.Prelude.{◌≡◌, option_map};
 ghost use Rattle.serde_json.specs.View.{view, items_view};
-ghost use Rattle.cni_types.specs.Reading.{demand as demanded, text_of as text_in, text_at as text_of_name, inside as found_inside, is_object as is_an_object, is_object_at as has_object, is_text_at as has_text, is_name_at as has_name, are_few as are_at_most};
+ghost use Rattle.cni_types.specs.Reading.{demand as demanded, text_or_empty as text_in, text_or_empty_at as text_of_name, inside as found_inside, is_object as is_an_object, is_object_at as has_object, is_text_at as has_text, is_name_at as has_name, are_few as are_at_most};
 
 use crate::refusal::{Member, Variable};
 use ipam_addr::is_name;

@@ -3,7 +3,7 @@ ghost use Rattle.std.specs.Prelude.{◌≡◌, ◌++◌, false, map, IfOk, OnOk,
 ghost use Rattle.serde_json.specs.View.{view};
 ghost use Rattle.serde_json.specs.Written.{has_float};
 ghost use Rattle.ipam_json.specs.Built.{array_of};
-ghost use Rattle.cni_types.specs.Texts.{line_of, full_prefix, family_text, interface_text, error_data, error_text, entry_data, result_data, result_text, versions_data, versions_text};
+ghost use Rattle.cni_types.specs.Texts.{json_line, full_prefix, family_text, interface_text, error_data, error_text, entry_data, result_data, result_text, versions_data, versions_text};
 
 use crate::error::CniError;
 use crate::version::Version;
@@ -49,7 +49,7 @@ pub fn push_versions(alloc: Global, out: &mut String, version: Version) -> Resul
 /// The text of a value that has no float, ended by a line feed.
 fn line_of(alloc: Global, json: &Value) -> Result<String, AllocError>
     requires { has_float (view json.now) ≡ false }
-    ensures { IfOk result (λ s. string_bytes s ≡ line_of (view json.now)) }
+    ensures { IfOk result (λ s. string_bytes s ≡ json_line (view json.now)) }
 {
     let mut text = json.to_string(alloc)?;
     text.push('\n')?;

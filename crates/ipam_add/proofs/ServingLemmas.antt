@@ -39,7 +39,7 @@ use Rattle.ipam_add.specs.declared.grant.Spot.{Spot}
 use Rattle.ipam_add.specs.declared.serving.Serving.{Serving}
 use Rattle.ipam_add.specs.declared.serving.Step.{Step}
 use Rattle.ipam_add.specs.declared.serving.Step.TheVariants.{Scans, Claims, Assigns}
-use Rattle.ipam_add.specs.Serving.{Going, going, next_for, then_next, round_at, after_scan, after_write, scans_part, claims_part, assigns_part, serving_at, serving_rest, anew, scans_leaves, claims_leaves, assigns_leaves}
+use Rattle.ipam_add.specs.Serving.{Going, going, next_for, then_next, round_at, after_scan, after_assigned, scans_part, claims_part, assigns_part, serving_at, serving_rest, anew, scans_leaves, claims_leaves, assigns_leaves}
 
 -- ---- each step has a call to make
 
@@ -51,7 +51,7 @@ step_asks g left (Claims claim) =
     asks_on (bound (claim_rest claim) (after_claim left)) (onward (then_next g))
     (asks_on (claim_rest claim) (after_claim left) (claim_asks claim))
 step_asks g left (Assigns spot assigning) =
-    asks_on (assigning_rest g.request.attributes.handle assigning) (onward (after_write g spot.scan spot.place))
+    asks_on (assigning_rest g.request.attributes.handle assigning) (onward (after_assigned g spot.scan spot.place))
     (assigning_asks g.request.attributes.handle assigning)
 
 pub serving_asks : (request : AddRequest) (s : Serving) → IsSome (next_call (serving_rest request s))
@@ -77,7 +77,7 @@ asks_claim g left claim =
 pub asks_assign : (g : Going) (spot : Spot) (a : Assigning)
     → next_call (assigns_part g spot a) ≡ next_call (assigning_rest g.request.attributes.handle a)
 asks_assign g spot a =
-    asked_bound (assigning_rest g.request.attributes.handle a) (onward (after_write g spot.scan spot.place))
+    asked_bound (assigning_rest g.request.attributes.handle a) (onward (after_assigned g spot.scan spot.place))
     (assigning_asks g.request.attributes.handle a)
 
 pub hears_scan : (g : Going) (left : Left) (stage : ScanStage) (asked_by : Asked) (leaves : Word Chose) (moment : ℕ) (said : Said)
@@ -117,21 +117,21 @@ pub hears_assign : (g : Going) (left : Left) (spot : Spot) (a : Assigning) (turn
     → assigning_leaves g.request.attributes.handle a turned ≡ after_reply (assigning_rest g.request.attributes.handle a) moment said
     → assigns_leaves g left (Assigns spot a) turned ≡ after_reply (assigns_part g spot a) moment said
 hears_assign g left spot a turned moment said is =
-    ap (λ (w : PartAssigned). part_then w (after_write g spot.scan spot.place)) is
-    ∙ sym (heard_bound (assigning_rest g.request.attributes.handle a) (onward (after_write g spot.scan spot.place)) moment said
+    ap (λ (w : PartAssigned). part_then w (after_assigned g spot.scan spot.place)) is
+    ∙ sym (heard_bound (assigning_rest g.request.attributes.handle a) (onward (after_assigned g spot.scan spot.place)) moment said
     (assigning_asks g.request.attributes.handle a))
 
 pub may_hear_assign : (g : Going) (spot : Spot) (a : Assigning) (said : Said)
     → MayHear (assigns_part g spot a) said → MayHear (assigning_rest g.request.attributes.handle a) said
 may_hear_assign g spot a said may =
-    may_hear_bound (assigning_rest g.request.attributes.handle a) (onward (after_write g spot.scan spot.place)) said
+    may_hear_bound (assigning_rest g.request.attributes.handle a) (onward (after_assigned g spot.scan spot.place)) said
     (assigning_asks g.request.attributes.handle a) may
 
 pub assign_on : (g : Going) (left : Left) (spot : Spot) (a new : Assigning) (turned : AssigningTurned)
     → ((id : List ℕ) → assigning_rest id new ≡ assigning_leaves id a turned)
     → serving_at g left (Assigns spot new) ≡ assigns_leaves g left (Assigns spot a) turned
 assign_on g left spot a new turned is =
-    ap (λ (w : PartAssigned). part_then w (after_write g spot.scan spot.place)) (is g.request.attributes.handle)
+    ap (λ (w : PartAssigned). part_then w (after_assigned g spot.scan spot.place)) (is g.request.attributes.handle)
 
 -- ---- no other step has them
 
@@ -158,7 +158,7 @@ other_assign g left (Assigns spot a) turned none = absurd (none spot a refl)
 
 written_at : (g : Going) (scan : Scan) (place : PlaceValue) (target : Target) (left : Left) (done : Option Assigned)
     → place ≡ record { cidr = target.block.cidr; address = ordinal_address target.block.cidr target.ordinal }
-    → after_write g scan place left done ≡ model.after_assign (round_at g scan) target left done
+    → after_assigned g scan place left done ≡ model.after_assign (round_at g scan) target left done
 written_at g scan place target left (Some done) same = ap (λ (p : PlaceValue). went left (served.Gave (gift_at scan p done))) same
 written_at g scan place target left None same = refl
 
@@ -168,8 +168,8 @@ pub takes_at : (g : Going) (left : Left) (scan : Scan) (target : Target) (spot :
     → assigning_rest g.request.attributes.handle a ≡ assign g.request.attributes target left
     → assigns_part g spot a ≡ take_in (round_at g scan) left target
 takes_at g left scan target spot a same at is =
-    ap (λ (w : PartAssigned). part_then w (after_write g spot.scan spot.place)) is
-    ∙ ap (λ s. part_then (assign g.request.attributes target left) (after_write g s spot.place)) same
+    ap (λ (w : PartAssigned). part_then w (after_assigned g spot.scan spot.place)) is
+    ∙ ap (λ s. part_then (assign g.request.attributes target left) (after_assigned g s spot.place)) same
     ∙ (λ i. part_then (assign g.request.attributes target left) (λ now done. written_at g scan spot.place target now done at i))
 
 -- ---- the first round, and each that follows

@@ -59,9 +59,9 @@ abbrev pub after_scan : Going → Left → Chose → Part Served
 after_scan g left found = follow_pick (round_at g found.0) left found.1
 
 -- what follows the write of the block
-abbrev pub after_write : Going → Scan → PlaceValue → Left → Option Assigned → Part Served
-after_write g scan place left (Some done) = went left (served.Gave (gift_at scan place done))
-after_write g scan place left None = next_for g left
+abbrev pub after_assigned : Going → Scan → PlaceValue → Left → Option Assigned → Part Served
+after_assigned g scan place left (Some done) = went left (served.Gave (gift_at scan place done))
+after_assigned g scan place left None = next_for g left
 
 abbrev pub scans_part : Going → Left → ScanStage → Part Served
 scans_part g left stage = bound (scanning_at (asked_of g.request g.family) stage) (after_scan g left)
@@ -71,7 +71,7 @@ claims_part g left claim = part_then (bound (claim_rest claim) (after_claim left
 
 abbrev pub assigns_part : Going → Spot → Assigning → Part Served
 assigns_part g spot assigning =
-    part_then (assigning_rest g.request.attributes.handle assigning) (after_write g spot.scan spot.place)
+    part_then (assigning_rest g.request.attributes.handle assigning) (after_assigned g spot.scan spot.place)
 
 abbrev pub serving_at : Going → Left → Step → Part Served
 serving_at g left (Scans scanning) = scans_part g left scanning.stage
@@ -99,7 +99,7 @@ claims_leaves g left step turned = serving_at g left step
 -- and the assignment
 abbrev pub assigns_leaves : Going → Left → Step → AssigningTurned → Part Served
 assigns_leaves g left (Assigns spot assigning) turned =
-    part_then (assigning_leaves g.request.attributes.handle assigning turned) (after_write g spot.scan spot.place)
+    part_then (assigning_leaves g.request.attributes.handle assigning turned) (after_assigned g spot.scan spot.place)
 assigns_leaves g left step turned = serving_at g left step
 
 -- what is left once it goes there
@@ -115,7 +115,7 @@ serving_leaves request s turned = serving_goes request s turned.goes
 
 -- what follows what an assignment came to
 abbrev pub assign_ended : Going → Spot → Outcome (Option Assigned) → Part Served
-assign_ended g spot outcome = onward (after_write g spot.scan spot.place) outcome
+assign_ended g spot outcome = onward (after_assigned g spot.scan spot.place) outcome
 
 -- what the rounds came to, where they have
 abbrev pub outcome_in : Option (Outcome Obtained) → Option (Outcome Served)

@@ -9,7 +9,7 @@ ghost use Rattle.ipam_choice.specs.Viewed.{asked_of as viewed};
 ghost use Rattle.ipam_parts.specs.Reading.{lent_block};
 ghost use Rattle.ipam_model.specs.declared.request.AddRequest.{AddRequest as Asking};
 ghost use Rattle.ipam_model.specs.declared.part.Left.{Left as TheLeft};
-ghost use Rattle.ipam_model.specs.Add.{asked_of, name_at, serve, take_in, follow_rank};
+ghost use Rattle.ipam_model.specs.Add.{asked_of, name_in_place, serve, take_in, follow_rank};
 ghost use Rattle.ipam_model.specs.Assigning.{after_claim, claim_for, target_in};
 ghost use Rattle.ipam_model.specs.Step.{part_then};
 ghost use Rattle.ipam_assign.specs.Picked.{FitsPick, FitsRanked, IsTakeable, IsClaimable};
@@ -326,7 +326,7 @@ fn wanted_of(request: &AddRequest, family: Family) -> Wanted<'_>
 
 /// A copy of the name at the place.
 fn name_in(alloc: Global, names: &[Text], place: usize) -> Result<Text, AllocError>
-    ensures { IfOk result (λ name. name ≡ name_at names.now place) }
+    ensures { IfOk result (λ name. name ≡ name_in_place names.now place) }
 {
     match names.get(place) {
         Some(name) => name.clone(),

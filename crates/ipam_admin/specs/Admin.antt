@@ -18,20 +18,20 @@ use Rattle.ipam_admin.specs.declared.admin.AdminProc.{AdminProc}
 use Rattle.ipam_admin.specs.declared.admin.AdminTurned.{AdminTurned}
 
 -- what follows a lost race
-abbrev pub again : Admin → Left → Part AdminAnswer
-again request left = again_of (admin_once request) left
+abbrev pub admin_again : Admin → Left → Part AdminAnswer
+admin_again request left = again_of (admin_once request) left
 
 -- what follows the write
-abbrev pub written_at : Admin → Left → Said → Part AdminAnswer
-written_at request left reply = on_write reply left (λ revision. went left (Done revision)) (again request left)
+abbrev pub admin_written_at : Admin → Left → Said → Part AdminAnswer
+admin_written_at request left reply = on_write reply left (λ revision. went left (Done revision)) (admin_again request left)
 
-abbrev pub part_at : Admin → Left → Stage → Part AdminAnswer
-part_at request left Reads = admin_once request (again request left) left
-part_at request left (Writes w) =
-    Asks idle (put_at w.revision w.new) (λ moment reply. written_at request left reply)
+abbrev pub admin_part_at : Admin → Left → Stage → Part AdminAnswer
+admin_part_at request left Reads = admin_once request (admin_again request left) left
+admin_part_at request left (Writes w) =
+    Asks idle (put_at w.revision w.new) (λ moment reply. admin_written_at request left reply)
 
 abbrev pub admin_at : Admin → Left → Stage → Word AdminAnswer
-admin_at request left stage = as_word admin_stops (part_at request left stage)
+admin_at request left stage = as_word admin_stops (admin_part_at request left stage)
 
 abbrev pub admin_rest : AdminProc → Word AdminAnswer
 admin_rest p = admin_at p.request p.left p.stage

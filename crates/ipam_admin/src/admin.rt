@@ -5,7 +5,7 @@ ghost use Rattle.ipam_records.specs.Hearing.{MayHear};
 ghost use Rattle.ipam_model.specs.Admin.{admin_word, admin_stops, key_changed};
 ghost use Rattle.ipam_model.specs.Step.{as_word};
 ghost use Rattle.ipam_parts.specs.Raising.{put_at};
-ghost use Rattle.ipam_admin.specs.Admin.{again, written_at, admin_at, admin_rest, admin_goes, admin_leaves};
+ghost use Rattle.ipam_admin.specs.Admin.{admin_again, admin_written_at, admin_at, admin_rest, admin_goes, admin_leaves};
 ghost use Rattle.ipam_admin.specs.declared.admin.Stage.TheVariants.{Reads};
 
 use crate::change::{Change, copied};
@@ -96,7 +96,7 @@ impl AdminProc {
 
     /// Where a write leads that was answered so.
     fn written(&self, hearing: &Heard) -> Goes
-        ensures { admin_goes self.now result ≡ as_word admin_stops (written_at self.now.request self.now.left (said hearing.now.reply)) }
+        ensures { admin_goes self.now result ≡ as_word admin_stops (admin_written_at self.now.request self.now.left (said hearing.now.reply)) }
     {
         match WriteEnd::of(&hearing.reply) {
             WriteEnd::Took(revision) => Goes::Answers(AdminAnswer::Done(revision)),
@@ -109,7 +109,7 @@ impl AdminProc {
     /// Where a lost race leads.
     #[tactic(auto, using(ipam_parts::proofs::TryLaws::lost_goes))]
     fn lost(&self) -> Goes
-        ensures { admin_goes self.now result ≡ as_word admin_stops (again self.now.request self.now.left) }
+        ensures { admin_goes self.now result ≡ as_word admin_stops (admin_again self.now.request self.now.left) }
     {
         match after_lost(self.left) {
             Ok(left) => Goes::Again(left),

@@ -1,7 +1,11 @@
 -- The states of an affinity and their names.
-use Rattle.std.specs.Prelude.{ℕ, List, Option, Some, None, codes, bytes_eq, if◌then◌else◌}
+use Rattle.std.specs.Prelude.{ℕ, Bool, true, false, List, Option, Some, None, codes, bytes_eq, if◌then◌else◌}
 use Rattle.ipam_affinity.specs.declared.state.State.{State}
 use Rattle.ipam_affinity.specs.declared.state.State.TheVariants.{Pending, Confirmed, PendingDeletion}
+
+abbrev pub is_confirmed : State → Bool
+is_confirmed Confirmed = true
+is_confirmed _ = false
 
 -- a state's name
 abbrev pub state_text : State → List ℕ

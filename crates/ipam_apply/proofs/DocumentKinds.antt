@@ -7,7 +7,7 @@ use Rattle.ipam_resources.specs.declared.fault.TheConstants.{DOCUMENT_MAX}
 use Rattle.ipam_resources.specs.declared.kind.ResourceKind.{ResourceKind}
 use Rattle.ipam_resources.specs.declared.kind.ResourceKind.TheVariants as kind
 use Rattle.ipam_resources.specs.declared.resource.Resource.{Resource}
-use Rattle.ipam_resources.specs.Resources.{pool_reading, reservation_reading, config_reading, config_name, pool_resource, reservation_resource, config_resource, pool_in, reservation_in, config_in, resource_in}
+use Rattle.ipam_resources.specs.Resources.{pool_reading, reservation_reading, settings_reading, config_name, pool_resource, reservation_resource, config_resource, pool_resource_in, reservation_resource_in, config_resource_in, resource_in}
 use Rattle.ipam_resources.specs.Documents.{json_of, object_reading, document_reading}
 use Rattle.ipam_resources.proofs.DocumentParts.{bind_ok, same_Ok, document_each}
 use Rattle.ipam_apply.specs.Ready.{IsOfDocument}
@@ -17,18 +17,18 @@ IsKind one = IsOfDocument one.change
 
 -- ---- a resource
 
-pool_in-kind : (d : Data) (r : Resource) → pool_in d ≡ Ok r → IsKind r
-unfolding pool_in
+pool_in-kind : (d : Data) (r : Resource) → pool_resource_in d ≡ Ok r → IsKind r
+unfolding pool_resource_in
 pool_in-kind d r e = bind_ok _ (pool_reading d) r e (λ pool is e1. subst IsKind (same_Ok (pool_resource pool) r e1) tt)
 
-reservation_in-kind : (d : Data) (r : Resource) → reservation_in d ≡ Ok r → IsKind r
-unfolding reservation_in
+reservation_in-kind : (d : Data) (r : Resource) → reservation_resource_in d ≡ Ok r → IsKind r
+unfolding reservation_resource_in
 reservation_in-kind d r e = bind_ok _ (reservation_reading d) r e (λ one is e1. subst IsKind (same_Ok (reservation_resource one) r e1) tt)
 
-config_in-kind : (k : ResourceKind) (d : Data) (r : Resource) → config_in k d ≡ Ok r → IsKind r
-unfolding config_in
+config_in-kind : (k : ResourceKind) (d : Data) (r : Resource) → config_resource_in k d ≡ Ok r → IsKind r
+unfolding config_resource_in
 config_in-kind k d r e =
-    bind_ok _ (config_reading d) r e (λ settings is e1.
+    bind_ok _ (settings_reading d) r e (λ settings is e1.
     bind_ok _ (config_name d) r e1 (λ name is_name e2. subst IsKind (same_Ok (config_resource k settings name) r e2) tt))
 
 resource_in-kind : (k : ResourceKind) (d : Data) (r : Resource) → resource_in k d ≡ Ok r → IsKind r

@@ -1,5 +1,5 @@
 -- How a document and its resources end.
-use Rattle.std.proofs.Common.{◌≡◌, ◌≢◌, ℕ, List, Option, Err, length, refl, sym, ◌∙◌, subst, ltb-false}
+use Rattle.std.proofs.Common.{◌≡◌, ◌≢◌, ◌⊎◌, inl, inr, ℕ, List, Option, Err, length, refl, sym, ◌∙◌, subst, ltb-false, None}
 use Rattle.std.specs.Io.KnownBytes.{IsAtEnd}
 use Rattle.ipam_kept.specs.declared.kept.Kept.{Kept}
 use Rattle.ipam_kept.specs.declared.kept.KeptFault.{KeptFault}
@@ -19,22 +19,23 @@ use Rattle.ipam_commands.specs.Telling.{Cut, IsNotLoaded, Untold as NoText, Whol
 use Rattle.ipam_apply.specs.Applied.{Bad, DocumentEnds, Good, NoRoom, Opened, ResourcesEnd}
 use Rattle.ipam_apply.specs.Applying.{RunEnds}
 use Rattle.ipam_apply.specs.Inputs.{IsDocument}
-use Rattle.ipam_apply.specs.Outside.{Outside, Says}
+use Rattle.ipam_keeper.specs.Outside.{Outside}
+use Rattle.ipam_apply.specs.Outside.{EndsSaying}
 use Rattle.ipam_apply.specs.Telling.{TellsFault}
 use Rattle.ipam_apply.proofs.DocumentKinds.{document_kinds}
 
 -- ---- over a keeper's rows
 
 same-outside : (written : Option (List ℕ)) (write_faults : ℕ) (one other : Option (List RowText)) (before after : ℕ) → one ≡ other → before ≡ after
-    → ◌≡◌ {A = Outside} (record { written = written; write_faults = write_faults; rows = one; keeper_faults = before })
-    (record { written = written; write_faults = write_faults; rows = other; keeper_faults = after })
+    → ◌≡◌ {A = Outside} (record { left = None; read_faults = 0; written = written; write_faults = write_faults; rows = one; keeper_faults = before })
+    (record { left = None; read_faults = 0; written = written; write_faults = write_faults; rows = other; keeper_faults = after })
 same-outside written write_faults one other before after rows faults =
-    λ i. record { written = written; write_faults = write_faults; rows = rows i; keeper_faults = faults i }
+    λ i. record { left = None; read_faults = 0; written = written; write_faults = write_faults; rows = rows i; keeper_faults = faults i }
 
 -- what was opened runs over the rows that were loaded
 pub opened-ends : {D : Type 0} (tells : Tells D) (faults name : D → ℕ) (keeper : D) (kept : Kept D) (resources : List Resource) (written : Option (List ℕ)) (write_faults : ℕ) (new : Outside) (end : Status) → IsOpened tells faults name keeper 0 kept
-    → RunEnds kept.cluster.store.store resources (record { written = written; write_faults = write_faults; rows = tells kept.keeper; keeper_faults = faults kept.keeper }) new end
-    → ResourcesEnd resources (record { written = written; write_faults = write_faults; rows = tells keeper; keeper_faults = faults keeper }) new end
+    → RunEnds kept.cluster.store.store resources (record { left = None; read_faults = 0; written = written; write_faults = write_faults; rows = tells kept.keeper; keeper_faults = faults kept.keeper }) new end
+    → ResourcesEnd resources (record { left = None; read_faults = 0; written = written; write_faults = write_faults; rows = tells keeper; keeper_faults = faults keeper }) new end
 opened-ends tells faults name keeper kept resources written write_faults new end o ran =
     Opened o.loaded kept.cluster.store.store (record { loaded = o.told; opens = o.opens })
     (subst (λ (out : Outside). RunEnds kept.cluster.store.store resources out new end)
@@ -68,7 +69,7 @@ told-fault document_fault.Memory writes end other said = absurd (other refl)
 -- a document that is not read
 pub fault-ends : (same : Type 0) (document : List ℕ) (old new : Outside) (end : Status) (why : DocumentFault) → same → (why ≢ document_fault.Memory → document_reading document ≡ Err why)
     → (why ≡ document_fault.Memory → IsReadable document)
-    → TellsFault why (λ text own end. Says old new text own end) end → (HasFixedLine why → end ≢ status.NoMemory)
+    → TellsFault why (λ text own end. EndsSaying old new text own end) end → (HasFixedLine why → end ≢ status.NoMemory)
     → (why ≡ document_fault.Memory → new.written ≡ old.written) → (why ≡ document_fault.Memory → new.write_faults ≡ old.write_faults)
     → DocumentEnds same document old new end
 fault-ends same document old new end document_fault.Long kept is readable said fixed none no_fault = Bad document_fault.Long (is (λ e. absurd (cc e))) kept said fixed
@@ -85,3 +86,10 @@ done-whole same document old new end left left' (Bad why is kept said fixed) inp
     absurd (not-done _ _ _ _ _ _ _ said refused-not-done done)
 done-whole same document old new end left left' (NoRoom readable kept none) input done =
     let no = sym none.no_memory ∙ done in absurd (cc no)
+
+-- ---- want of memory
+
+-- a document that was not read: reading it found none, or its line did
+pub bad_wants : (unread reading rest : Type 0) → (unread → reading) → unread ⊎ reading → reading ⊎ rest
+bad_wants unread reading rest why (inl is) = inl (why is)
+bad_wants unread reading rest why (inr none) = inl none

@@ -4,4 +4,5 @@ pub mod Readiness
 pub mod Steps
 pub mod Runs
 pub mod Endings
+pub mod AnySource
 pub mod FixedLines

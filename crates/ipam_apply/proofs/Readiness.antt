@@ -5,7 +5,7 @@ use Rattle.ipam_model.specs.Consistent.{IsConsistent}
 use Rattle.ipam_model.specs.History.{Base, Lawful, cluster_at}
 use Rattle.ipam_laws.proofs.SlotsHistory.{consistent_law}
 use Rattle.ipam_running.specs.declared.running.Running.{Running}
-use Rattle.ipam_cluster.specs.Cluster.{IsSlot, StandsFor, slot_of}
+use Rattle.ipam_cluster.specs.Cluster.{IsSlot, StandsFor, slot_of_cluster}
 use Rattle.ipam_kept.specs.declared.kept.Kept.{Kept}
 use Rattle.ipam_kept.specs.declared.write.RowWrite.{RowWrite}
 use Rattle.ipam_kept.specs.Doubt.{IsDoubt}
@@ -27,7 +27,7 @@ still-consistent tells kept base history is =
 stands-anew : {D : Type 0} (kept : Kept D) → IsConsistent kept.cluster.store.store → NothingRuns kept → StandsFor kept.cluster (base_of kept) []
 unfolding Lawful cluster_at
 stands-anew kept consistent nothing = record {
-  is_cluster = record { store = refl; entries = refl; slots = λ slot. idle-slot (slot_of kept.cluster slot) (nothing slot) };
+  is_cluster = record { store = refl; entries = refl; slots = λ slot. idle-slot (slot_of_cluster kept.cluster slot) (nothing slot) };
   stands = record { consistent = consistent; lawful = tt; is_cluster = refl };
 }
 

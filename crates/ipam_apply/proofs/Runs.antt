@@ -14,7 +14,8 @@ use Rattle.ipam_commands.specs.declared.status.Status.TheVariants as status
 use Rattle.ipam_commands.specs.Courses.{AreRowsOf}
 use Rattle.ipam_commands.specs.Telling.{Writes}
 use Rattle.ipam_apply.specs.Applying.{All, AreApplied, EndsAt, IsAppliedOn, KeeperFailed, Refused, RunEnds, Stopped, UpTo, Untold, alone_on, applied_lines}
-use Rattle.ipam_apply.specs.Outside.{Outside, Took, with_text}
+use Rattle.ipam_keeper.specs.Outside.{Outside}
+use Rattle.ipam_apply.specs.Outside.{Took, with_told}
 
 -- one more is applied
 pub applied-one : (store : Datastore) (front : List Resource) (before : Datastore) (one : Resource) → AreApplied store front before → IsAppliedOn before one
@@ -86,4 +87,4 @@ pub one-end : (store : Datastore) (resources front : List Resource) (one : Resou
     → RunEnds store resources old new end
 one-end store resources front one rest before old now new end same applied took ends =
     UpTo front one rest before same applied
-    (ends-from before one now (with_text old (applied_lines front)) new end took.written took.no_write_fault took.no_keeper_fault ends)
+    (ends-from before one now (with_told old (applied_lines front)) new end took.written took.no_write_fault took.no_keeper_fault ends)

@@ -13,7 +13,8 @@ use Rattle.ipam_commands.specs.declared.status.Status.TheVariants as status
 use Rattle.ipam_commands.specs.Telling.{AreOpened, FaultWrites, IsNotLoaded}
 use Rattle.ipam_apply.specs.Applying.{RunEnds}
 use Rattle.ipam_apply.specs.Inputs.{IsDocument}
-use Rattle.ipam_apply.specs.Outside.{IsUntold, Outside, Says}
+use Rattle.ipam_keeper.specs.Outside.{Outside}
+use Rattle.ipam_apply.specs.Outside.{IsUntold, EndsSaying}
 
 abbrev pub read_line : List ℕ
 read_line = codes "read fault\n"
@@ -24,7 +25,7 @@ pub data ResourcesEnd (resources : List Resource) (old new : Outside) (end : Sta
   Opened : (rows : List RowText) (store : Datastore) → AreOpened old.rows rows store
       → RunEnds store resources old new end → ResourcesEnd resources old new end
   NotOpened : (fault : KeptFault) → IsNotLoaded old.rows old.keeper_faults new.keeper_faults fault → new.rows ≡ old.rows
-      → FaultWrites (λ text own. Says old new text own end) fault → ResourcesEnd resources old new end
+      → FaultWrites (λ text own. EndsSaying old new text own end) fault → ResourcesEnd resources old new end
 
 -- How a document ends. All of it is read first: a bad one is refused by its first fault, and nothing is
 -- asked of the keeper. One that is too long or no text is refused whether or not there is memory, and a line
@@ -33,21 +34,15 @@ pub data DocumentEnds (same : Type 0) (document : List ℕ) (old new : Outside) 
   Good : (resources : List Resource) → document_reading document ≡ Ok resources
       → ResourcesEnd resources old new end → DocumentEnds same document old new end
   Bad : (fault : DocumentFault) → document_reading document ≡ Err fault → same
-      → Says old new (fault_line fault) status.Refused end → (HasFixedLine fault → end ≢ status.NoMemory)
+      → EndsSaying old new (fault_line fault) status.Refused end → (HasFixedLine fault → end ≢ status.NoMemory)
       → DocumentEnds same document old new end
   NoRoom : IsReadable document → same → IsUntold old new end → DocumentEnds same document old new end
 
--- What there is of a source.
-pub record Input : Type 0 where
-  -- the bytes that it has left
-  pub left : Option (List ℕ)
-  pub faults : ℕ
-
 -- How `apply` ends: with what the source's document comes to; or the source failed, or there was no
 -- memory for the document, and nothing is asked of the keeper.
-pub data ApplyEnds (same : Type 0) (input input' : Input) (old new : Outside) (end : Status) : Type 0 where
-  Read : (document : List ℕ) → IsDocument input.left input'.left document → input'.faults ≡ input.faults
-      → DocumentEnds same document old new end → ApplyEnds same input input' old new end
-  ReadFailed : Rose input.faults input'.faults → same → Says old new read_line status.ReadFault end
-      → ApplyEnds same input input' old new end
-  NoInput : input'.faults ≡ input.faults → same → IsUntold old new end → ApplyEnds same input input' old new end
+pub data ApplyEnds (same : Type 0) (old new : Outside) (end : Status) : Type 0 where
+  Read : (document : List ℕ) → IsDocument old.left new.left document → new.read_faults ≡ old.read_faults
+      → DocumentEnds same document old new end → ApplyEnds same old new end
+  ReadFailed : Rose old.read_faults new.read_faults → same → EndsSaying old new read_line status.ReadFault end
+      → ApplyEnds same old new end
+  NoInput : new.read_faults ≡ old.read_faults → same → IsUntold old new end → ApplyEnds same old new end

@@ -10,7 +10,7 @@ use Rattle.ipam_model.specs.Alone.{alone_over}
 use Rattle.ipam_kept.specs.Kept.{opened}
 use Rattle.ipam_resources.specs.declared.refusal.Refusal.{Refusal}
 use Rattle.ipam_resources.specs.declared.resource.Resource.{Resource}
-use Rattle.ipam_resources.specs.Printed.{applied_line, refusal_of, refused_line}
+use Rattle.ipam_resources.specs.Printed.{applied_line, answer_refusal, refused_line}
 use Rattle.ipam_commands.specs.declared.status.Status.{Status}
 use Rattle.ipam_commands.specs.declared.status.Status.TheVariants as status
 use Rattle.ipam_solo.specs.Courses.{IsAnswerCourse, IsFaultCourse}
@@ -18,17 +18,18 @@ use Rattle.ipam_commands.specs.Courses.{IsStopCourse}
 use Rattle.ipam_commands.specs.Telling.{keeper_line}
 use Rattle.ipam_apply.specs.declared.step.Step.{Step}
 use Rattle.ipam_apply.specs.declared.step.Step.TheVariants.{Applied, Ended}
-use Rattle.ipam_apply.specs.Outside.{IsLeft, IsUntold, Outside, Says, Took, with_text}
+use Rattle.ipam_keeper.specs.Outside.{Outside}
+use Rattle.ipam_apply.specs.Outside.{IsLeft, IsUntold, EndsSaying, Took, with_told}
 
 -- ---- resources that are applied
 
 -- what a resource asks
-abbrev pub asked : Resource → Request
-asked one = Admin one.change
+abbrev pub change_asked : Resource → Request
+change_asked one = Admin one.change
 
 -- what the resource's request by itself is answered on a datastore, and the datastore that it leaves
 abbrev pub alone_on : Datastore → Resource → Answer × Datastore
-alone_on store one = alone_over (opened store) (asked one)
+alone_on store one = alone_over (opened store) (change_asked one)
 
 abbrev pub IsApplied : Answer → Type 0
 IsApplied (answer.Done revision) = Unit {0}
@@ -37,7 +38,7 @@ IsApplied _ = ⊥
 -- a lawful history in which the resource's request, by itself on the datastore, comes to that
 abbrev pub HasCourse : Datastore → Resource → Type 0
 HasCourse store one =
-    (first : ℕ) × IsAnswerCourse (record { store = store; first = first }) (asked one) (alone_on store one).0 (alone_on store one).1
+    (first : ℕ) × IsAnswerCourse (record { store = store; first = first }) (change_asked one) (alone_on store one).0 (alone_on store one).1
 
 -- the resource's request by itself is applied on the datastore
 abbrev pub IsAppliedOn : Datastore → Resource → Type 0
@@ -59,13 +60,13 @@ applied_lines (one ∷ more) = applied_line one ++ applied_lines more
 -- applied, and the sink failed or there was no memory for its line; or the keeper failed; or there was
 -- no memory for its request.
 pub data EndsAt (store : Datastore) (one : Resource) (old new : Outside) (end : Status) : Type 0 where
-  Refused : (why : Refusal) → refusal_of (alone_on store one).0 ≡ Some why → HasCourse store one → IsLeft (alone_on store one).1 old new
-      → Says old new (refused_line one why) status.Refused end → EndsAt store one old new end
+  Refused : (why : Refusal) → answer_refusal (alone_on store one).0 ≡ Some why → HasCourse store one → IsLeft (alone_on store one).1 old new
+      → EndsSaying old new (refused_line one why) status.Refused end → EndsAt store one old new end
   Untold : IsAppliedOn store one → IsLeft (alone_on store one).1 old new
-      → Says old new (applied_line one) status.Done end → end ≢ status.Done → EndsAt store one old new end
-  KeeperFailed : (first : ℕ) → IsFaultCourse (record { store = store; first = first }) (asked one) new.rows
-      → Rose old.keeper_faults new.keeper_faults → Says old new keeper_line status.KeeperFault end → EndsAt store one old new end
-  Stopped : (first : ℕ) → IsStopCourse (record { store = store; first = first }) (asked one) new.rows
+      → EndsSaying old new (applied_line one) status.Done end → end ≢ status.Done → EndsAt store one old new end
+  KeeperFailed : (first : ℕ) → IsFaultCourse (record { store = store; first = first }) (change_asked one) new.rows
+      → Rose old.keeper_faults new.keeper_faults → EndsSaying old new keeper_line status.KeeperFault end → EndsAt store one old new end
+  Stopped : (first : ℕ) → IsStopCourse (record { store = store; first = first }) (change_asked one) new.rows
       → IsUntold old new end → new.keeper_faults ≡ old.keeper_faults → EndsAt store one old new end
 
 -- what comes of one resource
@@ -83,4 +84,4 @@ pub data RunEnds (store : Datastore) (resources : List Resource) (old new : Outs
       → Took old new (applied_lines resources) → end ≡ status.Done → RunEnds store resources old new end
   UpTo : (front : List Resource) (one : Resource) (rest : List Resource) (before : Datastore)
       → resources ≡ front ++ one ∷ rest → AreApplied store front before
-      → EndsAt before one (with_text old (applied_lines front)) new end → RunEnds store resources old new end
+      → EndsAt before one (with_told old (applied_lines front)) new end → RunEnds store resources old new end

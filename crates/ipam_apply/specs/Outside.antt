@@ -1,32 +1,16 @@
--- What there is outside of a program that applies resources.
+-- What becomes of the sink and of the keeper where resources are applied.
 use Rattle.std.specs.Prelude.{◌≡◌, ℕ, List, Option}
 use Rattle.std.specs.Io.KnownBytes.{append_known}
-use Rattle.ipam_records.specs.declared.call.Row.{Row as RowText}
+use Rattle.ipam_keeper.specs.Outside.{Outside}
 use Rattle.ipam_records.specs.Datastore.{Datastore}
 use Rattle.ipam_commands.specs.declared.status.Status.{Status}
 use Rattle.ipam_commands.specs.declared.status.Status.TheVariants as status
 use Rattle.ipam_commands.specs.Courses.{AreRowsOf}
 use Rattle.ipam_commands.specs.Telling.{Writes}
 
-pub record Outside : Type 0 where
-  -- the bytes that the sink took
-  pub written : Option (List ℕ)
-  pub write_faults : ℕ
-  -- the rows that the keeper has
-  pub rows : Option (List RowText)
-  pub keeper_faults : ℕ
-
-abbrev pub outside_of : (written : Option (List ℕ)) (write_faults : ℕ) (rows : Option (List RowText)) (keeper_faults : ℕ) → Outside
-outside_of written write_faults rows keeper_faults = record {
-  written = written;
-  write_faults = write_faults;
-  rows = rows;
-  keeper_faults = keeper_faults;
-}
-
 -- the sink took this too
-abbrev pub with_text : Outside → List ℕ → Outside
-with_text out text = record out { written = append_known out.written text }
+abbrev pub with_told : Outside → List ℕ → Outside
+with_told out text = record out { written = append_known out.written text }
 
 -- the sink took all of the text, and neither it nor the keeper failed
 pub record Took (old new : Outside) (text : List ℕ) : Type 0 where
@@ -35,8 +19,8 @@ pub record Took (old new : Outside) (text : List ℕ) : Type 0 where
   pub no_keeper_fault : new.keeper_faults ≡ old.keeper_faults
 
 -- what the sink took of the text that a run ends with, and the status
-abbrev pub Says : (old new : Outside) (text : List ℕ) (own : Status) → Status → Type 0
-Says old new text own = Writes old.written new.written old.write_faults new.write_faults text own
+abbrev pub EndsSaying : (old new : Outside) (text : List ℕ) (own : Status) → Status → Type 0
+EndsSaying old new text own = Writes old.written new.written old.write_faults new.write_faults text own
 
 -- nothing is written, since there was no memory
 pub record IsUntold (old new : Outside) (end : Status) : Type 0 where

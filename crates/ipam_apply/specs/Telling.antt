@@ -6,7 +6,7 @@ use Rattle.ipam_resources.specs.declared.fault.DocumentFault.{DocumentFault}
 use Rattle.ipam_resources.specs.declared.fault.DocumentFault.TheVariants as document_fault
 use Rattle.ipam_resources.specs.declared.refusal.Refusal.{Refusal}
 use Rattle.ipam_resources.specs.declared.resource.Resource.{Resource}
-use Rattle.ipam_resources.specs.Printed.{applied_line, fault_line, refusal_of, refused_line}
+use Rattle.ipam_resources.specs.Printed.{applied_line, fault_line, answer_refusal, refused_line}
 use Rattle.ipam_commands.specs.declared.status.Status.{Status}
 use Rattle.ipam_commands.specs.declared.status.Status.TheVariants as status
 use Rattle.ipam_commands.specs.Telling.{keeper_line}
@@ -17,7 +17,7 @@ use Rattle.ipam_apply.specs.Applying.{IsApplied}
 -- the answers that the request of a resource can have
 pub data MayBeTold (told : Answer) : Type 0 where
   Applies : IsApplied told → MayBeTold told
-  Refuses : (why : Refusal) → refusal_of told ≡ Some why → MayBeTold told
+  Refuses : (why : Refusal) → answer_refusal told ≡ Some why → MayBeTold told
   Fails : told ≡ answer.Fault → MayBeTold told
 
 -- what is so of a text, the status that a run would end with, and the status with which it ends
@@ -31,7 +31,7 @@ TellsApplied one writes (Ended end) = writes (applied_line one) status.Done end 
 
 abbrev pub TellsRefused : Resource → Answer → Writing → Status → Type 0
 TellsRefused one told writes end =
-    (why : Refusal) × (refusal_of told ≡ Some why) × writes (refused_line one why) status.Refused end
+    (why : Refusal) × (answer_refusal told ≡ Some why) × writes (refused_line one why) status.Refused end
 
 -- what is written of an answer
 abbrev pub TellsAnswer : Resource → Answer → Writing → Step → Type 0

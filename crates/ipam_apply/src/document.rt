@@ -1,15 +1,19 @@
-ghost use Rattle.std.specs.Prelude.{◌≡◌};
+ghost use Rattle.std.specs.Prelude.{◌≡◌, ◌⊎◌, None};
 ghost use Rattle.std.specs.Io.KnownBytes.{IsAtEnd};
 ghost use Rattle.ipam_apply.specs.Applied.{ApplyEnds, DocumentEnds};
-ghost use Rattle.ipam_apply.specs.Outside.{outside_of};
+ghost use Rattle.ipam_keeper.specs.Outside.{outside_of};
 
+use crate::lines::MakesLines;
+use crate::reading::ReadsDocuments;
 use crate::resources::apply_resources;
 use crate::telling::tell_document;
-use ipam_commands::{Status, tell};
+use ipam_commands::{MakesBroken, Status, tell};
 use ipam_io::{Sink, Source};
 use ipam_keeper::Keeper;
-use ipam_lines::{InputFault, read_whole};
-use ipam_resources::{DOCUMENT_MAX, read_resources};
+use ipam_kept::OpensKept;
+use ipam_lines::InputFault;
+use ipam_resources::DOCUMENT_MAX;
+use ipam_solo::MakesSteps;
 use std::alloc::Global;
 
 /// Applies the resources of the source's document, one after another, each as a request that runs by itself
@@ -25,15 +29,33 @@ pub fn apply<S: Source, K: Sink, D: Keeper>(
     keeper: &mut D,
 ) -> Status
     ensures applied { ApplyEnds (keeper.new ≡ keeper.old)
-        (record { left = S.left source.old; faults = S.read_faults source.old })
-        (record { left = S.left source.new; faults = S.read_faults source.new })
-        (outside_of (K.written sink.old) (K.write_faults sink.old) (D.rows keeper.old) (D.faults keeper.old))
-        (outside_of (K.written sink.new) (K.write_faults sink.new) (D.rows keeper.new) (D.faults keeper.new)) result }
+        (outside_of (S.left source.old) (S.read_faults source.old) (K.written sink.old) (K.write_faults sink.old) (D.rows keeper.old) (D.faults keeper.old))
+        (outside_of (S.left source.new) (S.read_faults source.new) (K.written sink.new) (K.write_faults sink.new) (D.rows keeper.new) (D.faults keeper.new)) result }
     ensures whole { result ≡ Status.Done → IsAtEnd (S.left source.new) }
     ensures read_rest { S.read_rest source.new ≡ S.read_rest source.old }
     ensures write_rest { K.write_rest sink.new ≡ K.write_rest sink.old }
 {
-    match read_whole(alloc, source, DOCUMENT_MAX) {
+    apply_by(alloc, source, sink, keeper)
+}
+
+/// Reads the document, and applies its resources. It ends for want of memory only where reading the document found
+/// none, or opening the rows, or a request, or a line that is written.
+fn apply_by<
+    T: ReadsDocuments + OpensKept + MakesBroken + MakesSteps + MakesLines + Copy + Drop,
+    S: Source,
+    K: Sink,
+    D: Keeper,
+>(alloc: T, source: &mut S, sink: &mut K, keeper: &mut D) -> Status
+    ensures applied { ApplyEnds (keeper.new ≡ keeper.old)
+        (outside_of (S.left source.old) (S.read_faults source.old) (K.written sink.old) (K.write_faults sink.old) (D.rows keeper.old) (D.faults keeper.old))
+        (outside_of (S.left source.new) (S.read_faults source.new) (K.written sink.new) (K.write_faults sink.new) (D.rows keeper.new) (D.faults keeper.new)) result }
+    ensures whole { result ≡ Status.Done → IsAtEnd (S.left source.new) }
+    ensures want_of_memory_has_its_cause { result ≡ Status.NoMemory → T.ReadsDocuments.wants alloc ⊎ T.OpensKept.wants alloc
+        ⊎ T.MakesBroken.wants alloc ⊎ T.MakesSteps.wants alloc ⊎ T.MakesLines.wants alloc }
+    ensures read_rest { S.read_rest source.new ≡ S.read_rest source.old }
+    ensures write_rest { K.write_rest sink.new ≡ K.write_rest sink.old }
+{
+    match alloc.read_whole(source, DOCUMENT_MAX) {
         Ok(document) => apply_document(alloc, document.as_slice(), sink, keeper),
         Err(InputFault::Read) => tell(sink, "read fault\n", Status::ReadFault),
         Err(InputFault::Memory) => Status::NoMemory,
@@ -41,18 +63,19 @@ pub fn apply<S: Source, K: Sink, D: Keeper>(
 }
 
 /// Applies the resources of the document.
-fn apply_document<K: Sink, D: Keeper>(
-    alloc: Global,
-    document: &[u8],
-    sink: &mut K,
-    keeper: &mut D,
-) -> Status
+fn apply_document<
+    T: ReadsDocuments + OpensKept + MakesBroken + MakesSteps + MakesLines + Copy + Drop,
+    K: Sink,
+    D: Keeper,
+>(alloc: T, document: &[u8], sink: &mut K, keeper: &mut D) -> Status
     ensures ended { DocumentEnds (keeper.new ≡ keeper.old) document.now
-        (outside_of (K.written sink.old) (K.write_faults sink.old) (D.rows keeper.old) (D.faults keeper.old))
-        (outside_of (K.written sink.new) (K.write_faults sink.new) (D.rows keeper.new) (D.faults keeper.new)) result }
+        (outside_of None 0 (K.written sink.old) (K.write_faults sink.old) (D.rows keeper.old) (D.faults keeper.old))
+        (outside_of None 0 (K.written sink.new) (K.write_faults sink.new) (D.rows keeper.new) (D.faults keeper.new)) result }
+    ensures want_of_memory_has_its_cause { result ≡ Status.NoMemory → T.ReadsDocuments.wants alloc ⊎ T.OpensKept.wants alloc
+        ⊎ T.MakesBroken.wants alloc ⊎ T.MakesSteps.wants alloc ⊎ T.MakesLines.wants alloc }
     ensures rest { K.write_rest sink.new ≡ K.write_rest sink.old }
 {
-    match read_resources(alloc, document) {
+    match alloc.read_resources(document) {
         Ok(resources) => apply_resources(alloc, sink, keeper, resources),
         Err(fault) => tell_document(alloc, sink, fault),
     }

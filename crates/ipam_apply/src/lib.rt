@@ -2,6 +2,8 @@
 #![tactic(auto)]
 
 mod document;
+mod lines;
+mod reading;
 mod resources;
 mod step;
 mod telling;

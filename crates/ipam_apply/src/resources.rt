@@ -1,48 +1,52 @@
 //! Resources are applied over a keeper's rows.
-ghost use Rattle.std.specs.Prelude.{◌≡◌};
+ghost use Rattle.std.specs.Prelude.{◌≡◌, ◌⊎◌, None};
 ghost use Rattle.std.specs.List.{All};
 ghost use Rattle.ipam_apply.specs.Applied.{ResourcesEnd};
 ghost use Rattle.ipam_apply.specs.Applying.{RunEnds};
-ghost use Rattle.ipam_apply.specs.Outside.{outside_of};
+ghost use Rattle.ipam_keeper.specs.Outside.{outside_of};
 ghost use Rattle.ipam_apply.specs.Ready.{IsFit, IsReady};
 
+use crate::lines::MakesLines;
 use crate::step::{Step, apply_one};
-use ipam_commands::{Status, tell_fault};
+use ipam_commands::{MakesBroken, Status, tell_fault};
 use ipam_io::Sink;
 use ipam_keeper::Keeper;
-use ipam_kept::Kept;
+use ipam_kept::{Kept, OpensKept};
 use ipam_resources::Resource;
+use ipam_solo::MakesSteps;
 use ipam_text::Seq;
-use std::alloc::Global;
 
 /// Opens the keeper's rows, and applies the resources.
-pub(crate) fn apply_resources<K: Sink, D: Keeper>(
-    alloc: Global,
-    sink: &mut K,
-    keeper: &mut D,
-    resources: Seq<Resource>,
-) -> Status
+pub(crate) fn apply_resources<
+    T: OpensKept + MakesBroken + MakesSteps + MakesLines + Copy + Drop,
+    K: Sink,
+    D: Keeper,
+>(alloc: T, sink: &mut K, keeper: &mut D, resources: Seq<Resource>) -> Status
     requires { All IsFit resources }
     ensures ended { ResourcesEnd resources
-        (outside_of (K.written sink.old) (K.write_faults sink.old) (D.rows keeper.old) (D.faults keeper.old))
-        (outside_of (K.written sink.new) (K.write_faults sink.new) (D.rows keeper.new) (D.faults keeper.new)) result }
+        (outside_of None 0 (K.written sink.old) (K.write_faults sink.old) (D.rows keeper.old) (D.faults keeper.old))
+        (outside_of None 0 (K.written sink.new) (K.write_faults sink.new) (D.rows keeper.new) (D.faults keeper.new)) result }
+    ensures want_of_memory_has_its_cause { result ≡ Status.NoMemory
+        → T.OpensKept.wants alloc ⊎ T.MakesBroken.wants alloc ⊎ T.MakesSteps.wants alloc ⊎ T.MakesLines.wants alloc }
     ensures rest { K.write_rest sink.new ≡ K.write_rest sink.old }
 {
     let (end, _keeper) = open_and_run(alloc, sink, &mut *keeper, resources);
     end
 }
 
-/// Opens the keeper's rows, and applies the resources. The keeper comes back.
-fn open_and_run<K: Sink, D: Keeper>(
-    alloc: Global,
-    sink: &mut K,
-    keeper: D,
-    resources: Seq<Resource>,
-) -> (Status, D)
+/// Opens the keeper's rows, and applies the resources. The keeper comes back. It ends for want of memory only
+/// where opening the rows found none, or a request did, or a line that is written.
+fn open_and_run<
+    T: OpensKept + MakesBroken + MakesSteps + MakesLines + Copy + Drop,
+    K: Sink,
+    D: Keeper,
+>(alloc: T, sink: &mut K, keeper: D, resources: Seq<Resource>) -> (Status, D)
     requires { All IsFit resources }
     ensures ended { ResourcesEnd resources
-        (outside_of (K.written sink.old) (K.write_faults sink.old) (D.rows keeper) (D.faults keeper))
-        (outside_of (K.written sink.new) (K.write_faults sink.new) (D.rows result.1) (D.faults result.1)) result.0 }
+        (outside_of None 0 (K.written sink.old) (K.write_faults sink.old) (D.rows keeper) (D.faults keeper))
+        (outside_of None 0 (K.written sink.new) (K.write_faults sink.new) (D.rows result.1) (D.faults result.1)) result.0 }
+    ensures want_of_memory_has_its_cause { result.0 ≡ Status.NoMemory
+        → T.OpensKept.wants alloc ⊎ T.MakesBroken.wants alloc ⊎ T.MakesSteps.wants alloc ⊎ T.MakesLines.wants alloc }
     ensures same { D.name result.1 ≡ D.name keeper }
     ensures rest { K.write_rest sink.new ≡ K.write_rest sink.old }
 {
@@ -57,8 +61,8 @@ fn open_and_run<K: Sink, D: Keeper>(
 
 /// Applies the resources, up to one at which the run ends. The cluster has no entries yet, so none of the
 /// requests finds it full.
-fn run<K: Sink, D: Keeper>(
-    alloc: Global,
+fn run<T: MakesSteps + MakesLines + Copy + Drop, K: Sink, D: Keeper>(
+    alloc: T,
     sink: &mut K,
     kept: &mut Kept<D>,
     resources: Vec<Resource>,
@@ -67,8 +71,9 @@ fn run<K: Sink, D: Keeper>(
     requires ready { IsReady D.rows kept.old }
     requires first { kept.old.cluster.entries ≡ 0 }
     ensures ended { RunEnds kept.old.cluster.store.store resources.items
-        (outside_of (K.written sink.old) (K.write_faults sink.old) (D.rows kept.old.keeper) (D.faults kept.old.keeper))
-        (outside_of (K.written sink.new) (K.write_faults sink.new) (D.rows kept.new.keeper) (D.faults kept.new.keeper)) result }
+        (outside_of None 0 (K.written sink.old) (K.write_faults sink.old) (D.rows kept.old.keeper) (D.faults kept.old.keeper))
+        (outside_of None 0 (K.written sink.new) (K.write_faults sink.new) (D.rows kept.new.keeper) (D.faults kept.new.keeper)) result }
+    ensures want_of_memory_has_its_cause { result ≡ Status.NoMemory → T.MakesSteps.wants alloc ⊎ T.MakesLines.wants alloc }
     ensures same { D.name kept.new.keeper ≡ D.name kept.old.keeper }
     ensures rest { K.write_rest sink.new ≡ K.write_rest sink.old }
 {

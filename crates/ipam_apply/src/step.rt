@@ -1,8 +1,10 @@
 //! One resource is applied.
-ghost use Rattle.std.specs.Prelude.{◌≡◌};
+ghost use Rattle.std.specs.Prelude.{◌≡◌, ◌⊎◌, None};
+ghost use Rattle.ipam_keeper.specs.Outside.{outside_of};
 ghost use Rattle.ipam_apply.specs.Applying.{StepEnds, alone_on};
 ghost use Rattle.ipam_apply.specs.Ready.{IsFit, IsReady, OnApplied};
 
+use crate::lines::MakesLines;
 use crate::telling::tell_answer;
 use ipam_commands::Status;
 use ipam_io::Sink;
@@ -10,8 +12,8 @@ use ipam_keeper::Keeper;
 use ipam_kept::Kept;
 use ipam_model::{Answer, Request};
 use ipam_resources::Resource;
-use ipam_solo::run_alone;
-use std::alloc::{AllocError, Global};
+use ipam_solo::{MakesSteps, run_alone};
+use std::alloc::AllocError;
 
 /// What comes of one resource.
 #[derive(Clone, Copy, Debug, PartialEq, Eq)]
@@ -22,9 +24,10 @@ pub(crate) enum Step {
     Ended(Status),
 }
 
-/// Applies the resource as a request that runs by itself, and writes what came of it.
-pub(crate) fn apply_one<K: Sink, D: Keeper>(
-    alloc: Global,
+/// Applies the resource as a request that runs by itself, and writes what came of it. The run ends for want of
+/// memory only where the request found none, or its line did.
+pub(crate) fn apply_one<T: MakesSteps + MakesLines + Copy + Drop, K: Sink, D: Keeper>(
+    alloc: T,
     sink: &mut K,
     kept: &mut Kept<D>,
     resource: Resource,
@@ -32,18 +35,9 @@ pub(crate) fn apply_one<K: Sink, D: Keeper>(
     requires fit { IsFit resource }
     requires ready { IsReady D.rows kept.old }
     ensures ended { StepEnds kept.old.cluster.store.store resource
-        (record {
-          written = K.written sink.old;
-          write_faults = K.write_faults sink.old;
-          rows = D.rows kept.old.keeper;
-          keeper_faults = D.faults kept.old.keeper;
-        })
-        (record {
-          written = K.written sink.new;
-          write_faults = K.write_faults sink.new;
-          rows = D.rows kept.new.keeper;
-          keeper_faults = D.faults kept.new.keeper;
-        }) result }
+        (outside_of None 0 (K.written sink.old) (K.write_faults sink.old) (D.rows kept.old.keeper) (D.faults kept.old.keeper))
+        (outside_of None 0 (K.written sink.new) (K.write_faults sink.new) (D.rows kept.new.keeper) (D.faults kept.new.keeper)) result }
+    ensures want_of_memory_has_its_cause { result ≡ Step.Ended Status.NoMemory → T.MakesSteps.wants alloc ⊎ T.MakesLines.wants alloc }
     ensures store { OnApplied result (kept.new.cluster.store.store ≡ (alone_on kept.old.cluster.store.store resource).1) }
     ensures ready { OnApplied result (IsReady D.rows kept.new) }
     ensures same { D.name kept.new.keeper ≡ D.name kept.old.keeper }

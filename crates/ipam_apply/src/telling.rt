@@ -1,21 +1,21 @@
 //! Writes what came of a resource or a document.
-ghost use Rattle.std.specs.Prelude.{◌≡◌, ◌≢◌, IfOk, IsSome, string_bytes};
-ghost use Rattle.ipam_resources.specs.Printed.{HasFixedLine, applied_line, fault_line, refusal_of, refused_line};
+ghost use Rattle.std.specs.Prelude.{◌≡◌, ◌≢◌, ◌⊎◌, IsSome};
+ghost use Rattle.ipam_resources.specs.Printed.{HasFixedLine, answer_refusal};
 ghost use Rattle.ipam_commands.specs.Telling.{Writes};
 ghost use Rattle.ipam_apply.specs.Telling.{MayBeTold, TellsAnswer, TellsApplied, TellsFault, TellsRefused};
 
+use crate::lines::MakesLines;
+use crate::reading::ReadsDocuments;
 use crate::step::Step;
 use ipam_commands::{Status, tell, tell_made};
 use ipam_io::Sink;
 use ipam_model::Answer;
-use ipam_resources::{
-    DocumentFault, Refusal, Resource, push_applied, push_document_fault, push_refused,
-};
-use std::alloc::{AllocError, Global};
+use ipam_resources::{DocumentFault, Resource};
+use std::alloc::AllocError;
 
 /// Tells what the resource's request was answered.
-pub(crate) fn tell_answer<K: Sink>(
-    alloc: Global,
+pub(crate) fn tell_answer<T: MakesLines + Copy + Drop, K: Sink>(
+    alloc: T,
     sink: &mut K,
     resource: &Resource,
     answer: &Answer,
@@ -23,6 +23,7 @@ pub(crate) fn tell_answer<K: Sink>(
     requires { MayBeTold answer.now }
     ensures told { TellsAnswer resource.now answer.now (λ text own end. Writes (K.written sink.old) (K.written sink.new)
         (K.write_faults sink.old) (K.write_faults sink.new) text own end) result }
+    ensures want_of_memory_has_its_cause { result ≡ Step.Ended Status.NoMemory → T.wants alloc }
     ensures rest { K.write_rest sink.new ≡ K.write_rest sink.old }
 {
     match answer {
@@ -33,12 +34,17 @@ pub(crate) fn tell_answer<K: Sink>(
 }
 
 /// Tells that the resource is applied.
-fn tell_applied<K: Sink>(alloc: Global, sink: &mut K, resource: &Resource) -> Step
+fn tell_applied<T: MakesLines + Copy + Drop, K: Sink>(
+    alloc: T,
+    sink: &mut K,
+    resource: &Resource,
+) -> Step
     ensures told { TellsApplied resource.now (λ text own end. Writes (K.written sink.old) (K.written sink.new)
         (K.write_faults sink.old) (K.write_faults sink.new) text own end) result }
+    ensures want_of_memory_has_its_cause { result ≡ Step.Ended Status.NoMemory → T.wants alloc }
     ensures rest { K.write_rest sink.new ≡ K.write_rest sink.old }
 {
-    let line = applied_line(alloc, resource);
+    let line = alloc.applied_line(resource);
     match tell_made(sink, line, Status::Done) {
         Status::Done => Step::Applied,
         end => Step::Ended(end),
@@ -46,20 +52,21 @@ fn tell_applied<K: Sink>(alloc: Global, sink: &mut K, resource: &Resource) -> St
 }
 
 /// Tells why the resource is refused.
-fn tell_refused<K: Sink>(
-    alloc: Global,
+fn tell_refused<T: MakesLines + Copy + Drop, K: Sink>(
+    alloc: T,
     sink: &mut K,
     resource: &Resource,
     answer: &Answer,
 ) -> Status
-    requires { IsSome (refusal_of answer.now) }
+    requires { IsSome (answer_refusal answer.now) }
     ensures told { TellsRefused resource.now answer.now (λ text own end. Writes (K.written sink.old) (K.written sink.new)
         (K.write_faults sink.old) (K.write_faults sink.new) text own end) result }
+    ensures want_of_memory_has_its_cause { result ≡ Status.NoMemory → T.wants alloc }
     ensures rest { K.write_rest sink.new ≡ K.write_rest sink.old }
 {
-    match Refusal::of(answer) {
+    match alloc.refusal(answer) {
         Ok(Some(refusal)) => {
-            let line = refused_line(alloc, resource, &refusal);
+            let line = alloc.refused_line(resource, &refusal);
             tell_made(sink, line, Status::Refused)
         }
         Ok(None) => unreachable!(),
@@ -70,10 +77,15 @@ fn tell_refused<K: Sink>(
 /// Tells why the document is refused, where it is not for want of memory. A line that is the same for each
 /// document takes no memory.
 #[tactic(auto, unfolding(ipam_resources::specs::Printed::fault_line))]
-pub(crate) fn tell_document<K: Sink>(alloc: Global, sink: &mut K, fault: DocumentFault) -> Status
+pub(crate) fn tell_document<T: ReadsDocuments + Drop, K: Sink>(
+    alloc: T,
+    sink: &mut K,
+    fault: DocumentFault,
+) -> Status
     ensures told { TellsFault fault (λ text own end. Writes (K.written sink.old) (K.written sink.new)
         (K.write_faults sink.old) (K.write_faults sink.new) text own end) result }
     ensures fixed { HasFixedLine fault → result ≢ Status.NoMemory }
+    ensures want_of_memory_has_its_cause { result ≡ Status.NoMemory → (fault ≡ DocumentFault.Memory) ⊎ T.wants alloc }
     ensures untold { fault ≡ DocumentFault.Memory → K.written sink.new ≡ K.written sink.old }
     ensures no_fault { fault ≡ DocumentFault.Memory → K.write_faults sink.new ≡ K.write_faults sink.old }
     ensures rest { K.write_rest sink.new ≡ K.write_rest sink.old }
@@ -82,33 +94,9 @@ pub(crate) fn tell_document<K: Sink>(alloc: Global, sink: &mut K, fault: Documen
         DocumentFault::Long => tell(sink, "refused: long\n", Status::Refused),
         DocumentFault::NotJson => tell(sink, "refused: not JSON\n", Status::Refused),
         DocumentFault::Member(_) => {
-            let line = fault_line(alloc, fault);
+            let line = alloc.fault_line(fault);
             tell_made(sink, line, Status::Refused)
         }
         DocumentFault::Memory => Status::NoMemory,
     }
-}
-
-fn applied_line(alloc: Global, resource: &Resource) -> Result<String, AllocError>
-    ensures { IfOk result (λ line. string_bytes line ≡ applied_line resource.now) }
-{
-    let mut line = String::new(alloc);
-    push_applied(alloc, &mut line, resource)?;
-    Ok(line)
-}
-
-fn refused_line(alloc: Global, resource: &Resource, refusal: &Refusal) -> Result<String, AllocError>
-    ensures { IfOk result (λ line. string_bytes line ≡ refused_line resource.now refusal.now) }
-{
-    let mut line = String::new(alloc);
-    push_refused(alloc, &mut line, resource, refusal)?;
-    Ok(line)
-}
-
-fn fault_line(alloc: Global, fault: DocumentFault) -> Result<String, AllocError>
-    ensures { IfOk result (λ line. string_bytes line ≡ fault_line fault) }
-{
-    let mut line = String::new(alloc);
-    push_document_fault(alloc, &mut line, fault)?;
-    Ok(line)
 }

@@ -11,7 +11,7 @@ use Rattle.ipam_records.specs.Datastore.{most_rows}
 use Rattle.ipam_records.specs.KeyOrder.{key_cmp}
 use Rattle.ipam_records.specs.KeyText.{key_read}
 use Rattle.ipam_words.specs.declared.kind.RowKind.{RowKind}
-use Rattle.ipam_words.specs.Kinds.{is_of_kind, kind_word}
+use Rattle.ipam_words.specs.Kinds.{is_key_of_kind, kind_word}
 
 -- ---- the line
 
@@ -49,7 +49,7 @@ follows None text = is_key text
 
 -- the text is a key of the kind, and stands behind the keys of these rows
 abbrev pub is_next : RowKind → List Row → (text : List ℕ) → Bool
-is_next kind before text = is_of_kind kind text && follows (last_row before) text
+is_next kind before text = is_key_of_kind kind text && follows (last_row before) text
 
 unfoldable pub row_of : RowKind → (before : List Row) → Data → Option Row
 row_of kind before d = do

@@ -9,7 +9,7 @@ use Rattle.ipam_records.specs.declared.call.Row.{Row}
 use Rattle.ipam_records.specs.Datastore.{Datastore}
 use Rattle.ipam_words.specs.declared.kind.RowKind.{RowKind}
 use Rattle.ipam_words.specs.declared.kind.RowKind.TheVariants.{Pools, Reservations, Block, Affinity}
-use Rattle.ipam_words.specs.Views.{Seen}
+use Rattle.ipam_words.specs.Views.{AskedView}
 use Rattle.ipam_asked_views.specs.Datastore.{datastore_of}
 
 -- the kinds that are asked for: of the configuration and of handles nothing is shown
@@ -17,7 +17,7 @@ abbrev pub kinds_shown : List RowKind
 kinds_shown = Pools ∷ Reservations ∷ Block ∷ Affinity ∷ []
 
 -- what is written of the datastore of the rows; rows of none are no reply
-abbrev pub said_of : Seen → Option Datastore → List ℕ
+abbrev pub said_of : AskedView → Option Datastore → List ℕ
 said_of seen (Some store) = shown_text seen store
 said_of seen None = codes "reply fault\n"
 
@@ -25,7 +25,7 @@ abbrev pub end_of : Option Datastore → End
 end_of (Some store) = end.Done
 end_of None = end.ReplyFault
 
-abbrev pub show_said : Seen → Result (List Row) AskFault → List ℕ
+abbrev pub show_said : AskedView → Result (List Row) AskFault → List ℕ
 show_said seen (Ok rows) = said_of seen (datastore_of rows)
 show_said seen (Err why) = fault_line why
 

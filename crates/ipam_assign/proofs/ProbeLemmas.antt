@@ -9,7 +9,7 @@ use Rattle.ipam_model.specs.Choice.{Rank, Own, Unconfirmed, Unclaimed, Foreign, 
 use Rattle.ipam_addr.specs.Shape.{CidrValue}
 use Rattle.ipam_model.specs.Look.{asked_of_probe, probe_choice, probe_each, probe_word}
 use Rattle.ipam_model.specs.Usable.{Asked, families_if}
-use Rattle.ipam_assign.specs.Probe.{turn_family, first_turn, probe_on, probe_at, probe_rest, after_scan}
+use Rattle.ipam_assign.specs.Probe.{turn_family, first_turn, probe_on, probe_at, probe_rest, after_probe_scan}
 use Rattle.ipam_assign.specs.Scanning.{Chose, scanning_at}
 use Rattle.ipam_assign.specs.declared.probe.ProbeProc.{ProbeProc}
 use Rattle.ipam_assign.specs.declared.probe.Turn.{Turn}
@@ -35,21 +35,21 @@ scanning_goes_on asked_by (ListsBlocks gathered) = refl
 pub asks : (request : ProbeRequest) (turn : Turn) (stage : Stage)
     → next_call (probe_at request turn stage) ≡ next_call (scanning_at (asked_of_probe request (turn_family turn)) stage)
 asks request turn stage =
-    asked_bound (scanning_at (asked_of_probe request (turn_family turn)) stage) (after_scan request turn)
+    asked_bound (scanning_at (asked_of_probe request (turn_family turn)) stage) (after_probe_scan request turn)
     (scanning_asks (asked_of_probe request (turn_family turn)) stage)
 
 pub goes_on : (request : ProbeRequest) (turn : Turn) (stage : Stage) → None ≡ answer_in (probe_at request turn stage)
 goes_on request turn stage =
-    goes_on_bound (scanning_at (asked_of_probe request (turn_family turn)) stage) (after_scan request turn)
+    goes_on_bound (scanning_at (asked_of_probe request (turn_family turn)) stage) (after_probe_scan request turn)
     (scanning_goes_on (asked_of_probe request (turn_family turn)) stage)
 
 pub hears : (request : ProbeRequest) (turn : Turn) (stage : Stage) (asked_by : Asked) (left : Word Chose) (moment : ℕ) (said : Said)
     → asked_by ≡ asked_of_probe request (turn_family turn) → left ≡ after_reply (scanning_at asked_by stage) moment said
-    → bound left (after_scan request turn) ≡ after_reply (probe_at request turn stage) moment said
+    → bound left (after_probe_scan request turn) ≡ after_reply (probe_at request turn stage) moment said
 hears request turn stage asked_by left moment said same is =
-    ap (λ w. bound w (after_scan request turn)) is
-    ∙ ap (λ a. bound (after_reply (scanning_at a stage) moment said) (after_scan request turn)) same
-    ∙ sym (heard_bound (scanning_at (asked_of_probe request (turn_family turn)) stage) (after_scan request turn) moment said
+    ap (λ w. bound w (after_probe_scan request turn)) is
+    ∙ ap (λ a. bound (after_reply (scanning_at a stage) moment said) (after_probe_scan request turn)) same
+    ∙ sym (heard_bound (scanning_at (asked_of_probe request (turn_family turn)) stage) (after_probe_scan request turn) moment said
     (scanning_asks (asked_of_probe request (turn_family turn)) stage))
 
 chosen_goes : (rest : Word ProbeAnswer) (asked_by : Asked) (scan : Scan) (slot : CidrValue) (rank : Rank)
@@ -61,7 +61,7 @@ chosen_goes rest asked_by scan slot (Foreign found ordinal) = refl
 
 -- where a slot is picked, the family has an address
 pub slot_goes : (request : ProbeRequest) (turn : Turn) (scan : Scan) (ranked : Ranked)
-    → probe_on request turn scan ≡ after_scan request turn (scan, Picks ranked)
+    → probe_on request turn scan ≡ after_probe_scan request turn (scan, Picks ranked)
 slot_goes request turn scan ranked =
     chosen_goes (probe_on request turn scan) (asked_of_probe request (turn_family turn)) scan ranked.slot ranked.rank
 

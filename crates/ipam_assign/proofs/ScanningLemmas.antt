@@ -17,7 +17,7 @@ use Rattle.ipam_model.specs.Reads.{reservations_said, rows_said}
 use Rattle.ipam_model.specs.Usable.{Asked}
 use Rattle.ipam_assign.specs.declared.scanning.Pooled.{Pooled}
 use Rattle.ipam_assign.specs.declared.scanning.Reserving.{Reserving}
-use Rattle.ipam_assign.specs.Scanning.{reservations_read, affinities_listed, blocks_listed, scan_of}
+use Rattle.ipam_assign.specs.Scanning.{reservations_read, affinities_listed, blocks_listed, scan_of_reserving}
 
 seen_by : Pooled → Said → Said → Said → Seen
 seen_by pooled reservations affinities blocks = record {
@@ -37,7 +37,7 @@ reserved_known asked pooled reserved moment said same =
     λ i. Asks idle (ListAll kind.Affinity) (λ f affinities.
     Asks idle (ListAll kind.Block) (λ b blocks.
     Ends (
-      scan_of asked (record { pooled = pooled; reserved = reserved; r = moment }) f b,
+      scan_of_reserving asked (record { pooled = pooled; reserved = reserved; r = moment }) f b,
       known_pick asked (seen_by pooled said affinities blocks)
           (λ cidr. list_any (is_confirmed_for asked.node cidr) (rows_said affinities)) (is_reserved_by reserved)
           (λ cidr. refl) same i,

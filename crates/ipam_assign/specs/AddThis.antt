@@ -40,92 +40,92 @@ abbrev pub wanted_at : AddRequest → AddrValue → model.Wanted
 wanted_at request address = record { request = request; address = address }
 
 -- what a request goes on with: itself, its address, and how many rounds may follow
-pub record Going : Type 0 where
+pub record ThisGoing : Type 0 where
   pub request : AddRequest
   pub address : AddrValue
   pub more : ℕ
 
-abbrev pub going : AddThisProc → Going
-going p = record { request = p.request; address = p.address; more = p.rounds.more }
+abbrev pub this_going : AddThisProc → ThisGoing
+this_going p = record { request = p.request; address = p.address; more = p.rounds.more }
 
 -- the round that follows
-abbrev pub next_for : Going → Left → Part AddThisAnswer
-next_for g = next_of (model.this_round (wanted_at g.request g.address)) g.more
+abbrev pub this_next : ThisGoing → Left → Part AddThisAnswer
+this_next g = next_of (model.this_round (wanted_at g.request g.address)) g.more
 
-abbrev pub then_next : Going → Left → Unit {0} → Part AddThisAnswer
-then_next g now done = next_for g now
+abbrev pub this_then_next : ThisGoing → Left → Unit {0} → Part AddThisAnswer
+this_then_next g now done = this_next g now
 
-abbrev pub rules_of : Rules → model.Rules
+abbrev pub rules_of : Rules → model.RulesRead
 rules_of rules = record { config = rules.config; c = rules.c; p = rules.p }
 
 -- what was looked at, once the block was read at this moment
-abbrev pub looked_in : Ruled → (b : ℕ) → model.Looked
+abbrev pub looked_in : Ruled → (b : ℕ) → model.LookedAtBlock
 looked_in ruled b = record { rules = rules_of ruled.rules; cidr = ruled.place.cidr; b = b }
 
-abbrev pub looked_of : Looked → model.Looked
+abbrev pub looked_of : Looked → model.LookedAtBlock
 looked_of looked = record { rules = rules_of looked.rules; cidr = looked.cidr; b = looked.b }
 
 -- the pools are read
-abbrev pub pools_part : Going → Left → Configured → Part AddThisAnswer
+abbrev pub pools_part : ThisGoing → Left → Configured → Part AddThisAnswer
 pools_part g left configured =
     Asks idle (Get key.Pools) (λ p pools.
-    model.this_in_pool (wanted_at g.request g.address) (next_for g) left
+    model.this_in_pool (wanted_at g.request g.address) (this_next g) left
     (record { config = configured.config; c = configured.c; p = p })
     (usable_pool_of (model.asked_of_this g.request g.address) g.address (pools_said pools)))
 
 -- the block is read
-abbrev pub block_part : Going → Left → Ruled → Part AddThisAnswer
+abbrev pub block_part : ThisGoing → Left → Ruled → Part AddThisAnswer
 block_part g left ruled =
     Asks idle (Get (key.Block ruled.place.cidr)) (λ b said.
-    model.this_block (wanted_at g.request ruled.place.address) (next_for g) left (looked_in ruled b) (block_said said))
+    model.this_block (wanted_at g.request ruled.place.address) (this_next g) left (looked_in ruled b) (block_said said))
 
-abbrev pub claims_part : Going → Left → ClaimProc → Part AddThisAnswer
-claims_part g left claim = part_then (bound (claim_rest claim) (after_claim left)) (then_next g)
+abbrev pub this_claims_part : ThisGoing → Left → ClaimProc → Part AddThisAnswer
+this_claims_part g left claim = part_then (bound (claim_rest claim) (after_claim left)) (this_then_next g)
 
-abbrev pub assigns_part : Going → Looked → Assigning → Part AddThisAnswer
-assigns_part g looked assigning =
+abbrev pub this_assigns_part : ThisGoing → Looked → Assigning → Part AddThisAnswer
+this_assigns_part g looked assigning =
     part_then (assigning_rest g.request.attributes.handle assigning)
-    (model.this_assigned (wanted_at g.request looked.address) (next_for g) (looked_of looked))
+    (model.this_assigned (wanted_at g.request looked.address) (this_next g) (looked_of looked))
 
-abbrev pub this_part : Going → Left → Stage → Part AddThisAnswer
-this_part g left ReadsConfig = model.this_round (wanted_at g.request g.address) (next_for g) left
+abbrev pub this_part : ThisGoing → Left → Stage → Part AddThisAnswer
+this_part g left ReadsConfig = model.this_round (wanted_at g.request g.address) (this_next g) left
 this_part g left (ReadsPools configured) = pools_part g left configured
 this_part g left (ReadsBlock ruled) = block_part g left ruled
-this_part g left (Claims claim) = claims_part g left claim
-this_part g left (Assigns looked assigning) = assigns_part g looked assigning
+this_part g left (Claims claim) = this_claims_part g left claim
+this_part g left (Assigns looked assigning) = this_assigns_part g looked assigning
 
 abbrev pub this_at : Part AddThisAnswer → Word AddThisAnswer
 this_at part = as_word model.add_this_stops part
 
 abbrev pub this_rest : AddThisProc → Word AddThisAnswer
-this_rest p = this_at (this_part (going p) p.left p.stage)
+this_rest p = this_at (this_part (this_going p) p.left p.stage)
 
 -- what is left once the claim goes where a reply led it; no other stage has one
-abbrev pub claims_leaves : Going → Left → Stage → ClaimTurned → Part AddThisAnswer
-claims_leaves g left (Claims claim) turned = part_then (bound (claim_leaves claim turned) (after_claim left)) (then_next g)
+abbrev pub claims_leaves : ThisGoing → Left → Stage → ClaimTurned → Part AddThisAnswer
+claims_leaves g left (Claims claim) turned = part_then (bound (claim_leaves claim turned) (after_claim left)) (this_then_next g)
 claims_leaves g left stage turned = this_part g left stage
 
 -- and likewise the assignment
-abbrev pub assigns_leaves : Going → Left → Stage → AssigningTurned → Part AddThisAnswer
+abbrev pub assigns_leaves : ThisGoing → Left → Stage → AssigningTurned → Part AddThisAnswer
 assigns_leaves g left (Assigns looked assigning) turned =
     part_then (assigning_leaves g.request.attributes.handle assigning turned)
-    (model.this_assigned (wanted_at g.request looked.address) (next_for g) (looked_of looked))
+    (model.this_assigned (wanted_at g.request looked.address) (this_next g) (looked_of looked))
 assigns_leaves g left stage turned = this_part g left stage
 
 -- what is left once it goes there
 abbrev pub this_goes : AddThisProc → Goes → Word AddThisAnswer
-this_goes p (goes.To stage) = this_at (this_part (going p) p.left stage)
-this_goes p (goes.Claim turned) = this_at (claims_leaves (going p) p.left p.stage turned)
-this_goes p (goes.Assign turned) = this_at (assigns_leaves (going p) p.left p.stage turned)
+this_goes p (goes.To stage) = this_at (this_part (this_going p) p.left stage)
+this_goes p (goes.Claim turned) = this_at (claims_leaves (this_going p) p.left p.stage turned)
+this_goes p (goes.Assign turned) = this_at (assigns_leaves (this_going p) p.left p.stage turned)
 this_goes p (goes.Answers answer) = Ends answer
 
 abbrev pub this_leaves : AddThisProc → AddThisTurned → Word AddThisAnswer
 this_leaves p turned = this_goes p turned.goes
 
 -- what follows what an assignment came to
-abbrev pub assign_ended : Going → Looked → Outcome (Option Assigned) → Part AddThisAnswer
+abbrev pub assign_ended : ThisGoing → Looked → Outcome (Option Assigned) → Part AddThisAnswer
 assign_ended g looked outcome =
-    onward (model.this_assigned (wanted_at g.request looked.address) (next_for g) (looked_of looked)) outcome
+    onward (model.this_assigned (wanted_at g.request looked.address) (this_next g) (looked_of looked)) outcome
 
 abbrev pub share_as : Share → choice.Share
 share_as Takes = choice.Takes

@@ -30,10 +30,10 @@ turn_scans First = []
 turn_scans (Second scan) = scan ∷ []
 
 -- the families after this one
-abbrev pub turn_later : Turn → List Family
-turn_later (Only family) = []
-turn_later First = V6 ∷ []
-turn_later (Second scan) = []
+abbrev pub probe_turn_later : Turn → List Family
+probe_turn_later (Only family) = []
+probe_turn_later First = V6 ∷ []
+probe_turn_later (Second scan) = []
 
 abbrev pub first_turn : (ipv4 ipv6 : Bool) → Turn
 first_turn true true = First
@@ -43,16 +43,16 @@ first_turn false false = Only V4
 
 -- what follows where the family has an address
 abbrev pub probe_on : ProbeRequest → Turn → Scan → Word ProbeAnswer
-probe_on request turn scan = probe_each request (turn_scans turn ++ scan ∷ []) (turn_later turn)
+probe_on request turn scan = probe_each request (turn_scans turn ++ scan ∷ []) (probe_turn_later turn)
 
 -- what follows the five reads
-abbrev pub after_scan : ProbeRequest → Turn → Chose → Word ProbeAnswer
-after_scan request turn found =
+abbrev pub after_probe_scan : ProbeRequest → Turn → Chose → Word ProbeAnswer
+after_probe_scan request turn found =
     probe_choice (probe_on request turn found.0) (asked_of_probe request (turn_family turn)) found.0 (choice_in found.1)
 
 abbrev pub probe_at : ProbeRequest → Turn → Stage → Word ProbeAnswer
 probe_at request turn stage =
-    bound (scanning_at (asked_of_probe request (turn_family turn)) stage) (after_scan request turn)
+    bound (scanning_at (asked_of_probe request (turn_family turn)) stage) (after_probe_scan request turn)
 
 abbrev pub probe_rest : ProbeProc → Word ProbeAnswer
 probe_rest p = probe_at p.request p.turn p.scanning.stage

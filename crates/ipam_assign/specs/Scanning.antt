@@ -35,8 +35,8 @@ Chose = Scan × Pick
 abbrev pub chose : Asked → Scan → Seen → Word Chose
 chose asked scan seen = Ends (scan, pick_of asked seen)
 
-abbrev pub pools_read : Asked → Configured → Word Chose
-pools_read asked configured =
+abbrev pub with_pools_read : Asked → Configured → Word Chose
+with_pools_read asked configured =
     Asks idle (Get key.Pools) (λ p pools.
     Asks idle (Get key.Reservations) (λ r reservations.
     Asks idle (ListAll kind.Affinity) (λ f affinities.
@@ -67,8 +67,8 @@ reservations_read asked pooled =
     }))))
 
 -- the moments, once the affinities and the blocks were listed at these
-abbrev pub scan_of : Asked → Reserving → (f b : ℕ) → Scan
-scan_of asked reserving f b = record {
+abbrev pub scan_of_reserving : Asked → Reserving → (f b : ℕ) → Scan
+scan_of_reserving asked reserving f b = record {
   family = asked.family;
   c = reserving.pooled.configured.c;
   p = reserving.pooled.p;
@@ -82,7 +82,7 @@ abbrev pub blocks_listed : Asked → Reserving → (f : ℕ) → (confirmed : Ci
 blocks_listed asked reserving f confirmed =
     Asks idle (ListAll kind.Block) (λ b blocks.
     Ends (
-      scan_of asked reserving f b,
+      scan_of_reserving asked reserving f b,
       pick_in asked reserving.pooled.pools
           (sight_known asked reserving.pooled.configured.config confirmed (is_reserved_by reserving.reserved) (rows_said blocks)),
     ))
@@ -94,7 +94,7 @@ affinities_listed asked reserving =
 
 abbrev pub scanning_at : Asked → Stage → Word Chose
 scanning_at asked ReadsConfig = five_reads asked.family (chose asked)
-scanning_at asked (ReadsPools configured) = pools_read asked configured
+scanning_at asked (ReadsPools configured) = with_pools_read asked configured
 scanning_at asked (ReadsReservations pooled) = reservations_read asked pooled
 scanning_at asked (ListsAffinities reserving) = affinities_listed asked reserving
 scanning_at asked (ListsBlocks gathered) =

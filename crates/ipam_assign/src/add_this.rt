@@ -13,7 +13,7 @@ ghost use Rattle.ipam_model.specs.Reads.{pools_said};
 ghost use Rattle.ipam_model.specs.Step.{part_then};
 ghost use Rattle.ipam_model.specs.Usable.{usable_pool_of};
 ghost use Rattle.ipam_assign.specs.Usable.{place_of_pool};
-ghost use Rattle.ipam_assign.specs.AddThis.{Going, going, next_for, then_next, wanted_at, looked_in, looked_of, rules_of, share_as, pools_part, block_part, this_part, this_at, this_rest, this_goes, this_leaves, claims_leaves, assigns_leaves, assign_ended};
+ghost use Rattle.ipam_assign.specs.AddThis.{ThisGoing, this_going, this_next, this_then_next, wanted_at, looked_in, looked_of, rules_of, share_as, pools_part, block_part, this_part, this_at, this_rest, this_goes, this_leaves, claims_leaves, assigns_leaves, assign_ended};
 ghost use Rattle.ipam_block.specs.declared.limits.TheConstants.{ADDRESSES_MAX};
 ghost use Rattle.ipam_parts.specs.Reading.{lent_block};
 
@@ -144,7 +144,7 @@ impl AddThisProc {
     #[tactic(auto, using(crate::proofs::AddThisLemmas::pools_lead))]
     fn in_pools(&self, configured: Configured, hearing: &Heard) -> Goes
         ensures { this_goes self.now result
-            ≡ after_reply (this_at (pools_part (going self.now) self.now.left configured)) hearing.now.moment (said hearing.now.reply) }
+            ≡ after_reply (this_at (pools_part (this_going self.now) self.now.left configured)) hearing.now.moment (said hearing.now.reply) }
     {
         match place_in_pools(&self.request, self.address, &hearing.reply) {
             None => Goes::Answers(AddThisAnswer::NotInPool(hearing.moment)),
@@ -157,9 +157,9 @@ impl AddThisProc {
 
     /// Where the block that was read leads. One that is missing is claimed.
     fn at_block(&self, alloc: Global, ruled: &Ruled, hearing: &Heard) -> Result<Goes, AllocError>
-        requires { MayHear (this_at (block_part (going self.now) self.now.left ruled.now)) (said hearing.now.reply) }
+        requires { MayHear (this_at (block_part (this_going self.now) self.now.left ruled.now)) (said hearing.now.reply) }
         ensures { IfOk result (λ goes. this_goes self.now goes
-            ≡ after_reply (this_at (block_part (going self.now) self.now.left ruled.now)) hearing.now.moment (said hearing.now.reply)) }
+            ≡ after_reply (this_at (block_part (this_going self.now) self.now.left ruled.now)) hearing.now.moment (said hearing.now.reply)) }
     {
         match block_in(&hearing.reply) {
             None => self.claims(alloc, ruled.place.cidr(), None),
@@ -186,7 +186,7 @@ impl AddThisProc {
         requires free { is_held block.now (ruled.now.place.address.number - ruled.now.place.cidr.base) ≡ false }
         requires counted { block.now.sequence < 2 ^ 62 }
         ensures { IfOk result (λ goes. this_goes self.now goes
-            ≡ this_at (this_free (wanted_at self.now.request ruled.now.place.address) (next_for (going self.now)) self.now.left
+            ≡ this_at (this_free (wanted_at self.now.request ruled.now.place.address) (this_next (this_going self.now)) self.now.left
             (looked_in ruled.now moment) (revision, block.now))) }
     {
         match share_in(ruled.rules.config.strict, self.request.node.as_str(), block) {
@@ -210,7 +210,7 @@ impl AddThisProc {
         requires free { is_held block.now (ruled.now.place.address.number - ruled.now.place.cidr.base) ≡ false }
         requires counted { block.now.sequence < 2 ^ 62 }
         ensures { IfOk result (λ goes. this_goes self.now goes
-            ≡ this_at (this_take (wanted_at self.now.request ruled.now.place.address) (next_for (going self.now)) self.now.left
+            ≡ this_at (this_take (wanted_at self.now.request ruled.now.place.address) (this_next (this_going self.now)) self.now.left
             (looked_in ruled.now moment) (revision, block.now))) }
     {
         let ordinal = ruled.place.ordinal();
@@ -229,7 +229,7 @@ impl AddThisProc {
         requires small { cidr_size cidr ≤ ADDRESSES_MAX }
         requires counted { IfSome (lent_block read) (λ found. found.1.sequence < 2 ^ 62) }
         ensures { IfOk result (λ goes. this_goes self.now goes
-            ≡ this_at (part_then (claim_for self.now.request.node cidr (lent_block read.entry) self.now.left) (then_next (going self.now)))) }
+            ≡ this_at (part_then (claim_for self.now.request.node cidr (lent_block read.entry) self.now.left) (this_then_next (this_going self.now)))) }
     {
         let claim = ClaimProc::new(alloc, self.request.node.as_str(), cidr, read)?;
         Ok(Goes::To(Stage::Claims(claim)))
@@ -238,8 +238,8 @@ impl AddThisProc {
     /// Begins the next round, with so much left, where there is one more.
     #[tactic(auto, using(crate::proofs::AddThisLemmas::round_begins, crate::proofs::AddThisLemmas::next_asks))]
     fn next_round(&mut self, now: Left) -> Option<AddThisAnswer>
-        ensures answer { result ≡ answer_in (this_at (next_for (going self.old) now)) }
-        ensures on { IfNone result (this_rest self.new ≡ this_at (next_for (going self.old) now)) }
+        ensures answer { result ≡ answer_in (this_at (this_next (this_going self.old) now)) }
+        ensures on { IfNone result (this_rest self.new ≡ this_at (this_next (this_going self.old) now)) }
     {
         match self.rounds.next() {
             None => Some(add_this_stopped(now, Stop::OutOfTries)),
@@ -253,8 +253,8 @@ impl AddThisProc {
     }
 
     fn after_claim(&mut self, answer: ClaimAnswer) -> Option<AddThisAnswer>
-        ensures answer { result ≡ answer_in (this_at (part_then (after_claim self.old.left answer) (then_next (going self.old)))) }
-        ensures on { IfNone result (this_rest self.new ≡ this_at (part_then (after_claim self.old.left answer) (then_next (going self.old)))) }
+        ensures answer { result ≡ answer_in (this_at (part_then (after_claim self.old.left answer) (this_then_next (this_going self.old)))) }
+        ensures on { IfNone result (this_rest self.new ≡ this_at (part_then (after_claim self.old.left answer) (this_then_next (this_going self.old)))) }
     {
         match claimed(self.left, answer) {
             Outcome::Went(now, ()) => self.next_round(now),
@@ -267,8 +267,8 @@ impl AddThisProc {
         looked: Looked,
         outcome: Outcome<Option<Assigned>>,
     ) -> Option<AddThisAnswer>
-        ensures answer { result ≡ answer_in (this_at (assign_ended (going self.old) looked outcome)) }
-        ensures on { IfNone result (this_rest self.new ≡ this_at (assign_ended (going self.old) looked outcome)) }
+        ensures answer { result ≡ answer_in (this_at (assign_ended (this_going self.old) looked outcome)) }
+        ensures on { IfNone result (this_rest self.new ≡ this_at (assign_ended (this_going self.old) looked outcome)) }
     {
         match outcome {
             Outcome::Went(now, assigned) => self.after_write(looked, now, assigned),
@@ -282,8 +282,8 @@ impl AddThisProc {
         now: Left,
         assigned: Option<Assigned>,
     ) -> Option<AddThisAnswer>
-        ensures answer { result ≡ answer_in (this_at (this_assigned (wanted_at self.old.request looked.address) (next_for (going self.old)) (looked_of looked) now assigned)) }
-        ensures on { IfNone result (this_rest self.new ≡ this_at (this_assigned (wanted_at self.old.request looked.address) (next_for (going self.old)) (looked_of looked) now assigned)) }
+        ensures answer { result ≡ answer_in (this_at (this_assigned (wanted_at self.old.request looked.address) (this_next (this_going self.old)) (looked_of looked) now assigned)) }
+        ensures on { IfNone result (this_rest self.new ≡ this_at (this_assigned (wanted_at self.old.request looked.address) (this_next (this_going self.old)) (looked_of looked) now assigned)) }
     {
         match assigned {
             Some(done) => Some(AddThisAnswer::AddedThis(given(looked, done))),
@@ -374,10 +374,10 @@ fn place_in_pools(request: &AddRequest, address: Addr, reply: &Reply) -> Option<
 
 /// The claim goes where a reply led it, and is answered in the end.
 fn claim_goes(stage: &mut Stage, turned: ClaimTurned) -> Option<ClaimAnswer>
-    ensures ended { IfSome result (λ answer. (g : Going) (left : Left)
-        → claims_leaves g left stage.old turned ≡ part_then (after_claim left answer) (then_next g)) }
-    ensures on { IfNone result ((g : Going) (left : Left) → this_part g left stage.new ≡ claims_leaves g left stage.old turned) }
-    ensures asks { IfNone result ((g : Going) (left : Left) → None ≡ answer_in (this_at (claims_leaves g left stage.old turned))) }
+    ensures ended { IfSome result (λ answer. (g : ThisGoing) (left : Left)
+        → claims_leaves g left stage.old turned ≡ part_then (after_claim left answer) (this_then_next g)) }
+    ensures on { IfNone result ((g : ThisGoing) (left : Left) → this_part g left stage.new ≡ claims_leaves g left stage.old turned) }
+    ensures asks { IfNone result ((g : ThisGoing) (left : Left) → None ≡ answer_in (this_at (claims_leaves g left stage.old turned))) }
 {
     match stage {
         Stage::Claims(claim) => claim.go(turned),
@@ -390,10 +390,10 @@ fn assign_goes(
     stage: &mut Stage,
     turned: AssigningTurned,
 ) -> Option<(Looked, Outcome<Option<Assigned>>)>
-    ensures ended { IfSome result (λ e. (g : Going) (left : Left)
+    ensures ended { IfSome result (λ e. (g : ThisGoing) (left : Left)
         → assigns_leaves g left stage.old turned ≡ assign_ended g e.0 e.1) }
-    ensures on { IfNone result ((g : Going) (left : Left) → this_part g left stage.new ≡ assigns_leaves g left stage.old turned) }
-    ensures asks { IfNone result ((g : Going) (left : Left) → None ≡ answer_in (this_at (assigns_leaves g left stage.old turned))) }
+    ensures on { IfNone result ((g : ThisGoing) (left : Left) → this_part g left stage.new ≡ assigns_leaves g left stage.old turned) }
+    ensures asks { IfNone result ((g : ThisGoing) (left : Left) → None ≡ answer_in (this_at (assigns_leaves g left stage.old turned))) }
 {
     match stage {
         Stage::Assigns(looked, assigning) => match assigning.go(turned) {

@@ -4,9 +4,9 @@ ghost use Rattle.ipam_records.specs.Said.{said};
 ghost use Rattle.ipam_records.specs.Word.{next_call as asked_for, after_reply, answer_in};
 ghost use Rattle.ipam_choice.specs.Picked.{pick_as};
 ghost use Rattle.ipam_choice.specs.Viewed.{asked_of};
-ghost use Rattle.ipam_model.specs.Add.{name_at};
+ghost use Rattle.ipam_model.specs.Add.{name_in_place};
 ghost use Rattle.ipam_model.specs.Look.{asked_of_probe, probe_word};
-ghost use Rattle.ipam_assign.specs.Probe.{turn_family, probe_rest, probe_on, probe_goes, probe_leaves, after_scan, first_turn};
+ghost use Rattle.ipam_assign.specs.Probe.{turn_family, probe_rest, probe_on, probe_goes, probe_leaves, after_probe_scan, first_turn};
 ghost use Rattle.ipam_assign.specs.declared.scanning.Stage.TheVariants.{ReadsConfig};
 
 use crate::scanning::{Learned, Scanned, Scanning};
@@ -120,7 +120,7 @@ impl ProbeProc {
     /// Where what was picked leads.
     #[tactic(auto, using(crate::proofs::ProbeLemmas::slot_goes))]
     fn picked(&self, alloc: Global, scan: Scan, picked: &Picked) -> Result<Goes, AllocError>
-        ensures { IfOk result (λ goes. probe_goes self.now goes ≡ after_scan self.now.request self.now.turn (scan, pick_as picked.now)) }
+        ensures { IfOk result (λ goes. probe_goes self.now goes ≡ after_probe_scan self.now.request self.now.turn (scan, pick_as picked.now)) }
     {
         match picked {
             Picked::Nothing => Ok(Goes::Answers(ProbeAnswer::Exhausted(scan))),
@@ -218,7 +218,7 @@ fn turn_for(ipv4: bool, ipv6: bool) -> Turn
 
 /// A copy of the name at the place.
 fn name_in(alloc: Global, names: &[Text], place: usize) -> Result<Text, AllocError>
-    ensures { IfOk result (λ name. name ≡ name_at names.now place) }
+    ensures { IfOk result (λ name. name ≡ name_in_place names.now place) }
 {
     match names.get(place) {
         Some(name) => name.clone(),

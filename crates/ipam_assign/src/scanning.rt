@@ -5,7 +5,7 @@ ghost use Rattle.ipam_records.specs.Word.{next_call as asked_for, after_reply};
 ghost use Rattle.ipam_choice.specs.Viewed.{asked_of};
 ghost use Rattle.ipam_model.specs.Usable.{Asked};
 ghost use Rattle.ipam_assign.specs.Picked.{FitsScanned};
-ghost use Rattle.ipam_assign.specs.Scanning.{scanning_at, scanned_as, learn, pools_read, reservations_read, affinities_listed};
+ghost use Rattle.ipam_assign.specs.Scanning.{scanning_at, scanned_as, learn, with_pools_read, reservations_read, affinities_listed};
 ghost use Rattle.ipam_assign.specs.declared.scanning.Configured.{Configured as TheConfigured};
 ghost use Rattle.ipam_assign.specs.declared.scanning.Pooled.{Pooled as ThePooled};
 ghost use Rattle.ipam_assign.specs.declared.scanning.Reserving.{Reserving as TheReserving};
@@ -212,7 +212,7 @@ impl Learned {
 impl Configured {
     fn took(&self, alloc: Global, hearing: &Heard) -> Result<Learned, AllocError>
         ensures { IfOk result (λ learned. (asked : Asked) → scanning_at asked (learn (ReadsPools self.now) learned)
-            ≡ after_reply (pools_read asked self.now) hearing.now.moment (said hearing.now.reply)) }
+            ≡ after_reply (with_pools_read asked self.now) hearing.now.moment (said hearing.now.reply)) }
     {
         let pools = pools_in(alloc, &hearing.reply)?;
         let learned = Learned::pools(pools, hearing.moment);

@@ -3,7 +3,7 @@ use Rattle.std.specs.Prelude.{◌≡◌, ℕ, List, codes, Option}
 use Rattle.ipam_records.specs.declared.call.Row.{Row as RowText}
 use Rattle.ipam_records.specs.Datastore.{Datastore}
 use Rattle.ipam_commands.specs.declared.status.Status.{Status}
-use Rattle.ipam_commands.specs.Statuses.{code_of}
+use Rattle.ipam_commands.specs.Statuses.{code_of_status}
 use Rattle.ipam_commands.specs.Telling.{AreOpened}
 use Rattle.ipam_audit.specs.declared.report.Report.{Report}
 use Rattle.ipam_audit.specs.Reported.{report_of}
@@ -11,7 +11,7 @@ use Rattle.ipam_audit.specs.Reported.{report_of}
 -- the exit status is that of an ending of which this is so
 pub record EndsSo (code : ℕ) (so : Status → Type 0) : Type 0 where
   pub ending : Status
-  pub has_code : code ≡ code_of ending
+  pub has_code : code ≡ code_of_status ending
   pub is_so : so ending
 
 abbrev pub unknown_line : List ℕ

@@ -53,7 +53,7 @@ fn held(block: &Block, handle: &str) -> usize
     block
         .allocations()
         .iter()
-        .filter(|allocation| allocation.attributes.handle.as_str() == handle)
+        .filter(|allocation| allocation.attributes.get().handle.as_str() == handle)
         .count()
 }
 

@@ -1,5 +1,5 @@
 //! The program's words `audit N`.
-ghost use Rattle.std.specs.Prelude.{◌≡◌, ◌≤◌, ◌<◌, None, Err, IsSome, IfOk, IfErr, OnOk, map, string_bytes};
+ghost use Rattle.std.specs.Prelude.{◌≡◌, ◌≤◌, ◌<◌, ◌⊎◌, None, Err, IsSome, IfOk, IfErr, OnOk, OnErr, map, string_bytes};
 ghost use Rattle.std.specs.Thread.{IsSync};
 ghost use Rattle.ipam_kept.specs.Faults.{not_loaded, not_opened};
 ghost use Rattle.ipam_commands.specs.Telling.{IsNotLoaded, ReportsRows, Writes};
@@ -21,13 +21,13 @@ use crate::printed::report_text;
 use crate::report::Report;
 use crate::words::workers_asked;
 use ipam_cluster::Base;
-use ipam_commands::{Status, tell, tell_fault, tell_made};
+use ipam_commands::{MakesBroken, Status, tell, tell_fault, tell_made};
 use ipam_io::Sink;
 use ipam_keeper::{KeepFault, Keeper};
 use ipam_kept::{KeptFault, greatest_revision};
 use ipam_opening::OpenFault;
 use ipam_records::Row;
-use std::alloc::Global;
+use std::alloc::{AllocError, Global};
 use std::thread::Threads;
 
 /// Runs the words `audit N` over the rows of a keeper, with N workers from 1 to 16, and answers the
@@ -59,10 +59,11 @@ pub fn run_audit<R: Threads + Sync, K: Sink, D: Keeper>(
     }
 }
 
-/// Writes the report on the keeper's rows, or why there is none.
-fn tell_audit<R: Threads + Sync, K: Sink, D: Keeper>(
+/// Writes the report on the keeper's rows, or why there is none. It ends for want of memory only where the audit
+/// found none, or the line on broken rows.
+fn tell_audit<R: Threads + Sync, T: Audits + MakesBroken + Copy + Drop, K: Sink, D: Keeper>(
     rt: &R,
-    alloc: Global,
+    alloc: T,
     workers: u8,
     sink: &mut K,
     keeper: &mut D,
@@ -72,13 +73,14 @@ fn tell_audit<R: Threads + Sync, K: Sink, D: Keeper>(
     ensures told { ReportsRows (D.rows keeper.old) (D.faults keeper.old) (D.faults keeper.new) (λ rows store. report_text (report_of store))
         (λ text own. Writes (K.written sink.old) (K.written sink.new)
         (K.write_faults sink.old) (K.write_faults sink.new) text own result) }
+    ensures want_of_memory_has_its_cause { result ≡ Status.NoMemory → T.Audits.wants alloc ⊎ T.MakesBroken.wants alloc }
     ensures same_rows { D.rows keeper.new ≡ D.rows keeper.old }
     ensures same { D.name keeper.new ≡ D.name keeper.old }
     ensures rest { K.write_rest sink.new ≡ K.write_rest sink.old }
 {
     match audit_kept(rt, alloc, workers, keeper) {
         Ok(report) => {
-            let text = report_text(alloc, &report);
+            let text = alloc.text(&report);
             tell_made(sink, text, Status::Done)
         }
         Err(fault) => tell_fault(alloc, sink, fault),
@@ -115,6 +117,11 @@ trait Audits {
         ensures report { IfOk result (IsReportOf (texts_loaded rows.items)) }
         ensures refused { IfErr result (IsFaultOf (texts_loaded rows.items)) }
         ensures wants { result ≡ Err OpenFault.Memory → wants self.now };
+
+    /// The text of the report.
+    fn text(&self, report: &Report) -> Result<String, AllocError>
+        ensures text { IfOk result (λ text. string_bytes text ≡ report_text report.now) }
+        ensures wants { OnErr result (wants self.now) };
 }
 
 impl Audits for Global {
@@ -131,6 +138,10 @@ impl Audits for Global {
         rows: Vec<Row>,
     ) -> Result<Report, OpenFault> {
         audit_loaded(rt, *self, workers, rows)
+    }
+
+    fn text(&self, report: &Report) -> Result<String, AllocError> {
+        report_text(*self, report)
     }
 }
 

@@ -1,7 +1,9 @@
 ghost use Rattle.std.specs.Prelude.{◌≡◌};
 
 use ipam_text::{Seq, Text};
-use std::alloc::AllocError;
+use std::alloc::{AllocError, Global};
+use std::marker::Model;
+use std::sync::Arc;
 
 /// What is kept of an assignment beside its address: the handle that it is recorded to, and pairs
 /// of a key and a value, the keys ascending by their bytes and distinct.
@@ -33,6 +35,70 @@ impl Clone for Attributes {
     }
 }
 
+/// Attributes that copies share: the first copy takes memory of its own, and those made of a copy take
+/// none but a count.
+#[derive(Debug)]
+pub struct SharedAttributes {
+    kept: Kept,
+}
+
+#[derive(Debug, Drop)]
+pub(crate) enum Kept {
+    /// Not copied yet, with the allocator for the first copy.
+    Own(Attributes, Global),
+    Shared(Arc<Attributes>),
+}
+
+impl Drop for SharedAttributes {
+    fn drop(self) {
+        let SharedAttributes { kept: _ } = self;
+    }
+}
+
+impl Model for SharedAttributes {
+    ghost use Rattle.ipam_block.specs.Kept.{attributes_kept};
+    ghost use Rattle.ipam_block.specs.declared.allocation.Attributes.{Attributes};
+
+    ghost Value = { Attributes };
+
+    ghost view = { λ s. attributes_kept s.kept };
+}
+
+impl SharedAttributes {
+    /// These attributes, with nothing copied. Takes no memory.
+    pub fn of(alloc: Global, attributes: Attributes) -> SharedAttributes
+        ensures { result ≡ attributes }
+    {
+        SharedAttributes {
+            kept: Kept::Own(attributes, alloc),
+        }
+    }
+
+    /// The attributes, borrowed.
+    pub fn get(&self) -> &Attributes
+        ensures { result.now ≡ self.now }
+    {
+        match &self.kept {
+            Kept::Own(attributes, _) => attributes,
+            Kept::Shared(shared) => shared,
+        }
+    }
+}
+
+impl Clone for SharedAttributes {
+    ghost is_clone = { λ old new. new ≡ old };
+
+    fn clone(&self) -> Result<SharedAttributes, AllocError> {
+        let shared = match &self.kept {
+            Kept::Own(attributes, alloc) => Arc::new(*alloc, attributes.clone()?)?,
+            Kept::Shared(shared) => Arc::try_clone(shared)?,
+        };
+        Ok(SharedAttributes {
+            kept: Kept::Shared(shared),
+        })
+    }
+}
+
 /// One held address of a block: its ordinal, counted from the block's first address as 0, and the
 /// stamp of its assignment, by which a later assignment of the same address differs from it.
 #[derive(Debug)]
@@ -40,7 +106,7 @@ pub struct Allocation {
     /// The number of the address in the block. In a block it is at most 4,095.
     pub ordinal: u16,
     /// The handle that holds the address, and the pairs kept with it.
-    pub attributes: Attributes,
+    pub attributes: SharedAttributes,
     /// The sequence number of the block when the allocation was made. In a block it is at least 1,
     /// and at most the block's present sequence number.
     pub stamp: u64,

@@ -7,7 +7,7 @@ ghost use Rattle.ipam_block.specs.Operations.{ordinal_address, node_bytes};
 ghost use Rattle.ipam_block.specs.Sound.{ordinals_below, held_ordinals};
 ghost use Rattle.ipam_block.specs.Picked.{picks};
 
-use crate::allocation::{Allocation, Attributes, Held, PartsFault};
+use crate::allocation::{Allocation, Attributes, Held, PartsFault, SharedAttributes};
 use crate::limits::ADDRESSES_MAX;
 use crate::sound::are_sound;
 use ipam_addr::{Addr, Cidr, Spared};
@@ -85,11 +85,11 @@ impl Which<'_> {
         ensures { result ≡ picks self.now allocation.now }
     {
         match self {
-            Which::Owned(handle) => allocation.attributes.handle.as_str() == *handle,
+            Which::Owned(handle) => allocation.attributes.get().handle.as_str() == *handle,
             Which::Stamped(ordinal, handle, stamp) => {
                 allocation.ordinal == *ordinal
                     && allocation.stamp == *stamp
-                    && allocation.attributes.handle.as_str() == *handle
+                    && allocation.attributes.get().handle.as_str() == *handle
             }
         }
     }
@@ -263,7 +263,7 @@ impl Block {
         match place(held, ordinal) {
             Ok(place) => {
                 let allocation = &held[place];
-                Some((&allocation.attributes, allocation.stamp))
+                Some((allocation.attributes.get(), allocation.stamp))
             }
             Err(_) => None,
         }
@@ -283,9 +283,10 @@ impl Block {
         let Err(place) = place(self.held.as_slice(), ordinal) else {
             return Err(Held { attributes });
         };
+        let alloc = *self.held.allocator();
         let allocation = Allocation {
             ordinal,
-            attributes,
+            attributes: SharedAttributes::of(alloc, attributes),
             stamp: self.sequence,
         };
         insert_reserved(&mut self.held, place, allocation);

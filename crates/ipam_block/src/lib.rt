@@ -9,6 +9,6 @@ pub mod laws;
 mod limits;
 mod sound;
 
-pub use allocation::{Allocation, Attributes, Held, PartsFault};
+pub use allocation::{Allocation, Attributes, Held, PartsFault, SharedAttributes};
 pub use block_record::{Block, Which};
 pub use limits::{ADDRESSES_MAX, CHECKED_MAX, KEY_BYTES_MAX, PAIRS_MAX, VALUE_BYTES_MAX};

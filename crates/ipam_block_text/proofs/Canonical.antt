@@ -13,8 +13,8 @@ use Rattle.ipam_block.specs.declared.allocation.Attributes.{Attributes}
 use Rattle.ipam_block.specs.declared.limits.TheConstants.{PAIRS_MAX}
 use Rattle.ipam_block_text.specs.Attributes.{Pair}
 use Rattle.ipam_block_text.specs.Limits.{are_pairs, is_small_pair, keys_ascend, are_attributes}
-use Rattle.ipam_block_text.specs.Body.{affinity_data, place_data, with_pair, secondary_data, attributes_data, stamps_data}
-use Rattle.ipam_block_text.specs.Reading.{each, only_if, pair_in, place_in, attributes_in, handle_in, secondary_in}
+use Rattle.ipam_block_text.specs.Body.{host_data, place_data, with_pair, secondary_data, attributes_data, stamps_data}
+use Rattle.ipam_block_text.specs.Reading.{each, if_passes, pair_in, place_in, attributes_in, handle_id_in, secondary_in}
 use Rattle.ipam_block_text.proofs.PairKeys.{pair_field, pairs_members}
 
 -- ---- what is written of each item is read of it
@@ -44,15 +44,15 @@ pairs_read pairs up = ap (each pair_in) (secondary_listed pairs up) ∙ each-sam
 pairs_parts : (pairs : List Pair) → are_pairs pairs ≡ true → keys_ascend pairs ≡ true
 pairs_parts pairs h = (and_parts (nat_le (length pairs) PAIRS_MAX && list_all is_small_pair pairs) (keys_ascend pairs) h).1
 
-passes : {A : Type 0} (test : A → Bool) (x : A) → test x ≡ true → only_if test x ≡ Some x
+passes : {A : Type 0} (test : A → Bool) (x : A) → test x ≡ true → if_passes test x ≡ Some x
 passes test x h = ap (λ b. cond b (Some x) None) h
 
 secondary_read : (a : Attributes) → are_pairs a.secondary ≡ true → secondary_in (attributes_data a) ≡ Some a.secondary
 unfolding secondary_in
-secondary_read a h = ap (option_and_then (only_if are_pairs)) (pairs_read a.secondary (pairs_parts a.secondary h)) ∙ passes are_pairs a.secondary h
+secondary_read a h = ap (option_and_then (if_passes are_pairs)) (pairs_read a.secondary (pairs_parts a.secondary h)) ∙ passes are_pairs a.secondary h
 
-handle_read : (a : Attributes) → is_handle_text a.handle ≡ true → handle_in (attributes_data a) ≡ Some a.handle
-unfolding handle_in
+handle_read : (a : Attributes) → is_handle_text a.handle ≡ true → handle_id_in (attributes_data a) ≡ Some a.handle
+unfolding handle_id_in
 handle_read a h = passes is_handle_text a.handle h
 
 pub attributes_read : (a : Attributes) → are_attributes a ≡ true → attributes_in (attributes_data a) ≡ Some a
@@ -92,7 +92,7 @@ pub map_canonical : {A : Type 0} (levels : ℕ) (f : A → Data) (xs : List A) �
 map_canonical levels f [] h = tt
 map_canonical levels f (x ∷ xs) h = (h 0 x (omega arith), map_canonical levels f xs (λ i d within. h (suc i) d (omega arith)))
 
-pub affinity_canonical : (node : Option (List ℕ)) → IsCanonicalWithin 3 (affinity_data node)
+pub affinity_canonical : (node : Option (List ℕ)) → IsCanonicalWithin 3 (host_data node)
 affinity_canonical None = IsCanonicalWithin-null 3
 affinity_canonical (Some n) = IsCanonicalWithin-string 3 (codes "host:" ++ n)
 

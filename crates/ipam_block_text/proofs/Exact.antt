@@ -12,7 +12,7 @@ use Rattle.std.proofs.lemmas.List.{length-map, get_or-map, get_or-append-add}
 use Rattle.std.proofs.Math.ListN.{get_or-append}
 use Rattle.std.proofs.lemmas.List.Elements.{All-push}
 use Rattle.std.proofs.lemmas.List.FromFn.{length-range_with_len}
-use Rattle.serde_json.specs.Data.{Data, Members, no_members, member, put}
+use Rattle.serde_json.specs.Data.{Data, Members, no_members, member, put, string}
 use Rattle.serde_json.specs.Read.{read}
 use Rattle.serde_json.specs.Written.{compact_text}
 use Rattle.serde_json.specs.View.{items_of}
@@ -44,9 +44,9 @@ use Rattle.ipam_block_text.specs.declared.fault.BodyFault.TheVariants.{Form, Uns
 use Rattle.ipam_block_text.specs.Attributes.{are_same, with_those_of, distinct_attributes}
 use Rattle.ipam_block_text.specs.Limits.{is_node_or_none, are_attributes}
 use Rattle.ipam_block_text.specs.Form.{AreParts, AreStamps}
-use Rattle.ipam_block_text.specs.Parts.{place_of, block_parts}
-use Rattle.ipam_block_text.specs.Body.{affinity_data, place_data, attributes_data, cidr_data, with_stamp, stamps_data, parts_data, block_body}
-use Rattle.ipam_block_text.specs.Reading.{each, only_if, after_host, affinity_in, node_in, places_in, place_in, all_attributes_in, attributes_in, cidr_in, small_cidr, sequence_in, queue_in, parts_in, is_number_name, is_stamp, are_stamps, stamps_in, form_in, form_text, block_form, cidr_said, held_from, are_ordinals, block_in, has_text, checked, reading_from, block_reading}
+use Rattle.ipam_block_text.specs.Parts.{holder_place, block_parts}
+use Rattle.ipam_block_text.specs.Body.{host_data, place_data, attributes_data, with_stamp, stamps_data, parts_data, block_body}
+use Rattle.ipam_block_text.specs.Reading.{each, if_passes, after_host, host_in, node_in, places_in, place_in, all_attributes_in, attributes_in, small_cidr_in, small_cidr, sequence_in, queue_in, parts_in, is_number_name, is_stamp, are_stamps, stamps_in, form_in, form_text, block_form, cidr_said, held_from, are_ordinals, block_of_parts_in, has_text, checked, reading_from, block_reading}
 use Rattle.ipam_block_text.proofs.Limited.{IsLimited, limited, node_there, node_back, attributes_there, attributes_back}
 use Rattle.ipam_block_text.proofs.Options.{and_then_some}
 use Rattle.ipam_block_text.proofs.Said.{parts_said}
@@ -54,7 +54,7 @@ use Rattle.ipam_block_text.proofs.Sound.{block_sound, block_reading-ok}
 use Rattle.ipam_block_text.proofs.Canonical.{each-same, attributes_read, place_read, stamps_canonical, attributes_canonical, map_canonical, affinity_canonical, place_canonical}
 use Rattle.ipam_block_text.proofs.ReadBack.{all_known, few_in_use, held_back}
 
-passes : {A : Type 0} (test : A → Bool) (x : A) → test x ≡ true → only_if test x ≡ Some x
+passes : {A : Type 0} (test : A → Bool) (x : A) → test x ≡ true → if_passes test x ≡ Some x
 passes test x h = ap (λ b. cond b (Some x) None) h
 
 -- ---- bounds in a block
@@ -79,7 +79,7 @@ queued_below b h i d within =
 
 -- ---- the parts
 
-affinity_read : (node : Option (List ℕ)) → is_node_or_none node ≡ true → affinity_in (affinity_data node) ≡ Some node
+affinity_read : (node : Option (List ℕ)) → is_node_or_none node ≡ true → host_in (host_data node) ≡ Some node
 unfolding after_host
 affinity_read None h = refl
 affinity_read (Some name) h = ap (option_map Some) (passes is_name_text name h)
@@ -99,8 +99,8 @@ all_attributes_read : (p : Parts) (s : Data) → All (λ a. are_attributes a ≡
 unfolding all_attributes_in parts_data
 all_attributes_read p s h = items_read attributes_in attributes_data p.attributes (λ i d within. attributes_read (get_or p.attributes i d) (h i d within))
 
-cidr_read : (p : Parts) (s : Data) → IsCidr p.cidr → cidr_size p.cidr ≤ ADDRESSES_MAX → cidr_in (parts_data p s) ≡ Some p.cidr
-unfolding cidr_in parts_data
+cidr_read : (p : Parts) (s : Data) → IsCidr p.cidr → cidr_size p.cidr ≤ ADDRESSES_MAX → small_cidr_in (parts_data p s) ≡ Some p.cidr
+unfolding small_cidr_in parts_data
 cidr_read p s range small = ap small_cidr (cidr_reading-cidr_text_of p.cidr range) ∙ ap (λ b. cond b (Some p.cidr) None) (le-leb _ _ small)
 
 sequence_read : (p : Parts) (s : Data) → p.sequence < 2 ^ 64 → sequence_in (parts_data p s) ≡ Some p.sequence
@@ -153,8 +153,8 @@ stamps_read p stamps h = passes are_stamps stamps h
 
 -- ---- the value is canonical
 
-index_below : (all : List Attributes) (b : BlockValue) (o i : ℕ) → place_of all b o ≡ Some i → i < length all
-unfolding place_of
+index_below : (all : List Attributes) (b : BlockValue) (o i : ℕ) → holder_place all b o ≡ Some i → i < length all
+unfolding holder_place
 index_below all b o i e =
     let found = and_then_some (λ a. position (are_same a.attributes) all) (holder b o) i e in
     let p = are_same (found.0).attributes in
@@ -186,10 +186,10 @@ parts_canonical : (p : Parts) (stamps : Data) → AreParts p → AreStamps stamp
 unfolding parts_data
 parts_canonical p stamps h named =
     let fields : List Field =
-    (codes "affinity", affinity_data p.node)
+    (codes "affinity", host_data p.node)
     ∷ (codes "allocations", array_of (map place_data p.places))
     ∷ (codes "attributes", array_of (map attributes_data p.attributes))
-    ∷ (codes "cidr", cidr_data p.cidr)
+    ∷ (codes "cidr", string (cidr_text_of p.cidr))
     ∷ (codes "sequenceNumber", whole_data p.sequence)
     ∷ (codes "sequenceNumberForAllocation", stamps)
     ∷ (codes "unallocated", array_of (map whole_data p.queue))
@@ -245,7 +245,7 @@ small_places : (b : BlockValue) → IsBlock b → All (λ place. unwrap_or place
 small_places b h i d within =
     let all = distinct_attributes b.allocations in
     let few = few_indexes b h in
-    let place = place_of all b in
+    let place = holder_place all b in
     let ordinals = ordinals_below (cidr_size b.cidr) in
     let long = length-map ordinals place in
     let here : get_or (map place ordinals) i d ≡ place (get_or ordinals i 0) = get_or-map place ordinals i 0 d (omega arith) in
@@ -300,7 +300,7 @@ unsound_said body cidr h = go (block_form body) h
 
     go : (o : Option (Parts × Data)) → reading_from body o ≡ Err (Unsound cidr) → option_map (λ f. f.0.cidr) o ≡ Some cidr
     go None k = absurd cc
-    go (Some f) k = ap Some (sym (same cidr f.0.cidr (checked_fault body f.0.cidr (block_in f.0 f.1) (Unsound cidr) k)))
+    go (Some f) k = ap Some (sym (same cidr f.0.cidr (checked_fault body f.0.cidr (block_of_parts_in f.0 f.1) (Unsound cidr) k)))
 
 -- ---- the block
 
@@ -310,8 +310,8 @@ are_ordinals-below n (o ∷ queue) small h =
     let below = h 0 o (omega arith) in
     and_from _ _ (lt-ltb _ _ (omega arith)) (are_ordinals-below n queue small (λ i d within. h (suc i) d (omega arith)))
 
-block_back : (b : BlockValue) → IsLimited b → block_in (block_parts b) (stamps_data b.allocations) ≡ Some b
-unfolding block_in
+block_back : (b : BlockValue) → IsLimited b → block_of_parts_in (block_parts b) (stamps_data b.allocations) ≡ Some b
+unfolding block_of_parts_in
 block_back b h =
     let block = h.block in
     let small = block.small in
@@ -323,12 +323,12 @@ block_back b h =
     let held = held_back all (stamps_data b.allocations) b 0 n b.allocations (λ o from. refl) up
     (λ i d within. let below = held_below b block i d within in omega arith)
     (all_known b.allocations up fits) in
-    let count = length-map (ordinals_below n) (place_of all b) in
+    let count = length-map (ordinals_below n) (holder_place all b) in
     let long = length-range_with_len 0 n in
     let same = eq-eqb (length (block_parts b).places) n (omega arith) in
     let tests = and_from _ _ same (are_ordinals-below n b.queue small (queued_below b block)) in
     let made : List Allocation → BlockValue = λ found. content_of b.cidr b.node found b.queue b.sequence in
-    let whole = λ (o : Option (List Allocation)). option_and_then (only_if is_block) (option_map made o) in
+    let whole = λ (o : Option (List Allocation)). option_and_then (if_passes is_block) (option_map made o) in
     ap (λ t. cond t (whole (held_from all (stamps_data b.allocations) 0 (block_parts b).places)) None) tests
     ∙ ap whole held ∙ passes is_block b passed
 
@@ -357,7 +357,7 @@ pub record SaysForm (body : List ℕ) (d : Data) (p : Parts) (stamps : Data) : T
   pub parts : parts_in d ≡ Some p
   pub stamps_said : stamps_in d ≡ Some stamps
 
-is_form : (body : List ℕ) (d : Data) (p : Parts) (stamps : Data) → SaysForm body d p stamps → block_form body ≡ only_if (λ f. bytes_eq (compact_text (parts_data f.0 f.1)) body) (p, stamps)
+is_form : (body : List ℕ) (d : Data) (p : Parts) (stamps : Data) → SaysForm body d p stamps → block_form body ≡ if_passes (λ f. bytes_eq (compact_text (parts_data f.0 f.1)) body) (p, stamps)
 unfolding block_form held
 is_form body d p stamps says = rw (says.value, says.parts, says.stamps_said) refl
 
@@ -379,9 +379,9 @@ texted body (Some c) b e =
     let parts = cond_some (bytes_eq (block_body c) body) c b e in
     (ap Some parts.1, ap block_body (sym parts.1) ∙ (bytes_eq-Decides (block_body c) body).0 parts.0)
 
-pub block_found : (body : List ℕ) (d : Data) (p : Parts) (stamps : Data) (b : BlockValue) → SaysForm body d p stamps → option_and_then (has_text body) (block_in p stamps) ≡ Some b → block_reading body ≡ Ok b
+pub block_found : (body : List ℕ) (d : Data) (p : Parts) (stamps : Data) (b : BlockValue) → SaysForm body d p stamps → option_and_then (has_text body) (block_of_parts_in p stamps) ≡ Some b → block_reading body ≡ Ok b
 block_found body d p stamps b says e =
-    let found = texted body (block_in p stamps) b e in
+    let found = texted body (block_of_parts_in p stamps) b e in
     ap block_reading (sym found.1) ∙ limited_block_read b (block_sound d p stamps b (parts_said d p says.parts) found.0)
 
 untexted : (body : List ℕ) (cidr : CidrValue) (o : Option BlockValue) → option_and_then (has_text body) o ≡ None → checked body cidr o ≡ Err (Unsound cidr)
@@ -392,12 +392,12 @@ untexted body cidr (Some b) e = go (bytes_eq (block_body b) body) e
     go true k = absurd cc
     go false k = refl
 
-pub unsound_found : (body : List ℕ) (d : Data) (p : Parts) (stamps : Data) → SaysForm body d p stamps → option_and_then (has_text body) (block_in p stamps) ≡ None → bytes_eq (compact_text (parts_data p stamps)) body ≡ true → block_reading body ≡ Err (Unsound p.cidr)
+pub unsound_found : (body : List ℕ) (d : Data) (p : Parts) (stamps : Data) → SaysForm body d p stamps → option_and_then (has_text body) (block_of_parts_in p stamps) ≡ None → bytes_eq (compact_text (parts_data p stamps)) body ≡ true → block_reading body ≡ Err (Unsound p.cidr)
 unfolding block_reading
 unsound_found body d p stamps says none same =
     let is_text : Parts × Data → Bool = λ f. bytes_eq (compact_text (parts_data f.0 f.1)) body in
     ap (reading_from body) (is_form body d p stamps says ∙ passes is_text (p, stamps) same)
-    ∙ untexted body p.cidr (block_in p stamps) none
+    ∙ untexted body p.cidr (block_of_parts_in p stamps) none
 
 pub form_found : (body : List ℕ) (d : Data) (p : Parts) (stamps : Data) → SaysForm body d p stamps → bytes_eq (compact_text (parts_data p stamps)) body ≡ false → block_reading body ≡ Err Form
 unfolding block_reading
@@ -413,7 +413,7 @@ formless_said body e = go (block_form body) e
   where
     go : (o : Option (Parts × Data)) → reading_from body o ≡ Err Form → option_map (λ f. f.0.cidr) o ≡ None
     go None k = refl
-    go (Some f) k = let is = checked_fault body f.0.cidr (block_in f.0 f.1) Form k in absurd cc
+    go (Some f) k = let is = checked_fault body f.0.cidr (block_of_parts_in f.0 f.1) Form k in absurd cc
 
 -- parts and stamps within the limits say the CIDR
 pub parts_say : (p : Parts) (stamps : Data) → AreParts p → AreStamps stamps → cidr_said (compact_text (parts_data p stamps)) ≡ Some p.cidr
@@ -431,7 +431,7 @@ no_memory_read body e = go (block_form body) e
   where
     go : (o : Option (Parts × Data)) → reading_from body o ≢ Err Memory
     go None k = absurd cc
-    go (Some f) k = let is = checked_fault body f.0.cidr (block_in f.0 f.1) Memory k in absurd cc
+    go (Some f) k = let is = checked_fault body f.0.cidr (block_of_parts_in f.0 f.1) Memory k in absurd cc
 
 formless_read : (body : List ℕ) → cidr_said body ≡ None → block_reading body ≡ Err Form
 unfolding block_reading

@@ -10,13 +10,13 @@ use Rattle.ipam_block.specs.declared.allocation.Attributes.{Attributes}
 use Rattle.ipam_block_text.specs.declared.parts.Parts.{Parts}
 use Rattle.ipam_block_text.specs.Attributes.{Pair}
 use Rattle.ipam_json.specs.Built.{whole_data}
-use Rattle.ipam_block_text.specs.Body.{affinity_data, place_data, attributes_data, secondary_data, stamps_data, parts_data}
+use Rattle.ipam_block_text.specs.Body.{host_data, place_data, attributes_data, secondary_data, stamps_data, parts_data}
 
 place_without : (p : Option ℕ) → has_float (place_data p) ≡ false
 place_without None = refl
 place_without (Some i) = refl
 
-affinity_without : (node : Option (List ℕ)) → has_float (affinity_data node) ≡ false
+affinity_without : (node : Option (List ℕ)) → has_float (host_data node) ≡ false
 affinity_without None = refl
 affinity_without (Some n) = refl
 

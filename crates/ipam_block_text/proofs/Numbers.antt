@@ -20,7 +20,7 @@ use Rattle.ipam_block.specs.Operations.{holder}
 use Rattle.ipam_block_text.specs.Attributes.{Pair, are_same, with_attributes, with_those_of, distinct_attributes}
 use Rattle.ipam_block_text.specs.Numbering.{AttributesKey, pair_cmp, key_cmp, IsNumbering, placed, numbered_in, index_at}
 use Rattle.ipam_block_text.specs.declared.parts.Parts.{Parts}
-use Rattle.ipam_block_text.specs.Parts.{place_of, block_parts}
+use Rattle.ipam_block_text.specs.Parts.{holder_place, block_parts}
 use Rattle.ipam_block_text.proofs.ReadBack.{are_same-true, are_same-itself}
 
 -- ---- the order tells all attributes apart
@@ -328,8 +328,8 @@ place_found (p ∷ held) found (x ∷ xs) o e =
     at true here later = here
     at false here later = later
 
-pub places_found : (held : List (ℕ × ℕ)) (b : BlockValue) (os : List ℕ) → map placed held ≡ map (numbered_in (distinct_attributes b.allocations)) b.allocations → map (index_at held) os ≡ map (place_of (distinct_attributes b.allocations) b) os
-unfolding place_of
+pub places_found : (held : List (ℕ × ℕ)) (b : BlockValue) (os : List ℕ) → map placed held ≡ map (numbered_in (distinct_attributes b.allocations)) b.allocations → map (index_at held) os ≡ map (holder_place (distinct_attributes b.allocations) b) os
+unfolding holder_place
 places_found held b [] e = refl
 places_found held b (o ∷ os) e =
     let here = place_found held (distinct_attributes b.allocations) b.allocations o e in

@@ -18,7 +18,7 @@ use Rattle.ipam_block.specs.Shape.{BlockValue}
 use Rattle.ipam_block.specs.Operations.{holder}
 use Rattle.ipam_block.specs.Test.{ascends_from}
 use Rattle.ipam_block_text.specs.Attributes.{Pair, is_same_pair, are_same, with_those_of, distinct_attributes}
-use Rattle.ipam_block_text.specs.Parts.{place_of}
+use Rattle.ipam_block_text.specs.Parts.{holder_place}
 use Rattle.ipam_json.specs.Built.{whole_data}
 use Rattle.ipam_block_text.specs.Body.{with_stamp, stamps_data}
 use Rattle.ipam_block_text.specs.Reading.{stamp_of, allocation_at, held_from}
@@ -174,16 +174,16 @@ none_at least a (y ∷ ys) below up =
     let above = leb-true _ _ parts.0 in
     rw (ne_eqb y.ordinal a (λ e. omega arith)) (none_at (y.ordinal + 1) a ys (omega arith) parts.1)
 
-place_none : (all : List Attributes) (b : BlockValue) (o : ℕ) → holder b o ≡ None → place_of all b o ≡ None
-unfolding place_of
+place_none : (all : List Attributes) (b : BlockValue) (o : ℕ) → holder b o ≡ None → holder_place all b o ≡ None
+unfolding holder_place
 place_none all b o e = ap (option_and_then (λ a. position (are_same a.attributes) all)) e
 
-place_some : (all : List Attributes) (b : BlockValue) (o : ℕ) (y : Allocation) → holder b o ≡ Some y → place_of all b o ≡ position (are_same y.attributes) all
-unfolding place_of
+place_some : (all : List Attributes) (b : BlockValue) (o : ℕ) (y : Allocation) → holder b o ≡ Some y → holder_place all b o ≡ position (are_same y.attributes) all
+unfolding holder_place
 place_some all b o y e = ap (option_and_then (λ a. position (are_same a.attributes) all)) e
 
 -- what is held from the ordinal on is found again
-pub held_back : (all : List Attributes) (stamps : Data) (b : BlockValue) (a m : ℕ) (ys : List Allocation) → ((o : ℕ) → a ≤ o → holder b o ≡ find (λ x. x.ordinal == o) ys) → ascends_from a ys ≡ true → All (λ y. y.ordinal < a + m) ys → All (λ y. IsKnown all stamps y) ys → held_from all stamps a (map (place_of all b) (range_with_len a m)) ≡ Some ys
+pub held_back : (all : List Attributes) (stamps : Data) (b : BlockValue) (a m : ℕ) (ys : List Allocation) → ((o : ℕ) → a ≤ o → holder b o ≡ find (λ x. x.ordinal == o) ys) → ascends_from a ys ≡ true → All (λ y. y.ordinal < a + m) ys → All (λ y. IsKnown all stamps y) ys → held_from all stamps a (map (holder_place all b) (range_with_len a m)) ≡ Some ys
 held_back all stamps b a zero [] held up below known = refl
 held_back all stamps b a zero (y ∷ ys) held up below known =
     let parts = and_parts (nat_le a y.ordinal) (ascends_from (y.ordinal + 1) ys) up in

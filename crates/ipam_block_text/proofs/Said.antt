@@ -15,7 +15,7 @@ use Rattle.ipam_json.specs.Path.{as_whole}
 use Rattle.ipam_json.specs.Built.{member_list}
 use Rattle.ipam_block.specs.declared.limits.TheConstants.{ADDRESSES_MAX}
 use Rattle.ipam_block_text.specs.declared.parts.Parts.{Parts}
-use Rattle.ipam_block_text.specs.Reading.{node_in, places_in, all_attributes_in, cidr_in, small_cidr, sequence_in, queue_in, parts_in, is_stamp, are_stamps, stamps_in}
+use Rattle.ipam_block_text.specs.Reading.{node_in, places_in, all_attributes_in, small_cidr_in, small_cidr, sequence_in, queue_in, parts_in, is_stamp, are_stamps, stamps_in}
 use Rattle.ipam_json.specs.Members.{text_at}
 use Rattle.ipam_block_text.proofs.Options.{and_then_some, map_some, passed_some}
 
@@ -25,7 +25,7 @@ pub record Says (d : Data) (p : Parts) : Type 0 where
   pub node : node_in d ≡ Some p.node
   pub places : places_in d ≡ Some p.places
   pub attributes : all_attributes_in d ≡ Some p.attributes
-  pub cidr : cidr_in d ≡ Some p.cidr
+  pub cidr : small_cidr_in d ≡ Some p.cidr
   pub sequence : sequence_in d ≡ Some p.sequence
   pub queue : queue_in d ≡ Some p.queue
 
@@ -35,7 +35,7 @@ parts_said d p e =
     let a = and_then_some _ (node_in d) p e in
     let b = and_then_some _ (places_in d) p a.2 in
     let f = and_then_some _ (all_attributes_in d) p b.2 in
-    let g = and_then_some _ (cidr_in d) p f.2 in
+    let g = and_then_some _ (small_cidr_in d) p f.2 in
     let h = and_then_some _ (sequence_in d) p g.2 in
     let k = map_some _ (queue_in d) p h.2 in
     record {
@@ -55,8 +55,8 @@ small_some text (Ok q) r e h =
     let P : CidrValue → Type 0 = λ x. IsCidr x × (cidr_size x ≤ ADDRESSES_MAX) in
     subst P parts.1 (spelled.sound, leb-true _ _ parts.0)
 
-pub cidr_sound : (d : Data) (r : CidrValue) → cidr_in d ≡ Some r → IsCidr r × (cidr_size r ≤ ADDRESSES_MAX)
-unfolding cidr_in
+pub cidr_sound : (d : Data) (r : CidrValue) → small_cidr_in d ≡ Some r → IsCidr r × (cidr_size r ≤ ADDRESSES_MAX)
+unfolding small_cidr_in
 cidr_sound d r e =
     let read = and_then_some (λ text. small_cidr (cidr_reading text)) (text_at (codes "cidr") d) r e in
     small_some read.0 (cidr_reading read.0) r refl read.2

@@ -22,7 +22,7 @@ use Rattle.ipam_block_text.specs.declared.fault.BodyFault.TheVariants.{Unsound}
 use Rattle.ipam_block_text.specs.declared.parts.Parts.{Parts}
 use Rattle.ipam_block_text.specs.Limits.{is_node_or_none, are_pairs, are_attributes}
 use Rattle.ipam_block_text.specs.Body.{block_body}
-use Rattle.ipam_block_text.specs.Reading.{each, only_if, pair_in, node_in, affinity_in, node_named, after_host, all_attributes_in, attributes_in, handle_in, secondary_in, sequence_in, stamp_of, allocation_at, held_from, block_in, checked, reading_from, form_in, form_text, block_form, cidr_said, block_reading, parts_in, stamps_in}
+use Rattle.ipam_block_text.specs.Reading.{each, if_passes, pair_in, node_in, host_in, node_named, after_host, all_attributes_in, attributes_in, handle_id_in, secondary_in, sequence_in, stamp_of, allocation_at, held_from, block_of_parts_in, checked, reading_from, form_in, form_text, block_form, cidr_said, block_reading, parts_in, stamps_in}
 use Rattle.ipam_json.specs.Members.{text_at, list_at, fields_at}
 use Rattle.ipam_block_text.proofs.Limited.{IsLimited, kept}
 use Rattle.ipam_block_text.proofs.Options.{some_same, and_then_some, map_some, passed_some}
@@ -32,11 +32,11 @@ use Rattle.ipam_block_text.proofs.Said.{Says, parts_said, cidr_sound}
 
 named_sound : (text : List ℕ) (node : Option (List ℕ)) → node_named text ≡ Some node → is_node_or_none node ≡ true
 named_sound text node e =
-    let named = map_some Some (option_and_then (only_if is_name_text) (after_host text)) node e in
+    let named = map_some Some (option_and_then (if_passes is_name_text) (after_host text)) node e in
     let tested = passed_some is_name_text (after_host text) named.0 named.1 in
     sym (ap is_node_or_none named.2) ∙ tested.1
 
-affinity_sound : (d : Data) (node : Option (List ℕ)) → affinity_in d ≡ Some node → is_node_or_none node ≡ true
+affinity_sound : (d : Data) (node : Option (List ℕ)) → host_in d ≡ Some node → is_node_or_none node ≡ true
 affinity_sound null found e = let P : Option (List ℕ) → Type 0 = λ o. is_node_or_none o ≡ true in subst P (some_node found e) refl
   where
     some_node : (n : Option (List ℕ)) → Some None ≡ Some n → None ≡ n
@@ -50,11 +50,11 @@ affinity_sound (object ms) found e = absurd cc
 node_sound : (d : Data) (node : Option (List ℕ)) → node_in d ≡ Some node → is_node_or_none node ≡ true
 unfolding node_in
 node_sound d node e =
-    let found = and_then_some affinity_in (get (codes "affinity") d) node e in
+    let found = and_then_some host_in (get (codes "affinity") d) node e in
     affinity_sound found.0 node found.2
 
-handle_sound : (d : Data) (handle : List ℕ) → handle_in d ≡ Some handle → is_handle_text handle ≡ true
-unfolding handle_in
+handle_sound : (d : Data) (handle : List ℕ) → handle_id_in d ≡ Some handle → is_handle_text handle ≡ true
+unfolding handle_id_in
 handle_sound d handle e = (passed_some is_handle_text (text_at (codes "handle_id") d) handle e).1
 
 secondary_sound : (d : Data) (pairs : List (List ℕ × List ℕ)) → secondary_in d ≡ Some pairs → are_pairs pairs ≡ true
@@ -67,7 +67,7 @@ both a b e f = rw (e, f) refl
 attributes_sound : (d : Data) (a : Attributes) → attributes_in d ≡ Some a → are_attributes a ≡ true
 unfolding attributes_in
 attributes_sound d a e =
-    let named = and_then_some (λ handle. option_map (λ pairs. made handle pairs) (secondary_in d)) (handle_in d) a e in
+    let named = and_then_some (λ handle. option_map (λ pairs. made handle pairs) (secondary_in d)) (handle_id_in d) a e in
     let paired = map_some (λ pairs. made named.0 pairs) (secondary_in d) a named.2 in
     let sound = both _ _ (handle_sound d named.0 named.1) (secondary_sound d paired.0 paired.1) in
     subst (λ x. are_attributes x ≡ true) paired.2 sound
@@ -132,8 +132,8 @@ if_some : {A : Type 0} (b : Bool) (o : Option A) (y : A) → cond b o None ≡ S
 if_some true o y e = e
 if_some false o y e = absurd cc
 
-pub block_sound : (d : Data) (p : Parts) (stamps : Data) (b : BlockValue) → Says d p → block_in p stamps ≡ Some b → IsLimited b
-unfolding block_in
+pub block_sound : (d : Data) (p : Parts) (stamps : Data) (b : BlockValue) → Says d p → block_of_parts_in p stamps ≡ Some b → IsLimited b
+unfolding block_of_parts_in
 block_sound d p stamps b says e =
     let inner = if_some _ _ b e in
     let tested = passed_some is_block (option_map (λ held. content_of p.cidr p.node held p.queue p.sequence) (held_from p.attributes stamps 0 p.places)) b inner in
@@ -183,6 +183,6 @@ block_reading-ok body b e = go (block_form body) refl e
     go : (o : Option (Parts × Data)) → block_form body ≡ o → reading_from body o ≡ Ok b → (body ≡ block_body b) × IsBlockRecord b
     go None is e = absurd cc
     go (Some f) is e =
-        let found = checked_ok body f.0.cidr (block_in f.0 f.1) b e in
+        let found = checked_ok body f.0.cidr (block_of_parts_in f.0 f.1) b e in
         let said = form_said body f is in
         (sym found.1, kept b (block_sound said.0 f.0 f.1 b said.1 found.0))

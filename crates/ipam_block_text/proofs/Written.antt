@@ -1,7 +1,8 @@
 -- The text of a block is put together of its pieces.
 use Rattle.std.proofs.Common.{◌≡◌, ◌∙◌, ℕ, List, [], ◌∷◌, ◌++◌, Bool, true, ◌<◌, ◌≤◌, ◌+◌, length, get_or, drop, Option, Ok, Err, refl, ap, sym, append_assoc, codes, map}
 use Rattle.json.specs.Print.{escape, escape_byte, quoted}
-use Rattle.serde_json.specs.Data.{Data}
+use Rattle.serde_json.specs.Data.{Data, string}
+use Rattle.ipam_addr.specs.Text.{cidr_text_of}
 use Rattle.serde_json.specs.View.{items_of}
 use Rattle.std.proofs.lemmas.List.{at_drop_more, drop_all}
 use Rattle.serde_json.specs.Written.{compact_text, comma_if, items_text}
@@ -14,7 +15,7 @@ use Rattle.ipam_block.specs.declared.allocation.Attributes.{Attributes}
 use Rattle.ipam_block.specs.Shape.{BlockValue}
 use Rattle.ipam_block_text.specs.declared.parts.Parts.{Parts}
 use Rattle.ipam_block_text.specs.Parts.{block_parts}
-use Rattle.ipam_block_text.specs.Body.{affinity_data, place_data, attributes_data, secondary_data, cidr_data, stamps_data, parts_data, block_body}
+use Rattle.ipam_block_text.specs.Body.{host_data, place_data, attributes_data, secondary_data, stamps_data, parts_data, block_body}
 use Rattle.ipam_block_text.specs.Numbering.{borrowed}
 use Rattle.ipam_block_text.specs.Pieces.{holders_text, rest_text}
 use Rattle.ipam_block_text.proofs.Numbers.{parts_same}
@@ -24,27 +25,27 @@ regroup a b c d e f r = simp append_assoc
 
 -- the text of the parts and the stamps, piece by piece
 text_of_parts : (p : Parts) (stamps : Data) → compact_text (parts_data p stamps)
-    ≡ holders_text p.node p.places p.attributes ++ (codes ",\"cidr\":" ++ (compact_text (cidr_data p.cidr) ++ rest_text p.sequence (compact_text stamps) p.queue))
+    ≡ holders_text p.node p.places p.attributes ++ (codes ",\"cidr\":" ++ (compact_text (string (cidr_text_of p.cidr)) ++ rest_text p.sequence (compact_text stamps) p.queue))
 unfolding parts_data escape_byte
 text_of_parts p stamps =
-    regroup (codes "{\"affinity\":") (compact_text (affinity_data p.node)) (codes ",\"allocations\":")
+    regroup (codes "{\"affinity\":") (compact_text (host_data p.node)) (codes ",\"allocations\":")
     (compact_text (array_of (map place_data p.places))) (codes ",\"attributes\":")
     (compact_text (array_of (map attributes_data p.attributes)))
-    (codes ",\"cidr\":" ++ (compact_text (cidr_data p.cidr) ++ rest_text p.sequence (compact_text stamps) p.queue))
+    (codes ",\"cidr\":" ++ (compact_text (string (cidr_text_of p.cidr)) ++ rest_text p.sequence (compact_text stamps) p.queue))
 
 -- what is written one after the other
 pub block_written : (b : BlockValue) (o0 o1 o2 o3 : List ℕ) (node : Option (List ℕ)) (places : List (Option ℕ)) (attributes : List Attributes) (cidr : CidrValue) (sequence : ℕ) (stamps queue : List ℕ)
     → o0 ≡ [] → node ≡ b.node → places ≡ (block_parts b).places → attributes ≡ (block_parts b).attributes → cidr ≡ b.cidr → sequence ≡ b.sequence
     → stamps ≡ compact_text (stamps_data b.allocations) → queue ≡ b.queue
     → o1 ≡ o0 ++ holders_text node places attributes
-    → o2 ≡ o1 ++ (codes ",\"cidr\":" ++ compact_text (cidr_data cidr))
+    → o2 ≡ o1 ++ (codes ",\"cidr\":" ++ compact_text (string (cidr_text_of cidr)))
     → o3 ≡ o2 ++ rest_text sequence stamps queue
     → o3 ≡ block_body b
 unfolding block_body
 block_written b o0 o1 o2 o3 node places attributes cidr sequence stamps queue empty n p a r s t q first second third =
     let parts : Parts = record { node = node; places = places; attributes = attributes; cidr = cidr; sequence = sequence; queue = queue } in
     let name = codes ",\"cidr\":" in
-    let shown = compact_text (cidr_data cidr) in
+    let shown = compact_text (string (cidr_text_of cidr)) in
     let front = holders_text node places attributes in
     let rest = rest_text sequence stamps queue in
     third

@@ -4,10 +4,7 @@ use Rattle.std.specs.Cmp.Lexicographic.{pointwise}
 use Rattle.std.specs.List.{list_any}
 use Rattle.ipam_block.specs.declared.allocation.Allocation.{Allocation}
 use Rattle.ipam_block.specs.declared.allocation.Attributes.{Attributes}
-
--- a key and its value
-abbrev pub Pair : Type 0
-Pair = List ℕ × List ℕ
+pub use Rattle.ipam_block.specs.Pairs.{Pair}
 
 abbrev pub is_same_pair : Pair → Pair → Bool
 is_same_pair p q = bytes_eq p.0 q.0 && bytes_eq p.1 q.1

@@ -13,9 +13,9 @@ use Rattle.ipam_block_text.specs.Attributes.{Pair}
 use Rattle.ipam_block_text.specs.Parts.{block_parts}
 
 -- the node that the block is affine to
-abbrev pub affinity_data : Option (List ℕ) → Data
-affinity_data None = null
-affinity_data (Some node) = string (codes "host:" ++ node)
+abbrev pub host_data : Option (List ℕ) → Data
+host_data None = null
+host_data (Some node) = string (codes "host:" ++ node)
 
 -- the index of an ordinal's attributes, where it is held
 abbrev pub place_data : Option ℕ → Data
@@ -34,9 +34,6 @@ attributes_data a =
     object_of
     ((codes "handle_id", string a.handle) ∷ (codes "secondary", secondary_data a.secondary) ∷ [])
 
-abbrev pub cidr_data : CidrValue → Data
-cidr_data r = string (cidr_text_of r)
-
 abbrev pub with_stamp : Members → Allocation → Members
 with_stamp members a = put (decimal a.ordinal) (whole_data a.stamp) members
 
@@ -48,10 +45,10 @@ stamps_data allocations = object (fold with_stamp no_members allocations)
 unfoldable pub parts_data : Parts → Data → Data
 parts_data p stamps =
     object_of
-    ((codes "affinity", affinity_data p.node)
+    ((codes "affinity", host_data p.node)
     ∷ (codes "allocations", array_of (map place_data p.places))
     ∷ (codes "attributes", array_of (map attributes_data p.attributes))
-    ∷ (codes "cidr", cidr_data p.cidr)
+    ∷ (codes "cidr", string (cidr_text_of p.cidr))
     ∷ (codes "sequenceNumber", whole_data p.sequence)
     ∷ (codes "sequenceNumberForAllocation", stamps)
     ∷ (codes "unallocated", array_of (map whole_data p.queue))

@@ -9,8 +9,8 @@ use Rattle.ipam_block_text.specs.declared.parts.Parts.{Parts}
 use Rattle.ipam_block_text.specs.Attributes.{are_same, distinct_attributes}
 
 -- where an ordinal is held, the index of its attributes among those in use
-unfoldable pub place_of : List Attributes → BlockValue → ℕ → Option ℕ
-place_of attributes b o =
+unfoldable pub holder_place : List Attributes → BlockValue → ℕ → Option ℕ
+holder_place attributes b o =
     option_and_then (λ a. position (are_same a.attributes) attributes) (holder b o)
 
 -- the parts of a block
@@ -18,7 +18,7 @@ abbrev pub block_parts : BlockValue → Parts
 block_parts b =
     record {
       node = b.node;
-      places = map (place_of (distinct_attributes b.allocations) b) (ordinals_below (cidr_size b.cidr));
+      places = map (holder_place (distinct_attributes b.allocations) b) (ordinals_below (cidr_size b.cidr));
       attributes = distinct_attributes b.allocations;
       cidr = b.cidr;
       sequence = b.sequence;

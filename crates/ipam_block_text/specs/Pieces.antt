@@ -3,12 +3,12 @@ use Rattle.std.specs.Prelude.{ℕ, List, ◌++◌, Option, codes, decimal, map}
 use Rattle.serde_json.specs.Written.{compact_text}
 use Rattle.ipam_block.specs.declared.allocation.Attributes.{Attributes}
 use Rattle.ipam_json.specs.Built.{array_of, whole_data}
-use Rattle.ipam_block_text.specs.Body.{affinity_data, place_data, attributes_data}
+use Rattle.ipam_block_text.specs.Body.{host_data, place_data, attributes_data}
 
 -- the node and who holds what
 abbrev pub holders_text : Option (List ℕ) → List (Option ℕ) → List Attributes → List ℕ
 holders_text node places attributes =
-    codes "{\"affinity\":" ++ (compact_text (affinity_data node)
+    codes "{\"affinity\":" ++ (compact_text (host_data node)
     ++ (codes ",\"allocations\":" ++ (compact_text (array_of (map place_data places))
     ++ (codes ",\"attributes\":" ++ compact_text (array_of (map attributes_data attributes))))))
 

@@ -31,8 +31,8 @@ abbrev pub each : {A B : Type 0} → (A → Option B) → List A → Option (Lis
 each f [] = Some []
 each f (x ∷ xs) = option_and_then (λ y. option_map (λ ys. y ∷ ys) (each f xs)) (f x)
 
-abbrev pub only_if : {A : Type 0} → (A → Bool) → A → Option A
-only_if test x = if test x then Some x else None
+abbrev pub if_passes : {A : Type 0} → (A → Bool) → A → Option A
+if_passes test x = if test x then Some x else None
 
 -- ---- the members
 
@@ -41,15 +41,15 @@ unfoldable pub after_host : List ℕ → Option (List ℕ)
 after_host text = if starts_with nat_eq text (codes "host:") then Some (drop 5 text) else None
 
 abbrev pub node_named : List ℕ → Option (Option (List ℕ))
-node_named text = option_map Some (option_and_then (only_if is_name_text) (after_host text))
+node_named text = option_map Some (option_and_then (if_passes is_name_text) (after_host text))
 
-abbrev pub affinity_in : Data → Option (Option (List ℕ))
-affinity_in null = Some None
-affinity_in (boolean b) = None
-affinity_in (number n) = None
-affinity_in (string s) = node_named s
-affinity_in (array ds) = None
-affinity_in (object ms) = None
+abbrev pub host_in : Data → Option (Option (List ℕ))
+host_in null = Some None
+host_in (boolean b) = None
+host_in (number n) = None
+host_in (string s) = node_named s
+host_in (array ds) = None
+host_in (object ms) = None
 
 abbrev pub place_in : Data → Option (Option ℕ)
 place_in null = Some None
@@ -64,27 +64,27 @@ pair_in m = option_map (λ value. (m.0, value)) (as_str m.1)
 
 unfoldable pub secondary_in : Data → Option (List Pair)
 secondary_in d =
-    option_and_then (only_if are_pairs)
+    option_and_then (if_passes are_pairs)
     (option_and_then (each pair_in) (fields_at (codes "secondary") d))
 
-unfoldable pub handle_in : Data → Option (List ℕ)
-handle_in d = option_and_then (only_if is_handle_text) (text_at (codes "handle_id") d)
+unfoldable pub handle_id_in : Data → Option (List ℕ)
+handle_id_in d = option_and_then (if_passes is_handle_text) (text_at (codes "handle_id") d)
 
 unfoldable pub attributes_in : Data → Option Attributes
 attributes_in d =
     option_and_then
     (λ handle. option_map (λ pairs. record { handle = handle; secondary = pairs }) (secondary_in d))
-    (handle_in d)
+    (handle_id_in d)
 
 abbrev pub small_cidr : Result CidrValue AddrFault → Option CidrValue
 small_cidr (Ok r) = if nat_le (cidr_size r) ADDRESSES_MAX then Some r else None
 small_cidr (Err fault) = None
 
-unfoldable pub cidr_in : Data → Option CidrValue
-cidr_in d = option_and_then (λ text. small_cidr (cidr_reading text)) (text_at (codes "cidr") d)
+unfoldable pub small_cidr_in : Data → Option CidrValue
+small_cidr_in d = option_and_then (λ text. small_cidr (cidr_reading text)) (text_at (codes "cidr") d)
 
 unfoldable pub node_in : Data → Option (Option (List ℕ))
-node_in d = option_and_then affinity_in (get (codes "affinity") d)
+node_in d = option_and_then host_in (get (codes "affinity") d)
 
 unfoldable pub places_in : Data → Option (List (Option ℕ))
 places_in d = option_and_then (each place_in) (list_at (codes "allocations") d)
@@ -94,7 +94,7 @@ all_attributes_in d = option_and_then (each attributes_in) (list_at (codes "attr
 
 unfoldable pub sequence_in : Data → Option ℕ
 sequence_in d =
-    option_and_then (only_if (λ n. nat_lt n (2 ^ 64)))
+    option_and_then (if_passes (λ n. nat_lt n (2 ^ 64)))
     (option_and_then as_whole (get (codes "sequenceNumber") d))
 
 unfoldable pub queue_in : Data → Option (List ℕ)
@@ -116,7 +116,7 @@ parts_in d =
       sequence = sequence;
       queue = queue;
     })
-    (queue_in d)) (sequence_in d)) (cidr_in d)) (all_attributes_in d)) (places_in d)) (node_in d)
+    (queue_in d)) (sequence_in d)) (small_cidr_in d)) (all_attributes_in d)) (places_in d)) (node_in d)
 
 -- a decimal number below 2^64, in its one spelling
 unfoldable pub is_number_name : List ℕ → Bool
@@ -131,7 +131,7 @@ are_stamps d = unwrap_or (option_map (list_all is_stamp) (members_in d)) false
 
 unfoldable pub stamps_in : Data → Option Data
 stamps_in d =
-    option_and_then (only_if are_stamps) (get (codes "sequenceNumberForAllocation") d)
+    option_and_then (if_passes are_stamps) (get (codes "sequenceNumberForAllocation") d)
 
 -- ---- the form
 
@@ -177,10 +177,10 @@ abbrev pub are_ordinals : List ℕ → Bool
 are_ordinals queue = list_all (λ o. nat_lt o (2 ^ 16)) queue
 
 -- the block with these parts and stamps
-unfoldable pub block_in : Parts → Data → Option BlockValue
-block_in p stamps =
+unfoldable pub block_of_parts_in : Parts → Data → Option BlockValue
+block_of_parts_in p stamps =
     if (length p.places == cidr_size p.cidr) && are_ordinals p.queue then
-    option_and_then (only_if is_block)
+    option_and_then (if_passes is_block)
     (option_map (λ held. content_of p.cidr p.node held p.queue p.sequence)
     (held_from p.attributes stamps 0 p.places))
     else None
@@ -197,7 +197,7 @@ checked body cidr (Some b) = if bytes_eq (block_body b) body then Ok b else Err 
 
 abbrev pub reading_from : List ℕ → Option (Parts × Data) → Result BlockValue BodyFault
 reading_from body None = Err Form
-reading_from body (Some f) = checked body f.0.cidr (block_in f.0 f.1)
+reading_from body (Some f) = checked body f.0.cidr (block_of_parts_in f.0 f.1)
 
 -- the block whose text this is, or else the first fault
 unfoldable pub block_reading : List ℕ → Result BlockValue BodyFault

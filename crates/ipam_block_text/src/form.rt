@@ -7,7 +7,7 @@ ghost use Rattle.ipam_json.specs.Path.{as_whole};
 ghost use Rattle.ipam_addr.specs.Text.{cidr_reading};
 ghost use Rattle.ipam_addr.specs.Width.{cidr_size};
 ghost use Rattle.ipam_block_text.specs.Limits.{are_pairs, is_small_pair, keys_ascend, ascend_after};
-ghost use Rattle.ipam_block_text.specs.Reading.{each, only_if, after_host, node_named, affinity_in, place_in, pair_in, secondary_in, handle_in, attributes_in, cidr_in, small_cidr, node_in, places_in, all_attributes_in, sequence_in, queue_in, parts_in, is_number_name, is_stamp, are_stamps, stamps_in};
+ghost use Rattle.ipam_block_text.specs.Reading.{each, if_passes, after_host, node_named, host_in, place_in, pair_in, secondary_in, handle_id_in, attributes_in, small_cidr_in, small_cidr, node_in, places_in, all_attributes_in, sequence_in, queue_in, parts_in, is_number_name, is_stamp, are_stamps, stamps_in};
 
 use crate::parts::Parts;
 use ipam_addr::{Cidr, is_handle_id, is_name, read_cidr};
@@ -108,7 +108,7 @@ fn node_in(alloc: Global, value: &Value) -> Result<Option<Option<Text>>, AllocEr
 }
 
 fn affinity_in(alloc: Global, value: &Value) -> Result<Option<Option<Text>>, AllocError>
-    ensures { IfOk result (λ o. o ≡ affinity_in (view value.now)) }
+    ensures { IfOk result (λ o. o ≡ host_in (view value.now)) }
 {
     match value {
         Value::Null => Ok(Some(None)),
@@ -206,9 +206,9 @@ fn attributes_in(alloc: Global, value: &Value) -> Result<Option<Attributes>, All
     Ok(Some(Attributes { handle, secondary }))
 }
 
-#[tactic(auto, unfolding(crate::specs::Reading::handle_in))]
+#[tactic(auto, unfolding(crate::specs::Reading::handle_id_in))]
 fn handle_in(value: &Value) -> Option<&str>
-    ensures { option_map (λ t. t.now) result ≡ handle_in (view value.now) }
+    ensures { option_map (λ t. t.now) result ≡ handle_id_in (view value.now) }
 {
     match text_at(value, "handle_id") {
         Some(handle) if is_handle_id(handle.as_bytes()) => Some(handle),
@@ -231,7 +231,7 @@ fn pairs_in(
     members: &Map<String, Value>,
 ) -> Result<Option<Seq<(Text, Text)>>, AllocError>
     ensures { IfOk result (λ o. o
-        ≡ option_and_then (only_if are_pairs) (each pair_in (fields_of members.now.entries))) }
+        ≡ option_and_then (if_passes are_pairs) (each pair_in (fields_of members.now.entries))) }
 {
     let Some(pairs) = each_pair(alloc, members)? else {
         return Ok(None);
@@ -313,9 +313,9 @@ fn ascend_after(key: &Text, pairs: &[(Text, Text)]) -> bool
     true
 }
 
-#[tactic(auto, unfolding(crate::specs::Reading::cidr_in))]
+#[tactic(auto, unfolding(crate::specs::Reading::small_cidr_in))]
 fn cidr_in(value: &Value) -> Option<Cidr>
-    ensures value { result ≡ cidr_in (view value.now) }
+    ensures value { result ≡ small_cidr_in (view value.now) }
 {
     match text_at(value, "cidr") {
         Some(text) => small_cidr(text),

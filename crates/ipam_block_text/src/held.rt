@@ -1,23 +1,23 @@
 ghost use Rattle.std.specs.Prelude.{◌≡◌, ◌+◌, ◌<◌, ◌≤◌, length, Some, None, IfOk, map, option_map, option_and_then, if◌then◌else◌};
 ghost use Rattle.serde_json.specs.View.{view};
 ghost use Rattle.ipam_addr.specs.Width.{cidr_size};
-ghost use Rattle.ipam_block_text.specs.Reading.{block_in, held_from, allocation_at, stamp_of, are_ordinals};
+ghost use Rattle.ipam_block_text.specs.Reading.{block_of_parts_in, held_from, allocation_at, stamp_of, are_ordinals};
 
 use crate::parts::Parts;
-use ipam_block::{ADDRESSES_MAX, Allocation, Attributes, Block, PartsFault};
+use ipam_block::{ADDRESSES_MAX, Allocation, Attributes, Block, PartsFault, SharedAttributes};
 use ipam_text::Text;
 use serde_json::Value;
 use std::alloc::{AllocError, Global};
 
 /// The block with these parts and stamps, if they make one.
-#[tactic(auto, unfolding(crate::specs::Reading::block_in))]
+#[tactic(auto, unfolding(crate::specs::Reading::block_of_parts_in))]
 pub(crate) fn block_in(
     alloc: Global,
     parts: &Parts,
     stamps: &Value,
 ) -> Result<Option<Block>, AllocError>
     requires { cidr_size parts.now.cidr ≤ ADDRESSES_MAX }
-    ensures { IfOk result (λ o. o ≡ block_in parts.now (view stamps.now)) }
+    ensures { IfOk result (λ o. o ≡ block_of_parts_in parts.now (view stamps.now)) }
 {
     let count = parts.cidr.last().number - parts.cidr.base().number + 1;
     if parts.places.len() as u128 != count {
@@ -104,7 +104,7 @@ fn allocation_at(
     let Some(stamp) = stamp_of(alloc, stamps, ordinal)? else {
         return Ok(None);
     };
-    let attributes = own.clone()?;
+    let attributes = SharedAttributes::of(alloc, own.clone()?);
     Ok(Some(Allocation {
         ordinal,
         attributes,

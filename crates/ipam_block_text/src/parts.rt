@@ -62,7 +62,7 @@ fn numbered(
     let mut attributes = Vec::with_capacity(alloc, allocations.len())?;
     let mut held = Vec::with_capacity(alloc, allocations.len())?;
     for allocation in allocations {
-        let index = number(&mut numbers, &mut attributes, &allocation.attributes)?;
+        let index = number(&mut numbers, &mut attributes, allocation.attributes.get())?;
         held.push((allocation.ordinal, index))?;
     }
     Ok((attributes, held))

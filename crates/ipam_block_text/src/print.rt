@@ -1,9 +1,10 @@
 ghost use Rattle.std.specs.Prelude.{◌≡◌, IfOk, OnOk, OnErr, string_bytes, map, Option};
-ghost use Rattle.serde_json.specs.Data.{Data, array};
+ghost use Rattle.serde_json.specs.Data.{Data, array, string};
+ghost use Rattle.ipam_addr.specs.Text.{cidr_text_of};
 ghost use Rattle.serde_json.specs.View.{view, items_of};
 ghost use Rattle.serde_json.specs.Written.{compact_text};
 ghost use Rattle.ipam_json.specs.Built.{whole_data};
-ghost use Rattle.ipam_block_text.specs.Body.{block_body, parts_data, stamps_data, affinity_data, place_data, attributes_data, secondary_data, cidr_data};
+ghost use Rattle.ipam_block_text.specs.Body.{block_body, parts_data, stamps_data, host_data, place_data, attributes_data, secondary_data};
 
 use crate::parts::{Parts, queue_of, uses_of};
 use crate::writing::{push_cidr_member, push_holders, push_rest};
@@ -80,7 +81,7 @@ fn stamps_value(alloc: Global, allocations: &[Allocation]) -> Result<Value, Allo
 }
 
 fn affinity_value(alloc: Global, node: &Option<Text>) -> Result<Value, AllocError>
-    ensures { IfOk result (λ v. view v ≡ affinity_data node.now) }
+    ensures { IfOk result (λ v. view v ≡ host_data node.now) }
 {
     match node {
         Some(name) => {
@@ -136,7 +137,7 @@ pub(crate) fn secondary_value(alloc: Global, pairs: &[(Text, Text)]) -> Result<V
 }
 
 fn cidr_json(alloc: Global, cidr: Cidr) -> Result<Value, AllocError>
-    ensures { IfOk result (λ v. view v ≡ cidr_data cidr) }
+    ensures { IfOk result (λ v. view v ≡ string (cidr_text_of cidr)) }
 {
     let mut text = String::new(alloc);
     push_cidr(alloc, &mut text, cidr)?;

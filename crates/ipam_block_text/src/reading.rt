@@ -6,7 +6,7 @@ ghost use Rattle.ipam_addr.specs.Width.{cidr_size};
 ghost use Rattle.ipam_block_text.specs.Body.{parts_data, block_body};
 ghost use Rattle.ipam_block.specs.Shape.{BlockValue};
 ghost use Rattle.ipam_block.specs.Sound.{IsBlockRecord};
-ghost use Rattle.ipam_block_text.specs.Reading.{block_in, has_text, block_reading, cidr_said};
+ghost use Rattle.ipam_block_text.specs.Reading.{block_of_parts_in, has_text, block_reading, cidr_said};
 
 use crate::fault::BodyFault;
 use crate::form::{parts_in, stamps_in};
@@ -66,7 +66,7 @@ fn block_with_text(
     body: &str,
 ) -> Result<Option<Block>, AllocError>
     requires { cidr_size parts.now.cidr ≤ ADDRESSES_MAX }
-    ensures { IfOk result (λ o. o ≡ option_and_then (has_text body.now) (block_in parts.now (view stamps.now))) }
+    ensures { IfOk result (λ o. o ≡ option_and_then (has_text body.now) (block_of_parts_in parts.now (view stamps.now))) }
 {
     let Some(block) = block_in(alloc, parts, stamps)? else {
         return Ok(None);

@@ -2,14 +2,15 @@
 //! part of it.
 ghost use Rattle.std.specs.Prelude.{◌≡◌, ◌++◌, [], ◌∷◌, Some, None, map, codes, decimal, IsTrue, OnOk, string_bytes};
 ghost use Rattle.json.specs.Print.{escape, escape_byte, quoted};
-ghost use Rattle.serde_json.specs.Data.{array};
+ghost use Rattle.serde_json.specs.Data.{array, string};
+ghost use Rattle.ipam_addr.specs.Text.{cidr_text_of};
 ghost use Rattle.serde_json.specs.View.{items_of};
 ghost use Rattle.serde_json.specs.Written.{compact_text, comma_if};
 ghost use Rattle.ipam_block.specs.Operations.{node_bytes};
 ghost use Rattle.ipam_block_text.specs.Numbering.{borrowed};
 ghost use Rattle.ipam_block_text.specs.Pieces.{holders_text, rest_text};
 ghost use Rattle.ipam_json.specs.Built.{whole_data};
-ghost use Rattle.ipam_block_text.specs.Body.{affinity_data, place_data, attributes_data, secondary_data, cidr_data};
+ghost use Rattle.ipam_block_text.specs.Body.{host_data, place_data, attributes_data, secondary_data};
 
 use crate::parts::Uses;
 use crate::print::secondary_value;
@@ -45,7 +46,7 @@ pub(crate) fn push_cidr_member(
     cidr: Cidr,
 ) -> Result<(), AllocError>
     ensures { OnOk result (string_bytes out.new
-        ≡ string_bytes out.old ++ (codes ",\"cidr\":" ++ compact_text (cidr_data cidr))) }
+        ≡ string_bytes out.old ++ (codes ",\"cidr\":" ++ compact_text (string (cidr_text_of cidr)))) }
 {
     let mut text = String::new(alloc);
     push_cidr(alloc, &mut text, cidr)?;
@@ -75,7 +76,7 @@ pub(crate) fn push_rest(
 /// Appends the node that the block is affine to.
 fn push_affinity(alloc: Global, out: &mut String, node: Option<&str>) -> Result<(), AllocError>
     ensures { OnOk result (string_bytes out.new
-        ≡ string_bytes out.old ++ compact_text (affinity_data (node_bytes node.entry))) }
+        ≡ string_bytes out.old ++ compact_text (host_data (node_bytes node.entry))) }
 {
     match node {
         Some(name) => {

@@ -20,10 +20,10 @@ use Rattle.ipam_call.specs.Requests.{line_for}
 use Rattle.ipam_call.specs.Versions.{version_for}
 
 -- what came of the exchange
-abbrev pub Outcome : Type 0
-Outcome = Result DaemonReply CallFault
+abbrev pub CallOutcome : Type 0
+CallOutcome = Result DaemonReply CallFault
 
-abbrev pub outcome : CallEnd → Outcome
+abbrev pub outcome : CallEnd → CallOutcome
 outcome (Replied reply) = Ok reply
 outcome (Failed version fault) = Err fault
 
@@ -36,13 +36,13 @@ abbrev pub IsPartSent : Option (List ℕ) → Option (List ℕ) → Option (List
 IsPartSent line old new = (text : List ℕ) × (line ≡ Some text) × AppendsPrefix old new text
 
 -- a reply has the status 0 or 1
-abbrev pub HasStatus : Outcome → Type 0
+abbrev pub HasStatus : CallOutcome → Type 0
 HasStatus (Ok reply) = reply.status ≤ 1
 HasStatus (Err fault) = ⊤
 
 -- What was sent of the line: all of it before a reply or what is none, a front part where the link
 -- failed, and nothing where standard input is bad. Undecodable says that there is no line.
-abbrev pub Sent : Outcome → Option (List ℕ) → Option (List ℕ) → Option (List ℕ) → Type 0
+abbrev pub Sent : CallOutcome → Option (List ℕ) → Option (List ℕ) → Option (List ℕ) → Type 0
 Sent (Ok reply) line old new = IsSent line old new
 Sent (Err Read) line old new = new ≡ old
 Sent (Err Undecodable) line old new = (line ≡ None) × (new ≡ old)
@@ -51,7 +51,7 @@ Sent (Err Reply) line old new = IsSent line old new
 Sent (Err Memory) line old new = (new ≡ old) ⊎ IsSent line old new
 
 -- what the bytes that the link gives say
-abbrev pub Received : Outcome → List ℕ → Type 0
+abbrev pub Received : CallOutcome → List ℕ → Type 0
 Received (Ok reply) bytes = HasReply bytes reply
 Received (Err Read) bytes = ⊤
 Received (Err Undecodable) bytes = ⊤
@@ -60,7 +60,7 @@ Received (Err Reply) bytes = HasNoReply bytes
 Received (Err Memory) bytes = ⊤
 
 -- The counts of faults of the link: just one rises where the link failed, and else none.
-abbrev pub LinkFaults : Outcome → (reads reads' writes writes' : ℕ) → Type 0
+abbrev pub LinkFaults : CallOutcome → (reads reads' writes writes' : ℕ) → Type 0
 LinkFaults (Ok reply) reads reads' writes writes' = (reads' ≡ reads) × (writes' ≡ writes)
 LinkFaults (Err Read) reads reads' writes writes' = (reads' ≡ reads) × (writes' ≡ writes)
 LinkFaults (Err Undecodable) reads reads' writes writes' = (reads' ≡ reads) × (writes' ≡ writes)
@@ -70,7 +70,7 @@ LinkFaults (Err Reply) reads reads' writes writes' = (reads' ≡ reads) × (writ
 LinkFaults (Err Memory) reads reads' writes writes' = (reads' ≡ reads) × (writes' ≡ writes)
 
 -- The count of faults of the source: it rises where a read of it failed, and else not.
-abbrev pub SourceFaults : Outcome → (reads reads' : ℕ) → Type 0
+abbrev pub SourceFaults : CallOutcome → (reads reads' : ℕ) → Type 0
 SourceFaults (Ok reply) reads reads' = reads' ≡ reads
 SourceFaults (Err Read) reads reads' = Rose reads reads'
 SourceFaults (Err Undecodable) reads reads' = reads' ≡ reads
@@ -79,7 +79,7 @@ SourceFaults (Err Reply) reads reads' = reads' ≡ reads
 SourceFaults (Err Memory) reads reads' = reads' ≡ reads
 
 -- standard input was read to its end before the line was sent
-abbrev pub ReadToEnd : Outcome → Option (List ℕ) → Type 0
+abbrev pub ReadToEnd : CallOutcome → Option (List ℕ) → Type 0
 ReadToEnd (Ok reply) left = IsAtEnd left
 ReadToEnd (Err Read) left = ⊤
 ReadToEnd (Err Undecodable) left = ⊤
@@ -96,9 +96,9 @@ IsVersionOf same Link told version = version ≡ told
 IsVersionOf same Reply told version = version ≡ told
 IsVersionOf same Memory told version = (same × (version ≡ V1_0_0)) ⊎ (version ≡ told)
 
-abbrev pub IsTold : (same : Type 0) → CallEnd → Version → Type 0
-IsTold same (Replied reply) told = ⊤
-IsTold same (Failed version fault) told = IsVersionOf same fault told version
+abbrev pub IsToldVersion : (same : Type 0) → CallEnd → Version → Type 0
+IsToldVersion same (Replied reply) told = ⊤
+IsToldVersion same (Failed version fault) told = IsVersionOf same fault told version
 
 -- an error is told in this version
 abbrev pub IsInVersion : CallEnd → Version → Type 0
@@ -130,7 +130,7 @@ pub record Went (same : Type 0) (env : List Pair) (end : CallEnd) (old new : Str
   pub sent : IfSome old.input (λ input. Sent (outcome end) (line_for env input) old.sent new.sent)
   pub received : IfSome old.replies (λ bytes. Received (outcome end) bytes)
   pub status : HasStatus (outcome end)
-  pub version : IfSome old.input (λ input. IsTold same end (version_for input))
+  pub version : IfSome old.input (λ input. IsToldVersion same end (version_for input))
   pub read : ReadToEnd (outcome end) new.input
   pub source_faults : SourceFaults (outcome end) old.input_faults new.input_faults
   pub link_faults : LinkFaults (outcome end) old.reply_faults new.reply_faults old.send_faults new.send_faults
@@ -138,7 +138,7 @@ pub record Went (same : Type 0) (env : List Pair) (end : CallEnd) (old new : Str
 -- ---- parts of an exchange
 
 -- what was sent of this line
-abbrev pub SentLine : Outcome → List ℕ → Option (List ℕ) → Option (List ℕ) → Type 0
+abbrev pub SentLine : CallOutcome → List ℕ → Option (List ℕ) → Option (List ℕ) → Type 0
 SentLine (Ok reply) line old new = new ≡ append_known old line
 SentLine (Err Read) line old new = ⊥
 SentLine (Err Undecodable) line old new = ⊥
@@ -147,7 +147,7 @@ SentLine (Err Reply) line old new = new ≡ append_known old line
 SentLine (Err Memory) line old new = new ≡ append_known old line
 
 -- what may come of an exchange, which reads no standard input: a status is 0 or 1
-abbrev pub IsExchanged : Outcome → Type 0
+abbrev pub IsExchanged : CallOutcome → Type 0
 IsExchanged (Ok reply) = reply.status ≤ 1
 IsExchanged (Err Read) = ⊥
 IsExchanged (Err Undecodable) = ⊤
@@ -156,7 +156,7 @@ IsExchanged (Err Reply) = ⊤
 IsExchanged (Err Memory) = ⊤
 
 -- what may come of a line that was sent
-abbrev pub MayBeReceived : Outcome → Type 0
+abbrev pub MayBeReceived : CallOutcome → Type 0
 MayBeReceived (Ok reply) = reply.status ≤ 1
 MayBeReceived (Err Read) = ⊥
 MayBeReceived (Err Undecodable) = ⊥
@@ -165,7 +165,7 @@ MayBeReceived (Err Reply) = ⊤
 MayBeReceived (Err Memory) = ⊤
 
 -- what comes of a line that was received and is this reply or none
-abbrev pub IsReading : Outcome → Option DaemonReply → Type 0
+abbrev pub IsReading : CallOutcome → Option DaemonReply → Type 0
 IsReading (Ok reply) found = found ≡ Some reply
 IsReading (Err Read) found = ⊥
 IsReading (Err Undecodable) found = ⊥
@@ -174,7 +174,7 @@ IsReading (Err Reply) found = found ≡ None
 IsReading (Err Memory) found = ⊤
 
 -- what comes of the line that was got, or of none
-abbrev pub IsOutcomeOf : Result Got LinesFault → Outcome → Type 0
+abbrev pub IsOutcomeOf : Result Got LinesFault → CallOutcome → Type 0
 IsOutcomeOf (Ok (Line line)) o = IsReading o (reply_of_line line.items)
 IsOutcomeOf (Ok End) o = o ≡ Err Reply
 IsOutcomeOf (Ok Cut) o = o ≡ Err Reply

@@ -40,8 +40,8 @@ call_data env input =
     object_of ((codes "env", object (env_members env)) ∷ (codes "stdin", string input) ∷ [])
 
 -- the text of a call with this environment and this standard input
-unfoldable pub call_text : List Pair → List ℕ → List ℕ
-call_text env input = compact_text (call_data env input)
+unfoldable pub cni_call_text : List Pair → List ℕ → List ℕ
+cni_call_text env input = compact_text (call_data env input)
 
 -- the text with its line feed, where these are no more bytes than a line has
 abbrev pub sendable : List ℕ → Option (List ℕ)
@@ -52,4 +52,4 @@ sendable text = only_if (nat_lt (length text) SESSION_LINE_BYTES) (text ++ codes
 unfoldable pub line_for : List Pair → List ℕ → Option (List ℕ)
 line_for env input = do
   text ← input_text input
-  sendable (call_text env text)
+  sendable (cni_call_text env text)

@@ -1,7 +1,7 @@
 //! The line that is sent.
 ghost use Rattle.std.specs.Prelude.{◌≡◌, IfOk, OnOk, string_bytes, option_map};
 ghost use Rattle.serde_json.specs.View.{view, members_view};
-ghost use Rattle.ipam_call.specs.Requests.{last_of, with_last, env_members, call_data, call_text, sendable, line_for};
+ghost use Rattle.ipam_call.specs.Requests.{last_of, with_last, env_members, call_data, cni_call_text, sendable, line_for};
 
 use cni_types::input_text;
 use ipam_lines::SESSION_LINE_BYTES;
@@ -28,7 +28,7 @@ pub(crate) fn line_for(
 
 fn line_of(alloc: Global, env: &[(Text, Text)], input: &str) -> Result<Option<String>, AllocError>
     ensures { IfOk result (λ found. option_map string_bytes found
-        ≡ sendable (call_text env.now input.now)) }
+        ≡ sendable (cni_call_text env.now input.now)) }
 {
     let mut line = call_string(alloc, env, input)?;
     if line.len() >= SESSION_LINE_BYTES {
@@ -38,9 +38,9 @@ fn line_of(alloc: Global, env: &[(Text, Text)], input: &str) -> Result<Option<St
     Ok(Some(line))
 }
 
-#[tactic(auto, unfolding(crate::specs::Requests::call_text), using(crate::proofs::NoFloats::call_without))]
+#[tactic(auto, unfolding(crate::specs::Requests::cni_call_text), using(crate::proofs::NoFloats::call_without))]
 fn call_string(alloc: Global, env: &[(Text, Text)], input: &str) -> Result<String, AllocError>
-    ensures { IfOk result (λ s. string_bytes s ≡ call_text env.now input.now) }
+    ensures { IfOk result (λ s. string_bytes s ≡ cni_call_text env.now input.now) }
 {
     let json = call_value(alloc, env, input)?;
     json.to_string(alloc)

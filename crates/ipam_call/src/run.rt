@@ -1,7 +1,7 @@
 //! A whole call.
 ghost use Rattle.std.specs.Prelude.{◌≡◌, IfSome};
 ghost use Rattle.ipam_call.specs.declared.end.CallEnd.{CallEnd as End};
-ghost use Rattle.ipam_call.specs.Calls.{Went, Sent, Received, IsInVersion, IsTold, LinkFaults, IsExchanged, outcome};
+ghost use Rattle.ipam_call.specs.Calls.{Went, Sent, Received, IsInVersion, IsToldVersion, LinkFaults, IsExchanged, outcome};
 ghost use Rattle.ipam_call.specs.Ends.{WritesCallEnd, IsStatus};
 ghost use Rattle.ipam_call.specs.Requests.{line_for};
 ghost use Rattle.ipam_call.specs.Versions.{version_for};
@@ -97,7 +97,7 @@ fn call_with<L: Link>(alloc: Global, env: &[(Text, Text)], input: &[u8], link: &
     ensures sent { Sent (outcome result) (line_for env.now input.now)
         (L.written link.old) (L.written link.new) }
     ensures received { IfSome (L.left link.old) (λ bytes. Received (outcome result) bytes) }
-    ensures version { IsTold (link.new ≡ link.old) result (version_for input.now) }
+    ensures version { IsToldVersion (link.new ≡ link.old) result (version_for input.now) }
     ensures faults { LinkFaults (outcome result) (L.read_faults link.old) (L.read_faults link.new)
         (L.write_faults link.old) (L.write_faults link.new) }
     ensures causes { IsExchanged (outcome result) }

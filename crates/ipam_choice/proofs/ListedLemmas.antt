@@ -1,5 +1,5 @@
--- Each slot with a block that has a rank is in the list that is looked through for it.
-use Rattle.std.proofs.Common.{◌≡◌, ℕ, ◌&&◌, inl, inr, Bool, true, false, cond, List, [], ◌∷◌, Option, Some, None, is_none, refl, sym, ap, ◌∙◌, subst, find}
+-- Each slot with a block that has a rank is in each list that may be looked through for it.
+use Rattle.std.proofs.Common.{◌≡◌, ◌⊎◌, ℕ, ◌&&◌, inl, inr, Bool, true, false, cond, List, [], ◌∷◌, Option, Some, None, is_none, refl, sym, ap, ◌∙◌, subst, find}
 use Rattle.std.specs.Prelude.{not}
 use Rattle.std.proofs.lemmas.Bool.{and_parts}
 use Rattle.std.specs.List.{cons_option}
@@ -12,7 +12,7 @@ use Rattle.ipam_block.specs.Shape as block
 use Rattle.ipam_block.specs.declared.allocation.Allocation.{Allocation}
 use Rattle.ipam_block.specs.Operations.{ordinal_address, room}
 use Rattle.ipam_records.specs.declared.record.Record.TheVariants as record_of
-use Rattle.ipam_records.specs.BlockLists.{is_node, has_queue, cidrs_where, cidrs_unowned, cidrs_roomy}
+use Rattle.ipam_records.specs.BlockLists.{is_node, has_queue, cidrs_where, cidrs_of_node, cidrs_unowned, cidrs_roomy}
 use Rattle.ipam_records.specs.KeyOrderLaws.{cidrs_same}
 use Rattle.ipam_model.specs.Reads.{StoredRecord}
 use Rattle.ipam_model.specs.Usable.{is_same_cidr}
@@ -21,7 +21,7 @@ use Rattle.ipam_choice.specs.declared.level.Level.{Level}
 use Rattle.ipam_choice.specs.declared.level.Level.TheVariants.{Own, Unconfirmed, Unclaimed, Foreign}
 use Rattle.ipam_choice.specs.Level.{level_number}
 use Rattle.ipam_choice.specs.Sight.{Sight, block_under, rank_by_room, rank_of_found, rank_listed}
-use Rattle.ipam_choice.specs.Scanned.{list_for}
+use Rattle.ipam_choice.specs.Scanned.{IsListFor}
 use Rattle.ipam_choice.specs.First.{Has}
 
 is_equal : (o : Ordering) → is_eq o ≡ true → o ≡ Equal
@@ -67,8 +67,8 @@ unowned cidr None allocations queue sequence may e = refl
 unowned cidr (Some node) allocations queue sequence may e = absurd (cc e)
 
 abbrev PassesFor : Sight → Level → block.BlockValue → Type 0
-PassesFor sight Own b = is_node sight.node b.node ≡ true
-PassesFor sight Unconfirmed b = is_node sight.node b.node ≡ true
+PassesFor sight Own b = (is_node sight.node b.node ≡ true) × (has_queue b.queue ≡ true)
+PassesFor sight Unconfirmed b = (is_node sight.node b.node ≡ true) × (has_queue b.queue ≡ true)
 PassesFor sight Unclaimed b = (is_none b.node ≡ true) × (sight.may_claim ≡ true)
 PassesFor sight Foreign b = (has_queue b.queue ≡ true) × (sight.strict ≡ false)
 
@@ -107,8 +107,8 @@ module _ (sight : Sight) (slot : CidrValue) (x : Ranked) (found : ℕ × block.B
 
   ranked_passes : (level : Level) (r : Option ℕ) → room sight.reserved found.1 ≡ r → if_rank (level_number level) slot (rank_by_room sight found r) ≡ Some x → PassesFor sight level found.1
   ranked_passes level None is e = absurd (cc e)
-  ranked_passes Own (Some ordinal) is e = own_node _ _ _ _ ordinal e
-  ranked_passes Unconfirmed (Some ordinal) is e = unconfirmed_node _ _ _ _ ordinal e
+  ranked_passes Own (Some ordinal) is e = (own_node _ _ _ _ ordinal e, queued sight.reserved found.1.cidr found.1.queue ordinal is)
+  ranked_passes Unconfirmed (Some ordinal) is e = (unconfirmed_node _ _ _ _ ordinal e, queued sight.reserved found.1.cidr found.1.queue ordinal is)
   ranked_passes Unclaimed (Some ordinal) is e =
       let b = found.1 in
       let free = unclaimed_free (is_node sight.node b.node) (sight.confirmed b.cidr) (is_unowned_and_empty b && sight.may_claim) sight.strict ordinal e in
@@ -117,17 +117,24 @@ module _ (sight : Sight) (slot : CidrValue) (x : Ranked) (found : ℕ × block.B
       let b = found.1 in
       (queued sight.reserved b.cidr b.queue ordinal is, foreign_lax (is_node sight.node b.node) (sight.confirmed b.cidr) (is_unowned_and_empty b && sight.may_claim) sight.strict ordinal e)
 
-  in_list_for : (level : Level) → PassesFor sight level found.1 → block_under sight.blocks slot ≡ Some found → Has slot (list_for sight level)
-  in_list_for Own ok is = block_in_list (λ b. is_node sight.node b.node) slot found ok sight.blocks is
-  in_list_for Unconfirmed ok is = block_in_list (λ b. is_node sight.node b.node) slot found ok sight.blocks is
-  in_list_for Unclaimed ok is =
-      subst (λ (b : Bool). Has slot (cond b (cidrs_unowned sight.blocks) [])) (sym ok.1) (block_in_list (λ b. is_none b.node) slot found ok.0 sight.blocks is)
-  in_list_for Foreign ok is =
-      subst (λ (b : Bool). Has slot (cond b [] (cidrs_roomy sight.blocks))) (sym ok.1) (block_in_list (λ b. has_queue b.queue) slot found ok.0 sight.blocks is)
+  own_in : (list : List CidrValue) → (list ≡ cidrs_of_node sight.node sight.blocks) ⊎ (list ≡ cidrs_roomy sight.blocks)
+      → (is_node sight.node found.1.node ≡ true) × (has_queue found.1.queue ≡ true) → block_under sight.blocks slot ≡ Some found → Has slot list
+  own_in list (inl own) ok is = subst (λ (xs : List CidrValue). Has slot xs) (sym own) (block_in_list (λ b. is_node sight.node b.node) slot found ok.0 sight.blocks is)
+  own_in list (inr roomy) ok is = subst (λ (xs : List CidrValue). Has slot xs) (sym roomy) (block_in_list (λ b. has_queue b.queue) slot found ok.1 sight.blocks is)
 
-pub complete : (sight : Sight) (level : Level) (slot : CidrValue) (x : Ranked) → if_rank (level_number level) slot (rank_listed sight slot) ≡ Some x → Has slot (list_for sight level)
-complete sight level slot x e = by (block_under sight.blocks slot) refl e
+  in_list_for : (level : Level) (list : List CidrValue) → IsListFor sight level list → PassesFor sight level found.1 → block_under sight.blocks slot ≡ Some found → Has slot list
+  in_list_for Own list own ok is = own_in list own ok is
+  in_list_for Unconfirmed list own ok is = own_in list own ok is
+  in_list_for Unclaimed list all ok is =
+      subst (λ (xs : List CidrValue). Has slot xs) (sym all)
+      (subst (λ (b : Bool). Has slot (cond b (cidrs_unowned sight.blocks) [])) (sym ok.1) (block_in_list (λ b. is_none b.node) slot found ok.0 sight.blocks is))
+  in_list_for Foreign list all ok is =
+      subst (λ (xs : List CidrValue). Has slot xs) (sym all)
+      (subst (λ (b : Bool). Has slot (cond b [] (cidrs_roomy sight.blocks))) (sym ok.1) (block_in_list (λ b. has_queue b.queue) slot found ok.0 sight.blocks is))
+
+pub complete : (sight : Sight) (level : Level) (list : List CidrValue) (slot : CidrValue) (x : Ranked) → IsListFor sight level list → if_rank (level_number level) slot (rank_listed sight slot) ≡ Some x → Has slot list
+complete sight level list slot x all e = by (block_under sight.blocks slot) refl e
   where
-    by : (o : Option (ℕ × block.BlockValue)) → block_under sight.blocks slot ≡ o → if_rank (level_number level) slot (rank_of_found sight o) ≡ Some x → Has slot (list_for sight level)
+    by : (o : Option (ℕ × block.BlockValue)) → block_under sight.blocks slot ≡ o → if_rank (level_number level) slot (rank_of_found sight o) ≡ Some x → Has slot list
     by None is f = absurd (cc f)
-    by (Some found) is f = in_list_for sight slot x found level (ranked_passes sight slot x found level (room sight.reserved found.1) refl f) is
+    by (Some found) is f = in_list_for sight slot x found level list all (ranked_passes sight slot x found level (room sight.reserved found.1) refl f) is

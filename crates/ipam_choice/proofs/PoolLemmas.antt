@@ -27,7 +27,7 @@ use Rattle.ipam_choice.specs.declared.level.Level.TheVariants.{Own, Unconfirmed,
 use Rattle.ipam_choice.specs.Level.{level_number}
 use Rattle.ipam_choice.specs.First.{first_of, earlier, found_there, Has}
 use Rattle.ipam_choice.specs.Sight.{Sight, IsSlotted, block_under, rank_of_found, rank_listed, has_free, rank_bare, rank_in_sight, if_slot, first_ranked, first_in}
-use Rattle.ipam_choice.specs.Scanned.{list_for, is_lower, lower, IsFirstBare, is_bare_slot}
+use Rattle.ipam_choice.specs.Scanned.{IsListFor, is_lower, lower, IsFirstBare, is_bare_slot}
 use Rattle.ipam_choice.proofs.FirstLemmas.{first_found-is, first_found-nothing, first_found-some, first_found-either, earlier-none, first_of-none, first_of-some}
 use Rattle.ipam_choice.proofs.ListedLemmas.{complete}
 
@@ -105,13 +105,13 @@ module _ (rank : CidrValue → Option Rank) (number : ℕ) (pool : Pool) (list :
           nothing_there j (omega arith) (λ has. first_of-none in_list list is (at j) has))))
 
 -- the blocks of which some may have the rank, as far as they may lie in the pool
-pub with_block : (sight : Sight) (level : Level) (pool : Pool) (list : List CidrValue) → IsSlotted pool → IsStrictlySortedBy cidr_cmp list
-    → ((k : ℕ) → k ≤ last_slot_of pool.cidr pool.size → Has (slot_of pool.cidr pool.size k) (list_for sight level) → Has (slot_of pool.cidr pool.size k) list)
+pub with_block : (sight : Sight) (level : Level) (pool : Pool) (whole list : List CidrValue) → IsListFor sight level whole → IsSlotted pool → IsStrictlySortedBy cidr_cmp list
+    → ((k : ℕ) → k ≤ last_slot_of pool.cidr pool.size → Has (slot_of pool.cidr pool.size k) whole → Has (slot_of pool.cidr pool.size k) list)
     → ((x : Ranked) → first_of (if_slot (rank_listed sight) (level_number level) pool) list ≡ Some x → IsCidr x.slot)
     → first_of (if_slot (rank_listed sight) (level_number level) pool) list ≡ found_there (first_ranked (rank_listed sight) (level_number level) pool)
-with_block sight level pool list slotted ascends kept sound =
+with_block sight level pool whole list all slotted ascends kept sound =
     first_of_list (rank_listed sight) (level_number level) pool list slotted.range slotted.slots ascends
-    (λ k x within is. kept k within (complete sight level (slot_of pool.cidr pool.size k) x is)) sound
+    (λ k x within is. kept k within (complete sight level whole (slot_of pool.cidr pool.size k) x all is)) sound
 
 -- ---- slots without a block
 module _ (sight : Sight) (pool : Pool) where

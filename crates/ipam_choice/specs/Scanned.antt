@@ -1,5 +1,5 @@
 -- What a scan sees, and what it finds.
-use Rattle.std.specs.Prelude.{◌≡◌, ℕ, ◌<◌, ◌≤◌, Bool, true, false, ◌&&◌, nat_le, List, [], Option, Some, None, is_none, if◌then◌else◌}
+use Rattle.std.specs.Prelude.{◌≡◌, ◌⊎◌, ℕ, ◌<◌, ◌≤◌, Bool, true, false, ◌&&◌, nat_le, List, [], Option, Some, None, is_none, if◌then◌else◌}
 use Rattle.ipam_addr.specs.Shape.{AddrValue, CidrValue}
 use Rattle.ipam_addr.specs.Slots.{last_slot_of, slot_of}
 use Rattle.ipam_pool.specs.declared.pools.Pool.{Pool}
@@ -26,12 +26,13 @@ sight_of scan = record {
   blocks = rows_of scan.blocks;
 }
 
--- the blocks of which some may have a rank of the level
-abbrev pub list_for : Sight → Level → List CidrValue
-list_for sight Own = cidrs_of_node sight.node sight.blocks
-list_for sight Unconfirmed = cidrs_of_node sight.node sight.blocks
-list_for sight Unclaimed = if sight.may_claim then cidrs_unowned sight.blocks else []
-list_for sight Foreign = if sight.strict then [] else cidrs_roomy sight.blocks
+-- all blocks that may have a rank of the level are in the list: those of the node are all of its
+-- blocks, or all with a free address, since a block without one has no rank
+abbrev pub IsListFor : Sight → Level → List CidrValue → Type 0
+IsListFor sight Own list = (list ≡ cidrs_of_node sight.node sight.blocks) ⊎ (list ≡ cidrs_roomy sight.blocks)
+IsListFor sight Unconfirmed list = (list ≡ cidrs_of_node sight.node sight.blocks) ⊎ (list ≡ cidrs_roomy sight.blocks)
+IsListFor sight Unclaimed list = list ≡ (if sight.may_claim then cidrs_unowned sight.blocks else [])
+IsListFor sight Foreign list = list ≡ (if sight.strict then [] else cidrs_roomy sight.blocks)
 
 -- whether the first is there, and the other not or at a higher base
 abbrev pub is_lower : Option Ranked → Option Ranked → Bool

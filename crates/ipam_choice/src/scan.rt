@@ -1,4 +1,4 @@
-ghost use Rattle.std.specs.Prelude.{◌≡◌, ◌&&◌, Some, None, IfSome, option_map, if◌then◌else◌};
+ghost use Rattle.std.specs.Prelude.{◌≡◌, ◌⊎◌, ◌&&◌, Some, None, IfSome, option_map, if◌then◌else◌};
 ghost use Rattle.std.specs.List.Sorted.{IsStrictlySortedBy};
 ghost use Rattle.ipam_handle.specs.Order.{cidr_cmp};
 ghost use Rattle.ipam_addr.specs.Width.{IsCidr};
@@ -8,8 +8,9 @@ ghost use Rattle.ipam_choice.specs.Picked.{found_of, rank_as, ranked_in};
 ghost use Rattle.ipam_choice.specs.First.{first_of, found_there};
 ghost use Rattle.ipam_choice.specs.Level.{level_number};
 ghost use Rattle.ipam_choice.specs.Sight.{IsSlotted, rank_of_found, rank_listed, rank_bare, if_slot, first_ranked, first_in};
-ghost use Rattle.ipam_choice.specs.Scanned.{sight_of, is_lower, list_for};
-ghost use Rattle.ipam_records.specs.BlockLists.{is_node};
+ghost use Rattle.ipam_choice.specs.Scanned.{sight_of, is_lower, IsListFor};
+ghost use Rattle.ipam_records.specs.BlockLists.{is_node, cidrs_of_node, cidrs_roomy};
+ghost use Rattle.ipam_records.specs.Listing.{rows_of};
 
 use crate::confirmed::Confirmed;
 use crate::level::Level;
@@ -66,15 +67,27 @@ impl<'a> Scan<'a, '_> {
 
     // The blocks of which some may have a rank of the level.
     fn blocks_for(&self, level: Level) -> &'a [Cidr]
-        ensures value { result.now ≡ list_for (sight_of self.now) level }
+        ensures all { IsListFor (sight_of self.now) level result.now }
         ensures ascending { IsStrictlySortedBy cidr_cmp result.now }
     {
         match level {
-            Level::Own | Level::Unconfirmed => self.blocks.of_node(self.node),
+            Level::Own | Level::Unconfirmed => self.own_blocks(),
             Level::Unclaimed if self.may_claim => self.blocks.unowned(),
             Level::Foreign if !self.strict => self.blocks.roomy(),
             _ => &[],
         }
+    }
+
+    // The node's blocks, or those with a free address where these are fewer: so the full blocks of a
+    // node cost an ADD nothing.
+    fn own_blocks(&self) -> &'a [Cidr]
+        ensures all { (result.now ≡ cidrs_of_node self.now.node.now (rows_of self.now.blocks))
+            ⊎ (result.now ≡ cidrs_roomy (rows_of self.now.blocks)) }
+        ensures ascending { IsStrictlySortedBy cidr_cmp result.now }
+    {
+        let own = self.blocks.of_node(self.node);
+        let roomy = self.blocks.roomy();
+        if roomy.len() < own.len() { roomy } else { own }
     }
 
     // The first of the blocks that is a slot of the pool with a rank of the level.

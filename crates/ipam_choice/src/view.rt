@@ -1,7 +1,7 @@
 ghost use Rattle.std.specs.Prelude.{◌≡◌, ◌&&◌, ◌||◌, not, position};
 ghost use Rattle.std.specs.List.{list_any};
 ghost use Rattle.ipam_addr.specs.Text.{cidr_reading};
-ghost use Rattle.ipam_model.specs.Usable.{is_name_of, is_cidr_read, is_same_cidr, is_enabled, is_named, is_usable, is_known, is_automatic, names_none, unknown_name};
+ghost use Rattle.ipam_model.specs.Usable.{is_name_of, is_cidr_read, is_same_cidr, is_enabled, is_pool_asked, is_usable, is_known, is_automatic, names_none, unknown_name};
 
 use crate::confirmed::Confirmed;
 use ipam_addr::{Cidr, Family, read_cidr};
@@ -85,8 +85,8 @@ impl Wanted<'_> {
 
     // Whether the names and the mode of the pool allow it.
     fn is_meant(&self, pool: &Pool) -> bool
-        ensures { result ≡ ((names_none (asked_of self.now) || is_named (asked_of self.now) pool.now)
-            && (is_automatic pool.now.mode || is_named (asked_of self.now) pool.now || self.now.one_address)) }
+        ensures { result ≡ ((names_none (asked_of self.now) || is_pool_asked (asked_of self.now) pool.now)
+            && (is_automatic pool.now.mode || is_pool_asked (asked_of self.now) pool.now || self.now.one_address)) }
     {
         if self.names.is_empty() {
             pool.mode == Mode::Automatic || self.one_address
@@ -96,7 +96,7 @@ impl Wanted<'_> {
     }
 
     fn is_named(&self, pool: &Pool) -> bool
-        ensures { result ≡ is_named (asked_of self.now) pool.now }
+        ensures { result ≡ is_pool_asked (asked_of self.now) pool.now }
     {
         self.names.iter().any(|name| is_name_of(pool, name))
     }

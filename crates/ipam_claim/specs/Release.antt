@@ -28,35 +28,35 @@ abbrev pub tie_of : ReleaseAffinityProc → Tie
 tie_of p = record { node = p.node; block = p.cidr }
 
 -- what follows a lost race
-abbrev pub again : Tie → Left → Part ReleaseAnswer
-again tie left = again_of (release_once tie) left
+abbrev pub release_again : Tie → Left → Part ReleaseAnswer
+release_again tie left = again_of (release_once tie) left
 
 -- the affinity is read for the second time
 abbrev pub looks_again : Tie → Left → Marked → Part ReleaseAnswer
 looks_again tie left seen =
     Asks idle (Get (key.Affinity tie.node tie.block)) (λ second said.
     if is_at_mark seen.mark (affinity_said said)
-    then release_block tie (again tie left) left seen.mark seen.read else again tie left)
+    then release_block tie (release_again tie left) left seen.mark seen.read else release_again tie left)
 
 -- the affinity that was found is marked
 abbrev pub marks : Tie → Left → ℕ → Part ReleaseAnswer
 marks tie left revision =
     Asks idle (Update (record_of.Affinity (affinity tie.node tie.block PendingDeletion)) revision)
-    (λ second said. on_write said left (release_look tie (again tie left) left) (again tie left))
+    (λ second said. on_write said left (release_look tie (release_again tie left) left) (release_again tie left))
 
-abbrev pub reading_at : Tie → Left → Reading → Part ReleaseAnswer
-reading_at tie left Affinity = release_once tie (again tie left) left
-reading_at tie left (Block mark) = release_look tie (again tie left) left mark
-reading_at tie left (Again seen) = looks_again tie left seen
+abbrev pub release_reading_at : Tie → Left → Reading → Part ReleaseAnswer
+release_reading_at tie left Affinity = release_once tie (release_again tie left) left
+release_reading_at tie left (Block mark) = release_look tie (release_again tie left) left mark
+release_reading_at tie left (Again seen) = looks_again tie left seen
 
-abbrev pub writing_at : Tie → Left → Writing → Part ReleaseAnswer
-writing_at tie left (Marks revision) = marks tie left revision
-writing_at tie left (Bares seen) = release_block tie (again tie left) left seen.mark seen.read
-writing_at tie left (Deletes mark) = release_delete tie (again tie left) left mark
+abbrev pub release_writing_at : Tie → Left → Writing → Part ReleaseAnswer
+release_writing_at tie left (Marks revision) = marks tie left revision
+release_writing_at tie left (Bares seen) = release_block tie (release_again tie left) left seen.mark seen.read
+release_writing_at tie left (Deletes mark) = release_delete tie (release_again tie left) left mark
 
 abbrev pub part_at : Tie → Left → Stage → Part ReleaseAnswer
-part_at tie left (Reads reading) = reading_at tie left reading
-part_at tie left (Writes writing) = writing_at tie left writing
+part_at tie left (Reads reading) = release_reading_at tie left reading
+part_at tie left (Writes writing) = release_writing_at tie left writing
 
 abbrev pub release_at : Tie → Left → Stage → Word ReleaseAnswer
 release_at tie left stage = as_word release_stops (part_at tie left stage)

@@ -12,7 +12,7 @@ ghost use Rattle.ipam_model.specs.Affinities.{affinity, baring, other_node, rele
 ghost use Rattle.ipam_model.specs.Reads.{affinity_said};
 ghost use Rattle.ipam_model.specs.Step.{as_word};
 ghost use Rattle.ipam_claim.specs.declared.release.Stage.TheVariants.{Reads, Writes};
-ghost use Rattle.ipam_claim.specs.Release.{tie_of, again, stage_at_mark, release_at, release_rest, release_leaves, release_goes};
+ghost use Rattle.ipam_claim.specs.Release.{tie_of, release_again, stage_at_mark, release_at, release_rest, release_leaves, release_goes};
 
 use ipam_addr::Cidr;
 use ipam_affinity::{Affinity, State};
@@ -192,7 +192,7 @@ impl ReleaseAffinityProc {
     /// Where a lost race leads.
     #[tactic(auto, using(ipam_parts::proofs::TryLaws::lost_goes))]
     fn lost(&self) -> Goes
-        ensures { release_goes self.now result ≡ as_word release_stops (again (tie_of self.now) self.now.left) }
+        ensures { release_goes self.now result ≡ as_word release_stops (release_again (tie_of self.now) self.now.left) }
     {
         match after_lost(self.left) {
             Ok(left) => Goes::Again(left),

@@ -32,7 +32,7 @@ use Rattle.ipam_running.specs.declared.running.Running.{Running}
 use Rattle.ipam_running.specs.Running.{running_rest}
 use Rattle.ipam_running.proofs.StillLemmas.{runs_on}
 use Rattle.ipam_cluster.specs.declared.cluster.Cluster.{Cluster}
-use Rattle.ipam_cluster.specs.Cluster.{slot_of, state_in, IsCluster, Stood}
+use Rattle.ipam_cluster.specs.Cluster.{slot_of_cluster, state_in, IsCluster, Stood}
 use Rattle.ipam_cluster.proofs.Adding.{runs_there}
 use Rattle.ipam_cluster.specs.declared.turns.Prepared.{Prepared}
 use Rattle.ipam_cluster.specs.Preparing.{IsPrepared, Leads, TellsOf, write_next}
@@ -57,11 +57,11 @@ running_asks (Some own) running held is =
 
 -- ---- what it may be told
 
-pub may_be_told : (cluster : Cluster) (slot : ℕ) (running : Running) (call : Call) → Stood cluster → slot_of cluster slot ≡ Some running
+pub may_be_told : (cluster : Cluster) (slot : ℕ) (running : Running) (call : Call) → Stood cluster → slot_of_cluster cluster slot ≡ Some running
     → next_call (running_rest running) ≡ Some call → MayHear (running_rest running) (reply_of cluster.store.store call)
 may_be_told cluster slot running call (base, (history, h)) held asks =
     let one = cluster_at base history in
-    let found = runs_there (slot_of cluster slot) (one.slots slot) running (h.is_cluster.slots slot) held in
+    let found = runs_there (slot_of_cluster cluster slot) (one.slots slot) running (h.is_cluster.slots slot) held in
     let heard = may_hear base history slot found.it call h.stands.consistent.sound h.stands.consistent.covered h.stands.lawful found.is
     (sym (ap next_call found.runs.word) ∙ asks) in
     subst (λ (w : Word Answer). MayHear w (reply_of cluster.store.store call)) (sym found.runs.word)
@@ -90,7 +90,7 @@ sound_written store (Remove revision key) sound = tt
 -- the datastore stays sound after the call
 sound_behind : (cluster : Cluster) (slot : ℕ) (running : Running) (call : Call) (base : Base) (history : List Entry)
     → slot < 64 → cluster.entries < 2 ^ 62 → Lawful base history → IsDatastore base.store
-    → (is : IsCluster cluster (cluster_at base history)) → slot_of cluster slot ≡ Some running → next_call (running_rest running) ≡ Some call
+    → (is : IsCluster cluster (cluster_at base history)) → slot_of_cluster cluster slot ≡ Some running → next_call (running_rest running) ≡ Some call
     → IsDatastore (store_after (told_call cluster slot Well running call) (store_at base history))
 unfolding Lawful cluster_at after
 sound_behind cluster slot running call base history there few lawful sound is held asks =
@@ -98,7 +98,7 @@ sound_behind cluster slot running call base history there few lawful sound is he
     (lawful, may_call cluster (cluster_at base history) slot Well running call is there few held asks)
 
 pub write_is_sound : (cluster : Cluster) (slot : ℕ) (running : Running) (call : Call) (write : Option Write)
-    → Stood cluster → slot < 64 → cluster.entries < 2 ^ 62 → slot_of cluster slot ≡ Some running
+    → Stood cluster → slot < 64 → cluster.entries < 2 ^ 62 → slot_of_cluster cluster slot ≡ Some running
     → next_call (running_rest running) ≡ Some call → write ≡ write_granted call (reply_of cluster.store.store call)
     → ForSome write IsSoundWrite
 write_is_sound cluster slot running call write (base, (history, h)) there few held asks is = λ it some.
@@ -116,7 +116,7 @@ if_ok (Err error) P holds = search rules
 
 pub is_prepared : (cluster : Cluster) (slot : ℕ) (running : Running) (call : Call) (said : Said) (prepared : Prepared)
     → Stood cluster → slot < 64 → cluster.entries < 2 ^ 62 → 1 ≤ cluster.store.spare
-    → slot_of cluster slot ≡ Some running → next_call (running_rest running) ≡ Some call → said ≡ reply_of cluster.store.store call
+    → slot_of_cluster cluster slot ≡ Some running → next_call (running_rest running) ≡ Some call → said ≡ reply_of cluster.store.store call
     → prepared.slot ≡ slot → prepared.write ≡ write_granted call said → TellsOf prepared call said
     → Leads running prepared.turned cluster.entries said
     → IsPrepared cluster prepared
@@ -124,11 +124,11 @@ is_prepared cluster slot running call said prepared stood there few spare held a
     let write : prepared.write ≡ write_granted call (reply_of cluster.store.store call) = writes ∙ ap (write_granted call) is in
     record {
       small = subst (λ n. n < 64) (sym own) there;
-      write = write ∙ sym (write_next_is cluster.store.store (slot_of cluster slot) running call held asks)
-          ∙ ap (λ s. write_next (slot_of cluster s) cluster.store.store) (sym own);
+      write = write ∙ sym (write_next_is cluster.store.store (slot_of_cluster cluster slot) running call held asks)
+          ∙ ap (λ s. write_next (slot_of_cluster cluster s) cluster.store.store) (sym own);
       few = few;
       running = running;
-      runs = ap (slot_of cluster) own ∙ held;
+      runs = ap (slot_of_cluster cluster) own ∙ held;
       call = call;
       asks = asks;
       tells = subst (λ (s : Said). TellsOf prepared call s) is tells;

@@ -22,7 +22,7 @@ use Rattle.ipam_running.specs.declared.running.RunningTurned.{RunningTurned}
 use Rattle.ipam_running.specs.Running.{running_rest, running_leaves, running_grace}
 use Rattle.ipam_cluster.specs.declared.cluster.Cluster.{Cluster}
 use Rattle.ipam_cluster.specs.declared.turns.Prepared.{Prepared}
-use Rattle.ipam_cluster.specs.Cluster.{slot_of, IsSlot, IsCluster, AddsTo}
+use Rattle.ipam_cluster.specs.Cluster.{slot_of_cluster, IsSlot, IsCluster, AddsTo}
 use Rattle.ipam_cluster.specs.Preparing.{IsPrepared, write_asked, write_next}
 use Rattle.ipam_cluster.specs.Slots.{slot_in, RunsOn}
 use Rattle.ipam_cluster.proofs.Adding.{adds, moved, runs_there, RunsThere}
@@ -65,7 +65,7 @@ abbrev pub told_call : Cluster → (slot : ℕ) → Fate → Running → Call �
 told_call cluster slot fate running call =
     call_made slot fate call (reply_of cluster.store.store call) (answer_in (after_reply (running_rest running) cluster.entries (reply_of cluster.store.store call)))
 
-may_at : (one : model.Cluster) (slot : ℕ) (fate : Fate) (it : model.Running) (c : Called) → slot < 64 → one.entries < 2 ^ 62
+may_at : (one : model.ClusterState) (slot : ℕ) (fate : Fate) (it : model.RunningRequest) (c : Called) → slot < 64 → one.entries < 2 ^ 62
     → one.slots slot ≡ Some it → slot ≡ c.slot → fate ≡ c.fate → call_entry slot fate one.store one.entries it.word ≡ Some c
     → MayCall one c
 may_at one slot fate it c there few runs same_slot same_fate is = record {
@@ -86,11 +86,11 @@ own_fate slot Well call said answer = refl
 own_fate slot Before call said answer = refl
 own_fate slot After call said answer = refl
 
-pub may_call : (old : Cluster) (one : model.Cluster) (slot : ℕ) (fate : Fate) (running : Running) (call : Call)
-    → IsCluster old one → slot < 64 → old.entries < 2 ^ 62 → slot_of old slot ≡ Some running → next_call (running_rest running) ≡ Some call
+pub may_call : (old : Cluster) (one : model.ClusterState) (slot : ℕ) (fate : Fate) (running : Running) (call : Call)
+    → IsCluster old one → slot < 64 → old.entries < 2 ^ 62 → slot_of_cluster old slot ≡ Some running → next_call (running_rest running) ≡ Some call
     → MayCall one (told_call old slot fate running call)
 may_call old one slot fate running call is there few held asks =
-    let found = runs_there (slot_of old slot) (one.slots slot) running (is.slots slot) held in
+    let found = runs_there (slot_of_cluster old slot) (one.slots slot) running (is.slots slot) held in
     let entry : Datastore → ℕ → Word Answer → Option Called =
     λ store moment word. Some (call_made slot fate call (reply_of store call) (answer_in (after_reply word moment (reply_of store call)))) in
     let same : entry one.store one.entries found.it.word ≡ entry old.store.store old.entries (running_rest running) =
@@ -105,7 +105,7 @@ may_call old one slot fate running call is there few held asks =
 
 -- ---- what it makes of the cluster
 
-moved_by : (old new : Cluster) (one : model.Cluster) (c : Called) (code : Option Running) → IsCluster old one → c.slot < length old.slots.items
+moved_by : (old new : Cluster) (one : model.ClusterState) (c : Called) (code : Option Running) → IsCluster old one → c.slot < length old.slots.items
     → new.store.store ≡ store_after c old.store.store → new.entries ≡ old.entries + 1 → new.slots.items ≡ set old.slots.items c.slot code
     → IsSlot code (goes_on one.store one.entries c.answer (one.slots c.slot)) → IsCluster new (after one (entry.Called c))
 unfolding after
@@ -114,12 +114,12 @@ moved_by old new one c code is within store entries slots this =
     (store ∙ ap (store_after c) is.store) entries slots this
 
 -- what runs on has what is left after the answer
-on_there : (old : Cluster) (one : model.Cluster) (slot : ℕ) (was after : Running) (call : Call) → IsCluster old one
+on_there : (old : Cluster) (one : model.ClusterState) (slot : ℕ) (was after : Running) (call : Call) → IsCluster old one
     → RunsThere was (one.slots slot) → next_call (running_rest was) ≡ Some call
     → running_rest after ≡ after_reply (running_rest was) old.entries (reply_of old.store.store call) → running_grace after ≡ running_grace was
     → IsSlot (Some after) (goes_on one.store one.entries None (one.slots slot))
 on_there old one slot was after call is found asks word grace =
-    subst (λ (o : Option model.Running). IsSlot (Some after) (goes_on one.store one.entries None o)) (sym found.is) (record {
+    subst (λ (o : Option model.RunningRequest). IsSlot (Some after) (goes_on one.store one.entries None o)) (sym found.is) (record {
       word = word
           ∙ ap (λ s. after_reply (running_rest was) old.entries (reply_of s call)) is.store
           ∙ ap (λ m. after_reply (running_rest was) m (reply_of one.store call)) is.entries
@@ -142,7 +142,7 @@ told_store old prepared p store =
     let name = p.tells.name in
     let reply = p.tells.reply in
     let written = p.tells.written in
-    let next = write_next_is old.store.store (slot_of old prepared.slot) p.running p.call p.runs p.asks in
+    let next = write_next_is old.store.store (slot_of_cluster old prepared.slot) p.running p.call p.runs p.asks in
     let write = p.write in
     let same : prepared.write ≡ write_told prepared.name prepared.reply prepared.written = cc in
     ap (λ w. store_with w store) same
@@ -240,7 +240,7 @@ done old new prepared p None all went store entries =
       moved_by old new one (well_called prepared None) (Some on.running) is (subst (λ n. prepared.slot < n) (sym all) p.small)
           (store ∙ told_store old prepared p old.store.store) entries on.slots
           (on_there old one prepared.slot p.running on.running p.call is
-          (runs_there (slot_of old prepared.slot) (one.slots prepared.slot) p.running (is.slots prepared.slot) p.runs) p.asks
+          (runs_there (slot_of_cluster old prepared.slot) (one.slots prepared.slot) p.running (is.slots prepared.slot) p.runs) p.asks
           (on.word ∙ p.leads.leaves) on.grace),
     ))
 

@@ -8,7 +8,7 @@ use Rattle.ipam_model.specs.Opened.{Texts, OpensAs}
 use Rattle.ipam_running.specs.declared.running.Running.{Running}
 use Rattle.ipam_cluster.specs.declared.cluster.Cluster.{Cluster}
 use Rattle.ipam_cluster.specs.Busy.{busy, busy_count}
-use Rattle.ipam_cluster.specs.Cluster.{slot_of, IsSlot, StandsFor}
+use Rattle.ipam_cluster.specs.Cluster.{slot_of_cluster, IsSlot, StandsFor}
 use Rattle.ipam_cluster.specs.Slots.{slot_in}
 
 pub idle_push : (items : List (Option Running)) → ((slot : ℕ) → slot_in items slot ≡ None)
@@ -28,10 +28,10 @@ idle_is : (code : Option Running) → code ≡ None → IsSlot code None
 idle_is code e = subst (λ (o : Option Running). IsSlot o None) (sym e) tt
 
 pub opens : (cluster : Cluster) (texts : Texts) (first : ℕ) → OpensAs texts cluster.store.store → cluster.entries ≡ first
-    → ((slot : ℕ) → slot_of cluster slot ≡ None)
+    → ((slot : ℕ) → slot_of_cluster cluster slot ≡ None)
     → StandsFor cluster (record { store = cluster.store.store; first = first }) []
 unfolding cluster_at
 opens cluster texts first opened count idle = record {
-  is_cluster = record { store = refl; entries = count; slots = λ slot. idle_is (slot_of cluster slot) (idle slot) };
+  is_cluster = record { store = refl; entries = count; slots = λ slot. idle_is (slot_of_cluster cluster slot) (idle slot) };
   stands = stands.opened (record { store = cluster.store.store; first = first }) (opened_law texts cluster.store.store opened);
 }

@@ -10,7 +10,7 @@ use Rattle.ipam_cluster.specs.Slots.{slot_in}
 use Rattle.ipam_cluster.specs.Busy.{busy, busy_count}
 
 -- the changed slot and the others
-pub slots_with : (items : List (Option Running)) (slots : model.Slots) (slot : ℕ) (code : Option Running) (one : Option model.Running)
+pub slots_with : (items : List (Option Running)) (slots : model.Slots) (slot : ℕ) (code : Option Running) (one : Option model.RunningRequest)
     → slot < length items → ((s : ℕ) → IsSlot (slot_in items s) (slots s)) → IsSlot code one
     → (s : ℕ) → IsSlot (slot_in (set items slot code) s) (model.with_slot slot one slots s)
 slots_with items slots slot code one within all this s = elim (cases_Bool (s == slot)) [

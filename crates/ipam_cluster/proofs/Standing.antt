@@ -8,12 +8,12 @@ use Rattle.ipam_model.specs.Cluster.{state_of}
 use Rattle.ipam_model.specs.History.{Base, cluster_at}
 use Rattle.ipam_running.specs.declared.running.Running.{Running}
 use Rattle.ipam_cluster.specs.declared.cluster.Cluster.{Cluster}
-use Rattle.ipam_cluster.specs.Cluster.{slot_of, state_in, IsSlot, IsCluster, IsUnchanged, StandsFor, Stood}
+use Rattle.ipam_cluster.specs.Cluster.{slot_of_cluster, state_in, IsSlot, IsCluster, IsUnchanged, StandsFor, Stood}
 use Rattle.std.specs.Prelude.{if◌then◌else◌}
 
 -- ---- clusters that are the same
 
-same_cluster : (old new : Cluster) (one : model.Cluster) → IsUnchanged old new → IsCluster old one → IsCluster new one
+same_cluster : (old new : Cluster) (one : model.ClusterState) → IsUnchanged old new → IsCluster old one → IsCluster new one
 same_cluster old new one same is = record {
   store = same.store ∙ is.store;
   entries = same.entries ∙ is.entries;
@@ -35,12 +35,12 @@ unchanged_itself cluster = record { store = refl; entries = refl; slots = λ slo
 
 -- ---- what there is to do in a slot
 
-pub state_is : (code : Option Running) (one : Option model.Running) → IsSlot code one → state_in code ≡ state_of one
+pub state_is : (code : Option Running) (one : Option model.RunningRequest) → IsSlot code one → state_in code ≡ state_of one
 state_is None None is = refl
 state_is None (Some one) is = absurd is
 state_is (Some running) None is = absurd is
 state_is (Some running) (Some one) is = ap (λ w. if waits w then state.Waiting else state.Running) is.word
 
 pub state_there : (cluster : Cluster) (base : Base) (history : List Entry) → StandsFor cluster base history
-    → (slot : ℕ) → state_in (slot_of cluster slot) ≡ state_of ((cluster_at base history).slots slot)
-state_there cluster base history h slot = state_is (slot_of cluster slot) ((cluster_at base history).slots slot) (h.is_cluster.slots slot)
+    → (slot : ℕ) → state_in (slot_of_cluster cluster slot) ≡ state_of ((cluster_at base history).slots slot)
+state_there cluster base history h slot = state_is (slot_of_cluster cluster slot) ((cluster_at base history).slots slot) (h.is_cluster.slots slot)

@@ -15,8 +15,8 @@ use Rattle.ipam_cluster.specs.Slots.{slot_in}
 use Rattle.ipam_cluster.specs.declared.cluster.Cluster.{Cluster}
 
 -- what runs in a slot
-abbrev pub slot_of : Cluster → ℕ → Option Running
-slot_of cluster slot = slot_in cluster.slots.items slot
+abbrev pub slot_of_cluster : Cluster → ℕ → Option Running
+slot_of_cluster cluster slot = slot_in cluster.slots.items slot
 
 abbrev pub state_in : Option Running → SlotState
 state_in None = state.Idle
@@ -25,21 +25,21 @@ state_in (Some running) = if waits (running_rest running) then state.Waiting els
 -- ---- the cluster that it stands for
 
 -- what is left is what is left of the request, and a collection has its times
-pub record Runs (running : Running) (one : model.Running) : Type 0 where
+pub record Runs (running : Running) (one : model.RunningRequest) : Type 0 where
   pub word : running_rest running ≡ one.word
   pub grace : running_grace running ≡ grace_of one.request
 
 -- the same runs in both, or nothing in either
-abbrev pub IsSlot : Option Running → Option model.Running → Type 0
+abbrev pub IsSlot : Option Running → Option model.RunningRequest → Type 0
 IsSlot None None = Unit {0}
 IsSlot None (Some one) = ⊥
 IsSlot (Some running) None = ⊥
 IsSlot (Some running) (Some one) = Runs running one
 
-pub record IsCluster (cluster : Cluster) (one : model.Cluster) : Type 0 where
+pub record IsCluster (cluster : Cluster) (one : model.ClusterState) : Type 0 where
   pub store : cluster.store.store ≡ one.store
   pub entries : cluster.entries ≡ one.entries
-  pub slots : (slot : ℕ) → IsSlot (slot_of cluster slot) (one.slots slot)
+  pub slots : (slot : ℕ) → IsSlot (slot_of_cluster cluster slot) (one.slots slot)
 
 -- the base is consistent, the history is lawful, and the cluster is what they come to
 pub record StandsFor (cluster : Cluster) (base : Base) (history : List Entry) : Type 0 where
@@ -64,7 +64,7 @@ StaysRight cluster added =
 pub record IsUnchanged (old new : Cluster) : Type 0 where
   pub store : new.store.store ≡ old.store.store
   pub entries : new.entries ≡ old.entries
-  pub slots : (slot : ℕ) → slot_of new slot ≡ slot_of old slot
+  pub slots : (slot : ℕ) → slot_of_cluster new slot ≡ slot_of_cluster old slot
 
 -- when the collection's second list that waits in a slot is too early
 abbrev pub grace_in : Option Running → Option Grace

@@ -15,7 +15,7 @@ use Rattle.ipam_store.specs.Granted.{IsSoundWrite}
 use Rattle.ipam_running.specs.declared.running.Running.{Running}
 use Rattle.ipam_running.specs.declared.running.RunningTurned.{RunningTurned}
 use Rattle.ipam_running.specs.Running.{running_rest, running_leaves, FitsRunning}
-use Rattle.ipam_cluster.specs.Cluster.{slot_of}
+use Rattle.ipam_cluster.specs.Cluster.{slot_of_cluster}
 use Rattle.ipam_cluster.specs.declared.cluster.Cluster.{Cluster}
 use Rattle.ipam_cluster.specs.declared.turns.Prepared.{Prepared}
 
@@ -49,10 +49,10 @@ pub record Leads (running : Running) (turned : RunningTurned) (moment : ℕ) (sa
 -- can take its write without more memory.
 pub record IsPrepared (cluster : Cluster) (prepared : Prepared) : Type 0 where
   pub small : prepared.slot < SLOTS
-  pub write : prepared.write ≡ write_next (slot_of cluster prepared.slot) cluster.store.store
+  pub write : prepared.write ≡ write_next (slot_of_cluster cluster prepared.slot) cluster.store.store
   pub few : cluster.entries < 2 ^ 62
   pub running : Running
-  pub runs : slot_of cluster prepared.slot ≡ Some running
+  pub runs : slot_of_cluster cluster prepared.slot ≡ Some running
   pub call : Call
   pub asks : next_call (running_rest running) ≡ Some call
   pub tells : TellsOf prepared call (reply_of cluster.store.store call)

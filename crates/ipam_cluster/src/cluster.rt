@@ -48,7 +48,7 @@ impl Drop for Cluster {
 }
 
 impl Cluster {
-    ghost use Rattle.ipam_cluster.specs.Cluster.{slot_of, state_in, AddsTo, IsUnchanged, StandsFor, StaysRight, WaitsWith};
+    ghost use Rattle.ipam_cluster.specs.Cluster.{slot_of_cluster, state_in, AddsTo, IsUnchanged, StandsFor, StaysRight, WaitsWith};
     ghost use Rattle.ipam_cluster.specs.Turns.{IsBaseOf, texts_in};
     ghost use Rattle.ipam_collect.specs.declared.collect.Grace.{Grace};
     ghost use Rattle.ipam_model.specs.declared.entry.SlotState.TheVariants as state;
@@ -65,7 +65,7 @@ impl Cluster {
         requires first { base.now.first ≤ 2 ^ 62 + SLOTS }
         ensures opened { IfOk result (λ cluster. OpensAs (texts_in base.now) cluster.store.store) }
         ensures entries { IfOk result (λ cluster. cluster.entries ≡ base.now.first) }
-        ensures idle { IfOk result (λ cluster. (slot : ℕ) → slot_of cluster slot ≡ None) }
+        ensures idle { IfOk result (λ cluster. (slot : ℕ) → slot_of_cluster cluster slot ≡ None) }
         ensures stands { IfOk result (λ cluster. StandsFor cluster (record { store = cluster.store.store; first = base.now.first }) []) }
         ensures refused { IfErr result (IsFaultOf (texts_in base.now)) }
     {
@@ -81,7 +81,7 @@ impl Cluster {
         requires { first ≤ 2 ^ 62 + SLOTS }
         ensures store { IfOk result (λ cluster. cluster.store ≡ store) }
         ensures entries { IfOk result (λ cluster. cluster.entries ≡ first) }
-        ensures idle { IfOk result (λ cluster. (slot : ℕ) → slot_of cluster slot ≡ None) }
+        ensures idle { IfOk result (λ cluster. (slot : ℕ) → slot_of_cluster cluster slot ≡ None) }
     {
         let slots = idle_slots(alloc)?;
         Ok(Cluster {
@@ -108,7 +108,7 @@ impl Cluster {
     /// What there is to do in the slot.
     pub fn state(&self, slot: u8) -> SlotState
         requires { slot < SLOTS }
-        ensures { result ≡ state_in (slot_of self.now slot) }
+        ensures { result ≡ state_in (slot_of_cluster self.now slot) }
     {
         match &self.slots[slot as usize] {
             None => SlotState::Idle,
@@ -127,8 +127,8 @@ impl Cluster {
     pub fn begin(&mut self, alloc: Global, slot: u8, request: &Request) -> Result<Entry, BeginFault>
         requires slot { slot < SLOTS }
         requires sound { IsSoundRequest request.now }
-        ensures busy { (result ≡ Err BeginFault.SlotBusy) ↔ IsSome (slot_of self.old slot) }
-        ensures worn { (result ≡ Err BeginFault.Worn) ↔ (slot_of self.old slot ≡ None × 2 ^ 62 ≤ self.old.entries) }
+        ensures busy { (result ≡ Err BeginFault.SlotBusy) ↔ IsSome (slot_of_cluster self.old slot) }
+        ensures worn { (result ≡ Err BeginFault.Worn) ↔ (slot_of_cluster self.old slot ≡ None × 2 ^ 62 ≤ self.old.entries) }
         ensures entry { IfOk result (λ began. began ≡ entry.Began slot request.now) }
         ensures adds { IfOk result (AddsTo self.old self.new) }
         ensures right { IfOk result (StaysRight self.old) }
@@ -160,11 +160,11 @@ impl Cluster {
     ) -> Result<Entry, FeedFault>
         requires slot { slot < SLOTS }
         requires sound { All IsHandleId live.now }
-        ensures not_waiting { (result ≡ Err FeedFault.NotWaiting) ↔ ¬ (state_in (slot_of self.old slot) ≡ state.Waiting) }
+        ensures not_waiting { (result ≡ Err FeedFault.NotWaiting) ↔ ¬ (state_in (slot_of_cluster self.old slot) ≡ state.Waiting) }
         ensures too_soon { (since grace : ℕ) → ((result ≡ Err (FeedFault.TooSoon since grace))
-            ↔ (WaitsWith (slot_of self.old slot) (record { at = since; grace = grace }) × at < since + grace)) }
+            ↔ (WaitsWith (slot_of_cluster self.old slot) (record { at = since; grace = grace }) × at < since + grace)) }
         ensures worn { (result ≡ Err FeedFault.Worn) ↔ (2 ^ 62 ≤ self.old.entries
-            × (grace : Grace) × WaitsWith (slot_of self.old slot) grace × grace.at + grace.grace ≤ at) }
+            × (grace : Grace) × WaitsWith (slot_of_cluster self.old slot) grace × grace.at + grace.grace ≤ at) }
         ensures entry { IfOk result (λ fed. fed ≡ entry.Fed slot at live.now) }
         ensures adds { IfOk result (AddsTo self.old self.new) }
         ensures right { IfOk result (StaysRight self.old) }
@@ -192,8 +192,8 @@ impl Cluster {
     /// The times of the collection that waits in the slot.
     fn awaited(&self, slot: u8) -> Option<Grace>
         requires { slot < SLOTS }
-        ensures some { IfSome result (λ grace. WaitsWith (slot_of self.now slot) grace) }
-        ensures none { IfNone result (¬ (state_in (slot_of self.now slot) ≡ state.Waiting)) }
+        ensures some { IfSome result (λ grace. WaitsWith (slot_of_cluster self.now slot) grace) }
+        ensures none { IfNone result (¬ (state_in (slot_of_cluster self.now slot) ≡ state.Waiting)) }
     {
         match &self.slots[slot as usize] {
             Some(running) => {
@@ -212,7 +212,7 @@ impl Cluster {
         requires slot { slot < SLOTS }
         requires sound { All IsHandleId live.now }
         requires few { self.old.entries < 2 ^ 62 }
-        requires due { IsDue (slot_of self.old slot) at }
+        requires due { IsDue (slot_of_cluster self.old slot) at }
         ensures entry { IfOk result (λ fed. fed ≡ entry.Fed slot at live.now) }
         ensures adds { IfOk result (AddsTo self.old self.new) }
         ensures unchanged { OnErr result (IsUnchanged self.old self.new) }
@@ -227,12 +227,12 @@ impl Cluster {
     #[tactic(auto, using(crate::proofs::Adding::stopped, crate::proofs::SlotLemmas::stop_room))]
     pub fn stop(&mut self, slot: u8) -> Option<Entry>
         requires slot { slot < SLOTS }
-        ensures idle { IsNone result ↔ (slot_of self.old slot ≡ None) }
+        ensures idle { IsNone result ↔ (slot_of_cluster self.old slot ≡ None) }
         ensures entry { IfSome result (λ stopped. stopped ≡ entry.Stopped slot) }
         ensures adds { IfSome result (AddsTo self.old self.new) }
         ensures right { IfSome result (StaysRight self.old) }
-        ensures idle_after { slot_of self.new slot ≡ None }
-        ensures others { (other : ℕ) → ¬ (other ≡ slot) → slot_of self.new other ≡ slot_of self.old other }
+        ensures idle_after { slot_of_cluster self.new slot ≡ None }
+        ensures others { (other : ℕ) → ¬ (other ≡ slot) → slot_of_cluster self.new other ≡ slot_of_cluster self.old other }
         ensures store { self.new.store.store ≡ self.old.store.store }
         ensures unchanged { IfNone result (IsUnchanged self.old self.new) }
     {
@@ -272,13 +272,13 @@ impl Cluster {
     pub(crate) fn turn(&mut self, slot: u8, turned: RunningTurned) -> Option<Answer>
         requires slot { slot < SLOTS }
         requires few { self.old.entries < 2 ^ 62 }
-        requires may { MayGo (slot_of self.old slot) turned }
+        requires may { MayGo (slot_of_cluster self.old slot) turned }
         ensures store { self.new.store ≡ self.old.store }
         ensures entries { self.new.entries ≡ self.old.entries + 1 }
-        ensures answer { (was : AnyRunning) → slot_of self.old slot ≡ Some was
+        ensures answer { (was : AnyRunning) → slot_of_cluster self.old slot ≡ Some was
             → result ≡ answer_in (running_leaves was turned) }
         ensures gone { IsSome result → self.new.slots.items ≡ slice_set self.old.slots.items slot None }
-        ensures on { IsNone result → (was : AnyRunning) → slot_of self.old slot ≡ Some was
+        ensures on { IsNone result → (was : AnyRunning) → slot_of_cluster self.old slot ≡ Some was
             → RunsOn self.old.slots.items self.new.slots.items slot was (running_leaves was turned) }
     {
         let answer = go(&mut self.slots, slot, turned);

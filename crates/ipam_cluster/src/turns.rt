@@ -7,7 +7,7 @@ ghost use Rattle.ipam_model.specs.Cluster.{store_with};
 ghost use Rattle.ipam_records.specs.Datastore.{write_granted};
 ghost use Rattle.ipam_records.specs.Said.{said};
 ghost use Rattle.ipam_store.specs.Granted.{IsGranted, IsSoundWrite};
-ghost use Rattle.ipam_cluster.specs.Cluster.{slot_of, state_in, AddsTo, IsUnchanged, StaysRight, Stood};
+ghost use Rattle.ipam_cluster.specs.Cluster.{slot_of_cluster, state_in, AddsTo, IsUnchanged, StaysRight, Stood};
 ghost use Rattle.ipam_cluster.specs.Preparing.{IsPrepared, TellsOf, record_put};
 ghost use Rattle.ipam_cluster.specs.Turns.{IsTurn, write_by};
 
@@ -75,9 +75,9 @@ impl Cluster {
     pub fn prepare(&mut self, alloc: Global, slot: u8) -> Result<Prepared, PrepareFault>
         requires slot { slot < SLOTS }
         requires stood { Stood self.old }
-        ensures idle { (result ≡ Err PrepareFault.SlotIdle) ↔ (slot_of self.old slot ≡ None) }
-        ensures waiting { (result ≡ Err PrepareFault.Waiting) ↔ (state_in (slot_of self.old slot) ≡ state.Waiting) }
-        ensures worn { (result ≡ Err PrepareFault.Worn) ↔ (2 ^ 62 ≤ self.old.entries × state_in (slot_of self.old slot) ≡ state.Running) }
+        ensures idle { (result ≡ Err PrepareFault.SlotIdle) ↔ (slot_of_cluster self.old slot ≡ None) }
+        ensures waiting { (result ≡ Err PrepareFault.Waiting) ↔ (state_in (slot_of_cluster self.old slot) ≡ state.Waiting) }
+        ensures worn { (result ≡ Err PrepareFault.Worn) ↔ (2 ^ 62 ≤ self.old.entries × state_in (slot_of_cluster self.old slot) ≡ state.Running) }
         ensures slot { IfOk result (λ prepared. prepared.slot ≡ slot) }
         ensures prepared { IfOk result (IsPrepared self.new) }
         ensures unchanged { IsUnchanged self.old self.new }
@@ -99,7 +99,7 @@ impl Cluster {
     fn prepared(&mut self, alloc: Global, slot: u8) -> Result<Prepared, AllocError>
         requires slot { slot < SLOTS }
         requires few { self.old.entries < 2 ^ 62 }
-        requires runs { state_in (slot_of self.old slot) ≡ state.Running }
+        requires runs { state_in (slot_of_cluster self.old slot) ≡ state.Running }
         requires stood { Stood self.old }
         ensures slot { IfOk result (λ prepared. prepared.slot ≡ slot) }
         ensures prepared { IfOk result (IsPrepared self.new) }
@@ -113,7 +113,7 @@ impl Cluster {
     fn answered(&self, alloc: Global, slot: u8) -> Result<Prepared, AllocError>
         requires slot { slot < SLOTS }
         requires few { self.now.entries < 2 ^ 62 }
-        requires runs { state_in (slot_of self.now slot) ≡ state.Running }
+        requires runs { state_in (slot_of_cluster self.now slot) ≡ state.Running }
         requires stood { Stood self.now }
         requires spare { 1 ≤ self.now.store.spare }
         ensures slot { IfOk result (λ prepared. prepared.slot ≡ slot) }
@@ -136,7 +136,7 @@ impl Cluster {
         requires { IsPrepared self.old prepared }
         ensures entry { IsTurn prepared.slot fate result }
         ensures store { self.new.store.store ≡ store_with (write_by fate prepared.write) self.old.store.store }
-        ensures others { (other : ℕ) → ¬ (other ≡ prepared.slot) → slot_of self.new other ≡ slot_of self.old other }
+        ensures others { (other : ℕ) → ¬ (other ≡ prepared.slot) → slot_of_cluster self.new other ≡ slot_of_cluster self.old other }
         ensures adds { AddsTo self.old self.new result }
         ensures right { StaysRight self.old result }
     {
@@ -151,7 +151,7 @@ impl Cluster {
         requires { IsPrepared self.old prepared }
         ensures entry { IsTurn prepared.slot fate_of.Well result }
         ensures store { self.new.store.store ≡ store_with prepared.write self.old.store.store }
-        ensures others { (other : ℕ) → ¬ (other ≡ prepared.slot) → slot_of self.new other ≡ slot_of self.old other }
+        ensures others { (other : ℕ) → ¬ (other ≡ prepared.slot) → slot_of_cluster self.new other ≡ slot_of_cluster self.old other }
         ensures adds { AddsTo self.old self.new result }
     {
         let Prepared {
@@ -179,7 +179,7 @@ impl Cluster {
         requires { IsPrepared self.old prepared }
         ensures entry { IsTurn prepared.slot fate_of.After result }
         ensures store { self.new.store.store ≡ store_with prepared.write self.old.store.store }
-        ensures others { (other : ℕ) → ¬ (other ≡ prepared.slot) → slot_of self.new other ≡ slot_of self.old other }
+        ensures others { (other : ℕ) → ¬ (other ≡ prepared.slot) → slot_of_cluster self.new other ≡ slot_of_cluster self.old other }
         ensures adds { AddsTo self.old self.new result }
     {
         let Prepared {
@@ -208,7 +208,7 @@ impl Cluster {
         requires { IsPrepared self.old prepared }
         ensures entry { IsTurn prepared.slot fate_of.Before result }
         ensures store { self.new.store.store ≡ self.old.store.store }
-        ensures others { (other : ℕ) → ¬ (other ≡ prepared.slot) → slot_of self.new other ≡ slot_of self.old other }
+        ensures others { (other : ℕ) → ¬ (other ≡ prepared.slot) → slot_of_cluster self.new other ≡ slot_of_cluster self.old other }
         ensures adds { AddsTo self.old self.new result }
     {
         let Prepared {

@@ -14,7 +14,7 @@ use Rattle.cni_types.specs.Asked.{add_asked, asked}
 use Rattle.cni_types.specs.Command.{is_in}
 use Rattle.cni_types.specs.Configuration.{configuration_tested}
 use Rattle.cni_types.specs.Environment.{environment_tested}
-use Rattle.cni_types.specs.Looking.{all_tested, code_of, command_in, compatible, decoded, in_configuration, in_environment, look_from, look_reading, looked, or_error, tested, told_version, undecodable, unknown_at, version_in as version_said, version_with}
+use Rattle.cni_types.specs.Looking.{all_tested, code_of, command_in, compatible, decoded, in_configuration, in_environment, look_from, look_reading, looked, or_error, tested, told_version, undecodable, unknown_at, known_version_in as version_said, version_with}
 use Rattle.cni_types.specs.Reading.{Pair, ◌>>=◌, ◌>>◌, is_object}
 
 -- ---- what the tests tell

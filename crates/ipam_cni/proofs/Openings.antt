@@ -19,7 +19,7 @@ use Rattle.ipam_cni.specs.declared.end.CniEnd.TheVariants.{Told, Failed}
 use Rattle.ipam_cni.specs.declared.end.CniFault.TheVariants.{Read, Undecodable, Keeper, Memory}
 use Rattle.ipam_cni.specs.Calls.{CallEnds, IsInVersion, IsNotOpenedEnd, NoConfiguration, RefusalEnds, RequestEnds, AloneEnds, TellsError, WithDetails}
 use Rattle.ipam_cni.specs.Ends.{fault_error}
-use Rattle.ipam_cni.specs.Replies.{Answered, Asked, AtOnce, BadRows, Refused, Reply, RequestComesTo, begun_by}
+use Rattle.ipam_cni.specs.Replies.{Answered, Asked, AtOnce, BadRows, Refused, StatusAndText, RequestComesTo, begun_by}
 use Rattle.ipam_cni.proofs.LookVersions.{undecodable_error}
 use Rattle.ipam_cni.proofs.Versions.{error_version, request_version}
 
@@ -30,7 +30,7 @@ pub opened_ends : {D : Type 0} (tells : Tells D) (faults name : D → ℕ) (keep
     → AloneEnds kept.cluster.store.store asked version end new (faults kept.keeper) after → RequestEnds asked version end (tells keeper) new (faults keeper) after
 opened_ends tells faults name keeper kept asked version (Told status text) new after o (same, e) = (
   same ∙ o.no_fault,
-  subst (λ (r : Reply). RequestComesTo asked version (tells keeper) new r) e.text
+  subst (λ (r : StatusAndText). RequestComesTo asked version (tells keeper) new r) e.text
       (Answered o.loaded kept.cluster.store.store e.is_told o.told o.opens e.answer e.rows e.course),
 )
 opened_ends tells faults name keeper kept asked version (Failed other Read) new after o e = e

@@ -9,7 +9,7 @@ use Rattle.cni_types.specs.Looking.{command_in, decoded, input_text, is_for_vers
 use Rattle.cni_types.specs.Reading.{Pair}
 use Rattle.ipam_records.specs.declared.call.Row.{Row as RowText}
 use Rattle.ipam_call.proofs.Inputs.{input_text_short}
-use Rattle.ipam_cni.specs.Replies.{Asked, AtOnce, ComesTo, Refused, Reply}
+use Rattle.ipam_cni.specs.Replies.{Asked, AtOnce, ComesTo, Refused, StatusAndText}
 
 text-short : (input : List ℕ) (d : Data) (o : Option (List ℕ)) → input_text input ≡ o → option_and_then object_in o ≡ Some d → length input ≤ 1048576
 text-short input d (Some text) is e = input_text_short input text is
@@ -35,7 +35,7 @@ look_short env stdin look e = go (decoded (command_in env) stdin) refl e
     go (Some d) is e' = decoded-short (command_in env) stdin d is
     go None is e' = absurd cc
 
-pub comes_short : (env : List Pair) (stdin : List ℕ) (old new : Option (List RowText)) (reply : Reply) → ComesTo env stdin old new reply → reply.0 ≡ 0 → length stdin ≤ 1048576
+pub comes_short : (env : List Pair) (stdin : List ℕ) (old new : Option (List RowText)) (reply : StatusAndText) → ComesTo env stdin old new reply → reply.0 ≡ 0 → length stdin ≤ 1048576
 comes_short env stdin old new _ (Refused error is same) none = absurd cc
 comes_short env stdin old new _ (AtOnce look text is begins same) none = look_short env stdin look is
 comes_short env stdin old new _ (Asked look asked version reply is begins comes) none = look_short env stdin look is

@@ -3,6 +3,7 @@ use Rattle.std.specs.Prelude.{◌≡◌, ◌≢◌, ℕ, ◌+◌, ◌≤◌, ◌
 use Rattle.std.specs.Io.KnownBytes.{IsAtEnd, prepend_known}
 use Rattle.ipam_io.specs.Counts.{Rose}
 use Rattle.ipam_keeper.specs.Keeping.{IsTold}
+use Rattle.ipam_keeper.specs.Outside.{Outside}
 use Rattle.ipam_records.specs.declared.call.Row.{Row as RowText}
 use Rattle.ipam_records.specs.Datastore.{Datastore}
 use Rattle.ipam_model.specs.declared.answer.Answer.{Answer}
@@ -43,6 +44,11 @@ use Rattle.ipam_cni.specs.Replies.{ComesTo, RequestComesTo, bad_rows, begun_by, 
 abbrev pub end_of : {E : Type 0} → Version → Result (ℕ × List ℕ) E → CniEnd
 end_of version (Ok reply) = Told reply.0 reply.1
 end_of version (Err none) = Failed version Memory
+
+-- a fact where the end is want of memory
+abbrev pub OnWant : CniEnd → Type 0 → Type 0
+OnWant (Failed version Memory) p = p
+OnWant _ p = Unit {0}
 
 -- the error is written, or there is no memory for its text
 abbrev pub TellsError : CniError → CniEnd → Type 0
@@ -152,14 +158,6 @@ CallEnds env stdin (Failed version Memory) old new faults faults' =
 
 -- ---- a call with its standard input
 
--- What there is of a source and a keeper: the bytes that are left and the rows, where they are known,
--- and the counts of faults.
-pub record Sides : Type 0 where
-  pub input : Option (List ℕ)
-  pub input_faults : ℕ
-  pub rows : Option (List RowText)
-  pub keeper_faults : ℕ
-
 -- these bytes were read: all that was left, or one more than standard input may have
 pub record IsInput (stdin : List ℕ) (old new : Option (List ℕ)) : Type 0 where
   pub bytes : old ≡ prepend_known stdin new
@@ -167,37 +165,37 @@ pub record IsInput (stdin : List ℕ) (old new : Option (List ℕ)) : Type 0 whe
   pub whole : length stdin ≤ MOST_INPUT_BYTES → IsAtEnd new
 
 -- A read of the source failed, and nothing was asked of the keeper. `same`: the keeper is the same.
-pub record IsReadFault (same : Type 0) (version : Version) (old new : Sides) : Type 0 where
+pub record IsReadFault (same : Type 0) (version : Version) (old new : Outside) : Type 0 where
   pub in_version : version ≡ V1_0_0
-  pub input_faults : Rose old.input_faults new.input_faults
+  pub input_faults : Rose old.read_faults new.read_faults
   pub keeper_faults : new.keeper_faults ≡ old.keeper_faults
   pub rows : new.rows ≡ old.rows
   pub keeper : same
 
 -- There was no memory to read standard input or the configuration in it, and nothing was asked of the keeper.
-pub record IsUnread (same : Type 0) (version : Version) (old new : Sides) : Type 0 where
+pub record IsUnread (same : Type 0) (version : Version) (old new : Outside) : Type 0 where
   pub in_version : version ≡ V1_0_0
-  pub input_faults : new.input_faults ≡ old.input_faults
+  pub input_faults : new.read_faults ≡ old.read_faults
   pub keeper_faults : new.keeper_faults ≡ old.keeper_faults
   pub rows : new.rows ≡ old.rows
   pub keeper : same
 
 -- Standard input was read, and then the call was made with it. The error of a fault is in its version.
-pub record IsMade (env : List Pair) (end : CniEnd) (old new : Sides) : Type 0 where
+pub record IsMadeWithInput (env : List Pair) (end : CniEnd) (old new : Outside) : Type 0 where
   pub stdin : List ℕ
-  pub input : IsInput stdin old.input new.input
-  pub input_faults : new.input_faults ≡ old.input_faults
+  pub input : IsInput stdin old.left new.left
+  pub input_faults : new.read_faults ≡ old.read_faults
   pub in_version : IsInVersion end stdin
   pub ends : CallEnds env stdin end old.rows new.rows old.keeper_faults new.keeper_faults
 
 -- How a call with this environment went that ended so. `same` says that the keeper is the same: an error
 -- is in the version of the configuration once that was read, and until then nothing is asked of the keeper.
-abbrev pub Went : (same : Type 0) → List Pair → CniEnd → (old new : Sides) → Type 0
-Went same env (Told status text) old new = IsMade env (Told status text) old new
-Went same env (Failed version Read) old new = IsReadFault same version old new
-Went same env (Failed version Undecodable) old new = IsMade env (Failed version Undecodable) old new
-Went same env (Failed version Keeper) old new = IsMade env (Failed version Keeper) old new
-Went same env (Failed version Memory) old new = IsUnread same version old new ⊎ IsMade env (Failed version Memory) old new
+abbrev pub CniCallWent : (same : Type 0) → List Pair → CniEnd → (old new : Outside) → Type 0
+CniCallWent same env (Told status text) old new = IsMadeWithInput env (Told status text) old new
+CniCallWent same env (Failed version Read) old new = IsReadFault same version old new
+CniCallWent same env (Failed version Undecodable) old new = IsMadeWithInput env (Failed version Undecodable) old new
+CniCallWent same env (Failed version Keeper) old new = IsMadeWithInput env (Failed version Keeper) old new
+CniCallWent same env (Failed version Memory) old new = IsUnread same version old new ⊎ IsMadeWithInput env (Failed version Memory) old new
 
 -- ---- parts of a call
 

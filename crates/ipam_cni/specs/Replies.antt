@@ -23,7 +23,7 @@ use Rattle.cni_asks.specs.declared.asks.Ask.{Ask}
 use Rattle.cni_asks.specs.declared.asks.Ask.TheVariants.{Tell, Begin}
 use Rattle.cni_asks.specs.declared.replies.CniReply.{CniReply}
 use Rattle.cni_asks.specs.Asking.{add_of, wanting}
-use Rattle.cni_asks.specs.Replying.{is_of_container, reply_of, told}
+use Rattle.cni_asks.specs.Replying.{is_of_container, cni_reply_of, told}
 use Rattle.cni_asks.specs.GcAsking.{collect_of, probe_of}
 use Rattle.cni_asks.specs.GcReplying.{gc_reply_of, status_reply_of}
 
@@ -53,7 +53,7 @@ IsOfCall asked = IsTrue (is_of_call asked)
 abbrev pub reply_to : Request → Answer → Option CniReply
 reply_to (request.Collect asked) found = gc_reply_of found
 reply_to (request.Probe asked) found = status_reply_of found
-reply_to asked found = reply_of asked found
+reply_to asked found = cni_reply_of asked found
 
 -- the rule that rows break, and the key that breaks it
 unfoldable pub bad_details : (number : ℕ) → (about : List ℕ) → List ℕ
@@ -63,14 +63,14 @@ abbrev pub bad_rows : versions.Version → (number : ℕ) → (about : List ℕ)
 bad_rows version number about = record { version = version; code = BadDatastore; details = bad_details number about }
 
 -- the status and the text of a reply
-abbrev pub Reply : Type 0
-Reply = ℕ × List ℕ
+abbrev pub StatusAndText : Type 0
+StatusAndText = ℕ × List ℕ
 
 -- ---- what it comes to
 
 -- What a request is replied, and what becomes of the rows that a keeper tells: rows that break a rule
 -- stay, and over others the request runs by itself, by a lawful history of its own.
-pub data RequestComesTo (asked : Request) (version : versions.Version) (old new : Option (List RowText)) : Reply → Type 0 where
+pub data RequestComesTo (asked : Request) (version : versions.Version) (old new : Option (List RowText)) : StatusAndText → Type 0 where
   BadRows : (loaded : List RowText) (number : ℕ) (about : List ℕ)
       → IsTold old loaded → IsRefusedBy (texts_loaded loaded) number about → new ≡ old
       → RequestComesTo asked version old new (1, error_text (bad_rows version number about))
@@ -82,12 +82,12 @@ pub data RequestComesTo (asked : Request) (version : versions.Version) (old new 
       → RequestComesTo asked version old new (told version reply)
 
 -- What a call is replied: a refusal and VERSION leave the rows, and else it is what its request comes to.
-pub data ComesTo (env : List Pair) (stdin : List ℕ) (old new : Option (List RowText)) : Reply → Type 0 where
+pub data ComesTo (env : List Pair) (stdin : List ℕ) (old new : Option (List RowText)) : StatusAndText → Type 0 where
   Refused : (error : CniError) → look_reading env stdin ≡ Err error → new ≡ old
       → ComesTo env stdin old new (1, error_text error)
   AtOnce : (look : Look) (text : List ℕ) → look_reading env stdin ≡ Ok look → begun_by look ≡ Tell text → new ≡ old
       → ComesTo env stdin old new (0, text)
-  Asked : (look : Look) (asked : Request) (version : versions.Version) (reply : Reply)
+  Asked : (look : Look) (asked : Request) (version : versions.Version) (reply : StatusAndText)
       → look_reading env stdin ≡ Ok look → begun_by look ≡ Begin asked version
       → RequestComesTo asked version old new reply
       → ComesTo env stdin old new reply

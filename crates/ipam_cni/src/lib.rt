@@ -5,8 +5,10 @@
 mod asking;
 mod calling;
 mod end;
+mod reading;
 mod run;
 mod telling;
+mod texts;
 
 pub use calling::make_call;
 pub use end::{CniEnd, CniFault};

@@ -2,7 +2,8 @@
 ghost use Rattle.std.specs.Prelude.{◌≡◌};
 ghost use Rattle.std.specs.Io.KnownBytes.{IsAtEnd};
 ghost use Rattle.ipam_cni.specs.declared.end.CniEnd.{CniEnd as End};
-ghost use Rattle.ipam_cni.specs.Calls.{Went};
+ghost use Rattle.ipam_keeper.specs.Outside.{outside_of};
+ghost use Rattle.ipam_cni.specs.Calls.{CniCallWent};
 ghost use Rattle.ipam_call.specs.Ends.{IsStatus};
 ghost use Rattle.ipam_cni.specs.Ends.{WritesCniEnd};
 
@@ -27,19 +28,9 @@ pub fn cni<S: Source, K: Sink, D: Keeper>(
     keeper: &mut D,
 ) -> u8
     ensures called { (end : End)
-        × Went (keeper.new ≡ keeper.old) env.now end
-        (record {
-          input = S.left source.old;
-          input_faults = S.read_faults source.old;
-          rows = D.rows keeper.old;
-          keeper_faults = D.faults keeper.old;
-        })
-        (record {
-          input = S.left source.new;
-          input_faults = S.read_faults source.new;
-          rows = D.rows keeper.new;
-          keeper_faults = D.faults keeper.new;
-        })
+        × CniCallWent (keeper.new ≡ keeper.old) env.now end
+        (outside_of (S.left source.old) (S.read_faults source.old) (K.written sink.old) (K.write_faults sink.old) (D.rows keeper.old) (D.faults keeper.old))
+        (outside_of (S.left source.new) (S.read_faults source.new) (K.written sink.new) (K.write_faults sink.new) (D.rows keeper.new) (D.faults keeper.new))
         × WritesCniEnd end (K.written sink.old) (K.written sink.new)
         (K.write_faults sink.old) (K.write_faults sink.new) result }
     ensures to_end { result ≡ 0 → IsAtEnd (S.left source.new) }

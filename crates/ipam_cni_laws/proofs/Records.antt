@@ -6,7 +6,7 @@ use Rattle.ipam_model.specs.declared.request.Request.TheVariants.{Add, AddThis, 
 use Rattle.ipam_model.specs.Alone.{alone_over}
 use Rattle.ipam_model.specs.Consistent.{IsConsistent}
 use Rattle.ipam_model.specs.History.{Base}
-use Rattle.ipam_model.specs.Plain.{HasSpareFor, Result, plain, plain_check, records}
+use Rattle.ipam_model.specs.Plain.{HasSpareFor, PlainResult, plain, plain_check, records}
 use Rattle.ipam_laws.proofs.AloneLooks.{check_alone}
 use Rattle.ipam_laws.proofs.OpenedHistory.{opened_law}
 use Rattle.ipam_plain.specs.AloneLaws.{ComesToPlain}
@@ -18,14 +18,14 @@ use Rattle.ipam_cni_laws.proofs.SoundRequests.{IsSoundOrCheck, asked_sound}
 use Rattle.ipam_cni_laws.proofs.Spared.{replied}
 use Rattle.ipam_cni_laws.proofs.Told.{told_plain}
 
-alone : (base : Base) (asked : Request) (result : Result) → IsConsistent base.store → IsSoundOrCheck asked → HasSpareFor base.store asked → plain asked base.store.rows ≡ Some result → ComesToPlain base asked result
+alone : (base : Base) (asked : Request) (result : PlainResult) → IsConsistent base.store → IsSoundOrCheck asked → HasSpareFor base.store asked → plain asked base.store.rows ≡ Some result → ComesToPlain base asked result
 alone base (Add request) result consistent sound spare is = all_alone base (Add request) result consistent sound spare is
 alone base (AddThis request address) result consistent sound spare is = all_alone base (AddThis request address) result consistent sound spare is
 alone base (Del id) result consistent sound spare is = all_alone base (Del id) result consistent sound spare is
 alone base (Check id addresses) result consistent sound spare is =
     let comes : (plain_check id addresses base.store.rows, base.store.rows) ≡ result = cc is in
     let says = check_alone base id addresses in
-    subst (λ (r : Result). ComesToPlain base (Check id addresses) r) comes (says.0, ap (λ (store : Datastore). records store.rows) says.1)
+    subst (λ (r : PlainResult). ComesToPlain base (Check id addresses) r) comes (says.0, ap (λ (store : Datastore). records store.rows) says.1)
 alone base (Release node cidr) result consistent sound spare is = all_alone base (Release node cidr) result consistent sound spare is
 alone base (Collect request) result consistent sound spare is = all_alone base (Collect request) result consistent sound spare is
 alone base (Admin change) result consistent sound spare is = all_alone base (Admin change) result consistent sound spare is

@@ -35,20 +35,20 @@ use Rattle.cni_asks.specs.declared.replies.CniReply.TheVariants.{Addresses, Succ
 use Rattle.cni_asks.specs.Replying.{reply_status, told}
 use Rattle.cni_asks.specs.GcAsking.{collect_of, probe_of}
 use Rattle.cni_asks.specs.GcReplying.{gc_reply_of, status_reply_of}
-use Rattle.ipam_cni.specs.Replies.{Answered, Asked, AtOnce, BadRows, ComesTo, Refused, Reply, RequestComesTo, begun_by, reply_to}
+use Rattle.ipam_cni.specs.Replies.{Answered, Asked, AtOnce, BadRows, ComesTo, Refused, StatusAndText, RequestComesTo, begun_by, reply_to}
 use Rattle.ipam_cni_laws.specs.Spare.{GcLeavesLaw, StatusAddsLaw}
 use Rattle.ipam_cni_laws.proofs.Ready.{ready-as-plain}
 
 -- ---- what a call is replied
 
 -- the request alone over the store has this reply
-pub record IsReplied (store : Datastore) (asked : Request) (version : Version) (new : Option (List RowText)) (reply : Reply) : Type 0 where
+pub record IsReplied (store : Datastore) (asked : Request) (version : Version) (new : Option (List RowText)) (reply : StatusAndText) : Type 0 where
   pub is_told : CniReply
   pub answer : reply_to asked (alone_over (opened store) asked).0 ≡ Some is_told
   pub rows : IfSome new (λ after. AreTextsOf after (alone_over (opened store) asked).1)
   pub text : told version is_told ≡ reply
 
-request-replied : (asked : Request) (version : Version) (old : List RowText) (new : Option (List RowText)) (reply : Reply) (store : Datastore) → OpensAs (texts_loaded old) store → RequestComesTo asked version (Some old) new reply → IsReplied store asked version new reply
+request-replied : (asked : Request) (version : Version) (old : List RowText) (new : Option (List RowText)) (reply : StatusAndText) (store : Datastore) → OpensAs (texts_loaded old) store → RequestComesTo asked version (Some old) new reply → IsReplied store asked version new reply
 request-replied asked version old new reply store opens (BadRows loaded number about is refused same) =
     absurd (opens.may_be_opened number about (subst (λ (l : List RowText). Breaks (texts_loaded l) number about) is refused.breaks))
 request-replied asked version old new reply store opens (Answered loaded other said is own answer rows course) =
@@ -63,7 +63,7 @@ request-replied asked version old new reply store opens (Answered loaded other s
 tell-begin : (text : List ℕ) (asked : Request) (version : Version) → Tell text ≡ Begin asked version → ⊥
 tell-begin text asked version e = absurd cc
 
-pub replied : (env : List Pair) (stdin : List ℕ) (look : Look) (asked : Request) (version : Version) (old : List RowText) (new : Option (List RowText)) (reply : Reply) (store : Datastore) → look_reading env stdin ≡ Ok look → begun_by look ≡ Begin asked version → OpensAs (texts_loaded old) store → ComesTo env stdin (Some old) new reply → IsReplied store asked version new reply
+pub replied : (env : List Pair) (stdin : List ℕ) (look : Look) (asked : Request) (version : Version) (old : List RowText) (new : Option (List RowText)) (reply : StatusAndText) (store : Datastore) → look_reading env stdin ≡ Ok look → begun_by look ≡ Begin asked version → OpensAs (texts_loaded old) store → ComesTo env stdin (Some old) new reply → IsReplied store asked version new reply
 replied env stdin look asked version old new reply store is begins opens (Refused error e same) = absurd (cc (is, e))
 replied env stdin look asked version old new reply store is begins opens (AtOnce other text e tells same) =
     let one : other ≡ look = cc (is, e) in
@@ -152,11 +152,11 @@ status_adds env stdin call old new reply store request look comes opens same sou
 
     to : reply.0 ≡ 0 → (given : List Given) × ((alone_over (opened store) (Add request)).0 ≡ answer.Added given)
     to zero =
-        let status : reply_status r.is_told ≡ 0 = ap (λ (p : Reply). p.0) r.text ∙ zero in
+        let status : reply_status r.is_told ≡ 0 = ap (λ (p : StatusAndText). p.0) r.text ∙ zero in
         tells.0 ((ready-as-plain found).0 (zero-told (status_reply_of found) r.is_told (status-told found) r.answer status))
 
     from : (given : List Given) × ((alone_over (opened store) (Add request)).0 ≡ answer.Added given) → reply.0 ≡ 0
     from given =
         let success = (ready-as-plain found).1 (tells.1 given) in
         let is : r.is_told ≡ Success = cc (r.answer, success) in
-        sym (ap (λ (p : Reply). p.0) r.text) ∙ ap reply_status is
+        sym (ap (λ (p : StatusAndText). p.0) r.text) ∙ ap reply_status is

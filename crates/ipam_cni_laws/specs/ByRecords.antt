@@ -7,7 +7,7 @@ use Rattle.ipam_records.specs.Datastore.{Datastore}
 use Rattle.ipam_model.specs.declared.request.Request.{Request}
 use Rattle.ipam_model.specs.declared.request.Request.TheVariants.{Add, AddThis, Del, Check, Release, Collect, Admin, Probe}
 use Rattle.ipam_model.specs.Opened.{OpensAs}
-use Rattle.ipam_model.specs.Plain.{HasSpareFor, PlainAnswer, Gives, Lacks, KnowsNoPool, IsInNoPool, IsHeldBy, IsAnothers, Deletes, Holds, HoldsNot, Collects, CanGive, Result, plain, records}
+use Rattle.ipam_model.specs.Plain.{HasSpareFor, PlainAnswer, Gives, Lacks, KnowsNoPool, IsInNoPool, IsHeldBy, IsAnothers, Deletes, Holds, HoldsNot, Collects, CanGive, PlainResult, plain, records}
 use Rattle.ipam_kept.specs.Rows.{AreTextsOf, texts_loaded}
 use Rattle.cni_types.specs.declared.calls.Look.{Look}
 use Rattle.cni_types.specs.declared.code.Code.TheVariants.{NoAddress, NoSuchPool, NotAffine, AddressTaken, NotAvailable, NotRecorded, NotUsable}
@@ -18,7 +18,7 @@ use Rattle.cni_asks.specs.declared.asks.Ask.TheVariants.{Begin}
 use Rattle.cni_asks.specs.declared.replies.CniReply.{CniReply}
 use Rattle.cni_asks.specs.declared.replies.CniReply.TheVariants.{Addresses, Success, Failure}
 use Rattle.cni_asks.specs.Replying.{family_name, told}
-use Rattle.ipam_cni.specs.Replies.{ComesTo, Reply, begun_by}
+use Rattle.ipam_cni.specs.Replies.{ComesTo, StatusAndText, begun_by}
 
 -- ---- what the function of the records is told as
 
@@ -72,7 +72,7 @@ plain_reply (Probe request) found = plain_reply_to_status found
 
 -- The reply is what the function of the records is told as, and the rows, where they are told, are those
 -- of a datastore with the records that it leaves.
-pub record IsByRecords (asked : Request) (version : Version) (result : Result) (new : Option (List RowText)) (reply : Reply) : Type 0 where
+pub record IsByRecords (asked : Request) (version : Version) (result : PlainResult) (new : Option (List RowText)) (reply : StatusAndText) : Type 0 where
   pub is_told : CniReply
   pub answer : plain_reply asked result.0 ≡ Some is_told
   pub text : told version is_told ≡ reply
@@ -85,7 +85,7 @@ pub record IsByRecords (asked : Request) (version : Version) (result : Result) (
 abbrev pub ByRecordsLaw : Type 0
 ByRecordsLaw =
     (env : List Pair) (stdin : List ℕ) (look : Look) (asked : Request) (version : Version) (old : List RowText) (new : Option (List RowText))
-    (reply : Reply) (store : Datastore) (result : Result)
+    (reply : StatusAndText) (store : Datastore) (result : PlainResult)
     → look_reading env stdin ≡ Ok look
     → begun_by look ≡ Begin asked version
     → ComesTo env stdin (Some old) new reply

@@ -23,7 +23,7 @@ use Rattle.cni_types.specs.declared.calls.Look.TheVariants.{Gc, Status}
 use Rattle.cni_types.specs.Looking.{look_reading}
 use Rattle.cni_types.specs.Reading.{Pair}
 use Rattle.cni_asks.specs.GcAsking.{collect_of, probe_of}
-use Rattle.ipam_cni.specs.Replies.{ComesTo, Reply}
+use Rattle.ipam_cni.specs.Replies.{ComesTo, StatusAndText}
 
 -- ---- GC
 
@@ -44,7 +44,7 @@ pub record LeavesSpared (store : Datastore) (call : CniGc) (new : Option (List R
 -- exactly the owners that are outside of its scope or whose handle is listed.
 abbrev pub GcLeavesLaw : Type 0
 GcLeavesLaw =
-    (env : List Pair) (stdin : List ℕ) (call : CniGc) (old : List RowText) (new : Option (List RowText)) (reply : Reply) (store : Datastore)
+    (env : List Pair) (stdin : List ℕ) (call : CniGc) (old : List RowText) (new : Option (List RowText)) (reply : StatusAndText) (store : Datastore)
     → look_reading env stdin ≡ Ok (Gc call)
     → ComesTo env stdin (Some old) new reply
     → OpensAs (texts_loaded old) store
@@ -57,7 +57,7 @@ GcLeavesLaw =
 -- the same rows and with spare, is answered Added: of whatever families, and whatever its handle.
 abbrev pub StatusAddsLaw : Type 0
 StatusAddsLaw =
-    (env : List Pair) (stdin : List ℕ) (call : CniStatus) (old : List RowText) (new : Option (List RowText)) (reply : Reply) (store : Datastore)
+    (env : List Pair) (stdin : List ℕ) (call : CniStatus) (old : List RowText) (new : Option (List RowText)) (reply : StatusAndText) (store : Datastore)
     (request : AddRequest)
     → look_reading env stdin ≡ Ok (Status call)
     → ComesTo env stdin (Some old) new reply

@@ -8,8 +8,8 @@ first_in [] = None
 first_in (leak ∷ rest) = Some leak
 
 -- what is told of a leak
-abbrev pub told_of : Leak → (freed : Bool) → Item
-told_of leak freed = record {
+abbrev pub item_of_leak : Leak → (freed : Bool) → Item
+item_of_leak leak freed = record {
   address = leak.owner.address;
   handle = leak.owner.handle;
   stamp = leak.owner.stamp;
@@ -19,7 +19,7 @@ told_of leak freed = record {
 -- the first of the leaks is done with
 abbrev pub finished : (freed : Bool) → List Item → List Leak → List Item × List Leak
 finished freed items [] = (items, [])
-finished freed items (leak ∷ rest) = (items ++ told_of leak freed ∷ [], rest)
+finished freed items (leak ∷ rest) = (items ++ item_of_leak leak freed ∷ [], rest)
 
 -- the handle of the first of the leaks
 abbrev pub id_in : List Leak → List ℕ

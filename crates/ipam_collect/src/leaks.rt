@@ -144,7 +144,7 @@ fn is_owner(suspect: &Suspect, cidr: Cidr, allocation: &Allocation) -> bool
     ensures { result ≡ same_owner suspect.now.owner (owner_of cidr allocation.now) }
 {
     is_address(suspect.address(), cidr, allocation.ordinal)
-        && suspect.handle() == allocation.attributes.handle.as_str()
+        && suspect.handle() == allocation.attributes.get().handle.as_str()
         && suspect.stamp() == allocation.stamp
 }
 

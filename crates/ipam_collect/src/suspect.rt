@@ -42,7 +42,7 @@ impl Suspect {
         requires { allocation.now.ordinal < cidr_size block.now.cidr }
         ensures { IfOk result (λ s. s ≡ leak_of block.now.cidr allocation.now) }
     {
-        let handle = allocation.attributes.handle.clone()?;
+        let handle = allocation.attributes.get().handle.clone()?;
         let address = block.address(allocation.ordinal);
         let block = block.cidr();
         Ok(Suspect {

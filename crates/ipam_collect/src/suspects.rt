@@ -83,14 +83,15 @@ fn may_leak(request: &CollectRequest, live: &Live, allocation: &Allocation) -> b
     requires { live.now ≡ request.now.live }
     ensures { result ≡ may_leak request.now allocation.now }
 {
-    is_in_scope(&request.scope, allocation) && !live.has(allocation.attributes.handle.as_str())
+    is_in_scope(&request.scope, allocation)
+        && !live.has(allocation.attributes.get().handle.as_str())
 }
 
 /// Whether the allocation was made for the network on the node.
 fn is_in_scope(scope: &Option<(Text, Text)>, allocation: &Allocation) -> bool
     ensures { result ≡ is_in_scope scope.now allocation.now }
 {
-    let pairs = allocation.attributes.secondary.as_slice();
+    let pairs = allocation.attributes.get().secondary.as_slice();
     match scope {
         Some((network, node)) => {
             has_value(pairs, "network", network.as_str()) && has_value(pairs, "node", node.as_str())

@@ -10,7 +10,7 @@ use Rattle.ipam_kept.specs.Broken.{broken_line}
 use Rattle.ipam_kept.specs.declared.kept.KeptFault.{KeptFault}
 use Rattle.ipam_kept.specs.declared.kept.KeptFault.TheVariants as fault
 use Rattle.ipam_words.specs.declared.texts.TheConstants.{HELP, VERSION}
-use Rattle.ipam_words.specs.Words.{Asked, Audit, Call, Cni, Play, Apply, Get, Help, Routes, Release, Gen, Serve, Show, Version}
+use Rattle.ipam_words.specs.Words.{AskedCommand, Audit, Call, Cni, Play, Apply, Get, Help, Routes, Release, Gen, Serve, Show, Version}
 use Rattle.ipam_play_run.specs.declared.end.PlayEnd.{PlayEnd}
 use Rattle.ipam_play_run.specs.declared.end.PlayEnd.TheVariants as play
 use Rattle.ipam_play_run.specs.Writing.{WritesAll}
@@ -23,7 +23,7 @@ use Rattle.ipam_commands.specs.declared.outcome.ChangeOutcome.{ChangeOutcome}
 use Rattle.ipam_commands.specs.declared.status.Status.{Status}
 use Rattle.ipam_commands.specs.declared.status.Status.TheVariants as status
 use Rattle.ipam_commands.specs.Changing.{ChangeEnds, ChangeWrites, outcome_status, release_line}
-use Rattle.ipam_commands.specs.Statuses.{code_of}
+use Rattle.ipam_commands.specs.Statuses.{code_of_status}
 use Rattle.ipam_commands.specs.Telling.{AreOpened, Cut, NotOpened, Opened, ReportsRows, Untold, Whole, Writes}
 use Rattle.ipam_told.specs.Shown.{shown_text}
 use Rattle.ipam_commands.specs.Texts.{routes_text}
@@ -44,10 +44,10 @@ use Rattle.ipam_cni.specs.Calls as cni
 use Rattle.ipam_cni.specs.Ends as cni_ends
 use Rattle.ipam_cni.specs.Replies.{Refused}
 use Rattle.ipam_command.specs.Commands as does
-use Rattle.ipam_command.specs.Commands.{Does, Says, input_of, kept_of, unknown_text}
-use Rattle.ipam_command.specs.Outside.{LeavesKeeper, CommandOutside, sides_of}
+use Rattle.ipam_command.specs.Commands.{Does, SaysFixedText, unknown_text}
+use Rattle.ipam_keeper.specs.Outside.{LeavesKeeper, Outside}
 use Rattle.ipam_command.specs.Rules as rules
-use Rattle.ipam_command.specs.Rules.{CompleteLaw, IsWhole, NoFault, ending_status}
+use Rattle.ipam_command.specs.Rules.{CompleteLaw, IsWholeText, NoFault, ending_status}
 use Rattle.ipam_command.specs.Statuses.{code_of_gen, code_of_play}
 
 or-else : {A B C : Type 0} → (B → C) → A ⊎ B → A ⊎ C
@@ -62,47 +62,47 @@ if-some : (P Q : List ℕ → Type 0) (left : Option (List ℕ)) → ((bytes : L
 if-some P Q None f h = h
 if-some P Q (Some bytes) f h = f bytes h
 
-module _ (old new : CommandOutside) (well : NoFault old new) (code : ℕ) where
+module _ (old new : Outside) (well : NoFault old new) (code : ℕ) where
   -- ---- what is written
 
   -- after what was written before it
-  by-writes : (front text : List ℕ) (own ending : Status) → code ≡ code_of ending
+  by-writes : (front text : List ℕ) (own ending : Status) → code ≡ code_of_status ending
       → Writes (append_known old.written front) new.written old.write_faults new.write_faults text own ending
-      → (code ≡ 6) ⊎ IsWhole (front ++ text) (code_of own) old new code
+      → (code ≡ 6) ⊎ IsWholeText (front ++ text) (code_of_status own) old new code
   by-writes front text own _ has (Whole is none) = inr (is ∙ append-twice old.written front text, has)
   by-writes front text own _ has (Cut said is rose) = absurd (well.sink rose)
   by-writes front text own _ has (Untold made same none) = inl has
 
-  at-once : (text : List ℕ) (own ending : Status) → code ≡ code_of ending
+  at-once : (text : List ℕ) (own ending : Status) → code ≡ code_of_status ending
       → Writes old.written new.written old.write_faults new.write_faults text own ending
-      → (code ≡ 6) ⊎ IsWhole text (code_of own) old new code
+      → (code ≡ 6) ⊎ IsWholeText text (code_of_status own) old new code
   at-once text own _ has (Whole is none) = inr (is, has)
   at-once text own _ has (Cut said is rose) = absurd (well.sink rose)
   at-once text own _ has (Untold made same none) = inl has
 
-  not-done : (first : Option (List ℕ)) (text : List ℕ) (ending : Status) → code ≡ code_of ending
+  not-done : (first : Option (List ℕ)) (text : List ℕ) (ending : Status) → code ≡ code_of_status ending
       → Writes first new.written old.write_faults new.write_faults text status.Done ending → ending ≢ status.Done → code ≡ 6
   not-done first text _ has (Whole is none) other = absurd (other refl)
   not-done first text _ has (Cut said is rose) other = absurd (well.sink rose)
   not-done first text _ has (Untold made same none) other = has
 
-  no-memory : (ending : Status) → code ≡ code_of ending → Writes old.written new.written old.write_faults new.write_faults [] status.NoMemory ending → code ≡ 6
+  no-memory : (ending : Status) → code ≡ code_of_status ending → Writes old.written new.written old.write_faults new.write_faults [] status.NoMemory ending → code ≡ 6
   no-memory _ has (Whole is none) = has
   no-memory _ has (Cut said is rose) = absurd (well.sink rose)
   no-memory _ has (Untold made same none) = has
 
-  said : (text : List ℕ) (own : ℕ) → Says text own old.written new.written old.write_faults new.write_faults code → (code ≡ 6) ⊎ IsWhole text own old new code
+  said : (text : List ℕ) (own : ℕ) → SaysFixedText text own old.written new.written old.write_faults new.write_faults code → (code ≡ 6) ⊎ IsWholeText text own old new code
   said text own s = by code s refl
     where
-      by : (n : ℕ) → Says text own old.written new.written old.write_faults new.write_faults n → code ≡ n → (code ≡ 6) ⊎ IsWhole text own old new code
+      by : (n : ℕ) → SaysFixedText text own old.written new.written old.write_faults new.write_faults n → code ≡ n → (code ≡ 6) ⊎ IsWholeText text own old new code
       by _ (does.Told is none) has = inr (is, has)
       by _ (does.Cut is rose) has = absurd (well.sink rose)
 
   -- ---- the rows
 
-  told-rows : (says : List RowText → Datastore → List ℕ) (ending : Status) → code ≡ code_of ending
+  told-rows : (says : List RowText → Datastore → List ℕ) (ending : Status) → code ≡ code_of_status ending
       → ReportsRows old.rows old.keeper_faults new.keeper_faults says (λ text own. Writes old.written new.written old.write_faults new.write_faults text own ending)
-      → (code ≡ 6) ⊎ rules.OfRows old.rows says (λ text own. IsWhole text own old new code)
+      → (code ≡ 6) ⊎ rules.OfRows old.rows says (λ text own. IsWholeText text own old new code)
   told-rows says ending has (Opened rows store is none w) =
       or-else (λ whole. rules.Opened rows store is whole) (at-once (says rows store) status.Done ending has w)
   told-rows says ending has (NotOpened fault.Keeper is w) = absurd (well.keeper is)
@@ -110,10 +110,10 @@ module _ (old new : CommandOutside) (well : NoFault old new) (code : ℕ) where
       or-else (λ whole. rules.Broken number about is.0 whole) (at-once (broken_line number about) status.BrokenRows ending has w)
   told-rows says ending has (NotOpened fault.Memory is w) = inl (no-memory ending has w)
 
-  released : (node : List ℕ) (cidr : CidrValue) (came : Result ChangeOutcome KeptFault) (ending : Status) (told : Type 0) → code ≡ code_of ending
+  released : (node : List ℕ) (cidr : CidrValue) (came : Result ChangeOutcome KeptFault) (ending : Status) (told : Type 0) → code ≡ code_of_status ending
       → ChangeEnds (request.Release node cidr) came old.rows new.rows old.keeper_faults new.keeper_faults
       → ChangeWrites release_line (λ text own. Writes old.written new.written old.write_faults new.write_faults text own ending) told came
-      → (code ≡ 6) ⊎ rules.OfRelease node cidr old new (λ text own. IsWhole text own old new code)
+      → (code ≡ 6) ⊎ rules.OfRelease node cidr old new (λ text own. IsWholeText text own old new code)
   released node cidr (Ok found) ending told has ends w =
       or-else (λ whole. rules.Came found ends.1 whole) (at-once (release_line found) (outcome_status found) ending has w.0)
   released node cidr (Err fault.Keeper) ending told has ends w = absurd (well.keeper ends.0)
@@ -123,17 +123,17 @@ module _ (old new : CommandOutside) (well : NoFault old new) (code : ℕ) where
 
   -- ---- a document
 
-  module _ (ending : Status) (has : code ≡ code_of ending) where
+  module _ (ending : Status) (has : code ≡ code_of_status ending) where
     abbrev IsComplete : Type 0
-    IsComplete = (code ≡ 6) ⊎ rules.OfApply old new (λ text own. IsWhole text own old new code)
+    IsComplete = (code ≡ 6) ⊎ rules.OfApply old new (λ text own. IsWholeText text own old new code)
 
     untold : ending ≡ status.NoMemory → code ≡ 6
-    untold is = has ∙ ap code_of is
+    untold is = has ∙ ap code_of_status is
 
     module _ (document : List ℕ) (resources : List Resource) (input : IsDocument old.left new.left document) (is_good : document_reading document ≡ Ok resources) where
-      run : (rows : List RowText) (store : Datastore) → AreOpened old.rows rows store → applying.RunEnds store resources (kept_of old) (kept_of new) ending → IsComplete
+      run : (rows : List RowText) (store : Datastore) → AreOpened old.rows rows store → applying.RunEnds store resources old new ending → IsComplete
       run rows store opens (applying.All left applied is took done) =
-          inr (rules.All document resources rows store left input is_good opens applied (took.written, has ∙ ap code_of done))
+          inr (rules.All document resources rows store left input is_good opens applied (took.written, has ∙ ap code_of_status done))
       run rows store opens (applying.UpTo front one rest before split applied (applying.Refused why is course left says)) =
           or-else (λ whole. rules.UpTo document resources front one rest rows store before why input is_good opens split applied is whole)
           (by-writes (applying.applied_lines front) (refused_line one why) status.Refused ending has says)
@@ -142,20 +142,20 @@ module _ (old new : CommandOutside) (well : NoFault old new) (code : ℕ) where
       run rows store opens (applying.UpTo front one rest before split applied (applying.KeeperFailed first course rose says)) = absurd (well.keeper rose)
       run rows store opens (applying.UpTo front one rest before split applied (applying.Stopped first course none same)) = inl (untold none.no_memory)
 
-      resources-end : apply.ResourcesEnd resources (kept_of old) (kept_of new) ending → IsComplete
+      resources-end : apply.ResourcesEnd resources old new ending → IsComplete
       resources-end (apply.Opened rows store opens ends) = run rows store opens ends
       resources-end (apply.NotOpened fault.Keeper is same w) = absurd (well.keeper is)
       resources-end (apply.NotOpened (fault.Refused number about) is same w) =
           or-else (λ whole. rules.NotApplied document resources number about input is_good is.0 whole) (at-once (broken_line number about) status.BrokenRows ending has w)
       resources-end (apply.NotOpened fault.Memory is same w) = inl (no-memory ending has w)
 
-    document-end : (same : Type 0) (document : List ℕ) → IsDocument old.left new.left document → apply.DocumentEnds same document (kept_of old) (kept_of new) ending → IsComplete
+    document-end : (same : Type 0) (document : List ℕ) → IsDocument old.left new.left document → apply.DocumentEnds same document old new ending → IsComplete
     document-end same document input (apply.Good resources is ends) = resources-end document resources input is ends
     document-end same document input (apply.Bad why is unasked says fixed) =
         or-else (λ whole. rules.Bad document why input is whole) (at-once (fault_line why) status.Refused ending has says)
     document-end same document input (apply.NoRoom readable unasked none) = inl (untold none.no_memory)
 
-    applied : (same : Type 0) → apply.ApplyEnds same (input_of old) (input_of new) (kept_of old) (kept_of new) ending → IsComplete
+    applied : (same : Type 0) → apply.ApplyEnds same old new ending → IsComplete
     applied same (apply.Read document input faults ends) = document-end same document input ends
     applied same (apply.ReadFailed rose unasked says) = absurd (well.source rose)
     applied same (apply.NoInput faults unasked none) = inl (untold none.no_memory)
@@ -202,7 +202,7 @@ module _ (old new : CommandOutside) (well : NoFault old new) (code : ℕ) where
 
   -- ---- a CNI call
 
-  called : (same : Type 0) (env : List Pair) (ending : CniEnd) → cni.Went same env ending (sides_of old) (sides_of new) → cni_ends.WritesCniEnd ending old.written new.written old.write_faults new.write_faults code
+  called : (same : Type 0) (env : List Pair) (ending : CniEnd) → cni.CniCallWent same env ending old new → cni_ends.WritesCniEnd ending old.written new.written old.write_faults new.write_faults code
       → (code ≡ 6) ⊎ rules.OfCall env old new code
   called kept env (Told own text) went (inl (is, same)) =
       inr (rules.Replied went.stdin (own, text) went.input went.ends.1 (record { text = is.bytes; has_status = same }))
@@ -222,7 +222,7 @@ module _ (old new : CommandOutside) (well : NoFault old new) (code : ℕ) where
 
 -- ---- all
 
-pub complete : (same : Type 0) (env : List Pair) (asked : Option Asked) (old new : CommandOutside) (code : ℕ) → Does same env asked old new code → CompleteLaw env asked old new code
+pub complete : (same : Type 0) (env : List Pair) (asked : Option AskedCommand) (old new : Outside) (code : ℕ) → Does same env asked old new code → CompleteLaw env asked old new code
 complete kept env (Some Cni) old new code d well = called old new well code kept env d.ending d.went d.tells
 complete kept env (Some Play) old new code d well = played old new well code d.ending d.has_status d.played
 complete kept env (Some (Gen count)) old new code d well = generated old new well code count d.ending d.has_status d.written d.faults

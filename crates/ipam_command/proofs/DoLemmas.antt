@@ -10,51 +10,50 @@ use Rattle.ipam_headline.proofs.Writing.{written_right}
 use Rattle.cni_types.specs.Reading.{Pair}
 use Rattle.ipam_records.specs.declared.call.Row.{Row as RowText}
 use Rattle.ipam_records.specs.Datastore.{Datastore}
-use Rattle.ipam_words.specs.Words.{Asked}
+use Rattle.ipam_words.specs.Words.{AskedCommand}
 use Rattle.ipam_play_run.specs.declared.end.PlayEnd.{PlayEnd}
 use Rattle.ipam_gen.specs.declared.end.GenEnd.{GenEnd}
 use Rattle.ipam_gen.specs.Summary as gen
-use Rattle.ipam_apply.specs.Applied.{ApplyEnds, DocumentEnds, Input, Read, ReadFailed, NoInput, Good, Bad, NoRoom}
-use Rattle.ipam_apply.specs.Outside as apply_outside
+use Rattle.ipam_apply.specs.Applied.{ApplyEnds, DocumentEnds, Read, ReadFailed, NoInput, Good, Bad, NoRoom}
 use Rattle.ipam_commands.specs.declared.status.Status.{Status}
 use Rattle.ipam_commands.specs.Telling.{ReportsRows, Writes}
-use Rattle.ipam_command.specs.Commands.{Does, DoesGen, DoesPlay, DoesTell, PlayEnds, Says, unknown_text}
-use Rattle.ipam_command.specs.Outside.{LeavesKeeper, LeavesSource, CommandOutside}
-use Rattle.ipam_commands.specs.Statuses.{code_of}
+use Rattle.ipam_command.specs.Commands.{Does, DoesGen, DoesPlay, DoesTell, PlayEnds, SaysFixedText, unknown_text}
+use Rattle.ipam_keeper.specs.Outside.{LeavesKeeper, LeavesSource, Outside}
+use Rattle.ipam_commands.specs.Statuses.{code_of_status}
 use Rattle.ipam_command.specs.Statuses.{code_of_gen, code_of_play}
 
 -- what is done of what is asked
-pub asked : (same : Type 0) (env : List Pair) (one other : Option Asked) (old new : CommandOutside) (status : ℕ) → one ≡ other → Does same env other old new status → Does same env one old new status
-asked kept env one other old new status is does = subst (λ (a : Option Asked). Does kept env a old new status) (sym is) does
+pub asked : (same : Type 0) (env : List Pair) (one other : Option AskedCommand) (old new : Outside) (status : ℕ) → one ≡ other → Does same env other old new status → Does same env one old new status
+asked kept env one other old new status is does = subst (λ (a : Option AskedCommand). Does kept env a old new status) (sym is) does
 
 -- words that name no command
-pub does-unknown : (same : Type 0) (env : List Pair) (words : Option Asked) (old new : CommandOutside) (status : ℕ) → words ≡ None → Says unknown_text 2 old.written new.written old.write_faults new.write_faults status
+pub does-unknown : (same : Type 0) (env : List Pair) (words : Option AskedCommand) (old new : Outside) (status : ℕ) → words ≡ None → SaysFixedText unknown_text 2 old.written new.written old.write_faults new.write_faults status
     → LeavesSource old new → LeavesKeeper old new → Does same env words old new status
 does-unknown kept env words old new status is told source keeper = asked kept env words None old new status is (record { said = told; source = source; keeper = keeper })
 
-pub does-play : (old new : CommandOutside) (ending : PlayEnd) (status : ℕ) → status ≡ code_of_play ending → PlayEnds old new ending → LeavesKeeper old new → DoesPlay old new status
+pub does-play : (old new : Outside) (ending : PlayEnd) (status : ℕ) → status ≡ code_of_play ending → PlayEnds old new ending → LeavesKeeper old new → DoesPlay old new status
 does-play old new ending status is played keeper = record { ending = ending; has_status = is; played = played; keeper = keeper }
 
-pub does-gen : (count : ℕ) (old new : CommandOutside) (ending : GenEnd) (status : ℕ) → status ≡ code_of_gen ending → gen.HasWrittenSummary ending count old.written new.written
+pub does-gen : (count : ℕ) (old new : Outside) (ending : GenEnd) (status : ℕ) → status ≡ code_of_gen ending → gen.HasWrittenSummary ending count old.written new.written
     → gen.CountsFaults ending old.write_faults new.write_faults → LeavesSource old new → LeavesKeeper old new → DoesGen count old new status
 does-gen count old new ending status is written faults source keeper =
     record { ending = ending; has_status = is; written = counted_right count ending old.written new.written written; faults = faults; source = source; keeper = keeper }
 
-pub does-tell : (text : List RowText → Datastore → List ℕ) (old new : CommandOutside) (ending : Status) (status : ℕ) → status ≡ code_of ending
+pub does-tell : (text : List RowText → Datastore → List ℕ) (old new : Outside) (ending : Status) (status : ℕ) → status ≡ code_of_status ending
     → ReportsRows old.rows old.keeper_faults new.keeper_faults text (λ said own. Writes old.written new.written old.write_faults new.write_faults said own ending)
     → LeavesSource old new → new.rows ≡ old.rows → DoesTell text old new status
 does-tell text old new ending status is tells source rows = record { ending = ending; has_status = is; tells = tells; source = source; same_rows = rows }
 
 -- ---- `apply`: that the keeper is the same may be said in a weaker way
 
-document-ends : {same other : Type 0} {document : List ℕ} {old new : apply_outside.Outside} {end : Status} → (same → other)
+document-ends : {same other : Type 0} {document : List ℕ} {old new : Outside} {end : Status} → (same → other)
     → DocumentEnds same document old new end → DocumentEnds other document old new end
 document-ends weaker (Good resources is ends) = Good resources is ends
 document-ends weaker (Bad fault is same says fixed) = Bad fault is (weaker same) says fixed
 document-ends weaker (NoRoom readable same untold) = NoRoom readable (weaker same) untold
 
-pub apply-ends : {same other : Type 0} {input input' : Input} {old new : apply_outside.Outside} {end : Status} → (same → other)
-    → ApplyEnds same input input' old new end → ApplyEnds other input input' old new end
+pub apply-ends : {same other : Type 0} {old new : Outside} {end : Status} → (same → other)
+    → ApplyEnds same old new end → ApplyEnds other old new end
 apply-ends weaker (Read document is faults ends) = Read document is faults (document-ends weaker ends)
 apply-ends weaker (ReadFailed rose same says) = ReadFailed rose (weaker same) says
 apply-ends weaker (NoInput faults same untold) = NoInput faults (weaker same) untold

@@ -11,7 +11,7 @@ use Rattle.ipam_model.specs.declared.request.Request.{Request}
 use Rattle.ipam_model.specs.declared.request.Request.TheVariants.{Add, Collect}
 use Rattle.ipam_model.specs.Alone.{alone_over}
 use Rattle.ipam_model.specs.Opened.{OpensAs}
-use Rattle.ipam_model.specs.Plain.{HasSpare, HasSpareFor, Result, plain}
+use Rattle.ipam_model.specs.Plain.{HasSpare, HasSpareFor, PlainResult, plain}
 use Rattle.ipam_model.specs.SoundRequest.{IsSoundRequest}
 use Rattle.ipam_laws.specs.AlonePlain.{AsksSame}
 use Rattle.ipam_kept.specs.Kept.{opened}
@@ -30,16 +30,16 @@ use Rattle.cni_asks.specs.GcAsking.{collect_of, probe_of}
 use Rattle.ipam_cni.specs.declared.end.CniEnd.{CniEnd}
 use Rattle.ipam_cni.specs.declared.end.CniEnd.TheVariants.{Failed}
 use Rattle.ipam_cni.specs.declared.end.CniFault.TheVariants.{Memory}
-use Rattle.ipam_cni.specs.Replies.{Reply, begun_by}
+use Rattle.ipam_cni.specs.Replies.{StatusAndText, begun_by}
 use Rattle.ipam_cni_laws.specs.Alone.{SaysTryAgain}
 use Rattle.ipam_cni_laws.specs.ByRecords.{IsByRecords}
 use Rattle.ipam_cni_laws.specs.Spare.{LeavesSpared}
-use Rattle.ipam_command.specs.Outside.{CommandOutside}
+use Rattle.ipam_keeper.specs.Outside.{Outside}
 
 -- ---- premises and replies
 
 -- the environment and standard input are this call, and the keeper's rows open as this datastore
-pub record Finds (env : List Pair) (old : CommandOutside) (look : Look) (store : Datastore) : Type 0 where
+pub record Finds (env : List Pair) (old : Outside) (look : Look) (store : Datastore) : Type 0 where
   pub stdin : List ℕ
   pub input : old.left ≡ Some stdin
   pub is_look : look_reading env stdin ≡ Ok look
@@ -48,29 +48,29 @@ pub record Finds (env : List Pair) (old : CommandOutside) (look : Look) (store :
   pub opens : OpensAs (texts_loaded loaded) store
 
 -- no count of faults rose, and the end is not want of memory
-pub record GoesWell (ending : CniEnd) (old new : CommandOutside) : Type 0 where
+pub record GoesWell (ending : CniEnd) (old new : Outside) : Type 0 where
   pub source : ¬ (Rose old.read_faults new.read_faults)
   pub sink : ¬ (Rose old.write_faults new.write_faults)
   pub keeper : ¬ (Rose old.keeper_faults new.keeper_faults)
   pub memory : (version : Version) → ending ≢ Failed version Memory
 
 -- the text was written, all of it, with this status
-pub record IsSaid (reply : Reply) (old new : CommandOutside) (status : ℕ) : Type 0 where
+pub record IsReplySaid (reply : StatusAndText) (old new : Outside) (status : ℕ) : Type 0 where
   pub text : new.written ≡ append_known old.written reply.1
   pub has_status : status ≡ reply.0
 
 -- ---- any call
 
 -- What is said is the reply, and the rows are those, of the function of the records.
-pub record IsSaidByRecords (asked : Request) (version : Version) (result : Result) (old new : CommandOutside) (status : ℕ) : Type 0 where
-  pub reply : Reply
+pub record IsSaidByRecords (asked : Request) (version : Version) (result : PlainResult) (old new : Outside) (status : ℕ) : Type 0 where
+  pub reply : StatusAndText
   pub by_records : IsByRecords asked version result new.rows reply
-  pub said : IsSaid reply old new status
+  pub said : IsReplySaid reply old new status
 
 -- Where it goes well and there is spare for the request of the call.
-abbrev pub IsCallByRecords : List Pair → CniEnd → (old new : CommandOutside) → (status : ℕ) → Type 0
+abbrev pub IsCallByRecords : List Pair → CniEnd → (old new : Outside) → (status : ℕ) → Type 0
 IsCallByRecords env ending old new status =
-    (look : Look) (asked : Request) (version : Version) (store : Datastore) (result : Result)
+    (look : Look) (asked : Request) (version : Version) (store : Datastore) (result : PlainResult)
     → Finds env old look store → begun_by look ≡ Begin asked version
     → HasSpareFor store asked → plain asked store.rows ≡ Some result → GoesWell ending old new
     → IsSaidByRecords asked version result old new status
@@ -78,13 +78,13 @@ IsCallByRecords env ending old new status =
 -- ---- no reply asks to try again later
 
 -- What was said is a reply, and not that the call may be made again later.
-pub record IsSaidForGood (version : Version) (old new : CommandOutside) (status : ℕ) : Type 0 where
+pub record IsSaidForGood (version : Version) (old new : Outside) (status : ℕ) : Type 0 where
   pub reply : CniReply
-  pub said : IsSaid (told version reply) old new status
+  pub said : IsReplySaid (told version reply) old new status
   pub not_later : ¬ (SaysTryAgain (Some reply))
 
 -- Where a call that begins a request goes well over rows that open.
-abbrev pub NeverSaysTryAgain : List Pair → CniEnd → (old new : CommandOutside) → (status : ℕ) → Type 0
+abbrev pub NeverSaysTryAgain : List Pair → CniEnd → (old new : Outside) → (status : ℕ) → Type 0
 NeverSaysTryAgain env ending old new status =
     (look : Look) (asked : Request) (version : Version) (store : Datastore)
     → Finds env old look store → begun_by look ≡ Begin asked version → GoesWell ending old new
@@ -94,17 +94,17 @@ NeverSaysTryAgain env ending old new status =
 
 -- GC that goes well, with spare, has the status 0 and writes nothing, and leaves exactly the owners that
 -- are outside of its scope or whose handle is listed.
-abbrev pub LeavesWhatIsSpared : List Pair → CniEnd → (old new : CommandOutside) → (status : ℕ) → Type 0
+abbrev pub LeavesWhatIsSpared : List Pair → CniEnd → (old new : Outside) → (status : ℕ) → Type 0
 LeavesWhatIsSpared env ending old new status =
     (call : CniGc) (store : Datastore)
     → Finds env old (Gc call) store → HasSpareFor store (Collect (collect_of call)) → GoesWell ending old new
-    → IsSaid (0, []) old new status × LeavesSpared store call new.rows
+    → IsReplySaid (0, []) old new status × LeavesSpared store call new.rows
 
 -- ---- STATUS
 
 -- STATUS that goes well has the status 0 exactly where the ADD that asks for the same, whatever its
 -- handle, alone over the same rows and with spare, is answered Added.
-abbrev pub TellsOfAdd : List Pair → CniEnd → (old new : CommandOutside) → (status : ℕ) → Type 0
+abbrev pub TellsOfAdd : List Pair → CniEnd → (old new : Outside) → (status : ℕ) → Type 0
 TellsOfAdd env ending old new status =
     (call : CniStatus) (store : Datastore) (request : AddRequest)
     → Finds env old (Status call) store → AsksSame (probe_of call) request

@@ -3,8 +3,8 @@ ghost use Rattle.std.specs.Prelude.{◌≡◌, Some, false, map, string_bytes, t
 ghost use Rattle.std.specs.Io.KnownBytes.{IsAtEnd};
 ghost use Rattle.ipam_io.specs.Counts.{Rose};
 ghost use Rattle.ipam_words.specs.Words.{IsSound, Play, asked_by, command_named};
-ghost use Rattle.ipam_command.specs.Commands.{Does, Says, unknown_text};
-ghost use Rattle.ipam_command.specs.Outside.{outside_of};
+ghost use Rattle.ipam_command.specs.Commands.{Does, SaysFixedText, unknown_text};
+ghost use Rattle.ipam_keeper.specs.Outside.{outside_of};
 ghost use Rattle.ipam_command.specs.Rules.{CompleteLaw, asks_keeper, reads};
 
 use crate::statuses::{code_of_gen, code_of_play};
@@ -118,7 +118,7 @@ fn run<S: Source, K: Sink, D: Keeper>(
 
 /// The words name no command that is run here.
 fn unknown<K: Sink>(sink: &mut K) -> u8
-    ensures said { Says unknown_text UNKNOWN_WORDS (K.written sink.old) (K.written sink.new) (K.write_faults sink.old) (K.write_faults sink.new) result }
+    ensures said { SaysFixedText unknown_text UNKNOWN_WORDS (K.written sink.old) (K.written sink.new) (K.write_faults sink.old) (K.write_faults sink.new) result }
     ensures rest { K.write_rest sink.new ≡ K.write_rest sink.old }
 {
     say(sink, "unknown words\n", UNKNOWN_WORDS)
@@ -126,7 +126,7 @@ fn unknown<K: Sink>(sink: &mut K) -> u8
 
 /// Writes the text, and answers its status.
 fn say<K: Sink>(sink: &mut K, text: &str, own: u8) -> u8
-    ensures said { Says text.now own (K.written sink.old) (K.written sink.new) (K.write_faults sink.old) (K.write_faults sink.new) result }
+    ensures said { SaysFixedText text.now own (K.written sink.old) (K.written sink.new) (K.write_faults sink.old) (K.write_faults sink.new) result }
     ensures rest { K.write_rest sink.new ≡ K.write_rest sink.old }
 {
     match sink.write(text.as_bytes()) {

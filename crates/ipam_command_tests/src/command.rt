@@ -1,4 +1,5 @@
 //! A command is run, and what comes of it is told.
+use crate::texts::{lines_of, words_of};
 use ipam_command::run_command;
 use ipam_io::{MemorySink, MemorySource};
 use ipam_keeper::{Keeper, MemoryKeeper};
@@ -13,8 +14,10 @@ const COMMON: &str = "CNI_NETNS=/var/run/netns/x¦CNI_IFNAME=eth0¦CNI_PATH=/opt
 pub(crate) struct Way {
     /// Whether its environment has no common pairs.
     bare: bool,
-    /// Whether the first read of its input fails.
-    unread: bool,
+    /// Which read of its input fails; none is 0.
+    read: u64,
+    /// Which write of its output fails; none is 0.
+    write: u64,
     /// How many bytes it may write.
     room: usize,
     /// Whether only the last line of what it wrote is told.
@@ -24,14 +27,15 @@ pub(crate) struct Way {
 /// Nothing fails, and all is told.
 pub(crate) const WELL: Way = Way {
     bare: false,
-    unread: false,
+    read: 0,
+    write: 0,
     room: 100_000,
     last: false,
 };
 
 /// Runs the command of a line, and appends what comes of it: `do` runs it, `bare` without the common
-/// pairs, `unread` where its input can't be read, and `room N` where no more than N bytes of its output
-/// can be written. `last` tells only the last line of its output.
+/// pairs, `unread` where its input can't be read, `room N` where no more than N bytes of its output can be
+/// written, and `cut N` where its write of this number fails. `last` tells only the last line of its output.
 pub(crate) fn push_run_by_word(
     alloc: Global,
     keeper: &mut MemoryKeeper,
@@ -42,32 +46,28 @@ pub(crate) fn push_run_by_word(
     match word {
         "do" => push_run(alloc, keeper, WELL, line, told),
         "bare" => push_run(alloc, keeper, Way { bare: true, ..WELL }, line, told),
-        "unread" => push_run(
-            alloc,
-            keeper,
-            Way {
-                unread: true,
-                ..WELL
-            },
-            line,
-            told,
-        ),
+        "unread" => push_run(alloc, keeper, Way { read: 1, ..WELL }, line, told),
         "last" => push_run(alloc, keeper, Way { last: true, ..WELL }, line, told),
-        "room" => push_cut(alloc, keeper, line, told),
+        "room" | "cut" => push_cut(alloc, keeper, word, line, told),
         _ => Ok(()),
     }
 }
 
-/// Runs the command after the number, whose output has room for so many bytes.
+/// Runs the command after the number.
 fn push_cut(
     alloc: Global,
     keeper: &mut MemoryKeeper,
+    word: &str,
     line: &str,
     told: &mut String,
 ) -> Result<(), AllocError> {
     let (number, rest) = line.split_once(' ').unwrap_or((line, ""));
-    let room = number.parse().unwrap_or(0usize);
-    push_run(alloc, keeper, Way { room, ..WELL }, rest, told)
+    let mut way = WELL;
+    match word {
+        "room" => way.room = number.parse().unwrap_or(0),
+        _ => way.write = number.parse().unwrap_or(0),
+    }
+    push_run(alloc, keeper, way, rest, told)
 }
 
 /// Runs the command of a line `WORDS⇒ENVIRONMENT⇒INPUT`, and appends its status and what it wrote.
@@ -98,7 +98,7 @@ struct Asked {
 }
 
 /// The status with which the command ends. Apart, since `run_command` has a long contract.
-fn status_of<D: Keeper>(
+pub(crate) fn status_of<D: Keeper>(
     alloc: Global,
     words: &[String],
     env: &[(Text, Text)],
@@ -115,17 +115,9 @@ fn asked_of(alloc: Global, way: Way, line: &str) -> Result<Asked, AllocError> {
     Ok(Asked {
         words: words_of(alloc, words)?,
         env: environment(alloc, way.bare, env)?,
-        source: source_of(alloc, way.unread, input)?,
-        sink: MemorySink::new(alloc, way.room, Vec::new(alloc))?,
+        source: MemorySource::new(input_of(alloc, input)?, vec![in alloc; way.read]?),
+        sink: MemorySink::new(alloc, way.room, vec![in alloc; way.write]?)?,
     })
-}
-
-fn words_of(alloc: Global, text: &str) -> Result<Vec<String>, AllocError> {
-    let mut words = Vec::new(alloc);
-    for word in text.split(' ') {
-        words.push(String::from_str(alloc, word)?)?;
-    }
-    Ok(words)
 }
 
 fn environment(alloc: Global, bare: bool, text: &str) -> Result<Vec<(Text, Text)>, AllocError> {
@@ -146,42 +138,21 @@ fn push_pairs(alloc: Global, text: &str, env: &mut Vec<(Text, Text)>) -> Result<
     Ok(())
 }
 
-fn source_of(alloc: Global, unread: bool, text: &str) -> Result<MemorySource, AllocError> {
-    let input = input_of(alloc, text)?;
-    let mut reads = Vec::new(alloc);
-    if unread {
-        reads.push(1)?;
-    }
-    Ok(MemorySource::new(input.into_bytes(), reads))
-}
-
 /// The input of a text `START⇒COUNT⇒PART`: the start, and after it so many times the part. Only the start
 /// has to be there.
-fn input_of(alloc: Global, text: &str) -> Result<String, AllocError> {
+fn input_of(alloc: Global, text: &str) -> Result<Vec<u8>, AllocError> {
     let (start, rest) = text.split_once('⇒').unwrap_or((text, ""));
     let (count, part) = rest.split_once('⇒').unwrap_or(("", ""));
     let mut input = lines_of(alloc, start)?;
     for _ in 0..count.parse().unwrap_or(0usize) {
-        input.push_str(part)?;
+        input.extend_from_slice(part.as_bytes())?;
     }
     Ok(input)
 }
 
-/// The lines of a text in which `␤` stands for a line feed.
-fn lines_of(alloc: Global, text: &str) -> Result<String, AllocError> {
-    let mut lines = String::new(alloc);
-    for part in text.split('␤') {
-        if !lines.is_empty() {
-            lines.push_str("\n")?;
-        }
-        lines.push_str(part)?;
-    }
-    Ok(lines)
-}
-
 /// Appends the status and what was written, or its last line. Where this doesn't end with a line feed, `|`
 /// stands at its end.
-fn push_reply(
+pub(crate) fn push_reply(
     alloc: Global,
     status: u8,
     last: bool,

@@ -1,6 +1,7 @@
-//! Tests of commands over rows in memory and over a file, and of the keepers over files. The program plays the
-//! scenarios of its input: first those that are written by hand, then those of `tools/tables/fault_table.py` and
-//! of `tools/tables/broken_calls.py`.
+//! Tests of commands over rows in memory and over a file, of the keepers over files, of scripts that are played, of
+//! audits, of the operator's words over a daemon whose replies are in memory, and of a kept cluster of which a write
+//! or a settling fails. The program plays the scenarios of its input: first those that are written by hand, then
+//! those of `tools/tables/fault_table.py`, of `tools/tables/broken_calls.py` and of `tools/tables/play_table.py`.
 //!
 //! In data/ are files that cases copy. SQLite 3.40.1 wrote `stock.db`, by Python's module, with the rows
 //! `config 12 {}` and `pools 7 {"pools":[]}`, and `dropped.db`, of which it dropped the table and then
@@ -8,17 +9,29 @@
 //! a file without its table, and `made.log` and `table.log` are logs of such a file, the second with the table.
 #![tactic(auto)]
 
+mod asked;
+mod audits;
 mod command;
 mod files;
+mod freed;
 mod keepers;
+mod kept;
 mod rows;
+mod scripts;
+mod settled;
 mod steps;
+mod target;
 mod telling;
+mod texts;
+mod told;
 
-use crate::steps::Commands;
-use ipam_table::play_scenarios;
 use std::io;
 
 fn main(rt: HostRuntime) -> io::Result<()> {
-    play_scenarios(&rt, &Commands { rt })
+    let text = io::read_to_string(rt.alloc(), rt.reader())?;
+    for scenario in text.trim_end().split("\n\n") {
+        let report = steps::reported(&rt, &rt, scenario)?;
+        println!(rt; "{report}")?;
+    }
+    Ok(())
 }

@@ -72,6 +72,34 @@ fn block_row(alloc: Global, number: u32) -> Result<String, AllocError> {
     )
 }
 
+/// Puts so many blocks of one address each, which are held. The handle of each seventh counts two addresses.
+pub(crate) fn put_owners(
+    alloc: Global,
+    keeper: &mut MemoryKeeper,
+    count: &str,
+) -> Result<(), AllocError> {
+    for number in 0..count.parse().unwrap_or(0u8) {
+        let block = held_row(alloc, number)?;
+        put_row(keeper, block.as_str())?;
+        let handle = handle_row(alloc, number)?;
+        put_row(keeper, handle.as_str())?;
+    }
+    Ok(())
+}
+
+fn held_row(alloc: Global, number: u8) -> Result<String, AllocError> {
+    format!(in alloc;
+        "2 block/10.0.0.{number}/32 {{\"affinity\":null,\"allocations\":[0],\"attributes\":[{{\"handle_id\":\"n.c{number}\",\"secondary\":{{}}}}],\"cidr\":\"10.0.0.{number}/32\",\"sequenceNumber\":1,\"sequenceNumberForAllocation\":{{\"0\":1}},\"unallocated\":[]}}"
+    )
+}
+
+fn handle_row(alloc: Global, number: u8) -> Result<String, AllocError> {
+    let count = if number % 7 == 0 { 2u8 } else { 1u8 };
+    format!(in alloc;
+        "2 handle/n.c{number} {{\"block\":{{\"10.0.0.{number}/32\":{count}}},\"handleID\":\"n.c{number}\"}}"
+    )
+}
+
 /// Appends the rows whose keys begin so.
 pub(crate) fn push_rows(
     alloc: Global,

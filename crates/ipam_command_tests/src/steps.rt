@@ -1,34 +1,57 @@
 //! A scenario is played: steps over a keeper in memory, and what comes of them.
 use crate::command::{WELL, push_run, push_run_by_word};
-use crate::{keepers, rows};
+use crate::texts::push_line;
+use crate::{asked, audits, freed, keepers, kept, rows, scripts, settled};
 use ipam_keeper::MemoryKeeper;
 use ipam_sqlite::FileKeeper;
-use ipam_table::Plays;
+use ipam_table::report;
 use std::alloc::{AllocError, Global};
+use std::thread::Threads;
 
-/// Plays scenarios.
-#[derive(Drop)]
-pub(crate) struct Commands {
-    pub(crate) rt: HostRuntime,
+/// Plays the scenario, and answers its title and how many lines came of it, or these where they are not those that
+/// are wanted.
+pub(crate) fn reported<R: Threads + Sync>(
+    threads: &R,
+    rt: &HostRuntime,
+    scenario: &str,
+) -> Result<String, AllocError> {
+    let found = played(threads, rt, scenario)?;
+    report(rt.alloc(), scenario, found.as_str())
 }
 
-impl Plays for Commands {
-    fn play(&self, alloc: Global, scenario: &str) -> Result<String, AllocError> {
-        let mut keeper = rows::keeper_of(alloc, scenario)?;
-        let mut kept = String::new(alloc);
-        let mut told = String::new(alloc);
-        for line in scenario.lines() {
-            step(&self.rt, &mut keeper, &mut kept, line, &mut told)?;
-        }
-        Ok(told)
+/// What comes of the scenario. Below its title it has steps, or a line that begins with `script`, and the script.
+fn played<R: Threads + Sync>(
+    threads: &R,
+    rt: &HostRuntime,
+    scenario: &str,
+) -> Result<String, AllocError> {
+    let (_, lines) = scenario.split_once('\n').unwrap_or((scenario, ""));
+    match lines.strip_prefix("script") {
+        Some(script) => scripts::played(rt.alloc(), script),
+        None => played_by_steps(threads, rt, lines),
     }
 }
 
-/// Plays a line, and appends what comes of it. `row` puts a row, and `blocks` so many rows; `get` tells
-/// the rows whose keys begin so; `same` tells whether all rows are as they were at the last `keep`; `file`
-/// runs a command over a file; `keeper` is a case of a keeper of files. The other words are those of
-/// `push_run_by_word`.
-fn step(
+fn played_by_steps<R: Threads + Sync>(
+    threads: &R,
+    rt: &HostRuntime,
+    lines: &str,
+) -> Result<String, AllocError> {
+    let mut keeper = rows::keeper_of(rt.alloc(), lines)?;
+    let mut kept = String::new(rt.alloc());
+    let mut told = String::new(rt.alloc());
+    for line in lines.lines() {
+        step(threads, rt, &mut keeper, &mut kept, line, &mut told)?;
+    }
+    Ok(told)
+}
+
+/// Plays a line, and appends what comes of it. `row` puts a row, and `blocks` and `owners` put so many; `get`
+/// tells the rows whose keys begin so; `same` tells whether all rows are as they were at the last `keep`; `file`
+/// runs a command over a file; `keeper` is a case of a keeper of files. `audit` runs the words of an audit, and
+/// `unwritten` does so where its first write fails. The other words are those of `push_alone`.
+fn step<R: Threads + Sync>(
+    threads: &R,
     rt: &HostRuntime,
     keeper: &mut MemoryKeeper,
     kept: &mut String,
@@ -40,11 +63,32 @@ fn step(
     match word {
         "row" => rows::put_row(keeper, rest),
         "blocks" => rows::put_blocks(alloc, keeper, rest),
+        "owners" => rows::put_owners(alloc, keeper, rest),
         "get" => rows::push_rows(alloc, keeper, rest, told),
         "keep" => rows::keep(alloc, keeper, kept),
         "same" => rows::push_same(alloc, keeper, kept, told),
         "file" => push_run_over_file(rt, rest, told),
         "keeper" => keepers::push_case(rt, rest, told),
+        "audit" => audits::push_report(threads, alloc, keeper, 0, rest, told),
+        "unwritten" => audits::push_report(threads, alloc, keeper, 1, rest, told),
+        "ask" => push_line(told, asked::asked(threads, alloc, rest)?.as_str()),
+        _ => push_alone(alloc, keeper, word, rest, told),
+    }
+}
+
+/// Plays a line that needs no runtime. `kept`, `settled` and `free` have keepers of their own. The other words are
+/// those of `push_run_by_word`.
+fn push_alone(
+    alloc: Global,
+    keeper: &mut MemoryKeeper,
+    word: &str,
+    rest: &str,
+    told: &mut String,
+) -> Result<(), AllocError> {
+    match word {
+        "kept" => push_line(told, kept::kept_text(alloc, rest)?.as_str()),
+        "settled" => push_line(told, settled::settled_text(alloc, rest)?.as_str()),
+        "free" => push_line(told, freed::free_text(alloc, rest)?.as_str()),
         _ => push_run_by_word(alloc, keeper, word, rest, told),
     }
 }

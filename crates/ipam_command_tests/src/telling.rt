@@ -30,7 +30,11 @@ pub(crate) fn tell_rows(
         Err(fault) => return tell(told, Err(fault)),
     };
     told.push_str("rows")?;
-    for row in &rows {
+    tell_each(told, &rows)
+}
+
+pub(crate) fn tell_each(told: &mut String, rows: &[Row]) -> Result<(), AllocError> {
+    for row in rows {
         tell_row(told, row)?;
     }
     Ok(())

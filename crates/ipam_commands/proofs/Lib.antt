@@ -3,3 +3,4 @@ pub mod ChangeRuns
 pub mod RouteLines
 pub mod Loadings
 mod Refusals
+pub mod Wanting

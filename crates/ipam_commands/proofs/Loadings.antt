@@ -13,7 +13,7 @@ use Rattle.ipam_records.specs.declared.call.Row.{Row as RowText}
 use Rattle.ipam_records.specs.Datastore.{Datastore}
 use Rattle.ipam_model.specs.Opened.{OpensAs}
 use Rattle.ipam_kept.specs.declared.kept.KeptFault.{KeptFault}
-use Rattle.ipam_kept.specs.Faults.{IsOpening, not_opened}
+use Rattle.ipam_kept.specs.Faults.{IsOpening, IsWhyNot, not_opened}
 use Rattle.ipam_kept.specs.Rows.{texts_loaded}
 use Rattle.ipam_commands.specs.Telling.{AreOpened, IsLoadedAs, IsNotLoaded}
 
@@ -23,21 +23,21 @@ of-opening : (told : Option (List RowText)) (n n' : ℕ) (rows : List RowText) (
 of-opening told n n' rows (opening.Refused number about) are same is = (record { rows = rows; loaded = are; refused = is }, same)
 of-opening told n n' rows opening.Memory are same is = same
 
-module _ {O : Type 0} (opens : List RowText → O → Type 0) (told : Option (List RowText)) (n n' : ℕ) where
-  pub not-loaded : (loaded : Result (Vec RowText) KeepFault) (r : Result O KeptFault) → IsOpening opens (λ rows why. IsFaultOf (texts_loaded rows) why) loaded r
+module _ {O : Type 0} (opens : List RowText → O → Type 0) (wants : Type 0) (told : Option (List RowText)) (n n' : ℕ) where
+  pub not-loaded : (loaded : Result (Vec RowText) KeepFault) (r : Result O KeptFault) → IsOpening opens (IsWhyNot wants) loaded r
       → IfOk loaded (λ rows. IsTold told rows.items) → OnFailed loaded (Rose n n') → UnlessFailed loaded (n' ≡ n) → IfErr r (IsNotLoaded told n n')
   not-loaded loaded (Ok opened) is are rose same = tt
-  not-loaded (Ok rows) (Err fault) (why, refused, tells) are rose same =
+  not-loaded (Ok rows) (Err fault) (why, (refused, wanted), tells) are rose same =
       subst (λ (f : KeptFault). IsNotLoaded told n n' f) (sym tells) (of-opening told n n' rows.items why are same refused)
   not-loaded (Err keeping.Failed) (Err fault) tells are rose same = subst (λ (f : KeptFault). IsNotLoaded told n n' f) (sym tells) rose
   not-loaded (Err keeping.Memory) (Err fault) tells are rose same = subst (λ (f : KeptFault). IsNotLoaded told n n' f) (sym tells) same
 
-  pub none-failed : (loaded : Result (Vec RowText) KeepFault) (r : Result O KeptFault) → IsOpening opens (λ rows why. IsFaultOf (texts_loaded rows) why) loaded r → UnlessFailed loaded (n' ≡ n) → OnOk r (n' ≡ n)
+  pub none-failed : (loaded : Result (Vec RowText) KeepFault) (r : Result O KeptFault) → IsOpening opens (IsWhyNot wants) loaded r → UnlessFailed loaded (n' ≡ n) → OnOk r (n' ≡ n)
   none-failed (Ok rows) (Ok opened) is same = same
   none-failed (Err why) (Ok opened) is same = absurd is
   none-failed loaded (Err fault) is same = tt
 
-  pub opened-as : (P : O → Type 0) (loaded : Result (Vec RowText) KeepFault) (r : Result O KeptFault) → IsOpening opens (λ rows why. IsFaultOf (texts_loaded rows) why) loaded r
+  pub opened-as : (P : O → Type 0) (loaded : Result (Vec RowText) KeepFault) (r : Result O KeptFault) → IsOpening opens (IsWhyNot wants) loaded r
       → IfOk loaded (λ rows. IsTold told rows.items) → ((rows : List RowText) (opened : O) → IsTold told rows → opens rows opened → P opened) → IfOk r P
   opened-as P (Ok rows) (Ok opened) is are so = so rows.items opened are is
   opened-as P (Err why) (Ok opened) is are so = absurd is

@@ -13,9 +13,7 @@ use Rattle.ipam_kept.specs.Broken.{broken_line}
 use Rattle.ipam_kept.specs.Rows.{texts_loaded}
 use Rattle.ipam_commands.specs.declared.status.Status.{Status}
 use Rattle.ipam_commands.specs.declared.status.Status.TheVariants as status
-
-abbrev pub keeper_line : List ℕ
-keeper_line = codes "keeper fault\n"
+pub use Rattle.ipam_keeper.specs.Keeping.{keeper_line}
 
 -- ---- what is written
 

@@ -2,8 +2,7 @@
 use Rattle.std.specs.Prelude.{ℕ, ◌&&◌, List, [], ◌∷◌, ◌++◌, Bool, true, false, bytes_eq, codes, if◌then◌else◌}
 use Rattle.ipam_addr.specs.Text.{cidr_text_of}
 use Rattle.ipam_affinity.specs.declared.record.Affinity.{Affinity}
-use Rattle.ipam_affinity.specs.declared.state.State.{State}
-use Rattle.ipam_affinity.specs.declared.state.State.TheVariants.{Confirmed, Pending, PendingDeletion}
+pub use Rattle.ipam_affinity.specs.State.{is_confirmed}
 use Rattle.ipam_records.specs.declared.key.Kind.TheVariants as kind
 use Rattle.ipam_records.specs.declared.record.Record.{Record}
 use Rattle.ipam_records.specs.declared.record.Record.TheVariants as record_of
@@ -12,20 +11,15 @@ use Rattle.ipam_model.specs.Reads.{StoredRecord}
 
 -- ---- the routes of a node
 
-abbrev pub is_confirmed : State → Bool
-is_confirmed Confirmed = true
-is_confirmed Pending = false
-is_confirmed PendingDeletion = false
-
 abbrev pub is_route : (node : List ℕ) → Affinity → Bool
 is_route node affinity = bytes_eq affinity.node node && is_confirmed affinity.state
 
 -- the CIDR of a confirmed affinity of the node
-unfoldable pub affinity_line : (node : List ℕ) → Affinity → List ℕ
-affinity_line node affinity = if is_route node affinity then cidr_text_of affinity.cidr ++ codes "\n" else []
+unfoldable pub line_if_route : (node : List ℕ) → Affinity → List ℕ
+line_if_route node affinity = if is_route node affinity then cidr_text_of affinity.cidr ++ codes "\n" else []
 
 abbrev pub route_line : (node : List ℕ) → Record → List ℕ
-route_line node (record_of.Affinity affinity) = affinity_line node affinity
+route_line node (record_of.Affinity affinity) = line_if_route node affinity
 route_line node _ = []
 
 abbrev pub route_lines : (node : List ℕ) → List StoredRecord → List ℕ

@@ -3,14 +3,14 @@ ghost use Rattle.std.specs.Prelude.{◌≡◌};
 ghost use Rattle.ipam_commands.specs.Telling.{ReportsRows, Writes};
 ghost use Rattle.ipam_told.specs.Rows.{rows_text};
 
-use crate::loading::load;
+use crate::loading::Loaded;
+use crate::reporting::{TellsRows, tell_rows};
 use crate::status::Status;
-use crate::telling::{tell_fault, tell_made};
 use ipam_io::Sink;
 use ipam_keeper::Keeper;
 use ipam_told::rows_text;
 use ipam_words::RowKind;
-use std::alloc::Global;
+use std::alloc::{AllocError, Global};
 
 /// Writes a line for each row, or for each of the kind: its key, its revision and its body. The rows
 /// stand by their keys.
@@ -27,11 +27,22 @@ pub fn get<K: Sink, D: Keeper>(
     ensures same { D.name keeper.new ≡ D.name keeper.old }
     ensures rest { K.write_rest sink.new ≡ K.write_rest sink.old }
 {
-    match load(alloc, keeper) {
-        Ok(loaded) => {
-            let text = rows_text(alloc, kind, &loaded.rows);
-            tell_made(sink, text, Status::Done)
-        }
-        Err(fault) => tell_fault(alloc, sink, fault),
+    tell_rows(alloc, &Getting { alloc, kind }, sink, keeper)
+}
+
+/// The rows of this kind, or all of them.
+#[derive(Drop)]
+struct Getting {
+    alloc: Global,
+    kind: Option<RowKind>,
+}
+
+impl TellsRows for Getting {
+    ghost wants = { λ _. Unit {0} };
+
+    ghost says = { λ getting rows store. rows_text getting.kind rows };
+
+    fn text(&self, loaded: &Loaded) -> Result<String, AllocError> {
+        rows_text(self.alloc, self.kind, &loaded.rows)
     }
 }

@@ -6,6 +6,7 @@ mod getting;
 mod loading;
 mod outcome;
 mod releasing;
+mod reporting;
 mod routing;
 mod showing;
 mod status;
@@ -21,5 +22,5 @@ pub use status::{
     BROKEN_ROWS, DONE, KEEPER_FAULT, LINE_REFUSED, NO_MEMORY, READ_FAULT, REFUSED, Status,
     UNKNOWN_WORDS, WRITE_FAULT,
 };
-pub use telling::{tell, tell_fault, tell_made};
+pub use telling::{MakesBroken, tell, tell_fault, tell_made};
 pub use unreserving::unreserve;

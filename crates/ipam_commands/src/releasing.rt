@@ -9,14 +9,12 @@ ghost use Rattle.ipam_commands.specs.declared.outcome.ChangeOutcome.{ChangeOutco
 ghost use Rattle.ipam_commands.specs.Changing.{ChangeEnds, ChangeWrites, IsChange, release_line};
 ghost use Rattle.ipam_commands.specs.Telling.{Writes};
 
-use crate::changing::open_and_run;
+use crate::changing::{MakesChange, tell_change};
 use crate::outcome::ChangeOutcome;
 use crate::status::Status;
-use crate::telling::{tell, tell_fault};
 use ipam_addr::Cidr;
 use ipam_io::Sink;
 use ipam_keeper::Keeper;
-use ipam_kept::KeptFault;
 use ipam_model::Request;
 use ipam_text::Text;
 use std::alloc::{AllocError, Global};
@@ -37,33 +35,32 @@ pub fn release<K: Sink, D: Keeper>(
         (K.write_faults sink.old) (K.write_faults sink.new) text own result) (result ≢ Status.NoMemory) came }
     ensures rest { K.write_rest sink.new ≡ K.write_rest sink.old }
 {
-    match come_to(alloc, keeper, node, block) {
-        Ok(found) => tell(
-            sink,
-            found.line("released\n", "no affinity\n"),
-            found.status(),
-        ),
-        Err(fault) => tell_fault(alloc, sink, fault),
-    }
+    tell_change(alloc, &Releasing { alloc, node, block }, sink, keeper)
 }
 
-/// What the release comes to.
-fn come_to<D: Keeper>(
+/// The release of this node's affinity to this block.
+#[derive(Drop)]
+struct Releasing<'a> {
     alloc: Global,
-    keeper: &mut D,
-    node: &str,
+    node: &'a str,
     block: Cidr,
-) -> Result<ChangeOutcome, KeptFault>
-    requires { IsName node.now }
-    ensures { ChangeEnds (Release node.now block) result (D.rows keeper.old) (D.rows keeper.new)
-        (D.faults keeper.old) (D.faults keeper.new) }
-{
-    match release_request(alloc, node, block) {
-        Ok(request) => {
-            let (came, _keeper) = open_and_run(alloc, &mut *keeper, &request);
-            came
-        }
-        Err(AllocError) => Err(KeptFault::Memory),
+}
+
+impl<'a> MakesChange for Releasing<'a> {
+    ghost wants = { λ _. Unit {0} };
+
+    ghost may = { λ releasing. IsName releasing.node.now };
+
+    ghost asks = { λ releasing. Release releasing.node.now releasing.block };
+
+    ghost says = { λ _. release_line };
+
+    fn request(&self) -> Result<Request, AllocError> {
+        release_request(self.alloc, self.node, self.block)
+    }
+
+    fn line(&self, found: ChangeOutcome) -> &'static str {
+        found.line("released\n", "no affinity\n")
     }
 }
 

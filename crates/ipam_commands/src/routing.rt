@@ -5,11 +5,11 @@ ghost use Rattle.ipam_records.specs.Pages.{rows_of_pages};
 ghost use Rattle.ipam_records.specs.Datastore.{rows_of_kind};
 ghost use Rattle.ipam_records.specs.declared.key.Kind.TheVariants as kind;
 ghost use Rattle.ipam_commands.specs.Telling.{ReportsRows, Writes};
-ghost use Rattle.ipam_commands.specs.Texts.{affinity_line, is_confirmed, is_route, route_line, route_lines, routes_text};
+ghost use Rattle.ipam_commands.specs.Texts.{line_if_route, is_confirmed, is_route, route_line, route_lines, routes_text};
 
-use crate::loading::load;
+use crate::loading::Loaded;
+use crate::reporting::{TellsRows, tell_rows};
 use crate::status::Status;
-use crate::telling::{tell_fault, tell_made};
 use ipam_addr::push_cidr;
 use ipam_affinity::{Affinity, State};
 use ipam_io::Sink;
@@ -27,12 +27,23 @@ pub fn routes<K: Sink, D: Keeper>(alloc: Global, sink: &mut K, keeper: &mut D, n
     ensures same { D.name keeper.new ≡ D.name keeper.old }
     ensures rest { K.write_rest sink.new ≡ K.write_rest sink.old }
 {
-    match load(alloc, keeper) {
-        Ok(loaded) => {
-            let text = routes_text(alloc, node, &loaded.store);
-            tell_made(sink, text, Status::Done)
-        }
-        Err(fault) => tell_fault(alloc, sink, fault),
+    tell_rows(alloc, &Routing { alloc, node }, sink, keeper)
+}
+
+/// The routes of this node.
+#[derive(Drop)]
+struct Routing<'a> {
+    alloc: Global,
+    node: &'a str,
+}
+
+impl<'a> TellsRows for Routing<'a> {
+    ghost wants = { λ _. Unit {0} };
+
+    ghost says = { λ routing rows store. routes_text routing.node.now store };
+
+    fn text(&self, loaded: &Loaded) -> Result<String, AllocError> {
+        routes_text(self.alloc, self.node, &loaded.store)
     }
 }
 
@@ -86,14 +97,14 @@ fn push_route(
     }
 }
 
-#[tactic(auto, unfolding(crate::specs::Texts::affinity_line))]
+#[tactic(auto, unfolding(crate::specs::Texts::line_if_route))]
 fn push_affinity(
     alloc: Global,
     text: &mut String,
     node: &str,
     affinity: &Affinity,
 ) -> Result<(), AllocError>
-    ensures { OnOk result (string_bytes text.new ≡ string_bytes text.old ++ affinity_line node.now affinity.now) }
+    ensures { OnOk result (string_bytes text.new ≡ string_bytes text.old ++ line_if_route node.now affinity.now) }
 {
     if !is_route(node, affinity) {
         return Ok(());

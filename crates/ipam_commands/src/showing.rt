@@ -4,14 +4,14 @@ ghost use Rattle.ipam_words.specs.Views.{seen_by};
 ghost use Rattle.ipam_commands.specs.Telling.{ReportsRows, Writes};
 ghost use Rattle.ipam_told.specs.Shown.{shown_text};
 
-use crate::loading::load;
+use crate::loading::Loaded;
+use crate::reporting::{TellsRows, tell_rows};
 use crate::status::Status;
-use crate::telling::{tell_fault, tell_made};
 use ipam_io::Sink;
 use ipam_keeper::Keeper;
 use ipam_told::shown_text;
 use ipam_words::View;
-use std::alloc::Global;
+use std::alloc::{AllocError, Global};
 
 /// Writes what is asked of the pools, the blocks, an address or a node. No row changes.
 pub fn show<K: Sink, D: Keeper>(
@@ -27,11 +27,22 @@ pub fn show<K: Sink, D: Keeper>(
     ensures same { D.name keeper.new ≡ D.name keeper.old }
     ensures rest { K.write_rest sink.new ≡ K.write_rest sink.old }
 {
-    match load(alloc, keeper) {
-        Ok(loaded) => {
-            let text = shown_text(alloc, view, &loaded.store);
-            tell_made(sink, text, Status::Done)
-        }
-        Err(fault) => tell_fault(alloc, sink, fault),
+    tell_rows(alloc, &Showing { alloc, view }, sink, keeper)
+}
+
+/// What is asked to be shown.
+#[derive(Drop)]
+struct Showing<'a, 'b> {
+    alloc: Global,
+    view: &'a View<'b>,
+}
+
+impl<'a, 'b> TellsRows for Showing<'a, 'b> {
+    ghost wants = { λ _. Unit {0} };
+
+    ghost says = { λ showing rows store. shown_text (seen_by showing.view.now) store };
+
+    fn text(&self, loaded: &Loaded) -> Result<String, AllocError> {
+        shown_text(self.alloc, self.view, &loaded.store)
     }
 }

@@ -44,11 +44,11 @@ pub enum Status {
 }
 
 impl Status {
-    ghost use Rattle.ipam_commands.specs.Statuses.{code_of};
+    ghost use Rattle.ipam_commands.specs.Statuses.{code_of_status};
 
     /// The exit status of a program that ends so.
     pub fn code(self) -> u8
-        ensures { result ≡ code_of self }
+        ensures { result ≡ code_of_status self }
     {
         match self {
             Status::Done => DONE,

@@ -12,13 +12,11 @@ ghost use Rattle.ipam_commands.specs.declared.outcome.ChangeOutcome.{ChangeOutco
 ghost use Rattle.ipam_commands.specs.Changing.{ChangeEnds, ChangeWrites, IsChange, IsNotThere, unreserve_line};
 ghost use Rattle.ipam_commands.specs.Telling.{Writes};
 
-use crate::changing::open_and_run;
+use crate::changing::{MakesChange, tell_change};
 use crate::outcome::ChangeOutcome;
 use crate::status::Status;
-use crate::telling::{tell, tell_fault};
 use ipam_io::Sink;
 use ipam_keeper::Keeper;
-use ipam_kept::KeptFault;
 use ipam_model::{Admin, Request};
 use ipam_text::Text;
 use std::alloc::{AllocError, Global};
@@ -39,28 +37,31 @@ pub fn unreserve<K: Sink, D: Keeper>(
     ensures one_refusal { (base : Base) → IsNotThere name.now (alone_over base (Changes (Unreserve name.now))).0 }
     ensures rest { K.write_rest sink.new ≡ K.write_rest sink.old }
 {
-    match remove(alloc, keeper, name) {
-        Ok(found) => tell(
-            sink,
-            found.line("unreserved\n", "no reservation\n"),
-            found.status(),
-        ),
-        Err(fault) => tell_fault(alloc, sink, fault),
-    }
+    tell_change(alloc, &Unreserving { alloc, name }, sink, keeper)
 }
 
-/// What the removal comes to.
-fn remove<D: Keeper>(alloc: Global, keeper: &mut D, name: &str) -> Result<ChangeOutcome, KeptFault>
-    requires { IsName name.now }
-    ensures { ChangeEnds (Changes (Unreserve name.now)) result (D.rows keeper.old) (D.rows keeper.new)
-        (D.faults keeper.old) (D.faults keeper.new) }
-{
-    match unreserve_request(alloc, name) {
-        Ok(request) => {
-            let (came, _keeper) = open_and_run(alloc, &mut *keeper, &request);
-            came
-        }
-        Err(AllocError) => Err(KeptFault::Memory),
+/// The removal of the reservation of this name.
+#[derive(Drop)]
+struct Unreserving<'a> {
+    alloc: Global,
+    name: &'a str,
+}
+
+impl<'a> MakesChange for Unreserving<'a> {
+    ghost wants = { λ _. Unit {0} };
+
+    ghost may = { λ unreserving. IsName unreserving.name.now };
+
+    ghost asks = { λ unreserving. Changes (Unreserve unreserving.name.now) };
+
+    ghost says = { λ _. unreserve_line };
+
+    fn request(&self) -> Result<Request, AllocError> {
+        unreserve_request(self.alloc, self.name)
+    }
+
+    fn line(&self, found: ChangeOutcome) -> &'static str {
+        found.line("unreserved\n", "no reservation\n")
     }
 }
 

@@ -26,3 +26,9 @@ of_end Memory n n' e = e
 pub unopened : {D : Type 0} (tells : Tells D) (faults name : D → ℕ) (keeper after : D) (served : Served) (n n' : ℕ)
     → IsUnopened tells faults name keeper after served → n' ≡ n → ListenFaults served n n'
 unopened tells faults name keeper after served n n' is e = subst (λ s. ListenFaults s n n') (sym is.told) (of_end is.fault n n' e)
+
+-- the end is want of memory only where the rows were not opened for it
+pub of_want : (fault : KeptFault) → end_of fault ≡ NoMemory → fault ≡ Memory
+of_want Keeper is = absurd (cc is)
+of_want (Refused number about) is = absurd (cc is)
+of_want Memory is = refl

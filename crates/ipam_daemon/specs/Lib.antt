@@ -4,3 +4,4 @@ pub mod Opening
 pub mod Handing
 pub mod Alarms
 pub mod Crews
+pub mod Connections

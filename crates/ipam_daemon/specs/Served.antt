@@ -1,5 +1,5 @@
 -- How serving ends, and what is written of it.
-use Rattle.std.specs.Prelude.{◌≡◌, ◌⊎◌, ℕ, List, codes, Option}
+use Rattle.std.specs.Prelude.{◌≡◌, ◌⊎◌, ℕ, List, codes, Option, Some, None}
 use Rattle.std.specs.Io.KnownBytes.{append_known}
 use Rattle.ipam_io.specs.Counts.{Rose}
 use Rattle.ipam_io.specs.Streams.{AppendsPrefix}
@@ -33,3 +33,15 @@ ListenFaults KeeperFault faults faults' = faults' ≡ faults
 ListenFaults NoMemory faults faults' = faults' ≡ faults
 ListenFaults (BrokenRows number about) faults faults' = faults' ≡ faults
 ListenFaults ListenFault faults faults' = Rose faults faults'
+
+-- how many looks found the alarm raised: the count rises where a keeper fault ends serving, and else not
+abbrev pub FindsAlarmAtEnd : Served → (found found' : ℕ) → Type 0
+FindsAlarmAtEnd KeeperFault found found' = Rose found found'
+FindsAlarmAtEnd NoMemory found found' = found' ≡ found
+FindsAlarmAtEnd (BrokenRows number about) found found' = found' ≡ found
+FindsAlarmAtEnd ListenFault found found' = found' ≡ found
+
+-- the same for the whole daemon: where its rows are not opened, and the keeper comes back, it looks at no alarm
+abbrev pub FindsAlarm : {D : Type 0} → Option D → Served → (found found' : ℕ) → Type 0
+FindsAlarm (Some keeper) served found found' = found' ≡ found
+FindsAlarm None served found found' = FindsAlarmAtEnd served found found'

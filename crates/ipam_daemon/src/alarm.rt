@@ -4,6 +4,7 @@ ghost use Rattle.ipam_io.specs.Counts.{next_count};
 ghost use Rattle.ipam_daemon.specs.Alarms.{IsHeeded};
 
 use crate::channel::{HandingEnd, TakingEnd, channel};
+use crate::handing::Watches;
 use ipam_serve::SessionEnd;
 use std::alloc::{AllocError, Global};
 use std::sync::atomic::{AtomicU64, Ordering};
@@ -12,6 +13,58 @@ use std::sync::{Arc, Wait};
 /// An alert: the alarm was raised.
 #[derive(Clone, Copy, Debug)]
 pub struct Alert;
+
+/// An alarm that no worker has a part of yet, and where its alerts are taken.
+#[derive(Drop)]
+pub struct NewAlarm {
+    pub(crate) alarm: Alarm,
+    pub(crate) alerts: TakingEnd<Alert>,
+}
+
+impl NewAlarm {
+    /// An alarm that is not raised, and who looks at it.
+    pub fn new(alloc: Global) -> Result<(NewAlarm, Watch), AllocError>
+        ensures raises { IfOk result (λ made. made.0.alarm.raises ≡ 0) }
+        ensures found { IfOk result (λ made. made.1.found ≡ 0) }
+    {
+        let (alerts, taken) = channel(alloc, 1)?;
+        let raised = Arc::new(alloc, AtomicU64::new(0))?;
+        let watch = Watch {
+            raised: Arc::try_clone(&raised)?,
+            found: 0,
+        };
+        let alarm = Alarm {
+            raised,
+            alerts,
+            raises: 0,
+        };
+        let new = NewAlarm {
+            alarm,
+            alerts: taken,
+        };
+        Ok((new, watch))
+    }
+}
+
+/// Who looks whether an alarm was raised, by any of its parts.
+#[derive(Drop)]
+pub struct Watch {
+    raised: Arc<AtomicU64, Global>,
+    // how many looks found it raised
+    found: u64,
+}
+
+impl Watches for Watch {
+    ghost found = { λ watch. watch.found };
+
+    fn is_raised(&mut self) -> bool {
+        if self.raised.load(Ordering::SeqCst) == 0 {
+            return false;
+        }
+        self.found = self.found.saturating_add(1);
+        true
+    }
+}
 
 /// A part of the alarm, which is raised once a session ended since the keeper failed to make sure of what it
 /// did. From then on each call of the keeper fails.
@@ -25,19 +78,6 @@ pub(crate) struct Alarm {
 }
 
 impl Alarm {
-    /// An alarm that is not raised, and where its alerts are taken.
-    pub(crate) fn new(alloc: Global) -> Result<(Alarm, TakingEnd<Alert>), AllocError>
-        ensures { IfOk result (λ made. made.0.raises ≡ 0) }
-    {
-        let (alerts, taken) = channel(alloc, 1)?;
-        let alarm = Alarm {
-            raised: Arc::new(alloc, AtomicU64::new(0))?,
-            alerts,
-            raises: 0,
-        };
-        Ok((alarm, taken))
-    }
-
     /// Another part of the same alarm, by which it was not raised.
     pub(crate) fn another(&self) -> Result<Alarm, AllocError>
         ensures { IfOk result (λ other. other.raises ≡ 0) }
@@ -73,10 +113,5 @@ impl Alarm {
         self.raises = self.raises.saturating_add(1);
         self.raised.store(1, Ordering::SeqCst);
         let _ = self.alerts.offer(rt, Alert);
-    }
-
-    /// Whether it was raised, by any of its parts.
-    pub(crate) fn is_raised(&self) -> bool {
-        self.raised.load(Ordering::SeqCst) != 0
     }
 }

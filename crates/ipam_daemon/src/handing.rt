@@ -1,5 +1,6 @@
 //! Connections are handed over, and each is served. Alerts are handed over so too.
 ghost use Rattle.std.specs.Prelude.{◌≡◌, ◌≤◌, ℕ, OnSome, IfNone, OnOk, OnErr};
+ghost use Rattle.std.specs.Bool.{OnTrue, OnFalse};
 ghost use Rattle.ipam_io.specs.Counts.{Rose, next_count};
 ghost use Rattle.ipam_daemon.specs.Handing.{IsEachServed, IsHandedOver, IsOneHandedOver, raised};
 
@@ -44,6 +45,17 @@ pub trait Hands<T> {
         ensures none { OnErr result (handed self.new ≡ handed self.old) };
 }
 
+/// Who looks whether an alarm was raised.
+pub trait Watches {
+    /// How many looks found it raised.
+    ghost found: { Self → ℕ };
+
+    /// Looks once whether it was raised.
+    fn is_raised(&mut self) -> bool
+        ensures raised { OnTrue result (Rose (found self.old) (found self.new)) }
+        ensures not_raised { OnFalse result (found self.new ≡ found self.old) };
+}
+
 /// Serves each connection that is handed over, until no more can come.
 #[tactic(auto, using(crate::proofs::Counts::served_none, crate::proofs::Counts::served_more))]
 pub fn work<R: Wait + Log + Clock, T, Q: Takes<T>, W: Attends<T>>(
@@ -85,6 +97,34 @@ pub fn hand_over<R: Wait + Log + Clock, T, L: Listens<T>, H: Hands<T>, W: Attend
         hand_one(rt, connection, to, own);
     }
     Ok(())
+}
+
+/// The same for every connection, until a look before one finds the alarm raised, or accepting fails. It ends
+/// nowhere else.
+#[tactic(auto, using(crate::proofs::Counts::handed_none, crate::proofs::Counts::handed_more))]
+pub fn hand_over_all<
+    R: Wait + Log + Clock,
+    T,
+    L: Listens<T>,
+    H: Hands<T>,
+    W: Attends<T>,
+    A: Watches,
+>(rt: &R, listener: &mut L, to: &mut H, own: &mut W, watch: &mut A) -> Result<(), Failed>
+    ensures each { IsHandedOver (L.accepted listener.old) (L.accepted listener.new)
+        (H.handed to.old) (H.handed to.new) (W.attended own.old) (W.attended own.new) }
+    ensures alarm { OnOk result (Rose (A.found watch.old) (A.found watch.new)) }
+    ensures no_alarm { OnErr result (A.found watch.new ≡ A.found watch.old) }
+    ensures fault { OnErr result (Rose (L.faults listener.old) (L.faults listener.new)) }
+    ensures no_fault { OnOk result (L.faults listener.new ≡ L.faults listener.old) }
+{
+    for _ in rt.forever() {
+        if watch.is_raised() {
+            return Ok(());
+        }
+        let connection = listener.accept()?;
+        hand_one(rt, connection, to, own);
+    }
+    unreachable!()
 }
 
 /// Hands the connection over, or has it served here.

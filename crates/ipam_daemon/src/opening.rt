@@ -5,7 +5,7 @@ ghost use Rattle.ipam_shared.specs.Passes.{IsNewlyKept, runs_in};
 ghost use Rattle.ipam_daemon.specs.Opening.{IsUnopened, end_of};
 
 use crate::served::Served;
-use ipam_kept::{Keeper, Kept, KeptFault};
+use ipam_kept::{Keeper, Kept, KeptFault, OpensKept};
 use ipam_serve::Opening;
 use ipam_shared::{Pass, Shared};
 use ipam_text::Text;
@@ -13,11 +13,16 @@ use std::alloc::{AllocError, Global};
 use std::random::RandomSource;
 use std::time::{Clock, Duration};
 
-/// Opens the keeper's rows, with their history yet to be written. On `Err` the keeper comes back.
-pub fn open_kept<D: Keeper>(alloc: Global, keeper: D) -> Result<Kept<D>, (D, Served)>
+/// Opens the keeper's rows, with their history yet to be written. On `Err` the keeper comes back, and the end is
+/// want of memory only where opening the rows found none.
+pub fn open_kept<T: OpensKept + Drop, D: Keeper>(
+    alloc: T,
+    keeper: D,
+) -> Result<Kept<D>, (D, Served)>
     ensures opened { IfOk result (IsOpened D.rows D.faults D.name keeper 0) }
     ensures new { IfOk result (IsNewlyKept D.rows D.settled) }
     ensures not_opened { IfErr result (λ back. IsUnopened D.rows D.faults D.name keeper back.0 back.1) }
+    ensures want_of_memory_has_its_cause { IfErr result (λ back. back.1 ≡ Served.NoMemory → T.wants alloc) }
 {
     match Kept::open(alloc, keeper, 0) {
         Ok(kept) => Ok(kept),

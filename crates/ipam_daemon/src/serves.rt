@@ -2,7 +2,7 @@
 ghost use Rattle.std.specs.Prelude.{◌≡◌, ℕ, List, None, IfSome, IfNone};
 ghost use Rattle.std.specs.Io.KnownBytes.{prepend_known};
 ghost use Rattle.atomic_table.specs.Seated.{TableId};
-ghost use Rattle.ipam_shared.specs.Passes.{IsSamePass, runs_in};
+ghost use Rattle.ipam_shared.specs.Passes.{IsSamePass, IsSplit, runs_in};
 ghost use Rattle.ipam_serve.specs.Keeping.{AtKeeper, at_keeper};
 ghost use Rattle.ipam_serve.specs.Lines.{server_at};
 ghost use Rattle.ipam_serve.specs.Sessions.{RoseIf, Session, is_halted, is_read_fault, is_write_fault, talk_at};
@@ -31,7 +31,9 @@ pub trait Serves {
         ensures same { runs_in pass.new ≡ runs_in pass.old }
         ensures other { IfSome result (λ other. other.lock ≡ id self.now) }
         ensures idle { IfSome result (λ other. runs_in other ≡ None) }
-        ensures none { IfNone result (IsSpent pass.new) };
+        ensures none { IfNone result (IsSpent pass.new) }
+        ensures untaken { IfNone result (pass.new.left ≡ pass.old.left) }
+        ensures some { IfSome result (λ other. IsSplit pass.old pass.new other) };
 
     /// Serves a session of this opening over the link to its end, as `serve_session` does. Where a race was
     /// lost it lets others finish.

@@ -2,10 +2,10 @@
 ghost use Rattle.std.specs.Prelude.{◌≡◌, ◌⊎◌};
 ghost use Rattle.ipam_shared.specs.Passes.{IsNewlyKept};
 ghost use Rattle.ipam_daemon.specs.Opening.{IsEnd};
-ghost use Rattle.ipam_daemon.specs.Served.{ListenFaults};
+ghost use Rattle.ipam_daemon.specs.Served.{FindsAlarm, ListenFaults, FindsAlarmAtEnd};
 
-use crate::alarm::Alert;
-use crate::handing::Attends;
+use crate::alarm::{Alert, NewAlarm};
+use crate::handing::{Attends, Watches};
 use crate::host::Host;
 use crate::knocker::Knocker;
 use crate::opening::open_kept;
@@ -42,6 +42,9 @@ pub fn serve<
     let Ok(knocker) = Knocker::new(rt, alloc, address) else {
         return (Served::NoMemory, Some(keeper));
     };
+    let Ok((alarm, mut watch)) = NewAlarm::new(alloc) else {
+        return (Served::NoMemory, Some(keeper));
+    };
     let mut listener = SocketListener::new(&rt, alloc, Address::of(address));
     let limits = Limits::of_session();
     serve_by(
@@ -54,18 +57,22 @@ pub fn serve<
         limits,
         Leaving::AtWork,
         knocker,
+        alarm,
+        &mut watch,
     )
 }
 
 /// The same over this listener, within these limits, with this end and this knocker, which is to make a connection at
 /// each alert. Where it makes none, serving ends once another one comes. It ends with a fault of listening
-/// exactly where the listener failed.
+/// exactly where the listener failed, and by the keeper after the rows were opened exactly where the watch found the
+/// alarm raised, which is to be the watch of this alarm.
 #[tactic(auto, using(crate::proofs::Ended::served_out, crate::proofs::Ended::unopened))]
 pub fn serve_by<
     R: Host,
     D: Keeper + Send + Drop + 'static,
     L: Listens<Stream>,
     K: Attends<Alert> + Send + Drop + 'static,
+    A: Watches,
 >(
     rt: R,
     alloc: Global,
@@ -76,9 +83,12 @@ pub fn serve_by<
     limits: Limits,
     leaving: Leaving,
     knocker: K,
+    alarm: NewAlarm,
+    watch: &mut A,
 ) -> (Served, Option<D>)
     ensures ended { IsEnd D.rows D.faults D.name keeper result.0 result.1 }
     ensures listening { ListenFaults result.0 (L.faults listener.old) (L.faults listener.new) }
+    ensures alarmed { FindsAlarm result.1 result.0 (A.found watch.old) (A.found watch.new) }
 {
     let kept = match open_kept(alloc, keeper) {
         Ok(kept) => kept,
@@ -87,7 +97,7 @@ pub fn serve_by<
     match listener.open() {
         Ok(()) => {
             let served = serve_at(
-                rt, alloc, kept, opening, listener, workers, limits, leaving, knocker,
+                rt, alloc, kept, opening, listener, workers, limits, leaving, knocker, alarm, watch,
             );
             listener.close();
             (served, None)
@@ -105,6 +115,7 @@ fn serve_at<
     D: Keeper + Send + Drop + 'static,
     L: Listens<Stream>,
     K: Attends<Alert> + Send + Drop + 'static,
+    A: Watches,
 >(
     rt: R,
     alloc: Global,
@@ -115,14 +126,17 @@ fn serve_at<
     limits: Limits,
     leaving: Leaving,
     knocker: K,
+    alarm: NewAlarm,
+    watch: &mut A,
 ) -> Served
     requires { IsNewlyKept D.rows D.settled kept }
     ensures ended { (result ≡ Served.NoMemory) ⊎ (result ≡ Served.ListenFault) ⊎ (result ≡ Served.KeeperFault) }
     ensures listening { ListenFaults result (L.faults listener.old) (L.faults listener.new) }
+    ensures alarmed { FindsAlarmAtEnd result (A.found watch.old) (A.found watch.new) }
 {
-    match engage(rt, alloc, kept, opening, workers, limits, knocker) {
+    match engage(rt, alloc, kept, opening, workers, limits, knocker, alarm) {
         Ok(mut staff) => {
-            let accepted = staff.accept_all(&rt, listener);
+            let accepted = staff.accept_all(&rt, listener, watch);
             staff.leave(&rt, leaving);
             match accepted {
                 Ok(()) => Served::KeeperFault,

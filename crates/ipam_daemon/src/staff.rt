@@ -7,11 +7,11 @@ ghost use Rattle.ipam_shared.specs.Passes.{IsNewlyKept, runs_in};
 ghost use Rattle.ipam_daemon.specs.Crews.{IsEngaged};
 ghost use Rattle.ipam_daemon.specs.Handing.{IsHandedOver, raised};
 
-use crate::alarm::{Alarm, Alert};
+use crate::alarm::{Alert, NewAlarm};
 use crate::channel::{HandingEnd, channel};
 use crate::common::Common;
 use crate::crew::{Crew, hire, start};
-use crate::handing::{Attends, hand_over};
+use crate::handing::{Attends, Watches, hand_over, hand_over_all};
 use crate::host::Host;
 use crate::opening::share;
 use crate::serves::Serves;
@@ -95,28 +95,27 @@ impl<S: Serves + Drop, C: Clock + Copy + Drop> Staff<S, C> {
         }
     }
 
-    /// Has connections served as `accept` does, until accepting fails, or a session ended since the keeper failed.
-    /// The latter shows once a connection comes, be it by who knocks.
-    pub(crate) fn accept_all<R: Wait + Log + Clock, L: Listens<Stream>>(
+    /// Has connections served as `accept` does, until accepting fails, or the watch finds that a session ended since
+    /// the keeper failed. The latter shows once a connection comes, be it by who knocks.
+    pub(crate) fn accept_all<R: Wait + Log + Clock, L: Listens<Stream>, A: Watches>(
         &mut self,
         rt: &R,
         listener: &mut L,
+        watch: &mut A,
     ) -> Result<(), Failed>
+        ensures each { IsHandedOver (L.accepted listener.old) (L.accepted listener.new)
+            self.old.to.handed self.new.to.handed self.old.own.desk.sessions self.new.own.desk.sessions }
+        ensures alarm { OnOk result (Rose (A.found watch.old) (A.found watch.new)) }
+        ensures no_alarm { OnErr result (A.found watch.new ≡ A.found watch.old) }
         ensures fault { OnErr result (Rose (L.faults listener.old) (L.faults listener.new)) }
         ensures no_fault { OnOk result (L.faults listener.new ≡ L.faults listener.old) }
     {
-        for _ in rt.forever() {
-            if self.own.is_alarmed() {
-                return Ok(());
-            }
-            self.accept(rt, listener, 1)?;
-        }
-        unreachable!()
+        hand_over_all(rt, listener, &mut self.to, &mut self.own, watch)
     }
 }
 
 /// So many workers over this opening of the cluster, or fewer where the system makes no more threads or the cluster has
-/// no more slots. One more thread, if the system makes it, knocks at each alert of theirs.
+/// no more slots. Each has a part of the alarm. One more thread, if the system makes it, knocks at each alert of theirs.
 pub fn engage<
     R: Host,
     D: Keeper + Send + Drop + 'static,
@@ -129,13 +128,16 @@ pub fn engage<
     workers: u8,
     limits: Limits,
     knocker: K,
+    alarm: NewAlarm,
 ) -> Result<Staff<Shared<D>, R>, AllocError>
     requires { IsNewlyKept D.rows D.settled kept }
     ensures engaged { IfOk result (λ staff. IsEngaged workers 0 (vec_len staff.threads) 0 staff.thread_faults staff.own.desk.pass) }
     ensures first { IfOk result (λ staff. staff.own.desk.pass.slot ≡ 0) }
 {
     let (shared, pass) = share(alloc, kept)?;
-    engage_over(rt, alloc, shared, opening, pass, workers, limits, knocker)
+    engage_over(
+        rt, alloc, shared, opening, pass, workers, limits, knocker, alarm,
+    )
 }
 
 /// The same, over what may be used by many threads.
@@ -152,6 +154,7 @@ fn engage_over<
     workers: u8,
     limits: Limits,
     knocker: K,
+    alarm: NewAlarm,
 ) -> Result<Staff<S, R>, AllocError>
     requires own { pass.lock ≡ S.id shared }
     requires first { pass.slot ≡ 0 }
@@ -159,7 +162,7 @@ fn engage_over<
     ensures engaged { IfOk result (λ staff. IsEngaged workers 0 (vec_len staff.threads) 0 staff.thread_faults staff.own.desk.pass) }
     ensures first { IfOk result (λ staff. staff.own.desk.pass.slot ≡ 0) }
 {
-    let (alarm, alerts) = Alarm::new(alloc)?;
+    let NewAlarm { alarm, alerts } = alarm;
     let common = Common::of(alloc, shared, opening, alarm)?;
     let (to, from) = channel(alloc, MOST_WAITING)?;
     let mut crew = Crew::new(&rt, alloc, &from);

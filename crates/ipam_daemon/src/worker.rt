@@ -8,6 +8,7 @@ ghost use Rattle.ipam_daemon.specs.Alarms.{IsHeeded};
 use crate::alarm::Alarm;
 use crate::asking::Asking;
 use crate::common::Common;
+use crate::connection::{Sockets, serve_connection};
 use crate::desk::Desk;
 use crate::ending::{log_end, log_refused};
 use crate::handing::Attends;
@@ -58,20 +59,19 @@ impl<S: Serves, C: Clock + Copy> Worker<S, C> {
         }
     }
 
-    /// Whether a worker raised the alarm.
-    pub(crate) fn is_alarmed(&self) -> bool {
-        self.alarm.is_raised()
-    }
-
     /// Serves a session over the connection to its end, which is logged. Exactly where it ended since the keeper
     /// failed, it raises the alarm.
     fn serve<R: Wait + Log>(&mut self, rt: &R, stream: &Stream) -> SessionEnd
         ensures counted { self.new.desk.sessions ≡ next_count self.old.desk.sessions }
         ensures heeded { IsHeeded result self.old.alarm.raises self.new.alarm.raises }
     {
-        let mut link = SocketLink::of_session(self.clock, stream, self.limits);
-        let mut gate = Asking::new(StreamPeer::new(stream));
-        let end = self.desk.serve(rt, &mut gate, &mut link);
+        let sockets = Sockets {
+            clock: self.clock,
+            limits: self.limits,
+        };
+        let (end, link, gate): (SessionEnd, SocketLink<C, &Stream>, Asking<StreamPeer<'_>>) =
+            serve_connection(rt, &mut self.desk, &sockets, stream);
+        drop(gate);
         if link.is_refused() {
             log_refused(rt);
         } else {

@@ -1,7 +1,6 @@
 //! Which case a scenario is.
 use crate::{daemon, ends, files, pages, queues, rows, serving, sessions, two, unreached};
 use ipam_daemon::Host;
-use ipam_table::wanted;
 use std::alloc::AllocError;
 use std::fs::Files;
 use std::net::{Net, TcpListener, TcpStream};
@@ -15,13 +14,7 @@ pub(crate) fn report<R: Host + Sync + Files + Net<Listener = TcpListener, Stream
 ) -> Result<String, AllocError> {
     let (title, steps) = scenario.split_once('\n').unwrap_or((scenario, ""));
     let found = told(host, rt, title, steps)?;
-    let wanted = wanted(rt.alloc(), steps)?;
-    if found.as_str() == wanted.as_str() {
-        let count = found.as_str().lines().count();
-        format!(in rt.alloc(); "{title} {count}")
-    } else {
-        format!(in rt.alloc(); "{title}\n{found}")
-    }
+    ipam_table::report(rt.alloc(), scenario, found.as_str())
 }
 
 /// What comes of the steps. The title begins with the kind of the scenario and a name, as in `session free:`.

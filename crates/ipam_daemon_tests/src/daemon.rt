@@ -3,7 +3,7 @@ use crate::alerts::Alerts;
 use crate::clients::{connected, play};
 use crate::loopback::{ANY_PORT, limits_of, listening, reached, socket_path};
 use crate::rows::{FREE, keeper_of, numbers, opening, push_line};
-use ipam_daemon::{Host, Keeper, Listens, Stream, engage, open_kept};
+use ipam_daemon::{Host, Keeper, Listens, NewAlarm, Stream, engage, open_kept};
 use log::sink::Memory;
 use log::{Level, Logged};
 use std::alloc::{AllocError, Global};
@@ -92,6 +92,7 @@ fn serve<R: Host, D: Keeper + Send + Drop + 'static, L: Listens<Stream>>(
     let Ok(kept) = open_kept(alloc, keeper) else {
         return String::from_str(alloc, "not opened\n");
     };
+    let (alarm, _watch) = NewAlarm::new(alloc)?;
     let mut staff = engage(
         host,
         alloc,
@@ -100,6 +101,7 @@ fn serve<R: Host, D: Keeper + Send + Drop + 'static, L: Listens<Stream>>(
         serving.workers,
         limits_of(serving.millis),
         Alerts::new(alloc)?,
+        alarm,
     )?;
     let log = Logged::new(host, Level::Info, Memory::new(alloc));
     let _ = staff.accept(&log, listener, serving.connections);

@@ -6,7 +6,9 @@ use crate::few::Few;
 use crate::loopback::{ANY_PORT, limits_of, listening, reached, socket_path};
 use crate::rows::{FREE, keeper_of, numbers, opening, push_line};
 use ipam_client::{Connector, Connects};
-use ipam_daemon::{Address, Host, Keeper, Leaving, Limits, SocketListener, serve, serve_by};
+use ipam_daemon::{
+    Address, Host, Keeper, Leaving, Limits, NewAlarm, SocketListener, serve, serve_by,
+};
 use std::alloc::{AllocError, Global};
 use std::fs::Files;
 use std::net::{Net, TcpListener, TcpStream};
@@ -117,6 +119,7 @@ fn told_of_few<R: Host, D: Keeper + Send + Drop + 'static>(
     let alerts = Alerts::new(alloc)?;
     let listener = SocketListener::new(rt, alloc, Address::of(address));
     let mut few = Few::new(listener, connections);
+    let (alarm, mut watch) = NewAlarm::new(alloc)?;
     let (served, _keeper) = serve_by(
         host,
         alloc,
@@ -127,6 +130,8 @@ fn told_of_few<R: Host, D: Keeper + Send + Drop + 'static>(
         limits_of(LONG),
         Leaving::Done,
         alerts.another()?,
+        alarm,
+        &mut watch,
     );
     let end = told_end(alloc, &served, 64)?;
     if steps.lines().any(|line| line == "alerts") {

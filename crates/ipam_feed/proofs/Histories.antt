@@ -11,7 +11,7 @@ use Rattle.ipam_feed.specs.declared.route.Route.{Route}
 use Rattle.ipam_feed.specs.declared.change.Change.{Change}
 use Rattle.ipam_feed.specs.Route.{routes_in}
 use Rattle.ipam_feed.specs.Change.{Leads}
-use Rattle.ipam_feed.specs.Feed.{write_revision, store_after, TakeNext, routes_at, changes_of, is_above, changes_since, revision_or}
+use Rattle.ipam_feed.specs.Feed.{write_revision, store_after_writes, TakeNext, routes_at, changes_of, is_above, changes_since, revision_or}
 use Rattle.ipam_feed.specs.Turned.{change_meant, is_change, if_change, change_of}
 use Rattle.ipam_feed.proofs.Rows.{routes-ascend}
 use Rattle.ipam_feed.proofs.Writes.{Ascend, RoutesAscend, IsChangeOf, ascend-written, counter-written, write-changes, revision-meant}
@@ -26,20 +26,20 @@ not_below_test : (m n : ℕ) → n ≤ m → nat_lt m n ≡ false
 not_below_test m n h = grind (arith, nat_tests)
 
 -- ---- the changes, one write after the other
-pub ascend-after : (base : Datastore) → Ascend base.rows → (writes : List Write) → Ascend (store_after base writes).rows
+pub ascend-after : (base : Datastore) → Ascend base.rows → (writes : List Write) → Ascend (store_after_writes base writes).rows
 ascend-after base s [] = s
-ascend-after base s (write ∷ earlier) = ascend-written (store_after base earlier) write (ascend-after base s earlier)
+ascend-after base s (write ∷ earlier) = ascend-written (store_after_writes base earlier) write (ascend-after base s earlier)
 
-routes_ascend_after : (base : Datastore) → Ascend base.rows → (writes : List Write) → RoutesAscend (routes_in (store_after base writes))
-routes_ascend_after base s writes = routes-ascend (store_after base writes).rows (ascend-after base s writes)
+routes_ascend_after : (base : Datastore) → Ascend base.rows → (writes : List Write) → RoutesAscend (routes_in (store_after_writes base writes))
+routes_ascend_after base s writes = routes-ascend (store_after_writes base writes).rows (ascend-after base s writes)
 
 -- the change of a write after others
 abbrev pub next_change : Datastore → Write → List Write → Option Change
-next_change base write earlier = change_of (routes_in (store_after base earlier)) write
+next_change base write earlier = change_of (routes_in (store_after_writes base earlier)) write
 
-pub next_change_is : (base : Datastore) → Ascend base.rows → (write : Write) (earlier : List Write) → IsChangeOf (write_revision write) (routes_in (store_after base earlier)) (routes_in (store_after base (write ∷ earlier))) (next_change base write earlier)
+pub next_change_is : (base : Datastore) → Ascend base.rows → (write : Write) (earlier : List Write) → IsChangeOf (write_revision write) (routes_in (store_after_writes base earlier)) (routes_in (store_after_writes base (write ∷ earlier))) (next_change base write earlier)
 next_change_is base s write earlier =
-    write-changes (store_after base earlier) write (ascend-after base s earlier) (routes_ascend_after base s earlier)
+    write-changes (store_after_writes base earlier) write (ascend-after base s earlier) (routes_ascend_after base s earlier)
 
 listed_option : {X : Type 0} (o : Option X) (xs : List X) → option_to_list o ++ xs ≡ cons_option o xs
 listed_option None xs = refl
@@ -88,13 +88,13 @@ in_order_with counter revision changes h are (Some c) own =
       fall = (subst (λ v. AreBy v changes) (sym is) later, are.fall);
     }
 
-pub in_order : (base : Datastore) → Ascend base.rows → (writes : List Write) → TakeNext base writes → AreInOrder (store_after base writes).counter (changes_of base writes)
+pub in_order : (base : Datastore) → Ascend base.rows → (writes : List Write) → TakeNext base writes → AreInOrder (store_after_writes base writes).counter (changes_of base writes)
 in_order base s [] next = record { by = tt; fall = tt }
 in_order base s (write ∷ earlier) next =
-    let counter = counter-written (store_after base earlier) write in
-    let le : (store_after base earlier).counter ≤ write_revision write = let e = next.0 in omega arith in
-    let are = in_order_with (store_after base earlier).counter (write_revision write) (changes_of base earlier) le (in_order base s earlier next.1) (next_change base write earlier) (revision-change_of (routes_in (store_after base earlier)) write) in
-    let P : List Change → Type 0 = λ cs. AreInOrder (store_after base (write ∷ earlier)).counter cs in
+    let counter = counter-written (store_after_writes base earlier) write in
+    let le : (store_after_writes base earlier).counter ≤ write_revision write = let e = next.0 in omega arith in
+    let are = in_order_with (store_after_writes base earlier).counter (write_revision write) (changes_of base earlier) le (in_order base s earlier next.1) (next_change base write earlier) (revision-change_of (routes_in (store_after_writes base earlier)) write) in
+    let P : List Change → Type 0 = λ cs. AreInOrder (store_after_writes base (write ∷ earlier)).counter cs in
     subst P (sym (changes-step base s write earlier)) (subst (λ v. AreInOrder v (cons_option (next_change base write earlier) (changes_of base earlier))) (sym counter) are)
 
 -- ---- the changes above a revision
@@ -145,15 +145,15 @@ since_with revision (Some c) changes own =
     ap (λ b. reverse (cond b (c ∷ filter (is_above revision) changes) (filter (is_above revision) changes))) (below_test revision c.revision (own c refl))
     ∙ reverse_with c (filter (is_above revision) changes)
 
-pub leads_since : (base : Datastore) → Ascend base.rows → (writes : List Write) → TakeNext base writes → (revision : ℕ) → Leads (routes_at base writes revision) (changes_since base writes revision) (routes_in (store_after base writes))
+pub leads_since : (base : Datastore) → Ascend base.rows → (writes : List Write) → TakeNext base writes → (revision : ℕ) → Leads (routes_at base writes revision) (changes_since base writes revision) (routes_in (store_after_writes base writes))
 leads_since base s [] next revision = refl
 leads_since base s (write ∷ earlier) next revision = by_test (nat_le (write_revision write) revision) refl (leads_since base s earlier next.1 revision)
   where
     now : List Route
-    now = routes_in (store_after base (write ∷ earlier))
+    now = routes_in (store_after_writes base (write ∷ earlier))
 
-    counter : (store_after base (write ∷ earlier)).counter ≡ write_revision write
-    counter = counter-written (store_after base earlier) write
+    counter : (store_after_writes base (write ∷ earlier)).counter ≡ write_revision write
+    counter = counter-written (store_after_writes base earlier) write
 
     low : nat_le (write_revision write) revision ≡ true → write_revision write ≤ revision
     low e = grind (arith, nat_tests)
@@ -161,18 +161,18 @@ leads_since base s (write ∷ earlier) next revision = by_test (nat_le (write_re
     high : nat_le (write_revision write) revision ≡ false → revision < write_revision write
     high e = grind (arith, nat_tests)
 
-    by_test : (b : Bool) → nat_le (write_revision write) revision ≡ b → Leads (routes_at base earlier revision) (changes_since base earlier revision) (routes_in (store_after base earlier)) → Leads (cond b now (routes_at base earlier revision)) (changes_since base (write ∷ earlier) revision) now
+    by_test : (b : Bool) → nat_le (write_revision write) revision ≡ b → Leads (routes_at base earlier revision) (changes_since base earlier revision) (routes_in (store_after_writes base earlier)) → Leads (cond b now (routes_at base earlier revision)) (changes_since base (write ∷ earlier) revision) now
     by_test true h leads =
         let le = low h in
-        let by = by_later (store_after base (write ∷ earlier)).counter revision (omega (arith, counter)) (changes_of base (write ∷ earlier)) (in_order base s (write ∷ earlier) next).by in
+        let by = by_later (store_after_writes base (write ∷ earlier)).counter revision (omega (arith, counter)) (changes_of base (write ∷ earlier)) (in_order base s (write ∷ earlier) next).by in
         let none : changes_since base (write ∷ earlier) revision ≡ [] = ap reverse (none_above revision (changes_of base (write ∷ earlier)) by) in
         subst (λ cs. Leads now cs now) (sym none) refl
     by_test false h leads =
         let lt = high h in
         let own : (c : Change) → next_change base write earlier ≡ Some c → revision < c.revision =
-        λ c e. let is = revision-change_of (routes_in (store_after base earlier)) write c e in omega arith in
+        λ c e. let is = revision-change_of (routes_in (store_after_writes base earlier)) write c e in omega arith in
         let split : changes_since base (write ∷ earlier) revision ≡ changes_since base earlier revision ++ option_to_list (next_change base write earlier) =
         ap (λ cs. reverse (filter (is_above revision) cs)) (changes-step base s write earlier)
         ∙ since_with revision (next_change base write earlier) (changes_of base earlier) own in
         subst (λ cs. Leads (routes_at base earlier revision) cs now) (sym split)
-        (leads_on (routes_at base earlier revision) (routes_in (store_after base earlier)) now (changes_since base earlier revision) (option_to_list (next_change base write earlier)) leads (next_change_is base s write earlier).leads)
+        (leads_on (routes_at base earlier revision) (routes_in (store_after_writes base earlier)) now (changes_since base earlier revision) (option_to_list (next_change base write earlier)) leads (next_change_is base s write earlier).leads)

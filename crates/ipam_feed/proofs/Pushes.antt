@@ -14,7 +14,7 @@ use Rattle.ipam_records.proofs.RowWrites.{sorted-filter}
 use Rattle.ipam_feed.specs.declared.route.Route.{Route}
 use Rattle.ipam_feed.specs.declared.change.Change.{Change}
 use Rattle.ipam_feed.specs.Route.{routes_of}
-use Rattle.ipam_feed.specs.Feed.{write_revision, store_after, changes_of, changes_since, is_above, revision_or, floor_of, most_changes}
+use Rattle.ipam_feed.specs.Feed.{write_revision, store_after_writes, changes_of, changes_since, is_above, revision_or, floor_of, most_changes}
 use Rattle.ipam_feed.specs.Shape.{RingValue}
 use Rattle.ipam_feed.specs.Turned.{change_of, turned, turned_by, IsPreparedFor}
 use Rattle.ipam_feed.specs.Follows.{Follows}
@@ -85,7 +85,7 @@ Follows-pushed old new write base writes follows prepared pushed =
       routes = pushed.routes ∙ ((λ i. turned_by (same i) (follows.routes i)) ∙ sym (next_change_is base follows.ascending write writes).after_is);
       changes = pushed.changes ∙ ((λ i. kept_with 1023 (same i) (follows.changes i)) ∙ (kept_step 1023 change (changes_of base writes) ∙ sym (ap (take most_changes) step)));
       floor = pushed.floor ∙ ((λ i. floor_with 1023 (same i) (follows.changes i) (follows.floor i)) ∙ (floor_step 1023 base.counter change (changes_of base writes) ∙ sym (ap (floor_of base.counter) step)));
-      counter = pushed.counter ∙ sym (counter-written (store_after base writes) write);
+      counter = pushed.counter ∙ sym (counter-written (store_after_writes base writes) write);
     }
 
 -- ---- what is kept is kept

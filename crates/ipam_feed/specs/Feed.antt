@@ -14,26 +14,26 @@ write_revision (Put revision new) = revision
 write_revision (Remove revision key) = revision
 
 -- what the writes make of the datastore
-abbrev pub store_after : Datastore → List Write → Datastore
-store_after base [] = base
-store_after base (write ∷ earlier) = written (store_after base earlier) write
+abbrev pub store_after_writes : Datastore → List Write → Datastore
+store_after_writes base [] = base
+store_after_writes base (write ∷ earlier) = written (store_after_writes base earlier) write
 
 -- each write takes the next revision
 abbrev pub TakeNext : Datastore → List Write → Type 0
 TakeNext base [] = Unit {0}
-TakeNext base (write ∷ earlier) = (write_revision write ≡ (store_after base earlier).counter + 1) × TakeNext base earlier
+TakeNext base (write ∷ earlier) = (write_revision write ≡ (store_after_writes base earlier).counter + 1) × TakeNext base earlier
 
 -- the routes at a revision: after the last of the writes that have this one or a lower one
 abbrev pub routes_at : Datastore → List Write → (revision : ℕ) → List Route
 routes_at base [] revision = routes_in base
 routes_at base (write ∷ earlier) revision =
-    if nat_le (write_revision write) revision then routes_in (store_after base (write ∷ earlier)) else routes_at base earlier revision
+    if nat_le (write_revision write) revision then routes_in (store_after_writes base (write ∷ earlier)) else routes_at base earlier revision
 
 -- the changes of the writes, the newest first
 abbrev pub changes_of : Datastore → List Write → List Change
 changes_of base [] = []
 changes_of base (write ∷ earlier) =
-    differences (write_revision write) (routes_in (store_after base earlier)) (routes_in (written (store_after base earlier) write))
+    differences (write_revision write) (routes_in (store_after_writes base earlier)) (routes_in (written (store_after_writes base earlier) write))
     ++ changes_of base earlier
 
 abbrev pub is_above : (revision : ℕ) → Change → Bool

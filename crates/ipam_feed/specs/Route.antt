@@ -4,17 +4,12 @@ use Rattle.std.specs.declared.cmp.Ordering.{Ordering}
 use Rattle.std.specs.Ordering.{nat_cmp, ordering_then, is_eq}
 use Rattle.std.specs.Cmp.Lexicographic.{slice_cmp}
 use Rattle.std.specs.List.{filter_map, list_any}
-use Rattle.ipam_affinity.specs.declared.state.State.{State}
-use Rattle.ipam_affinity.specs.declared.state.State.TheVariants.{Confirmed}
+pub use Rattle.ipam_affinity.specs.State.{is_confirmed}
 use Rattle.ipam_handle.specs.Order.{cidr_cmp}
 use Rattle.ipam_records.specs.declared.record.Record.{Record}
 use Rattle.ipam_records.specs.declared.record.Record.TheVariants as record_of
 use Rattle.ipam_records.specs.Datastore.{Datastore}
 use Rattle.ipam_feed.specs.declared.route.Route.{Route}
-
-abbrev pub is_confirmed : State → Bool
-is_confirmed Confirmed = true
-is_confirmed _ = false
 
 -- the route of a record: a confirmed affinity's node and block
 abbrev pub route_of : Record → Option Route

@@ -58,7 +58,7 @@ impl Ring {
     ghost use Rattle.ipam_records.specs.Sound.{IsDatastore};
     ghost use Rattle.ipam_feed.specs.Route.{routes_in, route_cmp};
     ghost use Rattle.ipam_feed.specs.Change.{Leads};
-    ghost use Rattle.ipam_feed.specs.Feed.{store_after, routes_at, changes_since, write_revision};
+    ghost use Rattle.ipam_feed.specs.Feed.{store_after_writes, routes_at, changes_since, write_revision};
     ghost use Rattle.ipam_feed.specs.Turned.{IsPreparedFor};
     ghost use Rattle.ipam_feed.specs.Follows.{Follows};
 
@@ -112,7 +112,7 @@ impl Ring {
     /// The routes now, by node, then by family, base and prefix.
     pub fn snapshot(&self) -> Result<Vec<Route>, AllocError>
         ensures routes { IfOk result (λ found. (base : Datastore) (writes : List Write)
-            → Follows self.now base writes → found.items ≡ routes_in (store_after base writes)) }
+            → Follows self.now base writes → found.items ≡ routes_in (store_after_writes base writes)) }
         ensures ascending { IfOk result (λ found. IsStrictlySortedBy route_cmp found.items) }
     {
         self.routes.clone()
@@ -124,7 +124,7 @@ impl Ring {
             → Follows self.now base writes → found.items ≡ changes_since base writes revision) }
         ensures leads { IfOk result (λ found. (base : Datastore) (writes : List Write)
             → Follows self.now base writes
-            → Leads (routes_at base writes revision) found.items (routes_in (store_after base writes))) }
+            → Leads (routes_at base writes revision) found.items (routes_in (store_after_writes base writes))) }
         ensures compacted { (floor : ℕ) → (result ≡ Err (SinceFault.Compacted floor))
             ↔ ((revision < self.now.floor) × (floor ≡ self.now.floor)) }
         ensures ahead { (counter : ℕ) → (result ≡ Err (SinceFault.Ahead counter))
@@ -149,7 +149,7 @@ impl Ring {
             → Follows self.now base writes → found.items ≡ changes_since base writes revision) }
         ensures leads { IfOk result (λ found. (base : Datastore) (writes : List Write)
             → Follows self.now base writes
-            → Leads (routes_at base writes revision) found.items (routes_in (store_after base writes))) }
+            → Leads (routes_at base writes revision) found.items (routes_in (store_after_writes base writes))) }
     {
         let mut found = newest(*self.routes.allocator(), &self.changes, revision)?;
         found.reverse();

@@ -37,7 +37,7 @@ adds-turned old mid new slot prepared made same unchanged is adds = record {
 
 -- ---- entries count
 
-after-counts : (one : model.Cluster) (new : Entry) → (after one new).entries ≡ one.entries + 1
+after-counts : (one : model.ClusterState) (new : Entry) → (after one new).entries ≡ one.entries + 1
 unfolding after
 after-counts one (entry.Began slot request) = refl
 after-counts one (entry.Fed slot at live) = refl

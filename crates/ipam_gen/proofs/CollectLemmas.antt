@@ -8,7 +8,7 @@ use Rattle.ipam_model.specs.declared.request.Request.{Request}
 use Rattle.ipam_model.specs.declared.request.Request.TheVariants.{Collect}
 use Rattle.ipam_model.specs.Course.{Event, Begin, Feed, Turn}
 use Rattle.ipam_model.specs.CourseLaw.{event_of}
-use Rattle.ipam_cluster.specs.Cluster.{slot_of}
+use Rattle.ipam_cluster.specs.Cluster.{slot_of_cluster}
 use Rattle.ipam_gen.specs.declared.counted.Counted.{Counted}
 use Rattle.ipam_gen.specs.Counted.{AllRun, Goes, Happens, HappensAs, HasCollected, IsAtOnce, IsCounted, IsNoCollection, IsSomewhere, IsStart, Turns}
 use Rattle.ipam_gen.specs.Generated.{Collects, ListFed, NothingCollected, TurnTaken}
@@ -80,7 +80,7 @@ starts old new count before (made, happens) counted plain = record {
 }
 
 pub has-collected : (old mid new : Counted) (count : ℕ) (live : List (List ℕ)) (freed : ℕ) → live ≡ live_below count
-    → Happens old mid (Begin 0 (Collect (collection count))) → Goes mid new live freed → slot_of new.cluster 0 ≡ None
+    → Happens old mid (Begin 0 (Collect (collection count))) → Goes mid new live freed → slot_of_cluster new.cluster 0 ≡ None
     → (before : List Entry) → IsCounted old before → AllRun IsNoCollection before → HasCollected new count before freed
 has-collected old mid new count live freed is (made, happens) goes idle before counted plain =
     let at = goes (made ∷ before) (starts old mid count before (made, happens) counted plain) in

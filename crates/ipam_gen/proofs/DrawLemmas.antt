@@ -9,7 +9,7 @@ use Rattle.ipam_records.specs.Word.{waits}
 use Rattle.ipam_running.specs.Running.{running_rest}
 use Rattle.ipam_running.specs.declared.running.Running.{Running}
 use Rattle.ipam_cluster.specs.declared.cluster.Cluster.{Cluster}
-use Rattle.ipam_cluster.specs.Cluster.{IsSlot, StandsFor, slot_of, state_in}
+use Rattle.ipam_cluster.specs.Cluster.{IsSlot, StandsFor, slot_of_cluster, state_in}
 use Rattle.ipam_cluster.proofs.Adding.{none_there}
 use Rattle.ipam_cluster.proofs.Waiting.{not-idle}
 use Rattle.ipam_gen.specs.declared.counted.Counted.{Counted}
@@ -23,21 +23,21 @@ use Rattle.ipam_gen.proofs.RunLemmas.{begin-runs, never-waits, none-run, turn-ru
 
 -- ---- slots of both
 
-pub idle-there : (counted : Counted) (history : List Entry) (slot : ℕ) → IsCounted counted history → slot_of counted.cluster slot ≡ None → slot_at history slot ≡ None
-idle-there counted history slot h idle = none_there (slot_of counted.cluster slot) (slot_at history slot) (h.stands.is_cluster.slots slot) idle
+pub idle-there : (counted : Counted) (history : List Entry) (slot : ℕ) → IsCounted counted history → slot_of_cluster counted.cluster slot ≡ None → slot_at history slot ≡ None
+idle-there counted history slot h idle = none_there (slot_of_cluster counted.cluster slot) (slot_at history slot) (h.stands.is_cluster.slots slot) idle
 
 pub idle-state : (held : Option Running) → state_in held ≡ state.Idle → held ≡ None
 idle-state None is = refl
 idle-state (Some running) is = absurd (not-idle (waits (running_rest running)) is)
 
-running-in : (held : Option Running) (one : Option model.Running) → IsSlot held one → state_in held ≡ state.Running → (running : model.Running) × (one ≡ Some running)
+running-in : (held : Option Running) (one : Option model.RunningRequest) → IsSlot held one → state_in held ≡ state.Running → (running : model.RunningRequest) × (one ≡ Some running)
 running-in None one is runs = absurd (cc runs)
 running-in (Some running) None is runs = absurd is
 running-in (Some running) (Some one) is runs = (one, refl)
 
-running-there : (counted : Counted) (history : List Entry) (slot : ℕ) → IsCounted counted history → state_in (slot_of counted.cluster slot) ≡ state.Running
-    → (running : model.Running) × (slot_at history slot ≡ Some running)
-running-there counted history slot h runs = running-in (slot_of counted.cluster slot) (slot_at history slot) (h.stands.is_cluster.slots slot) runs
+running-there : (counted : Counted) (history : List Entry) (slot : ℕ) → IsCounted counted history → state_in (slot_of_cluster counted.cluster slot) ≡ state.Running
+    → (running : model.RunningRequest) × (slot_at history slot ≡ Some running)
+running-there counted history slot h runs = running-in (slot_of_cluster counted.cluster slot) (slot_at history slot) (h.stands.is_cluster.slots slot) runs
 
 -- ---- the draws
 
@@ -49,14 +49,14 @@ drawing-first counted count x first h =
 pub drawing-somewhere : (counted : Counted) (x begun : ℕ) → ((count : ℕ) × IsDrawing count counted x begun) → IsSomewhere counted
 drawing-somewhere counted x begun (count, d) = (d.history, d.is_counted)
 
-pub drawing-never-waits : (counted : Counted) (x begun slot : ℕ) → ((count : ℕ) × IsDrawing count counted x begun) → ¬ (state_in (slot_of counted.cluster slot) ≡ state.Waiting)
+pub drawing-never-waits : (counted : Counted) (x begun slot : ℕ) → ((count : ℕ) × IsDrawing count counted x begun) → ¬ (state_in (slot_of_cluster counted.cluster slot) ≡ state.Waiting)
 drawing-never-waits counted x begun slot (count, d) = never-waits counted.cluster d.history slot d.is_counted.stands d.plain
 
 pub drawn-turn : (old new : Counted) (count x y begun slot : ℕ) (made : Entry) → slot ≡ slot_drawn x → y ≡ next_state x → begun < count → IsDrawing count old x begun
-    → state_in (slot_of old.cluster slot) ≡ state.Running → HappensAs old new (Turn slot Well) made → IsDrawing count new y begun
+    → state_in (slot_of_cluster old.cluster slot) ≡ state.Running → HappensAs old new (Turn slot Well) made → IsDrawing count new y begun
 drawn-turn old new count x y begun slot made same next less d runs happens =
     let own = subst (λ s. HappensAs old new (Turn s Well) made) same happens in
-    let (running, is) = running-there old d.history (slot_drawn x) d.is_counted (subst (λ s. state_in (slot_of old.cluster s) ≡ state.Running) same runs) in
+    let (running, is) = running-there old d.history (slot_drawn x) d.is_counted (subst (λ s. state_in (slot_of_cluster old.cluster s) ≡ state.Running) same runs) in
     subst (λ n. IsDrawing count new n begun) (sym next)
     (record {
       history = made ∷ d.history;
@@ -66,11 +66,11 @@ drawn-turn old new count x y begun slot made same next less d runs happens =
     })
 
 pub drawn-request : (old new : Counted) (count x y z begun slot : ℕ) → slot ≡ slot_drawn x → y ≡ next_state x → z ≡ next_state y → begun < count → IsDrawing count old x begun
-    → slot_of old.cluster slot ≡ None → Happens old new (Begin slot (request_of begun y)) → IsDrawing count new z (begun + 1)
+    → slot_of_cluster old.cluster slot ≡ None → Happens old new (Begin slot (request_of begun y)) → IsDrawing count new z (begun + 1)
 drawn-request old new count x y z begun slot same next last less d idle (made, happens) =
     let here = subst (λ s. HappensAs old new (Begin s (request_of begun y)) made) same happens in
     let own = subst (λ n. HappensAs old new (Begin (slot_drawn x) (request_of begun n)) made) next here in
-    let none = idle-there old d.history (slot_drawn x) d.is_counted (subst (λ s. slot_of old.cluster s ≡ None) same idle) in
+    let none = idle-there old d.history (slot_drawn x) d.is_counted (subst (λ s. slot_of_cluster old.cluster s ≡ None) same idle) in
     subst (λ n. IsDrawing count new n (begun + 1)) (sym (last ∙ ap next_state next))
     (record {
       history = made ∷ d.history;

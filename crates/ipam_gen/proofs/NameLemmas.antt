@@ -18,7 +18,7 @@ use Rattle.ipam_model.specs.declared.request.Request.TheVariants.{Del}
 use Rattle.ipam_model.specs.SoundRequest.{IsLabel, IsPoolName, IsSoundRequest}
 use Rattle.ipam_gen.specs.Counted.{IsNoCollection}
 use Rattle.ipam_gen.specs.Draws.{draw, next_state}
-use Rattle.ipam_gen.specs.Requests.{add_of, handle_of, node_of, live_below, even_handle, request_of}
+use Rattle.ipam_gen.specs.Requests.{generated_add, generated_handle, node_of, live_below, even_handle, request_of}
 
 digit-named : (d : ℕ) → 48 ≤ d → d ≤ 57 → is_name_byte d ≡ true
 digit-named d low high = grind (arith, nat_tests)
@@ -32,7 +32,7 @@ digits-named (d ∷ ds) h =
     let at = digit_at (d ∷ ds) 0 h (omega arith) in
     both (is_name_byte d) (list_all is_name_byte ds) (digit-named d at.0 at.1) (digits-named ds h.1)
 
-pub sound_handle : (n : ℕ) → n < 2 ^ 64 → IsHandleId (handle_of n)
+pub sound_handle : (n : ℕ) → n < 2 ^ 64 → IsHandleId (generated_handle n)
 sound_handle n small =
     let h = decimal_is_IsNumeral n small in
     let named = digits-named (decimal n) h.0.1 in
@@ -61,8 +61,8 @@ none-sound = All-nil IsHandleId
 one-sound : (id : List ℕ) → IsHandleId id → All IsHandleId (id ∷ [])
 one-sound id h = grind (arith, common_steps)
 
-even-sound : (n : ℕ) → n < 2 ^ 64 → (b : Bool) → All IsHandleId (if b then handle_of n ∷ [] else [])
-even-sound n small true = one-sound (handle_of n) (sound_handle n small)
+even-sound : (n : ℕ) → n < 2 ^ 64 → (b : Bool) → All IsHandleId (if b then generated_handle n ∷ [] else [])
+even-sound n small true = one-sound (generated_handle n) (sound_handle n small)
 even-sound n small false = none-sound
 
 pub sound_live : (n : ℕ) → n < 2 ^ 64 → All IsHandleId (live_below n)
@@ -79,8 +79,8 @@ pub ruleset live_lemmas = (live-more, live-none, sound_live)
 nothing-each : {X : Type 0} (P : X → Type 0) → All P []
 nothing-each P = All-nil P
 
-sound-add : (handle node : ℕ) → handle < 2 ^ 64 → node < 4 → IsSoundRequest (add_of handle node)
-unfolding add_of IsStrictlySortedBy
+sound-add : (handle node : ℕ) → handle < 2 ^ 64 → node < 4 → IsSoundRequest (generated_add handle node)
+unfolding generated_add IsStrictlySortedBy
 sound-add handle node small few = (
   record {
     node = sound_node node few;
@@ -100,7 +100,7 @@ pub sound_request : (number x : ℕ) → number < 2 ^ 32 → IsSoundRequest (req
 unfolding request_of
 sound_request number x small = by (number % 4 == 3) refl
   where
-    by : (b : Bool) → number % 4 == 3 ≡ b → IsSoundRequest (if b then Del (handle_of (draw number x)) else add_of number (draw 4 x))
+    by : (b : Bool) → number % 4 == 3 ≡ b → IsSoundRequest (if b then Del (generated_handle (draw number x)) else generated_add number (draw 4 x))
     by true is =
         let third : number % 4 ≡ 3 = eqb-true (number % 4) 3 is in
         let some : 0 < number = omega arith in
@@ -109,9 +109,9 @@ sound_request number x small = by (number % 4 == 3) refl
     by false is = sound-add number (draw 4 x) (omega arith) (drawn-below 4 x (lit< tt))
 
 pub plain-request : (number x : ℕ) → IsNoCollection (request_of number x)
-unfolding request_of add_of
+unfolding request_of generated_add
 plain-request number x = by (number % 4 == 3)
   where
-    by : (b : Bool) → IsNoCollection (if b then Del (handle_of (draw number x)) else add_of number (draw 4 x))
+    by : (b : Bool) → IsNoCollection (if b then Del (generated_handle (draw number x)) else generated_add number (draw 4 x))
     by true = tt
     by false = tt

@@ -23,7 +23,7 @@ use Rattle.ipam_running.specs.Running.{running_rest, running_grace, grace_of}
 use Rattle.ipam_running.proofs.StillLemmas.{waits_with}
 use Rattle.ipam_cluster.specs.declared.cluster.Cluster.{Cluster}
 use Rattle.ipam_cluster.proofs.Waiting.{asks-times, is-waiting}
-use Rattle.ipam_cluster.specs.Cluster.{IsSlot, StandsFor, WaitsWith, grace_in, slot_of, state_in}
+use Rattle.ipam_cluster.specs.Cluster.{IsSlot, StandsFor, WaitsWith, grace_in, slot_of_cluster, state_in}
 use Rattle.ipam_gen.specs.Counted.{AllRun, IfRuns, IsAtOnce, IsNoCollection}
 use Rattle.ipam_gen.specs.Generated.{slot_at}
 use Rattle.ipam_gen.specs.Requests.{base}
@@ -36,20 +36,20 @@ Allows Holds (Begin slot request) = Holds request
 Allows Holds _ = Unit {0}
 
 module _ (Holds : Request → Type 0) where
-  put : (slot : ℕ) (one : Option model.Running) (slots : model.Slots) → IfRuns Holds one → ((k : ℕ) → IfRuns Holds (slots k))
+  put : (slot : ℕ) (one : Option model.RunningRequest) (slots : model.Slots) → IfRuns Holds one → ((k : ℕ) → IfRuns Holds (slots k))
       → (k : ℕ) → IfRuns Holds (with_slot slot one slots k)
   put slot one slots own all k = elim (k == slot) as (λ b. IfRuns Holds (if b then one else slots k)) [ true ↦ own | false ↦ all k ]
 
-  answered : (store : Datastore) (moment : ℕ) (told : Option Answer) (one : Option model.Running) → IfRuns Holds one → IfRuns Holds (goes_on store moment told one)
+  answered : (store : Datastore) (moment : ℕ) (told : Option Answer) (one : Option model.RunningRequest) → IfRuns Holds one → IfRuns Holds (goes_on store moment told one)
   answered store moment (Some told) one h = tt
   answered store moment None None h = tt
   answered store moment None (Some running) h = h
 
-  fed-list : (live : List (List ℕ)) (one : Option model.Running) → IfRuns Holds one → IfRuns Holds (run_after_feed live one)
+  fed-list : (live : List (List ℕ)) (one : Option model.RunningRequest) → IfRuns Holds one → IfRuns Holds (run_after_feed live one)
   fed-list live None h = tt
   fed-list live (Some running) h = h
 
-  runs-after : (cluster : model.Cluster) (made : Entry) → ((k : ℕ) → IfRuns Holds (cluster.slots k)) → Allows Holds (event_of made)
+  runs-after : (cluster : model.ClusterState) (made : Entry) → ((k : ℕ) → IfRuns Holds (cluster.slots k)) → Allows Holds (event_of made)
       → (k : ℕ) → IfRuns Holds ((after cluster made).slots k)
   unfolding after
   runs-after cluster (entry.Began slot request) all own = put slot (Some (record { request = request; word = word_of request })) cluster.slots own all
@@ -92,21 +92,21 @@ plain-at-once (Probe probe) h = tt
 pub all-at-once : (history : List Entry) → AllRun IsNoCollection history → AllRun IsAtOnce history
 all-at-once history all slot = by (slot_at history slot) (all slot)
   where
-    by : (one : Option model.Running) → IfRuns IsNoCollection one → IfRuns IsAtOnce one
+    by : (one : Option model.RunningRequest) → IfRuns IsNoCollection one → IfRuns IsAtOnce one
     by None h = tt
     by (Some running) h = plain-at-once running.request h
 
 -- ---- what waits
 
 -- a collection waits there
-record Waits (held : Option Running) (one : Option model.Running) : Type 0 where
-  running : model.Running
+record Waits (held : Option Running) (one : Option model.RunningRequest) : Type 0 where
+  running : model.RunningRequest
   runs : one ≡ Some running
   collect : CollectRequest
   is : running.request ≡ Collect collect
   times : grace_in held ≡ Some (grace_asked collect)
 
-found : (held : Option Running) (one : Option model.Running) → IsSlot held one → state_in held ≡ state.Waiting → Waits held one
+found : (held : Option Running) (one : Option model.RunningRequest) → IsSlot held one → state_in held ≡ state.Waiting → Waits held one
 found None one is waiting = absurd (cc waiting)
 found (Some running) None is waiting = absurd is
 found (Some running) (Some one) is waiting =
@@ -120,24 +120,24 @@ found (Some running) (Some one) is waiting =
       times = is.grace ∙ ap grace_of same;
     }
 
-there : (cluster : Cluster) (history : List Entry) (slot : ℕ) → StandsFor cluster base history → state_in (slot_of cluster slot) ≡ state.Waiting
-    → Waits (slot_of cluster slot) (slot_at history slot)
-there cluster history slot stands waiting = found (slot_of cluster slot) (slot_at history slot) (stands.is_cluster.slots slot) waiting
+there : (cluster : Cluster) (history : List Entry) (slot : ℕ) → StandsFor cluster base history → state_in (slot_of_cluster cluster slot) ≡ state.Waiting
+    → Waits (slot_of_cluster cluster slot) (slot_at history slot)
+there cluster history slot stands waiting = found (slot_of_cluster cluster slot) (slot_at history slot) (stands.is_cluster.slots slot) waiting
 
 -- where no collection runs, nothing waits
 pub never-waits : (cluster : Cluster) (history : List Entry) (slot : ℕ) → StandsFor cluster base history → AllRun IsNoCollection history
-    → ¬ (state_in (slot_of cluster slot) ≡ state.Waiting)
+    → ¬ (state_in (slot_of_cluster cluster slot) ≡ state.Waiting)
 never-waits cluster history slot stands all waiting =
     let at = there cluster history slot stands waiting in
-    let own = subst (λ (one : Option model.Running). IfRuns IsNoCollection one) at.runs (all slot) in
+    let own = subst (λ (one : Option model.RunningRequest). IfRuns IsNoCollection one) at.runs (all slot) in
     subst (λ (r : Request). IsNoCollection r) at.is own
 
 -- what waits, waits without a grace
 pub waits-at-once : (cluster : Cluster) (history : List Entry) (slot : ℕ) → StandsFor cluster base history → AllRun IsAtOnce history
-    → state_in (slot_of cluster slot) ≡ state.Waiting → WaitsWith (slot_of cluster slot) (record { at = 0; grace = 0 })
+    → state_in (slot_of_cluster cluster slot) ≡ state.Waiting → WaitsWith (slot_of_cluster cluster slot) (record { at = 0; grace = 0 })
 waits-at-once cluster history slot stands all waiting =
     let at = there cluster history slot stands waiting in
-    let own = subst (λ (one : Option model.Running). IfRuns IsAtOnce one) at.runs (all slot) in
+    let own = subst (λ (one : Option model.RunningRequest). IfRuns IsAtOnce one) at.runs (all slot) in
     let zero = subst (λ (r : Request). IsAtOnce r) at.is own in
     (waiting, at.times ∙ times at.collect zero)
   where

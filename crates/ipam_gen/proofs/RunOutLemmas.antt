@@ -5,7 +5,7 @@ use Rattle.ipam_model.specs.declared.entry.Entry.{Entry}
 use Rattle.ipam_model.specs.declared.entry.Fate.TheVariants.{Well}
 use Rattle.ipam_model.specs.declared.entry.SlotState.TheVariants as state
 use Rattle.ipam_model.specs.Course.{Turn}
-use Rattle.ipam_cluster.specs.Cluster.{slot_of, state_in}
+use Rattle.ipam_cluster.specs.Cluster.{slot_of_cluster, state_in}
 use Rattle.ipam_gen.specs.declared.counted.Counted.{Counted}
 use Rattle.ipam_gen.specs.Counted.{AllRun, HappensAs, IsCounted, IsNoCollection, IsPlain, IsSomewhere, Leads}
 use Rattle.ipam_gen.specs.Generated.{AreRunOut, NoSlot, NoTurn, OneSlot, OneTurn, RunsOut, TakesTurns}
@@ -22,7 +22,7 @@ plain-any counted Holds at = record { history = at.history; is_counted = at.is_c
 pub led : (old new : Counted) (Holds : List Entry → List Entry → Type 0) → IsPlain old (λ history. Unit {0}) → Leads old new Holds → IsPlain new (λ history. Unit {0})
 led old new Holds at leads = plain-any new (Holds at.history) (leads at.history at.is_counted at.plain)
 
-pub plain-never-waits : (counted : Counted) (slot : ℕ) → IsPlain counted (λ history. Unit {0}) → ¬ (state_in (slot_of counted.cluster slot) ≡ state.Waiting)
+pub plain-never-waits : (counted : Counted) (slot : ℕ) → IsPlain counted (λ history. Unit {0}) → ¬ (state_in (slot_of_cluster counted.cluster slot) ≡ state.Waiting)
 plain-never-waits counted slot at = never-waits counted.cluster at.history slot at.is_counted.stands at.plain
 
 -- ---- one slot
@@ -40,7 +40,7 @@ one-turn old mid new slot made leads happens before h plain =
       holds = OneTurn at.history made at.holds (makes mid new (Turn slot Well) made at.history happens at.is_counted);
     }
 
-pub ran-out : (old new : Counted) (slot : ℕ) → slot_of new.cluster slot ≡ None → Leads old new (TakesTurns slot) → Leads old new (RunsOut slot)
+pub ran-out : (old new : Counted) (slot : ℕ) → slot_of_cluster new.cluster slot ≡ None → Leads old new (TakesTurns slot) → Leads old new (RunsOut slot)
 ran-out old new slot idle leads before h plain =
     let at = leads before h plain in
     record {
@@ -66,15 +66,15 @@ one-slot old mid new slot leads more before h plain =
       holds = OneSlot slot at.history then.history at.holds then.holds;
     }
 
-pub idle-more : (old new : Counted) (slot : ℕ) → ((other : ℕ) → other < slot → slot_of old.cluster other ≡ None) → slot_of new.cluster slot ≡ None
-    → ((other : ℕ) → ¬ (other ≡ slot) → slot_of new.cluster other ≡ slot_of old.cluster other) → (other : ℕ) → other < slot + 1 → slot_of new.cluster other ≡ None
+pub idle-more : (old new : Counted) (slot : ℕ) → ((other : ℕ) → other < slot → slot_of_cluster old.cluster other ≡ None) → slot_of_cluster new.cluster slot ≡ None
+    → ((other : ℕ) → ¬ (other ≡ slot) → slot_of_cluster new.cluster other ≡ slot_of_cluster old.cluster other) → (other : ℕ) → other < slot + 1 → slot_of_cluster new.cluster other ≡ None
 idle-more old new slot idle own others other less = from (cases_Bool (nat_lt other slot))
   where
-    from : (nat_lt other slot ≡ true) ⊎ (nat_lt other slot ≡ false) → slot_of new.cluster other ≡ None
+    from : (nat_lt other slot ≡ true) ⊎ (nat_lt other slot ≡ false) → slot_of_cluster new.cluster other ≡ None
     from (inl below) =
         let under : other < slot = ltb-true other slot below in
         others other (λ e. absurd (omega arith)) ∙ idle other under
     from (inr not) =
         let over = ltb-false other slot not in
         let same : other ≡ slot = omega arith in
-        subst (λ n. slot_of new.cluster n ≡ None) (sym same) own
+        subst (λ n. slot_of_cluster new.cluster n ≡ None) (sym same) own

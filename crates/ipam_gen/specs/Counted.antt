@@ -4,14 +4,14 @@ use Rattle.ipam_records.specs.declared.call.Row.{Row as RowText}
 use Rattle.ipam_model.specs.declared.entry.Entry.{Entry}
 use Rattle.ipam_model.specs.declared.request.Request.{Request}
 use Rattle.ipam_model.specs.declared.request.Request.TheVariants.{Collect}
-use Rattle.ipam_model.specs.Cluster.{Running}
+use Rattle.ipam_model.specs.Cluster.{RunningRequest}
 use Rattle.ipam_model.specs.declared.entry.Fate.TheVariants.{Well}
 use Rattle.ipam_model.specs.Course.{Event, Turn}
 use Rattle.ipam_model.specs.CourseLaw.{event_of}
 use Rattle.ipam_cluster.specs.declared.cluster.Cluster.{Cluster}
-use Rattle.ipam_cluster.specs.Cluster.{AddsTo, StandsFor, slot_of}
+use Rattle.ipam_cluster.specs.Cluster.{AddsTo, StandsFor, slot_of_cluster}
 use Rattle.ipam_gen.specs.declared.counted.Counted.{Counted}
-use Rattle.ipam_gen.specs.Generated.{Collects, IsCollected, IsDrawn, slot_at}
+use Rattle.ipam_gen.specs.Generated.{Collects, IsGeneratedCollection, IsDrawn, slot_at}
 use Rattle.ipam_gen.specs.Requests.{base}
 use Rattle.ipam_gen.specs.Summary.{again_count, answer_told, exhausted_count, freed_count, freed_in}
 
@@ -56,7 +56,7 @@ Happens old new event = (made : Entry) × HappensAs old new event made
 
 -- ---- what runs
 
-abbrev pub IfRuns : (Request → Type 0) → Option Running → Type 0
+abbrev pub IfRuns : (Request → Type 0) → Option RunningRequest → Type 0
 IfRuns Holds None = Unit {0}
 IfRuns Holds (Some running) = Holds running.request
 
@@ -121,5 +121,5 @@ pub record Turns (old new : Counted) (freed : ℕ) : Type 0 where
 pub record HasCollected (counted : Counted) (count : ℕ) (before : List Entry) (freed : ℕ) : Type 0 where
   pub history : List Entry
   pub is_counted : IsCounted counted history
-  pub collected : IsCollected count before history
+  pub collected : IsGeneratedCollection count before history
   pub is_freed : freed ≡ freed_count history

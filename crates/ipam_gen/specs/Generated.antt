@@ -3,7 +3,7 @@ use Rattle.std.specs.Prelude.{◌≡◌, ℕ, ◌+◌, ◌<◌, List, [], ◌∷
 use Rattle.ipam_model.specs.declared.entry.Entry.{Entry}
 use Rattle.ipam_model.specs.declared.entry.Fate.TheVariants.{Well}
 use Rattle.ipam_model.specs.declared.request.Request.TheVariants.{Collect}
-use Rattle.ipam_model.specs.Cluster.{Running}
+use Rattle.ipam_model.specs.Cluster.{RunningRequest}
 use Rattle.ipam_model.specs.Course.{Event, Begin, Turn, Feed, entries_of}
 use Rattle.ipam_model.specs.History.{Lawful, cluster_at}
 use Rattle.ipam_gen.specs.Draws.{draw, next_state}
@@ -14,7 +14,7 @@ abbrev pub Makes : List Entry → Event → Entry → Type 0
 Makes history event made = entries_of (cluster_at base history) event ≡ Ok (made ∷ [])
 
 -- what runs in the slot after this history
-abbrev pub slot_at : List Entry → (slot : ℕ) → Option Running
+abbrev pub slot_at : List Entry → (slot : ℕ) → Option RunningRequest
 slot_at history slot = (cluster_at base history).slots slot
 
 -- ---- the draws
@@ -28,7 +28,7 @@ slot_drawn x = draw 8 x
 -- is idle the next request begins, which is drawn from the state after that draw.
 pub data IsDrawn (count : ℕ) : (x begun : ℕ) → List Entry → Type 0 where
   NothingDrawn : IsDrawn count 1 0 []
-  TurnDrawn : (x begun : ℕ) (history : List Entry) (running : Running) (made : Entry)
+  TurnDrawn : (x begun : ℕ) (history : List Entry) (running : RunningRequest) (made : Entry)
       → IsDrawn count x begun history → begun < count → slot_at history (slot_drawn x) ≡ Some running
       → Makes history (Turn (slot_drawn x) Well) made → IsDrawn count (next_state x) begun (made ∷ history)
   RequestDrawn : (x begun : ℕ) (history : List Entry) (made : Entry)
@@ -66,7 +66,7 @@ pub data Collects (live : List (List ℕ)) (before : List Entry) : List Entry �
       → Makes history (Feed 0 0 live) made → Collects live before (made ∷ history)
 
 -- the collection begins in slot 0, and runs to its end
-pub record IsCollected (count : ℕ) (before after : List Entry) : Type 0 where
+pub record IsGeneratedCollection (count : ℕ) (before after : List Entry) : Type 0 where
   pub made : Entry
   pub begins : Makes before (Begin 0 (Collect (collection count))) made
   pub collects : Collects (live_below count) (made ∷ before) after
@@ -81,5 +81,5 @@ pub record IsGenerated (count : ℕ) (answered whole : List Entry) : Type 0 wher
   pub drawn : List Entry
   pub draws : IsDrawn count x count drawn
   pub runs_out : AreRunOut drawn 8 answered
-  pub collected : IsCollected count answered whole
+  pub collected : IsGeneratedCollection count answered whole
   pub lawful : Lawful base whole

@@ -32,17 +32,17 @@ base = record { store = record { rows = (1, Pools (pool ∷ [])) ∷ []; counter
 
 -- ---- the requests
 
-abbrev pub handle_of : (number : ℕ) → List ℕ
-handle_of number = codes "g.c" ++ decimal number
+abbrev pub generated_handle : (number : ℕ) → List ℕ
+generated_handle number = codes "g.c" ++ decimal number
 
 abbrev pub node_of : (number : ℕ) → List ℕ
 node_of number = codes "n" ++ decimal number
 
 -- the ADD of an IPv4 address for the handle of this number, on the node of that number
-unfoldable pub add_of : (handle node : ℕ) → Request
-add_of handle node = Add (record {
+unfoldable pub generated_add : (handle node : ℕ) → Request
+generated_add handle node = Add (record {
   node = node_of node;
-  attributes = record { handle = handle_of handle; secondary = [] };
+  attributes = record { handle = generated_handle handle; secondary = [] };
   ipv4 = true;
   ipv6 = false;
   labels = [];
@@ -54,13 +54,13 @@ add_of handle node = Add (record {
 -- below its own, the others are ADDs for the handle of their own number, on one of four nodes.
 unfoldable pub request_of : (number x : ℕ) → Request
 request_of number x =
-    if number % 4 == 3 then Del (handle_of (draw number x)) else add_of number (draw 4 x)
+    if number % 4 == 3 then Del (generated_handle (draw number x)) else generated_add number (draw 4 x)
 
 -- ---- the collection
 
 -- the handle of this number, where the number is even
 abbrev pub even_handle : (number : ℕ) → List (List ℕ)
-even_handle number = if number % 2 == 0 then handle_of number ∷ [] else []
+even_handle number = if number % 2 == 0 then generated_handle number ∷ [] else []
 
 -- the handles of the even numbers below this one, ascending
 unfoldable pub live_below : (count : ℕ) → List (List ℕ)

@@ -87,13 +87,13 @@ summary_of count answered whole = record {
   freed = freed_count whole;
 }
 
-unfoldable pub line : (name : List ℕ) (number : ℕ) → List ℕ
-line name number = name ++ (codes " " ++ (decimal number ++ codes "\n"))
+unfoldable pub number_line : (name : List ℕ) (number : ℕ) → List ℕ
+number_line name number = name ++ (codes " " ++ (decimal number ++ codes "\n"))
 
 unfoldable pub summary_text : Summary → List ℕ
 summary_text s =
-    line (codes "requests") s.requests ++ (line (codes "entries") s.entries ++ (line (codes "owners") s.owners
-    ++ (line (codes "again") s.again ++ (line (codes "exhausted") s.exhausted ++ line (codes "freed") s.freed))))
+    number_line (codes "requests") s.requests ++ (number_line (codes "entries") s.entries ++ (number_line (codes "owners") s.owners
+    ++ (number_line (codes "again") s.again ++ (number_line (codes "exhausted") s.exhausted ++ number_line (codes "freed") s.freed))))
 
 -- ---- what is written
 

@@ -5,7 +5,7 @@ ghost use Rattle.ipam_records.specs.Sound.{IsHandleId};
 ghost use Rattle.ipam_model.specs.Course.{Begin};
 ghost use Rattle.ipam_model.specs.declared.entry.Entry.{Entry};
 ghost use Rattle.ipam_model.specs.declared.entry.SlotState.TheVariants as state;
-ghost use Rattle.ipam_cluster.specs.Cluster.{slot_of, state_in};
+ghost use Rattle.ipam_cluster.specs.Cluster.{slot_of_cluster, state_in};
 ghost use Rattle.ipam_gen.specs.Counted.{AllRun, CountsOne, Goes, Happens, HasCollected, IsCollecting, IsCounted, IsNoCollection, IsPlain, IsSomewhere, IsStart, Turns};
 ghost use Rattle.ipam_gen.specs.Requests.{collection, live_below};
 
@@ -22,7 +22,7 @@ pub(crate) fn collect(
     counted: &mut Counted,
     requests: u32,
 ) -> Result<u64, AllocError>
-    requires idle { slot_of counted.old.cluster 0 ≡ None }
+    requires idle { slot_of_cluster counted.old.cluster 0 ≡ None }
     requires plain { IsPlain counted.old (λ history. Unit {0}) }
     ensures { IfOk result (λ freed. (before : List Entry) → IsCounted counted.old before → AllRun IsNoCollection before
         → HasCollected counted.new requests before freed) }
@@ -35,7 +35,7 @@ pub(crate) fn collect(
 
 /// The collection begins.
 fn begin(alloc: Global, counted: &mut Counted, live: &Seq<Text>) -> Result<(), AllocError>
-    requires idle { slot_of counted.old.cluster 0 ≡ None }
+    requires idle { slot_of_cluster counted.old.cluster 0 ≡ None }
     requires sound { All IsHandleId live.now }
     requires somewhere { IsSomewhere counted.old }
     ensures { OnOk result ((count : ℕ) → live.now ≡ live_below count
@@ -53,7 +53,7 @@ fn run(alloc: Global, counted: &mut Counted, live: &[Text]) -> Result<u64, Alloc
     requires sound { All IsHandleId live.now }
     requires begun { (before : List Entry) × IsStart counted.old before }
     ensures collected { IfOk result (Goes counted.old counted.new live.now) }
-    ensures idle { OnOk result (slot_of counted.new.cluster 0 ≡ None) }
+    ensures idle { OnOk result (slot_of_cluster counted.new.cluster 0 ≡ None) }
 {
     let mut freed = 0;
     while !counted.is_idle(0) {
@@ -66,7 +66,7 @@ fn run(alloc: Global, counted: &mut Counted, live: &[Text]) -> Result<u64, Alloc
 /// ends with that.
 fn step(alloc: Global, counted: &mut Counted, live: &[Text]) -> Result<u64, AllocError>
     requires sound { All IsHandleId live.now }
-    requires busy { ¬ (state_in (slot_of counted.old.cluster 0) ≡ state.Idle) }
+    requires busy { ¬ (state_in (slot_of_cluster counted.old.cluster 0) ≡ state.Idle) }
     requires at { (before : List Entry) × (was : ℕ) × IsCollecting counted.old live.now before was }
     ensures goes { IfOk result (λ now. (first : Counted) (was : ℕ) → Goes first counted.old live.now was
         → Goes first counted.new live.now now) }
@@ -87,7 +87,7 @@ fn step(alloc: Global, counted: &mut Counted, live: &[Text]) -> Result<u64, Allo
 
 /// Slot 0 takes a turn.
 fn turn(alloc: Global, counted: &mut Counted) -> Result<u64, AllocError>
-    requires running { state_in (slot_of counted.old.cluster 0) ≡ state.Running }
+    requires running { state_in (slot_of_cluster counted.old.cluster 0) ≡ state.Running }
     requires somewhere { IsSomewhere counted.old }
     ensures turned { IfOk result (Turns counted.old counted.new) }
     ensures counts { OnOk result (CountsOne counted.old.cluster counted.new.cluster) }

@@ -6,7 +6,7 @@ ghost use Rattle.ipam_model.specs.Course.{Begin, Feed, Turn};
 ghost use Rattle.ipam_model.specs.SoundRequest.{IsSoundRequest};
 ghost use Rattle.ipam_model.specs.declared.entry.Fate.TheVariants.{Well};
 ghost use Rattle.ipam_model.specs.declared.entry.SlotState.TheVariants as state;
-ghost use Rattle.ipam_cluster.specs.Cluster.{WaitsWith, slot_of, state_in};
+ghost use Rattle.ipam_cluster.specs.Cluster.{WaitsWith, slot_of_cluster, state_in};
 ghost use Rattle.ipam_gen.specs.Counted.{CountsOne};
 ghost use Rattle.ipam_gen.specs.Summary.{answer_told, is_again, is_exhausted};
 
@@ -45,8 +45,8 @@ impl Counted {
     /// Whether nothing runs in the slot.
     pub(crate) fn is_idle(&self, slot: u8) -> bool
         requires { slot < SLOTS }
-        ensures idle { result ≡ true → slot_of self.now.cluster slot ≡ None }
-        ensures busy { result ≡ false → ¬ (state_in (slot_of self.now.cluster slot) ≡ state.Idle) }
+        ensures idle { result ≡ true → slot_of_cluster self.now.cluster slot ≡ None }
+        ensures busy { result ≡ false → ¬ (state_in (slot_of_cluster self.now.cluster slot) ≡ state.Idle) }
     {
         match self.cluster.state(slot) {
             SlotState::Idle => true,
@@ -63,7 +63,7 @@ impl Counted {
     ) -> Result<(), AllocError>
         requires slot { slot < SLOTS }
         requires sound { IsSoundRequest request.now }
-        requires idle { slot_of self.old.cluster slot ≡ None }
+        requires idle { slot_of_cluster self.old.cluster slot ≡ None }
         requires somewhere { IsSomewhere self.old }
         ensures happens { OnOk result (Happens self.old self.new (Begin slot request.now)) }
         ensures counts { OnOk result (CountsOne self.old.cluster self.new.cluster) }
@@ -77,11 +77,11 @@ impl Counted {
     /// The slot takes a turn.
     pub(crate) fn turn(&mut self, alloc: Global, slot: u8) -> Result<Entry, AllocError>
         requires slot { slot < SLOTS }
-        requires running { state_in (slot_of self.old.cluster slot) ≡ state.Running }
+        requires running { state_in (slot_of_cluster self.old.cluster slot) ≡ state.Running }
         requires somewhere { IsSomewhere self.old }
         ensures happens { IfOk result (HappensAs self.old self.new (Turn slot Well)) }
         ensures counts { OnOk result (CountsOne self.old.cluster self.new.cluster) }
-        ensures others { (other : ℕ) → ¬ (other ≡ slot) → slot_of self.new.cluster other ≡ slot_of self.old.cluster other }
+        ensures others { (other : ℕ) → ¬ (other ≡ slot) → slot_of_cluster self.new.cluster other ≡ slot_of_cluster self.old.cluster other }
     {
         let entry = events::turn(alloc, &mut self.cluster, slot)?;
         self.note(&entry);
@@ -90,7 +90,7 @@ impl Counted {
 
     /// The collection that waits in slot 0 is fed the list.
     pub(crate) fn feed(&mut self, alloc: Global, live: &[Text]) -> Result<(), AllocError>
-        requires waits { WaitsWith (slot_of self.old.cluster 0) (record { at = 0; grace = 0 }) }
+        requires waits { WaitsWith (slot_of_cluster self.old.cluster 0) (record { at = 0; grace = 0 }) }
         requires sound { All IsHandleId live.now }
         requires somewhere { IsSomewhere self.old }
         ensures happens { OnOk result (Happens self.old self.new (Feed 0 0 live.now)) }

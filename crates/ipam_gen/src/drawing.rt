@@ -1,7 +1,7 @@
 //! Requests begin in slots that are drawn, and run by turns that are drawn.
 ghost use Rattle.std.specs.Prelude.{◌≡◌, ◌<◌, ◌≤◌, ◌+◌, ◌-◌, ◌^◌, ℕ, [], IfOk, OnOk, None};
 ghost use Rattle.ipam_model.specs.Course.{Begin};
-ghost use Rattle.ipam_cluster.specs.Cluster.{slot_of};
+ghost use Rattle.ipam_cluster.specs.Cluster.{slot_of_cluster};
 ghost use Rattle.ipam_gen.specs.Counted.{CountsOne, Happens, IsCounted, IsDrawing, IsPlain, IsSomewhere};
 ghost use Rattle.ipam_gen.specs.Draws.{next_state};
 ghost use Rattle.ipam_gen.specs.Generated.{IsDrawn};
@@ -68,7 +68,7 @@ fn begin_next(
     number: u32,
 ) -> Result<(), AllocError>
     requires slot { slot < SLOTS }
-    requires idle { slot_of counted.old.cluster slot ≡ None }
+    requires idle { slot_of_cluster counted.old.cluster slot ≡ None }
     requires somewhere { IsSomewhere counted.old }
     ensures happens { OnOk result (Happens counted.old counted.new (Begin slot (request_of number draws.old.x))) }
     ensures state { OnOk result (draws.new.x ≡ next_state draws.old.x) }

@@ -6,7 +6,7 @@ ghost use Rattle.ipam_model.specs.Course.{Begin, Feed, Turn};
 ghost use Rattle.ipam_model.specs.SoundRequest.{IsSoundRequest};
 ghost use Rattle.ipam_model.specs.declared.entry.Fate.TheVariants.{Well};
 ghost use Rattle.ipam_model.specs.declared.entry.SlotState.TheVariants as state;
-ghost use Rattle.ipam_cluster.specs.Cluster.{Stood, WaitsWith, slot_of, state_in};
+ghost use Rattle.ipam_cluster.specs.Cluster.{Stood, WaitsWith, slot_of_cluster, state_in};
 ghost use Rattle.ipam_gen.specs.Counted.{Adds, CountsOne};
 
 use ipam_cluster::{BeginFault, Cluster, FeedFault, PrepareFault};
@@ -24,7 +24,7 @@ pub(crate) fn begin(
 ) -> Result<Entry, AllocError>
     requires slot { slot < SLOTS }
     requires sound { IsSoundRequest request.now }
-    requires idle { slot_of cluster.old slot ≡ None }
+    requires idle { slot_of_cluster cluster.old slot ≡ None }
     requires stood { Stood cluster.old }
     ensures adds { IfOk result (Adds cluster.old cluster.new (Begin slot request.now)) }
     ensures counts { OnOk result (CountsOne cluster.old cluster.new) }
@@ -39,11 +39,11 @@ pub(crate) fn begin(
 /// The slot's next call is made. On `Err` likewise.
 pub(crate) fn turn(alloc: Global, cluster: &mut Cluster, slot: u8) -> Result<Entry, AllocError>
     requires slot { slot < SLOTS }
-    requires running { state_in (slot_of cluster.old slot) ≡ state.Running }
+    requires running { state_in (slot_of_cluster cluster.old slot) ≡ state.Running }
     requires stood { Stood cluster.old }
     ensures adds { IfOk result (Adds cluster.old cluster.new (Turn slot Well)) }
     ensures counts { OnOk result (CountsOne cluster.old cluster.new) }
-    ensures others { (other : ℕ) → ¬ (other ≡ slot) → slot_of cluster.new other ≡ slot_of cluster.old other }
+    ensures others { (other : ℕ) → ¬ (other ≡ slot) → slot_of_cluster cluster.new other ≡ slot_of_cluster cluster.old other }
 {
     match cluster.prepare(alloc, slot) {
         Ok(prepared) => Ok(cluster.commit(prepared, Fate::Well)),
@@ -55,7 +55,7 @@ pub(crate) fn turn(alloc: Global, cluster: &mut Cluster, slot: u8) -> Result<Ent
 /// The collection that waits in slot 0 is fed the list. It has no grace, so the list is not too early.
 /// On `Err` likewise.
 pub(crate) fn feed(alloc: Global, cluster: &mut Cluster, live: &[Text]) -> Result<Entry, AllocError>
-    requires waits { WaitsWith (slot_of cluster.old 0) (record { at = 0; grace = 0 }) }
+    requires waits { WaitsWith (slot_of_cluster cluster.old 0) (record { at = 0; grace = 0 }) }
     requires sound { All IsHandleId live.now }
     requires stood { Stood cluster.old }
     ensures adds { IfOk result (Adds cluster.old cluster.new (Feed 0 0 live.now)) }

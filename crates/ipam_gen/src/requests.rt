@@ -4,7 +4,7 @@ ghost use Rattle.std.specs.List.{All};
 ghost use Rattle.ipam_records.specs.Sound.{IsHandleId};
 ghost use Rattle.ipam_model.specs.SoundRequest.{IsSoundRequest};
 ghost use Rattle.ipam_gen.specs.Draws.{next_state};
-ghost use Rattle.ipam_gen.specs.Requests.{add_of, collection, even_handle, handle_of, live_below, node_of, request_of};
+ghost use Rattle.ipam_gen.specs.Requests.{generated_add, collection, even_handle, generated_handle, live_below, node_of, request_of};
 
 use crate::draws::Draws;
 use ipam_block::Attributes;
@@ -42,15 +42,15 @@ fn drawn_request(alloc: Global, number: u32, draws: &mut Draws) -> Result<Reques
 
 /// The DEL of the handle of this number.
 fn del_of(alloc: Global, handle: u64) -> Result<Request, AllocError>
-    ensures { IfOk result (λ made. made ≡ Request.Del (handle_of handle)) }
+    ensures { IfOk result (λ made. made ≡ Request.Del (generated_handle handle)) }
 {
     Ok(Request::Del(handle_of(alloc, handle)?))
 }
 
 /// The ADD of an IPv4 address for the handle of this number, on the node of that number.
-#[tactic(auto, unfolding(crate::specs::Requests::add_of))]
+#[tactic(auto, unfolding(crate::specs::Requests::generated_add))]
 fn add_of(alloc: Global, handle: u32, node: u64) -> Result<Request, AllocError>
-    ensures { IfOk result (λ made. made ≡ add_of handle node) }
+    ensures { IfOk result (λ made. made ≡ generated_add handle node) }
 {
     let node = node_of(alloc, node)?;
     let handle = handle_of(alloc, u64::from(handle))?;
@@ -70,7 +70,7 @@ fn add_of(alloc: Global, handle: u32, node: u64) -> Result<Request, AllocError>
 
 /// The id of the handle of this number.
 fn handle_of(alloc: Global, number: u64) -> Result<Text, AllocError>
-    ensures { IfOk result (λ id. id ≡ handle_of number) }
+    ensures { IfOk result (λ id. id ≡ generated_handle number) }
 {
     Ok(Text::of(format!(in alloc; "g.c{number}")?))
 }

@@ -1,6 +1,6 @@
 //! The slots run to their ends.
 ghost use Rattle.std.specs.Prelude.{◌≡◌, ◌<◌, ℕ, None, OnOk};
-ghost use Rattle.ipam_cluster.specs.Cluster.{slot_of};
+ghost use Rattle.ipam_cluster.specs.Cluster.{slot_of_cluster};
 ghost use Rattle.ipam_gen.specs.Counted.{IsPlain, Leads};
 ghost use Rattle.ipam_gen.specs.Generated.{AreRunOut, RunsOut};
 
@@ -15,7 +15,7 @@ const DRAWN_SLOTS: u8 = 8;
 pub(crate) fn run_all_out(alloc: Global, counted: &mut Counted) -> Result<(), AllocError>
     requires { IsPlain counted.old (λ history. Unit {0}) }
     ensures runs_out { OnOk result (Leads counted.old counted.new (λ before. AreRunOut before 8)) }
-    ensures idle { OnOk result (slot_of counted.new.cluster 0 ≡ None) }
+    ensures idle { OnOk result (slot_of_cluster counted.new.cluster 0 ≡ None) }
 {
     for slot in 0..DRAWN_SLOTS {
         run_out(alloc, counted, slot)?;
@@ -28,8 +28,8 @@ fn run_out(alloc: Global, counted: &mut Counted, slot: u8) -> Result<(), AllocEr
     requires slot { slot < SLOTS }
     requires plain { IsPlain counted.old (λ history. Unit {0}) }
     ensures runs_out { OnOk result (Leads counted.old counted.new (RunsOut slot)) }
-    ensures idle { OnOk result (slot_of counted.new.cluster slot ≡ None) }
-    ensures others { (other : ℕ) → ¬ (other ≡ slot) → slot_of counted.new.cluster other ≡ slot_of counted.old.cluster other }
+    ensures idle { OnOk result (slot_of_cluster counted.new.cluster slot ≡ None) }
+    ensures others { (other : ℕ) → ¬ (other ≡ slot) → slot_of_cluster counted.new.cluster other ≡ slot_of_cluster counted.old.cluster other }
 {
     loop {
         match counted.cluster.state(slot) {

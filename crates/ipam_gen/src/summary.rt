@@ -2,7 +2,7 @@
 ghost use Rattle.std.specs.Prelude.{◌≡◌, ◌++◌, length, IfOk, OnOk, string_bytes};
 ghost use Rattle.ipam_model.specs.Owners.{owners};
 ghost use Rattle.ipam_gen.specs.Numbers.{owned_in};
-ghost use Rattle.ipam_gen.specs.Summary.{line, summary_text};
+ghost use Rattle.ipam_gen.specs.Summary.{number_line, summary_text};
 
 use ipam_records::Record;
 use ipam_store::Store;
@@ -40,15 +40,15 @@ impl Numbers {
 
 /// Appends the line of the number of this name.
 fn push_line(alloc: Global, text: &mut String, name: &str, number: u128) -> Result<(), AllocError>
-    ensures { OnOk result (string_bytes text.new ≡ string_bytes text.old ++ line name.now number) }
+    ensures { OnOk result (string_bytes text.new ≡ string_bytes text.old ++ number_line name.now number) }
 {
     let line = line(alloc, name, number)?;
     text.push_str(line.as_str())
 }
 
-#[tactic(auto, unfolding(crate::specs::Summary::line))]
+#[tactic(auto, unfolding(crate::specs::Summary::number_line))]
 fn line(alloc: Global, name: &str, number: u128) -> Result<String, AllocError>
-    ensures { IfOk result (λ text. string_bytes text ≡ line name.now number) }
+    ensures { IfOk result (λ text. string_bytes text ≡ number_line name.now number) }
 {
     format!(in alloc; "{name} {number}\n")
 }

@@ -14,20 +14,20 @@ use Rattle.ipam_laws.proofs.OneRecord.{drop-lawful}
 use Rattle.ipam_laws.proofs.OpenedHistory.{opened_law}
 use Rattle.ipam_laws.proofs.Openings.{opens_as_one}
 use Rattle.ipam_laws.proofs.RightWhole.{right_law}
-use Rattle.ipam_play.specs.Played.{AreTextsOf, Ending, IsPlayed, RefusedAtOnce, BaseRefused, Happened, base_of, course_of, events_in}
-use Rattle.ipam_play.specs.Player.{IsOpened}
+use Rattle.ipam_play.specs.Played.{AreTextsOfBase, Ending, IsPlayed, RefusedAtOnce, BaseRefused, Happened, base_of, course_of, events_in}
+use Rattle.ipam_play.specs.Player.{IsBaseOpened}
 use Rattle.ipam_play.specs.Script.{Gathered, Script}
 use Rattle.ipam_headline.specs.Headline.{IsRightOf, PlayedRightLaw, script_in}
 use Rattle.ipam_headline.proofs.SoundScripts.{script_asks_sound}
 
 -- ---- a base opens as one datastore
 
-in-other : (base : Gathered) (one other : Texts) → AreTextsOf one base → AreTextsOf other base → (row : RowText) → Contains one.rows row → Contains other.rows row
+in-other : (base : Gathered) (one other : Texts) → AreTextsOfBase one base → AreTextsOfBase other base → (row : RowText) → Contains one.rows row → Contains other.rows row
 in-other base one other a b row h =
     Contains-permutation base.rows other.rows row b.same_rows
     (Contains-permutation one.rows base.rows row (IsPermutation-sym base.rows one.rows a.same_rows) h)
 
-same-opened : (base : Gathered) (one other : Datastore) → IsOpened base one → IsOpened base other → one ≡ other
+same-opened : (base : Gathered) (one other : Datastore) → IsBaseOpened base one → IsBaseOpened base other → one ≡ other
 same-opened base one other a b = opens_as_one a.texts one other a.opens (record {
   may_be_opened = a.opens.may_be_opened;
   sound = b.opens.sound;
@@ -42,14 +42,14 @@ same-opened base one other a b = opens_as_one a.texts one other a.opens (record 
 
 -- the entries are lawful over whatever the base opens as, and there are none without one
 pub record IsLawfulOf (script : Script) (entries : List Entry) : Type 0 where
-  pub lawful : (store : Datastore) → IsOpened script.base store → Lawful (base_of store) (reverse entries)
-  pub opened : entries ≢ [] → (store : Datastore) × IsOpened script.base store
+  pub lawful : (store : Datastore) → IsBaseOpened script.base store → Lawful (base_of store) (reverse entries)
+  pub opened : entries ≢ [] → (store : Datastore) × IsBaseOpened script.base store
 
 nothing-lawful : (script : Script) → IsLawfulOf script []
 unfolding Lawful
 nothing-lawful script = record { lawful = λ store opened. tt; opened = λ some. absurd (some refl) }
 
-happened-lawful : (bytes : List ℕ) (store : Datastore) → IsOpened (script_in bytes).base store → IsLawfulOf (script_in bytes) (course_of (script_in bytes) store).entries
+happened-lawful : (bytes : List ℕ) (store : Datastore) → IsBaseOpened (script_in bytes).base store → IsLawfulOf (script_in bytes) (course_of (script_in bytes) store).entries
 happened-lawful bytes store opens =
     let lawful = courses_are_lawful (base_of store) (events_in (script_in bytes).steps) (script_asks_sound bytes) in
     record {

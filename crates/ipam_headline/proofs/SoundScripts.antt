@@ -12,18 +12,18 @@ use Rattle.ipam_script.specs.Lines.{ScriptLine, Whole, Long, lines_of}
 use Rattle.ipam_script.specs.Reading.{line_reading}
 use Rattle.ipam_play.specs.declared.refusal.LineRefusal.TheVariants as refusal
 use Rattle.ipam_play.specs.Played.{events_in}
-use Rattle.ipam_play.specs.Readings.{Reading, read_or_not, reading_of, readings}
-use Rattle.ipam_play.specs.Script.{Stops, Ended, Broken, Gathered, Place, OfBase, Again, Happens, Script, behind_step, events_of, nothing_gathered, place_of, has_key, script_from, script_of, steps_from, stopped, with_row, with_counter}
+use Rattle.ipam_play.specs.Readings.{LineReading, read_or_not, line_reading_of, readings}
+use Rattle.ipam_play.specs.Script.{Stops, Ended, Broken, Gathered, LinePlace, OfBase, Again, Happens, Script, behind_step, events_of, nothing_gathered, place_of, rows_have_key, script_from, script_of, steps_from, stopped, with_base_row, with_counter}
 use Rattle.ipam_play.specs.SoundLine.{IsSoundLine}
 use Rattle.ipam_play.proofs.SoundLines.{reading_sound}
 
 -- ---- readings
 
-abbrev IsSoundReading : Reading → Type 0
+abbrev IsSoundReading : LineReading → Type 0
 IsSoundReading (Ok line) = IsSoundLine line
 IsSoundReading (Err why) = Unit {0}
 
-AreSoundReadings : List Reading → Type 0
+AreSoundReadings : List LineReading → Type 0
 AreSoundReadings [] = Unit {0}
 AreSoundReadings (reading ∷ more) = IsSoundReading reading × AreSoundReadings more
 
@@ -31,11 +31,11 @@ text-sound : (bytes : List ℕ) (o : Option Line) → line_reading bytes ≡ o �
 text-sound bytes None e = tt
 text-sound bytes (Some line) e = reading_sound bytes line e
 
-line-sound : (l : ScriptLine) → IsSoundReading (reading_of l)
+line-sound : (l : ScriptLine) → IsSoundReading (line_reading_of l)
 line-sound Long = tt
 line-sound (Whole bytes) = text-sound bytes (line_reading bytes) refl
 
-lines-sound : (lines : List ScriptLine) → AreSoundReadings (map reading_of lines)
+lines-sound : (lines : List ScriptLine) → AreSoundReadings (map line_reading_of lines)
 unfolding AreSoundReadings
 lines-sound [] = tt
 lines-sound (l ∷ more) = (line-sound l, lines-sound more)
@@ -63,7 +63,7 @@ events-sound line.Restart events h e = one-event Restart events tt cc
 AsksSound : Script → Type 0
 AsksSound script = All IsEvent (events_in script.steps)
 
-steps_next : (number : ℕ) → Gathered → List Reading → Option (List Event) → Script
+steps_next : (number : ℕ) → Gathered → List LineReading → Option (List Event) → Script
 steps_next number base more o = elim o [
   | None ↦ stopped base (Broken number refusal.Base)
   | Some events ↦ behind_step (record { number = number; events = events }) (steps_from (number + 1) base more)
@@ -77,7 +77,7 @@ none-sound : (base : Gathered) (stops : Stops) → AsksSound (stopped base stops
 unfolding AsksSound events_in
 none-sound base stops = All-nil IsEvent
 
-steps-sound : (number : ℕ) (base : Gathered) (lines : List Reading) → AreSoundReadings lines → AsksSound (steps_from number base lines)
+steps-sound : (number : ℕ) (base : Gathered) (lines : List LineReading) → AreSoundReadings lines → AsksSound (steps_from number base lines)
 unfolding steps_from steps_next AreSoundReadings
 steps-sound number base [] h = none-sound base Ended
 steps-sound number base (Err why ∷ more) h = none-sound base (Broken number why)
@@ -92,7 +92,7 @@ no-happening true longer events e = absurd cc
 no-happening false longer events e = absurd cc
 
 place-events : (base : Gathered) (l : Line) (events : List Event) → place_of base l ≡ Happens events → events_of l ≡ Some events
-place-events base (line.Row row) events e = absurd (no-happening (has_key row.key base.rows) (with_row row base) events e)
+place-events base (line.Row row) events e = absurd (no-happening (rows_have_key row.key base.rows) (with_base_row row base) events e)
 place-events base (line.Counter counter) events e = absurd (no-happening (is_some base.counter) (with_counter counter base) events e)
 place-events base (line.Begin slot request) events e = cc
 place-events base (line.Turn slot count) events e = cc
@@ -102,20 +102,20 @@ place-events base (line.Feed slot at live) events e = cc
 place-events base (line.Stop slot) events e = cc
 place-events base line.Restart events e = cc
 
-script_next : (number : ℕ) → Gathered → List Reading → Place → Script
+script_next : (number : ℕ) → Gathered → List LineReading → LinePlace → Script
 script_next number base more place = elim place [
   | OfBase longer ↦ script_from (number + 1) longer more
   | Again ↦ stopped base (Broken number refusal.Base)
   | Happens events ↦ behind_step (record { number = number; events = events }) (steps_from (number + 1) base more)
 ]
 
-script-sound : (number : ℕ) (base : Gathered) (lines : List Reading) → AreSoundReadings lines → AsksSound (script_from number base lines)
+script-sound : (number : ℕ) (base : Gathered) (lines : List LineReading) → AreSoundReadings lines → AsksSound (script_from number base lines)
 unfolding script_from script_next AreSoundReadings
 script-sound number base [] h = none-sound base Ended
 script-sound number base (Err why ∷ more) h = none-sound base (Broken number why)
 script-sound number base (Ok l ∷ more) h = by (λ longer. script-sound (number + 1) longer more h.1) (place_of base l) refl
   where
-    by : ((longer : Gathered) → AsksSound (script_from (number + 1) longer more)) → (place : Place) → place_of base l ≡ place → AsksSound (script_next number base more place)
+    by : ((longer : Gathered) → AsksSound (script_from (number + 1) longer more)) → (place : LinePlace) → place_of base l ≡ place → AsksSound (script_next number base more place)
     by rest (OfBase longer) e = rest longer
     by rest Again e = none-sound base (Broken number refusal.Base)
     by rest (Happens events) e =

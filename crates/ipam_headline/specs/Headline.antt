@@ -4,7 +4,7 @@ use Rattle.ipam_records.specs.Datastore.{Datastore}
 use Rattle.ipam_model.specs.declared.entry.Entry.{Entry}
 use Rattle.ipam_model.specs.Right.{IsRight}
 use Rattle.ipam_play.specs.Played.{Ending, IsPlayed, base_of}
-use Rattle.ipam_play.specs.Player.{IsOpened}
+use Rattle.ipam_play.specs.Player.{IsBaseOpened}
 use Rattle.ipam_play.specs.Readings.{readings}
 use Rattle.ipam_play.specs.Script.{Script, script_of}
 use Rattle.ipam_play_run.specs.declared.end.PlayEnd.{PlayEnd}
@@ -18,8 +18,8 @@ script_in bytes = script_of (readings bytes)
 -- These entries, the oldest first, are a right history over whatever the script's base opens as; and
 -- where there is an entry, it opens.
 pub record IsRightOf (script : Script) (entries : List Entry) : Type 0 where
-  pub right : (store : Datastore) → IsOpened script.base store → IsRight (base_of store) (reverse entries)
-  pub opened : entries ≢ [] → (store : Datastore) × IsOpened script.base store
+  pub right : (store : Datastore) → IsBaseOpened script.base store → IsRight (base_of store) (reverse entries)
+  pub opened : entries ≢ [] → (store : Datastore) × IsBaseOpened script.base store
 
 -- ---- what is played
 

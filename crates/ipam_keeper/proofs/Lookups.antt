@@ -8,7 +8,7 @@ use Rattle.std.specs.List.{AllByRecursion}
 use Rattle.std.proofs.lemmas.Map.Lookups.{exact_bytes}
 use Rattle.ipam_records.specs.declared.call.Row.{Row}
 use Rattle.ipam_records.specs.Datastore.{row_at}
-use Rattle.ipam_keeper.specs.Rows.{text_cmp, texts_equal, Ascend, row_key, row_of, rows_with, rows_without}
+use Rattle.ipam_keeper.specs.Rows.{text_cmp, texts_equal, Ascend, row_key_text, row_of, rows_with, rows_without}
 use Rattle.ipam_keeper.proofs.Searching.{text_total}
 use Rattle.ipam_keeper.proofs.Ascending.{each_from}
 
@@ -34,18 +34,18 @@ exchanged false true x y rest here apart e = refl
 exchanged false false x y rest here apart e = e
 
 -- a put changes what is at its key alone
-pub row_of-rows_with : (key : List ℕ) (new : Row) (rows : List Row) → row_of key (rows_with new rows) ≡ cond (texts_equal (row_key new) key) (Some new) (row_of key rows)
+pub row_of-rows_with : (key : List ℕ) (new : Row) (rows : List Row) → row_of key (rows_with new rows) ≡ cond (texts_equal (row_key_text new) key) (Some new) (row_of key rows)
 row_of-rows_with key new [] = refl
 row_of-rows_with key new (r ∷ rs) =
-    by_order (text_cmp (row_key new) (row_key r)) refl (row_of-rows_with key new rs)
+    by_order (text_cmp (row_key_text new) (row_key_text r)) refl (row_of-rows_with key new rs)
   where
-    by_order : (o : Ordering) → text_cmp (row_key new) (row_key r) ≡ o → row_of key (rows_with new rs) ≡ cond (texts_equal (row_key new) key) (Some new) (row_of key rs) → row_of key (row_at o new r rs (rows_with new rs)) ≡ cond (texts_equal (row_key new) key) (Some new) (row_of key (r ∷ rs))
+    by_order : (o : Ordering) → text_cmp (row_key_text new) (row_key_text r) ≡ o → row_of key (rows_with new rs) ≡ cond (texts_equal (row_key_text new) key) (Some new) (row_of key rs) → row_of key (row_at o new r rs (rows_with new rs)) ≡ cond (texts_equal (row_key_text new) key) (Some new) (row_of key (r ∷ rs))
     by_order Less h further = refl
     by_order Equal h further =
-        replaced (texts_equal (row_key new) key) (texts_equal (row_key r) key) (Some new) (Some r) (row_of key rs) (ap is_eq (text_total.congr (row_key new) (row_key r) key h))
+        replaced (texts_equal (row_key_text new) key) (texts_equal (row_key_text r) key) (Some new) (Some r) (row_of key rs) (ap is_eq (text_total.congr (row_key_text new) (row_key_text r) key h))
     by_order Greater h further =
-        exchanged (texts_equal (row_key new) key) (texts_equal (row_key r) key) (Some new) (Some r) (row_of key rs) (row_of key (rows_with new rs))
-        (λ e f. let same = sym h ∙ both_equal (row_key new) (row_key r) key e f in cc same) further
+        exchanged (texts_equal (row_key_text new) key) (texts_equal (row_key_text r) key) (Some new) (Some r) (row_of key rs) (row_of key (rows_with new rs))
+        (λ e f. let same = sym h ∙ both_equal (row_key_text new) (row_key_text r) key e f in cc same) further
 
 either_way : (b : Bool) (found : Option Row) → found ≡ cond b found found
 either_way true found = refl
@@ -55,69 +55,69 @@ either_way false found = refl
 pub row_of-rows_without : (key gone : List ℕ) (rows : List Row) → row_of key (rows_without gone rows) ≡ cond (texts_equal gone key) None (row_of key rows)
 row_of-rows_without key gone [] = either_way (texts_equal gone key) None
 row_of-rows_without key gone (r ∷ rs) =
-    by_test (texts_equal (row_key r) gone) refl (row_of-rows_without key gone rs)
+    by_test (texts_equal (row_key_text r) gone) refl (row_of-rows_without key gone rs)
   where
-    by_test : (b : Bool) → texts_equal (row_key r) gone ≡ b → row_of key (rows_without gone rs) ≡ cond (texts_equal gone key) None (row_of key rs) → row_of key (cond (not b) (r ∷ rows_without gone rs) (rows_without gone rs)) ≡ cond (texts_equal gone key) None (row_of key (r ∷ rs))
+    by_test : (b : Bool) → texts_equal (row_key_text r) gone ≡ b → row_of key (rows_without gone rs) ≡ cond (texts_equal gone key) None (row_of key rs) → row_of key (cond (not b) (r ∷ rows_without gone rs) (rows_without gone rs)) ≡ cond (texts_equal gone key) None (row_of key (r ∷ rs))
     by_test true h further =
         further
-        ∙ replaced (texts_equal gone key) (texts_equal (row_key r) key) None (Some r) (row_of key rs) (sym (ap is_eq (text_total.congr (row_key r) gone key (equal_from _ h))))
+        ∙ replaced (texts_equal gone key) (texts_equal (row_key_text r) key) None (Some r) (row_of key rs) (sym (ap is_eq (text_total.congr (row_key_text r) gone key (equal_from _ h))))
     by_test false h further =
-        exchanged (texts_equal gone key) (texts_equal (row_key r) key) None (Some r) (row_of key rs) (row_of key (rows_without gone rs))
-        (λ e f. let same = sym h ∙ ap is_eq (text_total.congr (row_key r) key gone (equal_from _ f) ∙ text_total.antisymm key gone ∙ ap ordering_reverse (equal_from _ e)) in cc same) further
+        exchanged (texts_equal gone key) (texts_equal (row_key_text r) key) None (Some r) (row_of key rs) (row_of key (rows_without gone rs))
+        (λ e f. let same = sym h ∙ ap is_eq (text_total.congr (row_key_text r) key gone (equal_from _ f) ∙ text_total.antisymm key gone ∙ ap ordering_reverse (equal_from _ e)) in cc same) further
 
-none_above : (key : List ℕ) (rows : List Row) → AllByRecursion (λ y. text_cmp key y ≡ Less) (map row_key rows) → row_of key rows ≡ None
+none_above : (key : List ℕ) (rows : List Row) → AllByRecursion (λ y. text_cmp key y ≡ Less) (map row_key_text rows) → row_of key rows ≡ None
 none_above key [] a = refl
 none_above key (r ∷ rs) a =
-    ap (λ o. cond (is_eq o) (Some r) (row_of key rs)) (text_total.antisymm (row_key r) key ∙ ap ordering_reverse a.0)
+    ap (λ o. cond (is_eq o) (Some r) (row_of key rs)) (text_total.antisymm (row_key_text r) key ∙ ap ordering_reverse a.0)
     ∙ none_above key rs a.1
 
-first_found : (r : Row) (rs : List Row) (key : List ℕ) → text_cmp (row_key r) key ≡ Equal → row_of key (r ∷ rs) ≡ Some r
+first_found : (r : Row) (rs : List Row) (key : List ℕ) → text_cmp (row_key_text r) key ≡ Equal → row_of key (r ∷ rs) ≡ Some r
 first_found r rs key h = ap (λ o. cond (is_eq o) (Some r) (row_of key rs)) h
 
 -- the row of what stands before the first is none
-none_before : (key : List ℕ) (r : Row) (rs : List Row) → Ascend (r ∷ rs) → text_cmp key (row_key r) ≡ Less → row_of key (r ∷ rs) ≡ None
+none_before : (key : List ℕ) (r : Row) (rs : List Row) → Ascend (r ∷ rs) → text_cmp key (row_key_text r) ≡ Less → row_of key (r ∷ rs) ≡ None
 none_before key r rs s h =
-    none_above key (r ∷ rs) (h, each_from (λ y. text_cmp (row_key r) y ≡ Less) (λ y. text_cmp key y ≡ Less) (λ y below. text_total.trans key (row_key r) y h below) rs s.0)
+    none_above key (r ∷ rs) (h, each_from (λ y. text_cmp (row_key_text r) y ≡ Less) (λ y. text_cmp key y ≡ Less) (λ y below. text_total.trans key (row_key_text r) y h below) rs s.0)
 
 -- ascending rows with the same at each key are the same
 pub same_rows : (xs ys : List Row) → Ascend xs → Ascend ys → ((key : List ℕ) → row_of key xs ≡ row_of key ys) → xs ≡ ys
 same_rows [] [] s t same = refl
 same_rows [] (y ∷ ys) s t same =
-    let bad = same (row_key y) ∙ first_found y ys (row_key y) (tied_itself text_total (row_key y)) in absurd (cc bad)
+    let bad = same (row_key_text y) ∙ first_found y ys (row_key_text y) (tied_itself text_total (row_key_text y)) in absurd (cc bad)
 same_rows (x ∷ xs) [] s t same =
-    let bad = sym (same (row_key x)) ∙ first_found x xs (row_key x) (tied_itself text_total (row_key x)) in absurd (cc bad)
+    let bad = sym (same (row_key_text x)) ∙ first_found x xs (row_key_text x) (tied_itself text_total (row_key_text x)) in absurd (cc bad)
 same_rows (x ∷ xs) (y ∷ ys) s t same =
-    by_order (text_cmp (row_key x) (row_key y)) refl (same_rows xs ys s.1 t.1)
+    by_order (text_cmp (row_key_text x) (row_key_text y)) refl (same_rows xs ys s.1 t.1)
   where
-    found_first : row_of (row_key x) (x ∷ xs) ≡ Some x
-    found_first = first_found x xs (row_key x) (tied_itself text_total (row_key x))
+    found_first : row_of (row_key_text x) (x ∷ xs) ≡ Some x
+    found_first = first_found x xs (row_key_text x) (tied_itself text_total (row_key_text x))
 
-    tails : text_cmp (row_key x) (row_key y) ≡ Equal → (key : List ℕ) → row_of key xs ≡ row_of key ys
-    tails h key = by_test (texts_equal (row_key x) key) refl
+    tails : text_cmp (row_key_text x) (row_key_text y) ≡ Equal → (key : List ℕ) → row_of key xs ≡ row_of key ys
+    tails h key = by_test (texts_equal (row_key_text x) key) refl
       where
-        alike : text_cmp (row_key x) key ≡ text_cmp (row_key y) key
-        alike = text_total.congr (row_key x) (row_key y) key h
+        alike : text_cmp (row_key_text x) key ≡ text_cmp (row_key_text y) key
+        alike = text_total.congr (row_key_text x) (row_key_text y) key h
 
-        by_test : (b : Bool) → texts_equal (row_key x) key ≡ b → row_of key xs ≡ row_of key ys
+        by_test : (b : Bool) → texts_equal (row_key_text x) key ≡ b → row_of key xs ≡ row_of key ys
         by_test true e =
-            let at_x : row_key x ≡ key = exact_bytes (row_key x) key (equal_from _ e) in
-            let at_y : row_key y ≡ key = exact_bytes (row_key y) key (sym alike ∙ equal_from _ e) in
-            none_above key xs (subst (λ k. AllByRecursion (λ z. text_cmp k z ≡ Less) (map row_key xs)) at_x s.0)
-            ∙ sym (none_above key ys (subst (λ k. AllByRecursion (λ z. text_cmp k z ≡ Less) (map row_key ys)) at_y t.0))
+            let at_x : row_key_text x ≡ key = exact_bytes (row_key_text x) key (equal_from _ e) in
+            let at_y : row_key_text y ≡ key = exact_bytes (row_key_text y) key (sym alike ∙ equal_from _ e) in
+            none_above key xs (subst (λ k. AllByRecursion (λ z. text_cmp k z ≡ Less) (map row_key_text xs)) at_x s.0)
+            ∙ sym (none_above key ys (subst (λ k. AllByRecursion (λ z. text_cmp k z ≡ Less) (map row_key_text ys)) at_y t.0))
         by_test false e =
             sym (ap (λ b. cond b (Some x) (row_of key xs)) e)
             ∙ same key
             ∙ ap (λ b. cond b (Some y) (row_of key ys)) (sym (ap is_eq alike) ∙ e)
 
-    by_order : (o : Ordering) → text_cmp (row_key x) (row_key y) ≡ o → (((key : List ℕ) → row_of key xs ≡ row_of key ys) → xs ≡ ys) → x ∷ xs ≡ y ∷ ys
+    by_order : (o : Ordering) → text_cmp (row_key_text x) (row_key_text y) ≡ o → (((key : List ℕ) → row_of key xs ≡ row_of key ys) → xs ≡ ys) → x ∷ xs ≡ y ∷ ys
     by_order Less h further =
-        let bad = sym found_first ∙ same (row_key x) ∙ none_before (row_key x) y ys t h in absurd (cc bad)
+        let bad = sym found_first ∙ same (row_key_text x) ∙ none_before (row_key_text x) y ys t h in absurd (cc bad)
     by_order Greater h further =
-        let before = text_total.antisymm (row_key y) (row_key x) ∙ ap ordering_reverse h in
-        let bad = sym (first_found y ys (row_key y) (tied_itself text_total (row_key y))) ∙ sym (same (row_key y)) ∙ none_before (row_key y) x xs s before in
+        let before = text_total.antisymm (row_key_text y) (row_key_text x) ∙ ap ordering_reverse h in
+        let bad = sym (first_found y ys (row_key_text y) (tied_itself text_total (row_key_text y))) ∙ sym (same (row_key_text y)) ∙ none_before (row_key_text y) x xs s before in
         absurd (cc bad)
     by_order Equal h further =
-        let met : Some x ≡ Some y = sym found_first ∙ same (row_key x) ∙ first_found y ys (row_key x) (text_total.antisymm (row_key y) (row_key x) ∙ ap ordering_reverse h) in
+        let met : Some x ≡ Some y = sym found_first ∙ same (row_key_text x) ∙ first_found y ys (row_key_text x) (text_total.antisymm (row_key_text y) (row_key_text x) ∙ ap ordering_reverse h) in
         let first : x ≡ y = cc met in
         let rest : xs ≡ ys = further (tails h) in
         λ i. first i ∷ rest i

@@ -1,15 +1,19 @@
 -- What the calls of a keeper do to the rows that it tells, and what its faults mean.
-use Rattle.std.specs.Prelude.{◌≡◌, ℕ, ◌⊎◌, ⊤, List, Option, Result, Ok, Err, IfSome}
+use Rattle.std.specs.Prelude.{◌≡◌, ℕ, ◌⊎◌, ⊤, List, codes, Option, Result, Ok, Err, IfSome}
 use Rattle.std.specs.Option.{option_map}
 use Rattle.ipam_records.specs.declared.call.Row.{Row}
 use Rattle.ipam_keeper.specs.declared.keeper.KeepFault.{KeepFault}
 use Rattle.ipam_keeper.specs.declared.keeper.KeepFault.TheVariants.{Failed, Memory}
 use Rattle.ipam_keeper.specs.Rows.{rows_with, rows_without}
 
+-- what is written where a keeper failed
+abbrev pub keeper_line : List ℕ
+keeper_line = codes "keeper fault\n"
+
 -- what a keeper is given: a row to put in, or the key of one to take out
-pub data Change : Type 0 where
-  PutIn : Row → Change
-  TakeOut : (key : List ℕ) → Change
+pub data KeeperChange : Type 0 where
+  PutIn : Row → KeeperChange
+  TakeOut : (key : List ℕ) → KeeperChange
 
 -- these are the rows, where they are told
 abbrev pub IsTold : Option (List Row) → List Row → Type 0

@@ -18,24 +18,24 @@ texts_equal = eq_by_cmp text_cmp
 abbrev pub row_with : List ℕ → ℕ → List ℕ → Row
 row_with key revision body = record { key = key; revision = revision; body = body }
 
-abbrev pub row_key : Row → List ℕ
-row_key row = row.key
+abbrev pub row_key_text : Row → List ℕ
+row_key_text row = row.key
 
 -- the keys ascend, so each key has one row
 abbrev pub Ascend : List Row → Type 0
 Ascend [] = ⊤
-Ascend (row ∷ rows) = AllByRecursion (λ key. text_cmp (row_key row) key ≡ Less) (map row_key rows) × Ascend rows
+Ascend (row ∷ rows) = AllByRecursion (λ key. text_cmp (row_key_text row) key ≡ Less) (map row_key_text rows) × Ascend rows
 
 -- the row of a key
 abbrev pub row_of : List ℕ → List Row → Option Row
-row_of key = find (λ row. texts_equal (row_key row) key)
+row_of key = find (λ row. texts_equal (row_key_text row) key)
 
 -- the rows with this one in its place, where it stands for the row of its key
 abbrev pub rows_with : Row → List Row → List Row
 rows_with row [] = row ∷ []
 rows_with row (first ∷ rest) =
-    row_at (text_cmp (row_key row) (row_key first)) row first rest (rows_with row rest)
+    row_at (text_cmp (row_key_text row) (row_key_text first)) row first rest (rows_with row rest)
 
 -- the rows without that of the key
 abbrev pub rows_without : List ℕ → List Row → List Row
-rows_without key = filter (λ row. not (texts_equal (row_key row) key))
+rows_without key = filter (λ row. not (texts_equal (row_key_text row) key))

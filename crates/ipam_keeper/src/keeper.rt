@@ -3,7 +3,7 @@ ghost use Rattle.std.specs.Prelude.{◌≡◌, ℕ, ◌≤◌, List, Option, IfO
 ghost use Rattle.ipam_io.specs.Counts.{Rose};
 ghost use Rattle.ipam_records.specs.declared.call.Row.{Row as KeptRow};
 ghost use Rattle.ipam_keeper.specs.Rows.{Ascend, row_with};
-ghost use Rattle.ipam_keeper.specs.Keeping.{Change, PutIn, TakeOut, IsTold, known_with, known_without, IsOldOrNew, SettlesOrNot, StaysBroken, OnFailed, OnMemory, UnlessFailed};
+ghost use Rattle.ipam_keeper.specs.Keeping.{KeeperChange, PutIn, TakeOut, IsTold, known_with, known_without, IsOldOrNew, SettlesOrNot, StaysBroken, OnFailed, OnMemory, UnlessFailed};
 
 use ipam_records::Row;
 
@@ -39,7 +39,7 @@ pub trait Keeper {
 
     /// What is so of it before and after a call that failed, where the call gave it this change. A caller
     /// that has this of a change gave it to the keeper: only `put` and `remove` state it.
-    ghost given: { Self → Change → Self → Type 0 };
+    ghost given: { Self → KeeperChange → Self → Type 0 };
 
     /// All rows, by ascending bytes of their keys, each key once.
     fn load(&mut self) -> Result<Vec<Row>, KeepFault>

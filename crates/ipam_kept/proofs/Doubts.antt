@@ -24,7 +24,7 @@ use Rattle.ipam_model.specs.declared.entry.Entry.{Entry}
 use Rattle.ipam_model.specs.declared.entry.Entry.TheVariants as entry
 use Rattle.ipam_model.specs.declared.entry.Fate.{Fate}
 use Rattle.ipam_model.specs.declared.entry.Fate.TheVariants.{Before, After}
-use Rattle.ipam_model.specs.Cluster.{Running, after, call_entry, call_made, store_after, store_with}
+use Rattle.ipam_model.specs.Cluster.{RunningRequest, after, call_entry, call_made, store_after, store_with}
 use Rattle.ipam_model.specs.Consistent.{IsConsistent}
 use Rattle.ipam_model.specs.FateLaw.{IsSameCall}
 use Rattle.ipam_model.specs.History.{Base, Lawful, cluster_at, store_at}
@@ -202,7 +202,7 @@ pub record DoneInstead (base : Base) (history : List Entry) (c : Called) (done :
   pub named : IsNamed done
   pub own : WritesKeyOf (texts_written done) c.call
 
-pub done-instead : (base : Base) (history : List Entry) (c : Called) (one : Running) (own : Call) (done : Write) → IsConsistent base.store → Lawful base (entry.Called c ∷ history)
+pub done-instead : (base : Base) (history : List Entry) (c : Called) (one : RunningRequest) (own : Call) (done : Write) → IsConsistent base.store → Lawful base (entry.Called c ∷ history)
     → (cluster_at base history).slots c.slot ≡ Some one → next_call one.word ≡ Some own → write_granted own (reply_of (store_at base history) own) ≡ Some done → DoneInstead base history c done
 unfolding Lawful cluster_at
 done-instead base history c one own done consistent lawful runs asks grants =
@@ -211,7 +211,7 @@ done-instead base history c one own done consistent lawful runs asks grants =
     let store = store_at base history in
     let there : (cluster_at base history).slots c.slot ≡ Some may.running = subst (λ (s : ℕ). (cluster_at base history).slots s ≡ Some may.running) same.same_slot may.runs in
     let running : one ≡ may.running = cc (there, runs) in
-    let asks_there : next_call may.running.word ≡ Some own = subst (λ (r : Running). next_call r.word ≡ Some own) running asks in
+    let asks_there : next_call may.running.word ≡ Some own = subst (λ (r : RunningRequest). next_call r.word ≡ Some own) running asks in
     let made : call_entry other.slot After store (cluster_at base history).entries may.running.word ≡ Some other = subst (λ (f : Fate). call_entry other.slot f store (cluster_at base history).entries may.running.word ≡ Some other) same.has_fate may.is_called in
     let is = done-of other.slot store (cluster_at base history).entries may.running.word own other asks_there made in
     let stores : store_after other store ≡ written store done = is.store_is ∙ ap (λ w. store_with w store) grants in

@@ -22,17 +22,17 @@ use Rattle.ipam_laws.proofs.StoreSteps.{can-next, write_told-granted}
 use Rattle.ipam_running.specs.declared.running.Running.{Running}
 use Rattle.ipam_running.specs.Running.{running_rest}
 use Rattle.ipam_cluster.specs.declared.cluster.Cluster.{Cluster}
-use Rattle.ipam_cluster.specs.Cluster.{IsSlot, StandsFor, slot_of}
+use Rattle.ipam_cluster.specs.Cluster.{IsSlot, StandsFor, slot_of_cluster}
 use Rattle.ipam_cluster.specs.Preparing.{write_asked, write_next}
 use Rattle.ipam_kept.specs.Feed.{counter_with, with_write, writes_in}
 
 -- ---- the datastore of a history is what its writes make
 
-store-with : (w : Option Write) (base : Datastore) (writes : List Write) → store_with w (feed.store_after base writes) ≡ feed.store_after base (with_write w writes)
+store-with : (w : Option Write) (base : Datastore) (writes : List Write) → store_with w (feed.store_after_writes base writes) ≡ feed.store_after_writes base (with_write w writes)
 store-with None base writes = refl
 store-with (Some done) base writes = refl
 
-pub store-of : (base : Base) (history : List Entry) → store_at base history ≡ feed.store_after base.store (writes_in history)
+pub store-of : (base : Base) (history : List Entry) → store_at base history ≡ feed.store_after_writes base.store (writes_in history)
 unfolding cluster_at after
 store-of base [] = refl
 store-of base (entry.Began slot request ∷ history) = store-of base history
@@ -90,23 +90,23 @@ told-failed slot store moment (Asks label first next) c e =
     let is : call_made slot Before first (reply_of store first) (answer_in (next moment (reply_of store first))) ≡ c = cc e in
     subst (λ (x : Called). write_told x.call x.reply x.written ≡ None) is refl
 
-same-next : (store : Datastore) (held : Option Running) (there : Option model.Running) (one : model.Running) → IsSlot held there → there ≡ Some one → write_next held store ≡ write_asked (next_call one.word) store
+same-next : (store : Datastore) (held : Option Running) (there : Option model.RunningRequest) (one : model.RunningRequest) → IsSlot held there → there ≡ Some one → write_next held store ≡ write_asked (next_call one.word) store
 same-next store None None one is runs = absurd (cc runs)
 same-next store None (Some own) one is runs = absurd is
 same-next store (Some running) None one is runs = absurd is
 same-next store (Some running) (Some own) one is runs =
     let same : own ≡ one = cc runs in
-    ap (λ (w : Word Answer). write_asked (next_call w) store) is.word ∙ ap (λ (r : model.Running). write_asked (next_call r.word) store) same
+    ap (λ (w : Word Answer). write_asked (next_call w) store) is.word ∙ ap (λ (r : model.RunningRequest). write_asked (next_call r.word) store) same
 
 -- a call that was done tells what it was to write
 pub writes-done : (cluster : Cluster) (base : Base) (history : List Entry) (c : Called) → StandsFor cluster base history → Lawful base (entry.Called c ∷ history) → c.fate ≡ Well
-    → write_told c.call c.reply c.written ≡ write_next (slot_of cluster c.slot) cluster.store.store
+    → write_told c.call c.reply c.written ≡ write_next (slot_of_cluster cluster c.slot) cluster.store.store
 unfolding Lawful
 writes-done cluster base history c h lawful well =
     let may = lawful.1 in
     let one = cluster_at base history in
     let is : call_entry c.slot Well one.store one.entries may.running.word ≡ Some c = subst (λ (f : Fate). call_entry c.slot f one.store one.entries may.running.word ≡ Some c) well may.is_called in
-    let next = same-next cluster.store.store (slot_of cluster c.slot) (one.slots c.slot) may.running (h.is_cluster.slots c.slot) may.runs in
+    let next = same-next cluster.store.store (slot_of_cluster cluster c.slot) (one.slots c.slot) may.running (h.is_cluster.slots c.slot) may.runs in
     told-done c.slot one.store one.entries may.running.word c is
     ∙ (ap (λ (s : Datastore). write_asked (next_call may.running.word) s) (sym h.is_cluster.store) ∙ sym next)
 

@@ -20,7 +20,7 @@ use Rattle.ipam_model.specs.declared.request.Request.{Request}
 use Rattle.ipam_model.specs.Cluster.{write_told}
 use Rattle.ipam_model.specs.History.{Base, Lawful, store_at}
 use Rattle.ipam_cluster.specs.declared.turns.Prepared.{Prepared}
-use Rattle.ipam_cluster.specs.Cluster.{slot_of}
+use Rattle.ipam_cluster.specs.Cluster.{slot_of_cluster}
 use Rattle.ipam_cluster.specs.Preparing.{IsPrepared, write_next}
 use Rattle.ipam_cluster.specs.Turns.{IsTurn}
 use Rattle.ipam_kept.specs.declared.kept.Kept.{Kept}
@@ -60,7 +60,7 @@ stays-fed tells old new stay follows base history h = record { kept_for = stay.k
 -- the feed is made ready for the revision that the write takes
 pub ready-next : {D : Type 0} (tells : Tells D) (old : Kept D) (prepared : Prepared) → IsKept tells old → IsPrepared old.cluster prepared → (w : Option Write) → w ≡ prepared.write → ForSome w (λ one. write_revision one ≡ old.ring.counter + 1)
 ready-next tells old prepared (base, (history, h)) is w same done e =
-    next-revision old.cluster.store.store (slot_of old.cluster prepared.slot) done (sym is.write ∙ (sym same ∙ e)) ∙ ap (λ (n : ℕ). n + 1) (sym h.counter)
+    next-revision old.cluster.store.store (slot_of_cluster old.cluster prepared.slot) done (sym is.write ∙ (sym same ∙ e)) ∙ ap (λ (n : ℕ). n + 1) (sym h.counter)
 
 module _ {D : Type 0} (tells : Tells D) (old new : Kept D) (prepared : Prepared) (is : IsPrepared old.cluster prepared) (told : Entry) (keeps : KeepsWith tells old new told) where
   -- one that was done
@@ -69,7 +69,7 @@ module _ {D : Type 0} (tells : Tells D) (old new : Kept D) (prepared : Prepared)
       let behind = keeps base history h.kept_for in
       let lawful : Lawful base (entry.Called turn.told ∷ history) = subst (λ (e : Entry). Lawful base (e ∷ history)) turn.is_called behind.cluster.stands.lawful in
       let same : write_told turn.told.call turn.told.reply turn.told.written ≡ prepared.write = writes-done old.cluster base history turn.told h.kept_for.cluster lawful turn.has_fate
-      ∙ (ap (λ (s : ℕ). write_next (slot_of old.cluster s) old.cluster.store.store) turn.own ∙ sym is.write) in
+      ∙ (ap (λ (s : ℕ). write_next (slot_of_cluster old.cluster s) old.cluster.store.store) turn.own ∙ sym is.write) in
       record {
         kept_for = behind;
         follows = subst (λ (e : Entry). Follows new.ring base.store (writes_in (e ∷ history))) (sym turn.is_called)
@@ -94,7 +94,7 @@ module _ {D : Type 0} (tells : Tells D) (kept : Kept D) (counter : ℕ) (counts 
   counted : (base : Base) (history : List Entry) → FedFor tells kept base history → counter ≡ (store_at base history).counter
   counted base history h = counts ∙ ap (λ (s : Datastore). s.counter) h.kept_for.cluster.is_cluster.store
 
-  pub routes-told : (routes : List Route) → ((base : Datastore) (writes : List Write) → Follows kept.ring base writes → routes ≡ routes_in (feed.store_after base writes))
+  pub routes-told : (routes : List Route) → ((base : Datastore) (writes : List Write) → Follows kept.ring base writes → routes ≡ routes_in (feed.store_after_writes base writes))
       → (base : Base) (history : List Entry) → FedFor tells kept base history → AreRoutes base history counter routes
   routes-told routes exact base history h = record {
     is_counter = counted base history h;
@@ -102,7 +102,7 @@ module _ {D : Type 0} (tells : Tells D) (kept : Kept D) (counter : ℕ) (counts 
   }
 
   pub changes-told : (revision : ℕ) (changes : List Change) → ((base : Datastore) (writes : List Write) → Follows kept.ring base writes → changes ≡ changes_since base writes revision)
-      → ((base : Datastore) (writes : List Write) → Follows kept.ring base writes → Leads (routes_at base writes revision) changes (routes_in (feed.store_after base writes)))
+      → ((base : Datastore) (writes : List Write) → Follows kept.ring base writes → Leads (routes_at base writes revision) changes (routes_in (feed.store_after_writes base writes)))
       → (base : Base) (history : List Entry) → FedFor tells kept base history → AreChanges base history revision counter changes
   changes-told revision changes exact lead base history h = record {
     is_counter = counted base history h;

@@ -23,7 +23,7 @@ use Rattle.ipam_running.specs.declared.running.Running.{Running}
 use Rattle.ipam_running.specs.Running.{running_rest}
 use Rattle.ipam_cluster.specs.declared.cluster.Cluster.{Cluster}
 use Rattle.ipam_cluster.specs.declared.turns.Prepared.{Prepared}
-use Rattle.ipam_cluster.specs.Cluster.{AddsTo, IsSlot, IsUnchanged, StandsFor, slot_of}
+use Rattle.ipam_cluster.specs.Cluster.{AddsTo, IsSlot, IsUnchanged, StandsFor, slot_of_cluster}
 use Rattle.ipam_cluster.specs.Preparing.{IsPrepared, write_asked, write_next}
 use Rattle.ipam_cluster.specs.Turns.{IsTurn}
 use Rattle.ipam_feed.specs.Shape.{RingValue}
@@ -146,12 +146,12 @@ module _ {D : Type 0} (tells : Tells D) (old new : Kept D) (left : LeavesKeeper 
 
 -- ---- the write of what is prepared
 
-record Asking (store : Datastore) (done : Write) (one : model.Running) : Type 0 where
+record Asking (store : Datastore) (done : Write) (one : model.RunningRequest) : Type 0 where
   pub call : Call
   pub asks : next_call one.word ≡ Some call
   pub grants : write_granted call (reply_of store call) ≡ Some done
 
-asking : (store : Datastore) (done : Write) (held : Option Running) (there : Option model.Running) (one : model.Running) → IsSlot held there → there ≡ Some one → write_next held store ≡ Some done → Asking store done one
+asking : (store : Datastore) (done : Write) (held : Option Running) (there : Option model.RunningRequest) (one : model.RunningRequest) → IsSlot held there → there ≡ Some one → write_next held store ≡ Some done → Asking store done one
 asking store done None there one is runs e = absurd (cc e)
 asking store done (Some running) None one is runs e = absurd is
 asking store done (Some running) (Some own) one is runs e = by (next_call (running_rest running)) refl e
@@ -163,7 +163,7 @@ asking store done (Some running) (Some own) one is runs e = by (next_call (runni
     by None asks f = absurd (cc f)
     by (Some call) asks f = record {
       call = call;
-      asks = subst (λ (r : model.Running). next_call r.word ≡ Some call) same (ap next_call (sym is.word) ∙ asks);
+      asks = subst (λ (r : model.RunningRequest). next_call r.word ≡ Some call) same (ap next_call (sym is.word) ∙ asks);
       grants = f;
     }
 
@@ -175,8 +175,8 @@ module _ (old new : Cluster) (prepared : Prepared) (is : IsPrepared old prepared
       let behind = adds base history h in
       let lawful : Lawful base (entry.Called c ∷ history) = subst (λ (e : Entry). Lawful base (e ∷ history)) called behind.stands.lawful in
       let may = lawful.1 in
-      let next : write_next (slot_of old c.slot) old.store.store ≡ Some done = ap (λ (s : ℕ). write_next (slot_of old s) old.store.store) own ∙ (sym is.write ∙ writes) in
-      let ask = asking old.store.store done (slot_of old c.slot) ((cluster_at base history).slots c.slot) may.running (h.is_cluster.slots c.slot) may.runs next in
+      let next : write_next (slot_of_cluster old c.slot) old.store.store ≡ Some done = ap (λ (s : ℕ). write_next (slot_of_cluster old s) old.store.store) own ∙ (sym is.write ∙ writes) in
+      let ask = asking old.store.store done (slot_of_cluster old c.slot) ((cluster_at base history).slots c.slot) may.running (h.is_cluster.slots c.slot) may.runs next in
       let grants : write_granted ask.call (reply_of (store_at base history) ask.call) ≡ Some done = subst (λ (s : Datastore). write_granted ask.call (reply_of s ask.call) ≡ Some done) (store-is old base history h) ask.grants in
       done-instead base history c may.running ask.call done h.stands.consistent lawful may.runs ask.asks grants
 
@@ -268,7 +268,7 @@ module _ {D : Type 0} (gives : Gives D) (faults : D → ℕ) (slot : ℕ) (old :
   })
   doubt-over (inr comes) = inr (record {
     write = comes.write;
-    asked = subst (λ (s : Datastore). write_next (slot_of old.cluster slot) s ≡ Some comes.write) same.store
+    asked = subst (λ (s : Datastore). write_next (slot_of_cluster old.cluster slot) s ≡ Some comes.write) same.store
         (subst (λ (r : Option Running). write_next r cluster.store.store ≡ Some comes.write) (same.slots slot) comes.asked);
     doubt = comes.doubt;
     between = comes.between;

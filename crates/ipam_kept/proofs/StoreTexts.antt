@@ -32,14 +32,14 @@ use Rattle.ipam_laws.proofs.Openings.{less-than, never-less}
 use Rattle.ipam_laws.proofs.RowOrder.{found-member as store-member, member-found as store-found}
 use Rattle.ipam_kept.specs.declared.write.RowWrite.{RowWrite}
 use Rattle.ipam_kept.specs.declared.write.RowWrite.TheVariants.{Put, Remove}
-use Rattle.ipam_kept.specs.Rows.{AreTextsOf, key_written, putting_back, row_back, row_read, rows_after, texts_written}
+use Rattle.ipam_kept.specs.Rows.{AreTextsOf, key_written, putting_back, row_back, row_of_read_key, rows_after, texts_written}
 use Rattle.ipam_kept.proofs.TextRows.{ascend-by_key, by_key-ascend, equal-texts, found-member, member-found, other-texts, permutes, rows-differ, text-itself}
 
 -- ---- what stands at each key
 
 -- the text that a datastore has at a key's text
 pub text_found : List ℕ → Datastore → Option RowText
-text_found key store = option_map text_of (row_read (key_read key) store)
+text_found key store = option_map text_of (row_of_read_key (key_read key) store)
 
 -- the keys ascend, and each has the text that the datastore has there
 pub record StandAt (rows : List RowText) (store : Datastore) : Type 0 where
@@ -54,7 +54,7 @@ module _ (store : Datastore) (sound : IsDatastore store) where
   pub stands-at : (row : StoredRecord) → Contains store.rows row → text_found (key_bytes (row_key row)) store ≡ Some (text_of row)
   unfolding text_found
   stands-at row there =
-      ap (λ (k : Option Key). option_map text_of (row_read k store)) (key_read-key_bytes (row_key row) (key-sound row there))
+      ap (λ (k : Option Key). option_map text_of (row_of_read_key k store)) (key_read-key_bytes (row_key row) (key-sound row there))
       ∙ ap (option_map text_of) (store-found store.rows row sound.ascending there)
 
   -- what stands at a text is a row of the datastore with that key
@@ -71,7 +71,7 @@ module _ (store : Datastore) (sound : IsDatastore store) where
         ap key_bytes (row_key-row_of named store.rows own f) ∙ (IsTextOf-key_read key named is).spelled,
       )
 
-      by : (k : Option Key) → key_read key ≡ k → option_map text_of (row_read k store) ≡ Some row → (own : StoredRecord) × Contains store.rows own × (text_of own ≡ row) × (key_bytes (row_key own) ≡ key)
+      by : (k : Option Key) → key_read key ≡ k → option_map text_of (row_of_read_key k store) ≡ Some row → (own : StoredRecord) × Contains store.rows own × (text_of own ≡ row) × (key_bytes (row_key own) ≡ key)
       by None is g = absurd (cc g)
       by (Some named) is g = found named is (row_at_key named store.rows) refl g
 
@@ -166,7 +166,7 @@ put-found store revision new sound key = by (key_read key) refl
     next = written store (write.Put revision new)
 
     goal : Option Key → Bool → Type 0
-    goal k b = option_map text_of (row_read k next) ≡ cond b (Some (text_of row)) (option_map text_of (row_read k store))
+    goal k b = option_map text_of (row_of_read_key k next) ≡ cond b (Some (text_of row)) (option_map text_of (row_of_read_key k store))
 
     named-by : (named : Key) → key_read key ≡ Some named → (key_of new ≡ named) ⊎ (key_of new ≢ named) → goal (Some named) (texts_equal (key_bytes (key_of new)) key)
     named-by named is (inl same) =
@@ -190,7 +190,7 @@ gone-found store revision gone sound key = by (key_read key) refl
     next = written store (write.Remove revision gone)
 
     goal : Option Key → Bool → Type 0
-    goal k b = option_map text_of (row_read k next) ≡ cond b None (option_map text_of (row_read k store))
+    goal k b = option_map text_of (row_of_read_key k next) ≡ cond b None (option_map text_of (row_of_read_key k store))
 
     named-by : (named : Key) → key_read key ≡ Some named → (gone ≡ named) ⊎ (gone ≢ named) → goal (Some named) (texts_equal (key_bytes gone) key)
     named-by named is (inl same) =
@@ -245,9 +245,9 @@ back-is key (Some row) own = (own row refl, refl)
 -- the row of the datastore's key is put back by its text
 pub row_back-is : (key : List ℕ) (store : Datastore) → (key_written (row_back key store) ≡ key) × (row_left (row_back key store) ≡ text_found key store)
 unfolding text_found
-row_back-is key store = back-is key (row_read (key_read key) store) (λ row e. by (key_read key) refl row e)
+row_back-is key store = back-is key (row_of_read_key (key_read key) store) (λ row e. by (key_read key) refl row e)
   where
-    by : (k : Option Key) → key_read key ≡ k → (row : StoredRecord) → row_read k store ≡ Some row → key_bytes (row_key row) ≡ key
+    by : (k : Option Key) → key_read key ≡ k → (row : StoredRecord) → row_of_read_key k store ≡ Some row → key_bytes (row_key row) ≡ key
     by None is row e = absurd (cc e)
     by (Some named) is row e = ap key_bytes (row_key-row_of named store.rows row e) ∙ (IsTextOf-key_read key named is).spelled
 

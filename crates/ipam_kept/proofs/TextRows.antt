@@ -14,7 +14,7 @@ use Rattle.std.proofs.lemmas.List.Kept.{AllPairs-cons}
 use Rattle.std.proofs.lemmas.List.Sorted.{IsPermutation-cons, IsPermutation-middle, IsPermutation-refl, IsPermutation-sym, IsPermutation-trans}
 use Rattle.std.proofs.lemmas.Map.Lookups.{exact_bytes}
 use Rattle.ipam_records.specs.declared.call.Row.{Row}
-use Rattle.ipam_keeper.specs.Rows.{Ascend, row_key, row_of, text_cmp, texts_equal}
+use Rattle.ipam_keeper.specs.Rows.{Ascend, row_key_text, row_of, text_cmp, texts_equal}
 use Rattle.ipam_keeper.proofs.Searching.{text_total}
 use Rattle.ipam_laws.proofs.Members.{all-of, in-cons, in-find, in-here, in-nothing, in-there}
 use Rattle.ipam_laws.proofs.OpenedRows.{split-at}
@@ -54,10 +54,10 @@ other-texts a b differ = elim (cases_Bool (texts_equal a b)) [
 -- what is found is a member with the key
 pub found-member : (key : List ℕ) (rows : List Row) (row : Row) → row_of key rows ≡ Some row → Contains rows row × (row.key ≡ key)
 found-member key rows row e =
-    let (there, same) = in-find (λ (r : Row). texts_equal (row_key r) key) row rows e in
+    let (there, same) = in-find (λ (r : Row). texts_equal (row_key_text r) key) row rows e in
     (there, equal-texts row.key key same)
 
-less-than : (key : List ℕ) (rows : List Row) (row : Row) → AllByRecursion (λ other. text_cmp key other ≡ Less) (map row_key rows) → Contains rows row → text_cmp key row.key ≡ Less
+less-than : (key : List ℕ) (rows : List Row) (row : Row) → AllByRecursion (λ other. text_cmp key other ≡ Less) (map row_key_text rows) → Contains rows row → text_cmp key row.key ≡ Less
 less-than key [] row all h = absurd (in-nothing row h)
 less-than key (first ∷ rest) row all h = elim (in-cons row first rest h) [
   | inl is ↦ subst (λ (r : Row). text_cmp key r.key ≡ Less) is all.0

@@ -5,7 +5,7 @@ use Rattle.ipam_records.specs.declared.call.Row.{Row as RowText}
 use Rattle.ipam_records.specs.declared.call.Write.{Write}
 use Rattle.ipam_records.specs.Datastore.{Datastore}
 use Rattle.ipam_records.specs.Sound.{IsDatastore}
-use Rattle.ipam_keeper.specs.Keeping.{Change, SettlesOrNot}
+use Rattle.ipam_keeper.specs.Keeping.{KeeperChange, SettlesOrNot}
 use Rattle.ipam_kept.specs.declared.write.RowWrite.{RowWrite}
 use Rattle.ipam_kept.specs.Rows.{AreToldKept, change_of, key_written, row_back, rows_after, texts_written}
 
@@ -37,7 +37,7 @@ SettlesGiven store told doubt old new rows =
 
 -- of a keeper before, a change and the keeper after, whether it was given the change and failed
 abbrev pub Gives : Type 0 → Type 1
-Gives D = D → Change → D → Type 0
+Gives D = D → KeeperChange → D → Type 0
 
 module _ {D : Type 0} (gives : Gives D) where
   -- it was given back the row in doubt, which stays in doubt

@@ -5,7 +5,7 @@ use Rattle.ipam_records.specs.declared.call.Row.{Row as RowText}
 use Rattle.ipam_keeper.specs.Keeping.{IsTold}
 use Rattle.ipam_model.specs.Opened.{IsRefusedBy, OpensAs}
 use Rattle.ipam_cluster.specs.declared.cluster.Cluster.{Cluster}
-use Rattle.ipam_cluster.specs.Cluster.{StandsFor, slot_of}
+use Rattle.ipam_cluster.specs.Cluster.{StandsFor, slot_of_cluster}
 use Rattle.ipam_feed.specs.Follows.{Follows}
 use Rattle.ipam_feed.specs.Shape.{RingValue}
 use Rattle.ipam_kept.specs.declared.kept.Kept.{Kept}
@@ -20,7 +20,7 @@ pub record IsOpened {D : Type 0} (tells : Tells D) (faults name : D → ℕ) (ke
   pub told : IsTold (tells keeper) loaded
   pub opens : OpensAs (texts_loaded loaded) kept.cluster.store.store
   pub entries : kept.cluster.entries ≡ first
-  pub idle : (slot : ℕ) → slot_of kept.cluster slot ≡ None
+  pub idle : (slot : ℕ) → slot_of_cluster kept.cluster slot ≡ None
   pub stands : KeptFor tells kept (record { store = kept.cluster.store.store; first = first }) []
   pub sure : kept.doubt ≡ None
   pub same_rows : tells kept.keeper ≡ tells keeper
@@ -31,7 +31,7 @@ pub record IsOpened {D : Type 0} (tells : Tells D) (faults name : D → ℕ) (ke
 pub record IsFed (first : ℕ) (rows : List RowText) (both : Cluster × RingValue) : Type 0 where
   pub opens : OpensAs (texts_loaded rows) both.0.store.store
   pub entries : both.0.entries ≡ first
-  pub idle : (slot : ℕ) → slot_of both.0 slot ≡ None
+  pub idle : (slot : ℕ) → slot_of_cluster both.0 slot ≡ None
   pub stands : StandsFor both.0 (record { store = both.0.store.store; first = first }) []
   pub fed : Follows both.1 both.0.store.store []
 

@@ -7,7 +7,7 @@ use Rattle.ipam_records.specs.declared.call.Write.TheVariants as write
 use Rattle.ipam_records.specs.Datastore.{Datastore, row_of}
 use Rattle.ipam_records.specs.declared.key.Key.{Key}
 use Rattle.ipam_records.specs.KeyText.{key_bytes, key_read}
-use Rattle.ipam_keeper.specs.Keeping.{Change, PutIn, TakeOut}
+use Rattle.ipam_keeper.specs.Keeping.{KeeperChange, PutIn, TakeOut}
 use Rattle.ipam_keeper.specs.Rows.{rows_with, rows_without}
 use Rattle.ipam_model.specs.Opened.{AreByKey, Texts, text_of, texts_of}
 use Rattle.ipam_model.specs.Reads.{StoredRecord}
@@ -31,7 +31,7 @@ key_written (Put row) = row.key
 key_written (Remove key) = key
 
 -- the change that a keeper is given of it
-abbrev pub change_of : RowWrite → Change
+abbrev pub change_of : RowWrite → KeeperChange
 change_of (Put row) = PutIn row
 change_of (Remove key) = TakeOut key
 
@@ -41,9 +41,9 @@ rows_after (Put row) = rows_with row
 rows_after (Remove key) = rows_without key
 
 -- the row of a key that is read
-abbrev pub row_read : Option Key → Datastore → Option StoredRecord
-row_read None store = None
-row_read (Some key) store = row_of key store.rows
+abbrev pub row_of_read_key : Option Key → Datastore → Option StoredRecord
+row_of_read_key None store = None
+row_of_read_key (Some key) store = row_of key store.rows
 
 -- what puts a row back, or takes away the one that the datastore does not have
 abbrev pub putting_back : (key : List ℕ) → Option StoredRecord → RowWrite
@@ -52,7 +52,7 @@ putting_back key (Some row) = Put (text_of row)
 
 -- the write that leaves the datastore's row of the key
 abbrev pub row_back : (key : List ℕ) → Datastore → RowWrite
-row_back key store = putting_back key (row_read (key_read key) store)
+row_back key store = putting_back key (row_of_read_key (key_read key) store)
 
 -- ---- the rows of a keeper
 

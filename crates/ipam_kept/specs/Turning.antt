@@ -6,7 +6,7 @@ use Rattle.ipam_model.specs.declared.entry.Called.{Called}
 use Rattle.ipam_model.specs.declared.entry.Entry.{Entry}
 use Rattle.ipam_model.specs.declared.entry.Entry.TheVariants as entry
 use Rattle.ipam_model.specs.declared.entry.Fate.TheVariants.{Well, Before}
-use Rattle.ipam_cluster.specs.Cluster.{slot_of}
+use Rattle.ipam_cluster.specs.Cluster.{slot_of_cluster}
 use Rattle.ipam_cluster.specs.Preparing.{write_next}
 use Rattle.ipam_cluster.specs.Turns.{IsTurn}
 use Rattle.ipam_kept.specs.declared.kept.Kept.{Kept}
@@ -33,7 +33,7 @@ module _ {D : Type 0} (gives : Gives D) where
   -- was given to the keeper, which failed. Where nothing had been in doubt, that was all it was given.
   pub record ComesInDoubt (slot : ℕ) (old new : Kept D) (told : Entry) : Type 0 where
     pub write : Write
-    pub asked : write_next (slot_of old.cluster slot) old.cluster.store.store ≡ Some write
+    pub asked : write_next (slot_of_cluster old.cluster slot) old.cluster.store.store ≡ Some write
     pub doubt : new.doubt ≡ Some (texts_written write)
     pub between : D
     pub first : old.doubt ≡ None → between ≡ old.keeper

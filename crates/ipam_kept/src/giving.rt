@@ -7,7 +7,7 @@ ghost use Rattle.ipam_model.specs.Opened.{text_of};
 ghost use Rattle.ipam_records.specs.Datastore.{row_of};
 ghost use Rattle.ipam_records.specs.KeyText.{key_bytes};
 ghost use Rattle.ipam_kept.specs.Giving.{FailsBack, FailsWith, SettlesGiven, StayKept, WereGiven, known_after};
-ghost use Rattle.ipam_kept.specs.Rows.{change_of, putting_back, row_back, row_read, texts_written};
+ghost use Rattle.ipam_kept.specs.Rows.{change_of, putting_back, row_back, row_of_read_key, texts_written};
 
 use crate::write::RowWrite;
 use ipam_keeper::{KeepFault, Keeper};

@@ -57,7 +57,7 @@ impl<D: Drop> Drop for Kept<D> {
 }
 
 impl<D: Keeper> Kept<D> {
-    ghost use Rattle.ipam_cluster.specs.Cluster.{slot_of, state_in, WaitsWith};
+    ghost use Rattle.ipam_cluster.specs.Cluster.{slot_of_cluster, state_in, WaitsWith};
     ghost use Rattle.ipam_kept.specs.Rows.{key_written};
     ghost use Rattle.ipam_kept.specs.Kept.{IsKept, KeepsWith, LeavesKeeper, Stays};
     ghost use Rattle.ipam_kept.specs.Feed.{FedFor, FedWith, StaysFed, AreRoutes, AreChanges, IsCompacted, IsAhead};
@@ -104,8 +104,8 @@ impl<D: Keeper> Kept<D> {
     pub fn begin(&mut self, alloc: Global, slot: u8, request: &Request) -> Result<Entry, BeginFault>
         requires slot { slot < SLOTS }
         requires sound { IsSoundRequest request.now }
-        ensures busy { (result ≡ Err BeginFault.SlotBusy) ↔ IsSome (slot_of self.old.cluster slot) }
-        ensures worn { (result ≡ Err BeginFault.Worn) ↔ (slot_of self.old.cluster slot ≡ None × 2 ^ 62 ≤ self.old.cluster.entries) }
+        ensures busy { (result ≡ Err BeginFault.SlotBusy) ↔ IsSome (slot_of_cluster self.old.cluster slot) }
+        ensures worn { (result ≡ Err BeginFault.Worn) ↔ (slot_of_cluster self.old.cluster slot ≡ None × 2 ^ 62 ≤ self.old.cluster.entries) }
         ensures entry { IfOk result (λ began. began ≡ entry.Began slot request.now) }
         ensures keeps { IfOk result (KeepsWith D.rows self.old self.new) }
         ensures feeds { IfOk result (FedWith D.rows self.old self.new) }
@@ -129,11 +129,11 @@ impl<D: Keeper> Kept<D> {
     ) -> Result<Entry, FeedFault>
         requires slot { slot < SLOTS }
         requires sound { All IsHandleId live.now }
-        ensures not_waiting { (result ≡ Err FeedFault.NotWaiting) ↔ ¬ (state_in (slot_of self.old.cluster slot) ≡ state.Waiting) }
+        ensures not_waiting { (result ≡ Err FeedFault.NotWaiting) ↔ ¬ (state_in (slot_of_cluster self.old.cluster slot) ≡ state.Waiting) }
         ensures too_soon { (since grace : ℕ) → ((result ≡ Err (FeedFault.TooSoon since grace))
-            ↔ (WaitsWith (slot_of self.old.cluster slot) (record { at = since; grace = grace }) × at < since + grace)) }
+            ↔ (WaitsWith (slot_of_cluster self.old.cluster slot) (record { at = since; grace = grace }) × at < since + grace)) }
         ensures worn { (result ≡ Err FeedFault.Worn) ↔ (2 ^ 62 ≤ self.old.cluster.entries
-            × (grace : Grace) × WaitsWith (slot_of self.old.cluster slot) grace × grace.at + grace.grace ≤ at) }
+            × (grace : Grace) × WaitsWith (slot_of_cluster self.old.cluster slot) grace × grace.at + grace.grace ≤ at) }
         ensures entry { IfOk result (λ fed. fed ≡ entry.Fed slot at live.now) }
         ensures keeps { IfOk result (KeepsWith D.rows self.old self.new) }
         ensures feeds { IfOk result (FedWith D.rows self.old self.new) }
@@ -152,14 +152,14 @@ impl<D: Keeper> Kept<D> {
     pub fn turn(&mut self, alloc: Global, slot: u8) -> Result<Entry, PrepareFault>
         requires slot { slot < SLOTS }
         requires kept { IsKept D.rows self.old }
-        ensures idle { (result ≡ Err PrepareFault.SlotIdle) ↔ (slot_of self.old.cluster slot ≡ None) }
-        ensures waiting { (result ≡ Err PrepareFault.Waiting) ↔ (state_in (slot_of self.old.cluster slot) ≡ state.Waiting) }
-        ensures worn { (result ≡ Err PrepareFault.Worn) ↔ (2 ^ 62 ≤ self.old.cluster.entries × state_in (slot_of self.old.cluster slot) ≡ state.Running) }
+        ensures idle { (result ≡ Err PrepareFault.SlotIdle) ↔ (slot_of_cluster self.old.cluster slot ≡ None) }
+        ensures waiting { (result ≡ Err PrepareFault.Waiting) ↔ (state_in (slot_of_cluster self.old.cluster slot) ≡ state.Waiting) }
+        ensures worn { (result ≡ Err PrepareFault.Worn) ↔ (2 ^ 62 ≤ self.old.cluster.entries × state_in (slot_of_cluster self.old.cluster slot) ≡ state.Running) }
         ensures turned { IfOk result (λ told. IsDone D.faults slot self.old self.new told ⊎ IsFailed D.given D.faults slot self.old self.new told) }
         ensures keeps { IfOk result (KeepsWith D.rows self.old self.new) }
         ensures feeds { IfOk result (FedWith D.rows self.old self.new) }
         ensures sure { IfOk result (SureWith D.rows D.settled self.old self.new) }
-        ensures others { (other : ℕ) → ¬ (other ≡ slot) → slot_of self.new.cluster other ≡ slot_of self.old.cluster other }
+        ensures others { (other : ℕ) → ¬ (other ≡ slot) → slot_of_cluster self.new.cluster other ≡ slot_of_cluster self.old.cluster other }
         ensures refused { OnErr result (IsRefused D.faults self.old self.new) }
         ensures unchanged { OnErr result (Stays D.rows self.old self.new) }
         ensures still_fed { OnErr result (StaysFed D.rows self.old self.new) }
@@ -180,7 +180,7 @@ impl<D: Keeper> Kept<D> {
         ensures keeps { IfOk result (KeepsWith D.rows self.old self.new) }
         ensures feeds { IfOk result (FedWith D.rows self.old self.new) }
         ensures sure { IfOk result (SureWith D.rows D.settled self.old self.new) }
-        ensures others { IfOk result (λ told. (other : ℕ) → ¬ (other ≡ prepared.slot) → slot_of self.new.cluster other ≡ slot_of self.old.cluster other) }
+        ensures others { IfOk result (λ told. (other : ℕ) → ¬ (other ≡ prepared.slot) → slot_of_cluster self.new.cluster other ≡ slot_of_cluster self.old.cluster other) }
         ensures refused { OnErr result (IsRefused D.faults self.old self.new) }
         ensures unchanged { OnErr result (Stays D.rows self.old self.new) }
         ensures still_fed { OnErr result (StaysFed D.rows self.old self.new) }
@@ -210,13 +210,13 @@ impl<D: Keeper> Kept<D> {
     /// Ends what runs in the slot. None where nothing does. Takes no memory.
     pub fn stop(&mut self, slot: u8) -> Option<Entry>
         requires slot { slot < SLOTS }
-        ensures idle { IsNone result ↔ (slot_of self.old.cluster slot ≡ None) }
+        ensures idle { IsNone result ↔ (slot_of_cluster self.old.cluster slot ≡ None) }
         ensures entry { IfSome result (λ stopped. stopped ≡ entry.Stopped slot) }
         ensures keeps { IfSome result (KeepsWith D.rows self.old self.new) }
         ensures feeds { IfSome result (FedWith D.rows self.old self.new) }
         ensures sure { IfSome result (SureWith D.rows D.settled self.old self.new) }
-        ensures idle_after { slot_of self.new.cluster slot ≡ None }
-        ensures others { (other : ℕ) → ¬ (other ≡ slot) → slot_of self.new.cluster other ≡ slot_of self.old.cluster other }
+        ensures idle_after { slot_of_cluster self.new.cluster slot ≡ None }
+        ensures others { (other : ℕ) → ¬ (other ≡ slot) → slot_of_cluster self.new.cluster other ≡ slot_of_cluster self.old.cluster other }
         ensures unchanged { IfNone result (Stays D.rows self.old self.new) }
         ensures still_fed { IfNone result (StaysFed D.rows self.old self.new) }
         ensures still_sure { IfNone result (StaysSure D.rows D.settled self.old self.new) }

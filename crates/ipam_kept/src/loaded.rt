@@ -1,6 +1,6 @@
 //! The rows that a keeper loads.
 ghost use Rattle.std.specs.Prelude.{◌≡◌, ◌≤◌, ◌+◌, ◌^◌, ℕ, [], None, Err, IfOk, IfErr, OnOk};
-ghost use Rattle.ipam_cluster.specs.Cluster.{StandsFor, slot_of};
+ghost use Rattle.ipam_cluster.specs.Cluster.{StandsFor, slot_of_cluster};
 ghost use Rattle.ipam_feed.specs.Follows.{Follows};
 ghost use Rattle.ipam_io.specs.Counts.{Rose};
 ghost use Rattle.ipam_keeper.specs.Keeping.{IsTold, OnFailed, UnlessFailed};
@@ -100,7 +100,7 @@ fn open_fed(alloc: Global, rows: Vec<Row>, first: u64) -> Result<(Cluster, Ring)
     requires first { first ≤ 2 ^ 62 + SLOTS }
     ensures opens { IfOk result (λ both. OpensAs (texts_loaded rows.items) both.0.store.store) }
     ensures entries { IfOk result (λ both. both.0.entries ≡ first) }
-    ensures idle { IfOk result (λ both. (slot : ℕ) → slot_of both.0 slot ≡ None) }
+    ensures idle { IfOk result (λ both. (slot : ℕ) → slot_of_cluster both.0 slot ≡ None) }
     ensures stands { IfOk result (λ both. StandsFor both.0 (record { store = both.0.store.store; first = first }) []) }
     ensures fed { IfOk result (λ both. Follows both.1 both.0.store.store []) }
     ensures refused { IfErr result (IsFaultOf (texts_loaded rows.items)) }
@@ -118,7 +118,7 @@ fn open_cluster(alloc: Global, rows: Vec<Row>, first: u64) -> Result<Cluster, Op
     requires first { first ≤ 2 ^ 62 + SLOTS }
     ensures opens { IfOk result (λ cluster. OpensAs (texts_loaded rows.items) cluster.store.store) }
     ensures entries { IfOk result (λ cluster. cluster.entries ≡ first) }
-    ensures idle { IfOk result (λ cluster. (slot : ℕ) → slot_of cluster slot ≡ None) }
+    ensures idle { IfOk result (λ cluster. (slot : ℕ) → slot_of_cluster cluster slot ≡ None) }
     ensures stands { IfOk result (λ cluster. StandsFor cluster (record { store = cluster.store.store; first = first }) []) }
     ensures refused { IfErr result (IsFaultOf (texts_loaded rows.items)) }
 {

@@ -28,7 +28,7 @@ use Rattle.ipam_model.specs.Affinities.{BlockRead, Tie, affinity, baring, claim,
 use Rattle.ipam_model.specs.AffinityLaw.{HasAt}
 use Rattle.ipam_model.specs.declared.part.Assigned.{Assigned}
 use Rattle.ipam_model.specs.Assigning.{Target, after_claim, after_confirmed, assign, assign_block, assign_lost, claim_for}
-use Rattle.ipam_model.specs.Counting.{Freeing, credit_of, free, free_found, free_once, free_these, lower, lower_once, lowering, most_count, raise, raise_once, raise_write, revision_said, written_or_deleted}
+use Rattle.ipam_model.specs.Counting.{FreedOfHandle, credit_of, free, free_found, free_once, free_these, lower, lower_once, lowering, most_count, raise, raise_once, raise_write, revision_said, written_or_deleted}
 use Rattle.ipam_model.specs.Reads.{affinity_said, block_said, handle_said}
 use Rattle.ipam_model.specs.declared.part.Left.{Left}
 use Rattle.ipam_model.specs.declared.part.Outcome.{Outcome}
@@ -54,7 +54,7 @@ IsApart (Delete key revision) = IsNoBlock key
 abbrev pub IsCurrent : Datastore → (revision : ℕ) → BlockValue → Type 0
 IsCurrent store revision b = (found : Record) → HasAt store (key.Block b.cidr) revision found → found ≡ record_of.Block b
 
-abbrev pub freeing_call : Freeing → BlockValue → ℕ → Call
+abbrev pub freeing_call : FreedOfHandle → BlockValue → ℕ → Call
 freeing_call what b revision = Update (record_of.Block (block_without what.picks (next_block b))) revision
 
 abbrev pub assigning_call : Attributes → Target → Call
@@ -156,7 +156,7 @@ module _ (May : Trail → Datastore → CallLabel → Call → Type 0) (apart : 
   -- ---- freeing
 
   -- what may be freed after this trail
-  abbrev pub MayFree : Freeing → Trail → Type 0
+  abbrev pub MayFree : FreedOfHandle → Trail → Type 0
   MayFree what origin =
       (trail : Trail) → Since origin trail → (store : Datastore) (b : BlockValue) (revision amount : ℕ) → b.cidr ≡ what.block → IsCurrent store revision b → count_by what.picks b.allocations ≡ suc amount
       → May trail store idle (freeing_call what b revision)
@@ -178,7 +178,7 @@ module _ (May : Trail → Datastore → CallLabel → Call → Type 0) (apart : 
           let current : IsCurrent later there.0 b = λ one at_now. sym (agrees.0 (key.Block b.cidr) there.0 (record_of.Block b) one at_own at_now) in
           subst (λ (p : ℕ × BlockValue). (p.1.cidr ≡ cidr) × IsCurrent later p.0 p.1) whole (same, current)
 
-  free-these : (what : Freeing) (origin : Trail) (again : Part ℕ) (left : Left) (moment : ℕ) (store : Datastore) (trail : Trail) (found : ℕ × BlockValue) → MayFree what origin → Since origin trail
+  free-these : (what : FreedOfHandle) (origin : Trail) (again : Part ℕ) (left : Left) (moment : ℕ) (store : Datastore) (trail : Trail) (found : ℕ × BlockValue) → MayFree what origin → Since origin trail
       → ((longer : Trail) → Since origin longer → Acts May Any longer again) → block_said (reply_of store (Get (key.Block what.block))) ≡ Some found
       → (amount : ℕ) → count_by what.picks found.1.allocations ≡ amount → Acts May Any (Did moment store (Get (key.Block what.block)) ∷ trail) (free_these what again left amount found)
   free-these what origin again left moment store trail found may since h e zero count = tt
@@ -194,7 +194,7 @@ module _ (May : Trail → Datastore → CallLabel → Call → Type 0) (apart : 
             (h longer (Later (Did second other asked) (read ∷ trail) (Later read trail since))) tt tt,
       )
 
-  free-once : (what : Freeing) (origin : Trail) (again : Part ℕ) (left : Left) → MayFree what origin → ((longer : Trail) → Since origin longer → Acts May Any longer again) → (trail : Trail) → Since origin trail → Acts May Any trail (free_once what again left)
+  free-once : (what : FreedOfHandle) (origin : Trail) (again : Part ℕ) (left : Left) → MayFree what origin → ((longer : Trail) → Since origin longer → Acts May Any longer again) → (trail : Trail) → Since origin trail → Acts May Any trail (free_once what again left)
   free-once what origin again left may h trail since = λ moment store agrees.
       (apart trail store idle (Get (key.Block what.block)) tt, by moment store (block_said (reply_of store (Get (key.Block what.block)))) refl)
     where
@@ -202,12 +202,12 @@ module _ (May : Trail → Datastore → CallLabel → Call → Type 0) (apart : 
       by moment store None e = tt
       by moment store (Some found) e = free-these what origin again left moment store trail found may since h e (count_by what.picks found.1.allocations) refl
 
-  free-tries : (what : Freeing) (origin : Trail) (races claims : ℕ) → MayFree what origin → (trail : Trail) → Since origin trail → Acts May Any trail (tries (free_once what) races claims)
+  free-tries : (what : FreedOfHandle) (origin : Trail) (races claims : ℕ) → MayFree what origin → (trail : Trail) → Since origin trail → Acts May Any trail (tries (free_once what) races claims)
   unfolding tries
   free-tries what origin zero claims may = free-once what origin (stops (left_of zero claims) OutOfTries) (left_of zero claims) may (λ longer since. tt)
   free-tries what origin (suc races) claims may = free-once what origin (tries (free_once what) races claims) (left_of (suc races) claims) may (free-tries what origin races claims may)
 
-  pub free-acts : (what : Freeing) (left : Left) (origin : Trail) → MayFree what origin → Acts May Any origin (free what left)
+  pub free-acts : (what : FreedOfHandle) (left : Left) (origin : Trail) → MayFree what origin → Acts May Any origin (free what left)
   free-acts what left origin may = free-tries what origin left.races left.claims may origin Same
 
   -- ---- a claim

@@ -173,7 +173,7 @@ module _ (add : AddRequest) (address : AddrValue) where
       let there : ordinal_address slot (address.number - slot.base) ≡ address = λ i. record { family = sym inside.same_family i; number = sum i } in
       subst (λ (c : CidrValue). ordinal_address c (address.number - c.base) ≡ address) (sym (is ∙ number)) there
 
-  take-this : (pool : Pool) (looked : this.Looked) (next : this.NextRound) → ((left : Left) → ActsThis (next left)) → (origin : Trail) (left : Left) (found : ℕ × BlockValue)
+  take-this : (pool : Pool) (looked : this.LookedAtBlock) (next : this.NextThisRound) → ((left : Left) → ActsThis (next left)) → (origin : Trail) (left : Left) (found : ℕ × BlockValue)
       → holds_address pool.cidr address ≡ true → looked.cidr ≡ this.slot_holding pool address → found.1.cidr ≡ looked.cidr → ((store : Datastore) → AgreesAll store origin → IsCurrent store found.0 found.1)
       → Acts (Act (AddThis add address)) Any origin (this.this_take wanted next left looked found)
   unfolding AssignDone
@@ -193,7 +193,7 @@ module _ (add : AddRequest) (address : AddrValue) where
       ends longer (Went now None) = h now longer
       ends longer (Stops now why) = tt
 
-  claim-this : (looked : this.Looked) (next : this.NextRound) → ((left : Left) → ActsThis (next left)) → (left : Left) (read : BlockRead) → ActsThis (this.this_claim wanted next left looked read)
+  claim-this : (looked : this.LookedAtBlock) (next : this.NextThisRound) → ((left : Left) → ActsThis (next left)) → (left : Left) (read : BlockRead) → ActsThis (this.this_claim wanted next left looked read)
   claim-this looked next h left read trail =
       Acts-bound (Act (AddThis add address)) Any Any (onward (λ now done. next now)) (claim_for add.node looked.cidr read left) trail
       (claim_for-acts (Act (AddThis add address)) (apart-acts (AddThis add address)) (stands-acts (AddThis add address)) add.node looked.cidr read left trail) (λ longer outcome since any. ends longer outcome)
@@ -202,7 +202,7 @@ module _ (add : AddRequest) (address : AddrValue) where
       ends longer (Went now done) = h now longer
       ends longer (Stops now why) = tt
 
-  free-this : (pool : Pool) (looked : this.Looked) (next : this.NextRound) → ((left : Left) → ActsThis (next left)) → (origin : Trail) (left : Left) (found : ℕ × BlockValue)
+  free-this : (pool : Pool) (looked : this.LookedAtBlock) (next : this.NextThisRound) → ((left : Left) → ActsThis (next left)) → (origin : Trail) (left : Left) (found : ℕ × BlockValue)
       → holds_address pool.cidr address ≡ true → looked.cidr ≡ this.slot_holding pool address → found.1.cidr ≡ looked.cidr → ((store : Datastore) → AgreesAll store origin → IsCurrent store found.0 found.1)
       → Acts (Act (AddThis add address)) Any origin (this.this_free wanted next left looked found)
   free-this pool looked next h origin left found holds is same current = by (share_of looked.rules.config.strict add.node found.1)
@@ -212,7 +212,7 @@ module _ (add : AddRequest) (address : AddrValue) where
       by Claims = claim-this looked next h left (Some found) origin
       by Leaves = tt
 
-  block-this : (pool : Pool) (looked : this.Looked) (next : this.NextRound) → ((left : Left) → ActsThis (next left)) → (origin : Trail) (left : Left) (read : BlockRead)
+  block-this : (pool : Pool) (looked : this.LookedAtBlock) (next : this.NextThisRound) → ((left : Left) → ActsThis (next left)) → (origin : Trail) (left : Left) (read : BlockRead)
       → holds_address pool.cidr address ≡ true → looked.cidr ≡ this.slot_holding pool address → ((found : ℕ × BlockValue) → read ≡ Some found → (found.1.cidr ≡ looked.cidr) × ((store : Datastore) → AgreesAll store origin → IsCurrent store found.0 found.1))
       → Acts (Act (AddThis add address)) Any origin (this.this_block wanted next left looked read)
   block-this pool looked next h origin left None holds is known = claim-this looked next h left None origin
@@ -222,7 +222,7 @@ module _ (add : AddRequest) (address : AddrValue) where
       by None = free-this pool looked next h origin left found holds is (known found refl).0 (known found refl).1
       by (Some held) = tt
 
-  pool-this : (rules : this.Rules) (next : this.NextRound) → ((left : Left) → ActsThis (next left)) → (trail : Trail) (left : Left) (o : Option Pool) → ((pool : Pool) → o ≡ Some pool → holds_address pool.cidr address ≡ true)
+  pool-this : (rules : this.RulesRead) (next : this.NextThisRound) → ((left : Left) → ActsThis (next left)) → (trail : Trail) (left : Left) (o : Option Pool) → ((pool : Pool) → o ≡ Some pool → holds_address pool.cidr address ≡ true)
       → Acts (Act (AddThis add address)) Any trail (this.this_in_pool wanted next left rules o)
   pool-this rules next h trail left None holds = tt
   pool-this rules next h trail left (Some pool) holds = λ b store agrees.
@@ -236,7 +236,7 @@ module _ (add : AddRequest) (address : AddrValue) where
             )),
       )
 
-  round-this : (next : this.NextRound) → ((left : Left) → ActsThis (next left)) → (left : Left) → ActsThis (this.this_round wanted next left)
+  round-this : (next : this.NextThisRound) → ((left : Left) → ActsThis (next left)) → (left : Left) → ActsThis (this.this_round wanted next left)
   round-this next h left trail = λ c config a1. (
     Apart tt,
     λ p pools a2. (

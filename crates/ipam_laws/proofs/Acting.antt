@@ -15,7 +15,7 @@ use Rattle.ipam_model.specs.declared.request.CollectRequest.{CollectRequest}
 use Rattle.ipam_model.specs.declared.request.Request.{Request}
 use Rattle.ipam_model.specs.declared.request.Request.TheVariants.{Add, Del, Collect}
 use Rattle.ipam_model.specs.Assigning.{Target}
-use Rattle.ipam_model.specs.Counting.{Freeing, freeing_all, freeing_one}
+use Rattle.ipam_model.specs.Counting.{FreedOfHandle, freeing_all, freeing_one}
 use Rattle.ipam_model.specs.OwnerLaw.{MayGain}
 use Rattle.ipam_model.specs.Reads.{rows_said}
 use Rattle.ipam_model.specs.Remove.{Leak, freeing_owner, leaks, suspects}
@@ -37,7 +37,7 @@ pub record HasListed (collect : CollectRequest) (leak : Leak) (trail : Trail) : 
   pub is_leak : Contains (leaks (suspects collect (rows_said (reply_of first (ListAll kind.Block)))) live (rows_said (reply_of second (ListAll kind.Block)))) leak
 
 -- what the request may free
-pub data MayLose (request : Request) (trail : Trail) (what : Freeing) : Type 0 where
+pub data MayLose (request : Request) (trail : Trail) (what : FreedOfHandle) : Type 0 where
   OfDel : (id : List ℕ) (cidr : CidrValue) → request ≡ Del id → what ≡ freeing_all id cidr → MayLose request trail what
   OfAdd : (add : AddRequest) (target : Target) → request ≡ Add add → DidAssign add.attributes target trail
       → what ≡ freeing_one add.attributes.handle target.block.cidr target.ordinal (target.block.sequence + 1) → MayLose request trail what
@@ -51,5 +51,5 @@ pub data Act (request : Request) (trail : Trail) (store : Datastore) (label : Ca
   Stands : label.point ≢ Nowhere → Act request trail store label asked
   Assigns : (attributes : Attributes) (target : Target) → asked ≡ assigning_call attributes target → IsCurrent store target.revision target.block
       → MayGain request (new_owner target.block target.ordinal attributes) → Act request trail store label asked
-  Frees : (what : Freeing) (b : BlockValue) (revision amount : ℕ) → asked ≡ freeing_call what b revision → IsCurrent store revision b → b.cidr ≡ what.block
+  Frees : (what : FreedOfHandle) (b : BlockValue) (revision amount : ℕ) → asked ≡ freeing_call what b revision → IsCurrent store revision b → b.cidr ≡ what.block
       → count_by what.picks b.allocations ≡ suc amount → MayLose request trail what → Act request trail store label asked

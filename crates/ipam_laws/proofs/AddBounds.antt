@@ -238,27 +238,27 @@ add-within request =
 
 -- ---- one address
 
-abbrev ThisWithin : this.NextRound → Type 0
+abbrev ThisWithin : this.NextThisRound → Type 0
 ThisWithin next = (left : Left) (count : ℕ) → pays left + 0 + 10 ≤ count → Within Any (next left) count
 
-this_assigned-within : (wanted : this.Wanted) (next : this.NextRound) (looked : this.Looked) (left : Left) (done : Option Assigned) (count : ℕ) → ThisWithin next → LeavesAssigned 0 (Went left done) count → Within Any (this.this_assigned wanted next looked left done) count
+this_assigned-within : (wanted : this.Wanted) (next : this.NextThisRound) (looked : this.LookedAtBlock) (left : Left) (done : Option Assigned) (count : ℕ) → ThisWithin next → LeavesAssigned 0 (Went left done) count → Within Any (this.this_assigned wanted next looked left done) count
 this_assigned-within wanted next looked left (Some done) count n h = tt
 this_assigned-within wanted next looked left None count n h = n left count h
 
-this_take-within : (wanted : this.Wanted) (next : this.NextRound) (left : Left) (looked : this.Looked) (found : ℕ × block.BlockValue) (count : ℕ) → ThisWithin next → pays left + 5 ≤ count → Within Any (this.this_take wanted next left looked found) count
+this_take-within : (wanted : this.Wanted) (next : this.NextThisRound) (left : Left) (looked : this.LookedAtBlock) (found : ℕ × block.BlockValue) (count : ℕ) → ThisWithin next → pays left + 5 ≤ count → Within Any (this.this_take wanted next left looked found) count
 this_take-within wanted next left looked found count n h =
     let target = target_in found (wanted.address.number - looked.cidr.base) in
     Within-followed (LeavesAssigned 0) Any (assign wanted.request.attributes target left) (this.this_assigned wanted next looked) count
     (assign-within 0 count wanted.request.attributes target left (omega arith))
     (λ now done rest k. this_assigned-within wanted next looked now done rest n k) (λ now why rest k. tt)
 
-this_claim-within : (wanted : this.Wanted) (next : this.NextRound) (left : Left) (looked : this.Looked) (read : BlockRead) (count : ℕ) → ThisWithin next → pays left + 5 ≤ count → Within Any (this.this_claim wanted next left looked read) count
+this_claim-within : (wanted : this.Wanted) (next : this.NextThisRound) (left : Left) (looked : this.LookedAtBlock) (read : BlockRead) (count : ℕ) → ThisWithin next → pays left + 5 ≤ count → Within Any (this.this_claim wanted next left looked read) count
 this_claim-within wanted next left looked read count n h =
     Within-followed (LeavesClaimed 0) Any (claim_for wanted.request.node looked.cidr read left) (λ now done. next now) count
     (claim_for-within 0 count wanted.request.node looked.cidr read left (omega arith))
     (λ now done rest k. n now rest k) (λ now why rest k. tt)
 
-this_free-within : (wanted : this.Wanted) (next : this.NextRound) (left : Left) (looked : this.Looked) (found : ℕ × block.BlockValue) (count : ℕ) → ThisWithin next → pays left + 5 ≤ count → Within Any (this.this_free wanted next left looked found) count
+this_free-within : (wanted : this.Wanted) (next : this.NextThisRound) (left : Left) (looked : this.LookedAtBlock) (found : ℕ × block.BlockValue) (count : ℕ) → ThisWithin next → pays left + 5 ≤ count → Within Any (this.this_free wanted next left looked found) count
 this_free-within wanted next left looked found count n h = from (share_of looked.rules.config.strict wanted.request.node found.1)
   where
     from : (share : Share) → Within Any (by_share share (this.this_take wanted next left looked found) (this.this_claim wanted next left looked (Some found)) (goes left (not_affine.NotAffine looked.cidr looked.b))) count
@@ -266,24 +266,24 @@ this_free-within wanted next left looked found count n h = from (share_of looked
     from Claims = this_claim-within wanted next left looked (Some found) count n h
     from Refuses = tt
 
-this_held-within : (free : Part AddThisAnswer) (left : Left) (looked : this.Looked) (held : Option Allocation) (count : ℕ) → Within Any free count → Within Any (this.this_held free left looked held) count
+this_held-within : (free : Part AddThisAnswer) (left : Left) (looked : this.LookedAtBlock) (held : Option Allocation) (count : ℕ) → Within Any free count → Within Any (this.this_held free left looked held) count
 this_held-within free left looked None count f = f
 this_held-within free left looked (Some held) count f = tt
 
-this_block-within : (wanted : this.Wanted) (next : this.NextRound) (left : Left) (looked : this.Looked) (read : BlockRead) (count : ℕ) → ThisWithin next → pays left + 5 ≤ count → Within Any (this.this_block wanted next left looked read) count
+this_block-within : (wanted : this.Wanted) (next : this.NextThisRound) (left : Left) (looked : this.LookedAtBlock) (read : BlockRead) (count : ℕ) → ThisWithin next → pays left + 5 ≤ count → Within Any (this.this_block wanted next left looked read) count
 this_block-within wanted next left looked None count n h = this_claim-within wanted next left looked None count n h
 this_block-within wanted next left looked (Some found) count n h =
     this_held-within (this.this_free wanted next left looked found) left looked (holder found.1 (wanted.address.number - looked.cidr.base)) count
     (this_free-within wanted next left looked found count n h)
 
-this_in_pool-within : (wanted : this.Wanted) (next : this.NextRound) (left : Left) (rules : this.Rules) (pool : Option Pool) (count : ℕ) → ThisWithin next → pays left + 6 ≤ count → Within Any (this.this_in_pool wanted next left rules pool) count
+this_in_pool-within : (wanted : this.Wanted) (next : this.NextThisRound) (left : Left) (rules : this.RulesRead) (pool : Option Pool) (count : ℕ) → ThisWithin next → pays left + 6 ≤ count → Within Any (this.this_in_pool wanted next left rules pool) count
 this_in_pool-within wanted next left rules None count n h = tt
 this_in_pool-within wanted next left rules (Some pool) count n h = (
   omega arith,
   λ b said. this_block-within wanted next left (record { rules = rules; cidr = this.slot_holding pool wanted.address; b = b }) (block_said said) (count - 1) n (omega arith),
 )
 
-this_round-within : (wanted : this.Wanted) (next : this.NextRound) → ThisWithin next → ThisWithin (this.this_round wanted next)
+this_round-within : (wanted : this.Wanted) (next : this.NextThisRound) → ThisWithin next → ThisWithin (this.this_round wanted next)
 this_round-within wanted next n left count h = (
   omega arith,
   λ c config. (

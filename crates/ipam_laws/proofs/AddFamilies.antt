@@ -24,7 +24,7 @@ use Rattle.ipam_model.specs.declared.request.AddRequest.{AddRequest}
 use Rattle.ipam_model.specs.declared.outcome.Gift.{Gift}
 use Rattle.ipam_model.specs.declared.outcome.Served.{Served}
 use Rattle.ipam_model.specs.declared.outcome.Served.TheVariants.{Gave, Refused}
-use Rattle.ipam_model.specs.Add.{gift_of, NextRound, Round, add_each, add_stops, add_word, after_assign, after_family, after_stop, asked_of, claim_in, follow_pick, follow_rank, free_gift, name_at, refuse, round_of, serve, take_in}
+use Rattle.ipam_model.specs.Add.{gift_of, NextRound, Round, add_each, add_stops, add_word, after_assign, after_family, after_stop, asked_of, claim_in, follow_pick, follow_rank, free_gift, name_in_place, refuse, round_of, serve, take_in}
 use Rattle.ipam_block.specs.Operations.{ordinal_address}
 use Rattle.ipam_model.specs.declared.answer.Given.{Given}
 use Rattle.ipam_model.specs.AddLaw.{families_of, scan_of}
@@ -393,7 +393,7 @@ unfoldable pub IsTold : AddRequest → Answer → Trail → Type 0
 IsTold request (answer.Added given) trail = AreGivenBy request trail (families_of request) given
 IsTold request (answer.Exhausted scan) trail = IsChosen request scan Nothing trail
 IsTold request (answer.NoPool called moment) trail =
-    (scan : Scan) × (place : ℕ) × (moment ≡ scan.p) × (called ≡ name_at (names_for scan.family request) place) × IsChosen request scan (NoPool place) trail
+    (scan : Scan) × (place : ℕ) × (moment ≡ scan.p) × (called ≡ name_in_place (names_for scan.family request) place) × IsChosen request scan (NoPool place) trail
 IsTold request (answer.CountFull moment) trail = IsAimed request moment trail
 IsTold request _ trail = Unit {0}
 

@@ -32,7 +32,7 @@ use Rattle.ipam_model.specs.Add.{NextRound, Round, add_each, add_stops, add_word
 use Rattle.ipam_model.specs.Affinities.{BlockRead}
 use Rattle.ipam_model.specs.Assigning.{Target, assign, claim_for, target_in}
 use Rattle.ipam_model.specs.Choice.{Foreign, Lacks, Own, Pick, Picks, Rank, Seen, Unclaimed, Unconfirmed, Unknown, block_at, pick_of}
-use Rattle.ipam_model.specs.Counting.{Freeing, freeing_one}
+use Rattle.ipam_model.specs.Counting.{FreedOfHandle, freeing_one}
 use Rattle.ipam_model.specs.Requests.{told_as}
 use Rattle.ipam_model.specs.Step.{all_left, answer_of, onward, rounds, stops}
 use Rattle.ipam_model.specs.Told.{of_add}
@@ -50,7 +50,7 @@ use Rattle.ipam_laws.proofs.Trails.{Comes, Comes-bound, Did, Got, Trail}
 
 -- ---- what was given
 
-abbrev pub freeing_gift : AddRequest → Gift → Freeing
+abbrev pub freeing_gift : AddRequest → Gift → FreedOfHandle
 freeing_gift request gift = freeing_one request.attributes.handle gift.block (gift.given.address.number - gift.block.base) gift.stamp
 
 -- the call assigned the gift

@@ -14,8 +14,8 @@ use Rattle.ipam_model.specs.AddLaw.{HasNothing}
 use Rattle.ipam_model.specs.Answered.{Answered, history_of, span_of}
 use Rattle.ipam_model.specs.Assigning.{Target}
 use Rattle.ipam_model.specs.Consistent.{IsConsistent}
-use Rattle.ipam_model.specs.Counting.{Freeing, freeing_one}
-use Rattle.ipam_model.specs.History.{Lawful, Span, now, seen_at, seen_now}
+use Rattle.ipam_model.specs.Counting.{FreedOfHandle, freeing_one}
+use Rattle.ipam_model.specs.History.{Lawful, RequestSpan, now, seen_at, seen_now}
 use Rattle.ipam_model.specs.Moments.{GainedAt, Gains, Owns}
 use Rattle.ipam_model.specs.Owners.{Owner}
 use Rattle.ipam_laws.proofs.ActParts.{IsCurrent, assigning_call}
@@ -74,7 +74,7 @@ gained-held old next request target revision c d granted current is owner gains 
       picks = λ other recorded. stamped-by_owner b.cidr target.ordinal request.attributes.handle (b.sequence + 1) a other (sym recorded) (own-stamp target.ordinal a refl);
     })
 
-module _ (span : Span) (consistent : IsConsistent span.base.store) (lawful : Lawful span.base span.history) (request : AddRequest) (whole : Trail) (is_whole : IsTrail span (now span) whole) where
+module _ (span : RequestSpan) (consistent : IsConsistent span.base.store) (lawful : Lawful span.base span.history) (request : AddRequest) (whole : Trail) (is_whole : IsTrail span (now span) whole) where
   -- what a call gained that was freed after it is gone
   freed-gone : (m : ℕ) (store : Datastore) (asked : Call) (before : Trail) → DidAt span m store asked → IsFreedBehind request whole m store asked before → (owner : Owner) → Gains (seen_at span m) (seen_at span (m + 1)) owner → ¬ (Owns (seen_now span) owner)
   freed-gone m store asked before did freed owner gains =
@@ -89,7 +89,7 @@ module _ (span : Span) (consistent : IsConsistent span.base.store) (lawful : Law
       let g = gained-held (seen_at span m) (seen_at span (m + 1)) request target given.revision old new granted (λ found there. current found there) made owner gains in
       let what = freeing_one request.attributes.handle target.block.cidr target.ordinal (target.block.sequence + 1) in
       let same : freeing_gift request freed.gift ≡ what = λ i. freeing_one request.attributes.handle (given.block i) (given.ordinal i) (given.stamp i) in
-      let rid = subst (λ (w : Freeing). Rid w (Did m store asked ∷ before) freed.amount whole) same freed.rid in
+      let rid = subst (λ (w : FreedOfHandle). Rid w (Did m store asked ∷ before) freed.amount whole) same freed.rid in
       rid-gone span consistent lawful what owner g.picks (m + 1) g.held m (omega arith) whole (Did m store asked ∷ before) before freed.amount store asked refl is_whole rid
 
   gone : (trail : Trail) (upto : ℕ) → IsTrail span upto trail → Leaves request [] whole trail → (k : ℕ) → k < upto → (owner : Owner) → GainedAt span k owner → ¬ (Owns (seen_now span) owner)

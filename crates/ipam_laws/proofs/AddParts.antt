@@ -27,7 +27,7 @@ use Rattle.ipam_model.specs.Affinities.{BlockRead, affinity, claim, claim_block,
 use Rattle.ipam_model.specs.AffinityLaw.{HasAt}
 use Rattle.ipam_model.specs.declared.part.Assigned.{Assigned}
 use Rattle.ipam_model.specs.Assigning.{Target, after_claim, after_confirmed, assign, assign_block, assign_lost, claim_for}
-use Rattle.ipam_model.specs.Counting.{Freeing, credit_of, free, free_found, free_once, free_these, lower, lower_once, lowering, most_count, raise, raise_once, raise_write, revision_said, written_or_deleted}
+use Rattle.ipam_model.specs.Counting.{FreedOfHandle, credit_of, free, free_found, free_once, free_these, lower, lower_once, lowering, most_count, raise, raise_once, raise_write, revision_said, written_or_deleted}
 use Rattle.ipam_model.specs.declared.entry.CallName.TheVariants as name
 use Rattle.ipam_model.specs.Named.{name_of}
 use Rattle.ipam_model.specs.Reads.{affinity_said, block_said, handle_said}
@@ -150,7 +150,7 @@ lower-tries credit origin (suc races) claims = lower-once credit origin (tries (
 
 -- ---- freeing
 
-free-these : (what : Freeing) (again : Part ℕ) (left : Left) (amount : ℕ) (found : ℕ × block.BlockValue) → ((trail : Trail) → Comes StopsOtherwise trail again) → (trail : Trail) → Comes StopsOtherwise trail (free_these what again left amount found)
+free-these : (what : FreedOfHandle) (again : Part ℕ) (left : Left) (amount : ℕ) (found : ℕ × block.BlockValue) → ((trail : Trail) → Comes StopsOtherwise trail again) → (trail : Trail) → Comes StopsOtherwise trail (free_these what again left amount found)
 unfolding StopsOtherwise NotLimit GoesQuietly
 free-these what again left zero found h trail = tt
 free-these what again left (suc more) found h trail = λ moment store agrees.
@@ -169,21 +169,21 @@ free-these what again left (suc more) found h trail = λ moment store agrees.
         ends further (Went now done) k = tt
         ends further (Stops now why) k = k.0
 
-free-found : (what : Freeing) (again : Part ℕ) (left : Left) (found : Option (ℕ × block.BlockValue)) → ((trail : Trail) → Comes StopsOtherwise trail again) → (trail : Trail) → Comes StopsOtherwise trail (free_found what again left found)
+free-found : (what : FreedOfHandle) (again : Part ℕ) (left : Left) (found : Option (ℕ × block.BlockValue)) → ((trail : Trail) → Comes StopsOtherwise trail again) → (trail : Trail) → Comes StopsOtherwise trail (free_found what again left found)
 unfolding StopsOtherwise
 free-found what again left None h trail = tt
 free-found what again left (Some found) h trail = free-these what again left (count_by what.picks found.1.allocations) found h trail
 
-free-once : (what : Freeing) (again : Part ℕ) (left : Left) → ((trail : Trail) → Comes StopsOtherwise trail again) → (trail : Trail) → Comes StopsOtherwise trail (free_once what again left)
+free-once : (what : FreedOfHandle) (again : Part ℕ) (left : Left) → ((trail : Trail) → Comes StopsOtherwise trail again) → (trail : Trail) → Comes StopsOtherwise trail (free_once what again left)
 free-once what again left h trail = λ moment store agrees.
     free-found what again left (block_said (reply_of store (Get (key.Block what.block)))) h (Did moment store (Get (key.Block what.block)) ∷ trail)
 
-free-tries : (what : Freeing) (races claims : ℕ) (trail : Trail) → Comes StopsOtherwise trail (tries (free_once what) races claims)
+free-tries : (what : FreedOfHandle) (races claims : ℕ) (trail : Trail) → Comes StopsOtherwise trail (tries (free_once what) races claims)
 unfolding tries StopsOtherwise NotLimit
 free-tries what zero claims trail = free-once what (stops (left_of zero claims) OutOfTries) (left_of zero claims) (λ longer. tt) trail
 free-tries what (suc races) claims trail = free-once what (tries (free_once what) races claims) (left_of (suc races) claims) (free-tries what races claims) trail
 
-pub free-comes : (what : Freeing) (left : Left) (trail : Trail) → Comes StopsOtherwise trail (free what left)
+pub free-comes : (what : FreedOfHandle) (left : Left) (trail : Trail) → Comes StopsOtherwise trail (free what left)
 free-comes what left trail = free-tries what left.races left.claims trail
 
 -- ---- a claim

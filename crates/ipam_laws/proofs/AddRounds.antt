@@ -24,7 +24,7 @@ use Rattle.ipam_model.specs.declared.outcome.AddAnswer.TheVariants as add
 use Rattle.ipam_model.specs.declared.request.AddRequest.{AddRequest}
 use Rattle.ipam_model.specs.declared.outcome.Served.{Served}
 use Rattle.ipam_model.specs.declared.outcome.Served.TheVariants.{Gave, Refused}
-use Rattle.ipam_model.specs.Add.{asked_of, name_at}
+use Rattle.ipam_model.specs.Add.{asked_of, name_in_place}
 use Rattle.ipam_block.specs.Operations.{ordinal_address}
 use Rattle.ipam_model.specs.declared.answer.Given.{Given}
 use Rattle.ipam_model.specs.AddLaw.{families_of, scan_of}
@@ -265,7 +265,7 @@ unfoldable pub IsRefusal : AddRequest → AddAnswer → Trail → Type 0
 IsRefusal request (add.Added given) trail = AreGivenBy request trail (families_of request) given
 IsRefusal request (add.Exhausted scan) trail = IsChosen request scan Nothing trail
 IsRefusal request (add.NoPool called moment) trail =
-    (scan : Scan) × (place : ℕ) × (moment ≡ scan.p) × (called ≡ name_at (names_for scan.family request) place) × IsChosen request scan (NoPool place) trail
+    (scan : Scan) × (place : ℕ) × (moment ≡ scan.p) × (called ≡ name_in_place (names_for scan.family request) place) × IsChosen request scan (NoPool place) trail
 IsRefusal request (add.Again lost claims) trail = Unit {0}
 IsRefusal request add.Full trail = Unit {0}
 IsRefusal request (add.CountFull moment) trail = IsAimed request moment trail

@@ -21,7 +21,7 @@ use Rattle.ipam_records.proofs.DatastoreLemmas.{row_of-with_row}
 use Rattle.ipam_model.specs.declared.entry.CallName.TheVariants as name
 use Rattle.ipam_model.specs.AffinityLaw.{HasAt}
 use Rattle.ipam_model.specs.Cluster.{store_with}
-use Rattle.ipam_model.specs.Credits.{key_written}
+use Rattle.ipam_model.specs.Credits.{call_key_written}
 use Rattle.ipam_model.specs.Named.{name_of}
 use Rattle.ipam_model.specs.Owners.{owned_in, owned_in_row}
 use Rattle.ipam_model.specs.Reads.{StoredRecord}
@@ -34,7 +34,7 @@ use Rattle.ipam_laws.proofs.Trails.{AgreesAll, Did, Got, Trail}
 pub record IsGift (store : Datastore) (asked : Call) (family : Family) : Type 0 where
   pub cidr : CidrValue
   pub of_family : cidr.family ≡ family
-  pub writes : key_written (name_of asked) ≡ Some (key.Block cidr)
+  pub writes : call_key_written (name_of asked) ≡ Some (key.Block cidr)
   pub revision : ℕ
   pub done : reply_of store asked ≡ Can revision
   pub more : owned_in store cidr < owned_in (behind store asked) cidr
@@ -47,7 +47,7 @@ HasGift (Got moment at live ∷ trail) family = HasGift trail family
 -- after the call nobody owns who did not own before: it writes no block, or a block with no other
 -- allocations than it had, or a fresh one; or it was not done
 pub data Calm (store : Datastore) (asked : Call) : Type 0 where
-  NoBlock : ((cidr : CidrValue) → key_written (name_of asked) ≢ Some (key.Block cidr)) → Calm store asked
+  NoBlock : ((cidr : CidrValue) → call_key_written (name_of asked) ≢ Some (key.Block cidr)) → Calm store asked
   Keeps : (b new : block.BlockValue) (old : ℕ) → asked ≡ Update (record_of.Block new) old → ((found : Record) → HasAt store (key.Block b.cidr) old found → found ≡ record_of.Block b) → new.cidr ≡ b.cidr
       → ((a : Allocation) → Contains new.allocations a → Contains b.allocations a) → Calm store asked
   Begins : (new : block.BlockValue) → asked ≡ Create (record_of.Block new) → new.allocations ≡ [] → Calm store asked
@@ -77,7 +77,7 @@ quietly-calmly origin trail Same h = h
 quietly-calmly origin trail (More moment store asked longer quiet before) h = (quiet.calm, quietly-calmly origin longer before h)
 
 -- what writes no block is quiet
-pub not-block : (store : Datastore) (asked : Call) → name_of asked ≢ name.Get key.Config → ((cidr : CidrValue) → key_written (name_of asked) ≢ Some (key.Block cidr)) → IsQuiet store asked
+pub not-block : (store : Datastore) (asked : Call) → name_of asked ≢ name.Get key.Config → ((cidr : CidrValue) → call_key_written (name_of asked) ≢ Some (key.Block cidr)) → IsQuiet store asked
 not-block store asked no_round apart = record {
   gives_none = λ family gift. apart gift.cidr gift.writes;
   no_round = no_round;

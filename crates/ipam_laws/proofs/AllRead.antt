@@ -6,13 +6,13 @@ use Rattle.ipam_block.specs.Shape.{BlockValue}
 use Rattle.ipam_block_text.specs.declared.fault.BodyFault as block_fault
 use Rattle.ipam_block_text.specs.declared.fault.BodyFault.TheVariants as in_block
 use Rattle.ipam_block_text.specs.Body.{block_body}
-use Rattle.ipam_block_text.specs.Reading.{block_form, block_in, block_reading, checked, reading_from}
+use Rattle.ipam_block_text.specs.Reading.{block_form, block_of_parts_in, block_reading, checked, reading_from}
 use Rattle.ipam_pool.specs.declared.pools.Pool.{Pool}
 use Rattle.ipam_record_text.specs.declared.fault.BodyFault.{BodyFault}
 use Rattle.ipam_record_text.specs.declared.fault.BodyFault.TheVariants as in_body
 use Rattle.ipam_json.specs.Held.{held}
 use Rattle.ipam_record_text.specs.Config.{config_in, config_body, config_reading}
-use Rattle.ipam_record_text.specs.Pools.{are_added, pools_in, pools_body, pools_reading, table_of}
+use Rattle.ipam_record_text.specs.Pools.{are_added, pool_list_in, pools_body, pools_reading, table_of}
 use Rattle.ipam_record_text.specs.Reservations.{reservations_in, reservations_body, reservations_reading}
 use Rattle.ipam_record_text.specs.Affinity.{affinity_in, affinity_body, affinity_reading}
 use Rattle.ipam_record_text.specs.Handle.{handle_in, handle_body, handle_reading}
@@ -34,7 +34,7 @@ ok_or-form (Some x) e = cc e
 
 pools-no_memory : (body : List ℕ) → pools_reading body ≢ Err in_body.Memory
 unfolding pools_reading table_of
-pools-no_memory body = from (held pools_in pools_body body)
+pools-no_memory body = from (held pool_list_in pools_body body)
   where
     added : (pools : List Pool) (b : Bool) → cond b (Ok pools) (Err in_body.Table) ≢ Err in_body.Memory
     added pools true e = cc e
@@ -68,7 +68,7 @@ block-no_memory : (body : List ℕ) → block_reading body ≢ Err in_block.Memo
 unfolding block_reading
 block-no_memory body = elim (block_form body) as (λ o. reading_from body o ≢ Err in_block.Memory) [
   | None ↦ λ e. cc e
-  | Some f ↦ by f.0.cidr (block_in f.0 f.1)
+  | Some f ↦ by f.0.cidr (block_of_parts_in f.0 f.1)
 ]
   where
     has : (b : BlockValue) (cidr : CidrValue) (same : Bool) → cond same (Ok b) (Err (in_block.Unsound cidr)) ≢ Err in_block.Memory

@@ -12,18 +12,18 @@ use Rattle.ipam_model.specs.declared.entry.Fate.TheVariants.{Well}
 use Rattle.ipam_model.specs.declared.request.Request.{Request}
 use Rattle.ipam_model.specs.declared.request.Request.TheVariants as request_of
 use Rattle.ipam_model.specs.Alone.{alone, live_of, alone_over, IsFirstList, IsAlone, AloneHistoryLaw}
-use Rattle.ipam_model.specs.Cluster.{Cluster, Running, Slots, fresh_run, store_with, store_after, call_made, call_entry, word_after_reply, goes_on, run_after_feed, with_slot, after}
+use Rattle.ipam_model.specs.Cluster.{ClusterState, RunningRequest, Slots, fresh_run, store_with, store_after, call_made, call_entry, word_after_reply, goes_on, run_after_feed, with_slot, after}
 use Rattle.ipam_model.specs.History.{Base, Lawful, cluster_at, MayCall}
 use Rattle.ipam_model.specs.Requests.{word_of}
 use Rattle.ipam_laws.proofs.StoreSteps.{write_told-granted}
 
-abbrev AloneFrom : Cluster → Request → Word Answer → Answer × Datastore
+abbrev AloneFrom : ClusterState → Request → Word Answer → Answer × Datastore
 AloneFrom cluster request word = alone cluster.store cluster.entries (live_of request) word
 
 -- what is left comes to what the whole request comes to
-ComesTo : Base → List Entry → Request → Option Running → Type 0
+ComesTo : Base → List Entry → Request → Option RunningRequest → Type 0
 ComesTo base history request running =
-    (r : Running) → running ≡ Some r → AloneFrom (cluster_at base history) request r.word ≡ alone_over base request
+    (r : RunningRequest) → running ≡ Some r → AloneFrom (cluster_at base history) request r.word ≡ alone_over base request
 
 -- a call that is done leaves what follows it, at the store after it
 record CallsAlone (store : Datastore) (moment : ℕ) (live : List (List ℕ)) (word : Word Answer) (c : Called) : Type 0 where
@@ -47,7 +47,7 @@ ended-is (Waits next) told e = cc
 
 -- the call's slot and fate, and what it leaves
 call-alone : (base : Base) (request : Request) (history : List Entry) (c : Called) → MayCall (cluster_at base history) c → c.slot ≡ 0 → c.fate ≡ Well → ComesTo base history request ((cluster_at base history).slots 0)
-    → (running : Running) × ((cluster_at base history).slots c.slot ≡ Some running) × CallsAlone (cluster_at base history).store (cluster_at base history).entries (live_of request) running.word c × (AloneFrom (cluster_at base history) request running.word ≡ alone_over base request)
+    → (running : RunningRequest) × ((cluster_at base history).slots c.slot ≡ Some running) × CallsAlone (cluster_at base history).store (cluster_at base history).entries (live_of request) running.word c × (AloneFrom (cluster_at base history) request running.word ≡ alone_over base request)
 unfolding ComesTo
 call-alone base request history c may at_0 well comes =
     let made = subst (λ (f : Fate). call_entry c.slot f (cluster_at base history).store (cluster_at base history).entries may.running.word ≡ Some c) well may.is_called in
@@ -60,13 +60,13 @@ call-alone base request history c may at_0 well comes =
 
 -- ---- entry by entry
 
-own-slot : (slot : ℕ) (running : Option Running) (slots : Slots) (r : Running) → slot ≡ 0 → with_slot slot running slots 0 ≡ Some r → running ≡ Some r
+own-slot : (slot : ℕ) (running : Option RunningRequest) (slots : Slots) (r : RunningRequest) → slot ≡ 0 → with_slot slot running slots 0 ≡ Some r → running ≡ Some r
 own-slot slot running slots r at_0 e = sym (subst (λ (s : ℕ). with_slot s running slots 0 ≡ running) (sym at_0) refl) ∙ e
 
-begun-comes : (base : Base) (request : Request) (r : Running) → fresh_run request ≡ Some r → alone base.store (base.first + 1) (live_of request) r.word ≡ alone_over base request
+begun-comes : (base : Base) (request : Request) (r : RunningRequest) → fresh_run request ≡ Some r → alone base.store (base.first + 1) (live_of request) r.word ≡ alone_over base request
 begun-comes base request r e =
     let is : record { request = request; word = word_of request } ≡ r = cc e in
-    subst (λ (x : Running). alone base.store (base.first + 1) (live_of request) x.word ≡ alone_over base request) is refl
+    subst (λ (x : RunningRequest). alone base.store (base.first + 1) (live_of request) x.word ≡ alone_over base request) is refl
 
 first-live : (request : Request) (at : ℕ) (live : List (List ℕ)) → IsFirstList request at live → live ≡ live_of request
 first-live (request_of.Collect request) at live h = h.1
@@ -83,11 +83,11 @@ fed-alone store moment live (Ends answer) w = absurd (cc w)
 fed-alone store moment live (Asks label asked next) w = absurd (cc w)
 fed-alone store moment live (Waits next) w = refl
 
-goes-on-word : (store : Datastore) (moment : ℕ) (answer : Option Answer) (running r : Running) → goes_on store moment answer (Some running) ≡ Some r → r.word ≡ word_after_reply store moment running.word
+goes-on-word : (store : Datastore) (moment : ℕ) (answer : Option Answer) (running r : RunningRequest) → goes_on store moment answer (Some running) ≡ Some r → r.word ≡ word_after_reply store moment running.word
 goes-on-word store moment (Some answer) running r e = absurd (cc e)
 goes-on-word store moment None running r e =
     let is : record running { word = word_after_reply store moment running.word } ≡ r = cc e in
-    ap (λ (x : Running). x.word) (sym is)
+    ap (λ (x : RunningRequest). x.word) (sym is)
 
 comes : (base : Base) (request : Request) (history : List Entry) → Lawful base history → IsAlone request history → ComesTo base history request ((cluster_at base history).slots 0)
 unfolding Lawful cluster_at after ComesTo
@@ -106,7 +106,7 @@ comes base request (entry.Fed slot at live ∷ history) h (at_0, list, rest) = �
     let word : record may.running { word = after_feed may.running.word live } ≡ r = cc (there, own) in
     let before = comes base request history h.0 rest may.running (subst (λ (s : ℕ). (cluster_at base history).slots s ≡ Some may.running) at_0 may.runs) in
     let goes = fed-alone (cluster_at base history).store (cluster_at base history).entries (live_of request) may.running.word may.waiting in
-    subst (λ (x : Running). alone (cluster_at base history).store ((cluster_at base history).entries + 1) (live_of request) x.word ≡ alone_over base request) word
+    subst (λ (x : RunningRequest). alone (cluster_at base history).store ((cluster_at base history).entries + 1) (live_of request) x.word ≡ alone_over base request) word
     (subst (λ (l : List (List ℕ)). alone (cluster_at base history).store ((cluster_at base history).entries + 1) (live_of request) (after_feed may.running.word l) ≡ alone_over base request) (sym same) (goes ∙ before))
 comes base request (entry.Called c ∷ history) h (at_0, well, rest) = λ r is.
     let (running, runs, calls, whole) = call-alone base request history c h.1 at_0 well (comes base request history h.0 rest) in

@@ -33,7 +33,7 @@ use Rattle.ipam_model.specs.Affinities.{BlockRead, affinity, claim, claim_block,
 use Rattle.ipam_model.specs.AffinityLaw.{HasAt}
 use Rattle.ipam_model.specs.Assigning.{Target, after_claim, assign, assign_block, assign_lost, claim_for}
 use Rattle.ipam_model.specs.CountLaw.{count_in_row, handle_count}
-use Rattle.ipam_model.specs.Counting.{Freeing, credit_of, free, free_found, free_once, free_these, lower, lower_once, lowering, most_count, raise, raise_once, raise_write, revision_said, written_or_deleted}
+use Rattle.ipam_model.specs.Counting.{FreedOfHandle, credit_of, free, free_found, free_once, free_these, lower, lower_once, lowering, most_count, raise, raise_once, raise_write, revision_said, written_or_deleted}
 use Rattle.ipam_model.specs.Reads.{affinity_said, block_said, handle_said}
 use Rattle.ipam_model.specs.Step.{Part, part_then, goes, left_of, on_write, onward, stops, tries, write_back}
 use Rattle.ipam_laws.proofs.ActParts.{assigning_call, freeing_call}
@@ -192,7 +192,7 @@ module _ (live : List (List ℕ)) where
 
   -- ---- freeing
 
-  free-these : (what : Freeing) (again : Part ℕ) (left : Left) (store : Datastore) (moment amount : ℕ) (found : ℕ × BlockValue) → HasAt store (key.Block found.1.cidr) found.0 (record_of.Block found.1) → Runs live (Unlost left) store moment (free_these what again left amount found)
+  free-these : (what : FreedOfHandle) (again : Part ℕ) (left : Left) (store : Datastore) (moment amount : ℕ) (found : ℕ × BlockValue) → HasAt store (key.Block found.1.cidr) found.0 (record_of.Block found.1) → Runs live (Unlost left) store moment (free_these what again left amount found)
   free-these what again left store moment zero found there = refl
   free-these what again left store moment (suc more) found there = λ good.
       let new = record_of.Block (block_without what.picks (next_block found.1)) in
@@ -208,7 +208,7 @@ module _ (live : List (List ℕ)) where
       ends then later (Went now done) k = k
       ends then later (Stops now why) k = k
 
-  free-once : (what : Freeing) (again : Part ℕ) (left : Left) (store : Datastore) (moment : ℕ) → Runs live (Unlost left) store moment (free_once what again left)
+  free-once : (what : FreedOfHandle) (again : Part ℕ) (left : Left) (store : Datastore) (moment : ℕ) → Runs live (Unlost left) store moment (free_once what again left)
   free-once what again left store moment =
       runs-get live (Unlost left) store moment idle (key.Block what.block) (λ at said. free_found what again left (block_said said)) (λ good. by (row_of (key.Block what.block) store.rows) refl)
     where
@@ -220,12 +220,12 @@ module _ (live : List (List ℕ)) where
           subst (λ (x : Record). Runs live (Unlost left) store (moment + 1) (free_found what again left (block_said (Found row.0 x)))) (sym is)
           (free-these what again left store (moment + 1) (count_by what.picks b.allocations) (row.0, b) there)
 
-  free-tries : (what : Freeing) (races claims : ℕ) (store : Datastore) (moment : ℕ) → Runs live (Unlost (left_of races claims)) store moment (tries (free_once what) races claims)
+  free-tries : (what : FreedOfHandle) (races claims : ℕ) (store : Datastore) (moment : ℕ) → Runs live (Unlost (left_of races claims)) store moment (tries (free_once what) races claims)
   unfolding tries
   free-tries what zero claims store moment = free-once what (stops (left_of zero claims) OutOfTries) (left_of zero claims) store moment
   free-tries what (suc races) claims store moment = free-once what (tries (free_once what) races claims) (left_of (suc races) claims) store moment
 
-  pub free-runs : (what : Freeing) (left : Left) (store : Datastore) (moment : ℕ) → Runs live (Unlost left) store moment (free what left)
+  pub free-runs : (what : FreedOfHandle) (left : Left) (store : Datastore) (moment : ℕ) → Runs live (Unlost left) store moment (free what left)
   free-runs what left store moment = free-tries what left.races left.claims store moment
 
   -- ---- a claim

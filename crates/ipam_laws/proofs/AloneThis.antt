@@ -20,7 +20,7 @@ use Rattle.ipam_model.specs.declared.part.Outcome.{Outcome}
 use Rattle.ipam_model.specs.declared.part.Outcome.TheVariants.{Went, Stops}
 use Rattle.ipam_model.specs.declared.part.Stop.TheVariants.{OutOfTries}
 use Rattle.ipam_model.specs.declared.request.AddRequest.{AddRequest}
-use Rattle.ipam_model.specs.AddThis.{Looked, NextRound, Rules, Wanted, add_this_stops, add_this_word, asked_of_this, slot_holding, this_assigned, this_block, this_claim, this_free, this_held, this_in_pool, this_round, this_take}
+use Rattle.ipam_model.specs.AddThis.{LookedAtBlock, NextThisRound, RulesRead, Wanted, add_this_stops, add_this_word, asked_of_this, slot_holding, this_assigned, this_block, this_claim, this_free, this_held, this_in_pool, this_round, this_take}
 use Rattle.ipam_model.specs.Affinities.{BlockRead}
 use Rattle.ipam_model.specs.AffinityLaw.{HasAt}
 use Rattle.ipam_model.specs.Assigning.{assign, claim_for, target_in}
@@ -60,7 +60,7 @@ module _ (request : AddRequest) (address : AddrValue) where
   abbrev IsSettled : Datastore → Type 0
   IsSettled store = (pool : Pool) → pool_in store ≡ Some pool → IsOwnAt store (slot_holding pool address) request.node
 
-  take-runs : (looked : Looked) (next : NextRound) (left : Left) (found : ℕ × BlockValue) (store : Datastore) (moment : ℕ) → IsAsRead store looked.cidr (Some found) → Runs [] Fine store moment (this_take wanted next left looked found)
+  take-runs : (looked : LookedAtBlock) (next : NextThisRound) (left : Left) (found : ℕ × BlockValue) (store : Datastore) (moment : ℕ) → IsAsRead store looked.cidr (Some found) → Runs [] Fine store moment (this_take wanted next left looked found)
   take-runs looked next left found store moment as_read =
       let target = target_in found (address.number - looked.cidr.base) in
       Runs-bound [] (AssignEnds left) Fine (onward (this_assigned wanted next looked)) (assign request.attributes target left) store moment
@@ -73,26 +73,26 @@ module _ (request : AddRequest) (address : AddrValue) where
 
   -- ---- a round that claims nothing
 
-  settled-pool : (rules : Rules) (next : NextRound) (left : Left) (store : Datastore) (moment : ℕ) (o : Option Pool) → pool_in store ≡ o → IsSettled store → Runs [] Fine store moment (this_in_pool wanted next left rules o)
+  settled-pool : (rules : RulesRead) (next : NextThisRound) (left : Left) (store : Datastore) (moment : ℕ) (o : Option Pool) → pool_in store ≡ o → IsSettled store → Runs [] Fine store moment (this_in_pool wanted next left rules o)
   settled-pool rules next left store moment None is settled = λ lost claims e. cc e
   settled-pool rules next left store moment (Some pool) is settled =
       let cidr = slot_holding pool address in
       let own = settled pool is in
       runs-get [] Fine store moment idle (key.Block cidr) (λ b said. this_block wanted next left (record { rules = rules; cidr = cidr; b = b }) (block_said said))
       (λ good.
-      let looked : Looked = record { rules = rules; cidr = cidr; b = moment } in
+      let looked : LookedAtBlock = record { rules = rules; cidr = cidr; b = moment } in
       let P : Said → Type 0 = λ said. Runs [] Fine store (moment + 1) (this_block wanted next left looked (block_said said)) in
       let found : P (Found own.revision (record_of.Block own.b)) = held looked (own.revision, own.b) (own.is_of, own.there) own.own (holder own.b (address.number - cidr.base)) in
       subst P (sym (ap reply_to_get own.there)) found)
     where
-      held : (looked : Looked) (found : ℕ × BlockValue) → IsAsRead store looked.cidr (Some found) → is_node request.node found.1.node ≡ true → (o : Option Allocation) → Runs [] Fine store (moment + 1) (this_held (this_free wanted next left looked found) left looked o)
+      held : (looked : LookedAtBlock) (found : ℕ × BlockValue) → IsAsRead store looked.cidr (Some found) → is_node request.node found.1.node ≡ true → (o : Option Allocation) → Runs [] Fine store (moment + 1) (this_held (this_free wanted next left looked found) left looked o)
       held looked found as_read own (Some taken_by) = λ lost claims e. cc e
       held looked found as_read own None =
           let share : share_of looked.rules.config.strict request.node found.1 ≡ Takes = rw own refl in
           subst (λ (s : Share). Runs [] Fine store (moment + 1) (by_share s (this_take wanted next left looked found) (this_claim wanted next left looked (Some found)) (goes left (add.NotAffine looked.cidr looked.b)))) (sym share)
           (take-runs looked next left found store (moment + 1) as_read)
 
-  settled-round : (next : NextRound) (left : Left) (store : Datastore) (moment : ℕ) → IsSettled store → Runs [] Fine store moment (this_round wanted next left)
+  settled-round : (next : NextThisRound) (left : Left) (store : Datastore) (moment : ℕ) → IsSettled store → Runs [] Fine store moment (this_round wanted next left)
   settled-round next left store moment settled =
       let config = reply_of store (Get key.Config) in
       runs-get [] Fine store moment idle key.Config
@@ -108,11 +108,11 @@ module _ (request : AddRequest) (address : AddrValue) where
 
   -- ---- the first round
 
-  module _ (next : NextRound) (races claims : ℕ) (on : (then : Datastore) (later : ℕ) → IsSettled then → Runs [] Fine then later (next (left_of races claims))) where
+  module _ (next : NextThisRound) (races claims : ℕ) (on : (then : Datastore) (later : ℕ) → IsSettled then → Runs [] Fine then later (next (left_of races claims))) where
     abbrev left : Left
     left = left_of races (suc claims)
 
-    claim-runs : (looked : Looked) (pool : Pool) (read : BlockRead) (store : Datastore) (moment : ℕ) → pool_in store ≡ Some pool → looked.cidr ≡ slot_holding pool address → IsAsRead store looked.cidr read → Runs [] Fine store moment (this_claim wanted next left looked read)
+    claim-runs : (looked : LookedAtBlock) (pool : Pool) (read : BlockRead) (store : Datastore) (moment : ℕ) → pool_in store ≡ Some pool → looked.cidr ≡ slot_holding pool address → IsAsRead store looked.cidr read → Runs [] Fine store moment (this_claim wanted next left looked read)
     claim-runs looked pool read store moment is slot as_read =
         Runs-bound [] (ClaimForEnds [] races claims store request.node looked.cidr read) Fine (onward (λ now done. next now)) (claim_for request.node looked.cidr read left) store moment
         (claim_for-runs [] request.node looked.cidr read races claims store moment as_read) ends
@@ -132,7 +132,7 @@ module _ (request : AddRequest) (address : AddrValue) where
             (record { revision = c.revision; b = taken request.node looked.cidr read; there = c.has_block; is_of = taken-cidr [] request.node looked.cidr read store as_read; own = own read }) in
             subst (λ (l : Left). Runs [] Fine then later (next l)) (sym k.0) (on then later settled)
 
-    block-runs : (looked : Looked) (pool : Pool) (read : BlockRead) (store : Datastore) (moment : ℕ) → pool_in store ≡ Some pool → looked.cidr ≡ slot_holding pool address → IsAsRead store looked.cidr read → Runs [] Fine store moment (this_block wanted next left looked read)
+    block-runs : (looked : LookedAtBlock) (pool : Pool) (read : BlockRead) (store : Datastore) (moment : ℕ) → pool_in store ≡ Some pool → looked.cidr ≡ slot_holding pool address → IsAsRead store looked.cidr read → Runs [] Fine store moment (this_block wanted next left looked read)
     block-runs looked pool None store moment is slot as_read = claim-runs looked pool None store moment is slot as_read
     block-runs looked pool (Some found) store moment is slot as_read = held (holder found.1 (address.number - looked.cidr.base))
       where
@@ -145,7 +145,7 @@ module _ (request : AddRequest) (address : AddrValue) where
         held (Some taken_by) = λ lost more e. cc e
         held None = shared (share_of looked.rules.config.strict request.node found.1)
 
-    pool-runs : (rules : Rules) (store : Datastore) (moment : ℕ) (o : Option Pool) → pool_in store ≡ o → Runs [] Fine store moment (this_in_pool wanted next left rules o)
+    pool-runs : (rules : RulesRead) (store : Datastore) (moment : ℕ) (o : Option Pool) → pool_in store ≡ o → Runs [] Fine store moment (this_in_pool wanted next left rules o)
     pool-runs rules store moment None is = λ lost more e. cc e
     pool-runs rules store moment (Some pool) is =
         let cidr = slot_holding pool address in

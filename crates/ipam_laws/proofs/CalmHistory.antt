@@ -20,8 +20,8 @@ use Rattle.ipam_model.specs.declared.request.Request.{Request}
 use Rattle.ipam_model.specs.AffinityLaw.{HasAt}
 use Rattle.ipam_model.specs.Cluster.{after, store_with}
 use Rattle.ipam_model.specs.Consistent.{IsConsistent}
-use Rattle.ipam_model.specs.Credits.{key_written}
-use Rattle.ipam_model.specs.History.{Base, Lawful, Span, begin_moment, cluster_at, entry_at, first_of, moment_of, now, seen_at, store_at}
+use Rattle.ipam_model.specs.Credits.{call_key_written}
+use Rattle.ipam_model.specs.History.{Base, Lawful, RequestSpan, begin_moment, cluster_at, entry_at, newest_of, moment_of, now, seen_at, store_at}
 use Rattle.ipam_model.specs.Moments.{GainedAt, Gains, Owns}
 use Rattle.ipam_model.specs.Named.{name_of}
 use Rattle.ipam_model.specs.Owners.{Owner}
@@ -49,7 +49,7 @@ no-block-key (key.Block cidr) h = absurd (h cidr refl)
 no-block-key (key.Affinity node cidr) h = tt
 no-block-key (key.Handle id) h = tt
 
-pub is-apart : (asked : Call) → ((cidr : CidrValue) → key_written (name_of asked) ≢ Some (key.Block cidr)) → IsApart asked
+pub is-apart : (asked : Call) → ((cidr : CidrValue) → call_key_written (name_of asked) ≢ Some (key.Block cidr)) → IsApart asked
 is-apart (Get k) h = tt
 is-apart (ListAll kind) h = tt
 is-apart (Create new) h = no-block-key (key_of new) h
@@ -100,17 +100,17 @@ not-gained old new owner back gains = gains.was_free owner (back ((gains.are own
 
 -- ---- the entry with which a span begins
 
-drop-next : (many : ℕ) (list : List Entry) (first : Entry) → first_of (drop many list) ≡ Some first → drop many list ≡ first ∷ drop (suc many) list
+drop-next : (many : ℕ) (list : List Entry) (first : Entry) → newest_of (drop many list) ≡ Some first → drop many list ≡ first ∷ drop (suc many) list
 drop-next many [] first e = by many e
   where
-    by : (n : ℕ) → first_of (drop n []) ≡ Some first → drop n [] ≡ first ∷ drop (suc n) []
+    by : (n : ℕ) → newest_of (drop n []) ≡ Some first → drop n [] ≡ first ∷ drop (suc n) []
     by zero f = absurd (cc f)
     by (suc n) f = absurd (cc f)
 drop-next zero (one ∷ list) first e = let same : one ≡ first = cc e in ap (λ (x : Entry). x ∷ list) same
 drop-next (suc many) (one ∷ list) first e = drop-next many list first e
 
 -- an entry that is no call leaves the store
-pub quiet-entry : (span : Span) (k : ℕ) (there : Entry) → k < now span → entry_at span.base span.history k ≡ Some there → ((h : List Entry) → store_at span.base (there ∷ h) ≡ store_at span.base h) → seen_at span (k + 1) ≡ seen_at span k
+pub quiet-entry : (span : RequestSpan) (k : ℕ) (there : Entry) → k < now span → entry_at span.base span.history k ≡ Some there → ((h : List Entry) → store_at span.base (there ∷ h) ≡ store_at span.base h) → seen_at span (k + 1) ≡ seen_at span k
 quiet-entry span k there early is leaves =
     let many = moment_of span.base span.history - (k + 1) in
     let split = drop-next many span.history there is in
@@ -123,7 +123,7 @@ began-leaves base slot request h = refl
 
 -- ---- the span
 
-pub calm-step : (span : Span) (m : ℕ) (store : Datastore) (asked : Call) (owner : Owner) → IsConsistent span.base.store → Lawful span.base span.history → DidAt span m store asked → Calm store asked → ¬ (Gains (seen_at span m) (seen_at span (m + 1)) owner)
+pub calm-step : (span : RequestSpan) (m : ℕ) (store : Datastore) (asked : Call) (owner : Owner) → IsConsistent span.base.store → Lawful span.base span.history → DidAt span m store asked → Calm store asked → ¬ (Gains (seen_at span m) (seen_at span (m + 1)) owner)
 calm-step span m store asked owner c h did calm =
     let old = consistent-before span.base span.history m c h in
     let new = consistent-before span.base span.history (m + 1) c h in
@@ -132,7 +132,7 @@ calm-step span m store asked owner c h did calm =
     (λ owns. subst (λ (s : Datastore). Owns s owner) (sym did.before_it) (calm-owns store (seen_at span (m + 1)) asked old_there new did.behind_it calm owner owns))
 
 -- what a step before the moment gained, by the steps
-pub calm-gains-none : (span : Span) (trail : Trail) (upto k : ℕ) (owner : Owner) → IsConsistent span.base.store → Lawful span.base span.history → IsTrail span upto trail → Calmly trail → k < upto → ¬ (GainedAt span k owner)
+pub calm-gains-none : (span : RequestSpan) (trail : Trail) (upto k : ℕ) (owner : Owner) → IsConsistent span.base.store → Lawful span.base span.history → IsTrail span upto trail → Calmly trail → k < upto → ¬ (GainedAt span k owner)
 unfolding IsTrail Calmly
 calm-gains-none span [] upto k owner c h is calm below gained = elim (three k (begin_moment span)) [
   | inl early ↦ let since = gained.in_span.since in absurd (omega arith)

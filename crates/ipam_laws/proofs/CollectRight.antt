@@ -25,11 +25,11 @@ use Rattle.ipam_model.specs.declared.request.Request.{Request}
 use Rattle.ipam_model.specs.declared.request.Request.TheVariants.{Collect}
 use Rattle.ipam_model.specs.Answered.{Answered, history_of, span_of}
 use Rattle.ipam_model.specs.BlockLaw.{BlockAt}
-use Rattle.ipam_model.specs.Cluster.{Running, after}
+use Rattle.ipam_model.specs.Cluster.{RunningRequest, after}
 use Rattle.ipam_model.specs.Consistent.{IsConsistent}
-use Rattle.ipam_model.specs.History.{Base, Lawful, Span, begin_moment, cluster_at, now, seen_at, seen_now, store_at}
+use Rattle.ipam_model.specs.History.{Base, Lawful, RequestSpan, begin_moment, cluster_at, now, seen_at, seen_now, store_at}
 use Rattle.ipam_model.specs.Moments.{LostAt, LostInSpan, Owns, Recorded, request_in}
-use Rattle.ipam_model.specs.OtherLaws.{IsCollected, owner_in}
+use Rattle.ipam_model.specs.OtherLaws.{IsCollectedRight, owner_in}
 use Rattle.ipam_model.specs.OwnerLaw.{Collecting, IsLeak}
 use Rattle.ipam_model.specs.Owners.{IsBefore, Owner, same_owner}
 use Rattle.ipam_model.specs.Remove.{Leak, freeing_owner, item_of}
@@ -114,7 +114,7 @@ fed-leaves base slot at live h = refl
 
 -- ---- in the span
 
-module _ (span : Span) (consistent : IsConsistent span.base.store) (lawful : Lawful span.base span.history) (whole : List Leak) (items : List Item) (in_block : (leak : Leak) → Contains whole leak → IsInBlock leak) where
+module _ (span : RequestSpan) (consistent : IsConsistent span.base.store) (lawful : Lawful span.base span.history) (whole : List Leak) (items : List Item) (in_block : (leak : Leak) → Contains whole leak → IsInBlock leak) where
   -- a call that freed a leak took it away, and nobody else
   record IsTaken (m : ℕ) (leak : Leak) : Type 0 where
     was : Owns (seen_at span m) leak.owner
@@ -204,7 +204,7 @@ due-then : (a : Answered) (request : CollectRequest) → Lawful a.base (history_
 unfolding Lawful
 due-then a request h is requested = by ((cluster_at a.base a.earlier).slots a.call.slot) requested (fed-due a.base a.earlier h.0 a.call.slot)
   where
-    by : (o : Option Running) → option_map (λ (r : Running). r.request) o ≡ Some a.request → DueIn a.base a.earlier a.call.slot o → AreDue a.base (history_of a) a.call.slot (Collect request)
+    by : (o : Option RunningRequest) → option_map (λ (r : RunningRequest). r.request) o ≡ Some a.request → DueIn a.base a.earlier a.call.slot o → AreDue a.base (history_of a) a.call.slot (Collect request)
     by None e due = absurd (cc e)
     by (Some running) e due =
         let same : running.request ≡ a.request = cc e in
@@ -231,7 +231,7 @@ told-freed leak more = elim (cases_Bool (nat_lt 0 (suc more))) [
 ]
 
 pub collected-right : (a : Answered) (request : CollectRequest) (collected : Collected) (trail : Trail) → IsConsistent a.base.store → Lawful a.base (history_of a) → a.request ≡ Collect request → request_in (cluster_at a.base a.earlier) a.call.slot ≡ Some a.request → IsTrail (span_of a) (now (span_of a)) trail
-    → DidCollect request collected trail → IsCollected a request collected
+    → DidCollect request collected trail → IsCollectedRight a request collected
 unfolding IsTrail
 collected-right a request collected trail c h asked requested is d =
     let span = span_of a in

@@ -7,7 +7,7 @@ use Rattle.std.proofs.lemmas.List.Sums.{sum_by-cons}
 use Rattle.ipam_addr.specs.Shape.{CidrValue}
 use Rattle.ipam_records.specs.Sound.{IsDatastore}
 use Rattle.ipam_model.specs.declared.entry.Entry.{Entry}
-use Rattle.ipam_model.specs.Cluster.{Running}
+use Rattle.ipam_model.specs.Cluster.{RunningRequest}
 use Rattle.ipam_model.specs.CountLaw.{handle_count, held_count, credit_of_slot, credits, IsCovered, CountLaw, CreditLaw}
 use Rattle.ipam_model.specs.History.{Base, Lawful, cluster_at, store_at, slot_of_entry}
 use Rattle.ipam_laws.proofs.SlotSteps.{Turn, label_in, label_at, known_at, turn-of}
@@ -52,7 +52,7 @@ changed_sum f g slot same (suc many) from above below = elim (cases_Bool (from =
 ]
 
 -- what a slot owes is what its label says
-credit-label : (id : List ℕ) (cidr : CidrValue) (running : Option Running) → credit_of_slot id cidr running ≡ owed id cidr (label_in running)
+credit-label : (id : List ℕ) (cidr : CidrValue) (running : Option RunningRequest) → credit_of_slot id cidr running ≡ owed id cidr (label_in running)
 credit-label id cidr None = refl
 credit-label id cidr (Some running) = refl
 

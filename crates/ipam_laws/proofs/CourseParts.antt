@@ -2,11 +2,11 @@
 use Rattle.std.proofs.Common.{◌≡◌, ℕ, suc, ◌+◌, List, [], ◌∷◌, ◌++◌, length, Option, Some, None, refl, sym, ap, ap₂, ◌∙◌, arith, append_assoc}
 use Rattle.std.specs.Prelude.{Result, Ok, Err, option_map}
 use Rattle.ipam_model.specs.declared.entry.Entry.{Entry}
-use Rattle.ipam_model.specs.Cluster.{Cluster, after}
-use Rattle.ipam_model.specs.Course.{Course, Event, Refusal, Refused, one_later, behind, refused_at_once, entries_of, after_all, course}
+use Rattle.ipam_model.specs.Cluster.{ClusterState, after}
+use Rattle.ipam_model.specs.Course.{Course, Event, EventRefusal, Refused, one_later, behind, refused_at_once, entries_of, after_all, course}
 
 -- the course from the entries of its first event
-unfoldable pub course_next : Cluster → List Event → Result (List Entry) Refusal → Course
+unfoldable pub course_next : ClusterState → List Event → Result (List Entry) EventRefusal → Course
 course_next cluster events r = elim r [
   | Ok entries ↦ behind entries (course (after_all cluster entries) events)
   | Err refusal ↦ refused_at_once refusal
@@ -16,7 +16,7 @@ course_next cluster events r = elim r [
 abbrev pub later : ℕ → Refused → Refused
 later many refused = record { place = refused.place + many; why = refused.why }
 
-pub after_all-append : (cluster : Cluster) (first second : List Entry) → after_all cluster (first ++ second) ≡ after_all (after_all cluster first) second
+pub after_all-append : (cluster : ClusterState) (first second : List Entry) → after_all cluster (first ++ second) ≡ after_all (after_all cluster first) second
 unfolding after_all
 after_all-append cluster [] second = refl
 after_all-append cluster (new ∷ first) second = after_all-append (after cluster new) first second
@@ -50,7 +50,7 @@ one-later-none None e = refl
 one-later-none (Some refused) e = cc
 
 -- where nothing of the first list is refused
-pub course-append : (cluster : Cluster) (first second : List Event) → (course cluster first).refused ≡ None
+pub course-append : (cluster : ClusterState) (first second : List Event) → (course cluster first).refused ≡ None
     → course cluster (first ++ second)
     ≡ joined (length first) (course cluster first) (course (after_all cluster (course cluster first).entries) second)
 unfolding course course_next after_all
@@ -58,7 +58,7 @@ course-append cluster [] second none = course-same _ _ refl (sym (later-none _))
 course-append cluster (event ∷ first) second none =
     by (entries_of cluster event) none (λ entries. course-append (after_all cluster entries) first second)
   where
-    by : (r : Result (List Entry) Refusal) → (course_next cluster first r).refused ≡ None
+    by : (r : Result (List Entry) EventRefusal) → (course_next cluster first r).refused ≡ None
         → ((entries : List Entry) → (course (after_all cluster entries) first).refused ≡ None
         → course (after_all cluster entries) (first ++ second)
         ≡ joined (length first) (course (after_all cluster entries) first)
@@ -72,11 +72,11 @@ course-append cluster (event ∷ first) second none =
         let last = course (after_all (after_all cluster entries) mid.entries) second in
         ap (λ (c : Course). behind entries c) same
         ∙ course-same (behind entries (joined (length first) mid last)) (joined (suc (length first)) (behind entries mid) last) (sym (append_assoc entries mid.entries last.entries)) (later-one (length first) last.refused)
-        ∙ ap (λ (c : Cluster). joined (suc (length first)) (behind entries mid) (course c second)) (sym at)
+        ∙ ap (λ (c : ClusterState). joined (suc (length first)) (behind entries mid) (course c second)) (sym at)
     by (Err refusal) e rest = cc
 
 -- where something of the first list is refused, the second list does not matter
-pub course-refused : (cluster : Cluster) (first second : List Event) (refused : Refused) → (course cluster first).refused ≡ Some refused
+pub course-refused : (cluster : ClusterState) (first second : List Event) (refused : Refused) → (course cluster first).refused ≡ Some refused
     → course cluster (first ++ second) ≡ course cluster first
 unfolding course course_next
 course-refused cluster [] second refused e = cc
@@ -87,7 +87,7 @@ course-refused cluster (event ∷ first) second refused e =
     earlier None r f = cc
     earlier (Some before) r f = (before, refl)
 
-    by : (r : Result (List Entry) Refusal) → (course_next cluster first r).refused ≡ Some refused
+    by : (r : Result (List Entry) EventRefusal) → (course_next cluster first r).refused ≡ Some refused
         → ((entries : List Entry) (r : Refused) → (course (after_all cluster entries) first).refused ≡ Some r
         → course (after_all cluster entries) (first ++ second) ≡ course (after_all cluster entries) first)
         → course_next cluster (first ++ second) r ≡ course_next cluster first r

@@ -27,7 +27,7 @@ use Rattle.ipam_model.specs.AffinityLaw.{HasAt}
 use Rattle.ipam_model.specs.Cluster.{store_with}
 use Rattle.ipam_model.specs.CountLaw.{count_in_row, handle_count, held_count, held_in_row}
 use Rattle.ipam_model.specs.Counting.{credit_of}
-use Rattle.ipam_model.specs.Credits.{key_written}
+use Rattle.ipam_model.specs.Credits.{call_key_written}
 use Rattle.ipam_model.specs.Named.{name_of}
 use Rattle.ipam_model.specs.Step.{write_back}
 use Rattle.ipam_laws.proofs.CountLemmas.{cidr_cases, count-elsewhere, held-filter, kept-others, raised-here, text_cases}
@@ -55,7 +55,7 @@ undone-harmless store asked none = record {
 -- ---- calls that put a record
 
 pub record Puts (asked : Call) (new : Record) : Type 0 where
-  pub writes : key_written (name_of asked) ≡ Some (key_of new)
+  pub writes : call_key_written (name_of asked) ≡ Some (key_of new)
   pub puts : (store : Datastore) (revision : ℕ) → reply_of store asked ≡ Can revision → behind store asked ≡ written store (Put revision new)
 
 pub create-puts : (new : Record) → Puts (Create new) new
@@ -75,7 +75,7 @@ back-puts Full new = create-puts new
 back-puts Spent new = create-puts new
 
 -- a call about neither a block nor a handle
-pub apart-harmless : (store : Datastore) (asked : Call) (k : Key) → key_written (name_of asked) ≡ Some k → IsApart k → Harmless store asked
+pub apart-harmless : (store : Datastore) (asked : Call) (k : Key) → call_key_written (name_of asked) ≡ Some k → IsApart k → Harmless store asked
 apart-harmless store asked k writes apart = record {
   raises_none = λ id cidr raises.
       let same : Some k ≡ Some (key.Handle id) = sym writes ∙ raises.done.writes in

@@ -10,7 +10,7 @@ use Rattle.ipam_records.specs.Label.{Credit}
 use Rattle.ipam_records.specs.Said.{Can}
 use Rattle.ipam_model.specs.CountLaw.{handle_count, held_count}
 use Rattle.ipam_model.specs.Counting.{credit_of}
-use Rattle.ipam_model.specs.Credits.{key_written}
+use Rattle.ipam_model.specs.Credits.{call_key_written}
 use Rattle.ipam_model.specs.Named.{name_of}
 use Rattle.ipam_laws.proofs.Lift.{behind}
 use Rattle.ipam_laws.proofs.Trails.{Did, Got, Trail}
@@ -19,7 +19,7 @@ use Rattle.ipam_laws.proofs.Trails.{Did, Got, Trail}
 
 -- the call wrote the key's row, or deleted it
 pub record Done (store : Datastore) (asked : Call) (k : Key) : Type 0 where
-  pub writes : key_written (name_of asked) ≡ Some k
+  pub writes : call_key_written (name_of asked) ≡ Some k
   pub revision : ℕ
   pub can : reply_of store asked ≡ Can revision
 

@@ -9,8 +9,8 @@ use Rattle.ipam_model.specs.declared.entry.Called.{Called}
 use Rattle.ipam_model.specs.declared.entry.Entry.{Entry}
 use Rattle.ipam_model.specs.declared.entry.Entry.TheVariants as entry
 use Rattle.ipam_model.specs.declared.request.Request.{Request}
-use Rattle.ipam_model.specs.Cluster.{Running, after, fresh_run, run_after_feed, goes_on}
-use Rattle.ipam_model.specs.History.{Base, InSpan, Span, before, begin_moment, begins, cluster_at, moment_of, now, since_begin, store_at}
+use Rattle.ipam_model.specs.Cluster.{RunningRequest, after, fresh_run, run_after_feed, goes_on}
+use Rattle.ipam_model.specs.History.{Base, InSpan, RequestSpan, before, begin_moment, begins, cluster_at, moment_of, now, since_begin, store_at}
 use Rattle.ipam_model.specs.Moments.{IsNext, request_in}
 use Rattle.ipam_laws.proofs.FamilyHistory.{fed-not-called, none-first, three}
 use Rattle.ipam_laws.proofs.KeptWords.{slot-is}
@@ -19,7 +19,7 @@ use Rattle.ipam_laws.proofs.Trails.{Did, DidAt, Got, IsTrail, Trail, before-late
 
 -- ---- without the newest entry
 
-did-earlier : (span : Span) (new : Entry) (moment : ℕ) (store : Datastore) (asked : Call) → begins span.slot new ≡ false → moment < now span → DidAt (grown span new) moment store asked → DidAt span moment store asked
+did-earlier : (span : RequestSpan) (new : Entry) (moment : ℕ) (store : Datastore) (asked : Call) → begins span.slot new ≡ false → moment < now span → DidAt (grown span new) moment store asked → DidAt span moment store asked
 did-earlier span new moment store asked not early h = record {
   c = h.c;
   in_span = in-span-earlier span new moment (entry.Called h.c) not early h.in_span;
@@ -31,13 +31,13 @@ did-earlier span new moment store asked not early h = record {
   behind_it = sym (seen-later span new (moment + 1) (omega arith)) ∙ h.behind_it;
 }
 
-next-earlier : (span : Span) (new : Entry) (first second : ℕ) → begins span.slot new ≡ false → IsNext (grown span new) first second → IsNext span first second
+next-earlier : (span : RequestSpan) (new : Entry) (first second : ℕ) → begins span.slot new ≡ false → IsNext (grown span new) first second → IsNext span first second
 next-earlier span new first second not h = record {
   behind = h.behind;
   nothing_between = λ k there above below inside. h.nothing_between k there above below (in-span-later span new k there not inside);
 }
 
-trail-earlier : (span : Span) (new : Entry) (trail : Trail) (upto : ℕ) → begins span.slot new ≡ false → upto ≤ now span → IsTrail (grown span new) upto trail → IsTrail span upto trail
+trail-earlier : (span : RequestSpan) (new : Entry) (trail : Trail) (upto : ℕ) → begins span.slot new ≡ false → upto ≤ now span → IsTrail (grown span new) upto trail → IsTrail span upto trail
 unfolding IsTrail
 trail-earlier span new [] upto not early h =
     let begin = begin-later span new not in
@@ -64,14 +64,14 @@ trail-earlier span new (Got moment at live ∷ trail) upto not early h =
 
 -- ---- the request that runs
 
-abbrev request_at : Option Running → Option Request
-request_at o = option_map (λ (r : Running). r.request) o
+abbrev request_at : Option RunningRequest → Option Request
+request_at o = option_map (λ (r : RunningRequest). r.request) o
 
-fed-request : (live : List (List ℕ)) (o : Option Running) (request : Request) → request_at (run_after_feed live o) ≡ Some request → request_at o ≡ Some request
+fed-request : (live : List (List ℕ)) (o : Option RunningRequest) (request : Request) → request_at (run_after_feed live o) ≡ Some request → request_at o ≡ Some request
 fed-request live None request e = e
 fed-request live (Some running) request e = e
 
-goes-request : (store : Datastore) (moment : ℕ) (answer : Option Answer) (o : Option Running) (request : Request) → request_at (goes_on store moment answer o) ≡ Some request → request_at o ≡ Some request
+goes-request : (store : Datastore) (moment : ℕ) (answer : Option Answer) (o : Option RunningRequest) (request : Request) → request_at (goes_on store moment answer o) ≡ Some request → request_at o ≡ Some request
 goes-request store moment (Some answer) o request e = absurd (cc e)
 goes-request store moment None None request e = e
 goes-request store moment None (Some running) request e = e
@@ -141,22 +141,22 @@ was-before base slot history moment request trail begun_before early h runs = by
 
 -- ---- the newest step
 
-pub record NewestAt (span : Span) (upto : ℕ) (trail : Trail) (newest : Newest trail) : Type 0 where
+pub record NewestAt (span : RequestSpan) (upto : ℕ) (trail : Trail) (newest : Newest trail) : Type 0 where
   pub did : DidAt span newest.moment newest.store newest.asked
   pub next : IsNext span newest.moment upto
   pub rest : IsTrail span newest.moment newest.rest
 
-pub newest-at : (span : Span) (upto : ℕ) (trail : Trail) (newest : Newest trail) → IsTrail span upto trail → NewestAt span upto trail newest
+pub newest-at : (span : RequestSpan) (upto : ℕ) (trail : Trail) (newest : Newest trail) → IsTrail span upto trail → NewestAt span upto trail newest
 unfolding IsTrail
 newest-at span upto trail newest h =
     let there = subst (λ (t : Trail). IsTrail span upto t) newest.is h in record { did = there.0; next = there.1; rest = there.2 }
 
 -- the step of the latest call
-pub record LatestStep (span : Span) (trail : Trail) (moment : ℕ) : Type 0 where
+pub record LatestStep (span : RequestSpan) (trail : Trail) (moment : ℕ) : Type 0 where
   pub newest : Newest trail
   pub same : newest.moment ≡ moment
 
-pub latest-step : (span : Span) (trail : Trail) (upto : ℕ) → IsTrail span upto trail → (moment : ℕ) → IsNext span moment upto → (c : Called) → InSpan span moment (entry.Called c) → LatestStep span trail moment
+pub latest-step : (span : RequestSpan) (trail : Trail) (upto : ℕ) → IsTrail span upto trail → (moment : ℕ) → IsNext span moment upto → (c : Called) → InSpan span moment (entry.Called c) → LatestStep span trail moment
 unfolding IsTrail
 latest-step span [] upto h moment next c inside = absurd (none-first span moment upto c h.0 h.1 next.behind inside)
 latest-step span (Did m store asked ∷ trail) upto h moment next c inside = elim (three moment m) [
@@ -171,7 +171,7 @@ latest-step span (Got m at live ∷ trail) upto h moment next c inside = elim (t
 ]
 
 -- a trail comes after the beginning
-pub begins-below : (span : Span) (trail : Trail) (upto : ℕ) → IsTrail span upto trail → begin_moment span < upto
+pub begins-below : (span : RequestSpan) (trail : Trail) (upto : ℕ) → IsTrail span upto trail → begin_moment span < upto
 unfolding IsTrail
 begins-below span [] upto h = h.1.behind
 begins-below span (Did m store asked ∷ trail) upto h = let early = begins-below span trail m h.2 in let next = h.1.behind in omega arith

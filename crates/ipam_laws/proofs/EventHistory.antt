@@ -14,8 +14,8 @@ use Rattle.ipam_model.specs.declared.entry.Entry.TheVariants as entry
 use Rattle.ipam_model.specs.declared.entry.Fate.{Fate}
 use Rattle.ipam_model.specs.declared.entry.Fate.TheVariants.{Well, Before, After}
 use Rattle.ipam_model.specs.declared.request.Request.{Request}
-use Rattle.ipam_model.specs.Cluster.{Cluster, Running, Slots, call_entry, after}
-use Rattle.ipam_model.specs.Course.{Course, Event, Begin, Turn, Feed, Stop, Restart, Refusal, Worn, NotWaiting, one, unless_worn, begin_entry, turn_entry, turn_called, feed_entry, feed_waiting, is_due, too_soon, stop_entry, busy_slots, entries_of, after_all, behind, refused_at_once, course, most_entries, slot_count}
+use Rattle.ipam_model.specs.Cluster.{ClusterState, RunningRequest, Slots, call_entry, after}
+use Rattle.ipam_model.specs.Course.{Course, Event, Begin, Turn, Feed, Stop, Restart, EventRefusal, Worn, NotWaiting, one, unless_worn, begin_entry, turn_entry, turn_called, feed_entry, feed_waiting, is_due, too_soon, stop_entry, busy_slots, entries_of, after_all, behind, refused_at_once, course, most_entries, slot_count}
 use Rattle.ipam_model.specs.CourseLaw.{IsEvent, CourseLaw, event_of, HistoryLaw}
 use Rattle.ipam_model.specs.History.{Base, Lawful, cluster_at, start, MayCome, MayFeed, MayCall, MayStop}
 
@@ -48,11 +48,11 @@ comes-append base (new ∷ first) second history c d = (c.0, comes-append base f
 
 -- ---- what an event makes may come
 
-pub record IsOne (cluster : Cluster) (new : Entry) (entries : List Entry) : Type 0 where
+pub record IsOne (cluster : ClusterState) (new : Entry) (entries : List Entry) : Type 0 where
   pub is : entries ≡ new ∷ []
   pub not_worn : cluster.entries < most_entries
 
-one-unless_worn : (cluster : Cluster) (new : Entry) (entries : List Entry) → one (unless_worn cluster new) ≡ Ok entries → IsOne cluster new entries
+one-unless_worn : (cluster : ClusterState) (new : Entry) (entries : List Entry) → one (unless_worn cluster new) ≡ Ok entries → IsOne cluster new entries
 one-unless_worn cluster new entries e = from (nat_lt cluster.entries most_entries) refl e
   where
     from : (b : Bool) → nat_lt cluster.entries most_entries ≡ b → one (cond b (Ok new) (Err Worn)) ≡ Ok entries → IsOne cluster new entries
@@ -66,7 +66,7 @@ comes-one base history new entries is may = subst (λ (es : List Entry). Comes b
 begin-comes : (base : Base) (history : List Entry) (slot : ℕ) (request : Request) (entries : List Entry) → IsEvent (Begin slot request) → entries_of (cluster_at base history) (Begin slot request) ≡ Ok entries → Comes base history entries
 begin-comes base history slot request entries sound e = from ((cluster_at base history).slots slot) refl e
   where
-    from : (o : Option Running) → (cluster_at base history).slots slot ≡ o → one (begin_entry (cluster_at base history) slot request o) ≡ Ok entries → Comes base history entries
+    from : (o : Option RunningRequest) → (cluster_at base history).slots slot ≡ o → one (begin_entry (cluster_at base history) slot request o) ≡ Ok entries → Comes base history entries
     from None idle f =
         let h = one-unless_worn (cluster_at base history) (entry.Began slot request) entries f in
         comes-one base history (entry.Began slot request) entries h.is (record {
@@ -84,7 +84,7 @@ entry-slot slot Well store moment (Asks label asked next) c e = (cc, cc)
 entry-slot slot Before store moment (Asks label asked next) c e = (cc, cc)
 entry-slot slot After store moment (Asks label asked next) c e = (cc, cc)
 
-call-may : (cluster : Cluster) (slot : ℕ) (fate : Fate) (running : Running) (c : Called) → slot < slot_count → cluster.entries < most_entries → cluster.slots slot ≡ Some running → call_entry slot fate cluster.store cluster.entries running.word ≡ Some c → MayCall cluster c
+call-may : (cluster : ClusterState) (slot : ℕ) (fate : Fate) (running : RunningRequest) (c : Called) → slot < slot_count → cluster.entries < most_entries → cluster.slots slot ≡ Some running → call_entry slot fate cluster.store cluster.entries running.word ≡ Some c → MayCall cluster c
 call-may cluster slot fate running c below not_worn runs e =
     let (same_slot, same_fate) = entry-slot slot fate cluster.store cluster.entries running.word c e in
     record {
@@ -98,21 +98,21 @@ call-may cluster slot fate running c below not_worn runs e =
 turn-comes : (base : Base) (history : List Entry) (slot : ℕ) (fate : Fate) (entries : List Entry) → IsEvent (Turn slot fate) → entries_of (cluster_at base history) (Turn slot fate) ≡ Ok entries → Comes base history entries
 turn-comes base history slot fate entries below e = from ((cluster_at base history).slots slot) refl e
   where
-    made : (running : Running) → (cluster_at base history).slots slot ≡ Some running → (o : Option Called) → call_entry slot fate (cluster_at base history).store (cluster_at base history).entries running.word ≡ o → one (turn_called (cluster_at base history) o) ≡ Ok entries → Comes base history entries
+    made : (running : RunningRequest) → (cluster_at base history).slots slot ≡ Some running → (o : Option Called) → call_entry slot fate (cluster_at base history).store (cluster_at base history).entries running.word ≡ o → one (turn_called (cluster_at base history) o) ≡ Ok entries → Comes base history entries
     made running runs None is f = cc
     made running runs (Some c) is f =
         let h = one-unless_worn (cluster_at base history) (entry.Called c) entries f in
         comes-one base history (entry.Called c) entries h.is
         (call-may (cluster_at base history) slot fate running c below h.not_worn runs is)
 
-    from : (o : Option Running) → (cluster_at base history).slots slot ≡ o → one (turn_entry (cluster_at base history) slot fate o) ≡ Ok entries → Comes base history entries
+    from : (o : Option RunningRequest) → (cluster_at base history).slots slot ≡ o → one (turn_entry (cluster_at base history) slot fate o) ≡ Ok entries → Comes base history entries
     from None idle f = cc
     from (Some running) runs f = made running runs (call_entry slot fate (cluster_at base history).store (cluster_at base history).entries running.word) refl f
 
 feed-comes : (base : Base) (history : List Entry) (slot at : ℕ) (live : List (List ℕ)) (entries : List Entry) → IsEvent (Feed slot at live) → entries_of (cluster_at base history) (Feed slot at live) ≡ Ok entries → Comes base history entries
 feed-comes base history slot at live entries sound e = from ((cluster_at base history).slots slot) refl e
   where
-    timed : (running : Running) → (cluster_at base history).slots slot ≡ Some running → IsTrue (waits running.word) → (b : Bool) → is_due running.request at ≡ b
+    timed : (running : RunningRequest) → (cluster_at base history).slots slot ≡ Some running → IsTrue (waits running.word) → (b : Bool) → is_due running.request at ≡ b
         → one (cond b (unless_worn (cluster_at base history) (entry.Fed slot at live)) (Err (too_soon running.request))) ≡ Ok entries → Comes base history entries
     timed running runs waiting true late f =
         let h = one-unless_worn (cluster_at base history) (entry.Fed slot at live) entries f in
@@ -126,18 +126,18 @@ feed-comes base history slot at live entries sound e = from ((cluster_at base hi
         })
     timed running runs waiting false late f = cc
 
-    fed : (running : Running) → (cluster_at base history).slots slot ≡ Some running → (b : Bool) → waits running.word ≡ b → one (cond b (feed_waiting (cluster_at base history) slot at live running.request) (Err NotWaiting)) ≡ Ok entries → Comes base history entries
+    fed : (running : RunningRequest) → (cluster_at base history).slots slot ≡ Some running → (b : Bool) → waits running.word ≡ b → one (cond b (feed_waiting (cluster_at base history) slot at live running.request) (Err NotWaiting)) ≡ Ok entries → Comes base history entries
     fed running runs true waiting f = timed running runs waiting (is_due running.request at) refl f
     fed running runs false waiting f = cc
 
-    from : (o : Option Running) → (cluster_at base history).slots slot ≡ o → one (feed_entry (cluster_at base history) slot at live o) ≡ Ok entries → Comes base history entries
+    from : (o : Option RunningRequest) → (cluster_at base history).slots slot ≡ o → one (feed_entry (cluster_at base history) slot at live o) ≡ Ok entries → Comes base history entries
     from None idle f = cc
     from (Some running) runs f = fed running runs (waits running.word) refl f
 
 stop-comes : (base : Base) (history : List Entry) (slot : ℕ) (entries : List Entry) → IsEvent (Stop slot) → entries_of (cluster_at base history) (Stop slot) ≡ Ok entries → Comes base history entries
 stop-comes base history slot entries below e = from ((cluster_at base history).slots slot) refl e
   where
-    from : (o : Option Running) → (cluster_at base history).slots slot ≡ o → one (stop_entry slot o) ≡ Ok entries → Comes base history entries
+    from : (o : Option RunningRequest) → (cluster_at base history).slots slot ≡ o → one (stop_entry slot o) ≡ Ok entries → Comes base history entries
     from None idle f = cc
     from (Some running) runs f =
         let is : entries ≡ entry.Stopped slot ∷ [] = cc in
@@ -178,7 +178,7 @@ event-comes base history Restart entries is e =
     (stops-come base (cluster_at base history).slots 64 0 history (omega arith) (λ s above. refl))
 
 -- the course from the entries of its first event
-course_next : Cluster → List Event → Result (List Entry) Refusal → Course
+course_next : ClusterState → List Event → Result (List Entry) EventRefusal → Course
 course_next cluster events r = elim r [
   | Ok entries ↦ behind entries (course (after_all cluster entries) events)
   | Err refusal ↦ refused_at_once refusal
@@ -191,11 +191,11 @@ course-comes base (event ∷ events) history all =
     (by (entries_of (cluster_at base history) event) refl
     (λ entries. course-comes base events (reverse_aux entries history) (λ n d within. all (suc n) d (omega arith))))
   where
-    by : (r : Result (List Entry) Refusal) → entries_of (cluster_at base history) event ≡ r
+    by : (r : Result (List Entry) EventRefusal) → entries_of (cluster_at base history) event ≡ r
         → ((entries : List Entry) → Comes base (reverse_aux entries history) (course (cluster_at base (reverse_aux entries history)) events).entries)
         → Comes base history (course_next (cluster_at base history) events r).entries
     by (Ok entries) e rest = comes-append base entries (course (after_all (cluster_at base history) entries) events).entries history (event-comes base history event entries (all zero event (omega arith)) e)
-        (subst (λ (c : Cluster). Comes base (reverse_aux entries history) (course c events).entries) (pushed-cluster base entries history) (rest entries))
+        (subst (λ (c : ClusterState). Comes base (reverse_aux entries history) (course c events).entries) (pushed-cluster base entries history) (rest entries))
     by (Err refusal) e rest = tt
 
 pub courses_are_lawful : CourseLaw
@@ -204,27 +204,27 @@ courses_are_lawful base events all = pushed-lawful base (course (start base) eve
 
 -- ---- a lawful history is a course
 
-unless_worn-new : (cluster : Cluster) (new : Entry) → cluster.entries < most_entries → one (unless_worn cluster new) ≡ Ok (new ∷ [])
+unless_worn-new : (cluster : ClusterState) (new : Entry) → cluster.entries < most_entries → one (unless_worn cluster new) ≡ Ok (new ∷ [])
 unless_worn-new cluster new below = ap (λ b. one (cond b (Ok new) (Err Worn))) (lt-ltb cluster.entries most_entries below)
 
-call-event : (cluster : Cluster) (c : Called) → MayCall cluster c → entries_of cluster (Turn c.slot c.fate) ≡ Ok (entry.Called c ∷ [])
+call-event : (cluster : ClusterState) (c : Called) → MayCall cluster c → entries_of cluster (Turn c.slot c.fate) ≡ Ok (entry.Called c ∷ [])
 call-event cluster c h =
     ap (λ o. one (turn_entry cluster c.slot c.fate o)) h.runs
     ∙ ap (λ o. one (turn_called cluster o)) h.is_called
     ∙ unless_worn-new cluster (entry.Called c) h.turn.not_worn
 
-feed-event : (cluster : Cluster) (slot at : ℕ) (live : List (List ℕ)) → MayFeed cluster slot at live → entries_of cluster (Feed slot at live) ≡ Ok (entry.Fed slot at live ∷ [])
+feed-event : (cluster : ClusterState) (slot at : ℕ) (live : List (List ℕ)) → MayFeed cluster slot at live → entries_of cluster (Feed slot at live) ≡ Ok (entry.Fed slot at live ∷ [])
 feed-event cluster slot at live h =
     ap (λ o. one (feed_entry cluster slot at live o)) h.runs
     ∙ ap (λ b. one (cond b (feed_waiting cluster slot at live h.running.request) (Err NotWaiting))) h.waiting
     ∙ ap (λ b. one (cond b (unless_worn cluster (entry.Fed slot at live)) (Err (too_soon h.running.request)))) h.due
     ∙ unless_worn-new cluster (entry.Fed slot at live) h.turn.not_worn
 
-stop-event : (cluster : Cluster) (slot : ℕ) (o : Option Running) → cluster.slots slot ≡ o → IsSome o → one (stop_entry slot (cluster.slots slot)) ≡ Ok (entry.Stopped slot ∷ [])
+stop-event : (cluster : ClusterState) (slot : ℕ) (o : Option RunningRequest) → cluster.slots slot ≡ o → IsSome o → one (stop_entry slot (cluster.slots slot)) ≡ Ok (entry.Stopped slot ∷ [])
 stop-event cluster slot None is runs = cc
 stop-event cluster slot (Some running) is runs = ap (λ o. one (stop_entry slot o)) is
 
-pub entry-event : (cluster : Cluster) (new : Entry) → MayCome cluster new → entries_of cluster (event_of new) ≡ Ok (new ∷ [])
+pub entry-event : (cluster : ClusterState) (new : Entry) → MayCome cluster new → entries_of cluster (event_of new) ≡ Ok (new ∷ [])
 entry-event cluster (entry.Began slot request) h = ap (λ o. one (begin_entry cluster slot request o)) h.idle ∙ unless_worn-new cluster (entry.Began slot request) h.turn.not_worn
 entry-event cluster (entry.Called c) h = call-event cluster c h
 entry-event cluster (entry.Fed slot at live) h = feed-event cluster slot at live h

@@ -29,9 +29,9 @@ use Rattle.ipam_model.specs.AddLaw.{families_of, scan_of, HasChosen, HasGiven, I
 use Rattle.ipam_model.specs.AnswerLaw.{IsInRound, IsTarget, Chosen}
 use Rattle.ipam_model.specs.Answered.{Answered, history_of, span_of}
 use Rattle.ipam_model.specs.Choice.{IsChoice, Seen}
-use Rattle.ipam_model.specs.Credits.{key_written}
+use Rattle.ipam_model.specs.Credits.{call_key_written}
 use Rattle.ipam_model.specs.FamilyLaw.{AreFromRounds, FamilyLaw, IsOfRound}
-use Rattle.ipam_model.specs.History.{HeardCall, InSpan, Lawful, Span, begin_moment, now, seen_at}
+use Rattle.ipam_model.specs.History.{HeardCall, InSpan, Lawful, RequestSpan, begin_moment, now, seen_at}
 use Rattle.ipam_model.specs.Moments.{IsNext}
 use Rattle.ipam_model.specs.Named.{name_of, told_of}
 use Rattle.ipam_model.specs.Owners.{owned_in}
@@ -69,17 +69,17 @@ three k m = elim (cases_Bool (nat_lt k m)) [
 ]
 
 -- two calls of one moment are one
-pub same-call : (span : Span) (moment : ℕ) (one other : Called) → InSpan span moment (entry.Called one) → InSpan span moment (entry.Called other) → one ≡ other
+pub same-call : (span : RequestSpan) (moment : ℕ) (one other : Called) → InSpan span moment (entry.Called one) → InSpan span moment (entry.Called other) → one ≡ other
 same-call span moment one other a b = let both : Some (entry.Called one) ≡ Some (entry.Called other) = sym a.is_there ∙ b.is_there in cc both
 
-pub fed-not-called : (span : Span) (moment at : ℕ) (live : List (List ℕ)) (c : Called) → InSpan span moment (entry.Fed span.slot at live) → ¬ (InSpan span moment (entry.Called c))
+pub fed-not-called : (span : RequestSpan) (moment at : ℕ) (live : List (List ℕ)) (c : Called) → InSpan span moment (entry.Fed span.slot at live) → ¬ (InSpan span moment (entry.Called c))
 fed-not-called span moment at live c a b = let both : Some (entry.Fed span.slot at live) ≡ Some (entry.Called c) = sym a.is_there ∙ b.is_there in absurd (cc both)
 
-began-not-called : (span : Span) (c : Called) → IsBegun span → ¬ (InSpan span (begin_moment span) (entry.Called c))
+began-not-called : (span : RequestSpan) (c : Called) → IsBegun span → ¬ (InSpan span (begin_moment span) (entry.Called c))
 began-not-called span c a b = let both : Some (entry.Began span.slot a.request) ≡ Some (entry.Called c) = sym a.in_span.is_there ∙ b.is_there in absurd (cc both)
 
 -- nothing comes before the first step
-pub none-first : (span : Span) (k upto : ℕ) (c : Called) → IsBegun span → IsNext span (begin_moment span) upto → k < upto → ¬ (InSpan span k (entry.Called c))
+pub none-first : (span : RequestSpan) (k upto : ℕ) (c : Called) → IsBegun span → IsNext span (begin_moment span) upto → k < upto → ¬ (InSpan span k (entry.Called c))
 none-first span k upto c begun next below inside = elim (three k (begin_moment span)) [
   | inl early ↦ let since = inside.since in absurd (omega arith)
   | inr (inl same) ↦ began-not-called span c begun (subst (λ (m : ℕ). InSpan span m (entry.Called c)) same inside)
@@ -89,7 +89,7 @@ none-first span k upto c begun next below inside = elim (three k (begin_moment s
 -- ---- gifts
 
 -- the call of the step is the one that gave
-step-gift : (span : Span) (moment : ℕ) (family : Family) (m : ℕ) (store : Datastore) (asked : Call) → DidAt span m store asked → (g : HasGiven span moment family) → g.given_at ≡ m → IsGift store asked family
+step-gift : (span : RequestSpan) (moment : ℕ) (family : Family) (m : ℕ) (store : Datastore) (asked : Call) → DidAt span m store asked → (g : HasGiven span moment family) → g.given_at ≡ m → IsGift store asked family
 step-gift span moment family m store asked did g same =
     let wrote = g.wrote in
     let inside = subst (λ (k : ℕ). InSpan span k (entry.Called wrote.c)) same wrote.in_span in
@@ -101,13 +101,13 @@ step-gift span moment family m store asked did g same =
     record {
       cidr = g.cidr;
       of_family = g.of_family;
-      writes = ap key_written name_is ∙ wrote.is_of;
+      writes = ap call_key_written name_is ∙ wrote.is_of;
       revision = wrote.revision;
       done = told-can (reply_of store asked) wrote.revision reply;
       more = subst (λ (s : Datastore). owned_in store g.cidr < owned_in s g.cidr) did.behind_it first;
     }
 
-given-gift : (span : Span) (moment : ℕ) (family : Family) (g : HasGiven span moment family) (trail : Trail) (upto : ℕ) → IsTrail span upto trail → g.given_at < upto → HasGift trail family
+given-gift : (span : RequestSpan) (moment : ℕ) (family : Family) (g : HasGiven span moment family) (trail : Trail) (upto : ℕ) → IsTrail span upto trail → g.given_at < upto → HasGift trail family
 unfolding IsTrail HasGift
 given-gift span moment family g [] upto h below = absurd (none-first span g.given_at upto g.wrote.c h.0 h.1 below g.wrote.in_span)
 given-gift span moment family g (Did m store asked ∷ trail) upto h below = elim (three g.given_at m) [
@@ -121,7 +121,7 @@ given-gift span moment family g (Got m at live ∷ trail) upto h below = elim (t
   | inr (inr late) ↦ absurd (h.1.nothing_between g.given_at (entry.Called g.wrote.c) late below g.wrote.in_span)
 ]
 
-gift-given : (span : Span) (moment : ℕ) (family : Family) (trail : Trail) (upto : ℕ) → IsTrail span upto trail → upto ≤ moment → HasGift trail family → HasGiven span moment family
+gift-given : (span : RequestSpan) (moment : ℕ) (family : Family) (trail : Trail) (upto : ℕ) → IsTrail span upto trail → upto ≤ moment → HasGift trail family → HasGiven span moment family
 unfolding IsTrail HasGift
 gift-given span moment family [] upto h early gift = absurd gift
 gift-given span moment family (Did m store asked ∷ trail) upto h early (inl gift) =
@@ -135,7 +135,7 @@ gift-given span moment family (Did m store asked ∷ trail) upto h early (inl gi
       wrote = record {
         c = did.c;
         in_span = did.in_span;
-        is_of = ap key_written did.is_call ∙ gift.writes;
+        is_of = ap call_key_written did.is_call ∙ gift.writes;
         revision = gift.revision;
         is_done = did.is_reply ∙ ap told_of gift.done;
       };
@@ -149,7 +149,7 @@ gift-given span moment family (Got m at live ∷ trail) upto h early gift =
 
 -- ---- what was read and chosen
 
-pub heard : (span : Span) (moment : ℕ) (store : Datastore) (asked : Call) → DidAt span moment store asked → HeardCall span moment asked (reply_of store asked)
+pub heard : (span : RequestSpan) (moment : ℕ) (store : Datastore) (asked : Call) → DidAt span moment store asked → HeardCall span moment asked (reply_of store asked)
 heard span moment store asked did = record {
   entry_of_call = did.c;
   in_span = did.in_span;
@@ -159,22 +159,22 @@ heard span moment store asked did = record {
 }
 
 -- the trail of a part further back
-record IsBack (span : Span) (trail : Trail) : Type 0 where
+record IsBack (span : RequestSpan) (trail : Trail) : Type 0 where
   upto : ℕ
   is_trail : IsTrail span upto trail
 
-back : (span : Span) (more trail : Trail) (upto : ℕ) → IsTrail span upto (more ++ trail) → IsBack span trail
+back : (span : RequestSpan) (more trail : Trail) (upto : ℕ) → IsTrail span upto (more ++ trail) → IsBack span trail
 unfolding IsTrail
 back span [] trail upto h = record { upto = upto; is_trail = h }
 back span (Did m store asked ∷ more) trail upto h = back span more trail m h.2
 back span (Got m at live ∷ more) trail upto h = back span more trail m h.2
 
 -- the five reads of a round, and the trail before them
-pub record IsScanned (span : Span) (scan : Scan) (before : Trail) (upto : ℕ) : Type 0 where
+pub record IsScanned (span : RequestSpan) (scan : Scan) (before : Trail) (upto : ℕ) : Type 0 where
   pub first : IsTrail span scan.c before
   pub last : IsNext span scan.b upto
 
-pub reads-before : (span : Span) (scan : Scan) (seen : Seen) (before five : Trail) (upto : ℕ) → FiveRead scan seen before five → IsTrail span upto five → HasScanned span scan seen × IsScanned span scan before upto
+pub reads-before : (span : RequestSpan) (scan : Scan) (seen : Seen) (before five : Trail) (upto : ℕ) → FiveRead scan seen before five → IsTrail span upto five → HasScanned span scan seen × IsScanned span scan before upto
 unfolding IsTrail
 reads-before span scan seen before five upto reads h =
     let (at_b, next, (at_f, then_b, (at_r, then_f, (at_p, then_r, (at_c, then_p, first))))) = subst (λ (t : Trail). IsTrail span upto t) reads.is h in (
@@ -202,7 +202,7 @@ reads-before span scan seen before five upto reads h =
       record { first = first; last = next },
     )
 
-round-for : (span : Span) (request : AddRequest) (scan : Scan) (before : Trail) → IsTrail span scan.c before → IsFor request scan.family before → IsRoundFor span request scan.c scan.family
+round-for : (span : RequestSpan) (request : AddRequest) (scan : Scan) (before : Trail) → IsTrail span scan.c before → IsFor request scan.family before → IsRoundFor span request scan.c scan.family
 round-for span request scan before h is_for = record {
   earlier = is_for.earlier;
   later = is_for.later;
@@ -211,7 +211,7 @@ round-for span request scan before h is_for = record {
   has_not = λ g. is_for.apart (is_for.only scan.family (given-gift span scan.c scan.family g before scan.c h g.earlier));
 }
 
-chosen-in : (span : Span) (request : AddRequest) (scan : Scan) (choice : Choice) (seen : Seen) (before five : Trail) (upto : ℕ) → FiveRead scan seen before five → IsTrail span upto five → IsFor request scan.family before
+chosen-in : (span : RequestSpan) (request : AddRequest) (scan : Scan) (choice : Choice) (seen : Seen) (before five : Trail) (upto : ℕ) → FiveRead scan seen before five → IsTrail span upto five → IsFor request scan.family before
     → IsChoice (asked_of request scan.family) seen choice → HasChosen span request scan choice
 chosen-in span request scan choice seen before five upto reads h is_for is =
     let (scanned, rest) = reads-before span scan seen before five upto reads h in
@@ -222,12 +222,12 @@ chosen-in span request scan choice seen before five upto reads h is_for is =
       is_choice = is;
     }
 
-pub chosen-span : (span : Span) (request : AddRequest) (scan : Scan) (choice : Choice) (trail : Trail) (upto : ℕ) → IsTrail span upto trail → IsChosen request scan choice trail → HasChosen span request scan choice
+pub chosen-span : (span : RequestSpan) (request : AddRequest) (scan : Scan) (choice : Choice) (trail : Trail) (upto : ℕ) → IsTrail span upto trail → IsChosen request scan choice trail → HasChosen span request scan choice
 chosen-span span request scan choice trail upto h c =
     let there = back span c.more c.five upto (subst (λ (t : Trail). IsTrail span upto t) c.is h) in
     chosen-in span request scan choice c.seen c.before c.five there.upto c.reads there.is_trail c.round c.is_choice
 
-all-from-rounds : (span : Span) (request : AddRequest) (trail : Trail) (upto : ℕ) → IsTrail span upto trail → (families : List Family) (given : List Given) → AreGivenBy request trail families given → AreFromRounds span request families given
+all-from-rounds : (span : RequestSpan) (request : AddRequest) (trail : Trail) (upto : ℕ) → IsTrail span upto trail → (families : List Family) (given : List Given) → AreGivenBy request trail families given → AreFromRounds span request families given
 unfolding AreGivenBy
 all-from-rounds span request trail upto h [] [] k = tt
 all-from-rounds span request trail upto h [] (given ∷ more) k = k
@@ -248,7 +248,7 @@ all-from-rounds span request trail upto h (family ∷ families) (given ∷ more)
 
 -- ---- the round of a count that is at its limit
 
-module _ (span : Span) (scan : Scan) (seen : Seen) (before five : Trail) (reads : FiveRead scan seen before five) where
+module _ (span : RequestSpan) (scan : Scan) (seen : Seen) (before five : Trail) (reads : FiveRead scan seen before five) where
   no-round : (between : Trail) → Quietly five between → (upto : ℕ) → IsTrail span upto between → (k : ℕ) (c : Called) → scan.b < k → k < upto → InSpan span k (entry.Called c) → c.call ≢ name.Get key.Config
   unfolding IsTrail
   no-round between Same upto h k c above below inside =
@@ -276,7 +276,7 @@ module _ (span : Span) (scan : Scan) (seen : Seen) (before five : Trail) (reads 
   five-back between (More m store asked longer quiet earlier) upto h = five-back longer earlier m h.2
 
 -- the handle was read at the moment, over this store
-pub record IsReadThen (span : Span) (id : List ℕ) (moment : ℕ) (store : Datastore) : Type 0 where
+pub record IsReadThen (span : RequestSpan) (id : List ℕ) (moment : ℕ) (store : Datastore) : Type 0 where
   pub read : HeardCall span moment (Get (key.Handle id)) (reply_of store (Get (key.Handle id)))
   pub before_it : seen_at span moment ≡ store
 

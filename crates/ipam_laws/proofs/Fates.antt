@@ -34,7 +34,7 @@ use Rattle.ipam_model.specs.Admin.{admin_word}
 use Rattle.ipam_model.specs.Affinities.{release as release_word}
 use Rattle.ipam_model.specs.Alone.{AloneFaultLaw, alone, live_of}
 use Rattle.ipam_model.specs.AnswerLaw.{FaultLaw}
-use Rattle.ipam_model.specs.Cluster.{Cluster, after, word_after_reply, call_entry, call_made, goes_on, store_with, with_slot}
+use Rattle.ipam_model.specs.Cluster.{ClusterState, after, word_after_reply, call_entry, call_made, goes_on, store_with, with_slot}
 use Rattle.ipam_model.specs.FateLaw.{FateLaw, HasSameSlots, IsSameCall, MayHaveDoneLaw}
 use Rattle.ipam_model.specs.History.{Lawful, MayCall, cluster_at}
 use Rattle.ipam_model.specs.Look.{check_word, probe_word}
@@ -177,7 +177,7 @@ alone_faults base request = alone-never (live_of request) (word_of request) base
 -- ---- another fate
 
 -- the call that a word asks for may have any fate
-record OtherFate (cluster : Cluster) (c : Called) (fate : Fate) : Type 0 where
+record OtherFate (cluster : ClusterState) (c : Called) (fate : Fate) : Type 0 where
   other : Called
   same : IsSameCall c other fate
   may : MayCall cluster other
@@ -187,7 +187,7 @@ called-is slot Well asked reply answer c e = (ap (λ (x : Called). x.slot) (sym 
 called-is slot Before asked reply answer c e = (ap (λ (x : Called). x.slot) (sym e), ap (λ (x : Called). x.call) (sym e))
 called-is slot After asked reply answer c e = (ap (λ (x : Called). x.slot) (sym e), ap (λ (x : Called). x.call) (sym e))
 
-with-fate : (cluster : Cluster) (c : Called) (fate : Fate) → MayCall cluster c → OtherFate cluster c fate
+with-fate : (cluster : ClusterState) (c : Called) (fate : Fate) → MayCall cluster c → OtherFate cluster c fate
 with-fate cluster c fate h = by h.running.word refl h.is_called
   where
     by : (w : Word Answer) → h.running.word ≡ w → call_entry c.slot c.fate cluster.store cluster.entries w ≡ Some c → OtherFate cluster c fate

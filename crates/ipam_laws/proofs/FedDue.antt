@@ -7,9 +7,9 @@ use Rattle.ipam_model.specs.declared.entry.Called.{Called}
 use Rattle.ipam_model.specs.declared.entry.Entry.{Entry}
 use Rattle.ipam_model.specs.declared.entry.Entry.TheVariants as entry
 use Rattle.ipam_model.specs.declared.request.Request.{Request}
-use Rattle.ipam_model.specs.Cluster.{Running, after, fresh_run, run_after_feed, goes_on}
+use Rattle.ipam_model.specs.Cluster.{RunningRequest, after, fresh_run, run_after_feed, goes_on}
 use Rattle.ipam_model.specs.Course.{is_due}
-use Rattle.ipam_model.specs.History.{Base, InSpan, Lawful, MayFeed, Span, begin_moment, begins, cluster_at, now, store_at}
+use Rattle.ipam_model.specs.History.{Base, InSpan, Lawful, MayFeed, RequestSpan, begin_moment, begins, cluster_at, now, store_at}
 use Rattle.ipam_laws.proofs.KeptWords.{slot-is}
 use Rattle.ipam_laws.proofs.Trails.{IsTrail, begins-not, grown, in-span-earlier, now-is, span_at, trail-begins}
 
@@ -18,12 +18,12 @@ abbrev pub AreDue : Base → List Entry → ℕ → Request → Type 0
 AreDue base history slot request =
     (moment at : ℕ) (live : List (List ℕ)) → InSpan (span_at base history slot) moment (entry.Fed slot at live) → IsTrue (is_due request at)
 
-abbrev pub DueIn : Base → List Entry → ℕ → Option Running → Type 0
+abbrev pub DueIn : Base → List Entry → ℕ → Option RunningRequest → Type 0
 DueIn base history slot None = Unit {0}
 DueIn base history slot (Some running) = AreDue base history slot running.request
 
 -- an entry of the span is the newest, or was there before
-newest-or : (span : Span) (new there : Entry) (moment : ℕ) → begins span.slot new ≡ false → InSpan (grown span new) moment there → (there ≡ new) ⊎ InSpan span moment there
+newest-or : (span : RequestSpan) (new there : Entry) (moment : ℕ) → begins span.slot new ≡ false → InSpan (grown span new) moment there → (there ≡ new) ⊎ InSpan span moment there
 newest-or span new there moment not h = elim (cases_Bool (nat_lt moment (now span))) [
   | inl early ↦ inr (in-span-earlier span new moment there not (ltb-true moment (now span) early) h)
   | inr late ↦
@@ -50,24 +50,24 @@ only-begun base history slot request moment at live h =
           absurd (cc is)
     ]
 
-pub due-skip : (base : Base) (history : List Entry) (new : Entry) (slot : ℕ) (o : Option Running) → begins slot new ≡ false → ((at : ℕ) (live : List (List ℕ)) → entry.Fed slot at live ≢ new) → DueIn base history slot o → DueIn base (new ∷ history) slot o
+pub due-skip : (base : Base) (history : List Entry) (new : Entry) (slot : ℕ) (o : Option RunningRequest) → begins slot new ≡ false → ((at : ℕ) (live : List (List ℕ)) → entry.Fed slot at live ≢ new) → DueIn base history slot o → DueIn base (new ∷ history) slot o
 due-skip base history new slot None not other h = tt
 due-skip base history new slot (Some running) not other h = λ moment at live there. elim (newest-or (span_at base history slot) new (entry.Fed slot at live) moment not there) [
   | inl is ↦ absurd (other at live is)
   | inr before ↦ h moment at live before
 ]
 
-due-goes : (base : Base) (history : List Entry) (c : Called) (o : Option Running) (answer : Option Answer) → DueIn base history c.slot o → DueIn base (entry.Called c ∷ history) c.slot (goes_on (store_at base history) (cluster_at base history).entries answer o)
+due-goes : (base : Base) (history : List Entry) (c : Called) (o : Option RunningRequest) (answer : Option Answer) → DueIn base history c.slot o → DueIn base (entry.Called c ∷ history) c.slot (goes_on (store_at base history) (cluster_at base history).entries answer o)
 due-goes base history c o (Some told) h = tt
 due-goes base history c None None h = tt
 due-goes base history c (Some running) None h = due-skip base history (entry.Called c) c.slot (Some running) refl (λ at live e. cc e) h
 
 due-fed : (base : Base) (history : List Entry) (slot at : ℕ) (live : List (List ℕ)) → MayFeed (cluster_at base history) slot at live → DueIn base history slot ((cluster_at base history).slots slot) → DueIn base (entry.Fed slot at live ∷ history) slot (run_after_feed live ((cluster_at base history).slots slot))
 due-fed base history slot at live may h =
-    subst (λ (o : Option Running). DueIn base (entry.Fed slot at live ∷ history) slot (run_after_feed live o)) (sym may.runs) due
+    subst (λ (o : Option RunningRequest). DueIn base (entry.Fed slot at live ∷ history) slot (run_after_feed live o)) (sym may.runs) due
   where
     before : AreDue base history slot may.running.request
-    before = subst (λ (o : Option Running). DueIn base history slot o) may.runs h
+    before = subst (λ (o : Option RunningRequest). DueIn base history slot o) may.runs h
 
     due : AreDue base (entry.Fed slot at live ∷ history) slot may.running.request
     due moment time handles there = elim (newest-or (span_at base history slot) (entry.Fed slot at live) (entry.Fed slot time handles) moment refl there) [

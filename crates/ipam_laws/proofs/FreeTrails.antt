@@ -22,8 +22,8 @@ use Rattle.ipam_model.specs.declared.part.Outcome.TheVariants.{Went, Stops}
 use Rattle.ipam_model.specs.declared.part.Stop.{Stop}
 use Rattle.ipam_model.specs.declared.part.Stop.TheVariants.{OutOfTries, OutOfClaims, NoRoom, CountAtLimit, NoRevisions}
 use Rattle.ipam_model.specs.Affinities.{BlockRead}
-use Rattle.ipam_model.specs.Counting.{Freeing, credit_of, free, free_found, free_once, free_these, lower, lower_once, lowering, revision_said, written_or_deleted}
-use Rattle.ipam_model.specs.Credits.{key_written}
+use Rattle.ipam_model.specs.Counting.{FreedOfHandle, credit_of, free, free_found, free_once, free_these, lower, lower_once, lowering, revision_said, written_or_deleted}
+use Rattle.ipam_model.specs.Credits.{call_key_written}
 use Rattle.ipam_model.specs.Named.{name_of}
 use Rattle.ipam_model.specs.Reads.{block_said, handle_said}
 use Rattle.ipam_model.specs.Step.{Part, after_write, part_then, goes, left_of, onward, stops, tries}
@@ -35,7 +35,7 @@ use Rattle.ipam_laws.proofs.Members.{in-filter}
 use Rattle.ipam_laws.proofs.Trails.{Comes, Comes-bound, Did, Trail}
 
 -- after the origin, nothing that is picked was in the block when it was read, or it was freed then
-pub data Rid (what : Freeing) (origin : Trail) (amount : ℕ) (trail : Trail) : Type 0 where
+pub data Rid (what : FreedOfHandle) (origin : Trail) (amount : ℕ) (trail : Trail) : Type 0 where
   NoneThere : (moment : ℕ) (store : Datastore) (before : Trail) → Since (Did moment store (Get (key.Block what.block)) ∷ before) trail → Since origin before → amount ≡ 0
       → ((found : ℕ × BlockValue) → block_said (reply_of store (Get (key.Block what.block))) ≡ Some found → count_by what.picks found.1.allocations ≡ 0) → Rid what origin amount trail
   Freed : (moment : ℕ) (store : Datastore) (before : Trail) (b : BlockValue) (old revision more : ℕ) → Since (Did moment store (freeing_call what b old) ∷ before) trail → Since origin before → amount ≡ suc more
@@ -54,13 +54,13 @@ pub calmer-calmer : (one two three : Trail) → Calmer one two → Calmer two th
 calmer-calmer one two three h Still = h
 calmer-calmer one two three h (Then moment store asked longer calm before) = Then moment store asked longer calm (calmer-calmer one two longer h before)
 
-pub rid-since : (what : Freeing) (origin : Trail) (amount : ℕ) (trail longer : Trail) → Since trail longer → Rid what origin amount trail → Rid what origin amount longer
+pub rid-since : (what : FreedOfHandle) (origin : Trail) (amount : ℕ) (trail longer : Trail) → Since trail longer → Rid what origin amount trail → Rid what origin amount longer
 rid-since what origin amount trail longer since (NoneThere moment store before there later zero_amount none) = NoneThere moment store before (since-since (Did moment store (Get (key.Block what.block)) ∷ before) trail longer there since) later zero_amount none
 rid-since what origin amount trail longer since (Freed moment store before b old revision more there later is done current same count) =
     Freed moment store before b old revision more (since-since (Did moment store (freeing_call what b old) ∷ before) trail longer there since) later is done current same count
 
 -- after what is earlier
-pub rid-origin : (what : Freeing) (first origin : Trail) (amount : ℕ) (trail : Trail) → Since first origin → Rid what origin amount trail → Rid what first amount trail
+pub rid-origin : (what : FreedOfHandle) (first origin : Trail) (amount : ℕ) (trail : Trail) → Since first origin → Rid what origin amount trail → Rid what first amount trail
 rid-origin what first origin amount trail since (NoneThere moment store before there later zero_amount none) = NoneThere moment store before there (since-since first origin before since later) zero_amount none
 rid-origin what first origin amount trail since (Freed moment store before b old revision more there later is done current same count) = Freed moment store before b old revision more there (since-since first origin before since later) is done current same count
 
@@ -68,7 +68,7 @@ rid-origin what first origin amount trail since (Freed moment store before b old
 
 -- the call writes no block, or it was not done
 pub data Idle (store : Datastore) (asked : Call) : Type 0 where
-  Elsewhere : ((cidr : CidrValue) → key_written (name_of asked) ≢ Some (key.Block cidr)) → Idle store asked
+  Elsewhere : ((cidr : CidrValue) → call_key_written (name_of asked) ≢ Some (key.Block cidr)) → Idle store asked
   NotDone : ((revision : ℕ) → reply_of store asked ≢ Can revision) → Idle store asked
 
 idle-calm : (store : Datastore) (asked : Call) → Idle store asked → Calm store asked
@@ -85,7 +85,7 @@ idler-calmer origin trail Stays = Still
 idler-calmer origin trail (Goes moment store asked longer idle before) = Then moment store asked longer (idle-calm store asked idle) (idler-calmer origin longer before)
 
 -- after the origin nothing was freed, or one call freed so many
-pub data FreeSteps (what : Freeing) (origin : Trail) (amount : ℕ) (trail : Trail) : Type 0 where
+pub data FreeSteps (what : FreedOfHandle) (origin : Trail) (amount : ℕ) (trail : Trail) : Type 0 where
   NoSteps : amount ≡ 0 → Idler origin trail → FreeSteps what origin amount trail
   OneStep : (moment : ℕ) (store : Datastore) (before : Trail) (b : BlockValue) (old revision more : ℕ) → Idler origin before → Idler (Did moment store (freeing_call what b old) ∷ before) trail → amount ≡ suc more
       → reply_of store (freeing_call what b old) ≡ Can revision → IsCurrent store old b → b.cidr ≡ what.block → count_by what.picks b.allocations ≡ suc more → FreeSteps what origin amount trail
@@ -148,17 +148,17 @@ lower-tries credit origin (suc races) claims trail calm = lower-once credit orig
 -- ---- freeing
 
 -- it was rid of, calmly
-unfoldable pub FreedEnds : Freeing → Trail → Trail → Outcome ℕ → Type 0
+unfoldable pub FreedEnds : FreedOfHandle → Trail → Trail → Outcome ℕ → Type 0
 FreedEnds what origin trail (Went left amount) = Rid what origin amount trail × Calmer origin trail × FreeSteps what origin amount trail
 FreedEnds what origin trail (Stops left why) = IsRaceOrSpent why
 
-freeing-calm : (store : Datastore) (what : Freeing) (b : BlockValue) (old : ℕ) → IsCurrent store old b → Calm store (freeing_call what b old)
+freeing-calm : (store : Datastore) (what : FreedOfHandle) (b : BlockValue) (old : ℕ) → IsCurrent store old b → Calm store (freeing_call what b old)
 freeing-calm store what b old current = Keeps b (block_without what.picks (next_block b)) old refl (λ found there. current found there) refl (λ a there. (in-filter (λ (x : Allocation). not (what.picks x)) a b.allocations there).0)
 
-AgainFreed : Freeing → Trail → Part ℕ → Type 0
+AgainFreed : FreedOfHandle → Trail → Part ℕ → Type 0
 AgainFreed what origin again = (trail : Trail) → Idler origin trail → Comes (FreedEnds what origin) trail again
 
-free-some : (what : Freeing) (origin : Trail) (again : Part ℕ) (left : Left) (moment : ℕ) (store : Datastore) (trail : Trail) (found : ℕ × BlockValue) (amount : ℕ) → AgainFreed what origin again → Idler origin trail → block_said (reply_of store (Get (key.Block what.block))) ≡ Some found → count_by what.picks found.1.allocations ≡ amount
+free-some : (what : FreedOfHandle) (origin : Trail) (again : Part ℕ) (left : Left) (moment : ℕ) (store : Datastore) (trail : Trail) (found : ℕ × BlockValue) (amount : ℕ) → AgainFreed what origin again → Idler origin trail → block_said (reply_of store (Get (key.Block what.block))) ≡ Some found → count_by what.picks found.1.allocations ≡ amount
     → Comes (FreedEnds what origin) (Did moment store (Get (key.Block what.block)) ∷ trail) (free_these what again left amount found)
 unfolding FreedEnds LowerEnds AgainFreed IsRaceOrSpent
 free-some what origin again left moment store trail found zero h calm e count = (
@@ -190,7 +190,7 @@ free-some what origin again left moment store trail found (suc more) h calm e co
             (rid-since what origin (suc more) longer further (calmer-since longer further calm) rid, calmer-calmer origin longer further behind calm, steps further k)
         ends further (Stops now why) k = k
 
-free-once : (what : Freeing) (origin : Trail) (again : Part ℕ) (left : Left) → AgainFreed what origin again → AgainFreed what origin (free_once what again left)
+free-once : (what : FreedOfHandle) (origin : Trail) (again : Part ℕ) (left : Left) → AgainFreed what origin again → AgainFreed what origin (free_once what again left)
 unfolding FreedEnds AgainFreed
 free-once what origin again left h trail calm = λ moment store agrees. by moment store (block_said (reply_of store (Get (key.Block what.block)))) refl
   where
@@ -202,11 +202,11 @@ free-once what origin again left h trail calm = λ moment store agrees. by momen
     )
     by moment store (Some found) e = free-some what origin again left moment store trail found (count_by what.picks found.1.allocations) h calm e refl
 
-free-tries : (what : Freeing) (origin : Trail) (races claims : ℕ) → AgainFreed what origin (tries (free_once what) races claims)
+free-tries : (what : FreedOfHandle) (origin : Trail) (races claims : ℕ) → AgainFreed what origin (tries (free_once what) races claims)
 unfolding tries FreedEnds AgainFreed IsRaceOrSpent
 free-tries what origin zero claims = free-once what origin (stops (left_of zero claims) OutOfTries) (left_of zero claims) (λ trail calm. tt)
 free-tries what origin (suc races) claims = free-once what origin (tries (free_once what) races claims) (left_of (suc races) claims) (free-tries what origin races claims)
 
-pub free-rids : (what : Freeing) (origin : Trail) (left : Left) → Comes (FreedEnds what origin) origin (free what left)
+pub free-rids : (what : FreedOfHandle) (origin : Trail) (left : Left) → Comes (FreedEnds what origin) origin (free what left)
 unfolding AgainFreed
 free-rids what origin left = free-tries what origin left.races left.claims origin Stays

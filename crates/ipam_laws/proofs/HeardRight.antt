@@ -28,7 +28,7 @@ use Rattle.ipam_model.specs.Consistent.{IsConsistent}
 use Rattle.ipam_model.specs.History.{HeardCall, InSpan, Lawful, now, seen_at, seen_now}
 use Rattle.ipam_model.specs.Moments.{IsNext}
 use Rattle.ipam_model.specs.Named.{told_of}
-use Rattle.ipam_model.specs.OtherLaws.{HasNoAffinity, IsDone, IsRefused, IsReleased}
+use Rattle.ipam_model.specs.OtherLaws.{HasNoAffinity, IsChangeDone, IsChangeRefused, IsReleased}
 use Rattle.ipam_model.specs.Reads.{affinity_said}
 use Rattle.ipam_model.specs.Requests.{told_as}
 use Rattle.ipam_model.specs.Step.{write_back}
@@ -63,7 +63,7 @@ latest-call a moment store asked before (c, rest, same, call, more) =
 
 -- ---- changes of settings
 
-change-done : (a : Answered) (setting : Setting) (revision : ℕ) (trail : Trail) → IsTrail (span_of a) (now (span_of a)) trail → AreCalls trail (a.call ∷ earlier_calls a) → DidChange setting revision trail → IsDone a setting revision
+change-done : (a : Answered) (setting : Setting) (revision : ℕ) (trail : Trail) → IsTrail (span_of a) (now (span_of a)) trail → AreCalls trail (a.call ∷ earlier_calls a) → DidChange setting revision trail → IsChangeDone a setting revision
 unfolding IsTrail
 change-done a setting revision trail is calls d =
     let asked = write_back (reply_of d.store (Get (key_changed setting))) d.new in
@@ -84,7 +84,7 @@ change-done a setting revision trail is calls d =
       is_done = call.reply ∙ ap told_of d.done;
     }
 
-change-refused : (a : Answered) (setting : Setting) (number : ℕ) (name : List ℕ) (trail : Trail) → IsTrail (span_of a) (now (span_of a)) trail → DidRefuse setting number name trail → IsRefused a setting number name
+change-refused : (a : Answered) (setting : Setting) (number : ℕ) (name : List ℕ) (trail : Trail) → IsTrail (span_of a) (now (span_of a)) trail → DidRefuse setting number name trail → IsChangeRefused a setting number name
 unfolding IsTrail
 change-refused a setting number name trail is d =
     let there = subst (λ (t : Trail). IsTrail (span_of a) (now (span_of a)) t) d.is is in
@@ -115,11 +115,11 @@ told-change setting = Comes-bound (IsChange setting) (OfChange setting) (λ one.
     ends longer admin.Full k = tt
     ends longer admin.Spent k = tt
 
-pub done-right : (a : Answered) (setting : Setting) (revision : ℕ) (trail : Trail) → IsTrail (span_of a) (now (span_of a)) trail → AreCalls trail (a.call ∷ earlier_calls a) → OfChange setting trail (answer.Done revision) → IsDone a setting revision
+pub done-right : (a : Answered) (setting : Setting) (revision : ℕ) (trail : Trail) → IsTrail (span_of a) (now (span_of a)) trail → AreCalls trail (a.call ∷ earlier_calls a) → OfChange setting trail (answer.Done revision) → IsChangeDone a setting revision
 unfolding OfChange
 done-right a setting revision trail is calls k = change-done a setting revision trail is calls k
 
-pub refused-right : (a : Answered) (setting : Setting) (number : ℕ) (name : List ℕ) (trail : Trail) → IsTrail (span_of a) (now (span_of a)) trail → OfChange setting trail (answer.Refused number name) → IsRefused a setting number name
+pub refused-right : (a : Answered) (setting : Setting) (number : ℕ) (name : List ℕ) (trail : Trail) → IsTrail (span_of a) (now (span_of a)) trail → OfChange setting trail (answer.Refused number name) → IsChangeRefused a setting number name
 unfolding OfChange
 refused-right a setting number name trail is k = change-refused a setting number name trail is k
 

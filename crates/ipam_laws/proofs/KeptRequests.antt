@@ -6,7 +6,7 @@ use Rattle.ipam_model.specs.declared.answer.Answer.{Answer}
 use Rattle.ipam_model.specs.declared.entry.Entry.{Entry}
 use Rattle.ipam_model.specs.declared.entry.Entry.TheVariants as entry
 use Rattle.ipam_model.specs.declared.request.Request.{Request}
-use Rattle.ipam_model.specs.Cluster.{Running, after, word_after_reply, fresh_run, run_after_feed, goes_on}
+use Rattle.ipam_model.specs.Cluster.{RunningRequest, after, word_after_reply, fresh_run, run_after_feed, goes_on}
 use Rattle.ipam_model.specs.History.{Base, cluster_at}
 use Rattle.ipam_model.specs.Requests.{word_of}
 use Rattle.ipam_laws.proofs.KeptWords.{slot-is}
@@ -17,15 +17,15 @@ pub record IsKeptOf (P : Request → Word Answer → Type 0) : Type 0 where
   pub is_fed : (request : Request) (live : List (List ℕ)) (word : Word Answer) → P request word → P request (after_feed word live)
 
 module _ (P : Request → Word Answer → Type 0) (kept : IsKeptOf P) where
-  abbrev OfSlot : Option Running → Type 0
+  abbrev OfSlot : Option RunningRequest → Type 0
   OfSlot None = Unit {0}
   OfSlot (Some running) = P running.request running.word
 
-  fed-slot : (live : List (List ℕ)) (o : Option Running) → OfSlot o → OfSlot (run_after_feed live o)
+  fed-slot : (live : List (List ℕ)) (o : Option RunningRequest) → OfSlot o → OfSlot (run_after_feed live o)
   fed-slot live None h = tt
   fed-slot live (Some running) h = kept.is_fed running.request live running.word h
 
-  goes-slot : (store : Datastore) (moment : ℕ) (answer : Option Answer) (o : Option Running) → OfSlot o → OfSlot (goes_on store moment answer o)
+  goes-slot : (store : Datastore) (moment : ℕ) (answer : Option Answer) (o : Option RunningRequest) → OfSlot o → OfSlot (goes_on store moment answer o)
   goes-slot store moment (Some answer) o h = tt
   goes-slot store moment None None h = tt
   goes-slot store moment None (Some running) h = kept.hears running.request store moment running.word h
@@ -51,5 +51,5 @@ module _ (P : Request → Word Answer → Type 0) (kept : IsKeptOf P) where
       (λ differ. slots-kept base history slot)
 
   -- what runs in a slot keeps it
-  pub running-kept : (base : Base) (history : List Entry) (slot : ℕ) (running : Running) → (cluster_at base history).slots slot ≡ Some running → P running.request running.word
-  running-kept base history slot running e = subst (λ (o : Option Running). OfSlot o) e (slots-kept base history slot)
+  pub running-kept : (base : Base) (history : List Entry) (slot : ℕ) (running : RunningRequest) → (cluster_at base history).slots slot ≡ Some running → P running.request running.word
+  running-kept base history slot running e = subst (λ (o : Option RunningRequest). OfSlot o) e (slots-kept base history slot)

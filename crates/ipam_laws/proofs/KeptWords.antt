@@ -8,14 +8,14 @@ use Rattle.ipam_model.specs.declared.answer.Answer.{Answer}
 use Rattle.ipam_model.specs.declared.entry.Entry.{Entry}
 use Rattle.ipam_model.specs.declared.entry.Entry.TheVariants as entry
 use Rattle.ipam_model.specs.declared.request.Request.{Request}
-use Rattle.ipam_model.specs.Cluster.{Running, Slots, after, word_after_reply, fresh_run, run_after_feed, goes_on, with_slot}
+use Rattle.ipam_model.specs.Cluster.{RunningRequest, Slots, after, word_after_reply, fresh_run, run_after_feed, goes_on, with_slot}
 use Rattle.ipam_model.specs.History.{Base, cluster_at}
 use Rattle.ipam_model.specs.Requests.{word_of}
 
 -- ---- a slot that changes, and the others
 
 -- the slot that is given something
-pub own-slot : (slot : ℕ) (running : Option Running) (slots : Slots) → with_slot slot running slots slot ≡ running
+pub own-slot : (slot : ℕ) (running : Option RunningRequest) (slots : Slots) → with_slot slot running slots slot ≡ running
 own-slot slot running slots = from (slot == slot) refl
   where
     from : (b : Bool) → (slot == slot) ≡ b → cond b running (slots slot) ≡ running
@@ -23,7 +23,7 @@ own-slot slot running slots = from (slot == slot) refl
     from false e = absurd (eqb-false slot slot e refl)
 
 -- another slot
-pub other-slot : (changed slot : ℕ) (running : Option Running) (slots : Slots) → changed ≢ slot → with_slot changed running slots slot ≡ slots slot
+pub other-slot : (changed slot : ℕ) (running : Option RunningRequest) (slots : Slots) → changed ≢ slot → with_slot changed running slots slot ≡ slots slot
 other-slot changed slot running slots differ = from (slot == changed) refl
   where
     from : (b : Bool) → (slot == changed) ≡ b → cond b running (slots slot) ≡ slots slot
@@ -31,7 +31,7 @@ other-slot changed slot running slots differ = from (slot == changed) refl
     from false e = refl
 
 -- what holds of what the slot is given, and of the slot as it was, holds of the slot
-pub slot-is : (P : Option Running → Type 0) (changed slot : ℕ) (running : Option Running) (slots : Slots) → (slot ≡ changed → P running) → (slot ≢ changed → P (slots slot)) → P (with_slot changed running slots slot)
+pub slot-is : (P : Option RunningRequest → Type 0) (changed slot : ℕ) (running : Option RunningRequest) (slots : Slots) → (slot ≡ changed → P running) → (slot ≢ changed → P (slots slot)) → P (with_slot changed running slots slot)
 slot-is P changed slot running slots own other = from (slot == changed) refl
   where
     from : (b : Bool) → (slot == changed) ≡ b → P (cond b running (slots slot))
@@ -45,15 +45,15 @@ pub record IsKept (P : Word Answer → Type 0) : Type 0 where
   pub hears : (store : Datastore) (moment : ℕ) (word : Word Answer) → P word → P (word_after_reply store moment word)
   pub is_fed : (live : List (List ℕ)) (word : Word Answer) → P word → P (after_feed word live)
 
-abbrev OfSlot : (Word Answer → Type 0) → Option Running → Type 0
+abbrev OfSlot : (Word Answer → Type 0) → Option RunningRequest → Type 0
 OfSlot P None = Unit {0}
 OfSlot P (Some running) = P running.word
 
-fed-slot : (P : Word Answer → Type 0) → IsKept P → (live : List (List ℕ)) (o : Option Running) → OfSlot P o → OfSlot P (run_after_feed live o)
+fed-slot : (P : Word Answer → Type 0) → IsKept P → (live : List (List ℕ)) (o : Option RunningRequest) → OfSlot P o → OfSlot P (run_after_feed live o)
 fed-slot P kept live None h = tt
 fed-slot P kept live (Some running) h = kept.is_fed live running.word h
 
-goes-slot : (P : Word Answer → Type 0) → IsKept P → (store : Datastore) (moment : ℕ) (answer : Option Answer) (o : Option Running) → OfSlot P o → OfSlot P (goes_on store moment answer o)
+goes-slot : (P : Word Answer → Type 0) → IsKept P → (store : Datastore) (moment : ℕ) (answer : Option Answer) (o : Option RunningRequest) → OfSlot P o → OfSlot P (goes_on store moment answer o)
 goes-slot P kept store moment (Some answer) o h = tt
 goes-slot P kept store moment None None h = tt
 goes-slot P kept store moment None (Some running) h = kept.hears store moment running.word h
@@ -79,5 +79,5 @@ slots-kept P kept base (entry.Called c ∷ history) slot =
     (λ differ. slots-kept P kept base history slot)
 
 -- what runs in a slot keeps it
-pub word-kept : (P : Word Answer → Type 0) → IsKept P → (base : Base) (history : List Entry) (slot : ℕ) (running : Running) → (cluster_at base history).slots slot ≡ Some running → P running.word
-word-kept P kept base history slot running e = subst (λ (o : Option Running). OfSlot P o) e (slots-kept P kept base history slot)
+pub word-kept : (P : Word Answer → Type 0) → IsKept P → (base : Base) (history : List Entry) (slot : ℕ) (running : RunningRequest) → (cluster_at base history).slots slot ≡ Some running → P running.word
+word-kept P kept base history slot running e = subst (λ (o : Option RunningRequest). OfSlot P o) e (slots-kept P kept base history slot)

@@ -17,8 +17,8 @@ use Rattle.ipam_model.specs.Look.{probe_each}
 use Rattle.ipam_model.specs.Step.{all_left, rounds, as_word, tries}
 use Rattle.ipam_model.specs.Told.{of_add, of_probe}
 use Rattle.ipam_model.specs.Usable.{families_if}
-use Rattle.ipam_model.specs.Cluster.{Running, after, word_after_reply, fresh_run, run_after_feed, goes_on}
-use Rattle.ipam_model.specs.History.{Base, Lawful, MayCall, Span, before, cluster_at, moment_of, now, store_at}
+use Rattle.ipam_model.specs.Cluster.{RunningRequest, after, word_after_reply, fresh_run, run_after_feed, goes_on}
+use Rattle.ipam_model.specs.History.{Base, Lawful, MayCall, RequestSpan, before, cluster_at, moment_of, now, store_at}
 use Rattle.ipam_model.specs.LabelLaw.{LabelsLaw}
 use Rattle.ipam_model.specs.Moments.{request_in}
 use Rattle.ipam_model.specs.Requests.{told_as, word_of}
@@ -44,7 +44,7 @@ AllSound [] = Unit {0}
 AllSound (Did moment store asked ∷ trail) = IsDatastore store × AllSound trail
 AllSound (Got moment at live ∷ trail) = AllSound trail
 
-trail-sound : (span : Span) → IsDatastore span.base.store → Lawful span.base span.history → (trail : Trail) (upto : ℕ) → IsTrail span upto trail → AllSound trail
+trail-sound : (span : RequestSpan) → IsDatastore span.base.store → Lawful span.base span.history → (trail : Trail) (upto : ℕ) → IsTrail span upto trail → AllSound trail
 unfolding IsTrail AllSound
 trail-sound span sound h [] upto is = tt
 trail-sound span sound h (Did moment store asked ∷ trail) upto is = (
@@ -103,7 +103,7 @@ begun-on (Probe request) sound = probe-on request sound.some_family
 
 -- ---- what runs has not answered
 
-abbrev pub SlotIsOn : Option Running → Type 0
+abbrev pub SlotIsOn : Option RunningRequest → Type 0
 SlotIsOn None = Unit {0}
 SlotIsOn (Some running) = IsOn running.word
 
@@ -114,10 +114,10 @@ LeftSays request trail word = AllSound trail → Says request Any trail word
 slot-says : (base : Base) (history : List Entry) → IsDatastore base.store → Lawful base history → (slot : ℕ) → SlotComes LeftSays all-says base history slot ((cluster_at base history).slots slot)
 slot-says base history sound h slot = slot-comes LeftSays all-says base history sound h slot
 
-run-says : (base : Base) (history : List Entry) → IsDatastore base.store → Lawful base history → (slot : ℕ) (running : Running) → (cluster_at base history).slots slot ≡ Some running → RunComes LeftSays all-says base history slot running
-run-says base history sound h slot running runs = subst (λ (o : Option Running). SlotComes LeftSays all-says base history slot o) runs (slot-says base history sound h slot)
+run-says : (base : Base) (history : List Entry) → IsDatastore base.store → Lawful base history → (slot : ℕ) (running : RunningRequest) → (cluster_at base history).slots slot ≡ Some running → RunComes LeftSays all-says base history slot running
+run-says base history sound h slot running runs = subst (λ (o : Option RunningRequest). SlotComes LeftSays all-says base history slot o) runs (slot-says base history sound h slot)
 
-says-of : (base : Base) (history : List Entry) → IsDatastore base.store → Lawful base history → (slot : ℕ) (running : Running) → (run : RunComes LeftSays all-says base history slot running) → Says running.request Any run.trail running.word
+says-of : (base : Base) (history : List Entry) → IsDatastore base.store → Lawful base history → (slot : ℕ) (running : RunningRequest) → (run : RunComes LeftSays all-says base history slot running) → Says running.request Any run.trail running.word
 says-of base history sound h slot running run = run.comes (trail-sound (span_at base history slot) sound h run.trail (moment_of base history) run.is_trail)
 
 fed-on : (request : Request) (trail : Trail) (word : Word Answer) (live : List (List ℕ)) → IsTrue (waits word) → Says request Any trail word → IsOn (after_feed word live)
@@ -136,7 +136,7 @@ called-on base history c may None is =
     let done = well c store shape.asked answer shape.is_call fate in
     let word : word_after_reply store moment may.running.word ≡ shape.next moment (reply_of store shape.asked) = ap (λ (w : Word Answer). word_after_reply store moment w) shape.is_word in
     let on : IsOn (word_after_reply store moment may.running.word) = ap answer_in word ∙ (sym done.answers ∙ is) in
-    subst (λ (o : Option Running). SlotIsOn (goes_on store moment None o)) (sym may.runs) on
+    subst (λ (o : Option RunningRequest). SlotIsOn (goes_on store moment None o)) (sym may.runs) on
 
 slots-on : (base : Base) (history : List Entry) → IsDatastore base.store → Lawful base history → (slot : ℕ) → SlotIsOn ((cluster_at base history).slots slot)
 unfolding Lawful cluster_at after
@@ -148,7 +148,7 @@ slots-on base (entry.Fed other at live ∷ history) sound h slot =
     let run = run-says base history sound h.0 other may.running may.runs in
     let on = fed-on may.running.request run.trail may.running.word live may.waiting (says-of base history sound h.0 other may.running run) in
     slot-is SlotIsOn other slot (run_after_feed live ((cluster_at base history).slots other)) (cluster_at base history).slots
-    (λ own. subst (λ (o : Option Running). SlotIsOn (run_after_feed live o)) (sym may.runs) on) (λ differ. slots-on base history sound h.0 slot)
+    (λ own. subst (λ (o : Option RunningRequest). SlotIsOn (run_after_feed live o)) (sym may.runs) on) (λ differ. slots-on base history sound h.0 slot)
 slots-on base (entry.Stopped other ∷ history) sound h slot =
     slot-is SlotIsOn other slot None (cluster_at base history).slots (λ own. tt) (λ differ. slots-on base history sound h.0 slot)
 slots-on base (entry.Called c ∷ history) sound h slot =
@@ -162,9 +162,9 @@ labels_law base history slot running sound h runs =
     let span = span_at base history slot in
     let run = run-says base history sound h slot running runs in
     let says = says-of base history sound h slot running run in
-    let on = subst (λ (o : Option Running). SlotIsOn o) runs (slots-on base history sound h slot) in
+    let on = subst (λ (o : Option RunningRequest). SlotIsOn o) runs (slots-on base history sound h slot) in
     let tells = word-tells running.request run.trail running.word on says in
-    let requested : request_in (cluster_at base history) slot ≡ Some running.request = ap (λ (o : Option Running). option_map (λ (r : Running). r.request) o) runs in
+    let requested : request_in (cluster_at base history) slot ≡ Some running.request = ap (λ (o : Option RunningRequest). option_map (λ (r : RunningRequest). r.request) o) runs in
     record {
       credit = λ credit.
           let exact = owes-exactly span run.trail run.is_trail tells.debt tells.owes credit in

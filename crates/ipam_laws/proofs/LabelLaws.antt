@@ -9,7 +9,7 @@ use Rattle.ipam_model.specs.declared.entry.Entry.{Entry}
 use Rattle.ipam_model.specs.declared.request.Request.{Request}
 use Rattle.ipam_model.specs.declared.request.Request.TheVariants.{Release}
 use Rattle.ipam_model.specs.AffinityLaw.{IsAt, IsLabelled, PointsAgree, PointsKeep, PointsLaw}
-use Rattle.ipam_model.specs.Cluster.{Running}
+use Rattle.ipam_model.specs.Cluster.{RunningRequest}
 use Rattle.ipam_model.specs.CountLaw.{amount_for, credit_of_slot}
 use Rattle.ipam_model.specs.Course.{slot_count}
 use Rattle.ipam_model.specs.Credits.{CreditsLaw, RunsWith}
@@ -22,10 +22,10 @@ use Rattle.ipam_laws.proofs.LabelHistory.{labels_law}
 use Rattle.ipam_laws.proofs.Trails.{span_at}
 
 -- what runs, where a request runs
-is-running : (base : Base) (history : List Entry) (slot : ℕ) (request : Request) → request_in (cluster_at base history) slot ≡ Some request → (running : Running) × ((cluster_at base history).slots slot ≡ Some running)
+is-running : (base : Base) (history : List Entry) (slot : ℕ) (request : Request) → request_in (cluster_at base history) slot ≡ Some request → (running : RunningRequest) × ((cluster_at base history).slots slot ≡ Some running)
 is-running base history slot request = by ((cluster_at base history).slots slot) refl
   where
-    by : (o : Option Running) → (cluster_at base history).slots slot ≡ o → option_map (λ (r : Running). r.request) o ≡ Some request → (running : Running) × ((cluster_at base history).slots slot ≡ Some running)
+    by : (o : Option RunningRequest) → (cluster_at base history).slots slot ≡ o → option_map (λ (r : RunningRequest). r.request) o ≡ Some request → (running : RunningRequest) × ((cluster_at base history).slots slot ≡ Some running)
     by None is e = absurd (cc e)
     by (Some running) is e = (running, is)
 

@@ -17,7 +17,7 @@ use Rattle.ipam_model.specs.declared.request.Request.{Request}
 use Rattle.ipam_model.specs.Cluster.{call_made, new_record, record_written}
 use Rattle.ipam_model.specs.Named.{name_of, told_of}
 use Rattle.ipam_model.specs.Step.{after_write, write_back}
-use Rattle.ipam_model.specs.Tries.{claims_of, confirmed_claims, done_or, follows_block_read, is_add, is_at, is_confirmation_of, is_lost, is_race_lost, is_release, is_write, latest_done, lost_races, reads_affinity, reads_block}
+use Rattle.ipam_model.specs.Tries.{claims_of, confirmed_claims, done_or, follows_block_read, is_add, is_mark_found, is_confirmation_of, is_lost, is_race_lost, is_release, is_write, latest_done, lost_races, reads_affinity, reads_block}
 use Rattle.ipam_laws.proofs.Acts.{Later, Same, Since}
 use Rattle.ipam_laws.proofs.Trails.{AreCalls, Comes, Did, Got, Step, Trail}
 
@@ -53,7 +53,7 @@ same-calls request (Did moment store asked ∷ trail) calls (c, rest, is, call, 
     subst (λ (l : List Called). SameCalls request l (call_at store asked ∷ told_calls trail)) (sym is) (record {
       follows = ap reads_block call.call;
       latest = λ i. done_or (call.reply i) (k.latest i);
-      lost = λ i. cond (cond (is_write (call.call i)) (is_race_lost (call.reply i)) (is_release request && (reads_affinity (call.call i) && k.follows i && not (is_at (k.latest i) (call.reply i))))) 1 0 + k.lost i;
+      lost = λ i. cond (cond (is_write (call.call i)) (is_race_lost (call.reply i)) (is_release request && (reads_affinity (call.call i) && k.follows i && not (is_mark_found (k.latest i) (call.reply i))))) 1 0 + k.lost i;
       confirmed = λ i. cond (is_confirmation_of (call.is_written i)) 1 0 + k.confirmed i;
     })
 
@@ -266,14 +266,14 @@ module _ (request : Request) where
   pub read-left : is_release request ≡ false → (bound moment : ℕ) (store : Datastore) (asked : Call) (trail : Trail) (left : Left) → is_write (name_of asked) ≡ false → NoClaim request asked → IsLeft request bound trail left → IsLeft request bound (Did moment store asked ∷ trail) left
   read-left no_release bound moment store asked trail left reads none h =
       kept-left bound moment store asked trail left
-      (λ i. cond (reads i) (is_race_lost (told_of (reply_of store asked))) (no_release i && (reads_affinity (name_of asked) && follows_block_read (told_calls trail) && not (is_at (latest_done (told_calls trail)) (told_of (reply_of store asked)))))) none h
+      (λ i. cond (reads i) (is_race_lost (told_of (reply_of store asked))) (no_release i && (reads_affinity (name_of asked) && follows_block_read (told_calls trail) && not (is_mark_found (latest_done (told_calls trail)) (told_of (reply_of store asked)))))) none h
 
   pub done-left : (bound moment : ℕ) (store : Datastore) (asked : Call) (trail : Trail) (left : Left) (revision : ℕ) → is_write (name_of asked) ≡ true → reply_of store asked ≡ Can revision → NoClaim request asked → IsLeft request bound trail left → IsLeft request bound (Did moment store asked ∷ trail) left
   done-left bound moment store asked trail left revision writes done none h =
       kept-left bound moment store asked trail left (written-lost store asked trail (Can revision) writes done) none h
     where
       written-lost : (store : Datastore) (asked : Call) (trail : Trail) (said : Said) → is_write (name_of asked) ≡ true → reply_of store asked ≡ said → is_lost request (call_at store asked) (told_calls trail) ≡ is_race_lost (told_of said)
-      written-lost store asked trail said w e = λ i. cond (w i) (is_race_lost (told_of (e i))) (is_release request && (reads_affinity (name_of asked) && follows_block_read (told_calls trail) && not (is_at (latest_done (told_calls trail)) (told_of (reply_of store asked)))))
+      written-lost store asked trail said w e = λ i. cond (w i) (is_race_lost (told_of (e i))) (is_release request && (reads_affinity (name_of asked) && follows_block_read (told_calls trail) && not (is_mark_found (latest_done (told_calls trail)) (told_of (reply_of store asked)))))
 
   -- a step that lost a race
   pub step-lost : (bound moment : ℕ) (store : Datastore) (asked : Call) (trail : Trail) (left : Left) → is_lost request (call_at store asked) (told_calls trail) ≡ true → claims_in request (Did moment store asked ∷ trail) ≡ claims_in request trail → IsLeft request bound trail left → HasLost request bound (Did moment store asked ∷ trail) left
@@ -294,12 +294,12 @@ module _ (request : Request) where
   write-lost : (bound moment : ℕ) (store : Datastore) (asked : Call) (trail : Trail) (left : Left) (said : Said) → is_write (name_of asked) ≡ true → reply_of store asked ≡ said → is_race_lost (told_of said) ≡ true → record_written asked said ≡ None → IsLeft request bound trail left → HasLost request bound (Did moment store asked ∷ trail) left
   write-lost bound moment store asked trail left said w e is none h =
       step-lost bound moment store asked trail left
-      ((λ i. cond (w i) (is_race_lost (told_of (e i))) (is_release request && (reads_affinity (name_of asked) && follows_block_read (told_calls trail) && not (is_at (latest_done (told_calls trail)) (told_of (reply_of store asked)))))) ∙ is)
+      ((λ i. cond (w i) (is_race_lost (told_of (e i))) (is_release request && (reads_affinity (name_of asked) && follows_block_read (told_calls trail) && not (is_mark_found (latest_done (told_calls trail)) (told_of (reply_of store asked)))))) ∙ is)
       (claims-undone request moment store asked trail (ap (record_written asked) e ∙ none)) h
 
   write-kept : (bound moment : ℕ) (store : Datastore) (asked : Call) (trail : Trail) (left : Left) (said : Said) → is_write (name_of asked) ≡ true → reply_of store asked ≡ said → is_race_lost (told_of said) ≡ false → record_written asked said ≡ None → IsLeft request bound trail left → IsLeft request bound (Did moment store asked ∷ trail) left
   write-kept bound moment store asked trail left said w e is none h =
-      let lost = costs-none request moment store asked trail ((λ i. cond (w i) (is_race_lost (told_of (e i))) (is_release request && (reads_affinity (name_of asked) && follows_block_read (told_calls trail) && not (is_at (latest_done (told_calls trail)) (told_of (reply_of store asked)))))) ∙ is) in
+      let lost = costs-none request moment store asked trail ((λ i. cond (w i) (is_race_lost (told_of (e i))) (is_release request && (reads_affinity (name_of asked) && follows_block_read (told_calls trail) && not (is_mark_found (latest_done (told_calls trail)) (told_of (reply_of store asked)))))) ∙ is) in
       let claims = claims-undone request moment store asked trail (ap (record_written asked) e ∙ none) in
       record { lost = ap (λ (n : ℕ). n + left.races) lost ∙ h.lost; claims = ap (λ (n : ℕ). n + left.claims) claims ∙ h.claims; within = h.within }
 

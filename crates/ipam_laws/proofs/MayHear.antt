@@ -14,7 +14,7 @@ use Rattle.ipam_records.specs.Word.{Word, Ends, Asks, Waits, next_call, label_of
 use Rattle.ipam_model.specs.declared.answer.Answer.{Answer}
 use Rattle.ipam_model.specs.declared.entry.Entry.{Entry}
 use Rattle.ipam_model.specs.declared.entry.Entry.TheVariants as entry
-use Rattle.ipam_model.specs.Cluster.{Running, after, fresh_run, run_after_feed, goes_on}
+use Rattle.ipam_model.specs.Cluster.{RunningRequest, after, fresh_run, run_after_feed, goes_on}
 use Rattle.ipam_model.specs.Counting.{credit_of}
 use Rattle.ipam_model.specs.CountLaw.{count_in_row, handle_count, credit_of_slot, amount_for}
 use Rattle.ipam_model.specs.Course.{slot_count}
@@ -88,7 +88,7 @@ same-beside base history (entry.Fed other at live) slot differ = other-slot othe
 same-beside base history (entry.Stopped other) slot differ = other-slot other slot None (cluster_at base history).slots differ
 same-beside base history (entry.Called c) slot differ = other-slot c.slot slot (goes_on (store_at base history) (cluster_at base history).entries c.answer ((cluster_at base history).slots c.slot)) (cluster_at base history).slots differ
 
-running-below : (base : Base) (history : List Entry) → IsDatastore base.store → Lawful base history → (slot : ℕ) (running : Running) → (cluster_at base history).slots slot ≡ Some running → slot < slot_count
+running-below : (base : Base) (history : List Entry) → IsDatastore base.store → Lawful base history → (slot : ℕ) (running : RunningRequest) → (cluster_at base history).slots slot ≡ Some running → slot < slot_count
 unfolding Lawful cluster_at
 running-below base [] sound h slot running e = absurd (cc e)
 running-below base (new ∷ history) sound h slot running e = elim (number-cases (slot_of_entry new) slot) [
@@ -150,7 +150,7 @@ may_hear base history slot running called sound covered h runs asks = from runni
         let own : credit_of_slot credit.handle credit.block ((cluster_at base history).slots slot) ≡ credit.amount = slot-owes credit ((cluster_at base history).slots slot) owes in
         omega arith
       where
-        slot-owes : (credit : Credit) (o : Option Running) → (label_in o).credit ≡ Some credit → credit_of_slot credit.handle credit.block o ≡ credit.amount
+        slot-owes : (credit : Credit) (o : Option RunningRequest) → (label_in o).credit ≡ Some credit → credit_of_slot credit.handle credit.block o ≡ credit.amount
         slot-owes credit None e = absurd (cc e)
         slot-owes credit (Some r) e = ap (amount_for credit.handle credit.block) e ∙ owed-own credit
 

@@ -16,8 +16,8 @@ use Rattle.ipam_model.specs.Add.{add_word}
 use Rattle.ipam_model.specs.AddThis.{add_this_word}
 use Rattle.ipam_model.specs.Admin.{admin_word}
 use Rattle.ipam_model.specs.Affinities.{release as release_word}
-use Rattle.ipam_model.specs.CanAnswer.{IsTold, IsOwnAnswer, CanAnswer, CanAnswerLaw}
-use Rattle.ipam_model.specs.Cluster.{Running, word_after_reply, call_entry, call_made}
+use Rattle.ipam_model.specs.CanAnswer.{IsOneAnswer, IsOwnAnswer, CanAnswer, CanAnswerLaw}
+use Rattle.ipam_model.specs.Cluster.{RunningRequest, word_after_reply, call_entry, call_made}
 use Rattle.ipam_model.specs.History.{Lawful, cluster_at}
 use Rattle.ipam_model.specs.Look.{check_word, probe_word}
 use Rattle.ipam_model.specs.Remove.{del_word, collect_word}
@@ -31,7 +31,7 @@ EndsIn P (Ends answer) = P answer
 EndsIn P (Asks label asked next) = (moment : ℕ) (said : Said) → EndsIn P (next moment said)
 EndsIn P (Waits next) = (live : List (List ℕ)) → EndsIn P (next live)
 
-told-ends : {A : Type 0} → (of_one : A → Answer) (w : Word A) → EndsIn (IsTold of_one) (told_as of_one w)
+told-ends : {A : Type 0} → (of_one : A → Answer) (w : Word A) → EndsIn (IsOneAnswer of_one) (told_as of_one w)
 unfolding EndsIn
 told-ends of_one (Ends a) = (a, refl)
 told-ends of_one (Asks label asked next) = λ moment said. told-ends of_one (next moment said)
@@ -93,12 +93,12 @@ entry-own request slot fate store moment (Asks label asked next) c told h e f =
     called-own request slot fate asked (reply_of store asked) (next moment (reply_of store asked)) told (h moment (reply_of store asked)) (ap (λ (x : Called). x.answer) is ∙ f)
 
 -- the request that runs
-runs-it : (o : Option Running) (running : Running) (request : Request) → o ≡ Some running → option_map (λ (r : Running). r.request) o ≡ Some request → running.request ≡ request
+runs-it : (o : Option RunningRequest) (running : RunningRequest) (request : Request) → o ≡ Some running → option_map (λ (r : RunningRequest). r.request) o ≡ Some request → running.request ≡ request
 runs-it None running request is e = absurd (cc is)
 runs-it (Some other) running request is e =
     let same : other ≡ running = cc is in
     let its : other.request ≡ request = cc e in
-    ap (λ (r : Running). r.request) (sym same) ∙ its
+    ap (λ (r : RunningRequest). r.request) (sym same) ∙ its
 
 pub own_answers : CanAnswerLaw
 unfolding Lawful

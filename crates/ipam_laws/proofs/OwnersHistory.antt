@@ -28,10 +28,10 @@ use Rattle.ipam_model.specs.declared.request.Request.{Request}
 use Rattle.ipam_model.specs.declared.request.Request.TheVariants.{Collect}
 use Rattle.ipam_model.specs.AffinityLaw.{HasAt}
 use Rattle.ipam_model.specs.Assigning.{Target}
-use Rattle.ipam_model.specs.Cluster.{Running, after, call_made, store_after}
+use Rattle.ipam_model.specs.Cluster.{RunningRequest, after, call_made, store_after}
 use Rattle.ipam_model.specs.Consistent.{IsConsistent}
-use Rattle.ipam_model.specs.Counting.{Freeing}
-use Rattle.ipam_model.specs.History.{Base, InSpan, Lawful, Span, cluster_at, now, seen_at, seen_now, store_at}
+use Rattle.ipam_model.specs.Counting.{FreedOfHandle}
+use Rattle.ipam_model.specs.History.{Base, InSpan, Lawful, RequestSpan, cluster_at, now, seen_at, seen_now, store_at}
 use Rattle.ipam_model.specs.Moments.{GainedInSpan, Loses, Owns, Recorded, request_in}
 use Rattle.ipam_model.specs.Owners.{Owner, owners}
 use Rattle.ipam_model.specs.OwnerLaw.{Assigned, Collected, Collecting, Deleted, IsLeak, MayGain, OwnersLaw, OwnersMove, Undone}
@@ -57,14 +57,14 @@ use Rattle.ipam_laws.proofs.Trails.{Did, DidAt, Got, IsTrail, Lasts, SlotComes, 
 -- ---- what a trail did, in its span
 
 -- an earlier part of a trail is one
-pub part-of : (span : Span) (earlier trail : Trail) (upto : ℕ) → Since earlier trail → IsTrail span upto trail → (until : ℕ) × IsTrail span until earlier
+pub part-of : (span : RequestSpan) (earlier trail : Trail) (upto : ℕ) → Since earlier trail → IsTrail span upto trail → (until : ℕ) × IsTrail span until earlier
 unfolding IsTrail
 part-of span earlier trail upto Same h = (upto, h)
 part-of span earlier trail upto (Later (Did moment store asked) rest since) h = part-of span earlier rest moment since h.2
 part-of span earlier trail upto (Later (Got moment at live) rest since) h = part-of span earlier rest moment since h.2
 
 -- an address that was assigned was gained in the span
-gained : (span : Span) (attributes : Attributes) (target : Target) (trail : Trail) (upto : ℕ) → IsConsistent span.base.store → Lawful span.base span.history → IsTrail span upto trail → DidAssign attributes target trail → GainedInSpan span (new_owner target.block target.ordinal attributes)
+gained : (span : RequestSpan) (attributes : Attributes) (target : Target) (trail : Trail) (upto : ℕ) → IsConsistent span.base.store → Lawful span.base span.history → IsTrail span upto trail → DidAssign attributes target trail → GainedInSpan span (new_owner target.block target.ordinal attributes)
 unfolding IsTrail
 gained span attributes target trail upto c h is did =
     let (until, earlier) = part-of span (Did did.moment did.store (assigning_call attributes target) ∷ did.before) trail upto did.since is in
@@ -86,14 +86,14 @@ gained span attributes target trail upto c h is did =
 -- ---- a collection
 
 -- what the collection went by, and the leak
-record IsLeaking (span : Span) (collect : CollectRequest) (leak : Leak) : Type 0 where
+record IsLeaking (span : RequestSpan) (collect : CollectRequest) (leak : Leak) : Type 0 where
   went_by : Collecting span collect
   is_leak : IsLeak span collect went_by leak.owner
   number : leak.owner.address.number - leak.block.base + leak.block.base ≡ leak.owner.address.number
   family : leak.block.family ≡ leak.owner.address.family
 
 -- a collection by its two lists and the list of live handles between them
-module _ (span : Span) (collect : CollectRequest) (b1 fed_at time b2 : ℕ) (live : List (List ℕ)) (first second : Datastore) (due : AreDue span.base span.history span.slot (Collect collect)) (did1 : DidAt span b1 first (ListAll kind.Block)) (fed : InSpan span fed_at (entry.Fed span.slot time live)) (did2 : DidAt span b2 second (ListAll kind.Block)) (fed_after : b1 < fed_at) (listed_after : fed_at < b2) where
+module _ (span : RequestSpan) (collect : CollectRequest) (b1 fed_at time b2 : ℕ) (live : List (List ℕ)) (first second : Datastore) (due : AreDue span.base span.history span.slot (Collect collect)) (did1 : DidAt span b1 first (ListAll kind.Block)) (fed : InSpan span fed_at (entry.Fed span.slot time live)) (did2 : DidAt span b2 second (ListAll kind.Block)) (fed_after : b1 < fed_at) (listed_after : fed_at < b2) where
   abbrev pub went-by : Collecting span collect
   went-by = record {
     b1 = b1;
@@ -123,7 +123,7 @@ module _ (span : Span) (collect : CollectRequest) (b1 fed_at time b2 : ℕ) (liv
         not_live_still = found.not_live_still;
       }
 
-leaking : (span : Span) (collect : CollectRequest) (leak : Leak) (trail : Trail) (upto : ℕ) → AreDue span.base span.history span.slot (Collect collect) → IsTrail span upto trail → HasListed collect leak trail → IsLeaking span collect leak
+leaking : (span : RequestSpan) (collect : CollectRequest) (leak : Leak) (trail : Trail) (upto : ℕ) → AreDue span.base span.history span.slot (Collect collect) → IsTrail span upto trail → HasListed collect leak trail → IsLeaking span collect leak
 unfolding IsTrail
 leaking span collect leak trail upto due is h =
     let (until, three) = part-of span (Did h.b2 h.second (ListAll kind.Block) ∷ Got h.fed_at h.time h.live ∷ Did h.b1 h.first (ListAll kind.Block) ∷ []) trail upto h.since is in
@@ -139,7 +139,7 @@ leaking span collect leak trail upto due is h =
 -- ---- one call
 
 -- where a call stands: over a consistent history, with the store after it
-record CallThere (span : Span) (request : Request) (trail : Trail) (next : Datastore) : Type 0 where
+record CallThere (span : RequestSpan) (request : Request) (trail : Trail) (next : Datastore) : Type 0 where
   consistent : IsConsistent span.base.store
   lawful : Lawful span.base span.history
   is_trail : IsTrail span (now span) trail
@@ -147,10 +147,10 @@ record CallThere (span : Span) (request : Request) (trail : Trail) (next : Datas
   requested : request_in (cluster_at span.base span.history) span.slot ≡ Some request
   then_consistent : IsConsistent next
 
-now-consistent : (span : Span) → IsConsistent span.base.store → Lawful span.base span.history → IsConsistent (seen_now span)
+now-consistent : (span : RequestSpan) → IsConsistent span.base.store → Lawful span.base span.history → IsConsistent (seen_now span)
 now-consistent span c h = consistent_law span.base span.history c h
 
-assign-moves : (span : Span) (request : Request) (trail : Trail) (next : Datastore) (attributes : Attributes) (target : Target) (revision : ℕ) → CallThere span request trail next → next ≡ behind (seen_now span) (assigning_call attributes target) → reply_of (seen_now span) (assigning_call attributes target) ≡ Can revision
+assign-moves : (span : RequestSpan) (request : Request) (trail : Trail) (next : Datastore) (attributes : Attributes) (target : Target) (revision : ℕ) → CallThere span request trail next → next ≡ behind (seen_now span) (assigning_call attributes target) → reply_of (seen_now span) (assigning_call attributes target) ≡ Can revision
     → IsCurrent (seen_now span) target.revision target.block → MayGain request (new_owner target.block target.ordinal attributes) → OwnersMove span next
 assign-moves span request trail next attributes target revision t is done current may =
     let rewrite = rewrites (seen_now span) next target.block (block_with_ordinal (next_block target.block) target.ordinal attributes) target.revision revision (now-consistent span t.consistent t.lawful) t.then_consistent refl done current is in
@@ -164,16 +164,16 @@ owner-at leak cidr number family is =
     ap (λ (c : CidrValue). stamped_owner c (leak.owner.address.number - leak.block.base) leak.owner.handle leak.owner.stamp) is
     ∙ (λ i. record { address = record { family = family i; number = sum i }; handle = leak.owner.handle; stamp = leak.owner.stamp })
 
-free-moves : (span : Span) (request : Request) (trail : Trail) (next : Datastore) (what : Freeing) (b : BlockValue) (amount : ℕ) → CallThere span request trail next → Rewrites (seen_now span) next b (block_without what.picks (next_block b)) → b.cidr ≡ what.block → count_by what.picks b.allocations ≡ suc amount
+free-moves : (span : RequestSpan) (request : Request) (trail : Trail) (next : Datastore) (what : FreedOfHandle) (b : BlockValue) (amount : ℕ) → CallThere span request trail next → Rewrites (seen_now span) next b (block_without what.picks (next_block b)) → b.cidr ≡ what.block → count_by what.picks b.allocations ≡ suc amount
     → MayLose request trail what → OwnersMove span next
 free-moves span request trail next what b amount t w same count (OfDel id cidr is all) =
-    let rewrite = subst (λ (x : Freeing). Rewrites (seen_now span) next b (block_without x.picks (next_block b))) all w in
-    let some = subst (λ (x : Freeing). count_by x.picks b.allocations ≡ suc amount) all count in
+    let rewrite = subst (λ (x : FreedOfHandle). Rewrites (seen_now span) next b (block_without x.picks (next_block b))) all w in
+    let some = subst (λ (x : FreedOfHandle). count_by x.picks b.allocations ≡ suc amount) all count in
     inr (request, t.requested, Deleted id b is (w.revision, w.there) (loses-all (seen_now span) next b id amount rewrite some))
 free-moves span request trail next what b amount t w same count (OfAdd add target is did one) =
-    let rewrite = subst (λ (x : Freeing). Rewrites (seen_now span) next b (block_without x.picks (next_block b))) one w in
-    let some = subst (λ (x : Freeing). count_by x.picks b.allocations ≡ suc amount) one count in
-    let at : b.cidr ≡ target.block.cidr = same ∙ ap (λ (x : Freeing). x.block) one in
+    let rewrite = subst (λ (x : FreedOfHandle). Rewrites (seen_now span) next b (block_without x.picks (next_block b))) one w in
+    let some = subst (λ (x : FreedOfHandle). count_by x.picks b.allocations ≡ suc amount) one count in
+    let at : b.cidr ≡ target.block.cidr = same ∙ ap (λ (x : FreedOfHandle). x.block) one in
     let owner = new_owner target.block target.ordinal add.attributes in
     let lost = loses-one (seen_now span) next b target.ordinal add.attributes.handle (target.block.sequence + 1) amount rewrite some in
     let named : stamped_owner b.cidr target.ordinal add.attributes.handle (target.block.sequence + 1) ≡ owner = ap (λ (c : CidrValue). stamped_owner c target.ordinal add.attributes.handle (target.block.sequence + 1)) at in
@@ -184,9 +184,9 @@ free-moves span request trail next what b amount t w same count (OfAdd add targe
           (subst (λ (p : Owner). Loses (seen_now span) next (λ o. o ≡ p)) named lost),
     )
 free-moves span request trail next what b amount t w same count (OfCollect collect leak is listed_leak one) =
-    let rewrite = subst (λ (x : Freeing). Rewrites (seen_now span) next b (block_without x.picks (next_block b))) one w in
-    let some = subst (λ (x : Freeing). count_by x.picks b.allocations ≡ suc amount) one count in
-    let at : b.cidr ≡ leak.block = same ∙ ap (λ (x : Freeing). x.block) one in
+    let rewrite = subst (λ (x : FreedOfHandle). Rewrites (seen_now span) next b (block_without x.picks (next_block b))) one w in
+    let some = subst (λ (x : FreedOfHandle). count_by x.picks b.allocations ≡ suc amount) one count in
+    let at : b.cidr ≡ leak.block = same ∙ ap (λ (x : FreedOfHandle). x.block) one in
     let due = subst (λ (r : Request). AreDue span.base span.history span.slot r) is t.due in
     let found = leaking span collect leak trail (now span) due t.is_trail listed_leak in
     let lost = loses-one (seen_now span) next b (leak.owner.address.number - leak.block.base) leak.owner.handle leak.owner.stamp amount rewrite some in
@@ -206,7 +206,7 @@ put-apart store next asked new given put is apart =
     absurd (omega arith)
 
 -- a call that puts a block while its request stands nowhere assigns or frees
-put-moves : (span : Span) (request : Request) (trail : Trail) (next : Datastore) (label : CallLabel) (asked : Call) (new : BlockValue) → CallThere span request trail next → next ≡ behind (seen_now span) asked → label.point ≡ Nowhere → IsPut (seen_now span) next (record_of.Block new)
+put-moves : (span : RequestSpan) (request : Request) (trail : Trail) (next : Datastore) (label : CallLabel) (asked : Call) (new : BlockValue) → CallThere span request trail next → next ≡ behind (seen_now span) asked → label.point ≡ Nowhere → IsPut (seen_now span) next (record_of.Block new)
     → Act request trail (seen_now span) label asked → OwnersMove span next
 put-moves span request trail next label asked new t is nowhere put (Apart apart) = absurd (put-apart (seen_now span) next asked new (history-given span.base span.history t.consistent.sound t.lawful) put is apart)
 put-moves span request trail next label asked new t is nowhere put (Stands stands) = absurd (stands nowhere)
@@ -226,7 +226,7 @@ put-moves span request trail next label asked new t is nowhere put (Frees what b
           same count may
     ]
 
-step-moves : (span : Span) (request : Request) (trail : Trail) (next : Datastore) (label : CallLabel) (asked : Call) → CallThere span request trail next → next ≡ behind (seen_now span) asked → OwnersStep (seen_now span) next label → Act request trail (seen_now span) label asked → OwnersMove span next
+step-moves : (span : RequestSpan) (request : Request) (trail : Trail) (next : Datastore) (label : CallLabel) (asked : Call) → CallThere span request trail next → next ≡ behind (seen_now span) asked → OwnersStep (seen_now span) next label → Act request trail (seen_now span) label asked → OwnersMove span next
 step-moves span request trail next label asked t is (Stay same) act = inl same
 step-moves span request trail next label asked t is (ByIdle new idles put) act = put-moves span request trail next label asked new t is (ap (λ (l : CallLabel). l.point) idles) put act
 step-moves span request trail next label asked t is (ByOwing new credit owes put) act = put-moves span request trail next label asked new t is (ap (λ (l : CallLabel). l.point) owes) put act
@@ -268,7 +268,7 @@ done-moves base history c consistent h done =
     let store = store_at base history in
     let next = store_at base (entry.Called c ∷ history) in
     let sound = consistent.sound in
-    let run = subst (λ (o : Option Running). SlotComes (λ request trail word. Acts (Act request) Any trail word) all-act base history c.slot o) may.runs (slot-comes (λ request trail word. Acts (Act request) Any trail word) all-act base history sound h.0 c.slot) in
+    let run = subst (λ (o : Option RunningRequest). SlotComes (λ request trail word. Acts (Act request) Any trail word) all-act base history c.slot o) may.runs (slot-comes (λ request trail word. Acts (Act request) Any trail word) all-act base history sound h.0 c.slot) in
     let is = made c store (cluster_at base history).entries may.running.word may.is_called in
     let acts : Acts (Act may.running.request) Any run.trail (Asks is.label is.asked is.next) = subst (λ w. Acts (Act may.running.request) Any run.trail w) is.is_word run.comes in
     let act = (acts (cluster_at base history).entries store (trail-agrees span sound h.0 run.trail (now span) run.is_trail)).0 in
@@ -281,8 +281,8 @@ done-moves base history c consistent h done =
       consistent = consistent;
       lawful = h.0;
       is_trail = run.is_trail;
-      due = subst (λ (o : Option Running). DueIn base history c.slot o) may.runs (fed-due base history h.0 c.slot);
-      requested = ap (λ (o : Option Running). option_map (λ (r : Running). r.request) o) may.runs;
+      due = subst (λ (o : Option RunningRequest). DueIn base history c.slot o) may.runs (fed-due base history h.0 c.slot);
+      requested = ap (λ (o : Option RunningRequest). option_map (λ (r : RunningRequest). r.request) o) may.runs;
       then_consistent = consistent_law base (entry.Called c ∷ history) consistent h;
     })
     made_it (subst (λ (l : CallLabel). OwnersStep store next l) label step) act

@@ -18,7 +18,7 @@ use Rattle.ipam_model.specs.declared.part.Outcome.{Outcome}
 use Rattle.ipam_model.specs.declared.part.Stop.TheVariants.{OutOfTries, NoRoom, NoRevisions, CountAtLimit}
 use Rattle.ipam_model.specs.declared.part.Outcome.TheVariants.{Went, Stops}
 use Rattle.ipam_model.specs.Step.{left_of, Part, goes, stops, tries}
-use Rattle.ipam_model.specs.Counting.{most_count, raise, raise_once, raise_write, lower, lower_once, Freeing, free, free_once, free_found, free_these, credit_of}
+use Rattle.ipam_model.specs.Counting.{most_count, raise, raise_once, raise_write, lower, lower_once, FreedOfHandle, free, free_once, free_found, free_these, credit_of}
 use Rattle.ipam_laws.proofs.SeenReads.{seen_by_replies}
 use Rattle.ipam_laws.proofs.Within.{Within, Within-followed, Within-after_write}
 
@@ -85,7 +85,7 @@ module _ (each claim more : ℕ) where
 
   -- ---- freeing
 
-  free_these-within : (left : Left) (count : ℕ) (what : Freeing) (again : Part ℕ) (amount : ℕ) (found : ℕ × block.BlockValue) → 2 ≤ each → worth each claim left + more + 3 ≤ count → Within (Leaves each claim more) again (count - 1) → Within (Leaves each claim more) (free_these what again left amount found) count
+  free_these-within : (left : Left) (count : ℕ) (what : FreedOfHandle) (again : Part ℕ) (amount : ℕ) (found : ℕ × block.BlockValue) → 2 ≤ each → worth each claim left + more + 3 ≤ count → Within (Leaves each claim more) again (count - 1) → Within (Leaves each claim more) (free_these what again left amount found) count
   free_these-within left count what again zero found two h a = omega arith
   free_these-within left count what again (suc amount) (revision, b) two h a = (
     omega arith,
@@ -97,26 +97,26 @@ module _ (each claim more : ℕ) where
         a (omega arith) (omega arith),
   )
 
-  free_found-within : (left : Left) (count : ℕ) (what : Freeing) (again : Part ℕ) (found : Option (ℕ × block.BlockValue)) → 2 ≤ each → worth each claim left + more + 3 ≤ count → Within (Leaves each claim more) again (count - 1) → Within (Leaves each claim more) (free_found what again left found) count
+  free_found-within : (left : Left) (count : ℕ) (what : FreedOfHandle) (again : Part ℕ) (found : Option (ℕ × block.BlockValue)) → 2 ≤ each → worth each claim left + more + 3 ≤ count → Within (Leaves each claim more) again (count - 1) → Within (Leaves each claim more) (free_found what again left found) count
   free_found-within left count what again None two h a = omega arith
   free_found-within left count what again (Some found) two h a =
       free_these-within left count what again (count_by what.picks found.1.allocations) found two h a
 
-  free_once-within : (left : Left) (count : ℕ) (what : Freeing) (again : Part ℕ) → 2 ≤ each → worth each claim left + more + 4 ≤ count → Within (Leaves each claim more) again (count - 1 - 1) → Within (Leaves each claim more) (free_once what again left) count
+  free_once-within : (left : Left) (count : ℕ) (what : FreedOfHandle) (again : Part ℕ) → 2 ≤ each → worth each claim left + more + 4 ≤ count → Within (Leaves each claim more) again (count - 1 - 1) → Within (Leaves each claim more) (free_once what again left) count
   free_once-within left count what again two h a = (
     omega arith,
     λ moment said.
         free_found-within left (count - 1) what again (block_said said) two (omega arith) a,
   )
 
-  free_tries-within : (races claims count : ℕ) (what : Freeing) → 2 ≤ each → each * races + claim * claims + more + 4 ≤ count → Within (Leaves each claim more) (tries (free_once what) races claims) count
+  free_tries-within : (races claims count : ℕ) (what : FreedOfHandle) → 2 ≤ each → each * races + claim * claims + more + 4 ≤ count → Within (Leaves each claim more) (tries (free_once what) races claims) count
   unfolding tries
   free_tries-within zero claims count what two h = free_once-within (left_of zero claims) count what (stops (left_of zero claims) OutOfTries) two h (omega arith)
   free_tries-within (suc races) claims count what two h =
       free_once-within (left_of (suc races) claims) count what (tries (free_once what) races claims) two h
       (free_tries-within races claims (count - 1 - 1) what two (omega arith))
 
-  pub free-within : (left : Left) (count : ℕ) (what : Freeing) → 2 ≤ each → worth each claim left + more + 4 ≤ count → Within (Leaves each claim more) (free what left) count
+  pub free-within : (left : Left) (count : ℕ) (what : FreedOfHandle) → 2 ≤ each → worth each claim left + more + 4 ≤ count → Within (Leaves each claim more) (free what left) count
   free-within left count what two h = free_tries-within left.races left.claims count what two h
 
 -- ---- the five reads of a round

@@ -18,7 +18,7 @@ use Rattle.ipam_model.specs.declared.outcome.ProbeAnswer.{ProbeAnswer}
 use Rattle.ipam_model.specs.declared.outcome.ProbeAnswer.TheVariants as probe_answer
 use Rattle.ipam_model.specs.declared.request.ProbeRequest.{ProbeRequest}
 use Rattle.ipam_model.specs.declared.request.Request.TheVariants.{Probe}
-use Rattle.ipam_model.specs.Add.{name_at}
+use Rattle.ipam_model.specs.Add.{name_in_place}
 use Rattle.ipam_model.specs.AnswerLaw.{IsRightAnswer}
 use Rattle.ipam_model.specs.Answered.{Answered, span_of}
 use Rattle.ipam_model.specs.Choice.{Foreign, IsBest, IsChoice, Own, Rank, Seen, Unclaimed, Unconfirmed, choice_at, choice_of}
@@ -54,7 +54,7 @@ Tells request trail (probe_answer.Exhausted scan) =
     (earlier : List Family) × (later : List Family) × (families_if request.ipv4 request.ipv6 ≡ earlier ++ scan.family ∷ later) × (scans : List Scan) × (before : Trail)
     × AreScanned request earlier scans before × ScannedLast request scan Nothing before trail
 Tells request trail (probe_answer.NoPool name moment) =
-    (scan : Scan) × (place : ℕ) × (moment ≡ scan.p) × (name ≡ name_at (asked_of_probe request scan.family).names place)
+    (scan : Scan) × (place : ℕ) × (moment ≡ scan.p) × (name ≡ name_in_place (asked_of_probe request scan.family).names place)
     × (earlier : List Family) × (later : List Family) × (families_if request.ipv4 request.ipv6 ≡ earlier ++ scan.family ∷ later) × (scans : List Scan) × (before : Trail)
     × AreScanned request earlier scans before × ScannedLast request scan (NoPool place) before trail
 
@@ -85,7 +85,7 @@ each-comes request earlier (family ∷ later) scans trail is done = λ c config 
       scan,
       place,
       refl,
-      ap (λ (x : Family). name_at (asked_of_probe request x).names place) (sym same),
+      ap (λ (x : Family). name_in_place (asked_of_probe request x).names place) (sym same),
       earlier,
       later,
       is ∙ ap (λ (x : Family). earlier ++ x ∷ later) (sym same),
@@ -144,12 +144,12 @@ unknown-place asked seen place is = by (unknown_name asked seen.pools) refl is
     by None e (inl none) = let n = none.1 in absurd (cc n)
     by None e (inr (c, same)) = absurd (none-at c.best.ranked.slot c.best.ranked.rank same)
 
-there-is : (names : List (List ℕ)) (place : ℕ) → place < length names → slice_get names place ≡ Some (name_at names place)
+there-is : (names : List (List ℕ)) (place : ℕ) → place < length names → slice_get names place ≡ Some (name_in_place names place)
 there-is [] place below = absurd (omega arith)
 there-is (name ∷ names) zero below = refl
 there-is (name ∷ names) (suc place) below = there-is names place (omega arith)
 
-pub named-place : (asked : Asked) (seen : Seen) (place : ℕ) → IsChoice asked seen (NoPool place) → slice_get asked.names place ≡ Some (name_at asked.names place)
+pub named-place : (asked : Asked) (seen : Seen) (place : ℕ) → IsChoice asked seen (NoPool place) → slice_get asked.names place ≡ Some (name_in_place asked.names place)
 named-place asked seen place is = there-is asked.names place (position-Some (λ name. not (is_known asked seen.pools name)) asked.names place [] (unknown-place asked seen place is)).0
 
 -- ---- the answers

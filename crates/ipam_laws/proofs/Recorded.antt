@@ -14,7 +14,7 @@ use Rattle.ipam_model.specs.declared.part.Assigned.{Assigned}
 use Rattle.ipam_model.specs.Assigning.{Target}
 use Rattle.ipam_model.specs.Cluster.{record_written}
 use Rattle.ipam_model.specs.Consistent.{IsConsistent}
-use Rattle.ipam_model.specs.History.{Lawful, Span, seen_at}
+use Rattle.ipam_model.specs.History.{Lawful, RequestSpan, seen_at}
 use Rattle.ipam_model.specs.Named.{told_of}
 use Rattle.ipam_laws.proofs.ActParts.{IsCurrent, assigning_call}
 use Rattle.ipam_laws.proofs.Acts.{Later, Same, Since}
@@ -55,7 +55,7 @@ find-holder (x ∷ list) pairs a there = elim (in-cons a x list there) [
 abbrev pub taking_of : Attributes → Target → Taking
 taking_of attributes target = record { attributes = attributes; read = (target.revision, target.block); ordinal = target.ordinal }
 
-pub recorded : (span : Span) (attributes : Attributes) (target : Target) (done : Assigned) (origin trail : Trail) (upto : ℕ) → IsConsistent span.base.store → Lawful span.base span.history → IsTrail span upto trail → AssignsLast origin attributes target done trail
+pub recorded : (span : RequestSpan) (attributes : Attributes) (target : Target) (done : Assigned) (origin trail : Trail) (upto : ℕ) → IsConsistent span.base.store → Lawful span.base span.history → IsTrail span upto trail → AssignsLast origin attributes target done trail
     → IsRecordedAt span done.moment (taking_of attributes target)
 unfolding IsTrail
 recorded span attributes target done origin trail upto c h is last =
@@ -86,7 +86,7 @@ recorded span attributes target done origin trail upto c h is last =
     }
 
 -- a step lies before what came since
-pub since-before : (span : Span) (moment : ℕ) (store : Datastore) (asked : Call) (before trail : Trail) (upto : ℕ) → Since (Did moment store asked ∷ before) trail → IsTrail span upto trail → moment < upto
+pub since-before : (span : RequestSpan) (moment : ℕ) (store : Datastore) (asked : Call) (before trail : Trail) (upto : ℕ) → Since (Did moment store asked ∷ before) trail → IsTrail span upto trail → moment < upto
 unfolding IsTrail
 since-before span moment store asked before trail upto Same is = is.1.behind
 since-before span moment store asked before trail upto (Later (Did later other call) rest since) is = let k = since-before span moment store asked before rest later since is.2 in let l = is.1.behind in omega arith
@@ -97,7 +97,7 @@ quietly-since origin trail Still = Same
 quietly-since origin trail (More moment store asked longer quiet before) = Later (Did moment store asked) longer (quietly-since origin longer before)
 
 -- what was assigned was assigned after what is earlier
-pub assigned-later : (span : Span) (attributes : Attributes) (target : Target) (done : Assigned) (moment : ℕ) (store : Datastore) (asked : Call) (before origin trail : Trail) (upto : ℕ) → IsTrail span upto trail → origin ≡ Did moment store asked ∷ before → AssignsLast origin attributes target done trail → moment < done.moment
+pub assigned-later : (span : RequestSpan) (attributes : Attributes) (target : Target) (done : Assigned) (moment : ℕ) (store : Datastore) (asked : Call) (before origin trail : Trail) (upto : ℕ) → IsTrail span upto trail → origin ≡ Did moment store asked ∷ before → AssignsLast origin attributes target done trail → moment < done.moment
 unfolding IsTrail
 assigned-later span attributes target done moment store asked before origin trail upto is head last =
     let there = subst (λ (t : Trail). IsTrail span upto t) last.is is in

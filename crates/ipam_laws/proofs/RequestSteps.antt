@@ -54,7 +54,7 @@ use Rattle.ipam_model.specs.Assigning.{target_in, assign, claim_for}
 use Rattle.ipam_model.specs.AffinityLaw.{HasAt}
 use Rattle.ipam_model.specs.Choice.{is_unowned_and_empty, Share, Takes, Claims, Leaves as Foreign, by_share, share_of, choice_of}
 use Rattle.ipam_model.specs.Cluster.{store_with}
-use Rattle.ipam_model.specs.Counting.{Freeing, freeing_all, freeing_one, free}
+use Rattle.ipam_model.specs.Counting.{FreedOfHandle, freeing_all, freeing_one, free}
 use Rattle.ipam_model.specs.Look as look
 use Rattle.ipam_model.specs.Reads.{config_said, pools_said, reservations_said, handle_said, rows_said, block_said}
 use Rattle.ipam_model.specs.Remove as remove
@@ -89,7 +89,7 @@ stamped-own ordinal id stamp a h = from (a.ordinal == ordinal) (a.stamp == stamp
     from false true d e = cc
     from false false d e = cc
 
-free-lawful : (what : Freeing) (left : Left) → OwnPicks what → Lawful (free what left)
+free-lawful : (what : FreedOfHandle) (left : Left) → OwnPicks what → Lawful (free what left)
 free-lawful what left own known = (free-label what left, free-steps what left own known)
 
 pub one-picks : (id : List ℕ) (cidr : CidrValue) (ordinal stamp : ℕ) → OwnPicks (freeing_one id cidr ordinal stamp)
@@ -131,18 +131,18 @@ add-lawful request sound =
 
 -- ---- ADD of one address
 
-this_assigned-lawful : (wanted : this.Wanted) (next : this.NextRound) → LawfulNext next → (looked : this.Looked) → LawfulOn (this.this_assigned wanted next looked)
+this_assigned-lawful : (wanted : this.Wanted) (next : this.NextThisRound) → LawfulNext next → (looked : this.LookedAtBlock) → LawfulOn (this.this_assigned wanted next looked)
 this_assigned-lawful wanted next n looked left (Some done) known = (refl, tt)
 this_assigned-lawful wanted next n looked left None known = n left known
 
 -- the pool that holds the address that is wanted, as it was read
-pub record IsHolding (known : Known) (wanted : this.Wanted) (looked : this.Looked) : Type 0 where
+pub record IsHolding (known : Known) (wanted : this.Wanted) (looked : this.LookedAtBlock) : Type 0 where
   pub pool : Pool
   pub was_read : IsKnownPool known pool
   pub holds : holds_address pool.cidr wanted.address ≡ true
   pub slot : looked.cidr ≡ this.slot_holding pool wanted.address
 
-this_take-keeps : (wanted : this.Wanted) → IsSoundAdd wanted.request → (next : this.NextRound) → LawfulNext next → (left : Left) (looked : this.Looked) (found : ℕ × block.BlockValue) (known : Known) → IsHolding known wanted looked → IsKnownBlock known looked.cidr (Some found) → holder found.1 (wanted.address.number - looked.cidr.base) ≡ None → Keeps known (this.this_take wanted next left looked found)
+this_take-keeps : (wanted : this.Wanted) → IsSoundAdd wanted.request → (next : this.NextThisRound) → LawfulNext next → (left : Left) (looked : this.LookedAtBlock) (found : ℕ × block.BlockValue) (known : Known) → IsHolding known wanted looked → IsKnownBlock known looked.cidr (Some found) → holder found.1 (wanted.address.number - looked.cidr.base) ≡ None → Keeps known (this.this_take wanted next left looked found)
 this_take-keeps wanted sound next n left looked found known at h free =
     let ordinal = wanted.address.number - looked.cidr.base in
     let own : ordinal ≡ wanted.address.number - found.1.cidr.base = ap (λ (x : CidrValue). wanted.address.number - x.base) (sym h.0) in
@@ -151,7 +151,7 @@ this_take-keeps wanted sound next n left looked found known at h free =
     (inr (free, at.pool, wanted.address, at.was_read, at.holds, h.0 ∙ at.slot, own)))
     (this_assigned-lawful wanted next n looked)
 
-this_claim-keeps : (wanted : this.Wanted) (next : this.NextRound) → LawfulNext next → (left : Left) (looked : this.Looked) (read : BlockRead) (known : Known) → IsClaimable known wanted.request.node looked.cidr read → Keeps known (this.this_claim wanted next left looked read)
+this_claim-keeps : (wanted : this.Wanted) (next : this.NextThisRound) → LawfulNext next → (left : Left) (looked : this.LookedAtBlock) (read : BlockRead) (known : Known) → IsClaimable known wanted.request.node looked.cidr read → Keeps known (this.this_claim wanted next left looked read)
 this_claim-keeps wanted next n left looked read known h =
     followed-keeps (claim_for wanted.request.node looked.cidr read left) (λ now done. next now) known
     (claim_for-keeps wanted.request.node looked.cidr read left known h) (λ now done. n now)
@@ -171,7 +171,7 @@ claimed-nobodys strict node b e = by (is_node node b.node) (is_unowned_and_empty
     by false false n false f = absurd (cc f)
 
 -- what may be claimed of it
-holding-claimable : (known : Known) (wanted : this.Wanted) (looked : this.Looked) (read : BlockRead) → IsSoundAdd wanted.request → IsHolding known wanted looked → IsKnownBlock known looked.cidr read → IsOwnOrNobodys wanted.request.node read → IsClaimable known wanted.request.node looked.cidr read
+holding-claimable : (known : Known) (wanted : this.Wanted) (looked : this.LookedAtBlock) (read : BlockRead) → IsSoundAdd wanted.request → IsHolding known wanted looked → IsKnownBlock known looked.cidr read → IsOwnOrNobodys wanted.request.node read → IsClaimable known wanted.request.node looked.cidr read
 holding-claimable known wanted looked read sound at h own = record {
   was_read = h;
   own = own;
@@ -179,7 +179,7 @@ holding-claimable known wanted looked read sound at h own = record {
   slot = (at.pool, at.was_read, inr (wanted.address, at.holds, at.slot));
 }
 
-this_free-keeps : (wanted : this.Wanted) → IsSoundAdd wanted.request → (next : this.NextRound) → LawfulNext next → (left : Left) (looked : this.Looked) (found : ℕ × block.BlockValue) (known : Known) → IsHolding known wanted looked → IsKnownBlock known looked.cidr (Some found) → holder found.1 (wanted.address.number - looked.cidr.base) ≡ None → Keeps known (this.this_free wanted next left looked found)
+this_free-keeps : (wanted : this.Wanted) → IsSoundAdd wanted.request → (next : this.NextThisRound) → LawfulNext next → (left : Left) (looked : this.LookedAtBlock) (found : ℕ × block.BlockValue) (known : Known) → IsHolding known wanted looked → IsKnownBlock known looked.cidr (Some found) → holder found.1 (wanted.address.number - looked.cidr.base) ≡ None → Keeps known (this.this_free wanted next left looked found)
 this_free-keeps wanted sound next n left looked found known at h free = from (share_of looked.rules.config.strict wanted.request.node found.1) refl
   where
     from : (share : Share) → share_of looked.rules.config.strict wanted.request.node found.1 ≡ share → Keeps known (by_share share (this.this_take wanted next left looked found) (this.this_claim wanted next left looked (Some found)) (goes left (add_this.NotAffine looked.cidr looked.b)))
@@ -189,11 +189,11 @@ this_free-keeps wanted sound next n left looked found known at h free = from (sh
         (holding-claimable known wanted looked (Some found) sound at h (inl (claimed-nobodys looked.rules.config.strict wanted.request.node found.1 e)))
     from Foreign e = (refl, tt)
 
-this_held-keeps : (free : Part AddThisAnswer) (left : Left) (looked : this.Looked) (held : Option Allocation) (known : Known) → (held ≡ None → Keeps known free) → Keeps known (this.this_held free left looked held)
+this_held-keeps : (free : Part AddThisAnswer) (left : Left) (looked : this.LookedAtBlock) (held : Option Allocation) (known : Known) → (held ≡ None → Keeps known free) → Keeps known (this.this_held free left looked held)
 this_held-keeps free left looked None known f = f refl
 this_held-keeps free left looked (Some held) known f = (refl, tt)
 
-this_block-keeps : (wanted : this.Wanted) → IsSoundAdd wanted.request → (next : this.NextRound) → LawfulNext next → (left : Left) (looked : this.Looked) (read : BlockRead) (known : Known) → IsHolding known wanted looked → IsKnownBlock known looked.cidr read → Keeps known (this.this_block wanted next left looked read)
+this_block-keeps : (wanted : this.Wanted) → IsSoundAdd wanted.request → (next : this.NextThisRound) → LawfulNext next → (left : Left) (looked : this.LookedAtBlock) (read : BlockRead) (known : Known) → IsHolding known wanted looked → IsKnownBlock known looked.cidr read → Keeps known (this.this_block wanted next left looked read)
 this_block-keeps wanted sound next n left looked None known at h = this_claim-keeps wanted next n left looked None known (holding-claimable known wanted looked None sound at tt tt)
 this_block-keeps wanted sound next n left looked (Some found) known at h =
     this_held-keeps (this.this_free wanted next left looked found) left looked (holder found.1 (wanted.address.number - looked.cidr.base)) known
@@ -217,7 +217,7 @@ usable-read known wanted said h = from (usable_pool_of (this.asked_of_this wante
         let (there, passes) = in-find (λ (r : Pool). is_usable (this.asked_of_this wanted.request wanted.address) r && holds_address r.cidr wanted.address) pool (pools_said said) e in
         (h pool there, both (is_usable (this.asked_of_this wanted.request wanted.address) pool) (holds_address pool.cidr wanted.address) passes)
 
-this_in_pool-keeps : (wanted : this.Wanted) → IsSoundAdd wanted.request → (next : this.NextRound) → LawfulNext next → (left : Left) (rules : this.Rules) (pool : Option Pool) (known : Known) → IsRead known wanted pool → Keeps known (this.this_in_pool wanted next left rules pool)
+this_in_pool-keeps : (wanted : this.Wanted) → IsSoundAdd wanted.request → (next : this.NextThisRound) → LawfulNext next → (left : Left) (rules : this.RulesRead) (pool : Option Pool) (known : Known) → IsRead known wanted pool → Keeps known (this.this_in_pool wanted next left rules pool)
 this_in_pool-keeps wanted sound next n left rules None known at = (refl, tt)
 this_in_pool-keeps wanted sound next n left rules (Some pool) known at = (
   refl,
@@ -228,7 +228,7 @@ this_in_pool-keeps wanted sound next n left rules (Some pool) known at = (
     cidr : CidrValue
     cidr = this.slot_holding pool wanted.address
 
-    looked : ℕ → this.Looked
+    looked : ℕ → this.LookedAtBlock
     looked b = record { rules = rules; cidr = this.slot_holding pool wanted.address; b = b }
 
     holding : (b : ℕ) (store : Datastore) → IsHolding (more known store store) wanted (record { rules = rules; cidr = this.slot_holding pool wanted.address; b = b })
@@ -239,7 +239,7 @@ this_in_pool-keeps wanted sound next n left rules (Some pool) known at = (
         × Steps still (more known store store) (this.this_block wanted next left (record { rules = rules; cidr = this.slot_holding pool wanted.address; b = b }) (block_said (reply_to_get (row_of (key.Block (this.slot_holding pool wanted.address)) store.rows))))
     turn b store h = (Idles refl h.0, h.1)
 
-this_round-lawful : (wanted : this.Wanted) → IsSoundAdd wanted.request → (next : this.NextRound) → LawfulNext next → LawfulNext (this.this_round wanted next)
+this_round-lawful : (wanted : this.Wanted) → IsSoundAdd wanted.request → (next : this.NextThisRound) → LawfulNext next → LawfulNext (this.this_round wanted next)
 this_round-lawful wanted sound next n left known = (
   refl,
   get-meets Step still Any known idle key.Config

@@ -15,8 +15,8 @@ use Rattle.ipam_records.specs.Datastore.{Datastore, reply_of, reply_to_get}
 use Rattle.ipam_records.specs.Said.{Can}
 use Rattle.ipam_model.specs.AffinityLaw.{HasAt}
 use Rattle.ipam_model.specs.Consistent.{IsConsistent}
-use Rattle.ipam_model.specs.Counting.{Freeing}
-use Rattle.ipam_model.specs.History.{Lawful, Span, now, seen_at, seen_now}
+use Rattle.ipam_model.specs.Counting.{FreedOfHandle}
+use Rattle.ipam_model.specs.History.{Lawful, RequestSpan, now, seen_at, seen_now}
 use Rattle.ipam_model.specs.Moments.{Owns}
 use Rattle.ipam_model.specs.Owners.{Owner, owner_of}
 use Rattle.ipam_model.specs.Reads.{block_said}
@@ -43,10 +43,10 @@ none-counted picks list a e there is = by (filter picks list) (length-filter pic
     by (x ∷ kept) none among = absurd (omega (arith, none))
 
 -- whoever the block's allocation is recorded to is picked
-abbrev pub PicksOwner : Freeing → Owner → Type 0
+abbrev pub PicksOwner : FreedOfHandle → Owner → Type 0
 PicksOwner what o = (a : Allocation) → owner_of what.block a ≡ o → what.picks a ≡ true
 
-module _ (span : Span) (consistent : IsConsistent span.base.store) (lawful : Lawful span.base span.history) (what : Freeing) (o : Owner) (picks : PicksOwner what o) (first : ℕ) (held : HeldIn (seen_at span first) what.block o) where
+module _ (span : RequestSpan) (consistent : IsConsistent span.base.store) (lawful : Lawful span.base span.history) (what : FreedOfHandle) (o : Owner) (picks : PicksOwner what o) (first : ℕ) (held : HeldIn (seen_at span first) what.block o) where
   -- the owner's block is there later, and whoever owns there is held in it
   held-later : (m : ℕ) → first ≤ m → Owns (seen_at span m) o → HeldIn (seen_at span m) what.block o
   held-later m later owns =

@@ -20,7 +20,7 @@ use Rattle.ipam_model.specs.declared.request.Request.{Request}
 use Rattle.ipam_model.specs.AffinityLaw.{HasAt}
 use Rattle.ipam_model.specs.Assigning.{Target, assign, assign_block, assign_lost}
 use Rattle.ipam_model.specs.CountLaw.{held_count, held_in_row}
-use Rattle.ipam_model.specs.Counting.{Freeing, credit_of, free, free_found, free_once, free_these, lower, raise}
+use Rattle.ipam_model.specs.Counting.{FreedOfHandle, credit_of, free, free_found, free_once, free_these, lower, raise}
 use Rattle.ipam_model.specs.Reads.{block_said}
 use Rattle.ipam_model.specs.Step.{Part, after_lost, part_then, goes, left_of, onward, stops, tries}
 use Rattle.ipam_laws.proofs.Acts.{Since, since-agrees}
@@ -54,7 +54,7 @@ module _ (request : Request) where
 
   -- ---- freeing
 
-  free-done : (what : Freeing) (moment : ℕ) (store : Datastore) (b : BlockValue) (old amount : ℕ) (trail : Trail) → OwnPicks what → b.cidr ≡ what.block → count_by what.picks b.allocations ≡ suc amount → IsCurrent store old b → Rests request trail → (r : ℕ)
+  free-done : (what : FreedOfHandle) (moment : ℕ) (store : Datastore) (b : BlockValue) (old amount : ℕ) (trail : Trail) → OwnPicks what → b.cidr ≡ what.block → count_by what.picks b.allocations ≡ suc amount → IsCurrent store old b → Rests request trail → (r : ℕ)
       → reply_of store (freeing_call what b old) ≡ Can r → Stays request (Freed (credit_of what.handle what.block (suc amount))) (Did moment store (freeing_call what b old) ∷ trail)
   free-done what moment store b old amount trail own same count current rests r e =
       let asked = freeing_call what b old in
@@ -66,7 +66,7 @@ module _ (request : Request) where
         point = block-nowhere request moment store asked trail (block_without what.picks (next_block b)) refl rests.point;
       }
 
-  free-these : (what : Freeing) (again : Part ℕ) (left : Left) → OwnPicks what → ((longer : Trail) → Rests request longer → Says request (Clean request) longer again) → (trail : Trail) (found : ℕ × BlockValue) → found.1.cidr ≡ what.block → Knows trail found.0 found.1
+  free-these : (what : FreedOfHandle) (again : Part ℕ) (left : Left) → OwnPicks what → ((longer : Trail) → Rests request longer → Says request (Clean request) longer again) → (trail : Trail) (found : ℕ × BlockValue) → found.1.cidr ≡ what.block → Knows trail found.0 found.1
       → Rests request trail → (amount : ℕ) → count_by what.picks found.1.allocations ≡ amount → Says request (Clean request) trail (free_these what again left amount found)
   free-these what again left own a trail found same knows rests zero count = rests
   free-these what again left own a trail found same knows rests (suc more) count =
@@ -81,7 +81,7 @@ module _ (request : Request) where
             (λ f. a longer (lost f)) (λ full f. lost f) (λ f. tt),
       )
 
-  free-once : (what : Freeing) (again : Part ℕ) (left : Left) → OwnPicks what → ((longer : Trail) → Rests request longer → Says request (Clean request) longer again) → (trail : Trail) → Rests request trail → Says request (Clean request) trail (free_once what again left)
+  free-once : (what : FreedOfHandle) (again : Part ℕ) (left : Left) → OwnPicks what → ((longer : Trail) → Rests request longer → Says request (Clean request) longer again) → (trail : Trail) → Rests request trail → Says request (Clean request) trail (free_once what again left)
   free-once what again left own a trail rests = (
     rests-tells request trail rests,
     λ moment store agrees sound. by moment store (stays-read request moment store trail Nothing rests (key.Block what.block) (λ node c e. cc e)) (block_said (reply_of store (Get (key.Block what.block)))) refl,
@@ -94,12 +94,12 @@ module _ (request : Request) where
           let (same, knows) = looked-block moment store (Get (key.Block what.block)) trail what.block found e in
           free-these what again left own a (Did moment store (Get (key.Block what.block)) ∷ trail) found same knows now (count_by what.picks found.1.allocations) refl
 
-  free-tries : (what : Freeing) → OwnPicks what → (races claims : ℕ) (trail : Trail) → Rests request trail → Says request (Clean request) trail (tries (free_once what) races claims)
+  free-tries : (what : FreedOfHandle) → OwnPicks what → (races claims : ℕ) (trail : Trail) → Rests request trail → Says request (Clean request) trail (tries (free_once what) races claims)
   unfolding tries
   free-tries what own zero claims = free-once what (stops (left_of zero claims) OutOfTries) (left_of zero claims) own (λ longer rests. tt)
   free-tries what own (suc races) claims = free-once what (tries (free_once what) races claims) (left_of (suc races) claims) own (free-tries what own races claims)
 
-  pub free-says : (what : Freeing) → OwnPicks what → (left : Left) (trail : Trail) → Rests request trail → Says request (Clean request) trail (free what left)
+  pub free-says : (what : FreedOfHandle) → OwnPicks what → (left : Left) (trail : Trail) → Rests request trail → Says request (Clean request) trail (free what left)
   free-says what own left = free-tries what own left.races left.claims
 
   -- ---- assigning

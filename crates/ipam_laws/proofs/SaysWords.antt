@@ -245,10 +245,10 @@ module _ (add : AddRequest) (address : AddrValue) where
   abbrev wanted : this.Wanted
   wanted = record { request = add; address = address }
 
-  abbrev SaysNext : this.NextRound → Type 0
+  abbrev SaysNext : this.NextThisRound → Type 0
   SaysNext next = (left : Left) (trail : Trail) → Rests asks trail → Says asks (Clean asks) trail (next left)
 
-  take-says : (looked : this.Looked) (next : this.NextRound) → SaysNext next → (left : Left) (found : ℕ × BlockValue) (trail : Trail) → KnowsRead trail looked.cidr (Some found) → Rests asks trail → Says asks (Clean asks) trail (this.this_take wanted next left looked found)
+  take-says : (looked : this.LookedAtBlock) (next : this.NextThisRound) → SaysNext next → (left : Left) (found : ℕ × BlockValue) (trail : Trail) → KnowsRead trail looked.cidr (Some found) → Rests asks trail → Says asks (Clean asks) trail (this.this_take wanted next left looked found)
   take-says looked next h left found trail knows rests =
       let target = target_in found (address.number - looked.cidr.base) in
       then-says asks (assign add.attributes target left) (this.this_assigned wanted next looked) trail (assign-says asks add.attributes target left trail knows.1 rests) ends
@@ -257,12 +257,12 @@ module _ (add : AddRequest) (address : AddrValue) where
       ends longer now (Some done) k = k
       ends longer now None k = h now longer k
 
-  claim-says : (looked : this.Looked) (next : this.NextRound) → SaysNext next → (left : Left) (read : BlockRead) (trail : Trail) → KnowsRead trail looked.cidr read → seen_last looked.cidr trail ≡ Some (revision_read read) → Rests asks trail
+  claim-says : (looked : this.LookedAtBlock) (next : this.NextThisRound) → SaysNext next → (left : Left) (read : BlockRead) (trail : Trail) → KnowsRead trail looked.cidr read → seen_last looked.cidr trail ≡ Some (revision_read read) → Rests asks trail
       → Says asks (Clean asks) trail (this.this_claim wanted next left looked read)
   claim-says looked next h left read trail knows saw rests =
       then-says asks (claim_for add.node looked.cidr read left) (λ now done. next now) trail (claim_for-says asks refl add.node looked.cidr read left trail knows saw rests) (λ longer now done k. h now longer k)
 
-  free-this : (looked : this.Looked) (next : this.NextRound) → SaysNext next → (left : Left) (found : ℕ × BlockValue) (trail : Trail) → KnowsRead trail looked.cidr (Some found) → seen_last looked.cidr trail ≡ Some (Some found.0) → Rests asks trail
+  free-this : (looked : this.LookedAtBlock) (next : this.NextThisRound) → SaysNext next → (left : Left) (found : ℕ × BlockValue) (trail : Trail) → KnowsRead trail looked.cidr (Some found) → seen_last looked.cidr trail ≡ Some (Some found.0) → Rests asks trail
       → Says asks (Clean asks) trail (this.this_free wanted next left looked found)
   free-this looked next h left found trail knows saw rests = by (share_of looked.rules.config.strict add.node found.1)
     where
@@ -271,7 +271,7 @@ module _ (add : AddRequest) (address : AddrValue) where
       by Claims = claim-says looked next h left (Some found) trail knows saw rests
       by Leaves = rests
 
-  block-this : (looked : this.Looked) (next : this.NextRound) → SaysNext next → (left : Left) (read : BlockRead) (trail : Trail) → KnowsRead trail looked.cidr read → seen_last looked.cidr trail ≡ Some (revision_read read) → Rests asks trail
+  block-this : (looked : this.LookedAtBlock) (next : this.NextThisRound) → SaysNext next → (left : Left) (read : BlockRead) (trail : Trail) → KnowsRead trail looked.cidr read → seen_last looked.cidr trail ≡ Some (revision_read read) → Rests asks trail
       → Says asks (Clean asks) trail (this.this_block wanted next left looked read)
   block-this looked next h left None trail knows saw rests = claim-says looked next h left None trail knows saw rests
   block-this looked next h left (Some found) trail knows saw rests = by (holder found.1 (address.number - looked.cidr.base))
@@ -280,7 +280,7 @@ module _ (add : AddRequest) (address : AddrValue) where
       by None = free-this looked next h left found trail knows saw rests
       by (Some held) = rests
 
-  pool-this : (rules : this.Rules) (next : this.NextRound) → SaysNext next → (left : Left) (o : Option Pool) (trail : Trail) → Rests asks trail → Says asks (Clean asks) trail (this.this_in_pool wanted next left rules o)
+  pool-this : (rules : this.RulesRead) (next : this.NextThisRound) → SaysNext next → (left : Left) (o : Option Pool) (trail : Trail) → Rests asks trail → Says asks (Clean asks) trail (this.this_in_pool wanted next left rules o)
   unfolding seen_last
   pool-this rules next h left None trail rests = rests
   pool-this rules next h left (Some pool) trail rests = (
@@ -296,7 +296,7 @@ module _ (add : AddRequest) (address : AddrValue) where
         (shown ∙ ap Some (looked-revision store cidr)) (stays-read asks b store trail Nothing rests (key.Block cidr) (λ n c e. cc e)),
   )
 
-  round-this : (next : this.NextRound) → SaysNext next → SaysNext (this.this_round wanted next)
+  round-this : (next : this.NextThisRound) → SaysNext next → SaysNext (this.this_round wanted next)
   round-this next h left trail rests = (
     rests-tells asks trail rests,
     λ c config a1 s1.

@@ -20,7 +20,7 @@ use Rattle.ipam_model.specs.declared.entry.Fate.{Fate}
 use Rattle.ipam_model.specs.declared.entry.Fate.TheVariants.{Well, Before, After}
 use Rattle.ipam_model.specs.declared.request.Request.{Request}
 use Rattle.ipam_model.specs.AffinityLaw.{HasAt}
-use Rattle.ipam_model.specs.Cluster.{Running, Slots, store_with, with_slot, call_made, call_entry, store_after, goes_on, fresh_run, run_after_feed, after}
+use Rattle.ipam_model.specs.Cluster.{RunningRequest, Slots, store_with, with_slot, call_made, call_entry, store_after, goes_on, fresh_run, run_after_feed, after}
 use Rattle.ipam_model.specs.Course.{slot_count}
 use Rattle.ipam_model.specs.History.{Base, Lawful, cluster_at, store_at, slot_of_entry}
 use Rattle.ipam_model.specs.Requests.{word_of}
@@ -90,21 +90,21 @@ history-agrees base history sound h = record {
 -- ---- each slot's word takes its steps
 
 SlotsKeep : Base → List Entry → Type 0
-SlotsKeep base history = (slot : ℕ) (running : Running) → (cluster_at base history).slots slot ≡ Some running → Steps still (known_at base history) running.word
+SlotsKeep base history = (slot : ℕ) (running : RunningRequest) → (cluster_at base history).slots slot ≡ Some running → Steps still (known_at base history) running.word
 
 pub grows-next : (base : Base) (history : List Entry) (new : Entry) → Grows (known_at base history) (known_at base (new ∷ history))
 unfolding known_at
 grows-next base history new key revision found k = inl k
 
 -- what a slot has where another one changed, or the one that it was given
-changed-slot : (slots : Slots) (slot : ℕ) (running : Option Running) (other : ℕ) (r : Running) → with_slot slot running slots other ≡ Some r → ((other ≡ slot) × (running ≡ Some r)) ⊎ (slots other ≡ Some r)
+changed-slot : (slots : Slots) (slot : ℕ) (running : Option RunningRequest) (other : ℕ) (r : RunningRequest) → with_slot slot running slots other ≡ Some r → ((other ≡ slot) × (running ≡ Some r)) ⊎ (slots other ≡ Some r)
 changed-slot slots slot running other r e = from (other == slot) refl e
   where
     from : (b : Bool) → (other == slot) ≡ b → cond b running (slots other) ≡ Some r → ((other ≡ slot) × (running ≡ Some r)) ⊎ (slots other ≡ Some r)
     from true same f = inl (eqb-true other slot same, f)
     from false differ f = inr f
 
-keep-others : (base : Base) (history : List Entry) (new : Entry) → SlotsKeep base history → (slot : ℕ) (r : Running) → (cluster_at base history).slots slot ≡ Some r → Steps still (known_at base (new ∷ history)) r.word
+keep-others : (base : Base) (history : List Entry) (new : Entry) → SlotsKeep base history → (slot : ℕ) (r : RunningRequest) → (cluster_at base history).slots slot ≡ Some r → Steps still (known_at base (new ∷ history)) r.word
 unfolding SlotsKeep
 keep-others base history new h slot r e = Meets-grows Step step-grows still Any any-lasts r.word (known_at base history) (known_at base (new ∷ history)) (grows-next base history new) (h slot r e)
 
@@ -115,7 +115,7 @@ label-is (Asks label asked next) = refl
 label-is (Waits next) = refl
 
 -- where the slot stands
-abbrev pub label_in : Option Running → CallLabel
+abbrev pub label_in : Option RunningRequest → CallLabel
 label_in None = idle
 label_in (Some running) = label_of running.word
 
@@ -125,8 +125,8 @@ label_at base history slot = label_in ((cluster_at base history).slots slot)
 -- ---- a call of a word
 
 -- the call is a step to where the slot then stands, or it leaves the slot idle
-record CallTurn (store next : Datastore) (moment : ℕ) (c : Called) (running : Running) (known : Known) : Type 0 where
-  keeps : (r : Running) → goes_on store moment c.answer (Some running) ≡ Some r → Steps still (more known store next) r.word
+record CallTurn (store next : Datastore) (moment : ℕ) (c : Called) (running : RunningRequest) (known : Known) : Type 0 where
+  keeps : (r : RunningRequest) → goes_on store moment c.answer (Some running) ≡ Some r → Steps still (more known store next) r.word
   reached : CallLabel
   step : Step known store next (label_of running.word) reached
   now : (label_in (goes_on store moment c.answer (Some running)) ≡ reached) ⊎ (label_in (goes_on store moment c.answer (Some running)) ≡ idle)
@@ -151,7 +151,7 @@ done-turn store moment c request known label asked next None e does meets =
     record {
       keeps = λ r f.
           let same : record { request = request; word = next moment (reply_of store asked) } ≡ r = cc (goes, f) in
-          subst (λ (x : Running). Steps still (more known store (behind store asked)) x.word) same meets;
+          subst (λ (x : RunningRequest). Steps still (more known store (behind store asked)) x.word) same meets;
       reached = label_to still (next moment (reply_of store asked));
       step = does;
       now = inl (ap label_in goes ∙ sym (label-is (next moment (reply_of store asked))));
@@ -175,7 +175,7 @@ fate-turn store moment slot Before request known label asked next does meets = r
   now = inl refl;
 }
 
-call-turn : (store : Datastore) (moment slot : ℕ) (fate : Fate) (running : Running) (known : Known) (c : Called) → Agrees known store → Steps still known running.word → call_entry slot fate store moment running.word ≡ Some c → CallTurn store (store_after c store) moment c running known
+call-turn : (store : Datastore) (moment slot : ℕ) (fate : Fate) (running : RunningRequest) (known : Known) (c : Called) → Agrees known store → Steps still known running.word → call_entry slot fate store moment running.word ≡ Some c → CallTurn store (store_after c store) moment c running known
 call-turn store moment slot fate running known c agrees steps e = from running.request running.word steps e
   where
     from : (request : Request) (w : Word Answer) → Steps still known w → call_entry slot fate store moment w ≡ Some c → CallTurn store (store_after c store) moment c (record { request = request; word = w }) known
@@ -215,7 +215,7 @@ entry-keeps base history (entry.Began slot request) sound h i = (
   λ other r e. elim (changed-slot (cluster_at base history).slots slot (fresh_run request) other r e) [
     | inl own ↦
         let same : record { request = request; word = word_of request } ≡ r = cc own.1 in
-        subst (λ (x : Running). Steps still (known_at base (entry.Began slot request ∷ history)) x.word) same (word-lawful request h.1.sound (known_at base (entry.Began slot request ∷ history))).1
+        subst (λ (x : RunningRequest). Steps still (known_at base (entry.Began slot request ∷ history)) x.word) same (word-lawful request h.1.sound (known_at base (entry.Began slot request ∷ history))).1
     | inr stays ↦ keep-others base history (entry.Began slot request) i other r stays
   ],
   record {
@@ -236,7 +236,7 @@ entry-keeps base history (entry.Fed slot at live) sound h i =
         | inl own ↦
             let same : record may.running { word = after_feed may.running.word live } ≡ r = cc (is, own.1) in
             let wider = Meets-grows Step step-grows still Any any-lasts (after_feed may.running.word live) (known_at base history) (known_at base (entry.Fed slot at live ∷ history)) (grows-next base history (entry.Fed slot at live)) meets in
-            subst (λ (x : Running). Steps still (known_at base (entry.Fed slot at live ∷ history)) x.word) same wider
+            subst (λ (x : RunningRequest). Steps still (known_at base (entry.Fed slot at live ∷ history)) x.word) same wider
         | inr stays ↦ keep-others base history (entry.Fed slot at live) i other r stays
       ],
       record {

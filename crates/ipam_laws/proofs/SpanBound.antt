@@ -11,7 +11,7 @@ use Rattle.ipam_model.specs.declared.entry.Entry.{Entry}
 use Rattle.ipam_model.specs.declared.entry.Entry.TheVariants as entry
 use Rattle.ipam_model.specs.declared.entry.Fate.{Fate}
 use Rattle.ipam_model.specs.BoundLaw.{SpanBoundLaw, RequestCallsLaw, NoneBegins}
-use Rattle.ipam_model.specs.Cluster.{Running, Slots, call_entry, word_after_reply, goes_on, fresh_run, run_after_feed, with_slot, after}
+use Rattle.ipam_model.specs.Cluster.{RunningRequest, Slots, call_entry, word_after_reply, goes_on, fresh_run, run_after_feed, with_slot, after}
 use Rattle.ipam_model.specs.History.{Base, Lawful, cluster_at, MayCall}
 use Rattle.ipam_model.specs.Requests.{word_of}
 use Rattle.ipam_model.specs.Tries.{calls_of}
@@ -19,11 +19,11 @@ use Rattle.ipam_model.specs.Tries.{calls_of}
 -- ---- what a slot has left
 
 -- the calls that were made, and those that what runs can still make, are at most so many
-unfoldable pub Left : Option Running → (calls count : ℕ) → Type 0
+unfoldable pub Left : Option RunningRequest → (calls count : ℕ) → Type 0
 Left None calls count = calls ≤ count
 Left (Some running) calls count = (left : ℕ) × AtMost running.word left × (calls + left ≤ count)
 
-pub left-calls : (running : Option Running) (calls count : ℕ) → Left running calls count → calls ≤ count
+pub left-calls : (running : Option RunningRequest) (calls count : ℕ) → Left running calls count → calls ≤ count
 unfolding Left
 left-calls None calls count h = h
 left-calls (Some running) calls count (left, bound, below) = omega arith
@@ -33,7 +33,7 @@ fed-bound (Ends answer) live left h = h
 fed-bound (Asks label asked next) live left h = h
 fed-bound (Waits next) live left h = h live
 
-left-fed : (running : Option Running) (live : List (List ℕ)) (calls count : ℕ) → Left running calls count → Left (run_after_feed live running) calls count
+left-fed : (running : Option RunningRequest) (live : List (List ℕ)) (calls count : ℕ) → Left running calls count → Left (run_after_feed live running) calls count
 unfolding Left
 left-fed None live calls count h = h
 left-fed (Some running) live calls count (left, bound, below) = (left, fed-bound running.word live left bound, below)
@@ -44,12 +44,12 @@ call-bound slot fate store moment (Ends answer) c left e h = absurd (cc e)
 call-bound slot fate store moment (Waits next) c left e h = absurd (cc e)
 call-bound slot fate store moment (Asks label asked next) c left e h = (h.0, h.1 moment (reply_of store asked))
 
-goes-left : (store : Datastore) (moment : ℕ) (answer : Option Answer) (running : Running) (calls count left : ℕ) → 0 < left → AtMost (word_after_reply store moment running.word) (left - 1) → calls + left ≤ count → Left (goes_on store moment answer (Some running)) (suc calls) count
+goes-left : (store : Datastore) (moment : ℕ) (answer : Option Answer) (running : RunningRequest) (calls count left : ℕ) → 0 < left → AtMost (word_after_reply store moment running.word) (left - 1) → calls + left ≤ count → Left (goes_on store moment answer (Some running)) (suc calls) count
 unfolding Left
 goes-left store moment (Some answer) running calls count left some bound below = omega arith
 goes-left store moment None running calls count left some bound below = (left - 1, bound, omega arith)
 
-left-called : (store : Datastore) (moment slot : ℕ) (fate : Fate) (running : Running) (c : Called) (calls count : ℕ) → call_entry slot fate store moment running.word ≡ Some c → Left (Some running) calls count → Left (goes_on store moment c.answer (Some running)) (suc calls) count
+left-called : (store : Datastore) (moment slot : ℕ) (fate : Fate) (running : RunningRequest) (c : Called) (calls count : ℕ) → call_entry slot fate store moment running.word ≡ Some c → Left (Some running) calls count → Left (goes_on store moment c.answer (Some running)) (suc calls) count
 unfolding Left
 left-called store moment slot fate running c calls count e (left, bound, below) =
     let (some, next) = call-bound slot fate store moment running.word c left e bound in
@@ -58,7 +58,7 @@ left-called store moment slot fate running c calls count e (left, bound, below) 
 -- ---- entry by entry
 
 -- the slot, where this one changes
-slot-left : (changed slot : ℕ) (running : Option Running) (slots : Slots) (calls count : ℕ) → (slot ≡ changed → Left running calls count) → (slot ≢ changed → Left (slots slot) calls count) → Left (with_slot changed running slots slot) calls count
+slot-left : (changed slot : ℕ) (running : Option RunningRequest) (slots : Slots) (calls count : ℕ) → (slot ≡ changed → Left running calls count) → (slot ≢ changed → Left (slots slot) calls count) → Left (with_slot changed running slots slot) calls count
 slot-left changed slot running slots calls count own other = from (slot == changed) refl
   where
     from : (b : Bool) → (slot == changed) ≡ b → Left (cond b running (slots slot)) calls count
@@ -69,17 +69,17 @@ call-left : (base : Base) (history : List Entry) (c : Called) (slot count : ℕ)
     → Left (with_slot c.slot (goes_on (cluster_at base history).store (cluster_at base history).entries c.answer ((cluster_at base history).slots c.slot)) (cluster_at base history).slots slot) (length (cond (c.slot == slot) (c ∷ calls) calls)) count
 call-left base history c slot count calls may h = from (c.slot == slot) refl
   where
-    there : Option Running
+    there : Option RunningRequest
     there = goes_on (cluster_at base history).store (cluster_at base history).entries c.answer ((cluster_at base history).slots c.slot)
 
     from : (b : Bool) → (c.slot == slot) ≡ b → Left (with_slot c.slot there (cluster_at base history).slots slot) (length (cond b (c ∷ calls) calls)) count
     from true e =
         let same = eqb-true c.slot slot e in
         let here = subst (λ (s : ℕ). Left ((cluster_at base history).slots s) (length calls) count) (sym same) h in
-        let runs = subst (λ (o : Option Running). Left o (length calls) count) may.runs here in
+        let runs = subst (λ (o : Option RunningRequest). Left o (length calls) count) may.runs here in
         let behind = left-called (cluster_at base history).store (cluster_at base history).entries c.slot c.fate may.running c (length calls) count may.is_called runs in
         slot-left c.slot slot there (cluster_at base history).slots (suc (length calls)) count
-        (λ own. subst (λ (o : Option Running). Left (goes_on (cluster_at base history).store (cluster_at base history).entries c.answer o) (suc (length calls)) count) (sym may.runs) behind)
+        (λ own. subst (λ (o : Option RunningRequest). Left (goes_on (cluster_at base history).store (cluster_at base history).entries c.answer o) (suc (length calls)) count) (sym may.runs) behind)
         (λ differs. absurd (differs (sym same)))
     from false e =
         slot-left c.slot slot there (cluster_at base history).slots (length calls) count
@@ -112,7 +112,7 @@ keeps-left base history (entry.Called c ∷ later) slot count h none first =
 pub spans_are_bounded : SpanBoundLaw
 unfolding Left
 spans_are_bounded base history later slot running count h runs bound none =
-    let first = subst (λ (o : Option Running). Left o 0 count) (sym runs) (count, bound, omega arith) in
+    let first = subst (λ (o : Option RunningRequest). Left o 0 count) (sym runs) (count, bound, omega arith) in
     left-calls ((cluster_at base (later ++ history)).slots slot) (length (calls_of slot later)) count
     (keeps-left base history later slot count h none first)
 

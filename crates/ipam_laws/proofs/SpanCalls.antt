@@ -14,7 +14,7 @@ use Rattle.ipam_model.specs.declared.request.CollectRequest.{CollectRequest}
 use Rattle.ipam_model.specs.declared.request.Request.{Request}
 use Rattle.ipam_model.specs.declared.request.Request.TheVariants.{Del, Collect}
 use Rattle.ipam_model.specs.BoundLaw.{CollectCallsLaw, DelCallsLaw, NoneBegins, NothingOf, before_fed, before_first, before_read, before_second, counts_read, kept_to_free}
-use Rattle.ipam_model.specs.Cluster.{Running, after, word_after_reply, fresh_run, run_after_feed, goes_on}
+use Rattle.ipam_model.specs.Cluster.{RunningRequest, after, word_after_reply, fresh_run, run_after_feed, goes_on}
 use Rattle.ipam_model.specs.History.{Base, Lawful, cluster_at}
 use Rattle.ipam_model.specs.Reads.{handle_said}
 use Rattle.ipam_model.specs.Requests.{word_of}
@@ -51,24 +51,24 @@ begun-slot : (base : Base) (slot : ℕ) (request : Request) (history : List Entr
 unfolding cluster_at after
 begun-slot base slot request history = own-slot slot (fresh_run request) (cluster_at base history).slots
 
-called-slot : (base : Base) (c : Called) (history : List Entry) (running : Option Running) → (cluster_at base history).slots c.slot ≡ running
+called-slot : (base : Base) (c : Called) (history : List Entry) (running : Option RunningRequest) → (cluster_at base history).slots c.slot ≡ running
     → (cluster_at base (entry.Called c ∷ history)).slots c.slot ≡ goes_on (cluster_at base history).store (cluster_at base history).entries c.answer running
 unfolding cluster_at after
 called-slot base c history running e =
     own-slot c.slot (goes_on (cluster_at base history).store (cluster_at base history).entries c.answer ((cluster_at base history).slots c.slot)) (cluster_at base history).slots
-    ∙ ap (λ (o : Option Running). goes_on (cluster_at base history).store (cluster_at base history).entries c.answer o) e
+    ∙ ap (λ (o : Option RunningRequest). goes_on (cluster_at base history).store (cluster_at base history).entries c.answer o) e
 
-fed-slot : (base : Base) (slot at : ℕ) (live : List (List ℕ)) (history : List Entry) (running : Option Running) → (cluster_at base history).slots slot ≡ running
+fed-slot : (base : Base) (slot at : ℕ) (live : List (List ℕ)) (history : List Entry) (running : Option RunningRequest) → (cluster_at base history).slots slot ≡ running
     → (cluster_at base (entry.Fed slot at live ∷ history)).slots slot ≡ run_after_feed live running
 unfolding cluster_at after
 fed-slot base slot at live history running e =
     own-slot slot (run_after_feed live ((cluster_at base history).slots slot)) (cluster_at base history).slots
-    ∙ ap (λ (o : Option Running). run_after_feed live o) e
+    ∙ ap (λ (o : Option RunningRequest). run_after_feed live o) e
 
 -- ---- what is left after a call
 
 -- a word whose bound after the call is known
-call-left : (store : Datastore) (moment : ℕ) (answer : Option Answer) (running : Running) (count : ℕ) → AtMost (word_after_reply store moment running.word) count → Left (goes_on store moment answer (Some running)) 0 count
+call-left : (store : Datastore) (moment : ℕ) (answer : Option Answer) (running : RunningRequest) (count : ℕ) → AtMost (word_after_reply store moment running.word) count → Left (goes_on store moment answer (Some running)) 0 count
 unfolding Left
 call-left store moment (Some answer) running count h = omega arith
 call-left store moment None running count h = (count, h, omega arith)
@@ -101,17 +101,17 @@ del_calls del h is =
     let store = (cluster_at del.base there).store in
     let moment = (cluster_at del.base there).entries in
     let left = call-left store moment del.first.answer (record { request = Del del.id; word = word_of (Del del.id) }) (199 + 4 * length (counts_read del)) (del-left store moment del.id) in
-    let k = later-calls del.base slot (199 + 4 * length (counts_read del)) (entry.Called del.first ∷ there) del.later h is.none_begins (subst (λ (o : Option Running). Left o 0 (199 + 4 * length (counts_read del))) (sym next) left) in
+    let k = later-calls del.base slot (199 + 4 * length (counts_read del)) (entry.Called del.first ∷ there) del.later h is.none_begins (subst (λ (o : Option RunningRequest). Left o 0 (199 + 4 * length (counts_read del))) (sym next) left) in
     omega arith
 
 -- ---- a collection
 
 -- what goes on after a call that was not answered
-goes-some : (store : Datastore) (moment : ℕ) (answer : Option Answer) (r running : Running) → goes_on store moment answer (Some r) ≡ Some running → running.word ≡ word_after_reply store moment r.word
+goes-some : (store : Datastore) (moment : ℕ) (answer : Option Answer) (r running : RunningRequest) → goes_on store moment answer (Some r) ≡ Some running → running.word ≡ word_after_reply store moment r.word
 goes-some store moment (Some answer) r running e = absurd (cc e)
 goes-some store moment None r running e =
     let same : record r { word = word_after_reply store moment r.word } ≡ running = cc e in
-    ap (λ (x : Running). x.word) (sym same)
+    ap (λ (x : RunningRequest). x.word) (sym same)
 
 -- both of its lists are the word's calls before and after the second list of handles
 collect-lists : (store other : Datastore) (first second : ℕ) (request : CollectRequest) (live : List (List ℕ))
@@ -135,7 +135,7 @@ collect_calls c h is =
     let store = (cluster_at base (before_first c)).store in
     let moment = (cluster_at base (before_first c)).entries in
     let word = goes-some store moment c.first.answer (record { request = Collect c.request; word = word_of (Collect c.request) }) feeds.running (sym goes ∙ feeds.runs) in
-    let fed_running : Running = record feeds.running { word = after_feed feeds.running.word c.live } in
+    let fed_running : RunningRequest = record feeds.running { word = after_feed feeds.running.word c.live } in
     let runs : (cluster_at base (before_second c)).slots slot ≡ Some fed_running =
     quiet-slot base slot c.to_second (entry.Fed slot c.at c.live ∷ before_fed c) is.quiet_to_second ∙ fed-slot base slot c.at c.live (before_fed c) (Some feeds.running) feeds.runs in
     let other = (cluster_at base (before_second c)).store in
@@ -146,5 +146,5 @@ collect_calls c h is =
     let bound : AtMost (word_after_reply other second fed_running.word) count =
     subst (λ (w : Word Answer). AtMost w count) (sym same) (collect_bounds c.request moment second (reply_of store (ListAll kind.Block)) (reply_of other (ListAll kind.Block)) c.live) in
     let left = call-left other second c.second.answer fed_running count bound in
-    let k = later-calls base slot count (entry.Called c.second ∷ before_second c) c.later h is.none_begins (subst (λ (o : Option Running). Left o 0 count) (sym next) left) in
+    let k = later-calls base slot count (entry.Called c.second ∷ before_second c) c.later h is.none_begins (subst (λ (o : Option RunningRequest). Left o 0 count) (sym next) left) in
     omega arith

@@ -14,9 +14,9 @@ use Rattle.ipam_model.specs.declared.entry.Called.{Called}
 use Rattle.ipam_model.specs.declared.entry.Entry.TheVariants as entry
 use Rattle.ipam_model.specs.declared.request.Request.{Request}
 use Rattle.ipam_model.specs.declared.request.Request.TheVariants.{Release}
-use Rattle.ipam_model.specs.History.{HeardCall, InSpan, Span, cluster_at, now, seen_at, span_before}
+use Rattle.ipam_model.specs.History.{HeardCall, InSpan, RequestSpan, cluster_at, now, seen_at, span_before}
 use Rattle.ipam_model.specs.Moments.{IsNext, request_in, revision_of}
-use Rattle.ipam_model.specs.Points.{AsFound as SpanFound, AsPut as SpanPut, HasKept, HasPut, HasPutBlock, HasSeen, IsClaiming, IsReleasing, Runs, SawLast, StandsAt}
+use Rattle.ipam_model.specs.Points.{AsFound as SpanFound, AsPut as SpanPut, HasKept, HasPut, HasPutBlock, HasSeen, IsClaiming, IsReleasing, RunsInSlot, SawLast, StandsAt}
 use Rattle.ipam_model.specs.Tries.{is_add}
 use Rattle.ipam_laws.proofs.CountLemmas.{cidr_cases, same_itself}
 use Rattle.ipam_laws.proofs.Debts.{Lasts}
@@ -74,7 +74,7 @@ module _ (cidr : CidrValue) (read : Option ℕ) where
       by further false is (inl here) = let t = here.0 in absurd (cc (is, t))
       by further false is (inr earlier) = further earlier.0
 
-  module _ (span : Span) where
+  module _ (span : RequestSpan) where
     abbrev SeenAs : ℕ → Type 0
     SeenAs moment = HasSeen span moment cidr × (revision_of (seen_at span moment) (key.Block cidr) ≡ read)
 
@@ -119,34 +119,34 @@ module _ (cidr : CidrValue) (read : Option ℕ) where
 -- ---- the points
 
 -- a span with its trail, and the request that runs
-record IsRun (request : Request) (span : Span) (trail : Trail) : Type 0 where
+record IsRun (request : Request) (span : RequestSpan) (trail : Trail) : Type 0 where
   is_trail : IsTrail span (now span) trail
   runs : request_in (cluster_at span.base span.history) span.slot ≡ Some request
 
 module _ (request : Request) where
   -- the same request
-  same-request : (span : Span) (trail : Trail) → IsRun request span trail → (other : Request) → Runs span other → request ≡ other
+  same-request : (span : RequestSpan) (trail : Trail) → IsRun request span trail → (other : Request) → RunsInSlot span other → request ≡ other
   same-request span trail run other runs = let both = sym run.runs ∙ runs in cc both
 
   -- ---- a claim
 
-  keeps-kept : (span : Span) (moment : ℕ) (store : Datastore) (asked : Call) → DidAt span moment store asked → (node : List ℕ) (cidr : CidrValue) (kept : ℕ) → Keeps store asked node cidr kept → HasKept span moment node cidr kept
+  keeps-kept : (span : RequestSpan) (moment : ℕ) (store : Datastore) (asked : Call) → DidAt span moment store asked → (node : List ℕ) (cidr : CidrValue) (kept : ℕ) → Keeps store asked node cidr kept → HasKept span moment node cidr kept
   keeps-kept span moment store asked did node cidr kept (AsFound found is reply state) =
       let h = heard span moment store asked did in
       SpanFound found (subst (λ (p : Call × Said). HeardCall span moment p.0 p.1) (λ i. (is i, reply i)) h) state
   keeps-kept span moment store asked did node cidr kept (AsPut w) = SpanPut (wrote-put span moment store asked did _ kept w)
 
-  kept-keeps : (span : Span) (moment : ℕ) (store : Datastore) (asked : Call) → DidAt span moment store asked → (node : List ℕ) (cidr : CidrValue) (kept : ℕ) → HasKept span moment node cidr kept → Keeps store asked node cidr kept
+  kept-keeps : (span : RequestSpan) (moment : ℕ) (store : Datastore) (asked : Call) → DidAt span moment store asked → (node : List ℕ) (cidr : CidrValue) (kept : ℕ) → HasKept span moment node cidr kept → Keeps store asked node cidr kept
   kept-keeps span moment store asked did node cidr kept (SpanFound found h state) =
       let is = read-heard span moment store asked did (key.Affinity node cidr) (Found kept (record_of.Affinity found)) h in
       AsFound found is.0 (ap (reply_of store) is.0 ∙ sym is.1) state
   kept-keeps span moment store asked did node cidr kept (SpanPut put) = AsPut (put-wrote span moment store asked did _ kept put)
 
-  kept-there : (span : Span) (moment : ℕ) (node : List ℕ) (cidr : CidrValue) (kept : ℕ) → HasKept span moment node cidr kept → (c : Called) × InSpan span moment (entry.Called c)
+  kept-there : (span : RequestSpan) (moment : ℕ) (node : List ℕ) (cidr : CidrValue) (kept : ℕ) → HasKept span moment node cidr kept → (c : Called) × InSpan span moment (entry.Called c)
   kept-there span moment node cidr kept (SpanFound found h state) = (h.entry_of_call, h.in_span)
   kept-there span moment node cidr kept (SpanPut put) = (put.c, put.in_span)
 
-  claiming-at : (span : Span) (trail : Trail) → IsRun request span trail → (node : List ℕ) (cidr : CidrValue) (read : Option ℕ) (kept : ℕ) → ClaimingBy request trail node cidr read kept → IsClaiming span node cidr read kept
+  claiming-at : (span : RequestSpan) (trail : Trail) → IsRun request span trail → (node : List ℕ) (cidr : CidrValue) (read : Option ℕ) (kept : ℕ) → ClaimingBy request trail node cidr read kept → IsClaiming span node cidr read kept
   claiming-at span trail run node cidr read kept h =
       let step = newest-at span (now span) trail h.newest run.is_trail in
       record {
@@ -159,7 +159,7 @@ module _ (request : Request) where
         saw = saw-last cidr read span trail run.is_trail h.saw;
       }
 
-  claiming-by : (span : Span) (trail : Trail) → IsRun request span trail → (node : List ℕ) (cidr : CidrValue) (read : Option ℕ) (kept : ℕ) → IsClaiming span node cidr read kept → ClaimingBy request trail node cidr read kept
+  claiming-by : (span : RequestSpan) (trail : Trail) → IsRun request span trail → (node : List ℕ) (cidr : CidrValue) (read : Option ℕ) (kept : ℕ) → IsClaiming span node cidr read kept → ClaimingBy request trail node cidr read kept
   claiming-by span trail run node cidr read kept h =
       let there = kept-there span h.moment node cidr kept h.has_kept in
       let latest = latest-step span trail (now span) run.is_trail h.moment h.latest there.0 there.1 in
@@ -174,7 +174,7 @@ module _ (request : Request) where
 
   -- ---- a release
 
-  releasing-at : (span : Span) (trail : Trail) → IsRun request span trail → (node : List ℕ) (cidr : CidrValue) (read : Option ℕ) (mark : ℕ) → ReleasingBy request trail node cidr read mark → IsReleasing span node cidr read mark
+  releasing-at : (span : RequestSpan) (trail : Trail) → IsRun request span trail → (node : List ℕ) (cidr : CidrValue) (read : Option ℕ) (mark : ℕ) → ReleasingBy request trail node cidr read mark → IsReleasing span node cidr read mark
   releasing-at span trail run node cidr read mark h =
       let third = newest-at span (now span) trail h.at_mark run.is_trail in
       let second = newest-at span h.at_mark.moment h.at_mark.rest h.looked third.rest in
@@ -198,7 +198,7 @@ module _ (request : Request) where
         latest = third.next;
       }
 
-  releasing-by : (span : Span) (trail : Trail) → IsRun request span trail → (node : List ℕ) (cidr : CidrValue) (read : Option ℕ) (mark : ℕ) → IsReleasing span node cidr read mark → ReleasingBy request trail node cidr read mark
+  releasing-by : (span : RequestSpan) (trail : Trail) → IsRun request span trail → (node : List ℕ) (cidr : CidrValue) (read : Option ℕ) (mark : ℕ) → IsReleasing span node cidr read mark → ReleasingBy request trail node cidr read mark
   releasing-by span trail run node cidr read mark h =
       let latest3 = latest-step span trail (now span) run.is_trail h.again h.latest h.at_mark.entry_of_call h.at_mark.in_span in
       let three = latest3.newest in
@@ -230,7 +230,7 @@ module _ (request : Request) where
   -- ---- after the write of a block
 
   -- the run as it was before the newest step
-  earlier-run : (span : Span) (trail : Trail) → IsRun request span trail → (newest : Newest trail) → IsRun request (span_before span newest.moment) newest.rest
+  earlier-run : (span : RequestSpan) (trail : Trail) → IsRun request span trail → (newest : Newest trail) → IsRun request (span_before span newest.moment) newest.rest
   earlier-run span trail run newest =
       let step = newest-at span (now span) trail newest run.is_trail in
       let below = begins-below span newest.rest newest.moment step.rest in
@@ -241,8 +241,8 @@ module _ (request : Request) where
         runs = was.runs;
       }
 
-  module _ (By : Trail → Type 0) (At : Span → Type 0) (by-at : (span : Span) (trail : Trail) → IsRun request span trail → By trail ↔ At span) (cidr : CidrValue) where
-    put-block : (span : Span) (trail : Trail) → IsRun request span trail → PutBlock trail cidr By → HasPutBlock span cidr At
+  module _ (By : Trail → Type 0) (At : RequestSpan → Type 0) (by-at : (span : RequestSpan) (trail : Trail) → IsRun request span trail → By trail ↔ At span) (cidr : CidrValue) where
+    put-block : (span : RequestSpan) (trail : Trail) → IsRun request span trail → PutBlock trail cidr By → HasPutBlock span cidr At
     put-block span trail run h =
         let step = newest-at span (now span) trail h.newest run.is_trail in
         record {
@@ -257,7 +257,7 @@ module _ (request : Request) where
           stood = (by-at (span_before span h.newest.moment) h.newest.rest (earlier-run span trail run h.newest)).0 h.stood;
         }
 
-    block-put : (span : Span) (trail : Trail) → IsRun request span trail → HasPutBlock span cidr At → PutBlock trail cidr By
+    block-put : (span : RequestSpan) (trail : Trail) → IsRun request span trail → HasPutBlock span cidr At → PutBlock trail cidr By
     block-put span trail run h =
         let latest = latest-step span trail (now span) run.is_trail h.moment h.latest h.put.c h.put.in_span in
         let newest = latest.newest in
@@ -273,16 +273,16 @@ module _ (request : Request) where
 
   -- ---- each point
 
-  pub stands-exactly : (span : Span) (trail : Trail) → IsTrail span (now span) trail → request_in (cluster_at span.base span.history) span.slot ≡ Some request → (point : Point) → StandsBy request trail point ↔ StandsAt span point
+  pub stands-exactly : (span : RequestSpan) (trail : Trail) → IsTrail span (now span) trail → request_in (cluster_at span.base span.history) span.slot ≡ Some request → (point : Point) → StandsBy request trail point ↔ StandsAt span point
   stands-exactly span trail is_trail runs = by
     where
       run : IsRun request span trail
       run = record { is_trail = is_trail; runs = runs }
 
-      claims : (node : List ℕ) (cidr : CidrValue) (kept : ℕ) (s : Span) (t : Trail) → IsRun request s t → ((read : Option ℕ) × ClaimingBy request t node cidr read kept) ↔ ((read : Option ℕ) × IsClaiming s node cidr read kept)
+      claims : (node : List ℕ) (cidr : CidrValue) (kept : ℕ) (s : RequestSpan) (t : Trail) → IsRun request s t → ((read : Option ℕ) × ClaimingBy request t node cidr read kept) ↔ ((read : Option ℕ) × IsClaiming s node cidr read kept)
       claims node cidr kept s t r = (λ h. (h.0, claiming-at s t r node cidr h.0 kept h.1), λ h. (h.0, claiming-by s t r node cidr h.0 kept h.1))
 
-      releases : (node : List ℕ) (cidr : CidrValue) (mark : ℕ) (s : Span) (t : Trail) → IsRun request s t → ((read : Option ℕ) × ReleasingBy request t node cidr read mark) ↔ ((read : Option ℕ) × IsReleasing s node cidr read mark)
+      releases : (node : List ℕ) (cidr : CidrValue) (mark : ℕ) (s : RequestSpan) (t : Trail) → IsRun request s t → ((read : Option ℕ) × ReleasingBy request t node cidr read mark) ↔ ((read : Option ℕ) × IsReleasing s node cidr read mark)
       releases node cidr mark s t r = (λ h. (h.0, releasing-at s t r node cidr h.0 mark h.1), λ h. (h.0, releasing-by s t r node cidr h.0 mark h.1))
 
       by : (point : Point) → StandsBy request trail point ↔ StandsAt span point
@@ -291,9 +291,9 @@ module _ (request : Request) where
       by (Releasing node cidr read mark) = (releasing-at span trail run node cidr read mark, releasing-by span trail run node cidr read mark)
       by (Claimed node cidr kept) =
           let By : Trail → Type 0 = λ t. (read : Option ℕ) × ClaimingBy request t node cidr read kept in
-          let At : Span → Type 0 = λ s. (read : Option ℕ) × IsClaiming s node cidr read kept in
+          let At : RequestSpan → Type 0 = λ s. (read : Option ℕ) × IsClaiming s node cidr read kept in
           (put-block By At (claims node cidr kept) cidr span trail run, block-put By At (claims node cidr kept) cidr span trail run)
       by (Released node cidr mark) =
           let By : Trail → Type 0 = λ t. (read : Option ℕ) × ReleasingBy request t node cidr read mark in
-          let At : Span → Type 0 = λ s. (read : Option ℕ) × IsReleasing s node cidr read mark in
+          let At : RequestSpan → Type 0 = λ s. (read : Option ℕ) × IsReleasing s node cidr read mark in
           (put-block By At (releases node cidr mark) cidr span trail run, block-put By At (releases node cidr mark) cidr span trail run)

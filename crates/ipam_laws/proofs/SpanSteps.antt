@@ -16,8 +16,8 @@ use Rattle.ipam_model.specs.declared.entry.Called.{Called}
 use Rattle.ipam_model.specs.declared.entry.Entry.TheVariants as entry
 use Rattle.ipam_model.specs.Cluster.{record_written}
 use Rattle.ipam_model.specs.CountLaw.{handle_count, held_count}
-use Rattle.ipam_model.specs.Credits.{HasCredit, HasFreed, HasRaised, HasWritten, OfFreed, OfRaised, key_written}
-use Rattle.ipam_model.specs.History.{HeardCall, InSpan, Span, now}
+use Rattle.ipam_model.specs.Credits.{HasCredit, HasFreed, HasRaised, HasWritten, OfFreed, OfRaised, call_key_written}
+use Rattle.ipam_model.specs.History.{HeardCall, InSpan, RequestSpan, now}
 use Rattle.ipam_model.specs.Named.{name_of, told_of}
 use Rattle.ipam_model.specs.Points.{HasPut}
 use Rattle.ipam_laws.proofs.Debts.{Debt, Done, Freed, Frees, Lasts, Nothing, Owes, Raised, Raises, UsesRaised, credit_in}
@@ -27,7 +27,7 @@ use Rattle.ipam_laws.proofs.Trails.{Did, DidAt, Got, IsTrail, Trail}
 
 -- ---- the call of a step
 
-module _ (span : Span) (moment : ℕ) (store : Datastore) (asked : Call) (did : DidAt span moment store asked) where
+module _ (span : RequestSpan) (moment : ℕ) (store : Datastore) (asked : Call) (did : DidAt span moment store asked) where
   -- the entry's call is the step's
   abbrev IsDone : Called → Type 0
   IsDone c = (c.call ≡ name_of asked) × (c.reply ≡ told_of (reply_of store asked)) × (c.written ≡ record_written asked (reply_of store asked))
@@ -40,10 +40,10 @@ module _ (span : Span) (moment : ℕ) (store : Datastore) (asked : Call) (did : 
   pub written-done : (k : Key) → HasWritten span moment k → Done store asked k
   written-done k w =
       let is = step-called w.c w.in_span in
-      record { writes = ap key_written (sym is.0) ∙ w.is_of; revision = w.revision; can = told-can (reply_of store asked) w.revision (sym is.1 ∙ w.is_done) }
+      record { writes = ap call_key_written (sym is.0) ∙ w.is_of; revision = w.revision; can = told-can (reply_of store asked) w.revision (sym is.1 ∙ w.is_done) }
 
   pub done-written : (k : Key) → Done store asked k → HasWritten span moment k
-  done-written k d = record { c = did.c; in_span = did.in_span; is_of = ap key_written did.is_call ∙ d.writes; revision = d.revision; is_done = did.is_reply ∙ ap told_of d.can }
+  done-written k d = record { c = did.c; in_span = did.in_span; is_of = ap call_key_written did.is_call ∙ d.writes; revision = d.revision; is_done = did.is_reply ∙ ap told_of d.can }
 
   pub raised-raises : (id : List ℕ) (cidr : CidrValue) → HasRaised span moment id cidr → Raises store asked id cidr
   raised-raises id cidr h = record {
@@ -111,7 +111,7 @@ module _ (span : Span) (moment : ℕ) (store : Datastore) (asked : Call) (did : 
 
 -- ---- the last of its kind
 
-module _ (span : Span) (Event Kills : Datastore → Call → Type 0) (EventAt KilledAt : ℕ → Type 0)
+module _ (span : RequestSpan) (Event Kills : Datastore → Call → Type 0) (EventAt KilledAt : ℕ → Type 0)
     (event : (moment : ℕ) (store : Datastore) (asked : Call) → DidAt span moment store asked → Event store asked ↔ EventAt moment)
     (kills : (moment : ℕ) (store : Datastore) (asked : Call) → DidAt span moment store asked → Kills store asked ↔ KilledAt moment)
     (event_there : (moment : ℕ) → EventAt moment → (c : Called) × InSpan span moment (entry.Called c))
@@ -188,7 +188,7 @@ module _ (span : Span) (Event Kills : Datastore → Call → Type 0) (EventAt Ki
 
 -- ---- credits
 
-module _ (span : Span) (trail : Trail) (is_trail : IsTrail span (now span) trail) where
+module _ (span : RequestSpan) (trail : Trail) (is_trail : IsTrail span (now span) trail) where
   UsedAt : List ℕ → CidrValue → ℕ → Type 0
   UsedAt id cidr moment = HasWritten span moment (key.Block cidr) ⊎ HasWritten span moment (key.Handle id)
 

@@ -29,7 +29,7 @@ use Rattle.ipam_model.specs.Admin.{Becomes, admin_change, key_changed}
 use Rattle.ipam_model.specs.Affinities.{BlockRead, Tie, affinity, other_node, revision_read}
 use Rattle.ipam_model.specs.AffinityLaw.{HasAt}
 use Rattle.ipam_model.specs.Assigning.{Target}
-use Rattle.ipam_model.specs.Counting.{Freeing, credit_of, most_count}
+use Rattle.ipam_model.specs.Counting.{FreedOfHandle, credit_of, most_count}
 use Rattle.ipam_laws.proofs.Lift.{Known, Grows}
 
 -- ---- what was read
@@ -97,7 +97,7 @@ IsHandle store id h =
     ⊎ ((revision : ℕ) × HasAt store (key.Handle id) revision (record_of.Handle h) × (h.id ≡ id))
 
 -- what is picked is the handle's own
-abbrev pub OwnPicks : Freeing → Type 0
+abbrev pub OwnPicks : FreedOfHandle → Type 0
 OwnPicks what = (a : Allocation) → what.picks a ≡ true → is_owned what.handle a ≡ true
 
 -- ---- what is written
@@ -163,7 +163,7 @@ pub data Step (known : Known) (store next : Datastore) (label after : CallLabel)
   LowersOut : (credit : Credit) (h : handle.HandleValue) (revision : ℕ) → next ≡ written store (Remove (store.counter + 1) (key.Handle h.id)) → label ≡ owing credit → after ≡ idle
       → HasAt store (key.Handle credit.handle) revision (record_of.Handle h) → h.id ≡ credit.handle → (with_lowered_count h credit.block credit.amount).counts ≡ [] → Step known store next label after
   -- what a handle holds is freed in its block, or an address of a block assigned
-  Frees : (what : Freeing) (amount revision : ℕ) (b : block.BlockValue) → IsPut store next (record_of.Block (block_without what.picks (next_block b))) → label ≡ idle → after ≡ owing (credit_of what.handle what.block (suc amount))
+  Frees : (what : FreedOfHandle) (amount revision : ℕ) (b : block.BlockValue) → IsPut store next (record_of.Block (block_without what.picks (next_block b))) → label ≡ idle → after ≡ owing (credit_of what.handle what.block (suc amount))
       → HasAt store (key.Block what.block) revision (record_of.Block b) → b.cidr ≡ what.block → OwnPicks what → count_by what.picks b.allocations ≡ suc amount → Step known store next label after
   Assigns : (attributes : Attributes) (target : Target) → IsPut store next (record_of.Block (block_with_ordinal (next_block target.block) target.ordinal attributes)) → label ≡ owing (credit_of attributes.handle target.block.cidr 1) → after ≡ idle
       → HasAt store (key.Block target.block.cidr) target.revision (record_of.Block target.block) → AreAttributes attributes → IsFree known target → Step known store next label after

@@ -45,7 +45,7 @@ use Rattle.ipam_model.specs.Reads.{affinity_said, block_said}
 use Rattle.ipam_model.specs.Requests.{told_as, word_of}
 use Rattle.ipam_model.specs.Step.{Part, goes, left_of, stops, tries}
 use Rattle.ipam_model.specs.Told.{of_check, of_probe, of_release}
-use Rattle.ipam_model.specs.Tries.{claims_of, confirmed_claims, done_or, follows_block_read, is_add, is_at, is_lost, is_write, latest_done}
+use Rattle.ipam_model.specs.Tries.{claims_of, confirmed_claims, done_or, follows_block_read, is_add, is_mark_found, is_lost, is_write, latest_done}
 use Rattle.ipam_laws.proofs.Calls.{found-key}
 use Rattle.ipam_laws.proofs.FamilyHistory.{comes-any}
 use Rattle.ipam_laws.proofs.Losses.{HasFull, HasLost, IsLeft, Stopped, call_at, claims-none, done-left, kept-left, lost_in, same-calls, step-lost, told_calls, wrote}
@@ -92,10 +92,10 @@ module _ (node : List ℕ) (cidr : CidrValue) where
         shape (Some found) moment store trail = (refl, refl)
 
     -- whether the affinity is at its mark, by the reply as it is told
-    mark-told : (store : Datastore) (mark : ℕ) → is_at (Some mark) (told_of (reply_of store (Get (key.Affinity node cidr)))) ≡ is_at_mark mark (affinity_said (reply_of store (Get (key.Affinity node cidr))))
+    mark-told : (store : Datastore) (mark : ℕ) → is_mark_found (Some mark) (told_of (reply_of store (Get (key.Affinity node cidr)))) ≡ is_at_mark mark (affinity_said (reply_of store (Get (key.Affinity node cidr))))
     mark-told store mark = by (row_of (key.Affinity node cidr) store.rows) refl
       where
-        by : (o : Option (ℕ × Record)) → row_of (key.Affinity node cidr) store.rows ≡ o → is_at (Some mark) (told_of (reply_to_get o)) ≡ is_at_mark mark (affinity_said (reply_to_get o))
+        by : (o : Option (ℕ × Record)) → row_of (key.Affinity node cidr) store.rows ≡ o → is_mark_found (Some mark) (told_of (reply_to_get o)) ≡ is_at_mark mark (affinity_said (reply_to_get o))
         by None e = refl
         by (Some (revision, record_of.Affinity found)) e = refl
         by (Some (revision, record_of.Config config)) e = let k = found-key store (key.Affinity node cidr) revision (record_of.Config config) e in absurd (cc k)
@@ -120,7 +120,7 @@ module _ (node : List ℕ) (cidr : CidrValue) where
         let one : Trail = Did moment store block ∷ trail in
         let kept = kept-left whole bound moment store block trail left refl (inl refl) l in
         let is : latest_done (told_calls one) ≡ Some mark = read-done store (latest_done (told_calls trail)) ∙ latest in
-        let at = ap (λ (o : Option ℕ). is_at o (told_of (reply_of other look))) is ∙ mark-told other mark in
+        let at = ap (λ (o : Option ℕ). is_mark_found o (told_of (reply_of other look))) is ∙ mark-told other mark in
         let two : Trail = Did second other look ∷ one in
         by second other one two refl kept (λ b e. ap not (at ∙ e)) (block_said (reply_of store block)) (is_at_mark mark (affinity_said (reply_of other look))) refl refl
       where
@@ -137,7 +137,7 @@ module _ (node : List ℕ) (cidr : CidrValue) where
     unfolding ToldStop told_calls
     once-comes trail follows l = λ moment store agrees.
         let asked = Get (key.Affinity node cidr) in
-        let no = ap (λ (b : Bool). b && not (is_at (latest_done (told_calls trail)) (told_of (reply_of store asked)))) follows in
+        let no = ap (λ (b : Bool). b && not (is_mark_found (latest_done (told_calls trail)) (told_of (reply_of store asked)))) follows in
         by (Did moment store asked ∷ trail) (kept-left whole bound moment store asked trail left no (inl refl) l) moment (affinity_said (reply_of store asked))
       where
         by : (longer : Trail) → IsLeft whole bound longer left → (moment : ℕ) (found : Option (ℕ × Affinity)) → Comes ToldRelease longer (release_found tie again left moment found)

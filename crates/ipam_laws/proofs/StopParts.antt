@@ -31,7 +31,7 @@ use Rattle.ipam_model.specs.declared.request.Request.{Request}
 use Rattle.ipam_model.specs.Affinities.{BlockRead, affinity, claim, claim_block, claim_confirm, claim_found, claim_kept, claiming, on_claim_write}
 use Rattle.ipam_model.specs.Assigning.{Target, after_claim, after_confirmed, assign, assign_block, assign_lost, claim_for}
 use Rattle.ipam_model.specs.Cluster.{new_record}
-use Rattle.ipam_model.specs.Counting.{Freeing, credit_of, free, free_found, free_once, free_these, lower, lower_once, lowering, most_count, raise, raise_once, raise_write, revision_said, written_or_deleted}
+use Rattle.ipam_model.specs.Counting.{FreedOfHandle, credit_of, free, free_found, free_once, free_these, lower, lower_once, lowering, most_count, raise, raise_once, raise_write, revision_said, written_or_deleted}
 use Rattle.ipam_model.specs.Named.{name_of, told_of}
 use Rattle.ipam_model.specs.Reads.{affinity_said, block_said, handle_said}
 use Rattle.ipam_model.specs.Step.{Part, after_lost, part_then, goes, left_of, on_write, onward, stops, tries, write_back}
@@ -200,7 +200,7 @@ module _ (request : Request) (no_release : is_release request ≡ false) where
 
   -- ---- freeing
 
-  free-these : (what : Freeing) (bound : ℕ) (again : Part ℕ) (left : Left) (amount : ℕ) (found : ℕ × block.BlockValue) → Again (FreeEnds bound) bound left again → (trail : Trail) → IsLeft request bound trail left → Comes (FreeEnds bound) trail (free_these what again left amount found)
+  free-these : (what : FreedOfHandle) (bound : ℕ) (again : Part ℕ) (left : Left) (amount : ℕ) (found : ℕ × block.BlockValue) → Again (FreeEnds bound) bound left again → (trail : Trail) → IsLeft request bound trail left → Comes (FreeEnds bound) trail (free_these what again left amount found)
   unfolding FreeEnds
   free-these what bound again left zero found h trail l = l
   free-these what bound again left (suc more) found h trail l = λ moment store agrees.
@@ -216,7 +216,7 @@ module _ (request : Request) (no_release : is_release request ≡ false) where
       stopped longer now (CountAtLimit moment) e = e
       stopped longer now NoRevisions e = e
 
-  free-once : (what : Freeing) (bound : ℕ) (again : Part ℕ) (left : Left) → Again (FreeEnds bound) bound left again → (trail : Trail) → IsLeft request bound trail left → Comes (FreeEnds bound) trail (free_once what again left)
+  free-once : (what : FreedOfHandle) (bound : ℕ) (again : Part ℕ) (left : Left) → Again (FreeEnds bound) bound left again → (trail : Trail) → IsLeft request bound trail left → Comes (FreeEnds bound) trail (free_once what again left)
   unfolding FreeEnds
   free-once what bound again left h trail l = λ moment store agrees.
       by (Did moment store (Get (key.Block what.block)) ∷ trail) (block_said (reply_of store (Get (key.Block what.block)))) (read-left request no_release bound moment store (Get (key.Block what.block)) trail left refl (inr refl) l)
@@ -225,7 +225,7 @@ module _ (request : Request) (no_release : is_release request ≡ false) where
       by longer None k = k
       by longer (Some found) k = free-these what bound again left (count_by what.picks found.1.allocations) found h longer k
 
-  pub free-comes : (what : Freeing) (bound : ℕ) (left : Left) (trail : Trail) → IsLeft request bound trail left → Comes (FreeEnds bound) trail (free what left)
+  pub free-comes : (what : FreedOfHandle) (bound : ℕ) (left : Left) (trail : Trail) → IsLeft request bound trail left → Comes (FreeEnds bound) trail (free what left)
   free-comes what bound left trail h = tries-come (FreeEnds bound) (free-ending bound) (free_once what) bound (λ again now k longer l. free-once what bound again now k longer l) left.races left.claims trail h
 
   -- ---- assigning

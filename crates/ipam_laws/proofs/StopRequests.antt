@@ -230,8 +230,8 @@ module _ (request : AddRequest) (address : AddrValue) where
   this-stopped trail left (CountAtLimit moment) h = tt
   this-stopped trail left NoRevisions h = h
 
-  module _ (bound : ℕ) (next : this.NextRound) (after : NextComes whole ToldThis bound next) (left : Left) where
-    this-take : (looked : this.Looked) (found : ℕ × block.BlockValue) (trail : Trail) → IsLeft whole bound trail left → Comes ToldThis trail (this.this_take wanted next left looked found)
+  module _ (bound : ℕ) (next : this.NextThisRound) (after : NextComes whole ToldThis bound next) (left : Left) where
+    this-take : (looked : this.LookedAtBlock) (found : ℕ × block.BlockValue) (trail : Trail) → IsLeft whole bound trail left → Comes ToldThis trail (this.this_take wanted next left looked found)
     unfolding AssignEnds ToldStop
     this-take looked found trail h =
         Comes-bound (AssignEnds whole refl bound) ToldThis (onward (this.this_assigned wanted next looked)) (assign request.attributes (target_in found (address.number - looked.cidr.base)) left) trail
@@ -242,7 +242,7 @@ module _ (request : AddRequest) (address : AddrValue) where
         ends longer (Went now None) k = after longer now k.0 k.1
         ends longer (Stops now why) k = this-stopped longer now why k
 
-    this-claim : (looked : this.Looked) (read : BlockRead) (trail : Trail) → IsLeft whole bound trail left → Comes ToldThis trail (this.this_claim wanted next left looked read)
+    this-claim : (looked : this.LookedAtBlock) (read : BlockRead) (trail : Trail) → IsLeft whole bound trail left → Comes ToldThis trail (this.this_claim wanted next left looked read)
     unfolding ClaimedEnds
     this-claim looked read trail h =
         Comes-bound (ClaimedEnds whole refl refl bound) ToldThis (onward (λ now done. next now)) (claim_for request.node looked.cidr read left) trail
@@ -252,7 +252,7 @@ module _ (request : AddRequest) (address : AddrValue) where
         ends longer (Went now done) k = after longer now k.0 k.1
         ends longer (Stops now why) k = this-stopped longer now why k
 
-    this-block : (looked : this.Looked) (read : BlockRead) (trail : Trail) → IsLeft whole bound trail left → Comes ToldThis trail (this.this_block wanted next left looked read)
+    this-block : (looked : this.LookedAtBlock) (read : BlockRead) (trail : Trail) → IsLeft whole bound trail left → Comes ToldThis trail (this.this_block wanted next left looked read)
     unfolding ToldStop
     this-block looked None trail h = this-claim looked None trail h
     this-block looked (Some found) trail h = by (holder found.1 (address.number - looked.cidr.base))
@@ -266,7 +266,7 @@ module _ (request : AddRequest) (address : AddrValue) where
         by (Some held) = tt
         by None = shared (share_of looked.rules.config.strict request.node found.1)
 
-    this-pool : (rules : this.Rules) (o : Option Pool) (trail : Trail) → IsLeft whole bound trail left → Comes ToldThis trail (this.this_in_pool wanted next left rules o)
+    this-pool : (rules : this.RulesRead) (o : Option Pool) (trail : Trail) → IsLeft whole bound trail left → Comes ToldThis trail (this.this_in_pool wanted next left rules o)
     unfolding ToldStop
     this-pool rules None trail h = tt
     this-pool rules (Some pool) trail h = λ b store agrees.

@@ -30,7 +30,7 @@ use Rattle.ipam_model.specs.Assigning.{target_in}
 use Rattle.ipam_model.specs.Choice.{share_of}
 use Rattle.ipam_model.specs.Consistent.{IsConsistent}
 use Rattle.ipam_model.specs.Counting.{most_count}
-use Rattle.ipam_model.specs.History.{InSpan, Lawful, Span, now}
+use Rattle.ipam_model.specs.History.{InSpan, Lawful, RequestSpan, now}
 use Rattle.ipam_model.specs.OtherLaws.{IsCountFull}
 use Rattle.ipam_model.specs.Reads.{block_said, handle_said}
 use Rattle.ipam_laws.proofs.Acts.{Since}
@@ -80,7 +80,7 @@ limit-is store id cidr sound full = exact (count_of (handle_said id (reply_of st
 -- ---- the same round
 
 -- no round begins after a step while what comes is quiet
-pub no-round-behind : (span : Span) (moment : ℕ) (store : Datastore) (asked : Call) (before between : Trail) → Quietly (Did moment store asked ∷ before) between → (upto : ℕ) → IsTrail span upto between → (k : ℕ) (c : Called) → moment < k → k < upto → InSpan span k (entry.Called c) → c.call ≢ name.Get key.Config
+pub no-round-behind : (span : RequestSpan) (moment : ℕ) (store : Datastore) (asked : Call) (before between : Trail) → Quietly (Did moment store asked ∷ before) between → (upto : ℕ) → IsTrail span upto between → (k : ℕ) (c : Called) → moment < k → k < upto → InSpan span k (entry.Called c) → c.call ≢ name.Get key.Config
 unfolding IsTrail
 no-round-behind span moment store asked before between Still upto h k c above below inside = absurd (h.1.nothing_between k (entry.Called c) above below inside)
 no-round-behind span moment store asked before between (More m other call longer quiet earlier) upto h k c above below inside = elim (three k m) [

@@ -19,7 +19,7 @@ use Rattle.ipam_records.specs.declared.record.Record.TheVariants as record_of
 use Rattle.ipam_records.specs.Datastore.{Datastore, reply_of, reply_to_get, row_of}
 use Rattle.ipam_records.specs.Sound.{IsDatastore}
 use Rattle.ipam_model.specs.declared.request.AddRequest.{AddRequest}
-use Rattle.ipam_model.specs.AddLaw.{HasFound, HasNothing, IsNotAffine, IsNotInPool, IsTaken, Looks}
+use Rattle.ipam_model.specs.AddLaw.{HasFound, HasNothing, IsNotAffine, IsNotInPool, IsTaken, LookRevisions}
 use Rattle.ipam_model.specs.AddThis as this
 use Rattle.ipam_model.specs.Answered.{Answered, history_of, span_of}
 use Rattle.ipam_model.specs.Choice.{share_of}
@@ -72,19 +72,19 @@ own-ordinal cidr address holds =
     let sum : address.number ≡ cidr.base + (address.number - cidr.base) = omega arith in
     λ i. record { family = holds.same_family i; number = sum i }
 
-abbrev pub looks_at : this.Looked → Looks
+abbrev pub looks_at : this.LookedAtBlock → LookRevisions
 looks_at looked = record { c = looked.rules.c; p = looked.rules.p; b = looked.b }
 
 module _ (a : Answered) (request : AddRequest) (address : AddrValue) (consistent : IsConsistent a.base.store) (lawful : Lawful a.base (history_of a)) where
   -- what was read, in the span
-  pub record IsSeen (looked : this.Looked) (found : ℕ × block.BlockValue) : Type 0 where
+  pub record IsSeen (looked : this.LookedAtBlock) (found : ℕ × block.BlockValue) : Type 0 where
     pub has : HasFound a request address (looks_at looked)
     pub read : has.read ≡ found
     pub ordinal : has.ordinal ≡ address.number - looked.cidr.base
     pub cidr : has.looked.cidr ≡ looked.cidr
     pub config : config_said has.looked.config ≡ looked.rules.config
 
-  pub seen-block : (looked : this.Looked) (found : ℕ × block.BlockValue) (trail : Trail) (upto : ℕ) → IsTrail (span_of a) upto trail → HasFoundBlock request address looked found trail → IsSeen looked found
+  pub seen-block : (looked : this.LookedAtBlock) (found : ℕ × block.BlockValue) (trail : Trail) (upto : ℕ) → IsTrail (span_of a) upto trail → HasFoundBlock request address looked found trail → IsSeen looked found
   unfolding IsTrail
   seen-block looked found trail upto is h =
       let span = span_of a in
@@ -129,7 +129,7 @@ module _ (a : Answered) (request : AddRequest) (address : AddrValue) (consistent
       record { pools = reply_of h.pools (Get key.Pools); at_p = heard (span_of a) moment h.pools (Get key.Pools) there.0; unusable = h.none }
 
   -- the holder in the words of what was seen
-  pub holder-seen : (looked : this.Looked) (found : ℕ × block.BlockValue) (s : IsSeen looked found) → holder s.has.read.1 s.has.ordinal ≡ holder found.1 (address.number - looked.cidr.base)
+  pub holder-seen : (looked : this.LookedAtBlock) (found : ℕ × block.BlockValue) (s : IsSeen looked found) → holder s.has.read.1 s.has.ordinal ≡ holder found.1 (address.number - looked.cidr.base)
   holder-seen looked found s = λ i. holder (s.read i).1 (s.ordinal i)
 
   pub held-right : (id : List ℕ) (moment : ℕ) (trail : Trail) → IsTrail (span_of a) (now (span_of a)) trail → IsHeldBy request address id moment trail → IsTaken a request address id moment

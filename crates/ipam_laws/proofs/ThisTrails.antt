@@ -42,7 +42,7 @@ module _ (request : AddRequest) (address : AddrValue) where
   -- ---- what was looked at
 
   -- the configuration, the pools and the block of the address's slot were read, and nothing since
-  pub record HasRead (looked : this.Looked) (trail : Trail) : Type 0 where
+  pub record HasRead (looked : this.LookedAtBlock) (trail : Trail) : Type 0 where
     pub config : Datastore
     pub pools : Datastore
     pub block : Datastore
@@ -55,7 +55,7 @@ module _ (request : AddRequest) (address : AddrValue) where
     pub calm : Calmly trail
 
   -- the block was there
-  pub record HasFoundBlock (looked : this.Looked) (found : ℕ × block.BlockValue) (trail : Trail) : Type 0 where
+  pub record HasFoundBlock (looked : this.LookedAtBlock) (found : ℕ × block.BlockValue) (trail : Trail) : Type 0 where
     pub read : HasRead looked trail
     pub there : block_said (reply_of read.block (Get (key.Block looked.cidr))) ≡ Some found
 
@@ -66,7 +66,7 @@ module _ (request : AddRequest) (address : AddrValue) where
     pub none : usable_pool_of (this.asked_of_this request address) address (pools_said (reply_of pools (Get key.Pools))) ≡ None
 
   pub record IsHeldBy (id : List ℕ) (moment : ℕ) (trail : Trail) : Type 0 where
-    pub looked : this.Looked
+    pub looked : this.LookedAtBlock
     pub found : ℕ × block.BlockValue
     pub has : HasFoundBlock looked found trail
     pub at : looked.b ≡ moment
@@ -75,7 +75,7 @@ module _ (request : AddRequest) (address : AddrValue) where
     pub is_holder : held.attributes.handle ≡ id
 
   pub record IsLeftAlone (cidr : CidrValue) (moment : ℕ) (trail : Trail) : Type 0 where
-    pub looked : this.Looked
+    pub looked : this.LookedAtBlock
     pub found : ℕ × block.BlockValue
     pub has : HasFoundBlock looked found trail
     pub at : looked.b ≡ moment
@@ -85,7 +85,7 @@ module _ (request : AddRequest) (address : AddrValue) where
 
   -- the address was free in a block that was read, and then it was assigned there
   pub record IsAssignedTo (given : GivenThis) (trail : Trail) : Type 0 where
-    pub looked : this.Looked
+    pub looked : this.LookedAtBlock
     pub found : ℕ × block.BlockValue
     pub mid : Trail
     pub has : HasFoundBlock looked found mid
@@ -97,7 +97,7 @@ module _ (request : AddRequest) (address : AddrValue) where
 
   -- the count of the block that was read is at its limit
   pub record IsAtLimit (moment : ℕ) (trail : Trail) : Type 0 where
-    pub looked : this.Looked
+    pub looked : this.LookedAtBlock
     pub found : ℕ × block.BlockValue
     pub mid : Trail
     pub has : HasFoundBlock looked found mid
@@ -118,7 +118,7 @@ module _ (request : AddRequest) (address : AddrValue) where
   ThisEnds trail (Stops left (CountAtLimit moment)) = IsAtLimit moment trail × Calmly trail
   ThisEnds trail (Stops left why) = Calmly trail
 
-  abbrev NextThis : this.NextRound → Type 0
+  abbrev NextThis : this.NextThisRound → Type 0
   NextThis next = (trail : Trail) (now : Left) → Calmly trail → Comes ThisEnds trail (next now)
 
   otherwise : (trail : Trail) (left : Left) (why : Stop) → NotLimit why → Calmly trail → ThisEnds trail (Stops left why)
@@ -133,8 +133,8 @@ module _ (request : AddRequest) (address : AddrValue) where
   unfolding Calmly
   limit-calm mid trail id cidr moment h last = subst (λ (t : Trail). Calmly t) (sym last.is) (NoBlock (λ other e. cc e), quietly-calmly mid last.between last.quiet h)
 
-  module _ (next : this.NextRound) (after : NextThis next) (left : Left) where
-    take-this : (looked : this.Looked) (found : ℕ × block.BlockValue) (trail : Trail) → HasFoundBlock looked found trail → Knows trail found.0 found.1 → holder found.1 (address.number - looked.cidr.base) ≡ None → share_of looked.rules.config.strict request.node found.1 ≡ Takes
+  module _ (next : this.NextThisRound) (after : NextThis next) (left : Left) where
+    take-this : (looked : this.LookedAtBlock) (found : ℕ × block.BlockValue) (trail : Trail) → HasFoundBlock looked found trail → Knows trail found.0 found.1 → holder found.1 (address.number - looked.cidr.base) ≡ None → share_of looked.rules.config.strict request.node found.1 ≡ Takes
         → Comes ThisEnds trail (this.this_take wanted next left looked found)
     unfolding AssignEnds ThisEnds IsThis
     take-this looked found trail has knows free takes =
@@ -166,7 +166,7 @@ module _ (request : AddRequest) (address : AddrValue) where
           limit-calm trail longer request.attributes.handle found.1.cidr moment has.read.calm k,
         )
 
-    claim-this : (looked : this.Looked) (read : BlockRead) (trail : Trail) → HasRead looked trail → KnowsRead trail read → Comes ThisEnds trail (this.this_claim wanted next left looked read)
+    claim-this : (looked : this.LookedAtBlock) (read : BlockRead) (trail : Trail) → HasRead looked trail → KnowsRead trail read → Comes ThisEnds trail (this.this_claim wanted next left looked read)
     unfolding GoesQuietly
     claim-this looked read trail has knows =
         Comes-bound (GoesQuietly trail) ThisEnds (onward (λ now done. next now)) (claim_for request.node looked.cidr read left) trail (claim-for trail trail request.node looked.cidr read left Same knows) ends
@@ -175,7 +175,7 @@ module _ (request : AddRequest) (address : AddrValue) where
         ends longer (Went now done) k = after longer now (quietly-calmly trail longer k has.calm)
         ends longer (Stops now why) k = otherwise longer now why k.0 (quietly-calmly trail longer k.1 has.calm)
 
-    block-this : (looked : this.Looked) (read : BlockRead) (trail : Trail) → (has : HasRead looked trail) → block_said (reply_of has.block (Get (key.Block looked.cidr))) ≡ read → KnowsRead trail read → Comes ThisEnds trail (this.this_block wanted next left looked read)
+    block-this : (looked : this.LookedAtBlock) (read : BlockRead) (trail : Trail) → (has : HasRead looked trail) → block_said (reply_of has.block (Get (key.Block looked.cidr))) ≡ read → KnowsRead trail read → Comes ThisEnds trail (this.this_block wanted next left looked read)
     unfolding ThisEnds IsThis
     block-this looked None trail has there knows = claim-this looked None trail has tt
     block-this looked (Some found) trail has there knows = by (holder found.1 (address.number - looked.cidr.base)) refl
@@ -223,7 +223,7 @@ module _ (request : AddRequest) (address : AddrValue) where
         pooled c config p pools (Some pool) e = λ b store agrees.
             let cidr = this.slot_holding pool address in
             let rest : Trail = Did p pools (Get key.Pools) ∷ Did c config (Get key.Config) ∷ trail in
-            let looked : this.Looked = record { rules = record { config = config_said (reply_of config (Get key.Config)); c = c; p = p }; cidr = cidr; b = b } in
+            let looked : this.LookedAtBlock = record { rules = record { config = config_said (reply_of config (Get key.Config)); c = c; p = p }; cidr = cidr; b = b } in
             block-this looked (block_said (reply_of store (Get (key.Block cidr)))) (Did b store (Get (key.Block cidr)) ∷ rest)
             (record {
               config = config;

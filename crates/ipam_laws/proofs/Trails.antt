@@ -19,8 +19,8 @@ use Rattle.ipam_model.specs.declared.entry.Fate.TheVariants.{Well, Before, After
 use Rattle.ipam_model.specs.declared.request.Request.{Request}
 use Rattle.ipam_model.specs.AffinityLaw.{HasAt}
 use Rattle.ipam_model.specs.Answered.{Answered, earlier_calls, history_of, span_of}
-use Rattle.ipam_model.specs.Cluster.{Running, after, word_after_reply, fresh_run, call_entry, call_made, run_after_feed, goes_on, record_written, store_after, store_with}
-use Rattle.ipam_model.specs.History.{Base, InSpan, Lawful, Span, before, begin_moment, begins, cluster_at, entry_at, moment_of, now, seen_at, since_begin, slot_of_entry, store_at}
+use Rattle.ipam_model.specs.Cluster.{RunningRequest, after, word_after_reply, fresh_run, call_entry, call_made, run_after_feed, goes_on, record_written, store_after, store_with}
+use Rattle.ipam_model.specs.History.{Base, InSpan, Lawful, RequestSpan, before, begin_moment, begins, cluster_at, entry_at, moment_of, now, seen_at, since_begin, slot_of_entry, store_at}
 use Rattle.ipam_model.specs.Moments.{IsNext, request_in}
 use Rattle.ipam_model.specs.Named.{name_of, told_of}
 use Rattle.ipam_model.specs.Requests.{word_of}
@@ -77,18 +77,18 @@ Comes-more R Q more (Waits next) trail h = λ moment at live.
 
 -- ---- one entry more
 
-abbrev pub grown : Span → Entry → Span
+abbrev pub grown : RequestSpan → Entry → RequestSpan
 grown span new = record span { history = new ∷ span.history }
 
-pub before-later : (span : Span) (new : Entry) (moment : ℕ) → moment ≤ now span → before span.base (new ∷ span.history) moment ≡ before span.base span.history moment
+pub before-later : (span : RequestSpan) (new : Entry) (moment : ℕ) → moment ≤ now span → before span.base (new ∷ span.history) moment ≡ before span.base span.history moment
 before-later span new moment early =
     let steps : moment_of span.base (new ∷ span.history) - moment ≡ suc (moment_of span.base span.history - moment) = omega arith in
     ap (λ n. drop n (new ∷ span.history)) steps
 
-pub seen-later : (span : Span) (new : Entry) (moment : ℕ) → moment ≤ now span → seen_at (grown span new) moment ≡ seen_at span moment
+pub seen-later : (span : RequestSpan) (new : Entry) (moment : ℕ) → moment ≤ now span → seen_at (grown span new) moment ≡ seen_at span moment
 seen-later span new moment early = ap (λ (h : List Entry). store_at span.base h) (before-later span new moment early)
 
-entry-later : (span : Span) (new : Entry) (moment : ℕ) → moment < now span → entry_at span.base (new ∷ span.history) moment ≡ entry_at span.base span.history moment
+entry-later : (span : RequestSpan) (new : Entry) (moment : ℕ) → moment < now span → entry_at span.base (new ∷ span.history) moment ≡ entry_at span.base span.history moment
 entry-later span new moment early =
     let steps : moment_of span.base (new ∷ span.history) - (moment + 1) ≡ suc (moment_of span.base span.history - (moment + 1)) = omega arith in
     ap (λ n. first (drop n (new ∷ span.history))) steps
@@ -97,14 +97,14 @@ entry-later span new moment early =
     first [] = None
     first (one ∷ rest) = Some one
 
-pub begin-later : (span : Span) (new : Entry) → begins span.slot new ≡ false → begin_moment (grown span new) ≡ begin_moment span
+pub begin-later : (span : RequestSpan) (new : Entry) → begins span.slot new ≡ false → begin_moment (grown span new) ≡ begin_moment span
 unfolding since_begin
 begin-later span new not =
     let more : length (since_begin span.slot (new ∷ span.history)) ≡ suc (length (since_begin span.slot span.history)) =
     ap (λ (b : Bool). suc (length (cond b [] (since_begin span.slot span.history)))) not in
     omega (arith, more)
 
-pub in-span-later : (span : Span) (new : Entry) (moment : ℕ) (there : Entry) → begins span.slot new ≡ false → InSpan span moment there → InSpan (grown span new) moment there
+pub in-span-later : (span : RequestSpan) (new : Entry) (moment : ℕ) (there : Entry) → begins span.slot new ≡ false → InSpan span moment there → InSpan (grown span new) moment there
 in-span-later span new moment there not h =
     let begin = begin-later span new not in
     let since = h.since in
@@ -116,7 +116,7 @@ in-span-later span new moment there not h =
       own = h.own;
     }
 
-pub in-span-earlier : (span : Span) (new : Entry) (moment : ℕ) (there : Entry) → begins span.slot new ≡ false → moment < now span → InSpan (grown span new) moment there → InSpan span moment there
+pub in-span-earlier : (span : RequestSpan) (new : Entry) (moment : ℕ) (there : Entry) → begins span.slot new ≡ false → moment < now span → InSpan (grown span new) moment there → InSpan span moment there
 in-span-earlier span new moment there not early h =
     let begin = begin-later span new not in
     let since = h.since in
@@ -137,7 +137,7 @@ entry-now base new history =
     first [] = None
     first (one ∷ rest) = Some one
 
-pub in-span-now : (span : Span) (new : Entry) → slot_of_entry new ≡ span.slot → InSpan (grown span new) (now span) new
+pub in-span-now : (span : RequestSpan) (new : Entry) → slot_of_entry new ≡ span.slot → InSpan (grown span new) (now span) new
 unfolding since_begin
 in-span-now span new own = record {
   since = since (since_begin span.slot (new ∷ span.history)) (cond (begins span.slot new) [] (since_begin span.slot span.history)) refl;
@@ -149,11 +149,11 @@ in-span-now span new own = record {
     since : (all rest : List Entry) → all ≡ new ∷ rest → moment_of span.base (new ∷ span.history) - length all ≤ moment_of span.base span.history
     since all rest e = let more = ap length e in omega (arith, more)
 
-pub now-is : (span : Span) (new there : Entry) → InSpan (grown span new) (now span) there → there ≡ new
+pub now-is : (span : RequestSpan) (new there : Entry) → InSpan (grown span new) (now span) there → there ≡ new
 now-is span new there h =
     let same : Some there ≡ Some new = sym h.is_there ∙ entry-now span.base new span.history in cc same
 
-next-later : (span : Span) (new : Entry) (first second : ℕ) → begins span.slot new ≡ false → second ≤ now span → IsNext span first second → IsNext (grown span new) first second
+next-later : (span : RequestSpan) (new : Entry) (first second : ℕ) → begins span.slot new ≡ false → second ≤ now span → IsNext span first second → IsNext (grown span new) first second
 next-later span new first second not early h = record {
   behind = h.behind;
   nothing_between = λ k there above below inside.
@@ -161,7 +161,7 @@ next-later span new first second not early h = record {
 }
 
 -- nothing of the slot came, so the next entry is still the slot's next
-next-skip : (span : Span) (new : Entry) (first : ℕ) → begins span.slot new ≡ false → slot_of_entry new ≢ span.slot → IsNext span first (now span) → IsNext (grown span new) first (now (grown span new))
+next-skip : (span : RequestSpan) (new : Entry) (first : ℕ) → begins span.slot new ≡ false → slot_of_entry new ≢ span.slot → IsNext span first (now span) → IsNext (grown span new) first (now (grown span new))
 next-skip span new first not other h = record {
   behind = let k = h.behind in omega arith;
   nothing_between = between;
@@ -180,13 +180,13 @@ next-skip span new first not other h = record {
           absurd (other (ap slot_of_entry (sym is) ∙ there_now.own))
     ]
 
-next-now : (span : Span) (new : Entry) → IsNext (grown span new) (now span) (now (grown span new))
+next-now : (span : RequestSpan) (new : Entry) → IsNext (grown span new) (now span) (now (grown span new))
 next-now span new = record { behind = omega arith; nothing_between = λ k there above below inside. absurd (omega arith) }
 
 -- ---- the trail of a span
 
 -- the call of the moment, which was done
-pub record DidAt (span : Span) (moment : ℕ) (store : Datastore) (asked : Call) : Type 0 where
+pub record DidAt (span : RequestSpan) (moment : ℕ) (store : Datastore) (asked : Call) : Type 0 where
   pub c : Called
   pub in_span : InSpan span moment (entry.Called c)
   pub well : c.fate ≡ Well
@@ -197,17 +197,17 @@ pub record DidAt (span : Span) (moment : ℕ) (store : Datastore) (asked : Call)
   pub behind_it : seen_at span (moment + 1) ≡ behind store asked
 
 -- the entry with which the span begins
-pub record IsBegun (span : Span) : Type 0 where
+pub record IsBegun (span : RequestSpan) : Type 0 where
   pub request : Request
   pub in_span : InSpan span (begin_moment span) (entry.Began span.slot request)
 
 -- the steps are all that came in the span, up to this moment
-unfoldable pub IsTrail : Span → (upto : ℕ) → Trail → Type 0
+unfoldable pub IsTrail : RequestSpan → (upto : ℕ) → Trail → Type 0
 IsTrail span upto [] = IsBegun span × IsNext span (begin_moment span) upto
 IsTrail span upto (Did moment store asked ∷ trail) = DidAt span moment store asked × IsNext span moment upto × IsTrail span moment trail
 IsTrail span upto (Got moment at live ∷ trail) = InSpan span moment (entry.Fed span.slot at live) × IsNext span moment upto × IsTrail span moment trail
 
-did-later : (span : Span) (new : Entry) (moment : ℕ) (store : Datastore) (asked : Call) → begins span.slot new ≡ false → DidAt span moment store asked → DidAt (grown span new) moment store asked
+did-later : (span : RequestSpan) (new : Entry) (moment : ℕ) (store : Datastore) (asked : Call) → begins span.slot new ≡ false → DidAt span moment store asked → DidAt (grown span new) moment store asked
 did-later span new moment store asked not h =
     let early = h.in_span.before_now in
     record {
@@ -221,14 +221,14 @@ did-later span new moment store asked not h =
       behind_it = seen-later span new (moment + 1) (omega arith) ∙ h.behind_it;
     }
 
-begun-later : (span : Span) (new : Entry) → begins span.slot new ≡ false → IsBegun span → IsBegun (grown span new)
+begun-later : (span : RequestSpan) (new : Entry) → begins span.slot new ≡ false → IsBegun span → IsBegun (grown span new)
 begun-later span new not h = record {
   request = h.request;
   in_span = subst (λ (m : ℕ). InSpan (grown span new) m (entry.Began span.slot h.request)) (sym (begin-later span new not))
       (in-span-later span new (begin_moment span) (entry.Began span.slot h.request) not h.in_span);
 }
 
-trail-later : (span : Span) (new : Entry) (trail : Trail) (upto : ℕ) → begins span.slot new ≡ false → upto ≤ now span → IsTrail span upto trail → IsTrail (grown span new) upto trail
+trail-later : (span : RequestSpan) (new : Entry) (trail : Trail) (upto : ℕ) → begins span.slot new ≡ false → upto ≤ now span → IsTrail span upto trail → IsTrail (grown span new) upto trail
 unfolding IsTrail
 trail-later span new [] upto not early h = (
   begun-later span new not h.0,
@@ -247,7 +247,7 @@ trail-later span new (Got moment at live ∷ trail) upto not early h =
       trail-later span new trail moment not (omega arith) h.2,
     )
 
-trail-skip : (span : Span) (new : Entry) (trail : Trail) → begins span.slot new ≡ false → slot_of_entry new ≢ span.slot → IsTrail span (now span) trail → IsTrail (grown span new) (now (grown span new)) trail
+trail-skip : (span : RequestSpan) (new : Entry) (trail : Trail) → begins span.slot new ≡ false → slot_of_entry new ≢ span.slot → IsTrail span (now span) trail → IsTrail (grown span new) (now (grown span new)) trail
 unfolding IsTrail
 trail-skip span new [] not other h = (
   begun-later span new not h.0,
@@ -267,13 +267,13 @@ trail-skip span new (Got moment at live ∷ trail) not other h =
     )
 
 -- the store before the next entry
-pub seen-now : (span : Span) → seen_at span (now span) ≡ store_at span.base span.history
+pub seen-now : (span : RequestSpan) → seen_at span (now span) ≡ store_at span.base span.history
 seen-now span =
     let none : moment_of span.base span.history - now span ≡ 0 = omega arith in
     ap (λ n. store_at span.base (drop n span.history)) none
 
 -- a call that was done is the next step
-trail-did : (span : Span) (c : Called) (asked : Call) (trail : Trail) → c.slot ≡ span.slot → c.fate ≡ Well → c.call ≡ name_of asked
+trail-did : (span : RequestSpan) (c : Called) (asked : Call) (trail : Trail) → c.slot ≡ span.slot → c.fate ≡ Well → c.call ≡ name_of asked
     → c.reply ≡ told_of (reply_of (store_at span.base span.history) asked) → c.written ≡ record_written asked (reply_of (store_at span.base span.history) asked)
     → store_at span.base (entry.Called c ∷ span.history) ≡ behind (store_at span.base span.history) asked
     → IsTrail span (now span) trail → IsTrail (grown span (entry.Called c)) (now (grown span (entry.Called c))) (Did (now span) (store_at span.base span.history) asked ∷ trail)
@@ -295,7 +295,7 @@ trail-did span c asked trail own well call reply put next h =
       trail-later span new trail (now span) refl (omega arith) h,
     )
 
-trail-got : (span : Span) (at : ℕ) (live : List (List ℕ)) (trail : Trail) → IsTrail span (now span) trail
+trail-got : (span : RequestSpan) (at : ℕ) (live : List (List ℕ)) (trail : Trail) → IsTrail span (now span) trail
     → IsTrail (grown span (entry.Fed span.slot at live)) (now (grown span (entry.Fed span.slot at live))) (Got (now span) at live ∷ trail)
 unfolding IsTrail
 trail-got span at live trail h =
@@ -318,7 +318,7 @@ trail-begins base history slot request =
       record { behind = omega (arith, one); nothing_between = λ k there above below inside. absurd (omega (arith, one)) },
     )
   where
-    span_before_it : Span
+    span_before_it : RequestSpan
     span_before_it = record { base = base; history = history; slot = slot }
 
     from : (b : Bool) → (slot == slot) ≡ b → (slot == slot) ≡ true
@@ -326,7 +326,7 @@ trail-begins base history slot request =
     from false e = absurd (eqb-false slot slot e refl)
 
 -- the store at hand agrees with those of the trail
-pub trail-agrees : (span : Span) → IsDatastore span.base.store → Lawful span.base span.history → (trail : Trail) (upto : ℕ) → IsTrail span upto trail → AgreesAll (store_at span.base span.history) trail
+pub trail-agrees : (span : RequestSpan) → IsDatastore span.base.store → Lawful span.base span.history → (trail : Trail) (upto : ℕ) → IsTrail span upto trail → AgreesAll (store_at span.base span.history) trail
 unfolding IsTrail AgreesAll
 trail-agrees span sound h [] upto is = tt
 trail-agrees span sound h (Did moment store asked ∷ trail) upto is = (
@@ -421,7 +421,7 @@ calls-skip slot (entry.Called c) history not differ = ap (λ (b : Bool). cond b 
     other true e = absurd (differ (eqb-true c.slot slot e))
     other false e = e
 
-abbrev pub span_at : Base → List Entry → ℕ → Span
+abbrev pub span_at : Base → List Entry → ℕ → RequestSpan
 span_at base history slot = record { base = base; history = history; slot = slot }
 
 pub begins-not : (other slot : ℕ) → slot ≢ other → (other == slot) ≡ false
@@ -445,17 +445,17 @@ pub record Lasts (P : IsLeft) : Type 0 where
 
 module _ (P : IsLeft) (lasts : Lasts P) where
   -- what is left comes to what the request's word comes to
-  pub record RunComes (base : Base) (history : List Entry) (slot : ℕ) (running : Running) : Type 0 where
+  pub record RunComes (base : Base) (history : List Entry) (slot : ℕ) (running : RunningRequest) : Type 0 where
     pub trail : Trail
     pub is_trail : IsTrail (span_at base history slot) (moment_of base history) trail
     pub calls : AreCalls trail (slot_calls slot history)
     pub comes : P running.request trail running.word
 
-  abbrev pub SlotComes : Base → List Entry → ℕ → Option Running → Type 0
+  abbrev pub SlotComes : Base → List Entry → ℕ → Option RunningRequest → Type 0
   SlotComes base history slot None = Unit {0}
   SlotComes base history slot (Some running) = RunComes base history slot running
 
-  skip : (base : Base) (history : List Entry) (new : Entry) (slot : ℕ) (o : Option Running) → begins slot new ≡ false → slot_of_entry new ≢ slot → SlotComes base history slot o → SlotComes base (new ∷ history) slot o
+  skip : (base : Base) (history : List Entry) (new : Entry) (slot : ℕ) (o : Option RunningRequest) → begins slot new ≡ false → slot_of_entry new ≢ slot → SlotComes base history slot o → SlotComes base (new ∷ history) slot o
   skip base history new slot None not other h = tt
   skip base history new slot (Some running) not other h = record {
     trail = h.trail;
@@ -465,14 +465,14 @@ module _ (P : IsLeft) (lasts : Lasts P) where
   }
 
   -- a call that is done goes on with one step more
-  record CallComes (base : Base) (history : List Entry) (c : Called) (running : Running) : Type 0 where
+  record CallComes (base : Base) (history : List Entry) (c : Called) (running : RunningRequest) : Type 0 where
     trail : Trail
     is_trail : IsTrail (span_at base (entry.Called c ∷ history) c.slot) (moment_of base (entry.Called c ∷ history)) trail
     calls : AreCalls trail (c ∷ slot_calls c.slot history)
     comes : P running.request trail (word_after_reply (store_at base history) (cluster_at base history).entries running.word)
     answers : c.answer ≡ answer_in (word_after_reply (store_at base history) (cluster_at base history).entries running.word)
 
-  call-comes : (base : Base) (history : List Entry) → IsDatastore base.store → Lawful base history → (c : Called) (running : Running) → c.fate ≡ Well
+  call-comes : (base : Base) (history : List Entry) → IsDatastore base.store → Lawful base history → (c : Called) (running : RunningRequest) → c.fate ≡ Well
       → call_entry c.slot c.fate (store_at base history) (cluster_at base history).entries running.word ≡ Some c → RunComes base history c.slot running → CallComes base history c running
   unfolding cluster_at after AreCalls
   call-comes base history sound h c running fate e run =
@@ -495,7 +495,7 @@ module _ (P : IsLeft) (lasts : Lasts P) where
       }
 
   goes-at : (base : Base) (history : List Entry) (c : Called) (answer : Option Answer) → c.answer ≡ answer → IsDatastore base.store → Lawful base (entry.Called c ∷ history)
-      → ((running : Running) → (cluster_at base history).slots c.slot ≡ Some running → RunComes base history c.slot running)
+      → ((running : RunningRequest) → (cluster_at base history).slots c.slot ≡ Some running → RunComes base history c.slot running)
       → SlotComes base (entry.Called c ∷ history) c.slot (goes_on (store_at base history) (cluster_at base history).entries answer ((cluster_at base history).slots c.slot))
   unfolding Lawful
   goes-at base history c (Some told) is sound h here = tt
@@ -513,9 +513,9 @@ module _ (P : IsLeft) (lasts : Lasts P) where
         calls = subst (λ (l : List Called). AreCalls step.trail l) (sym (calls-called c history)) step.calls;
         comes = step.comes;
       } in
-      subst (λ (o : Option Running). SlotComes base (entry.Called c ∷ history) c.slot (goes_on store moment None o)) (sym may.runs) run
+      subst (λ (o : Option RunningRequest). SlotComes base (entry.Called c ∷ history) c.slot (goes_on store moment None o)) (sym may.runs) run
 
-  fed-comes : (base : Base) (history : List Entry) (slot at : ℕ) (live : List (List ℕ)) (running : Running) → IsTrue (waits running.word) → RunComes base history slot running
+  fed-comes : (base : Base) (history : List Entry) (slot at : ℕ) (live : List (List ℕ)) (running : RunningRequest) → IsTrue (waits running.word) → RunComes base history slot running
       → RunComes base (entry.Fed slot at live ∷ history) slot (record running { word = after_feed running.word live })
   unfolding AreCalls since_begin
   fed-comes base history slot at live running waiting run = record {
@@ -545,8 +545,8 @@ module _ (P : IsLeft) (lasts : Lasts P) where
   slot-comes base (entry.Fed other at live ∷ history) sound h slot =
       slot-is (SlotComes base (entry.Fed other at live ∷ history) slot) other slot (run_after_feed live ((cluster_at base history).slots other)) (cluster_at base history).slots
       (λ own. subst (λ (s : ℕ). SlotComes base (entry.Fed other at live ∷ history) s (run_after_feed live ((cluster_at base history).slots other))) (sym own)
-      (let run = subst (λ (o : Option Running). SlotComes base history other o) h.1.runs (slot-comes base history sound h.0 other) in
-      subst (λ (o : Option Running). SlotComes base (entry.Fed other at live ∷ history) other (run_after_feed live o)) (sym h.1.runs) (fed-comes base history other at live h.1.running h.1.waiting run)))
+      (let run = subst (λ (o : Option RunningRequest). SlotComes base history other o) h.1.runs (slot-comes base history sound h.0 other) in
+      subst (λ (o : Option RunningRequest). SlotComes base (entry.Fed other at live ∷ history) other (run_after_feed live o)) (sym h.1.runs) (fed-comes base history other at live h.1.running h.1.waiting run)))
       (λ differ. skip base history (entry.Fed other at live) slot ((cluster_at base history).slots slot) refl (λ e. differ (sym e)) (slot-comes base history sound h.0 slot))
   slot-comes base (entry.Stopped other ∷ history) sound h slot =
       slot-is (SlotComes base (entry.Stopped other ∷ history) slot) other slot None (cluster_at base history).slots
@@ -556,7 +556,7 @@ module _ (P : IsLeft) (lasts : Lasts P) where
       slot-is (SlotComes base (entry.Called c ∷ history) slot) c.slot slot (goes_on (store_at base history) (cluster_at base history).entries c.answer ((cluster_at base history).slots c.slot)) (cluster_at base history).slots
       (λ own. subst (λ (s : ℕ). SlotComes base (entry.Called c ∷ history) s (goes_on (store_at base history) (cluster_at base history).entries c.answer ((cluster_at base history).slots c.slot))) (sym own)
       (goes-at base history c c.answer refl sound h
-      (λ running runs. subst (λ (o : Option Running). SlotComes base history c.slot o) runs (slot-comes base history sound h.0 c.slot))))
+      (λ running runs. subst (λ (o : Option RunningRequest). SlotComes base history c.slot o) runs (slot-comes base history sound h.0 c.slot))))
       (λ differ. skip base history (entry.Called c) slot ((cluster_at base history).slots slot) refl (λ e. differ (sym e)) (slot-comes base history sound h.0 slot))
 
 -- what two proofs say of one word
@@ -591,9 +591,9 @@ module _ (Q : Request → Trail → Answer → Type 0) (starts : (request : Requ
   unfolding Lawful
   answer-comes a told sound h requested answer fate =
       let may = h.1 in
-      let run = subst (λ (o : Option Running). SlotComes (λ request trail word. Comes (Q request) trail word) all-come a.base a.earlier a.call.slot o) may.runs (slot-comes (λ request trail word. Comes (Q request) trail word) all-come a.base a.earlier sound h.0 a.call.slot) in
+      let run = subst (λ (o : Option RunningRequest). SlotComes (λ request trail word. Comes (Q request) trail word) all-come a.base a.earlier a.call.slot o) may.runs (slot-comes (λ request trail word. Comes (Q request) trail word) all-come a.base a.earlier sound h.0 a.call.slot) in
       let step = call-comes (λ request trail word. Comes (Q request) trail word) all-come a.base a.earlier sound h.0 a.call may.running fate may.is_called run in
-      let some : Some may.running.request ≡ Some a.request = ap (λ (o : Option Running). option_map (λ (r : Running). r.request) o) (sym may.runs) ∙ requested in
+      let some : Some may.running.request ≡ Some a.request = ap (λ (o : Option RunningRequest). option_map (λ (r : RunningRequest). r.request) o) (sym may.runs) ∙ requested in
       let same : may.running.request ≡ a.request = cc some in
       record {
         trail = step.trail;

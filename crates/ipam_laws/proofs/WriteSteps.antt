@@ -29,7 +29,7 @@ use Rattle.ipam_model.specs.AffinityLaw.{HasAt}
 use Rattle.ipam_model.specs.declared.part.Assigned.{Assigned}
 use Rattle.ipam_model.specs.Assigning.{Target, assign_block, assign_lost}
 use Rattle.ipam_model.specs.Cluster.{store_with}
-use Rattle.ipam_model.specs.Counting.{lower, Freeing, free, free_once, free_found, free_these, credit_of}
+use Rattle.ipam_model.specs.Counting.{lower, FreedOfHandle, free, free_once, free_found, free_these, credit_of}
 use Rattle.ipam_model.specs.Reads.{affinity_said, block_said}
 use Rattle.ipam_model.specs.declared.part.Left.{Left}
 use Rattle.ipam_model.specs.declared.part.Stop.TheVariants.{OutOfTries, NoRoom, NoRevisions}
@@ -273,7 +273,7 @@ release-steps tie left known = (release_tries-label tie left.races left.claims, 
 
 -- ---- freeing
 
-free_these-steps : (known : Known) (what : Freeing) (again : Part ℕ) (left : Left) (amount : ℕ) (found : ℕ × block.BlockValue) → OwnPicks what → count_by what.picks found.1.allocations ≡ amount → IsKnownBlock known what.block (Some found) → Tries again
+free_these-steps : (known : Known) (what : FreedOfHandle) (again : Part ℕ) (left : Left) (amount : ℕ) (found : ℕ × block.BlockValue) → OwnPicks what → count_by what.picks found.1.allocations ≡ amount → IsKnownBlock known what.block (Some found) → Tries again
     → (label_to still (free_these what again left amount found) ≡ idle) × Steps still known (free_these what again left amount found)
 free_these-steps known what again left zero found own e h a = (refl, tt)
 free_these-steps known what again left (suc amount) (revision, b) own e h a =
@@ -288,33 +288,33 @@ free_these-steps known what again left (suc amount) (revision, b) own e h a =
           (λ store. Idles refl a.1) (a.0 known) (λ store. Idles refl refl) tt (λ store. Idles refl refl) tt,
     )
 
-free_found-steps : (known : Known) (what : Freeing) (again : Part ℕ) (left : Left) (found : Option (ℕ × block.BlockValue)) → OwnPicks what → IsKnownBlock known what.block found → Tries again
+free_found-steps : (known : Known) (what : FreedOfHandle) (again : Part ℕ) (left : Left) (found : Option (ℕ × block.BlockValue)) → OwnPicks what → IsKnownBlock known what.block found → Tries again
     → (label_to still (free_found what again left found) ≡ idle) × Steps still known (free_found what again left found)
 free_found-steps known what again left None own h a = (refl, tt)
 free_found-steps known what again left (Some found) own h a = free_these-steps known what again left (count_by what.picks found.1.allocations) found own refl h a
 
-free_once-steps : (known : Known) (what : Freeing) (again : Part ℕ) (left : Left) → OwnPicks what → Tries again → Steps still known (free_once what again left)
+free_once-steps : (known : Known) (what : FreedOfHandle) (again : Part ℕ) (left : Left) → OwnPicks what → Tries again → Steps still known (free_once what again left)
 free_once-steps known what again left own a =
     get-meets Step still Any known idle (key.Block what.block) (λ moment said. free_found what again left (block_said said)) (λ moment store agrees.
     let (label, meets) = free_found-steps (more known store store) what again left (block_said (reply_to_get (row_of (key.Block what.block) store.rows))) own (block-read known store what.block) a in
     (Idles refl label, meets))
 
-free_tries-label : (what : Freeing) (races claims : ℕ) → label_to still (tries (free_once what) races claims) ≡ idle
+free_tries-label : (what : FreedOfHandle) (races claims : ℕ) → label_to still (tries (free_once what) races claims) ≡ idle
 unfolding tries
 free_tries-label what zero claims = refl
 free_tries-label what (suc races) claims = refl
 
-pub free-label : (what : Freeing) (left : Left) → label_to still (free what left) ≡ idle
+pub free-label : (what : FreedOfHandle) (left : Left) → label_to still (free what left) ≡ idle
 free-label what left = free_tries-label what left.races left.claims
 
-free_tries-steps : (what : Freeing) (races claims : ℕ) → OwnPicks what → (known : Known) → Steps still known (tries (free_once what) races claims)
+free_tries-steps : (what : FreedOfHandle) (races claims : ℕ) → OwnPicks what → (known : Known) → Steps still known (tries (free_once what) races claims)
 unfolding tries
 free_tries-steps what zero claims own known = free_once-steps known what (stops (left_of zero claims) OutOfTries) (left_of zero claims) own (λ other. tt, refl)
 free_tries-steps what (suc races) claims own known =
     free_once-steps known what (tries (free_once what) races claims) (left_of (suc races) claims) own
     (λ other. free_tries-steps what races claims own other, free_tries-label what races claims)
 
-pub free-steps : (what : Freeing) (left : Left) → OwnPicks what → (known : Known) → Steps still known (free what left)
+pub free-steps : (what : FreedOfHandle) (left : Left) → OwnPicks what → (known : Known) → Steps still known (free what left)
 free-steps what left own known = free_tries-steps what left.races left.claims own known
 
 -- ---- assigning

@@ -92,8 +92,8 @@ abbrev pub take_in : Round → Left → Target → Part Served
 take_in round left target =
     part_then (assign round.request.attributes target left) (after_assign round target)
 
-abbrev pub name_at : List (List ℕ) → ℕ → List ℕ
-name_at names place = unwrap_or (slice_get names place) []
+abbrev pub name_in_place : List (List ℕ) → ℕ → List ℕ
+name_in_place names place = unwrap_or (slice_get names place) []
 
 abbrev pub claim_in : Round → Left → CidrValue → BlockRead → Part Served
 claim_in round left slot read =
@@ -110,7 +110,7 @@ abbrev pub follow_pick : Round → Left → Pick → Part Served
 follow_pick round left (Picks ranked) = follow_rank round left ranked.slot ranked.rank
 follow_pick round left Lacks = goes left (Refused (add.Exhausted round.scan))
 follow_pick round left (Unknown place) =
-    let name = name_at (names_for round.scan.family round.request) place in
+    let name = name_in_place (names_for round.scan.family round.request) place in
     goes left (Refused (add.NoPool name round.scan.p))
 
 abbrev pub round_of : AddRequest → Family → NextRound → Left → Part Served

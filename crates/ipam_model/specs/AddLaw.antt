@@ -29,7 +29,7 @@ use Rattle.ipam_model.specs.Answered.{Answered, span_of}
 use Rattle.ipam_model.specs.AddThis.{asked_of_this}
 use Rattle.ipam_model.specs.Assigning.{names_for}
 use Rattle.ipam_model.specs.Choice.{Seen, IsChoice, Takes, Leaves, share_of}
-use Rattle.ipam_model.specs.History.{Span, seen_at, seen_now, InSpan, HeardCall}
+use Rattle.ipam_model.specs.History.{RequestSpan, seen_at, seen_now, InSpan, HeardCall}
 use Rattle.ipam_model.specs.Credits.{HasWritten}
 use Rattle.ipam_model.specs.Moments.{IsNext, Owns, Gains, GainedInSpan}
 use Rattle.ipam_model.specs.Owners.{Owner, owned_in}
@@ -49,7 +49,7 @@ pub record Taking : Type 0 where
 -- At the moment the block was updated at the revision at which it was read, the ordinal is held by
 -- the handle with the request's attributes, and the address, which nobody owned, is the handle's
 -- with the written sequence number as its stamp.
-pub record IsRecordedAt (span : Span) (moment : ℕ) (taking : Taking) : Type 0 where
+pub record IsRecordedAt (span : RequestSpan) (moment : ℕ) (taking : Taking) : Type 0 where
   pub call : Called
   pub in_span : InSpan span moment (entry.Called call)
   pub revision : ℕ
@@ -73,7 +73,7 @@ abbrev pub families_of : AddRequest → List Family
 families_of request = families_if request.ipv4 request.ipv6
 
 -- before the moment the span wrote a block of the family so that more of it was owned
-pub record HasGiven (span : Span) (moment : ℕ) (family : Family) : Type 0 where
+pub record HasGiven (span : RequestSpan) (moment : ℕ) (family : Family) : Type 0 where
   pub given_at : ℕ
   pub earlier : given_at < moment
   pub cidr : CidrValue
@@ -83,7 +83,7 @@ pub record HasGiven (span : Span) (moment : ℕ) (family : Family) : Type 0 wher
 
 -- A round that begins at the moment is for this family: it is wanted, each family that is wanted
 -- before it has been given an address, and it has not.
-pub record IsRoundFor (span : Span) (request : AddRequest) (moment : ℕ) (family : Family) : Type 0 where
+pub record IsRoundFor (span : RequestSpan) (request : AddRequest) (moment : ℕ) (family : Family) : Type 0 where
   pub earlier : List Family
   pub later : List Family
   pub wanted : families_of request ≡ earlier ++ family ∷ later
@@ -91,14 +91,14 @@ pub record IsRoundFor (span : Span) (request : AddRequest) (moment : ℕ) (famil
   pub has_not : ¬ (HasGiven span moment family)
 
 -- the request scanned for the family of the scan, and the choice on what it saw is this
-pub record HasChosen (span : Span) (request : AddRequest) (scan : Scan) (choice : Choice) : Type 0 where
+pub record HasChosen (span : RequestSpan) (request : AddRequest) (scan : Scan) (choice : Choice) : Type 0 where
   pub round : IsRoundFor span request scan.c scan.family
   pub seen : Seen
   pub scanned : HasScanned span scan seen
   pub is_choice : IsChoice (asked_of request scan.family) seen choice
 
 -- the choice was the ordinal of the block, whoever has it
-abbrev pub HasChosenOf : Span → AddRequest → Scan → (cidr : CidrValue) → (ordinal : ℕ) → Type 0
+abbrev pub HasChosenOf : RequestSpan → AddRequest → Scan → (cidr : CidrValue) → (ordinal : ℕ) → Type 0
 HasChosenOf span request scan cidr ordinal =
     HasChosen span request scan (Use cidr ordinal) ⊎ HasChosen span request scan (Borrow cidr ordinal)
 
@@ -156,13 +156,13 @@ pub record IsWithoutPool (a : Answered) (request : AddRequest) (called : List �
 -- ---- an ADD of one address
 
 -- the moments at which the configuration, the pools and the block of the address's slot were read
-pub record Looks : Type 0 where
+pub record LookRevisions : Type 0 where
   pub c : ℕ
   pub p : ℕ
   pub b : ℕ
 
 -- they were read at these moments, one after the other
-pub record HasLooked (span : Span) (request : AddRequest) (address : AddrValue) (at : Looks) : Type 0 where
+pub record HasLooked (span : RequestSpan) (request : AddRequest) (address : AddrValue) (at : LookRevisions) : Type 0 where
   pub config : Said
   pub pools : Said
   pub block : Said
@@ -178,14 +178,14 @@ pub record HasLooked (span : Span) (request : AddRequest) (address : AddrValue) 
   pub holds : Holds cidr address
 
 -- the block was there, and this is the address's ordinal in it
-pub record HasFound (a : Answered) (request : AddRequest) (address : AddrValue) (at : Looks) : Type 0 where
+pub record HasFound (a : Answered) (request : AddRequest) (address : AddrValue) (at : LookRevisions) : Type 0 where
   pub looked : HasLooked (span_of a) request address at
   pub read : ℕ × block.BlockValue
   pub was_read : block_said looked.block ≡ Some read
   pub ordinal : ℕ
   pub is_ordinal : address ≡ ordinal_address looked.cidr ordinal
 
-abbrev pub looks_of : GivenThis → Looks
+abbrev pub looks_of : GivenThis → LookRevisions
 looks_of given = record { c = given.c; p = given.p; b = given.b }
 
 pub record IsThisGivenRight (a : Answered) (request : AddRequest) (address : AddrValue) (given : GivenThis) : Type 0 where
@@ -204,7 +204,7 @@ pub record IsNotInPool (a : Answered) (request : AddRequest) (address : AddrValu
 
 -- the handle of this id holds the address
 pub record IsTaken (a : Answered) (request : AddRequest) (address : AddrValue) (id : List ℕ) (moment : ℕ) : Type 0 where
-  pub at : Looks
+  pub at : LookRevisions
   pub at_b : at.b ≡ moment
   pub found : HasFound a request address at
   pub held : Allocation
@@ -213,7 +213,7 @@ pub record IsTaken (a : Answered) (request : AddRequest) (address : AddrValue) (
 
 -- the address is free in a block of another node, or in one of none that is not empty, and affinity is strict
 pub record IsNotAffine (a : Answered) (request : AddRequest) (address : AddrValue) (cidr : CidrValue) (moment : ℕ) : Type 0 where
-  pub at : Looks
+  pub at : LookRevisions
   pub at_b : at.b ≡ moment
   pub found : HasFound a request address at
   pub is_block : cidr ≡ found.looked.cidr

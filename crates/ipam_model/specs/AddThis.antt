@@ -38,22 +38,22 @@ pub record Wanted : Type 0 where
   pub request : AddRequest
   pub address : AddrValue
 
-abbrev pub NextRound : Type 0
-NextRound = Left → Part AddThisAnswer
+abbrev pub NextThisRound : Type 0
+NextThisRound = Left → Part AddThisAnswer
 
 -- the configuration, and the moments at which it and the pools were read
-pub record Rules : Type 0 where
+pub record RulesRead : Type 0 where
   pub config : Config
   pub c : ℕ
   pub p : ℕ
 
 -- what was read in a round: the rules, and at the moment b the block
-pub record Looked : Type 0 where
-  pub rules : Rules
+pub record LookedAtBlock : Type 0 where
+  pub rules : RulesRead
   pub cidr : CidrValue
   pub b : ℕ
 
-abbrev pub this_given : Wanted → Looked → Assigned → GivenThis
+abbrev pub this_given : Wanted → LookedAtBlock → Assigned → GivenThis
 this_given wanted looked done = record {
   address = wanted.address;
   c = looked.rules.c;
@@ -62,34 +62,34 @@ this_given wanted looked done = record {
   w = done.moment;
 }
 
-abbrev pub this_assigned : Wanted → NextRound → Looked → Left → Option Assigned → Part AddThisAnswer
+abbrev pub this_assigned : Wanted → NextThisRound → LookedAtBlock → Left → Option Assigned → Part AddThisAnswer
 this_assigned wanted next looked left (Some done) = goes left (add.AddedThis (this_given wanted looked done))
 this_assigned wanted next looked left None = next left
 
-abbrev pub this_take : Wanted → NextRound → Left → Looked → ℕ × block.BlockValue → Part AddThisAnswer
+abbrev pub this_take : Wanted → NextThisRound → Left → LookedAtBlock → ℕ × block.BlockValue → Part AddThisAnswer
 this_take wanted next left looked found =
     part_then
     (assign wanted.request.attributes (target_in found (wanted.address.number - looked.cidr.base)) left)
     (this_assigned wanted next looked)
 
-abbrev pub this_claim : Wanted → NextRound → Left → Looked → BlockRead → Part AddThisAnswer
+abbrev pub this_claim : Wanted → NextThisRound → Left → LookedAtBlock → BlockRead → Part AddThisAnswer
 this_claim wanted next left looked read =
     part_then (claim_for wanted.request.node looked.cidr read left) (λ now done. next now)
 
 -- the free address of a block is taken, or the block is claimed first
-abbrev pub this_free : Wanted → NextRound → Left → Looked → ℕ × block.BlockValue → Part AddThisAnswer
+abbrev pub this_free : Wanted → NextThisRound → Left → LookedAtBlock → ℕ × block.BlockValue → Part AddThisAnswer
 this_free wanted next left looked found =
     by_share (share_of looked.rules.config.strict wanted.request.node found.1)
     (this_take wanted next left looked found)
     (this_claim wanted next left looked (Some found))
     (goes left (add.NotAffine looked.cidr looked.b))
 
-abbrev pub this_held : (free : Part AddThisAnswer) → Left → Looked → Option Allocation → Part AddThisAnswer
+abbrev pub this_held : (free : Part AddThisAnswer) → Left → LookedAtBlock → Option Allocation → Part AddThisAnswer
 this_held free left looked None = free
 this_held free left looked (Some held) = goes left (add.Taken held.attributes.handle looked.b)
 
 -- a block that is missing is claimed, whatever the bound
-abbrev pub this_block : Wanted → NextRound → Left → Looked → BlockRead → Part AddThisAnswer
+abbrev pub this_block : Wanted → NextThisRound → Left → LookedAtBlock → BlockRead → Part AddThisAnswer
 this_block wanted next left looked None = this_claim wanted next left looked None
 this_block wanted next left looked (Some found) =
     this_held (this_free wanted next left looked found) left looked
@@ -100,14 +100,14 @@ abbrev pub slot_holding : Pool → AddrValue → CidrValue
 slot_holding pool address =
     slot_of pool.cidr pool.size (unwrap_or (slot_number_of pool.cidr pool.size address) 0)
 
-abbrev pub this_in_pool : Wanted → NextRound → Left → Rules → Option Pool → Part AddThisAnswer
+abbrev pub this_in_pool : Wanted → NextThisRound → Left → RulesRead → Option Pool → Part AddThisAnswer
 this_in_pool wanted next left rules None = goes left (add.NotInPool rules.p)
 this_in_pool wanted next left rules (Some pool) =
     let cidr = slot_holding pool wanted.address in
     Asks idle (Get (key.Block cidr)) (λ b said.
     this_block wanted next left (record { rules = rules; cidr = cidr; b = b }) (block_said said))
 
-abbrev pub this_round : Wanted → NextRound → Left → Part AddThisAnswer
+abbrev pub this_round : Wanted → NextThisRound → Left → Part AddThisAnswer
 this_round wanted next left =
     Asks idle (Get key.Config) (λ c config.
     Asks idle (Get key.Pools) (λ p pools.

@@ -14,7 +14,7 @@ use Rattle.ipam_records.specs.Sound.{IsDatastore}
 use Rattle.ipam_records.specs.Word.{label_of}
 use Rattle.ipam_model.specs.declared.entry.Entry.{Entry}
 use Rattle.ipam_model.specs.Affinities.{affinity}
-use Rattle.ipam_model.specs.Cluster.{Running}
+use Rattle.ipam_model.specs.Cluster.{RunningRequest}
 use Rattle.ipam_model.specs.History.{Base, Lawful, cluster_at, store_at, store_before}
 use Rattle.ipam_model.specs.Moments.{Has, revision_of}
 use Rattle.ipam_model.specs.Points.{StandsAt}
@@ -61,7 +61,7 @@ IsAt base history slot point = StandsAt (record { base = base; history = history
 -- the label of what runs in the slot has the point
 abbrev pub IsLabelled : Base → List Entry → (slot : ℕ) → Point → Type 0
 IsLabelled base history slot point =
-    (running : Running) × ((cluster_at base history).slots slot ≡ Some running) × ((label_of running.word).point ≡ point)
+    (running : RunningRequest) × ((cluster_at base history).slots slot ≡ Some running) × ((label_of running.word).point ≡ point)
 
 -- the block, or its absence, is as it was read
 abbrev pub IsBlockCurrent : Datastore → CidrValue → Option ℕ → Type 0

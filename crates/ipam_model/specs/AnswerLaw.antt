@@ -16,12 +16,12 @@ use Rattle.ipam_model.specs.declared.request.CollectRequest.{CollectRequest}
 use Rattle.ipam_model.specs.declared.request.ProbeRequest.{ProbeRequest}
 use Rattle.ipam_model.specs.declared.request.Request.{Request}
 use Rattle.ipam_model.specs.declared.request.Request.TheVariants.{Add, AddThis, Del, Check, Release, Collect, Admin as Change, Probe}
-use Rattle.ipam_model.specs.AddLaw.{AreGivenRight, HasChosenOf, HasLooked, HasNothing, IsExhausted, IsNotAffine, IsNotInPool, IsTaken, IsThisGivenRight, IsWithoutPool, Looks, families_of}
+use Rattle.ipam_model.specs.AddLaw.{AreGivenRight, HasChosenOf, HasLooked, HasNothing, IsExhausted, IsNotAffine, IsNotInPool, IsTaken, IsThisGivenRight, IsWithoutPool, LookRevisions, families_of}
 use Rattle.ipam_model.specs.Answered.{Answered, earlier_calls, history_of, span_of}
 use Rattle.ipam_model.specs.Consistent.{IsConsistent}
 use Rattle.ipam_model.specs.History.{InSpan, Lawful, cluster_at}
 use Rattle.ipam_model.specs.Moments.{request_in}
-use Rattle.ipam_model.specs.OtherLaws.{AreReady, HasNoAffinity, IsChecked, IsCollected, IsCountFull, IsDeleted, IsDone, IsFull, IsNotRecorded, IsProbedExhausted, IsProbedWithoutPool, IsRefused, IsReleased, probe_begins}
+use Rattle.ipam_model.specs.OtherLaws.{AreReady, HasNoAffinity, IsChecked, IsCollectedRight, IsCountFull, IsDeleted, IsChangeDone, IsFull, IsNotRecorded, IsProbedExhausted, IsProbedWithoutPool, IsChangeRefused, IsReleased, probe_begins}
 use Rattle.ipam_model.specs.Step.{most_lost, most_claims}
 use Rattle.ipam_model.specs.Tries.{lost_races, claims_of}
 use Rattle.ipam_model.specs.Usable.{families_if}
@@ -48,7 +48,7 @@ pub record IsInRound (a : Answered) (first later : ℕ) : Type 0 where
 pub data IsTarget (a : Answered) (moment : ℕ) (cidr : CidrValue) : Type 0 where
   Chosen : (add : AddRequest) (scan : Scan) (ordinal : ℕ) → a.request ≡ Add add
       → HasChosenOf (span_of a) add scan cidr ordinal → IsInRound a scan.b moment → IsTarget a moment cidr
-  AskedFor : (add : AddRequest) (address : AddrValue) (at : Looks) → a.request ≡ AddThis add address
+  AskedFor : (add : AddRequest) (address : AddrValue) (at : LookRevisions) → a.request ≡ AddThis add address
       → (looked : HasLooked (span_of a) add address at) → looked.cidr ≡ cidr → IsInRound a at.b moment → IsTarget a moment cidr
 
 abbrev pub IsRightAnswer : Answered → Answer → Type 0
@@ -84,11 +84,11 @@ IsRightAnswer a answer.Released =
 IsRightAnswer a (answer.NoAffinity moment) =
     (node : List ℕ) × (cidr : CidrValue) × (a.request ≡ Release node cidr) × HasNoAffinity a node cidr moment
 IsRightAnswer a (answer.Collected collected) =
-    (collect : CollectRequest) × (a.request ≡ Collect collect) × IsCollected a collect collected
+    (collect : CollectRequest) × (a.request ≡ Collect collect) × IsCollectedRight a collect collected
 IsRightAnswer a (answer.Done revision) =
-    (admin : Admin) × (a.request ≡ Change admin) × IsDone a admin revision
+    (admin : Admin) × (a.request ≡ Change admin) × IsChangeDone a admin revision
 IsRightAnswer a (answer.Refused number about) =
-    (admin : Admin) × (a.request ≡ Change admin) × IsRefused a admin number about
+    (admin : Admin) × (a.request ≡ Change admin) × IsChangeRefused a admin number about
 IsRightAnswer a (answer.Again lost claims) = IsAgain a lost claims
 IsRightAnswer a answer.Full =
     IsFull a × ((add : AddRequest) → IsAddWith a.request add → HasNothing a)

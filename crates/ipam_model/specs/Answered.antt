@@ -4,7 +4,7 @@ use Rattle.ipam_model.specs.declared.entry.Called.{Called}
 use Rattle.ipam_model.specs.declared.entry.Entry.{Entry}
 use Rattle.ipam_model.specs.declared.entry.Entry.TheVariants as entry
 use Rattle.ipam_model.specs.declared.request.Request.{Request}
-use Rattle.ipam_model.specs.History.{Base, Span, moment_of, since_begin}
+use Rattle.ipam_model.specs.History.{Base, RequestSpan, moment_of, since_begin}
 use Rattle.ipam_model.specs.Tries.{calls_of}
 
 -- the request, its call that answers, and the history before that
@@ -22,7 +22,7 @@ abbrev pub now_of : Answered → ℕ
 now_of a = moment_of a.base a.earlier
 
 -- all that the request did, with the call that answers
-abbrev pub span_of : Answered → Span
+abbrev pub span_of : Answered → RequestSpan
 span_of a = record { base = a.base; history = history_of a; slot = a.call.slot }
 
 -- the request's own calls before the one that answers

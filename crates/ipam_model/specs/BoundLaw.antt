@@ -18,7 +18,7 @@ use Rattle.ipam_model.specs.declared.request.CollectRequest.{CollectRequest}
 use Rattle.ipam_model.specs.declared.request.ProbeRequest.{ProbeRequest}
 use Rattle.ipam_model.specs.declared.request.Request.{Request}
 use Rattle.ipam_model.specs.declared.request.Request.TheVariants.{Add, AddThis, Del, Check, Release, Collect, Admin as Change, Probe}
-use Rattle.ipam_model.specs.Cluster.{Running}
+use Rattle.ipam_model.specs.Cluster.{RunningRequest}
 use Rattle.ipam_model.specs.History.{Base, Lawful, cluster_at, store_at, begins, slot_of_entry}
 use Rattle.ipam_model.specs.Reads.{StoredRecord, handle_said, rows_said}
 use Rattle.ipam_model.specs.Remove.{Leak, suspects, leaks}
@@ -53,7 +53,7 @@ NoneBegins slot later = All (λ new. begins slot new ≡ false) later
 -- comes later is in front, the newest first.
 abbrev pub SpanBoundLaw : Type 0
 SpanBoundLaw =
-    (base : Base) (history later : List Entry) (slot : ℕ) (running : Running) (count : ℕ)
+    (base : Base) (history later : List Entry) (slot : ℕ) (running : RunningRequest) (count : ℕ)
     → Lawful base (later ++ history) → (cluster_at base history).slots slot ≡ Some running
     → AtMost running.word count → NoneBegins slot later
     → length (calls_of slot later) ≤ count

@@ -10,19 +10,19 @@ use Rattle.ipam_model.specs.Moments.{request_in}
 use Rattle.ipam_model.specs.Told.{of_add, of_add_this, of_del, of_check, of_release, of_collect, of_admin, of_probe}
 
 -- an answer that is told so
-abbrev pub IsTold : {A : Type 0} → (A → Answer) → Answer → Type 0
-IsTold {A} of_one told = (one : A) × (told ≡ of_one one)
+abbrev pub IsOneAnswer : {A : Type 0} → (A → Answer) → Answer → Type 0
+IsOneAnswer {A} of_one told = (one : A) × (told ≡ of_one one)
 
 -- one of the answers of the request's own procedure
 abbrev pub IsOwnAnswer : Request → Answer → Type 0
-IsOwnAnswer (Add request) = IsTold of_add
-IsOwnAnswer (AddThis request address) = IsTold of_add_this
-IsOwnAnswer (Del id) = IsTold of_del
-IsOwnAnswer (Check id addresses) = IsTold of_check
-IsOwnAnswer (Release node cidr) = IsTold of_release
-IsOwnAnswer (Collect request) = IsTold of_collect
-IsOwnAnswer (Admin request) = IsTold of_admin
-IsOwnAnswer (Probe request) = IsTold of_probe
+IsOwnAnswer (Add request) = IsOneAnswer of_add
+IsOwnAnswer (AddThis request address) = IsOneAnswer of_add_this
+IsOwnAnswer (Del id) = IsOneAnswer of_del
+IsOwnAnswer (Check id addresses) = IsOneAnswer of_check
+IsOwnAnswer (Release node cidr) = IsOneAnswer of_release
+IsOwnAnswer (Collect request) = IsOneAnswer of_collect
+IsOwnAnswer (Admin request) = IsOneAnswer of_admin
+IsOwnAnswer (Probe request) = IsOneAnswer of_probe
 
 -- one of those, or that a call failed
 abbrev pub CanAnswer : Request → Answer → Type 0

@@ -45,13 +45,13 @@ abbrev pub is_block_at : CidrValue → StoredRecord → Bool
 is_block_at cidr (revision, record_of.Block b) = is_same_cidr b.cidr cidr
 is_block_at cidr _ = false
 
-abbrev pub block_in : StoredRecord → Option (ℕ × block.BlockValue)
-block_in (revision, record_of.Block b) = Some (revision, b)
-block_in _ = None
+abbrev pub block_of_row : StoredRecord → Option (ℕ × block.BlockValue)
+block_of_row (revision, record_of.Block b) = Some (revision, b)
+block_of_row _ = None
 
 abbrev pub block_in_found : Option StoredRecord → Option (ℕ × block.BlockValue)
 block_in_found None = None
-block_in_found (Some row) = block_in row
+block_in_found (Some row) = block_of_row row
 
 -- the block of the slot, with its revision, where there is one
 abbrev pub block_at : Seen → CidrValue → Option (ℕ × block.BlockValue)

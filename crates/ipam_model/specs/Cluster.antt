@@ -25,25 +25,25 @@ use Rattle.ipam_model.specs.Named.{name_of, told_of}
 use Rattle.ipam_model.specs.Requests.{word_of}
 
 -- a request, and what is left of it
-pub record Running : Type 0 where
+pub record RunningRequest : Type 0 where
   pub request : Request
   pub word : Word Answer
 
 -- the datastore, how many entries there were, and what runs in each slot
-pub record Cluster : Type 0 where
+pub record ClusterState : Type 0 where
   pub store : Datastore
   pub entries : ℕ
-  pub slots : ℕ → Option Running
+  pub slots : ℕ → Option RunningRequest
 
 -- whether a request runs in the slot, and whether it waits
-abbrev pub state_of : Option Running → SlotState
+abbrev pub state_of : Option RunningRequest → SlotState
 state_of None = state.Idle
 state_of (Some running) = if waits running.word then state.Waiting else state.Running
 
 abbrev pub Slots : Type 0
-Slots = ℕ → Option Running
+Slots = ℕ → Option RunningRequest
 
-abbrev pub with_slot : ℕ → Option Running → Slots → Slots
+abbrev pub with_slot : ℕ → Option RunningRequest → Slots → Slots
 with_slot slot running slots = λ other. if other == slot then running else slots other
 
 -- ---- the entry of a call
@@ -130,27 +130,27 @@ word_after_reply store moment (Asks label asked next) = next moment (reply_of st
 word_after_reply store moment (Waits next) = Waits next
 
 -- an answer leaves the slot idle
-abbrev pub goes_on : Datastore → (moment : ℕ) → Option Answer → Option Running → Option Running
+abbrev pub goes_on : Datastore → (moment : ℕ) → Option Answer → Option RunningRequest → Option RunningRequest
 goes_on store moment (Some answer) running = None
 goes_on store moment None None = None
 goes_on store moment None (Some running) =
     Some (record running { word = word_after_reply store moment running.word })
 
-abbrev pub fresh_run : Request → Option Running
+abbrev pub fresh_run : Request → Option RunningRequest
 fresh_run request = Some (record { request = request; word = word_of request })
 
-abbrev pub run_after_feed : List (List ℕ) → Option Running → Option Running
+abbrev pub run_after_feed : List (List ℕ) → Option RunningRequest → Option RunningRequest
 run_after_feed live None = None
 run_after_feed live (Some running) = Some (record running { word = after_feed running.word live })
 
-abbrev pub in_slot : (slot : ℕ) → Option Running → Cluster → Cluster
+abbrev pub in_slot : (slot : ℕ) → Option RunningRequest → ClusterState → ClusterState
 in_slot slot running cluster = record {
   store = cluster.store;
   entries = cluster.entries + 1;
   slots = with_slot slot running cluster.slots;
 }
 
-unfoldable pub after : Cluster → Entry → Cluster
+unfoldable pub after : ClusterState → Entry → ClusterState
 after cluster (entry.Began slot request) = in_slot slot (fresh_run request) cluster
 after cluster (entry.Fed slot at live) = in_slot slot (run_after_feed live (cluster.slots slot)) cluster
 after cluster (entry.Stopped slot) = in_slot slot None cluster

@@ -11,7 +11,7 @@ use Rattle.ipam_records.specs.Label.{Credit}
 use Rattle.ipam_records.specs.Sound.{IsDatastore}
 use Rattle.ipam_records.specs.Word.{label_of}
 use Rattle.ipam_model.specs.declared.entry.Entry.{Entry}
-use Rattle.ipam_model.specs.Cluster.{Running, Slots}
+use Rattle.ipam_model.specs.Cluster.{RunningRequest, Slots}
 use Rattle.ipam_model.specs.Course.{slot_count}
 use Rattle.ipam_model.specs.History.{Base, Lawful, cluster_at, store_at}
 use Rattle.ipam_model.specs.Reads.{StoredRecord}
@@ -41,7 +41,7 @@ amount_for id cidr (Some credit) =
     if bytes_eq credit.handle id && is_same_cidr credit.block cidr then credit.amount else 0
 
 -- how far the count is ahead on account of the slot's request
-abbrev pub credit_of_slot : List ℕ → CidrValue → Option Running → ℕ
+abbrev pub credit_of_slot : List ℕ → CidrValue → Option RunningRequest → ℕ
 credit_of_slot id cidr None = 0
 credit_of_slot id cidr (Some running) = amount_for id cidr (label_of running.word).credit
 

@@ -73,21 +73,21 @@ abbrev pub credit_of : List ℕ → CidrValue → ℕ → Credit
 credit_of id cidr amount = record { handle = id; block = cidr; amount = amount }
 
 -- what is freed: the allocations of a block that are picked, which the handle of this id holds
-pub record Freeing : Type 0 where
+pub record FreedOfHandle : Type 0 where
   pub handle : List ℕ
   pub block : CidrValue
   pub picks : Allocation → Bool
 
 -- all that the handle holds
-abbrev pub freeing_all : List ℕ → CidrValue → Freeing
+abbrev pub freeing_all : List ℕ → CidrValue → FreedOfHandle
 freeing_all id cidr = record { handle = id; block = cidr; picks = is_owned id }
 
 -- the ordinal, where it is held with this stamp
-abbrev pub freeing_one : List ℕ → CidrValue → (ordinal stamp : ℕ) → Freeing
+abbrev pub freeing_one : List ℕ → CidrValue → (ordinal stamp : ℕ) → FreedOfHandle
 freeing_one id cidr ordinal stamp = record { handle = id; block = cidr; picks = is_stamped ordinal id stamp }
 
 -- so many are freed: the block is written without them, and the count is lowered
-abbrev pub free_these : Freeing → (again : Part ℕ) → Left → (amount : ℕ) → ℕ × block.BlockValue → Part ℕ
+abbrev pub free_these : FreedOfHandle → (again : Part ℕ) → Left → (amount : ℕ) → ℕ × block.BlockValue → Part ℕ
 free_these what again left zero found = goes left 0
 free_these what again left (suc more) (revision, b) =
     Asks idle (Update (record_of.Block (block_without what.picks (next_block b))) revision)
@@ -95,15 +95,15 @@ free_these what again left (suc more) (revision, b) =
     (λ taken. part_then (lower (credit_of what.handle what.block (suc more)) left) (λ now done. goes now (suc more)))
     again)
 
-abbrev pub free_found : Freeing → (again : Part ℕ) → Left → Option (ℕ × block.BlockValue) → Part ℕ
+abbrev pub free_found : FreedOfHandle → (again : Part ℕ) → Left → Option (ℕ × block.BlockValue) → Part ℕ
 free_found what again left None = goes left 0
 free_found what again left (Some found) =
     free_these what again left (count_by what.picks found.1.allocations) found
 
-abbrev pub free_once : Freeing → (again : Part ℕ) → Left → Part ℕ
+abbrev pub free_once : FreedOfHandle → (again : Part ℕ) → Left → Part ℕ
 free_once what again left =
     Asks idle (Get (key.Block what.block)) (λ moment said. free_found what again left (block_said said))
 
 -- It comes to how many were freed. Where there are none, nothing is written.
-abbrev pub free : Freeing → Left → Part ℕ
+abbrev pub free : FreedOfHandle → Left → Part ℕ
 free what left = with_retries (free_once what) left

@@ -15,50 +15,50 @@ use Rattle.ipam_model.specs.declared.entry.Told.TheVariants as told
 use Rattle.ipam_model.specs.declared.request.Request.{Request}
 use Rattle.ipam_model.specs.CountLaw.{handle_count, held_count, IsCovered}
 use Rattle.ipam_model.specs.Course.{slot_count}
-use Rattle.ipam_model.specs.History.{Base, Lawful, Span, InSpan, cluster_at, seen_at, store_at}
+use Rattle.ipam_model.specs.History.{Base, Lawful, RequestSpan, InSpan, cluster_at, seen_at, store_at}
 use Rattle.ipam_model.specs.Moments.{request_in}
 
 -- the key whose row a call writes
-abbrev pub key_written : CallName → Option Key
-key_written (name.Get key) = None
-key_written (name.List kind) = None
-key_written (name.Create key) = Some key
-key_written (name.Update key revision) = Some key
-key_written (name.Delete key revision) = Some key
+abbrev pub call_key_written : CallName → Option Key
+call_key_written (name.Get key) = None
+call_key_written (name.List kind) = None
+call_key_written (name.Create key) = Some key
+call_key_written (name.Update key revision) = Some key
+call_key_written (name.Delete key revision) = Some key
 
 -- at the moment the span wrote the key's row, or deleted it
-pub record HasWritten (span : Span) (moment : ℕ) (key : Key) : Type 0 where
+pub record HasWritten (span : RequestSpan) (moment : ℕ) (key : Key) : Type 0 where
   pub c : Called
   pub in_span : InSpan span moment (entry.Called c)
-  pub is_of : key_written c.call ≡ Some key
+  pub is_of : call_key_written c.call ≡ Some key
   pub revision : ℕ
   pub is_done : c.reply ≡ told.Done revision
 
 -- it has not done so since the moment
-abbrev pub NotSince : Span → (moment : ℕ) → Key → Type 0
+abbrev pub NotSince : RequestSpan → (moment : ℕ) → Key → Type 0
 NotSince span moment key = (later : ℕ) → moment < later → ¬ (HasWritten span later key)
 
 -- the count as it was before the moment, and after it
-abbrev pub count_before : Span → (moment : ℕ) → List ℕ → CidrValue → ℕ
+abbrev pub count_before : RequestSpan → (moment : ℕ) → List ℕ → CidrValue → ℕ
 count_before span moment id cidr = handle_count (seen_at span moment) id cidr
 
-abbrev pub held_before : Span → (moment : ℕ) → List ℕ → CidrValue → ℕ
+abbrev pub held_before : RequestSpan → (moment : ℕ) → List ℕ → CidrValue → ℕ
 held_before span moment id cidr = held_count (seen_at span moment) id cidr
 
 -- at the moment the span raised the handle's count of the block by one
-pub record HasRaised (span : Span) (moment : ℕ) (id : List ℕ) (cidr : CidrValue) : Type 0 where
+pub record HasRaised (span : RequestSpan) (moment : ℕ) (id : List ℕ) (cidr : CidrValue) : Type 0 where
   pub wrote : HasWritten span moment (key.Handle id)
   pub by_one : count_before span (moment + 1) id cidr ≡ count_before span moment id cidr + 1
 
 -- at the moment the span took so many of the handle's addresses out of the block, and not none
-pub record HasFreed (span : Span) (moment : ℕ) (credit : Credit) : Type 0 where
+pub record HasFreed (span : RequestSpan) (moment : ℕ) (credit : Credit) : Type 0 where
   pub wrote : HasWritten span moment (key.Block credit.block)
   pub some : 0 < credit.amount
   pub so_many : held_before span moment credit.handle credit.block ≡ held_before span (moment + 1) credit.handle credit.block + credit.amount
 
 -- The request that runs has this credit: of one from the write that raised the count to the write of
 -- the block or of the handle, or of what it freed from the write of the block to that of the handle.
-pub data HasCredit (span : Span) : Credit → Type 0 where
+pub data HasCredit (span : RequestSpan) : Credit → Type 0 where
   OfRaised : (id : List ℕ) (cidr : CidrValue) (moment : ℕ) → HasRaised span moment id cidr
       → NotSince span moment (key.Block cidr) → NotSince span moment (key.Handle id)
       → HasCredit span (record { handle = id; block = cidr; amount = 1 })
@@ -66,7 +66,7 @@ pub data HasCredit (span : Span) : Credit → Type 0 where
       → NotSince span moment (key.Handle credit.handle) → HasCredit span credit
 
 -- the request that runs has the credit
-pub record RunsWith (span : Span) (credit : Credit) : Type 0 where
+pub record RunsWith (span : RequestSpan) (credit : Credit) : Type 0 where
   pub request : Request
   pub runs : request_in (cluster_at span.base span.history) span.slot ≡ Some request
   pub has : HasCredit span credit

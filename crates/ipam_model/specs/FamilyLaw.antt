@@ -14,18 +14,18 @@ use Rattle.ipam_model.specs.declared.request.Request.TheVariants.{Add}
 use Rattle.ipam_model.specs.AddLaw.{HasChosen, HasChosenOf, families_of, scan_of}
 use Rattle.ipam_model.specs.AnswerLaw.{IsTarget}
 use Rattle.ipam_model.specs.Answered.{Answered, history_of, span_of}
-use Rattle.ipam_model.specs.History.{Lawful, Span, cluster_at}
+use Rattle.ipam_model.specs.History.{Lawful, RequestSpan, cluster_at}
 use Rattle.ipam_model.specs.Moments.{request_in}
 
 -- the address was chosen in a round for the family, by what the given moments say was read
-pub record IsFromRound (span : Span) (request : AddRequest) (family : Family) (given : Given) : Type 0 where
+pub record IsFromRound (span : RequestSpan) (request : AddRequest) (family : Family) (given : Given) : Type 0 where
   pub cidr : CidrValue
   pub ordinal : ℕ
   pub chosen : HasChosenOf span request (scan_of family given) cidr ordinal
   pub is_address : given.address ≡ ordinal_address cidr ordinal
 
 -- one for each of the families, in their order
-abbrev pub AreFromRounds : Span → AddRequest → List Family → List Given → Type 0
+abbrev pub AreFromRounds : RequestSpan → AddRequest → List Family → List Given → Type 0
 AreFromRounds span request [] [] = Unit {0}
 AreFromRounds span request (family ∷ families) (given ∷ more) =
     IsFromRound span request family given × AreFromRounds span request families more

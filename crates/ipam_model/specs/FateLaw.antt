@@ -5,7 +5,7 @@ use Rattle.ipam_model.specs.declared.entry.Entry.{Entry}
 use Rattle.ipam_model.specs.declared.entry.Entry.TheVariants as entry
 use Rattle.ipam_model.specs.declared.entry.Fate.{Fate}
 use Rattle.ipam_model.specs.declared.entry.Fate.TheVariants.{After, Before}
-use Rattle.ipam_model.specs.Cluster.{Cluster}
+use Rattle.ipam_model.specs.Cluster.{ClusterState}
 use Rattle.ipam_model.specs.History.{Base, Lawful, cluster_at}
 
 -- the slot's call of this name, with this fate
@@ -21,7 +21,7 @@ FateLaw =
     → (other : Called) × IsSameCall c other fate × Lawful base (entry.Called other ∷ history)
 
 -- the same slots run the same
-abbrev pub HasSameSlots : (cluster other : Cluster) → Type 0
+abbrev pub HasSameSlots : (cluster other : ClusterState) → Type 0
 HasSameSlots cluster other = cluster.slots ≡ other.slots
 
 -- A call that failed before may have failed after instead: its request has the same answer, and every

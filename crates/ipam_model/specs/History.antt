@@ -11,7 +11,7 @@ use Rattle.ipam_model.specs.declared.entry.Entry.{Entry}
 use Rattle.ipam_model.specs.declared.entry.Entry.TheVariants as entry
 use Rattle.ipam_model.specs.declared.entry.Fate.TheVariants.{Well}
 use Rattle.ipam_model.specs.declared.request.Request.{Request}
-use Rattle.ipam_model.specs.Cluster.{Cluster, Running, call_entry, after}
+use Rattle.ipam_model.specs.Cluster.{ClusterState, RunningRequest, call_entry, after}
 use Rattle.ipam_model.specs.Named.{name_of}
 use Rattle.ipam_model.specs.Course.{slot_count, most_entries, is_due}
 use Rattle.ipam_model.specs.SoundRequest.{IsSoundRequest}
@@ -21,46 +21,46 @@ pub record Base : Type 0 where
   pub store : Datastore
   pub first : ℕ
 
-abbrev pub start : Base → Cluster
+abbrev pub start : Base → ClusterState
 start base = record { store = base.store; entries = base.first; slots = λ slot. None }
 
-unfoldable pub cluster_at : Base → List Entry → Cluster
+unfoldable pub cluster_at : Base → List Entry → ClusterState
 cluster_at base [] = start base
 cluster_at base (new ∷ history) = after (cluster_at base history) new
 
 -- ---- what may come
 
 -- there may be one more entry in this slot
-pub record HasTurn (cluster : Cluster) (slot : ℕ) : Type 0 where
+pub record HasTurn (cluster : ClusterState) (slot : ℕ) : Type 0 where
   pub slot_exists : slot < slot_count
   pub not_worn : cluster.entries < most_entries
 
-pub record MayBegin (cluster : Cluster) (slot : ℕ) (request : Request) : Type 0 where
+pub record MayBegin (cluster : ClusterState) (slot : ℕ) (request : Request) : Type 0 where
   pub turn : HasTurn cluster slot
   pub idle : cluster.slots slot ≡ None
   pub sound : IsSoundRequest request
 
 -- the collection waits, the grace is over, and the second list has ids of handles
-pub record MayFeed (cluster : Cluster) (slot at : ℕ) (live : List (List ℕ)) : Type 0 where
+pub record MayFeed (cluster : ClusterState) (slot at : ℕ) (live : List (List ℕ)) : Type 0 where
   pub turn : HasTurn cluster slot
-  pub running : Running
+  pub running : RunningRequest
   pub runs : cluster.slots slot ≡ Some running
   pub waiting : IsTrue (waits running.word)
   pub due : IsTrue (is_due running.request at)
   pub sound : All IsHandleId live
 
 -- the entry is that of the call that the slot's word asks for
-pub record MayCall (cluster : Cluster) (c : Called) : Type 0 where
+pub record MayCall (cluster : ClusterState) (c : Called) : Type 0 where
   pub turn : HasTurn cluster c.slot
-  pub running : Running
+  pub running : RunningRequest
   pub runs : cluster.slots c.slot ≡ Some running
   pub is_called : call_entry c.slot c.fate cluster.store cluster.entries running.word ≡ Some c
 
-pub record MayStop (cluster : Cluster) (slot : ℕ) : Type 0 where
+pub record MayStop (cluster : ClusterState) (slot : ℕ) : Type 0 where
   pub slot_exists : slot < slot_count
   pub runs : IsSome (cluster.slots slot)
 
-abbrev pub MayCome : Cluster → Entry → Type 0
+abbrev pub MayCome : ClusterState → Entry → Type 0
 MayCome cluster (entry.Began slot request) = MayBegin cluster slot request
 MayCome cluster (entry.Fed slot at live) = MayFeed cluster slot at live
 MayCome cluster (entry.Called c) = MayCall cluster c
@@ -89,13 +89,13 @@ before base history moment = drop (moment_of base history - moment) history
 abbrev pub store_before : Base → List Entry → ℕ → Datastore
 store_before base history moment = store_at base (before base history moment)
 
-abbrev pub first_of : List Entry → Option Entry
-first_of [] = None
-first_of (new ∷ history) = Some new
+abbrev pub newest_of : List Entry → Option Entry
+newest_of [] = None
+newest_of (new ∷ history) = Some new
 
 -- the entry of a moment
 abbrev pub entry_at : Base → List Entry → ℕ → Option Entry
-entry_at base history moment = first_of (before base history (moment + 1))
+entry_at base history moment = newest_of (before base history (moment + 1))
 
 -- ---- spans
 
@@ -123,40 +123,40 @@ begun_in slot (entry.Called c ∷ history) = begun_in slot history
 begun_in slot (entry.Stopped other ∷ history) = begun_in slot history
 
 -- a slot of a history, of which the laws say what its last request has read and done so far
-pub record Span : Type 0 where
+pub record RequestSpan : Type 0 where
   pub base : Base
   pub history : List Entry
   pub slot : ℕ
 
 -- the same as it was before a moment
-abbrev pub span_before : Span → ℕ → Span
+abbrev pub span_before : RequestSpan → ℕ → RequestSpan
 span_before span moment = record span { history = before span.base span.history moment }
 
 -- the store before a moment of it
-abbrev pub seen_at : Span → ℕ → Datastore
+abbrev pub seen_at : RequestSpan → ℕ → Datastore
 seen_at span moment = store_before span.base span.history moment
 
 -- the store after its history
-abbrev pub seen_now : Span → Datastore
+abbrev pub seen_now : RequestSpan → Datastore
 seen_now span = store_at span.base span.history
 
 -- the moment of the history's next entry
-abbrev pub now : Span → ℕ
+abbrev pub now : RequestSpan → ℕ
 now span = moment_of span.base span.history
 
 -- the moment at which the request began
-abbrev pub begin_moment : Span → ℕ
+abbrev pub begin_moment : RequestSpan → ℕ
 begin_moment span = now span - length (since_begin span.slot span.history)
 
 -- the entry of this moment is one of the slot's since its last request began
-pub record InSpan (span : Span) (moment : ℕ) (there : Entry) : Type 0 where
+pub record InSpan (span : RequestSpan) (moment : ℕ) (there : Entry) : Type 0 where
   pub since : begin_moment span ≤ moment
   pub before_now : moment < now span
   pub is_there : entry_at span.base span.history moment ≡ Some there
   pub own : slot_of_entry there ≡ span.slot
 
 -- a call of the slot's request that was answered this
-pub record HeardCall (span : Span) (moment : ℕ) (asked : Call) (reply : Said) : Type 0 where
+pub record HeardCall (span : RequestSpan) (moment : ℕ) (asked : Call) (reply : Said) : Type 0 where
   pub entry_of_call : Called
   pub in_span : InSpan span moment (entry.Called entry_of_call)
   pub well : entry_of_call.fate ≡ Well

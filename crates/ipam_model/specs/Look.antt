@@ -19,7 +19,7 @@ use Rattle.ipam_model.specs.declared.outcome.CheckAnswer.TheVariants as check
 use Rattle.ipam_model.specs.declared.outcome.ProbeAnswer.{ProbeAnswer}
 use Rattle.ipam_model.specs.declared.outcome.ProbeAnswer.TheVariants as probe
 use Rattle.ipam_model.specs.declared.request.ProbeRequest.{ProbeRequest}
-use Rattle.ipam_model.specs.Add.{five_reads, name_at}
+use Rattle.ipam_model.specs.Add.{five_reads, name_in_place}
 use Rattle.ipam_model.specs.AddThis.{slot_holding}
 use Rattle.ipam_model.specs.Choice.{choice_of}
 use Rattle.ipam_model.specs.Reads.{pools_said, block_said}
@@ -75,7 +75,7 @@ asked_of_probe request V6 = record {
 
 abbrev pub probe_choice : (rest : Word ProbeAnswer) → Asked → Scan → Choice → Word ProbeAnswer
 probe_choice rest asked scan Nothing = Ends (probe.Exhausted scan)
-probe_choice rest asked scan (NoPool place) = Ends (probe.NoPool (name_at asked.names place) scan.p)
+probe_choice rest asked scan (NoPool place) = Ends (probe.NoPool (name_in_place asked.names place) scan.p)
 probe_choice rest asked scan _ = rest
 
 -- each of the families, after what was read for those before

@@ -9,13 +9,13 @@ use Rattle.ipam_records.specs.declared.record.Record.TheVariants as record_of
 use Rattle.ipam_records.specs.Datastore.{Datastore, row_of}
 use Rattle.ipam_model.specs.declared.entry.Entry.{Entry}
 use Rattle.ipam_model.specs.declared.request.Request.{Request}
-use Rattle.ipam_model.specs.Cluster.{Cluster, Running}
-use Rattle.ipam_model.specs.History.{Span, seen_at, InSpan}
+use Rattle.ipam_model.specs.Cluster.{ClusterState, RunningRequest}
+use Rattle.ipam_model.specs.History.{RequestSpan, seen_at, InSpan}
 use Rattle.ipam_model.specs.Owners.{Owner, owner_of, owners}
 
 -- the request that runs in the slot
-abbrev pub request_in : Cluster → ℕ → Option Request
-request_in cluster slot = option_map (λ (running : Running). running.request) (cluster.slots slot)
+abbrev pub request_in : ClusterState → ℕ → Option Request
+request_in cluster slot = option_map (λ (running : RunningRequest). running.request) (cluster.slots slot)
 
 -- the revision of a key's row, where there is one
 abbrev pub revision_of : Datastore → Key → Option ℕ
@@ -53,25 +53,25 @@ pub record Loses (old new : Datastore) (Lost : Owner → Type 0) : Type 0 where
   pub are : (o : Owner) → Owns new o ↔ (Owns old o × ¬ (Lost o))
 
 -- the entry of this moment, one of the slot's since its request began, gave the address to the owner
-pub record GainedAt (span : Span) (moment : ℕ) (owner : Owner) : Type 0 where
+pub record GainedAt (span : RequestSpan) (moment : ℕ) (owner : Owner) : Type 0 where
   pub there : Entry
   pub in_span : InSpan span moment there
   pub gains : Gains (seen_at span moment) (seen_at span (moment + 1)) owner
 
-abbrev pub GainedInSpan : Span → Owner → Type 0
+abbrev pub GainedInSpan : RequestSpan → Owner → Type 0
 GainedInSpan span owner = (moment : ℕ) × GainedAt span moment owner
 
 -- the entry of this moment, one of the slot's since its request began, took it away
-pub record LostAt (span : Span) (moment : ℕ) (owner : Owner) : Type 0 where
+pub record LostAt (span : RequestSpan) (moment : ℕ) (owner : Owner) : Type 0 where
   pub there : Entry
   pub in_span : InSpan span moment there
   pub was : Owns (seen_at span moment) owner
   pub is_not : ¬ (Owns (seen_at span (moment + 1)) owner)
 
-abbrev pub LostInSpan : Span → Owner → Type 0
+abbrev pub LostInSpan : RequestSpan → Owner → Type 0
 LostInSpan span owner = (moment : ℕ) × LostAt span moment owner
 
 -- the second moment is that of the slot's next entry after the first, or of the next entry of all
-pub record IsNext (span : Span) (first second : ℕ) : Type 0 where
+pub record IsNext (span : RequestSpan) (first second : ℕ) : Type 0 where
   pub behind : first < second
   pub nothing_between : (k : ℕ) (there : Entry) → first < k → k < second → ¬ (InSpan span k there)

@@ -57,7 +57,7 @@ owner_in item = record { address = item.address; handle = item.handle; stamp = i
 
 -- the items are exactly the leaks, in their order, each told as freed exactly where the collection
 -- freed it, and no leak owns its address now
-pub record IsCollected (a : Answered) (request : CollectRequest) (collected : Collected) : Type 0 where
+pub record IsCollectedRight (a : Answered) (request : CollectRequest) (collected : Collected) : Type 0 where
   pub went_by : Collecting (span_of a) request
   pub is_first : collected.b1 ≡ went_by.b1
   pub is_second : collected.b2 ≡ went_by.b2
@@ -136,7 +136,7 @@ pub record ReadLast (a : Answered) (request : Admin) (found : Said) : Type 0 whe
   pub then_now : IsNext (span_of a) moment (now_of a)
 
 -- the change of what was read last was written and took the revision
-pub record IsDone (a : Answered) (request : Admin) (revision : ℕ) : Type 0 where
+pub record IsChangeDone (a : Answered) (request : Admin) (revision : ℕ) : Type 0 where
   pub found : Said
   pub last : ReadLast a request found
   pub new : Record
@@ -145,7 +145,7 @@ pub record IsDone (a : Answered) (request : Admin) (revision : ℕ) : Type 0 whe
   pub is_done : a.call.reply ≡ told.Done revision
 
 -- what the call that answers read is refused by the change
-pub record IsRefused (a : Answered) (request : Admin) (number : ℕ) (about : List ℕ) : Type 0 where
+pub record IsChangeRefused (a : Answered) (request : Admin) (number : ℕ) (about : List ℕ) : Type 0 where
   pub found : Said
   pub read : HeardCall (span_of a) (now_of a) (Get (key_changed request)) found
   pub refuses : admin_change request found ≡ Refuses number about

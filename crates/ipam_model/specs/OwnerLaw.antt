@@ -17,7 +17,7 @@ use Rattle.ipam_model.specs.declared.request.CollectRequest.{CollectRequest}
 use Rattle.ipam_model.specs.declared.request.Request.{Request}
 use Rattle.ipam_model.specs.declared.request.Request.TheVariants.{Add, AddThis, Del, Collect}
 use Rattle.ipam_model.specs.Consistent.{IsConsistent}
-use Rattle.ipam_model.specs.History.{Base, Span, cluster_at, store_at, seen_at, seen_now, slot_of_entry, Lawful, InSpan, HeardCall}
+use Rattle.ipam_model.specs.History.{Base, RequestSpan, cluster_at, store_at, seen_at, seen_now, slot_of_entry, Lawful, InSpan, HeardCall}
 use Rattle.ipam_model.specs.Moments.{Has, request_in, Recorded, Owns, Gains, Loses, GainedInSpan}
 use Rattle.ipam_model.specs.Owners.{AreInOrder, Owner, owners}
 use Rattle.ipam_model.specs.Remove.{is_live, is_in_scope}
@@ -40,7 +40,7 @@ OneOwnerLaw =
 
 -- What a collection went by: its two lists of blocks with their moments, and the second list of live
 -- handles, which came between them and late enough.
-pub record Collecting (span : Span) (request : CollectRequest) : Type 0 where
+pub record Collecting (span : RequestSpan) (request : CollectRequest) : Type 0 where
   pub b1 : ℕ
   pub b2 : ℕ
   pub fed_at : ℕ
@@ -56,7 +56,7 @@ pub record Collecting (span : Span) (request : CollectRequest) : Type 0 where
   pub late_enough : request.at + request.grace ≤ time
 
 -- An owner in scope at both moments, whose handle is in neither list of live handles.
-pub record IsLeak (span : Span) (request : CollectRequest) (c : Collecting span request) (owner : Owner) : Type 0 where
+pub record IsLeak (span : RequestSpan) (request : CollectRequest) (c : Collecting span request) (owner : Owner) : Type 0 where
   pub allocation : Allocation
   pub at_first : Recorded (seen_at span c.b1) owner allocation
   pub in_scope : IsTrue (is_in_scope request.scope allocation)
@@ -79,7 +79,7 @@ pub record IsHeldIn (cidr : CidrValue) (id : List ℕ) (owner : Owner) : Type 0 
   pub own : owner.handle ≡ id
 
 -- from the slot's span, with this request, to the store after its next entry
-pub data OwnersChange (span : Span) (request : Request) (later : Datastore) : Type 0 where
+pub data OwnersChange (span : RequestSpan) (request : Request) (later : Datastore) : Type 0 where
   Assigned : (owner : Owner) → MayGain request owner → Gains (seen_now span) later owner → OwnersChange span request later
   Deleted : (id : List ℕ) (b : block.BlockValue) → request ≡ Del id → Has (seen_now span) (key.Block b.cidr) (record_of.Block b)
       → Loses (seen_now span) later (IsHeldIn b.cidr id) → OwnersChange span request later
@@ -90,7 +90,7 @@ pub data OwnersChange (span : Span) (request : Request) (later : Datastore) : Ty
       → Loses (seen_now span) later (λ o. o ≡ owner) → OwnersChange span request later
 
 -- The owners stay as they are, or change in one of these ways by the request that runs.
-abbrev pub OwnersMove : Span → (later : Datastore) → Type 0
+abbrev pub OwnersMove : RequestSpan → (later : Datastore) → Type 0
 OwnersMove span later =
     (owners later ≡ owners (seen_now span))
     ⊎ ((request : Request) × (request_in (cluster_at span.base span.history) span.slot ≡ Some request) × OwnersChange span request later)

@@ -1,9 +1,7 @@
 -- Pairs of texts, as labels of a node or what an address is recorded with: a key and its value.
 use Rattle.std.specs.Prelude.{ℕ, Bool, false, List, Option, bytes_eq, option_map, unwrap_or}
 use Rattle.std.specs.List.{find}
-
-abbrev pub Pair : Type 0
-Pair = List ℕ × List ℕ
+pub use Rattle.ipam_block.specs.Pairs.{Pair}
 
 -- the value of a key, where there is one
 abbrev pub value_of : List ℕ → List Pair → Option (List ℕ)

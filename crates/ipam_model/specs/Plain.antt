@@ -30,14 +30,14 @@ use Rattle.ipam_model.specs.declared.request.CollectRequest.{CollectRequest}
 use Rattle.ipam_model.specs.declared.request.ProbeRequest.{ProbeRequest}
 use Rattle.ipam_model.specs.declared.request.Request.{Request}
 use Rattle.ipam_model.specs.declared.request.Request.TheVariants.{Add, AddThis, Del, Check, Release, Collect, Admin, Probe}
-use Rattle.ipam_model.specs.Add.{asked_of, name_at}
+use Rattle.ipam_model.specs.Add.{asked_of, name_in_place}
 use Rattle.ipam_model.specs.AddThis.{Wanted, asked_of_this, slot_holding}
 use Rattle.ipam_model.specs.Affinities.{affinity}
 use Rattle.ipam_model.specs.Alone.{alone_over}
 use Rattle.ipam_model.specs.Assigning.{names_for}
 use Rattle.ipam_model.specs.Choice.{Seen, choice_of, room_of, by_share, share_of, Rank, Own, Unconfirmed, Unclaimed, Foreign, Pick, Unknown, Lacks as NoneLeft, Picks, pick_of}
 use Rattle.ipam_model.specs.Consistent.{IsConsistent}
-use Rattle.ipam_model.specs.Counting.{most_count, Freeing, freeing_all, freeing_one}
+use Rattle.ipam_model.specs.Counting.{most_count, FreedOfHandle, freeing_all, freeing_one}
 use Rattle.ipam_model.specs.History.{Base}
 use Rattle.ipam_model.specs.Look.{asked_of_probe, holds_at}
 use Rattle.ipam_model.specs.OtherLaws.{owner_in}
@@ -92,18 +92,18 @@ with_claimed node cidr rows =
     put (record_of.Block (claimed_block node cidr (block_in_rows cidr rows)))
     (put (record_of.Affinity (affinity node cidr Confirmed)) rows)
 
-abbrev pub with_these_freed : Freeing → (amount : ℕ) → block.BlockValue → Rows → Rows
+abbrev pub with_these_freed : FreedOfHandle → (amount : ℕ) → block.BlockValue → Rows → Rows
 with_these_freed what zero b rows = rows
 with_these_freed what (suc more) b rows =
     with_lowered what.handle b.cidr (suc more) (put (record_of.Block (block_without what.picks (next_block b))) rows)
 
-abbrev pub with_freed_found : Freeing → Option (ℕ × block.BlockValue) → Rows → Rows
+abbrev pub with_freed_found : FreedOfHandle → Option (ℕ × block.BlockValue) → Rows → Rows
 with_freed_found what None rows = rows
 with_freed_found what (Some found) rows =
     with_these_freed what (count_by what.picks found.1.allocations) found.1 rows
 
 -- what is picked is free, and the handle's count is lower by as many
-abbrev pub with_freed : Freeing → Rows → Rows
+abbrev pub with_freed : FreedOfHandle → Rows → Rows
 with_freed what rows = with_freed_found what (block_in_rows what.block rows) rows
 
 -- ---- answers without moments
@@ -194,16 +194,16 @@ plain_rank request family cidr (Foreign found ordinal) rows = plain_take request
 abbrev pub plain_pick : AddRequest → Family → Pick → Rows → PlainServed
 plain_pick request family (Picks ranked) rows = plain_rank request family ranked.slot ranked.rank rows
 plain_pick request family NoneLeft rows = Unserved (Lacks family) rows
-plain_pick request family (Unknown place) rows = Unserved (KnowsNoPool (name_at (names_for family request) place)) rows
+plain_pick request family (Unknown place) rows = Unserved (KnowsNoPool (name_in_place (names_for family request) place)) rows
 
 abbrev pub plain_family : AddRequest → Family → Rows → PlainServed
 plain_family request family rows =
     plain_pick request family (pick_of (asked_of request family) (seen_in rows)) rows
 
-abbrev pub Result : Type 0
-Result = PlainAnswer × Rows
+abbrev pub PlainResult : Type 0
+PlainResult = PlainAnswer × Rows
 
-abbrev pub freeing_gift : AddRequest → PlainGift → Freeing
+abbrev pub freeing_gift : AddRequest → PlainGift → FreedOfHandle
 freeing_gift request gift = freeing_one request.attributes.handle gift.block gift.ordinal gift.stamp
 
 -- what was given is freed, and what was claimed stays claimed
@@ -212,56 +212,56 @@ with_gifts_freed request [] rows = rows
 with_gifts_freed request (gift ∷ gifts) rows =
     with_gifts_freed request gifts (with_freed (freeing_gift request gift) rows)
 
-abbrev pub plain_after : AddRequest → List PlainGift → (rest : PlainGift → Rows → Result) → PlainServed → Result
+abbrev pub plain_after : AddRequest → List PlainGift → (rest : PlainGift → Rows → PlainResult) → PlainServed → PlainResult
 plain_after request gifts rest (Served gift rows) = rest gift rows
 plain_after request gifts rest (Unserved why rows) = (why, with_gifts_freed request gifts rows)
 
 -- an address of each of the families, after what was given before
-abbrev pub plain_each : AddRequest → List PlainGift → List Family → Rows → Result
+abbrev pub plain_each : AddRequest → List PlainGift → List Family → Rows → PlainResult
 plain_each request gifts [] rows = (Gives (map (λ (gift : PlainGift). gift.address) gifts), rows)
 plain_each request gifts (family ∷ families) rows =
     plain_after request gifts (λ gift later. plain_each request (gifts ++ gift ∷ []) families later)
     (plain_family request family rows)
 
-abbrev pub plain_add : AddRequest → Rows → Result
+abbrev pub plain_add : AddRequest → Rows → PlainResult
 plain_add request rows = plain_each request [] (families_if request.ipv4 request.ipv6) rows
 
 -- ---- ADD of one address
 
-abbrev pub plain_this : Wanted → CidrValue → Option (ℕ × block.BlockValue) → Rows → Result
+abbrev pub plain_this : Wanted → CidrValue → Option (ℕ × block.BlockValue) → Rows → PlainResult
 plain_this wanted cidr None rows = (IsInNoPool, rows)
 plain_this wanted cidr (Some found) rows =
     (Gives (wanted.address ∷ []), with_assigned wanted.request.attributes found.1 (wanted.address.number - cidr.base) rows)
 
-abbrev pub plain_this_claimed : Wanted → CidrValue → Rows → Result
+abbrev pub plain_this_claimed : Wanted → CidrValue → Rows → PlainResult
 plain_this_claimed wanted cidr rows =
     let claimed = with_claimed wanted.request.node cidr rows in
     plain_this wanted cidr (block_in_rows cidr claimed) claimed
 
-abbrev pub plain_this_free : (strict : Bool) → Wanted → CidrValue → ℕ × block.BlockValue → Rows → Result
+abbrev pub plain_this_free : (strict : Bool) → Wanted → CidrValue → ℕ × block.BlockValue → Rows → PlainResult
 plain_this_free strict wanted cidr found rows =
     by_share (share_of strict wanted.request.node found.1)
     (plain_this wanted cidr (Some found) rows)
     (plain_this_claimed wanted cidr rows)
     (IsAnothers cidr, rows)
 
-abbrev pub plain_this_held : (free : Result) → Rows → Option Allocation → Result
+abbrev pub plain_this_held : (free : PlainResult) → Rows → Option Allocation → PlainResult
 plain_this_held free rows None = free
 plain_this_held free rows (Some held) = (IsHeldBy held.attributes.handle, rows)
 
-abbrev pub plain_this_block : (strict : Bool) → Wanted → CidrValue → Option (ℕ × block.BlockValue) → Rows → Result
+abbrev pub plain_this_block : (strict : Bool) → Wanted → CidrValue → Option (ℕ × block.BlockValue) → Rows → PlainResult
 plain_this_block strict wanted cidr None rows = plain_this_claimed wanted cidr rows
 plain_this_block strict wanted cidr (Some found) rows =
     plain_this_held (plain_this_free strict wanted cidr found rows) rows
     (holder found.1 (wanted.address.number - cidr.base))
 
-abbrev pub plain_this_pool : (strict : Bool) → Wanted → Option Pool → Rows → Result
+abbrev pub plain_this_pool : (strict : Bool) → Wanted → Option Pool → Rows → PlainResult
 plain_this_pool strict wanted None rows = (IsInNoPool, rows)
 plain_this_pool strict wanted (Some pool) rows =
     let cidr = slot_holding pool wanted.address in
     plain_this_block strict wanted cidr (block_in_rows cidr rows) rows
 
-abbrev pub plain_add_this : Wanted → Rows → Result
+abbrev pub plain_add_this : Wanted → Rows → PlainResult
 plain_add_this wanted rows =
     let seen = seen_in rows in
     plain_this_pool seen.config.strict wanted
@@ -273,7 +273,7 @@ abbrev pub with_all_freed : List ℕ → List CidrValue → Rows → Rows
 with_all_freed id [] rows = rows
 with_all_freed id (cidr ∷ rest) rows = with_all_freed id rest (with_freed (freeing_all id cidr) rows)
 
-abbrev pub plain_del : List ℕ → Rows → Result
+abbrev pub plain_del : List ℕ → Rows → PlainResult
 plain_del id rows = (Deletes, with_all_freed id (map (λ count. count.0) (handle_of id rows).counts) rows)
 
 abbrev pub with_leaks_freed : List Leak → Rows → Rows
@@ -281,7 +281,7 @@ with_leaks_freed [] rows = rows
 with_leaks_freed (leak ∷ rest) rows =
     with_leaks_freed rest (with_freed (freeing_owner leak.owner leak.block) rows)
 
-abbrev pub plain_collect : CollectRequest → Rows → Result
+abbrev pub plain_collect : CollectRequest → Rows → PlainResult
 plain_collect request rows =
     let found = leaks (suspects request rows) request.live rows in
     (Collects (map (λ (leak : Leak). leak.owner) found), with_leaks_freed found rows)
@@ -302,7 +302,7 @@ plain_check id (address ∷ rest) rows =
 
 abbrev pub plain_probe_next : (rest : PlainAnswer) → Asked → Choice → PlainAnswer
 plain_probe_next rest asked Nothing = Lacks asked.family
-plain_probe_next rest asked (NoPool place) = KnowsNoPool (name_at asked.names place)
+plain_probe_next rest asked (NoPool place) = KnowsNoPool (name_in_place asked.names place)
 plain_probe_next rest asked _ = rest
 
 abbrev pub plain_probe_family : ProbeRequest → Family → (rest : PlainAnswer) → Rows → PlainAnswer
@@ -317,11 +317,11 @@ plain_probe request (family ∷ families) rows =
 -- ---- all of them
 
 -- a collection is fed at once, so it is one without a grace
-abbrev pub plain_collection : CollectRequest → Rows → Option Result
+abbrev pub plain_collection : CollectRequest → Rows → Option PlainResult
 plain_collection request rows = if request.grace == 0 then Some (plain_collect request rows) else None
 
 -- the release of an affinity and administration are only said by their words
-abbrev pub plain : Request → Rows → Option Result
+abbrev pub plain : Request → Rows → Option PlainResult
 plain (Add request) rows = Some (plain_add request rows)
 plain (AddThis request address) rows = Some (plain_add_this (record { request = request; address = address }) rows)
 plain (Del id) rows = Some (plain_del id rows)
@@ -339,10 +339,10 @@ needs (Del id) rows = 2 * length (handle_of id rows).counts
 needs (Collect request) rows = 2 * length (leaks (suspects request rows) request.live rows)
 needs _ rows = 0
 
-abbrev pub handle_in : Request → List ℕ
-handle_in (Add request) = request.attributes.handle
-handle_in (AddThis request address) = request.attributes.handle
-handle_in _ = []
+abbrev pub request_handle : Request → List ℕ
+request_handle (Add request) = request.attributes.handle
+request_handle (AddThis request address) = request.attributes.handle
+request_handle _ = []
 
 -- there are revisions, rows and counts enough
 pub record HasSpare (store : Datastore) (request : Request) : Type 0 where
@@ -350,7 +350,7 @@ pub record HasSpare (store : Datastore) (request : Request) : Type 0 where
   pub for_all_blocks : store.counter + needs request store.rows ≤ last_revision
   pub rows : length store.rows + 5 ≤ most_rows
   pub blocks : length (rows_of_kind kind.Block store) + 2 ≤ most_blocks
-  pub counts : All (λ (entry : CidrValue × ℕ). entry.1 ≢ most_count) (handle_of (handle_in request) store.rows).counts
+  pub counts : All (λ (entry : CidrValue × ℕ). entry.1 ≢ most_count) (handle_of (request_handle request) store.rows).counts
 
 -- a collection needs revisions alone
 abbrev pub HasSpareFor : Datastore → Request → Type 0
@@ -363,7 +363,7 @@ records rows = map (λ row. row.1) rows
 -- A request that runs alone with spare comes to what the records say.
 abbrev pub AloneLaw : Type 0
 AloneLaw =
-    (base : Base) (request : Request) (result : Result)
+    (base : Base) (request : Request) (result : PlainResult)
     → IsConsistent base.store → IsSoundRequest request → HasSpareFor base.store request → plain request base.store.rows ≡ Some result
     → (plain_of (alone_over base request).0 ≡ Some result.0)
     × (records (alone_over base request).1.rows ≡ records result.1)

@@ -18,7 +18,7 @@ use Rattle.ipam_model.specs.declared.outcome.FreeAnswer.TheVariants as one
 use Rattle.ipam_model.specs.declared.outcome.CollectAnswer.{CollectAnswer}
 use Rattle.ipam_model.specs.declared.outcome.CollectAnswer.TheVariants as collect
 use Rattle.ipam_model.specs.declared.request.CollectRequest.{CollectRequest}
-use Rattle.ipam_model.specs.Counting.{Freeing, freeing_all, freeing_one, free}
+use Rattle.ipam_model.specs.Counting.{FreedOfHandle, freeing_all, freeing_one, free}
 use Rattle.ipam_model.specs.Owners.{Owner, owner_of, is_owner_in}
 use Rattle.ipam_model.specs.Reads.{StoredRecord, handle_said, rows_said}
 use Rattle.ipam_model.specs.Pairs.{has_value}
@@ -26,7 +26,7 @@ use Rattle.ipam_model.specs.declared.part.Left.{Left}
 use Rattle.ipam_model.specs.Step.{all_left, Part, StopAnswers, goes, part_then, without_count, as_word}
 
 -- the owner's address in the block, with its stamp
-abbrev pub freeing_owner : Owner → CidrValue → Freeing
+abbrev pub freeing_owner : Owner → CidrValue → FreedOfHandle
 freeing_owner owner cidr = freeing_one owner.handle cidr (owner.address.number - cidr.base) owner.stamp
 
 -- ---- DEL

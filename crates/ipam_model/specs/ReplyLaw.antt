@@ -11,7 +11,7 @@ use Rattle.ipam_model.specs.declared.entry.Entry.TheVariants as entry
 use Rattle.ipam_model.specs.declared.entry.Fate.{Fate}
 use Rattle.ipam_model.specs.declared.entry.Fate.TheVariants.{Well, Before, After}
 use Rattle.ipam_model.specs.declared.entry.Told.TheVariants as told
-use Rattle.ipam_model.specs.Cluster.{Running, record_written, store_with}
+use Rattle.ipam_model.specs.Cluster.{RunningRequest, record_written, store_with}
 use Rattle.ipam_model.specs.CountLaw.{IsCovered}
 use Rattle.ipam_model.specs.Named.{name_of, told_of}
 use Rattle.ipam_model.specs.History.{Base, Lawful, cluster_at, store_at}
@@ -43,7 +43,7 @@ RepliesLaw =
 -- of the handle that there is a credit for finds the credit covered.
 abbrev pub MayHearLaw : Type 0
 MayHearLaw =
-    (base : Base) (history : List Entry) (slot : ℕ) (running : Running) (call : Call)
+    (base : Base) (history : List Entry) (slot : ℕ) (running : RunningRequest) (call : Call)
     → IsDatastore base.store → IsCovered base.store → Lawful base history
     → (cluster_at base history).slots slot ≡ Some running → next_call running.word ≡ Some call
     → MayHear running.word (reply_of (store_at base history) call)

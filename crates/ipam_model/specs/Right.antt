@@ -10,7 +10,7 @@ use Rattle.ipam_model.specs.declared.request.Request.{Request}
 use Rattle.ipam_model.specs.AffinityLaw.{IsAt, PointsAgree, PointsKeep}
 use Rattle.ipam_model.specs.AnswerLaw.{IsAnsweredRight}
 use Rattle.ipam_model.specs.BoundLaw.{CollectSpan, DelSpan, IsCollectSpan, IsDelSpan, NoneBegins, counts_read, kept_to_free, whole_collect, whole_del}
-use Rattle.ipam_model.specs.Cluster.{Running}
+use Rattle.ipam_model.specs.Cluster.{RunningRequest}
 use Rattle.ipam_model.specs.Consistent.{IsConsistent}
 use Rattle.ipam_model.specs.Credits.{AreCreditsCovered}
 use Rattle.ipam_model.specs.History.{Base, Lawful, cluster_at, slot_of_entry, store_at}
@@ -31,7 +31,7 @@ pub record IsRightAt (base : Base) (history : List Entry) : Type 0 where
   pub credits : AreCreditsCovered base history
   pub points : PointsAgree (IsAt base history) base history
   pub kept : PointsKeep (IsAt base history) base history
-  pub labels : (slot : ℕ) (running : Running) → (cluster_at base history).slots slot ≡ Some running
+  pub labels : (slot : ℕ) (running : RunningRequest) → (cluster_at base history).slots slot ≡ Some running
       → IsLabelOf (record { base = base; history = history; slot = slot }) (label_of running.word)
 
 -- ---- what holds of an entry

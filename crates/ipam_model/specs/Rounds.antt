@@ -6,13 +6,13 @@ use Rattle.ipam_records.specs.declared.key.Kind.TheVariants as kind
 use Rattle.ipam_records.specs.Said.{Said}
 use Rattle.ipam_model.specs.declared.answer.Scan.{Scan}
 use Rattle.ipam_model.specs.Choice.{Seen}
-use Rattle.ipam_model.specs.History.{Span, HeardCall}
+use Rattle.ipam_model.specs.History.{RequestSpan, HeardCall}
 use Rattle.ipam_model.specs.Moments.{IsNext}
 use Rattle.ipam_model.specs.Reads.{config_said, pools_said, reservations_said, rows_said}
 
 -- The configuration, the pools and the reservations were read and the affinities and the blocks
 -- listed, at these moments and one after the other, and this was seen.
-pub record HasScanned (span : Span) (scan : Scan) (seen : Seen) : Type 0 where
+pub record HasScanned (span : RequestSpan) (scan : Scan) (seen : Seen) : Type 0 where
   pub config : Said
   pub pools : Said
   pub reservations : Said

@@ -1,7 +1,6 @@
 -- Which requests are sound: those that can be read from some text.
 use Rattle.std.specs.Prelude.{◌≡◌, ℕ, ◌^◌, ◌<◌, ◌≤◌, ◌⊎◌, Bool, ◌||◌, ◌==◌, IsTrue, List, length, map, Option, Some, None, Ok}
 use Rattle.std.specs.List.{All, list_all}
-use Rattle.std.specs.Char.{is_ascii_alphanumeric}
 use Rattle.std.specs.Ordering.{nat_cmp}
 use Rattle.std.specs.Cmp.Lexicographic.{slice_cmp}
 use Rattle.std.specs.List.Sorted.{IsStrictlySortedBy}
@@ -21,15 +20,12 @@ use Rattle.ipam_model.specs.declared.request.ProbeRequest.{ProbeRequest}
 use Rattle.ipam_model.specs.declared.request.Request.{Request}
 use Rattle.ipam_model.specs.declared.request.Request.TheVariants.{Add, AddThis, Del, Check, Release, Collect, Admin as Change, Probe}
 use Rattle.ipam_model.specs.Pairs.{Pair}
-
--- a letter, a digit, `_`, `.`, `-` or `/`
-abbrev pub is_label_byte : ℕ → Bool
-is_label_byte c = is_ascii_alphanumeric c || c == 95 || c == 46 || c == 45 || c == 47
+pub use Rattle.ipam_select.specs.Words.{is_key_byte}
 
 pub record IsLabel (label : Pair) : Type 0 where
   pub key_some : 0 < length label.0
   pub key_small : length label.0 ≤ LABEL_KEY_BYTES_MAX
-  pub key_bytes : IsTrue (list_all is_label_byte label.0)
+  pub key_bytes : IsTrue (list_all is_key_byte label.0)
   pub value_small : length label.1 ≤ LABEL_VALUE_BYTES_MAX
 
 -- at most 64 labels whose keys ascend by their bytes

@@ -45,12 +45,12 @@ abbrev pub is_affinity : Key → Bool
 is_affinity (key.Affinity node cidr) = true
 is_affinity _ = false
 
-abbrev pub is_block : Key → Bool
-is_block (key.Block cidr) = true
-is_block _ = false
+abbrev pub is_block_key : Key → Bool
+is_block_key (key.Block cidr) = true
+is_block_key _ = false
 
 abbrev pub reads_block : CallName → Bool
-reads_block (name.Get asked) = is_block asked
+reads_block (name.Get asked) = is_block_key asked
 reads_block _ = false
 
 abbrev pub reads_affinity : CallName → Bool
@@ -66,9 +66,9 @@ abbrev pub latest_done : List Called → Option ℕ
 latest_done [] = None
 latest_done (c ∷ calls) = done_or c.reply (latest_done calls)
 
-abbrev pub is_at : Option ℕ → Told → Bool
-is_at (Some mark) (told.Found revision) = revision == mark
-is_at _ _ = false
+abbrev pub is_mark_found : Option ℕ → Told → Bool
+is_mark_found (Some mark) (told.Found revision) = revision == mark
+is_mark_found _ _ = false
 
 abbrev pub follows_block_read : List Called → Bool
 follows_block_read [] = false
@@ -77,7 +77,7 @@ follows_block_read (c ∷ calls) = reads_block c.call
 -- a release reads the affinity again after the block, and finds it no more at its mark
 abbrev pub is_mark_lost : Called → List Called → Bool
 is_mark_lost c earlier =
-    reads_affinity c.call && follows_block_read earlier && not (is_at (latest_done earlier) c.reply)
+    reads_affinity c.call && follows_block_read earlier && not (is_mark_found (latest_done earlier) c.reply)
 
 abbrev pub is_release : Request → Bool
 is_release (Release node cidr) = true

@@ -42,8 +42,8 @@ is_cidr_read cidr (Err fault) = false
 abbrev pub is_name_of : Pool → List ℕ → Bool
 is_name_of pool name = bytes_eq pool.name name || is_cidr_read pool.cidr (cidr_reading name)
 
-abbrev pub is_named : Asked → Pool → Bool
-is_named asked pool = list_any (is_name_of pool) asked.names
+abbrev pub is_pool_asked : Asked → Pool → Bool
+is_pool_asked asked pool = list_any (is_name_of pool) asked.names
 
 -- whether the request names no pool of the family
 abbrev pub names_none : Asked → Bool
@@ -66,8 +66,8 @@ is_enabled asked pool = not pool.disabled && is_same_family asked.family pool.ci
 abbrev pub is_usable : Asked → Pool → Bool
 is_usable asked pool =
     is_enabled asked pool && admits pool.selector asked.labels
-    && (names_none asked || is_named asked pool)
-    && (is_automatic pool.mode || is_named asked pool || asked.one_address)
+    && (names_none asked || is_pool_asked asked pool)
+    && (is_automatic pool.mode || is_pool_asked asked pool || asked.one_address)
 
 -- whether some enabled pool of the family has the name
 abbrev pub is_known : Asked → List Pool → List ℕ → Bool

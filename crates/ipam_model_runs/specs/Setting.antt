@@ -29,7 +29,7 @@ use Rattle.ipam_model.specs.declared.entry.Told.TheVariants as told
 use Rattle.ipam_model.specs.declared.request.AddRequest.{AddRequest}
 use Rattle.ipam_model.specs.declared.request.Request.{Request}
 use Rattle.ipam_model.specs.declared.request.Request.TheVariants as request
-use Rattle.ipam_model.specs.Course.{Event, Turn, Refusal, Refused, Course, course, after_all}
+use Rattle.ipam_model.specs.Course.{Event, Turn, EventRefusal, Refused, Course, course, after_all}
 use Rattle.ipam_model.specs.History.{Base, start}
 use Rattle.ipam_model.specs.Reads.{StoredRecord}
 
@@ -261,7 +261,7 @@ abbrev pub goes : Base → List Event → List Entry → Type 0
 goes base events entries = run base events ≡ record { entries = entries; refused = None }
 
 -- the events are these entries, and the last of them is refused so
-abbrev pub stops : Base → List Event → List Entry → Refusal → Type 0
+abbrev pub stops : Base → List Event → List Entry → EventRefusal → Type 0
 stops base events entries refusal = run base events ≡ record {
   entries = entries;
   refused = Some (record { place = length events - 1; why = refusal });

@@ -22,6 +22,7 @@ use Rattle.ipam_model.specs.Reads.{StoredRecord}
 use Rattle.ipam_opening.specs.declared.rule.Rule.{Rule}
 use Rattle.ipam_opening.specs.declared.rule.Rule.TheVariants as rule
 use Rattle.ipam_records.specs.BlockLists.{is_node}
+pub use Rattle.ipam_affinity.specs.State.{is_confirmed}
 
 abbrev pub number_of : Rule → ℕ
 number_of rule.Form = 1
@@ -82,10 +83,6 @@ lacks_affinity rows cidr (Some node) = is_none (found_in (key.Affinity node cidr
 abbrev pub is_block_alone : List StoredRecord → Result Record TextFault → Bool
 is_block_alone rows (Ok (record_of.Block b)) = lacks_affinity rows b.cidr b.node
 is_block_alone rows _ = false
-
-abbrev pub is_confirmed : State → Bool
-is_confirmed Confirmed = true
-is_confirmed _ = false
 
 -- what was found is a block with this node
 abbrev pub is_block_with : List ℕ → Option Record → Bool

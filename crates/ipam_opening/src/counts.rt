@@ -58,7 +58,7 @@ impl Given<'_> {
         let held = held_counts(alloc, block)?;
         let mut first = first;
         for allocation in block.allocations() {
-            let id = &allocation.attributes.handle;
+            let id = &allocation.attributes.get().handle;
             first = self.with_short(alloc, block, id, held_of(&held, id), first)?;
         }
         Ok(first)
@@ -106,7 +106,7 @@ fn held_counts<'a>(alloc: Global, block: &'a Block) -> Result<BTreeMap<&'a str, 
     let mut counts = BTreeMap::new(alloc);
     for allocation in block.allocations() {
         *counts
-            .entry(allocation.attributes.handle.as_str())?
+            .entry(allocation.attributes.get().handle.as_str())?
             .or_insert(0) += 1;
     }
     Ok(counts)

@@ -88,8 +88,8 @@ pub record AskedOutside : Type 0 where
   pub written : Option (List ℕ)
   pub write_faults : ℕ
 
-abbrev pub outside_of : (sent : Option (List ℕ)) (send_faults : ℕ) (coming : Option (List ℕ)) (read_faults : ℕ) (written : Option (List ℕ)) (write_faults : ℕ) → AskedOutside
-outside_of sent send_faults coming read_faults written write_faults = record {
+abbrev pub asked_outside_of : (sent : Option (List ℕ)) (send_faults : ℕ) (coming : Option (List ℕ)) (read_faults : ℕ) (written : Option (List ℕ)) (write_faults : ℕ) → AskedOutside
+asked_outside_of sent send_faults coming read_faults written write_faults = record {
   wire = record { sent = sent; send_faults = send_faults; coming = coming; read_faults = read_faults };
   written = written;
   write_faults = write_faults;

@@ -3,7 +3,7 @@ ghost use Rattle.std.specs.Prelude.{◌≡◌, ◌≤◌, ℕ, List, Ok, Result,
 ghost use Rattle.std.specs.Io.KnownBytes.{IsAtEnd, prepend_known};
 ghost use Rattle.ipam_resources.specs.Printed.{applied_line, fault_line as document_line, numbered_refusal, refused_line};
 ghost use Rattle.ipam_operator.specs.Answers.{answer_of_line};
-ghost use Rattle.ipam_operator.specs.Applying.{ApplyEnds, DocumentEnds, DocumentSays, IsKnown, IsTold, AskedResourcesEnd, TakesMemory, again_line, end_of_refusal, item_end, item_line, line_of_refusal, outside_of};
+ghost use Rattle.ipam_operator.specs.Applying.{ApplyEnds, DocumentEnds, DocumentSays, IsKnown, IsTold, AskedResourcesEnd, TakesMemory, again_line, end_of_refusal, item_end, item_line, line_of_refusal, asked_outside_of};
 ghost use Rattle.ipam_operator.specs.Asking.{Asks, request_line};
 ghost use Rattle.ipam_operator.specs.Telling.{Says};
 ghost use Rattle.ipam_operator.specs.declared.answer.OperatorAnswer.{OperatorAnswer as Found};
@@ -35,9 +35,9 @@ pub fn apply<S: Source, K: Sink, L: Link>(
 ) -> End
     ensures applied { (held : List ℕ) × ApplyEnds
         (S.left source.old) (S.left source.new) (S.read_faults source.old) (S.read_faults source.new)
-        (outside_of (L.written link.old) (L.write_faults link.old) (L.left link.old) (L.read_faults link.old)
+        (asked_outside_of (L.written link.old) (L.write_faults link.old) (L.left link.old) (L.read_faults link.old)
         (K.written sink.old) (K.write_faults sink.old))
-        (outside_of (L.written link.new) (L.write_faults link.new) (prepend_known held (L.left link.new)) (L.read_faults link.new)
+        (asked_outside_of (L.written link.new) (L.write_faults link.new) (prepend_known held (L.left link.new)) (L.read_faults link.new)
         (K.written sink.new) (K.write_faults sink.new)) result }
     ensures read_rest { S.read_rest source.new ≡ S.read_rest source.old }
     ensures write_rest { K.write_rest sink.new ≡ K.write_rest sink.old }
@@ -57,9 +57,9 @@ fn apply_document<K: Sink, L: Link>(
     link: &mut L,
 ) -> End
     ensures ended { (held : List ℕ) × DocumentEnds document.now
-        (outside_of (L.written link.old) (L.write_faults link.old) (L.left link.old) (L.read_faults link.old)
+        (asked_outside_of (L.written link.old) (L.write_faults link.old) (L.left link.old) (L.read_faults link.old)
         (K.written sink.old) (K.write_faults sink.old))
-        (outside_of (L.written link.new) (L.write_faults link.new) (prepend_known held (L.left link.new)) (L.read_faults link.new)
+        (asked_outside_of (L.written link.new) (L.write_faults link.new) (prepend_known held (L.left link.new)) (L.read_faults link.new)
         (K.written sink.new) (K.write_faults sink.new)) result }
     ensures rest { K.write_rest sink.new ≡ K.write_rest sink.old }
 {
@@ -104,9 +104,9 @@ fn apply_all<K: Sink, L: Link>(
     resources: Vec<Resource>,
 ) -> End
     ensures ended { AskedResourcesEnd resources.items
-        (outside_of (L.written link.old) (L.write_faults link.old) (prepend_known lines.old (L.left link.old)) (L.read_faults link.old)
+        (asked_outside_of (L.written link.old) (L.write_faults link.old) (prepend_known lines.old (L.left link.old)) (L.read_faults link.old)
         (K.written sink.old) (K.write_faults sink.old))
-        (outside_of (L.written link.new) (L.write_faults link.new) (prepend_known lines.new (L.left link.new)) (L.read_faults link.new)
+        (asked_outside_of (L.written link.new) (L.write_faults link.new) (prepend_known lines.new (L.left link.new)) (L.read_faults link.new)
         (K.written sink.new) (K.write_faults sink.new)) result }
     ensures rest { K.write_rest sink.new ≡ K.write_rest sink.old }
 {
@@ -128,9 +128,9 @@ fn apply_one<K: Sink, L: Link>(
     resource: Resource,
 ) -> End
     ensures ended { (came : Result Found Fault) × IsTold resource came
-        (outside_of (L.written link.old) (L.write_faults link.old) (prepend_known lines.old (L.left link.old)) (L.read_faults link.old)
+        (asked_outside_of (L.written link.old) (L.write_faults link.old) (prepend_known lines.old (L.left link.old)) (L.read_faults link.old)
         (K.written sink.old) (K.write_faults sink.old))
-        (outside_of (L.written link.new) (L.write_faults link.new) (prepend_known lines.new (L.left link.new)) (L.read_faults link.new)
+        (asked_outside_of (L.written link.new) (L.write_faults link.new) (prepend_known lines.new (L.left link.new)) (L.read_faults link.new)
         (K.written sink.new) (K.write_faults sink.new)) result }
     ensures rest { K.write_rest sink.new ≡ K.write_rest sink.old }
 {

@@ -23,7 +23,7 @@ use Rattle.ipam_parts.specs.declared.lowering.Lowering.{Lowering}
 use Rattle.ipam_parts.specs.declared.lowering.Stage.TheVariants as lower
 use Rattle.ipam_model.specs.Reads.{block_said}
 use Rattle.ipam_parts.specs.declared.freeing.Freed.{Freed}
-use Rattle.ipam_parts.specs.Freeing.{what_of, picked, again, with_amount, freeing_found, freeing_written, amount_in, freeing_at}
+use Rattle.ipam_parts.specs.Freeing.{what_of, picked, freeing_again, with_amount, freeing_found, freeing_written, amount_in, freeing_at}
 use Rattle.ipam_parts.specs.Lowering.{lowering_at, lowering_rest}
 use Rattle.ipam_parts.specs.declared.lowering.Stage.{Stage as LowerStage}
 use Rattle.ipam_parts.specs.Writes.{write_end}
@@ -120,7 +120,7 @@ frees_amount : (id : List ℕ) (cidr : CidrValue) (picks : Picks) (left : Left) 
     → 0 < amount
     → Asks idle (Update (record_of.Block (block_without (picked id picks) (next_block found.1))) found.0)
     (λ moment reply. freeing_written id cidr picks left amount reply)
-    ≡ free_these (what_of id cidr picks) (again id cidr picks left) left amount found
+    ≡ free_these (what_of id cidr picks) (freeing_again id cidr picks left) left amount found
 frees_amount id cidr picks left found zero some = absurd (omega arith)
 frees_amount id cidr picks left (revision, b) (suc more) some = refl
 
@@ -138,11 +138,11 @@ pub frees_some : (id : List ℕ) (cidr : CidrValue) (picks : Picks) (left : Left
 frees_some id cidr picks left revision b f amount is some made at same =
     freed_same f made at same id cidr picks left
     ∙ frees_amount id cidr picks left (revision, b) amount (positive amount some)
-    ∙ ap (λ n. free_these (what_of id cidr picks) (again id cidr picks left) left n (revision, b)) is
+    ∙ ap (λ n. free_these (what_of id cidr picks) (freeing_again id cidr picks left) left n (revision, b)) is
 
 -- and one with nothing is left as it is
 pub frees_none : (id : List ℕ) (cidr : CidrValue) (picks : Picks) (left : Left) (revision : ℕ) (b : BlockValue) (amount : ℕ)
     → amount ≡ count_by (picked id picks) b.allocations → amount ≡ 0
     → Ends (Went left 0) ≡ freeing_found id cidr picks left (Some (revision, b))
 frees_none id cidr picks left revision b amount is none =
-    ap (λ n. free_these (what_of id cidr picks) (again id cidr picks left) left n (revision, b)) (sym none ∙ is)
+    ap (λ n. free_these (what_of id cidr picks) (freeing_again id cidr picks left) left n (revision, b)) (sym none ∙ is)

@@ -12,7 +12,7 @@ use Rattle.ipam_records.specs.Word.{Ends, Asks}
 use Rattle.ipam_model.specs.declared.part.Left.{Left}
 use Rattle.ipam_model.specs.declared.part.Outcome.{Outcome}
 use Rattle.ipam_model.specs.declared.part.Outcome.TheVariants.{Went, Stops}
-use Rattle.ipam_model.specs.Counting.{Freeing as What, free_found, free_once, lower, credit_of}
+use Rattle.ipam_model.specs.Counting.{FreedOfHandle as What, free_found, free_once, lower, credit_of}
 use Rattle.ipam_model.specs.Step.{Part, goes as went, part_then, on_write}
 use Rattle.ipam_parts.specs.Tries.{again_of}
 use Rattle.ipam_parts.specs.Lowering.{lowering_rest, lowering_leaves}
@@ -33,8 +33,8 @@ picked id (Stamped ordinal stamp) = is_stamped ordinal id stamp
 abbrev pub what_of : List ℕ → CidrValue → Picks → What
 what_of id cidr picks = record { handle = id; block = cidr; picks = picked id picks }
 
-abbrev pub again : List ℕ → CidrValue → Picks → Left → Part ℕ
-again id cidr picks left = again_of (free_once (what_of id cidr picks)) left
+abbrev pub freeing_again : List ℕ → CidrValue → Picks → Left → Part ℕ
+freeing_again id cidr picks left = again_of (free_once (what_of id cidr picks)) left
 
 -- what follows the lowering
 abbrev pub with_amount : (amount : ℕ) → Left → Unit {0} → Part ℕ
@@ -45,15 +45,15 @@ abbrev pub freeing_written : List ℕ → CidrValue → Picks → Left → (amou
 freeing_written id cidr picks left amount reply =
     on_write reply left
     (λ taken. part_then (lower (credit_of id cidr amount) left) (with_amount amount))
-    (again id cidr picks left)
+    (freeing_again id cidr picks left)
 
 -- what follows the read
 abbrev pub freeing_found : List ℕ → CidrValue → Picks → Left → Option (ℕ × BlockValue) → Part ℕ
 freeing_found id cidr picks left found =
-    free_found (what_of id cidr picks) (again id cidr picks left) left found
+    free_found (what_of id cidr picks) (freeing_again id cidr picks left) left found
 
 abbrev pub freeing_at : List ℕ → CidrValue → Picks → Left → Stage → Part ℕ
-freeing_at id cidr picks left Reads = free_once (what_of id cidr picks) (again id cidr picks left) left
+freeing_at id cidr picks left Reads = free_once (what_of id cidr picks) (freeing_again id cidr picks left) left
 freeing_at id cidr picks left (Writes freed) =
     Asks idle (Update (record_of.Block freed.block) freed.revision)
     (λ moment reply. freeing_written id cidr picks left freed.amount reply)

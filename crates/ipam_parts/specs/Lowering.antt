@@ -15,15 +15,15 @@ use Rattle.ipam_parts.specs.declared.lowering.Goes.TheVariants as goes
 use Rattle.ipam_parts.specs.declared.lowering.Lowering.{Lowering}
 use Rattle.ipam_parts.specs.declared.lowering.LoweringTurned.{LoweringTurned}
 
-abbrev pub again : List ℕ → CidrValue → (amount : ℕ) → Left → Part (Unit {0})
-again id cidr amount left = again_of (lower_once (credit_of id cidr amount)) left
+abbrev pub lowering_again : List ℕ → CidrValue → (amount : ℕ) → Left → Part (Unit {0})
+lowering_again id cidr amount left = again_of (lower_once (credit_of id cidr amount)) left
 
 -- what follows the write
 abbrev pub lowering_written : List ℕ → CidrValue → (amount : ℕ) → Left → Said → Part (Unit {0})
-lowering_written id cidr amount left reply = on_write reply left (λ revision. went left tt) (again id cidr amount left)
+lowering_written id cidr amount left reply = on_write reply left (λ revision. went left tt) (lowering_again id cidr amount left)
 
 abbrev pub lowering_at : List ℕ → CidrValue → (amount : ℕ) → Left → Stage → Part (Unit {0})
-lowering_at id cidr amount left Reads = lower_once (credit_of id cidr amount) (again id cidr amount left) left
+lowering_at id cidr amount left Reads = lower_once (credit_of id cidr amount) (lowering_again id cidr amount left) left
 lowering_at id cidr amount left (Writes lowered) =
     Asks (owing (credit_of id cidr amount)) (lowering lowered.handle lowered.revision)
     (λ moment reply. lowering_written id cidr amount left reply)

@@ -19,8 +19,8 @@ use Rattle.ipam_parts.specs.declared.raising.Goes.TheVariants as goes
 use Rattle.ipam_parts.specs.declared.raising.Raising.{Raising}
 use Rattle.ipam_parts.specs.declared.raising.RaisingTurned.{RaisingTurned}
 
-abbrev pub again : List ℕ → CidrValue → Left → Part (Unit {0})
-again id cidr left = again_of (raise_once id cidr) left
+abbrev pub raising_again : List ℕ → CidrValue → Left → Part (Unit {0})
+raising_again id cidr left = again_of (raise_once id cidr) left
 
 -- a record is changed at the revision at which it was found, and created where it was missing
 abbrev pub put_at : Option ℕ → Record → Call
@@ -29,10 +29,10 @@ put_at None new = Create new
 
 -- what follows the write
 abbrev pub raising_written : List ℕ → CidrValue → Left → Said → Part (Unit {0})
-raising_written id cidr left reply = on_write reply left (λ revision. went left tt) (again id cidr left)
+raising_written id cidr left reply = on_write reply left (λ revision. went left tt) (raising_again id cidr left)
 
 abbrev pub raising_at : List ℕ → CidrValue → Left → Stage → Part (Unit {0})
-raising_at id cidr left Reads = raise_once id cidr (again id cidr left) left
+raising_at id cidr left Reads = raise_once id cidr (raising_again id cidr left) left
 raising_at id cidr left (Writes raised) =
     Asks idle (put_at raised.revision (record_of.Handle raised.handle))
     (λ moment reply. raising_written id cidr left reply)

@@ -14,8 +14,8 @@ use Rattle.ipam_model.specs.declared.part.Outcome.{Outcome}
 use Rattle.ipam_model.specs.declared.part.Outcome.TheVariants.{Went, Stops}
 use Rattle.ipam_model.specs.declared.request.AddRequest.{AddRequest}
 use Rattle.ipam_model.specs.Add.{add_each, add_stops, add_word, after_family, asked_of, refuse, serve}
-use Rattle.ipam_model.specs.Counting.{Freeing, free, freeing_one, most_count}
-use Rattle.ipam_model.specs.Plain.{Gives, PlainAnswer, PlainGift, PlainServed, Result, Rows, Served, Unserved, freeing_gift, plain_add, plain_after, plain_each, plain_family, plain_of, seen_in, with_freed, with_gifts_freed}
+use Rattle.ipam_model.specs.Counting.{FreedOfHandle, free, freeing_one, most_count}
+use Rattle.ipam_model.specs.Plain.{Gives, PlainAnswer, PlainGift, PlainServed, PlainResult, Rows, Served, Unserved, freeing_gift, plain_add, plain_after, plain_each, plain_family, plain_of, seen_in, with_freed, with_gifts_freed}
 use Rattle.ipam_model.specs.Step.{all_left, part_then, left_of}
 use Rattle.ipam_model.specs.Told.{of_add}
 use Rattle.ipam_model.specs.Usable.{families_if}
@@ -28,7 +28,7 @@ use Rattle.ipam_plain.proofs.Taking.{IsBelow, RoomFor, with_handle}
 use Rattle.ipam_plain.proofs.Writes.{Finishes, IsAs, comes-followed, finishes-settled}
 
 -- answered so, and the store stands for the rows
-pub record IsPlainAdd (result : Result) (then : Datastore) (told : AddAnswer) : Type 0 where
+pub record IsPlainAdd (result : PlainResult) (then : Datastore) (told : AddAnswer) : Type 0 where
   pub says : plain_of (of_add told) ≡ Some result.0
   pub is_as : IsAs then result.1
 
@@ -73,7 +73,7 @@ module _ (request : AddRequest) where
       let stamps = own.stamp in
       let what : freeing_one id g.block (g.given.address.number - g.block.base) g.stamp ≡ freeing_gift request p = λ i. freeing_one id (blocks i) (ordinals i) (stamps i) in
       let Q : Datastore → AddAnswer → Type 0 = IsPlainAdd (why, with_gifts_freed request ps (with_freed (freeing_gift request p) rows)) in
-      subst (λ (f : Freeing). Runs [] (Finishes Q) store moment (part_then (free f left) (λ now amount. refuse request gs told now))) (sym what)
+      subst (λ (f : FreedOfHandle). Runs [] (Finishes Q) store moment (part_then (free f left) (λ now amount. refuse request gs told now))) (sym what)
       (comes-followed [] left (λ then (many : ℕ). Became (with_freed (freeing_gift request p) rows) (store.counter + 2) then) (Finishes Q) (λ now amount. refuse request gs told now) (free (freeing_gift request p) left) store moment
       (free-comes [] (freeing_gift request p) left store moment rows is (omega arith))
       (λ then later many b. let most = b.taken in refuse-comes gs ps told why left then later (with_freed (freeing_gift request p) rows) h.1 says b.is_as (omega arith)))
@@ -94,7 +94,7 @@ module _ (request : AddRequest) where
   module _ (family : Family) (keeps : Keeps) (families : List Family) (gifts : List Gift) (plains : List PlainGift) (are : AreGifts gifts plains) (left : Left) (base : Datastore)
       (on : (plain : PlainGift) (gift : Gift) (now : Left) (then : Datastore) (later : ℕ) (after : Rows) → IsServed request family keeps base left plain after then now gift
       → Runs [] (Finishes (IsPlainAdd (plain_each request (plains ++ plain ∷ []) families after))) then later (add_each request (gifts ++ gift ∷ []) families now)) where
-    abbrev rest : PlainGift → Rows → Result
+    abbrev rest : PlainGift → Rows → PlainResult
     rest = λ gift later. plain_each request (plains ++ gift ∷ []) families later
 
     ends : base.counter + 2 * length gifts ≤ last_revision → (s : PlainServed) (then : Datastore) (later : ℕ) (outcome : Outcome Rounds) → Serves request family keeps s base left then outcome

@@ -20,13 +20,13 @@ use Rattle.ipam_model.specs.declared.part.Left.{Left}
 use Rattle.ipam_model.specs.declared.part.Stop.TheVariants.{OutOfTries}
 use Rattle.ipam_model.specs.declared.outcome.AddThisAnswer.TheVariants as add
 use Rattle.ipam_model.specs.declared.request.AddRequest.{AddRequest}
-use Rattle.ipam_model.specs.AddThis.{Looked, NextRound, Rules, Wanted, add_this_stops, add_this_word, asked_of_this, slot_holding, this_assigned, this_block, this_claim, this_free, this_held, this_in_pool, this_round, this_take}
+use Rattle.ipam_model.specs.AddThis.{LookedAtBlock, NextThisRound, RulesRead, Wanted, add_this_stops, add_this_word, asked_of_this, slot_holding, this_assigned, this_block, this_claim, this_free, this_held, this_in_pool, this_round, this_take}
 use Rattle.ipam_model.specs.Affinities.{BlockRead}
 use Rattle.ipam_model.specs.AffinityLaw.{HasAt}
 use Rattle.ipam_model.specs.Assigning.{assign, claim_for, target_in}
 use Rattle.ipam_model.specs.Choice.{Claims, Leaves, Share, Takes, by_share, share_of}
 use Rattle.ipam_model.specs.Counting.{most_count}
-use Rattle.ipam_model.specs.Plain.{Gives, IsAnothers, Result, Rows, block_in_rows, found_in, handle_of, plain_add_this, plain_of, plain_this, plain_this_block, plain_this_claimed, plain_this_free, plain_this_held, plain_this_pool, with_assigned, with_claimed}
+use Rattle.ipam_model.specs.Plain.{Gives, IsAnothers, PlainResult, Rows, block_in_rows, found_in, handle_of, plain_add_this, plain_of, plain_this, plain_this_block, plain_this_claimed, plain_this_free, plain_this_held, plain_this_pool, with_assigned, with_claimed}
 use Rattle.ipam_model.specs.Reads.{block_said, config_said, pools_said}
 use Rattle.ipam_model.specs.Step.{all_left, part_then, goes, left_of, rounds, stops}
 use Rattle.ipam_model.specs.Told.{of_add_this}
@@ -43,7 +43,7 @@ use Rattle.ipam_plain.proofs.Writes.{Finishes, IsAs, comes-followed, finishes-se
 use Rattle.ipam_records.specs.BlockLists.{is_node}
 
 -- answered so, and the store stands for the rows
-pub record IsPlainThis (result : Result) (then : Datastore) (told : AddThisAnswer) : Type 0 where
+pub record IsPlainThis (result : PlainResult) (then : Datastore) (told : AddThisAnswer) : Type 0 where
   pub says : plain_of (of_add_this told) ≡ Some result.0
   pub is_as : IsAs then result.1
 
@@ -61,10 +61,10 @@ module _ (request : AddRequest) (address : AddrValue) where
   AllBelow store = (c : CidrValue) → IsBelow store id c
 
   -- the address was given in the block
-  abbrev gives : CidrValue → BlockValue → Rows → Result
+  abbrev gives : CidrValue → BlockValue → Rows → PlainResult
   gives cidr b rows = (Gives (address ∷ []), with_assigned request.attributes b (address.number - cidr.base) rows)
 
-  take-comes : (looked : Looked) (next : NextRound) (left : Left) (found : ℕ × BlockValue) (store : Datastore) (moment : ℕ) (rows : Rows) → IsAsRead store looked.cidr (Some found) → IsAs store rows → AllBelow store → Enough 2 1 0 store
+  take-comes : (looked : LookedAtBlock) (next : NextThisRound) (left : Left) (found : ℕ × BlockValue) (store : Datastore) (moment : ℕ) (rows : Rows) → IsAsRead store looked.cidr (Some found) → IsAs store rows → AllBelow store → Enough 2 1 0 store
       → Runs [] (Finishes (IsPlainThis (gives looked.cidr found.1 rows))) store moment (this_take wanted next left looked found)
   take-comes looked next left found store moment rows as_read is below enough =
       let ordinal = address.number - looked.cidr.base in
@@ -86,12 +86,12 @@ module _ (request : AddRequest) (address : AddrValue) where
     own : is_node request.node b.node ≡ true
     none : holder b (address.number - cidr.base) ≡ None
 
-  settled-pool : (pool : Pool) (b : BlockValue) (rules : Rules) (next : NextRound) (left : Left) (store : Datastore) (moment : ℕ) (rows : Rows) → IsOwnFree store (slot_holding pool address) b → IsAs store rows → AllBelow store → Enough 2 1 0 store
+  settled-pool : (pool : Pool) (b : BlockValue) (rules : RulesRead) (next : NextThisRound) (left : Left) (store : Datastore) (moment : ℕ) (rows : Rows) → IsOwnFree store (slot_holding pool address) b → IsAs store rows → AllBelow store → Enough 2 1 0 store
       → Runs [] (Finishes (IsPlainThis (gives (slot_holding pool address) b rows))) store moment (this_in_pool wanted next left rules (Some pool))
   settled-pool pool b rules next left store moment rows own is below enough =
       let cidr = slot_holding pool address in
       let Q = IsPlainThis (gives cidr b rows) in
-      let looked : Looked = record { rules = rules; cidr = cidr; b = moment } in
+      let looked : LookedAtBlock = record { rules = rules; cidr = cidr; b = moment } in
       let found : ℕ × BlockValue = (own.revision, b) in
       runs-get [] (Finishes Q) store moment idle (key.Block cidr) (λ at said. this_block wanted next left (record { rules = rules; cidr = cidr; b = at }) (block_said said))
       (λ good.
@@ -101,7 +101,7 @@ module _ (request : AddRequest) (address : AddrValue) where
       let held = subst (λ (o : Option Allocation). Runs [] (Finishes Q) store (moment + 1) (this_held (this_free wanted next left looked found) left looked o)) (sym own.none) free in
       subst (λ (said : Said). Runs [] (Finishes Q) store (moment + 1) (this_block wanted next left looked (block_said said))) (sym (ap reply_to_get own.there)) held)
 
-  settled-round : (pool : Pool) (b : BlockValue) (next : NextRound) (left : Left) (store : Datastore) (moment : ℕ) (rows : Rows) → pool_in store.rows ≡ Some pool → IsOwnFree store (slot_holding pool address) b → IsAs store rows → AllBelow store → Enough 2 1 0 store
+  settled-round : (pool : Pool) (b : BlockValue) (next : NextThisRound) (left : Left) (store : Datastore) (moment : ℕ) (rows : Rows) → pool_in store.rows ≡ Some pool → IsOwnFree store (slot_holding pool address) b → IsAs store rows → AllBelow store → Enough 2 1 0 store
       → Runs [] (Finishes (IsPlainThis (gives (slot_holding pool address) b rows))) store moment (this_round wanted next left)
   settled-round pool b next left store moment rows in_pool own is below enough =
       let config = reply_of store (Get key.Config) in
@@ -130,7 +130,7 @@ module _ (request : AddRequest) (address : AddrValue) where
   plain-gives cidr None b rows e = absurd (cc e)
   plain-gives cidr (Some found) b rows e = let same : found.1 ≡ b = cc e in ap (λ (x : BlockValue). gives cidr x rows) same
 
-  module _ (next : NextRound) (races claims : ℕ) (store : Datastore) (is : IsAs store store.rows) (below : AllBelow store) (enough : Enough 5 3 1 store)
+  module _ (next : NextThisRound) (races claims : ℕ) (store : Datastore) (is : IsAs store store.rows) (below : AllBelow store) (enough : Enough 5 3 1 store)
       (on : (pool : Pool) (b : BlockValue) (then : Datastore) (later : ℕ) (rows : Rows) → pool_in then.rows ≡ Some pool → IsOwnFree then (slot_holding pool address) b → IsAs then rows → AllBelow then → Enough 2 1 0 then
       → Runs [] (Finishes (IsPlainThis (gives (slot_holding pool address) b rows))) then later (next (left_of races claims))) where
     abbrev left : Left
@@ -152,11 +152,11 @@ module _ (request : AddRequest) (address : AddrValue) where
         let handles : handle_of id then.rows ≡ handle_of id store.rows = same-handle id then.rows store.rows (h.is_in.others (key.Handle id) (λ e. cc e) (λ e. cc e)) in
         let pools : pool_in then.rows ≡ pool_in store.rows = ap (λ (l : List Pool). usable_pool_of (asked_of_this request address) address l) (same-pools then.rows store.rows (h.is_in.others key.Pools (λ e. cc e) (λ e. cc e))) in
         let shown : value_in (block_in_rows cidr after) ≡ Some b = block_of-record cidr after ∙ ap block_from (sym (is_then.alike (key.Block cidr)) ∙ h.is_in.has_block) in
-        subst (λ (r : Result). Runs [] (Finishes (IsPlainThis r)) then later (next (left_of races claims))) (sym (plain-gives cidr (block_in_rows cidr after) b after shown))
+        subst (λ (r : PlainResult). Runs [] (Finishes (IsPlainThis r)) then later (next (left_of races claims))) (sym (plain-gives cidr (block_in_rows cidr after) b after shown))
         (on pool b then later after (pools ∙ in_pool) (record { revision = revision; there = there; is_of = own; own = own-node cidr read; none = none }) is_then
         (λ c. subst (λ (g : HandleValue). count_of g c < most_count) (sym handles) (below c)) h.enough)
 
-    claim-comes : (looked : Looked) (pool : Pool) (moment : ℕ) → pool_in store.rows ≡ Some pool → looked.cidr ≡ slot_holding pool address → IsAsRead store (slot_holding pool address) (block_in_rows (slot_holding pool address) store.rows)
+    claim-comes : (looked : LookedAtBlock) (pool : Pool) (moment : ℕ) → pool_in store.rows ≡ Some pool → looked.cidr ≡ slot_holding pool address → IsAsRead store (slot_holding pool address) (block_in_rows (slot_holding pool address) store.rows)
         → holder (taken request.node (slot_holding pool address) (block_in_rows (slot_holding pool address) store.rows)) (address.number - (slot_holding pool address).base) ≡ None
         → Runs [] (Finishes (IsPlainThis (plain_this_claimed wanted (slot_holding pool address) store.rows))) store moment (this_claim wanted next left looked (block_in_rows (slot_holding pool address) store.rows))
     claim-comes looked pool moment in_pool slot as_read none =
@@ -169,7 +169,7 @@ module _ (request : AddRequest) (address : AddrValue) where
         (λ then later done h. behind-claim pool then later in_pool as_read none h))
 
     -- what the first round has looked at
-    abbrev looks : Pool → (c p b : ℕ) → Looked
+    abbrev looks : Pool → (c p b : ℕ) → LookedAtBlock
     looks pool c p b = record { rules = record { config = config_said (found_in key.Config store.rows); c = c; p = p }; cidr = slot_holding pool address; b = b }
 
     abbrev strict : Bool

@@ -27,7 +27,7 @@ use Rattle.ipam_records.proofs.DatastoreLemmas.{row_key-row_of}
 use Rattle.ipam_records.proofs.RowKinds.{each-kind}
 use Rattle.ipam_model.specs.Affinities.{BlockRead}
 use Rattle.ipam_model.specs.CountLaw.{count_in_row, handle_count, held_count, held_in_row}
-use Rattle.ipam_model.specs.Counting.{Freeing}
+use Rattle.ipam_model.specs.Counting.{FreedOfHandle}
 use Rattle.ipam_model.specs.Plain.{Rows, block_in_rows, claimed_block, handle_of, kept_or_gone, put, with_assigned, with_freed, with_freed_found, with_these_freed}
 use Rattle.ipam_laws.proofs.Calls.{found-handle}
 use Rattle.ipam_model.specs.Usable.{is_same_cidr}
@@ -245,7 +245,7 @@ module _ (node : List ℕ) (slot : CidrValue) (rows then : Rows) (h : IsClaimedI
 
 -- ---- freeing
 
-module _ (what : Freeing) (own : (a : Allocation) → what.picks a ≡ true → is_owned what.handle a ≡ true) (rows : Rows) (sound : AreSoundCounts rows) where
+module _ (what : FreedOfHandle) (own : (a : Allocation) → what.picks a ≡ true → is_owned what.handle a ≡ true) (rows : Rows) (sound : AreSoundCounts rows) where
   -- so many of a block
   module _ (b : BlockValue) (there : record_at (key.Block b.cidr) rows ≡ Some (record_of.Block b)) (amount : ℕ) (picked : count_by what.picks b.allocations ≡ amount) where
     abbrev left : BlockValue

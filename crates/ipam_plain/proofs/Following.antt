@@ -33,7 +33,7 @@ use Rattle.ipam_model.specs.Choice.{Claims, Lacks as NoneLeft, Leaves, Pick, Pic
 use Rattle.ipam_model.specs.Consistent.{IsConsistent}
 use Rattle.ipam_model.specs.Counting.{freeing_all}
 use Rattle.ipam_model.specs.CountLaw.{handle_count, held_count}
-use Rattle.ipam_model.specs.Plain.{IsAnothers, PlainGift, PlainServed, Result, Rows, block_in_rows, claimed_block, freeing_gift, handle_of, plain, plain_add_this, plain_after, plain_check, plain_collect, plain_del, plain_each, plain_pick, plain_probe, plain_this, plain_this_block, plain_this_claimed, plain_this_free, plain_this_held, plain_this_pool, records, seen_in, with_all_freed, with_claimed, with_freed, with_gifts_freed, with_leaks_freed}
+use Rattle.ipam_model.specs.Plain.{IsAnothers, PlainGift, PlainServed, PlainResult, Rows, block_in_rows, claimed_block, freeing_gift, handle_of, plain, plain_add_this, plain_after, plain_check, plain_collect, plain_del, plain_each, plain_pick, plain_probe, plain_this, plain_this_block, plain_this_claimed, plain_this_free, plain_this_held, plain_this_pool, records, seen_in, with_all_freed, with_claimed, with_freed, with_gifts_freed, with_leaks_freed}
 use Rattle.ipam_model.specs.Reads.{StoredRecord, handle_said}
 use Rattle.ipam_model.specs.Remove.{Leak, freeing_owner, leaks, suspects}
 use Rattle.ipam_model.specs.Usable.{families_if, usable_pool_of}
@@ -183,19 +183,19 @@ module _ (request : AddRequest) (address : AddrValue) (rows : Rows) (sound : Are
 
 -- ---- all of them
 
-plain-follows : (request : Request) (rows : Rows) (result : Result) → IsSorted rows → AreSoundCounts rows → plain request rows ≡ Some result → Follows rows result.1
+plain-follows : (request : Request) (rows : Rows) (result : PlainResult) → IsSorted rows → AreSoundCounts rows → plain request rows ≡ Some result → Follows rows result.1
 plain-follows (Add request) rows result sorted sound is =
     let same : plain_each request [] (families_if request.ipv4 request.ipv6) rows ≡ result = cc is in
-    subst (λ (r : Result). Follows rows r.1) same (each-follows request (families_if request.ipv4 request.ipv6) [] rows sorted sound)
+    subst (λ (r : PlainResult). Follows rows r.1) same (each-follows request (families_if request.ipv4 request.ipv6) [] rows sorted sound)
 plain-follows (AddThis request address) rows result sorted sound is =
     let same : plain_add_this (record { request = request; address = address }) rows ≡ result = cc is in
-    subst (λ (r : Result). Follows rows r.1) same (this-follows request address rows sound (seen_in rows).config.strict (usable_pool_of (asked_of_this request address) address (seen_in rows).pools))
+    subst (λ (r : PlainResult). Follows rows r.1) same (this-follows request address rows sound (seen_in rows).config.strict (usable_pool_of (asked_of_this request address) address (seen_in rows).pools))
 plain-follows (Del id) rows result sorted sound is =
     let same : plain_del id rows ≡ result = cc is in
-    subst (λ (r : Result). Follows rows r.1) same (all-follow id (map (λ (count : CidrValue × ℕ). count.0) (handle_of id rows).counts) rows sound)
+    subst (λ (r : PlainResult). Follows rows r.1) same (all-follow id (map (λ (count : CidrValue × ℕ). count.0) (handle_of id rows).counts) rows sound)
 plain-follows (Check id addresses) rows result sorted sound is =
     let same : (plain_check id addresses rows, rows) ≡ result = cc is in
-    subst (λ (r : Result). Follows rows r.1) same (follows-itself rows sound)
+    subst (λ (r : PlainResult). Follows rows r.1) same (follows-itself rows sound)
 plain-follows (Release node cidr) rows result sorted sound is = absurd (cc is)
 plain-follows (Collect request) rows result sorted sound is = by (request.grace == 0) is
   where
@@ -203,11 +203,11 @@ plain-follows (Collect request) rows result sorted sound is = by (request.grace 
     by false e = absurd (cc e)
     by true e =
         let same : plain_collect request rows ≡ result = cc e in
-        subst (λ (r : Result). Follows rows r.1) same (leaks-follow (leaks (suspects request rows) request.live rows) rows sound)
+        subst (λ (r : PlainResult). Follows rows r.1) same (leaks-follow (leaks (suspects request rows) request.live rows) rows sound)
 plain-follows (Admin change) rows result sorted sound is = absurd (cc is)
 plain-follows (Probe request) rows result sorted sound is =
     let same : (plain_probe request (families_if request.ipv4 request.ipv6) rows, rows) ≡ result = cc is in
-    subst (λ (r : Result). Follows rows r.1) same (follows-itself rows sound)
+    subst (λ (r : PlainResult). Follows rows r.1) same (follows-itself rows sound)
 
 pub counts_follow : CountsFollowLaw
 counts_follow base request result consistent sound spare is id cidr =

@@ -17,7 +17,7 @@ use Rattle.ipam_records.specs.Word.{Asks}
 use Rattle.ipam_model.specs.declared.part.Left.{Left}
 use Rattle.ipam_model.specs.declared.part.Stop.TheVariants.{OutOfTries, NoRoom, NoRevisions}
 use Rattle.ipam_model.specs.AffinityLaw.{HasAt}
-use Rattle.ipam_model.specs.Counting.{Freeing, credit_of, free, free_found, free_once, free_these, lower, lower_once, lower_write, written_or_deleted}
+use Rattle.ipam_model.specs.Counting.{FreedOfHandle, credit_of, free, free_found, free_once, free_these, lower, lower_once, lower_write, written_or_deleted}
 use Rattle.ipam_model.specs.Plain.{Rows, block_in_rows, handle_of, kept_or_gone, put, with_freed, with_freed_found, with_lowered, with_these_freed}
 use Rattle.ipam_model.specs.Reads.{block_said, handle_said}
 use Rattle.ipam_model.specs.Step.{Part, part_then, goes, left_of, on_write, stops, tries}
@@ -29,7 +29,7 @@ use Rattle.ipam_plain.proofs.Writes.{Comes, IsAs, as-cut, as-put, comes-followed
 
 -- ---- what is freed of a block, by what the block is
 
-pub freed-same : (what : Freeing) (one other : Option (ℕ × BlockValue)) (rows : Rows) → value_in one ≡ value_in other → with_freed_found what one rows ≡ with_freed_found what other rows
+pub freed-same : (what : FreedOfHandle) (one other : Option (ℕ × BlockValue)) (rows : Rows) → value_in one ≡ value_in other → with_freed_found what one rows ≡ with_freed_found what other rows
 freed-same what None None rows e = refl
 freed-same what None (Some found) rows e = absurd (cc e)
 freed-same what (Some found) None rows e = absurd (cc e)
@@ -85,7 +85,7 @@ module _ (live : List (List ℕ)) where
 
   -- ---- freeing
 
-  free-these : (what : Freeing) (again : Part ℕ) (left : Left) (store : Datastore) (moment : ℕ) (rows : Rows) (amount : ℕ) (found : ℕ × BlockValue) → HasAt store (key.Block found.1.cidr) found.0 (record_of.Block found.1) → found.1.cidr ≡ what.block
+  free-these : (what : FreedOfHandle) (again : Part ℕ) (left : Left) (store : Datastore) (moment : ℕ) (rows : Rows) (amount : ℕ) (found : ℕ × BlockValue) → HasAt store (key.Block found.1.cidr) found.0 (record_of.Block found.1) → found.1.cidr ≡ what.block
       → IsAs store rows → store.counter + 2 ≤ last_revision
       → Runs live (Comes left (λ then (many : ℕ). Became (with_these_freed what amount found.1 rows) (store.counter + 2) then)) store moment (free_these what again left amount found)
   free-these what again left store moment rows zero found there same is spare = (refl, record { is_as = is; taken = omega arith })
@@ -100,7 +100,7 @@ module _ (live : List (List ℕ)) where
       let most = b.taken in
       (refl, subst (λ (c : CidrValue). Became (with_lowered what.handle c (suc more) (put new rows)) (store.counter + 2) then) (sym same) (record { is_as = b.is_as; taken = omega arith }))))
 
-  free-once : (what : Freeing) (again : Part ℕ) (left : Left) (store : Datastore) (moment : ℕ) (rows : Rows) → IsAs store rows → store.counter + 2 ≤ last_revision
+  free-once : (what : FreedOfHandle) (again : Part ℕ) (left : Left) (store : Datastore) (moment : ℕ) (rows : Rows) → IsAs store rows → store.counter + 2 ≤ last_revision
       → Runs live (Comes left (λ then (many : ℕ). Became (with_freed what rows) (store.counter + 2) then)) store moment (free_once what again left)
   free-once what again left store moment rows is spare =
       runs-get live (Comes left (λ then (many : ℕ). Became (with_freed what rows) (store.counter + 2) then)) store moment idle (key.Block what.block) (λ at said. free_found what again left (block_said said))
@@ -117,12 +117,12 @@ module _ (live : List (List ℕ)) where
           subst (λ (x : Record). Runs live (Comes left (λ then (many : ℕ). Became (with_freed_found what (block_said (Found row.0 x)) rows) (store.counter + 2) then)) store (moment + 1) (free_found what again left (block_said (Found row.0 x)))) (sym at)
           (free-these what again left store (moment + 1) rows (count_by what.picks b.allocations) (row.0, b) there same is spare)
 
-  free-tries : (what : Freeing) (races claims : ℕ) (store : Datastore) (moment : ℕ) (rows : Rows) → IsAs store rows → store.counter + 2 ≤ last_revision
+  free-tries : (what : FreedOfHandle) (races claims : ℕ) (store : Datastore) (moment : ℕ) (rows : Rows) → IsAs store rows → store.counter + 2 ≤ last_revision
       → Runs live (Comes (left_of races claims) (λ then (many : ℕ). Became (with_freed what rows) (store.counter + 2) then)) store moment (tries (free_once what) races claims)
   unfolding tries
   free-tries what zero claims store moment rows is spare = free-once what (stops (left_of zero claims) OutOfTries) (left_of zero claims) store moment rows is spare
   free-tries what (suc races) claims store moment rows is spare = free-once what (tries (free_once what) races claims) (left_of (suc races) claims) store moment rows is spare
 
-  pub free-comes : (what : Freeing) (left : Left) (store : Datastore) (moment : ℕ) (rows : Rows) → IsAs store rows → store.counter + 2 ≤ last_revision
+  pub free-comes : (what : FreedOfHandle) (left : Left) (store : Datastore) (moment : ℕ) (rows : Rows) → IsAs store rows → store.counter + 2 ≤ last_revision
       → Runs live (Comes left (λ then (many : ℕ). Became (with_freed what rows) (store.counter + 2) then)) store moment (free what left)
   free-comes what left store moment rows is spare = free-tries what left.races left.claims store moment rows is spare

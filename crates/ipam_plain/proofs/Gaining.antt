@@ -22,7 +22,7 @@ use Rattle.ipam_model.specs.Alone.{alone_over}
 use Rattle.ipam_model.specs.Choice.{Lacks as NoneLeft, Pick, Picks, Unknown, pick_of}
 use Rattle.ipam_model.specs.Moments.{Owns}
 use Rattle.ipam_model.specs.Owners.{Owner, owner_of, owners_in}
-use Rattle.ipam_model.specs.Plain.{Gives, PlainAnswer, PlainGift, PlainServed, Result, Rows, freeing_gift, plain_add, plain_after, plain_each, plain_of, plain_pick, seen_in, with_freed, with_gifts_freed}
+use Rattle.ipam_model.specs.Plain.{Gives, PlainAnswer, PlainGift, PlainServed, PlainResult, Rows, freeing_gift, plain_add, plain_after, plain_each, plain_of, plain_pick, seen_in, with_freed, with_gifts_freed}
 use Rattle.ipam_model.specs.Usable.{families_if}
 use Rattle.ipam_laws.proofs.CountLemmas.{same_text}
 use Rattle.ipam_laws.proofs.Members.{in-cons, in-here, in-map, in-nothing, in-there, out-map}
@@ -147,13 +147,13 @@ module _ (request : AddRequest) where
         differs false e most less = refl
 
     -- gifts that are all there, or none and the same owners as before
-    record NothingGiven (result : Result) : Type 0 where
+    record NothingGiven (result : PlainResult) : Type 0 where
       none : (addresses : List AddrValue) → result.0 ≢ Gives addresses
       was : (c : CidrValue) (a : Allocation) → HeldAt result.1 c a → HeldAt store.rows c a
       stays : (c : CidrValue) (a : Allocation) → HeldAt store.rows c a → HeldAt result.1 c a
       sorted : IsSorted result.1
 
-    record SomeGiven (result : Result) : Type 0 where
+    record SomeGiven (result : PlainResult) : Type 0 where
       gifts : List PlainGift
       is : result.0 ≡ Gives (map (λ (g : PlainGift). g.address) gifts)
       gains : GainsRows request.attributes store.rows result.1 gifts

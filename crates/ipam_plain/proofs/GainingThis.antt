@@ -30,7 +30,7 @@ use Rattle.ipam_model.specs.Alone.{alone_over}
 use Rattle.ipam_model.specs.Choice.{Claims, Leaves, Share, Takes, by_share, share_of}
 use Rattle.ipam_model.specs.Consistent.{IsConsistent}
 use Rattle.ipam_model.specs.History.{Base}
-use Rattle.ipam_model.specs.Plain.{Gives, HasSpare, IsAnothers, PlainAnswer, PlainGift, Result, Rows, block_in_rows, claimed_block, plain_add_this, plain_gift, plain_of, plain_this, plain_this_block, plain_this_claimed, plain_this_free, plain_this_held, plain_this_pool, put, records, seen_in, with_assigned, with_claimed}
+use Rattle.ipam_model.specs.Plain.{Gives, HasSpare, IsAnothers, PlainAnswer, PlainGift, PlainResult, Rows, block_in_rows, claimed_block, plain_add_this, plain_gift, plain_of, plain_this, plain_this_block, plain_this_claimed, plain_this_free, plain_this_held, plain_this_pool, put, records, seen_in, with_assigned, with_claimed}
 use Rattle.ipam_model.specs.Requests.{word_of}
 use Rattle.ipam_model.specs.SoundRequest.{IsSoundRequest}
 use Rattle.ipam_model.specs.Told.{of_add_this}
@@ -56,7 +56,7 @@ module _ (request : AddRequest) (address : AddrValue) (rows : Rows) (sorted : Is
   wanted = record { request = request; address = address }
 
   -- the address was given
-  record GivesThis (result : Result) : Type 0 where
+  record GivesThis (result : PlainResult) : Type 0 where
     is : result.0 ≡ Gives (address ∷ [])
     gift : PlainGift
     is_address : gift.address ≡ address
@@ -64,11 +64,11 @@ module _ (request : AddRequest) (address : AddrValue) (rows : Rows) (sorted : Is
     ordered : IsSorted result.1
 
   -- it was not, and nothing changes
-  record LeavesAll (result : Result) : Type 0 where
+  record LeavesAll (result : PlainResult) : Type 0 where
     none : (addresses : List AddrValue) → result.0 ≢ Gives addresses
     same : result.1 ≡ rows
 
-  abbrev Comes : Result → Type 0
+  abbrev Comes : PlainResult → Type 0
   Comes result = GivesThis result ⊎ LeavesAll result
 
   -- the address of the slot that holds it
@@ -175,7 +175,7 @@ this-added told (add.CountFull moment) addresses is says = let e = sym says ∙ 
 this-added told add.Spent addresses is says = let e = sym says ∙ ap plain_of is in absurd (cc e)
 
 module _ (base : Base) (request : AddRequest) (address : AddrValue) (consistent : IsConsistent base.store) (sound : IsSoundRequest (AddThis request address)) (spare : HasSpare base.store (AddThis request address)) where
-  abbrev result : Result
+  abbrev result : PlainResult
   result = plain_add_this (record { request = request; address = address }) base.store.rows
 
   abbrev then : Datastore

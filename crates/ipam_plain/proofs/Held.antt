@@ -13,7 +13,7 @@ use Rattle.ipam_records.specs.declared.key.Key.TheVariants as key
 use Rattle.ipam_records.specs.declared.record.Record.{Record}
 use Rattle.ipam_records.specs.declared.record.Record.TheVariants as record_of
 use Rattle.ipam_records.proofs.DatastoreLemmas.{row_key-row_of}
-use Rattle.ipam_model.specs.Counting.{Freeing}
+use Rattle.ipam_model.specs.Counting.{FreedOfHandle}
 use Rattle.ipam_model.specs.Owners.{Owner, owner_of, owners_in, owners_in_row}
 use Rattle.ipam_model.specs.Plain.{Rows, block_in_rows, handle_of, kept_or_gone, put, records, with_freed, with_freed_found, with_these_freed}
 use Rattle.ipam_model.specs.Reads.{StoredRecord}
@@ -128,7 +128,7 @@ not-false : (b : Bool) → not b ≡ true → b ≡ false
 not-false true e = absurd (cc e)
 not-false false e = refl
 
-module _ (what : Freeing) (rows : Rows) where
+module _ (what : FreedOfHandle) (rows : Rows) where
   -- other blocks stay
   freed-elsewhere : (cidr : CidrValue) → cidr ≢ what.block → record_at (key.Block cidr) (with_freed what rows) ≡ record_at (key.Block cidr) rows
   freed-elsewhere cidr other = by (block_in_rows what.block rows) refl

@@ -22,7 +22,7 @@ use Rattle.ipam_model.specs.declared.request.CollectRequest.{CollectRequest}
 use Rattle.ipam_model.specs.declared.request.Request.TheVariants.{Collect, Del}
 use Rattle.ipam_model.specs.Alone.{alone_over}
 use Rattle.ipam_model.specs.Consistent.{IsConsistent}
-use Rattle.ipam_model.specs.Counting.{Freeing, freeing_all}
+use Rattle.ipam_model.specs.Counting.{FreedOfHandle, freeing_all}
 use Rattle.ipam_model.specs.CountLaw.{count_in_row, handle_count, held_count, held_in_row}
 use Rattle.ipam_model.specs.Moments.{Owns, Recorded}
 use Rattle.ipam_model.specs.Owners.{Owner, is_owner_in, owner_of, owners_in, same_owner}
@@ -44,7 +44,7 @@ use Rattle.ipam_plain.proofs.Whole.{collect_alone, del_alone}
 
 -- ---- what was freed stays in order
 
-pub sorted-freed : (what : Freeing) (rows : Rows) → IsSorted rows → IsSorted (with_freed what rows)
+pub sorted-freed : (what : FreedOfHandle) (rows : Rows) → IsSorted rows → IsSorted (with_freed what rows)
 sorted-freed what rows sorted = by (block_in_rows what.block rows)
   where
     kept : (h : HandleValue) (counts : List (CidrValue × ℕ)) (next : Rows) → IsSorted next → IsSorted (kept_or_gone h counts next)

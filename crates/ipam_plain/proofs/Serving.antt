@@ -23,7 +23,7 @@ use Rattle.ipam_model.specs.declared.part.Outcome.{Outcome}
 use Rattle.ipam_model.specs.declared.part.Outcome.TheVariants.{Went}
 use Rattle.ipam_model.specs.declared.part.Stop.TheVariants.{OutOfTries}
 use Rattle.ipam_model.specs.declared.request.AddRequest.{AddRequest}
-use Rattle.ipam_model.specs.Add.{NextRound, Round, after_assign, asked_of, claim_in, five_reads, follow_pick, follow_rank, gift_of, name_at, round_of, serve, take_in}
+use Rattle.ipam_model.specs.Add.{NextRound, Round, after_assign, asked_of, claim_in, five_reads, follow_pick, follow_rank, gift_of, name_in_place, round_of, serve, take_in}
 use Rattle.ipam_model.specs.Counting.{most_count}
 use Rattle.ipam_model.specs.Affinities.{BlockRead}
 use Rattle.ipam_model.specs.AffinityLaw.{HasAt}
@@ -283,7 +283,7 @@ module _ (request : AddRequest) (family : Family) (keeps : Keeps) where
         rank-serves scan moment ranked.slot other.slot ranked.rank other.rank picked same.0 same.1 (picked-read (Reads ranked.slot) asked (seen_in base.rows) ranked picked (listed-as_read base ranked.slot, refl))
     pick-serves scan own moment NoneLeft NoneLeft picked same = record { says = ap (λ (f : Family). Some (Lacks f)) own; same = refl; is_as = is }
     pick-serves scan own moment (Unknown place) (Unknown other) picked same =
-        record { says = λ i. Some (KnowsNoPool (name_at (names_for (own i) request) (same i))); same = refl; is_as = is }
+        record { says = λ i. Some (KnowsNoPool (name_in_place (names_for (own i) request) (same i))); same = refl; is_as = is }
     pick-serves scan own moment (Picks ranked) NoneLeft picked same = absurd same
     pick-serves scan own moment (Picks ranked) (Unknown other) picked same = absurd same
     pick-serves scan own moment NoneLeft (Picks other) picked same = absurd same

@@ -25,7 +25,7 @@ use Rattle.ipam_model.specs.Alone.{live_of}
 use Rattle.ipam_model.specs.Consistent.{IsConsistent}
 use Rattle.ipam_model.specs.Counting.{most_count}
 use Rattle.ipam_model.specs.History.{Base}
-use Rattle.ipam_model.specs.Plain.{AloneLaw, Result, Rows, handle_of, plain_add, plain_add_this, plain_check, plain_collect, plain_del, plain_of, plain_probe, records}
+use Rattle.ipam_model.specs.Plain.{AloneLaw, PlainResult, Rows, handle_of, plain_add, plain_add_this, plain_check, plain_collect, plain_del, plain_of, plain_probe, records}
 use Rattle.ipam_model.specs.Reads.{StoredRecord, handle_said}
 use Rattle.ipam_model.specs.Remove.{collect_word, del_word}
 use Rattle.ipam_model.specs.Requests.{told_as, word_of}
@@ -52,17 +52,17 @@ pub as-records : (store : Datastore) (rows : Rows) → IsAs store rows → recor
 as-records store rows is = alike-records store.rows rows is.sorted_store is.sorted is.alike
 
 -- it is answered so, and leaves these records
-abbrev pub IsPlain : Result → Datastore → Answer → Type 0
+abbrev pub IsPlain : PlainResult → Datastore → Answer → Type 0
 IsPlain result then told = (plain_of told ≡ Some result.0) × (records then.rows ≡ records result.1)
 
 -- a request whose word comes to this comes to it over the base
-pub over : (base : Base) (request : Request) (result : Result) → IsConsistent base.store → IsSoundRequest request → Runs (live_of request) (IsPlain result) base.store (base.first + 1) (word_of request) → ComesToPlain base request result
+pub over : (base : Base) (request : Request) (result : PlainResult) → IsConsistent base.store → IsSoundRequest request → Runs (live_of request) (IsPlain result) base.store (base.first + 1) (word_of request) → ComesToPlain base request result
 over base request result consistent sound h =
     let lawful = word-lawful request sound (λ k revision found. HasAt base.store k revision found) in
     runs-alone (live_of request) (IsPlain result) (word_of request) base.store (base.first + 1) consistent.sound consistent.covered lawful.0 lawful.1 h
 
 -- what holds of an answer holds of what is told of it
-pub told-plain : {A : Type 0} → (live : List (List ℕ)) (Q : Datastore → A → Type 0) (of_one : A → Answer) (result : Result) → ((then : Datastore) (told : A) → Q then told → IsPlain result then (of_one told)) → (w : Word A) (store : Datastore) (moment : ℕ) → Runs live Q store moment w
+pub told-plain : {A : Type 0} → (live : List (List ℕ)) (Q : Datastore → A → Type 0) (of_one : A → Answer) (result : PlainResult) → ((then : Datastore) (told : A) → Q then told → IsPlain result then (of_one told)) → (w : Word A) (store : Datastore) (moment : ℕ) → Runs live Q store moment w
     → Runs live (IsPlain result) store moment (told_as of_one w)
 told-plain live Q of_one result so w store moment h = Runs-bound live Q (IsPlain result) (λ one. Ends (of_one one)) w store moment h (λ then later told q. so then told q)
 
@@ -71,7 +71,7 @@ unfolding word_of
 del_alone id base result consistent sound spare is =
     let store = base.store in
     let comes : plain_del id store.rows ≡ result = cc is in
-    subst (λ (r : Result). ComesToPlain base (Del id) r) comes
+    subst (λ (r : PlainResult). ComesToPlain base (Del id) r) comes
     (over base (Del id) (plain_del id store.rows) consistent sound
     (told-plain [] _ of_del (plain_del id store.rows) (λ then told q. (q.says, as-records then (plain_del id store.rows).1 q.is_as)) (del_word id) store (base.first + 1)
     (del-comes id store (base.first + 1) (as-itself store consistent.sound) spare.for_all_blocks)))
@@ -85,7 +85,7 @@ collect_alone request base result consistent sound spare is = by (request.grace 
     by true e =
         let store = base.store in
         let comes : plain_collect request store.rows ≡ result = cc e in
-        subst (λ (r : Result). ComesToPlain base (Collect request) r) comes
+        subst (λ (r : PlainResult). ComesToPlain base (Collect request) r) comes
         (over base (Collect request) (plain_collect request store.rows) consistent sound
         (told-plain request.live _ of_collect (plain_collect request store.rows) (λ then told q. (q.says, as-records then (plain_collect request store.rows).1 q.is_as)) (collect_word request) store (base.first + 1)
         (collect-comes request store (base.first + 1) (as-itself store consistent.sound) spare)))
@@ -129,7 +129,7 @@ add_this_alone request address base result consistent sound spare is =
     let a = spare.revisions in
     let b = spare.rows in
     let c = spare.blocks in
-    subst (λ (r : Result). ComesToPlain base (AddThis request address) r) comes
+    subst (λ (r : PlainResult). ComesToPlain base (AddThis request address) r) comes
     (over base (AddThis request address) (plain_add_this wanted store.rows) consistent sound
     (told-plain [] _ of_add_this (plain_add_this wanted store.rows) (λ then told q. (q.says, as-records then (plain_add_this wanted store.rows).1 q.is_as)) (add_this_word request address) store (base.first + 1)
     (this-comes request address store (base.first + 1) (as-itself store consistent.sound) (count-below request.attributes.handle store consistent.sound spare.counts)
@@ -143,7 +143,7 @@ add_alone request base result consistent sound spare is =
     let a = spare.revisions in
     let b = spare.rows in
     let c = spare.blocks in
-    subst (λ (r : Result). ComesToPlain base (Add request) r) comes
+    subst (λ (r : PlainResult). ComesToPlain base (Add request) r) comes
     (over base (Add request) (plain_add request store.rows) consistent sound
     (told-plain [] _ of_add (plain_add request store.rows) (λ then told q. (q.says, as-records then (plain_add request store.rows).1 q.is_as)) (add_word request) store (base.first + 1)
     (add-comes request store (base.first + 1) (as-itself store consistent.sound) (count-below request.attributes.handle store consistent.sound spare.counts)
@@ -156,11 +156,11 @@ all_alone base (Del id) result c s spare is = del_alone id base result c s spare
 all_alone base (Check id addresses) result c s spare is =
     let comes : (plain_check id addresses base.store.rows, base.store.rows) ≡ result = cc is in
     let says = check_alone base id addresses in
-    subst (λ (r : Result). ComesToPlain base (Check id addresses) r) comes (says.0, ap (λ (store : Datastore). records store.rows) says.1)
+    subst (λ (r : PlainResult). ComesToPlain base (Check id addresses) r) comes (says.0, ap (λ (store : Datastore). records store.rows) says.1)
 all_alone base (Release node cidr) result c s spare is = absurd (cc is)
 all_alone base (Collect request) result c s spare is = collect_alone request base result c s spare is
 all_alone base (Admin change) result c s spare is = absurd (cc is)
 all_alone base (Probe request) result c s spare is =
     let comes : (plain_probe request (families_if request.ipv4 request.ipv6) base.store.rows, base.store.rows) ≡ result = cc is in
     let says = probe_alone base request in
-    subst (λ (r : Result). ComesToPlain base (Probe request) r) comes (says.0, ap (λ (store : Datastore). records store.rows) says.1)
+    subst (λ (r : PlainResult). ComesToPlain base (Probe request) r) comes (says.0, ap (λ (store : Datastore). records store.rows) says.1)

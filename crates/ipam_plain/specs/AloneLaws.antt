@@ -8,12 +8,12 @@ use Rattle.ipam_model.specs.declared.request.Request.TheVariants.{Add, AddThis, 
 use Rattle.ipam_model.specs.Alone.{alone_over}
 use Rattle.ipam_model.specs.Consistent.{IsConsistent}
 use Rattle.ipam_model.specs.History.{Base}
-use Rattle.ipam_model.specs.Plain.{HasSpareFor, Result, plain, plain_of, records}
+use Rattle.ipam_model.specs.Plain.{HasSpareFor, PlainResult, plain, plain_of, records}
 use Rattle.ipam_model.specs.SoundRequest.{IsSoundRequest}
 
 -- The request that runs alone is answered as the function of the records says, and leaves the records
 -- that it says.
-abbrev pub ComesToPlain : Base → Request → Result → Type 0
+abbrev pub ComesToPlain : Base → Request → PlainResult → Type 0
 ComesToPlain base request result =
     (plain_of (alone_over base request).0 ≡ Some result.0)
     × (records (alone_over base request).1.rows ≡ records result.1)
@@ -21,7 +21,7 @@ ComesToPlain base request result =
 -- So it is over a consistent base with spare.
 abbrev pub IsPlainAlone : Request → Type 0
 IsPlainAlone request =
-    (base : Base) (result : Result)
+    (base : Base) (result : PlainResult)
     → IsConsistent base.store → IsSoundRequest request → HasSpareFor base.store request → plain request base.store.rows ≡ Some result
     → ComesToPlain base request result
 

@@ -6,7 +6,7 @@ use Rattle.ipam_model.specs.Alone.{alone_over}
 use Rattle.ipam_model.specs.Consistent.{IsConsistent}
 use Rattle.ipam_model.specs.CountLaw.{handle_count, held_count}
 use Rattle.ipam_model.specs.History.{Base}
-use Rattle.ipam_model.specs.Plain.{HasSpareFor, Result, plain}
+use Rattle.ipam_model.specs.Plain.{HasSpareFor, PlainResult, plain}
 use Rattle.ipam_model.specs.SoundRequest.{IsSoundRequest}
 
 -- A request that runs alone with spare changes each count by exactly as much as it changes how many
@@ -14,7 +14,7 @@ use Rattle.ipam_model.specs.SoundRequest.{IsSoundRequest}
 -- after it.
 abbrev pub CountsFollowLaw : Type 0
 CountsFollowLaw =
-    (base : Base) (request : Request) (result : Result)
+    (base : Base) (request : Request) (result : PlainResult)
     → IsConsistent base.store → IsSoundRequest request → HasSpareFor base.store request → plain request base.store.rows ≡ Some result
     → (id : List ℕ) (cidr : CidrValue)
     → handle_count (alone_over base request).1 id cidr + held_count base.store id cidr

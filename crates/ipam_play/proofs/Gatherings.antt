@@ -20,8 +20,8 @@ use Rattle.ipam_play.specs.declared.gathering.Counter.{Counter}
 use Rattle.ipam_play.specs.declared.gathering.Counter.TheVariants.{Greatest, Given}
 use Rattle.ipam_play.specs.declared.gathering.Gathering.{Gathering}
 use Rattle.ipam_play.specs.Gathering.{Gathers, counter_from, raised, row_gathered, rows_gathered}
-use Rattle.ipam_play.specs.Played.{counter_of, greatest}
-use Rattle.ipam_play.specs.Script.{Gathered, has_key, nothing_gathered, with_counter, with_row}
+use Rattle.ipam_play.specs.Played.{counter_of, greatest_of_base}
+use Rattle.ipam_play.specs.Script.{Gathered, rows_have_key, nothing_gathered, with_counter, with_base_row}
 
 -- ---- keys
 
@@ -37,7 +37,7 @@ is_found (e ∷ es) key =
     by true rest = refl
     by false rest = rest
 
-pub key_given : (rows : BTreeMap (List ℕ) Content) (given : List Row) (key : List ℕ) → IsPermutation given (rows_gathered rows) → is_some (get text_cmp rows key) ≡ has_key key given
+pub key_given : (rows : BTreeMap (List ℕ) Content) (given : List Row) (key : List ℕ) → IsPermutation given (rows_gathered rows) → is_some (get text_cmp rows key) ≡ rows_have_key key given
 key_given rows given key same = is_found rows.entries key ∙ sym (list_any-IsPermutation (λ (row : Row). bytes_eq key row.key) given (rows_gathered rows) same)
 
 -- the keys of the rows ascend as those of the entries
@@ -70,21 +70,21 @@ inserted old new row key body same_key same_body is none =
 
 -- ---- counters
 
-greatest-more : (rows : List Row) (row : Row) → greatest (rows ++ row ∷ []) ≡ cond (nat_lt (greatest rows) row.revision) row.revision (greatest rows)
-unfolding greatest
+greatest-more : (rows : List Row) (row : Row) → greatest_of_base (rows ++ row ∷ []) ≡ cond (nat_lt (greatest_of_base rows) row.revision) row.revision (greatest_of_base rows)
+unfolding greatest_of_base
 greatest-more [] row = refl
-greatest-more (first ∷ rows) row = ap (λ (n : ℕ). cond (nat_lt n first.revision) first.revision n) (greatest-more rows row) ∙ three (greatest rows) first.revision row.revision
+greatest-more (first ∷ rows) row = ap (λ (n : ℕ). cond (nat_lt n first.revision) first.revision n) (greatest-more rows row) ∙ three (greatest_of_base rows) first.revision row.revision
   where
     three : (a b c : ℕ) → cond (nat_lt (cond (nat_lt a c) c a) b) b (cond (nat_lt a c) c a) ≡ cond (nat_lt (cond (nat_lt a b) b a) c) c (cond (nat_lt a b) b a)
     three a b c = grind (arith, nat_tests)
 
-raised-counter : (gathered : Gathered) (row : Row) → raised (counter_from gathered.counter) (counter_of gathered) row.revision ≡ counter_of (with_row row gathered)
+raised-counter : (gathered : Gathered) (row : Row) → raised (counter_from gathered.counter) (counter_of gathered) row.revision ≡ counter_of (with_base_row row gathered)
 raised-counter gathered row = by gathered.counter
   where
     of : Option ℕ → Gathered
     of counter = record { rows = gathered.rows; counter = counter }
 
-    by : (counter : Option ℕ) → raised (counter_from counter) (counter_of (of counter)) row.revision ≡ counter_of (with_row row (of counter))
+    by : (counter : Option ℕ) → raised (counter_from counter) (counter_of (of counter)) row.revision ≡ counter_of (with_base_row row (of counter))
     by None = sym (greatest-more gathered.rows row)
     by (Some counter) = refl
 
@@ -92,7 +92,7 @@ raised-counter gathered row = by gathered.counter
 
 pub gathers_row : (old new : Gathering) (gathered : Gathered) (row : Row) → Gathers old gathered
     → IsPermutation (row ∷ rows_gathered old.rows) (rows_gathered new.rows) → new.counter ≡ raised old.from old.counter row.revision → new.from ≡ old.from
-    → Gathers new (with_row row gathered)
+    → Gathers new (with_base_row row gathered)
 gathers_row old new gathered row h rows counter from = record {
   same_rows =
       IsPermutation-trans _ _ _ (IsPermutation-to_front gathered.rows row)
@@ -135,7 +135,7 @@ was_not_given gathering gathered h never = by gathered.counter h.from
 -- ---- no line was read
 
 pub gathers_nothing : (gathering : Gathering) → gathering.rows.entries ≡ [] → gathering.counter ≡ 0 → gathering.from ≡ Greatest → Gathers gathering nothing_gathered
-unfolding greatest
+unfolding greatest_of_base
 gathers_nothing gathering none zero from = record {
   same_rows = subst (λ (l : List (List ℕ × Content)). IsPermutation [] (map row_gathered l)) (sym none) (IsPermutation-refl []);
   counter = zero;

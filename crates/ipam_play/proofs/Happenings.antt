@@ -7,7 +7,7 @@ use Rattle.std.proofs.lemmas.List.{replicate-append-replicate, replicate_more}
 use Rattle.ipam_model.specs.declared.entry.Entry.{Entry}
 use Rattle.ipam_model.specs.Cluster as model
 use Rattle.ipam_model.specs.Cluster.{after}
-use Rattle.ipam_model.specs.Course.{Course, Event, Refusal, after_all, course, behind, refused_at_once, entries_of}
+use Rattle.ipam_model.specs.Course.{Course, Event, EventRefusal, after_all, course, behind, refused_at_once, entries_of}
 use Rattle.ipam_model.specs.History.{Base, cluster_at}
 use Rattle.ipam_laws.proofs.CourseParts.{course-append, joined, later}
 use Rattle.ipam_cluster.specs.declared.cluster.Cluster.{Cluster}
@@ -27,30 +27,30 @@ cluster-onto base (new ∷ made) history = cluster-onto base made (new ∷ histo
 -- ---- courses
 
 -- the course from the entries of its first event
-unfoldable pub course_from : model.Cluster → List Event → Result (List Entry) Refusal → Course
+unfoldable pub course_from : model.ClusterState → List Event → Result (List Entry) EventRefusal → Course
 course_from cluster events r = elim r [
   | Ok entries ↦ behind entries (course (after_all cluster entries) events)
   | Err refusal ↦ refused_at_once refusal
 ]
 
-pub course-cons : (cluster : model.Cluster) (event : Event) (events : List Event) → course cluster (event ∷ events) ≡ course_from cluster events (entries_of cluster event)
+pub course-cons : (cluster : model.ClusterState) (event : Event) (events : List Event) → course cluster (event ∷ events) ≡ course_from cluster events (entries_of cluster event)
 unfolding course course_from
 course-cons cluster event events = refl
 
 all-happened : List Entry → Course
 all-happened made = record { entries = made; refused = None }
 
-pub course-nothing : (cluster : model.Cluster) → course cluster [] ≡ record { entries = []; refused = None }
+pub course-nothing : (cluster : model.ClusterState) → course cluster [] ≡ record { entries = []; refused = None }
 unfolding course
 course-nothing cluster = refl
 
-pub course-one : (cluster : model.Cluster) (event : Event) (made : List Entry) → entries_of cluster event ≡ Ok made → course cluster (event ∷ []) ≡ record { entries = made; refused = None }
+pub course-one : (cluster : model.ClusterState) (event : Event) (made : List Entry) → entries_of cluster event ≡ Ok made → course cluster (event ∷ []) ≡ record { entries = made; refused = None }
 unfolding course course_from
 course-one cluster event made is =
     ap (course_from cluster []) is ∙ ap (λ (entries : List Entry). record { entries = entries; refused = None }) (append-nil made)
 
 -- events after others that all happened
-pub course-then : (cluster : model.Cluster) (first second : List Event) (made more : List Entry) → course cluster first ≡ record { entries = made; refused = None }
+pub course-then : (cluster : model.ClusterState) (first second : List Event) (made more : List Entry) → course cluster first ≡ record { entries = made; refused = None }
     → course (after_all cluster made) second ≡ record { entries = more; refused = None } → course cluster (first ++ second) ≡ record { entries = made ++ more; refused = None }
 course-then cluster first second made more e f =
     course-append cluster first second (ap (λ (c : Course). c.refused) e)
@@ -78,7 +78,7 @@ pub plays_then : (old mid new : Cluster) (first second : List Event) (made more 
 plays_then old mid new first second made more p q = record {
   stands = λ base history h. subst (λ (entries : List Entry). StandsFor new base entries) (sym (onto-append made more history)) (q.stands base (onto made history) (p.stands base history h));
   made_by = λ base history h. course-then (cluster_at base history) first second made more (p.made_by base history h)
-      (subst (λ (c : model.Cluster). course c second ≡ record { entries = more; refused = None }) (cluster-onto base made history) (q.made_by base (onto made history) (p.stands base history h)));
+      (subst (λ (c : model.ClusterState). course c second ≡ record { entries = more; refused = None }) (cluster-onto base made history) (q.made_by base (onto made history) (p.stands base history h)));
 }
 
 -- ---- with a journal

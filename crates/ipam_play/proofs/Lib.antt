@@ -10,3 +10,4 @@ pub mod Steps
 pub mod Takings
 pub mod Timings
 pub mod MayHappen
+pub mod Wants

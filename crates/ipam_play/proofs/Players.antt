@@ -20,13 +20,13 @@ use Rattle.ipam_play.specs.declared.player.Player.{Player}
 use Rattle.ipam_play.specs.declared.player.Stage.TheVariants as stage
 use Rattle.ipam_play.specs.Events.{ComesOf, IsCause, Keeps, Stops, onto}
 use Rattle.ipam_play.specs.Played.{base_of}
-use Rattle.ipam_play.specs.Player.{HasHappened, IsBegunWith, IsCauseAtFirst, IsCauseOnceOpened, IsGathering, IsOpened, IsPlaying, IsRefusal, IsWanting, cluster_of, journal_of, not_opened}
+use Rattle.ipam_play.specs.Player.{HasHappened, IsBegunWith, IsCauseAtFirst, IsCauseOnceOpened, IsGathering, IsBaseOpened, IsPlaying, IsRefusal, IsWanting, cluster_of, journal_of, not_opened}
 use Rattle.ipam_play.specs.Script.{Gathered, events_of}
 use Rattle.ipam_play.proofs.Happenings.{course-cons, course_from, course-nothing, onto-append}
 
 -- ---- lines after the base
 
-still-playing : (new : Player) (o : OpenCluster) (base : Gathered) (store : Datastore) (past before made : List Entry) → new.stage ≡ stage.Playing o → IsOpened base store
+still-playing : (new : Player) (o : OpenCluster) (base : Gathered) (store : Datastore) (past before made : List Entry) → new.stage ≡ stage.Playing o → IsBaseOpened base store
     → StandsFor o.cluster (base_of store) (onto made (onto (past ++ before) [])) → journal_of new ≡ before ++ made → IsPlaying new base store past
 still-playing new o base store past before made is opened stands added = record {
   open_cluster = o;
@@ -72,12 +72,12 @@ module _ (old new : Player) (o n : OpenCluster) (was : old.stage ≡ stage.Playi
           inl (record {
             is_told = memory;
             would_make = made.0;
-            makes = subst (λ (c : model.Cluster). entries_of c comes.next ≡ Ok made.0) (behind-all store past (journal_of old) comes.made (journal_of new) comes.added) made.1;
+            makes = subst (λ (c : model.ClusterState). entries_of c comes.next ≡ Ok made.0) (behind-all store past (journal_of old) comes.made (journal_of new) comes.added) made.1;
           })
       by (inr because) = inr (record {
         refusal = because.refusal;
         is_told = because.is_told;
-        refuses = subst (λ (c : model.Cluster). entries_of c comes.next ≡ Err because.refusal) (behind-all store past (journal_of old) comes.made (journal_of new) comes.added)
+        refuses = subst (λ (c : model.ClusterState). entries_of c comes.next ≡ Err because.refusal) (behind-all store past (journal_of old) comes.made (journal_of new) comes.added)
             (because.refuses (base_of store) (onto (past ++ journal_of old) []) (stood-at old o base store past was h));
       })
 
@@ -131,7 +131,7 @@ none-first base (line.Stop slot) events first rest next made is e f = single-fro
 none-first base line.Restart events first rest next made is e f = single-front _ next first rest (some-is _ events is ∙ e)
 
 -- a line over what was just opened
-module _ (base : Gathered) (store : Datastore) (o n : OpenCluster) (before after : List Entry) (opened : IsOpened base store) (stands : StandsFor o.cluster (base_of store) []) where
+module _ (base : Gathered) (store : Datastore) (o n : OpenCluster) (before after : List Entry) (opened : IsBaseOpened base store) (stands : StandsFor o.cluster (base_of store) []) where
   pub first_begins : {T : Type 0} (result : Result T PlayFault) (events : List Event) → ComesOf result o.cluster n.cluster before after events → IfOk result (λ done. IsBegunWith n before after base events)
   first_begins (Ok done) events comes = record {
     store = store;

@@ -9,7 +9,7 @@ use Rattle.std.proofs.lemmas.List.{length-append, take-append-drop}
 use Rattle.std.proofs.Math.Seq.{drop-cons, take-append_seam}
 use Rattle.ipam_lines.specs.Feeds.{HasNoFeed, IsTooLong}
 use Rattle.ipam_lines.proofs.AnswerLemmas.{stays_too_long}
-use Rattle.ipam_script.specs.Lines.{Long as LongLine, Whole, is_line_end, is_long, told, placed, without_empty_end}
+use Rattle.ipam_script.specs.Lines.{Long as LongLine, Whole, is_line_end, is_long, told_line, placed, without_empty_end}
 use Rattle.std.specs.Str.{is_utf8}
 use Rattle.ipam_json.specs.Members.{only_if}
 use Rattle.ipam_script.specs.Reading.{line_reading, text_reading}
@@ -20,7 +20,7 @@ use Rattle.ipam_play.specs.declared.lines.Next.TheVariants as next
 use Rattle.ipam_play.specs.declared.lines.ScriptFault.{ScriptFault}
 use Rattle.ipam_play.specs.declared.lines.ScriptFault.TheVariants.{Read, Memory}
 use Rattle.ipam_play.specs.declared.lines.ScriptLines.{ScriptLines}
-use Rattle.ipam_play.specs.Readings.{Answer, Reading, read_or_not, reading_of, readings_from, IsLineEnd, IsNext, IsNextOf, IsTold, IsLastTold, OnLine, Takes}
+use Rattle.ipam_play.specs.Readings.{Answer, LineReading, read_or_not, line_reading_of, readings_from, IsLineEnd, IsNext, IsNextOf, IsTold, IsLastTold, OnLine, Takes}
 
 nothing_read : line_reading [] ≡ None
 unfolding line_reading text_reading
@@ -34,7 +34,7 @@ pub none_to_come : (before : ℕ) → readings_from before [] ≡ []
 unfolding readings_from
 none_to_come before = refl
 
-pub nothing_asked : (before : ℕ) (bytes : List ℕ) → length bytes ≡ 0 → Err Unreadable ≡ reading_of (told before bytes)
+pub nothing_asked : (before : ℕ) (bytes : List ℕ) → length bytes ≡ 0 → Err Unreadable ≡ line_reading_of (told_line before bytes)
 nothing_asked before [] none = sym (ap read_or_not nothing_read)
 nothing_asked before (c ∷ bytes) none = absurd (omega arith)
 
@@ -47,34 +47,34 @@ no_end (c ∷ line) h = by (c == 10) refl (no_end line (All-tail (λ byte. byte 
     by false e rest = rw e rest
 
 -- the first line, and the readings after it
-pub readings-line : (before : ℕ) (line rest : List ℕ) → HasNoFeed line → readings_from before (line ++ 10 ∷ rest) ≡ reading_of (told before line) ∷ readings_from (before + length line + 1) rest
+pub readings-line : (before : ℕ) (line rest : List ℕ) → HasNoFeed line → readings_from before (line ++ 10 ∷ rest) ≡ line_reading_of (told_line before line) ∷ readings_from (before + length line + 1) rest
 unfolding readings_from
 readings-line before line rest none =
     let some = split_some rest in
-    ap (λ parts. map reading_of (placed before (without_empty_end parts))) (cut line rest (no_end line none))
-    ∙ ap (λ parts. map reading_of (placed before parts)) (behind line some.0 some.1 (slice_split is_line_end rest) some.2)
+    ap (λ parts. map line_reading_of (placed before (without_empty_end parts))) (cut line rest (no_end line none))
+    ∙ ap (λ parts. map line_reading_of (placed before parts)) (behind line some.0 some.1 (slice_split is_line_end rest) some.2)
 
 -- the last line
-readings-last : (before : ℕ) (line : List ℕ) → HasNoFeed line → line ≢ [] → readings_from before line ≡ reading_of (told before line) ∷ []
+readings-last : (before : ℕ) (line : List ℕ) → HasNoFeed line → line ≢ [] → readings_from before line ≡ line_reading_of (told_line before line) ∷ []
 unfolding readings_from
 readings-last before [] none some = absurd (some refl)
-readings-last before (c ∷ line) none some = ap (λ parts. map reading_of (placed before (without_empty_end parts))) (uncut (c ∷ line) (no_end (c ∷ line) none))
+readings-last before (c ∷ line) none some = ap (λ parts. map line_reading_of (placed before (without_empty_end parts))) (uncut (c ∷ line) (no_end (c ∷ line) none))
 
-told-next : (answer : Answer) (reading : Reading) (now after : List Reading) → IsTold answer reading → now ≡ reading ∷ after → IsNext answer now after
+told-next : (answer : Answer) (reading : LineReading) (now after : List LineReading) → IsTold answer reading → now ≡ reading ∷ after → IsNext answer now after
 told-next (Ok (next.Line line)) reading now after is same = cc
 told-next (Ok (next.Last line)) reading now after is same = absurd is
 told-next (Ok (next.Refused why)) reading now after is same = (after, cc)
 told-next (Ok next.End) reading now after is same = absurd is
 told-next (Err fault) reading now after is same = tt
 
-last-next : (answer : Answer) (reading : Reading) (now after : List Reading) → IsLastTold answer reading → now ≡ reading ∷ [] → IsNext answer now after
+last-next : (answer : Answer) (reading : LineReading) (now after : List LineReading) → IsLastTold answer reading → now ≡ reading ∷ [] → IsNext answer now after
 last-next (Ok (next.Line line)) reading now after is same = absurd is
 last-next (Ok (next.Last line)) reading now after is same = cc
 last-next (Ok (next.Refused why)) reading now after is same = ([], cc)
 last-next (Ok next.End) reading now after is same = absurd is
 last-next (Err fault) reading now after is same = tt
 
-line-next : (answer : Answer) (before after : ℕ) (line rest : List ℕ) → HasNoFeed line → IsTold answer (reading_of (told before line)) → OnLine answer (after ≡ before + length line + 1)
+line-next : (answer : Answer) (before after : ℕ) (line rest : List ℕ) → HasNoFeed line → IsTold answer (line_reading_of (told_line before line)) → OnLine answer (after ≡ before + length line + 1)
     → IsNext answer (readings_from before (line ++ 10 ∷ rest)) (readings_from after rest)
 line-next (Ok (next.Line l)) before after line rest none is at = readings-line before line rest none ∙ cc
 line-next (Ok (next.Last l)) before after line rest none is at = absurd is
@@ -93,7 +93,7 @@ known-next answer before after known (Some rest) taken held same next_of =
     (readings_from after (held ++ rest), refl, subst (λ (b : List ℕ). IsNext answer (readings_from before b) (readings_from after (held ++ rest))) (sym (append_assoc taken held rest)) (next_of rest refl))
 
 pub line_comes : (answer : Answer) (before after : ℕ) (known left : Option (List ℕ)) (line held : List ℕ) → known ≡ prepend_known ((line ++ 10 ∷ []) ++ held) left → HasNoFeed line
-    → IsTold answer (reading_of (told before line)) → OnLine answer (after ≡ before + length line + 1)
+    → IsTold answer (line_reading_of (told_line before line)) → OnLine answer (after ≡ before + length line + 1)
     → IsNextOf answer (option_map (readings_from before) known) (option_map (readings_from after) (prepend_known held left))
 line_comes answer before after known left line held same none asks at =
     known-next answer before after known left (line ++ 10 ∷ []) held same (λ rest is.
@@ -101,7 +101,7 @@ line_comes answer before after known left line held same none asks at =
     (line-next answer before after line (held ++ rest) none asks at))
 
 pub last_comes : (answer : Answer) (before : ℕ) (known left : Option (List ℕ)) (line : List ℕ) → known ≡ prepend_known line left → IsAtEnd left → HasNoFeed line → line ≢ []
-    → IsLastTold answer (reading_of (told before line))
+    → IsLastTold answer (line_reading_of (told_line before line))
     → IsNextOf answer (option_map (readings_from before) known) (option_map (readings_from before) (prepend_known line left))
 last_comes answer before known None line same ended none some is = subst (λ k. IsNextOf answer (option_map (readings_from before) k) None) (sym same) tt
 last_comes answer before known (Some rest) line same ended none some is =
@@ -109,7 +109,7 @@ last_comes answer before known (Some rest) line same ended none some is =
     subst (λ k. IsNextOf answer (option_map (readings_from before) k) (Some (readings_from before (line ++ rest)))) (sym same) (
       readings_from before (line ++ rest),
       refl,
-      last-next answer (reading_of (told before line)) (readings_from before (line ++ rest)) (readings_from before (line ++ rest)) is
+      last-next answer (line_reading_of (told_line before line)) (readings_from before (line ++ rest)) (readings_from before (line ++ rest)) is
           (ap (readings_from before) all ∙ readings-last before line none some),
     )
 
@@ -141,18 +141,18 @@ stays-first [] more some = absurd (omega arith)
 stays-first (c ∷ line) [] some = ([], refl)
 stays-first (c ∷ line) (other ∷ more) some = (without_empty_end (other ∷ more), refl)
 
-is-long-line : (before : ℕ) (line : List ℕ) → 1048577 ≤ length line → reading_of (told before line) ≡ Err Long
+is-long-line : (before : ℕ) (line : List ℕ) → 1048577 ≤ length line → line_reading_of (told_line before line) ≡ Err Long
 is-long-line before line enough = rw (lt-ltb 1048576 (length line) (omega arith)) refl
 
-long-readings : (before : ℕ) (bytes : List ℕ) → IsTooLong 1048577 bytes → (more : List Reading) × (readings_from before bytes ≡ Err Long ∷ more)
+long-readings : (before : ℕ) (bytes : List ℕ) → IsTooLong 1048577 bytes → (more : List LineReading) × (readings_from before bytes ≡ Err Long ∷ more)
 unfolding readings_from
 long-readings before bytes long =
     let (line, more, same, enough) = first-part 1048577 bytes long.0 long.1 in
     let (rest, kept) = stays-first line more (omega arith) in
-    let behind_it = map reading_of (placed (before + length line + 1) rest) in (
+    let behind_it = map line_reading_of (placed (before + length line + 1) rest) in (
       behind_it,
-      ap (λ parts. map reading_of (placed before (without_empty_end parts))) same
-          ∙ ap (λ parts. map reading_of (placed before parts)) kept
+      ap (λ parts. map line_reading_of (placed before (without_empty_end parts))) same
+          ∙ ap (λ parts. map line_reading_of (placed before parts)) kept
           ∙ ap (λ r. r ∷ behind_it) (is-long-line before line enough),
     )
 
@@ -187,7 +187,7 @@ longer-line before part line more long = by (nat_lt 1048576 (length part)) (nat_
     by false true false e f g h = absurd (cc h)
     by false false late e f g h = absurd (cc h)
 
-long-part : (before : ℕ) (part rest : List ℕ) → HasNoFeed part → is_long before part ≡ true → (more : List Reading) × (readings_from before (part ++ rest) ≡ Err Long ∷ more)
+long-part : (before : ℕ) (part rest : List ℕ) → HasNoFeed part → is_long before part ≡ true → (more : List LineReading) × (readings_from before (part ++ rest) ≡ Err Long ∷ more)
 unfolding readings_from
 long-part before [] rest none long = absurd (cc long)
 long-part before (c ∷ part) rest none long =
@@ -196,11 +196,11 @@ long-part before (c ∷ part) rest none long =
     let lengths = length-append (c ∷ part) rest in
     let (line, more, same, enough) = first-part n bytes (subst HasNoFeed (sym (take-append_seam (c ∷ part) rest)) none) (omega arith) in
     let (others, kept) = stays-first line more (omega arith) in
-    let behind_it = map reading_of (placed (before + length line + 1) others) in (
+    let behind_it = map line_reading_of (placed (before + length line + 1) others) in (
       behind_it,
-      ap (λ parts. map reading_of (placed before (without_empty_end parts))) same
-          ∙ ap (λ parts. map reading_of (placed before parts)) kept
-          ∙ ap (λ r. r ∷ behind_it) (ap (λ b. reading_of (if b then LongLine else Whole line)) (longer-line before (c ∷ part) line enough long)),
+      ap (λ parts. map line_reading_of (placed before (without_empty_end parts))) same
+          ∙ ap (λ parts. map line_reading_of (placed before parts)) kept
+          ∙ ap (λ r. r ∷ behind_it) (ap (λ b. line_reading_of (if b then LongLine else Whole line)) (longer-line before (c ∷ part) line enough long)),
     )
 
 pub part_comes : (before : ℕ) (known left : Option (List ℕ)) (held part rest : List ℕ) → known ≡ prepend_known held left → held ≡ part ++ rest → HasNoFeed part → is_long before part ≡ true
@@ -221,8 +221,8 @@ cut_at bytes place within found =
 
 -- ---- what is taken
 
-pub takes_line : (answer : Answer) (old new : ScriptLines) (was left : Option (List ℕ)) (bytes held : List ℕ) → HasNoFeed bytes → IsTold answer (reading_of (told old.before.bytes bytes))
-    → OnLine answer (new.before.bytes ≡ old.before.bytes + length bytes + 1) → OnErr answer (told old.before.bytes bytes ≡ Whole bytes) → new.lines ≡ held
+pub takes_line : (answer : Answer) (old new : ScriptLines) (was left : Option (List ℕ)) (bytes held : List ℕ) → HasNoFeed bytes → IsTold answer (line_reading_of (told_line old.before.bytes bytes))
+    → OnLine answer (new.before.bytes ≡ old.before.bytes + length bytes + 1) → OnErr answer (told_line old.before.bytes bytes ≡ Whole bytes) → new.lines ≡ held
     → prepend_known old.lines was ≡ prepend_known ((bytes ++ 10 ∷ []) ++ held) left → Takes answer old new was left
 takes_line (Ok (next.Line line)) old new was left bytes held none is at short same taken = record {
   bytes = bytes;
@@ -244,8 +244,8 @@ takes_line (Err Memory) old new was left bytes held none is at short same taken 
   taken = taken ∙ ap (λ (l : List ℕ). prepend_known l left) (append_assoc bytes (10 ∷ []) held);
 }
 
-pub takes_last : (answer : Answer) (old new : ScriptLines) (was left : Option (List ℕ)) (held : List ℕ) → HasNoFeed held → IsLastTold answer (reading_of (told old.before.bytes held))
-    → OnErr answer (told old.before.bytes held ≡ Whole held) → prepend_known old.lines was ≡ prepend_known held left → Takes answer old new was left
+pub takes_last : (answer : Answer) (old new : ScriptLines) (was left : Option (List ℕ)) (held : List ℕ) → HasNoFeed held → IsLastTold answer (line_reading_of (told_line old.before.bytes held))
+    → OnErr answer (told_line old.before.bytes held ≡ Whole held) → prepend_known old.lines was ≡ prepend_known held left → Takes answer old new was left
 takes_last (Ok (next.Line line)) old new was left held none is short taken = absurd is
 takes_last (Ok (next.Last line)) old new was left held none is short taken = tt
 takes_last (Ok (next.Refused why)) old new was left held none is short taken = tt
@@ -266,7 +266,7 @@ takes_last (Err Memory) old new was left held none is short taken = record {
 abbrev pub Wanting : Answer → (before : ℕ) → List ℕ → Type 0
 Wanting answer before held =
     (bytes rest : List ℕ) × (held ≡ bytes ++ rest) × IsLineEnd rest × HasNoFeed bytes
-    × OnOk answer (is_long before bytes ≡ true) × OnErr answer (told before bytes ≡ Whole bytes)
+    × OnOk answer (is_long before bytes ≡ true) × OnErr answer (told_line before bytes ≡ Whole bytes)
 
 pub wanting_comes : (answer : Answer) (before : ℕ) (known left : Option (List ℕ)) (held : List ℕ) → known ≡ prepend_known held left → Wanting answer before held → IfOk answer (λ n. n ≡ next.Refused Long)
     → IsNextOf answer (option_map (readings_from before) known) (option_map (readings_from before) (prepend_known held left))

@@ -10,7 +10,7 @@ use Rattle.ipam_model.specs.History.{cluster_at}
 use Rattle.ipam_cluster.specs.declared.cluster.Cluster.{Cluster}
 use Rattle.ipam_cluster.specs.declared.faults.FeedFault.{FeedFault}
 use Rattle.ipam_cluster.specs.declared.faults.FeedFault.TheVariants as feed
-use Rattle.ipam_cluster.specs.Cluster.{AddsTo, IsUnchanged, WaitsWith, slot_of, state_in}
+use Rattle.ipam_cluster.specs.Cluster.{AddsTo, IsUnchanged, WaitsWith, slot_of_cluster, state_in}
 use Rattle.ipam_cluster.specs.Turns.{IsTurn}
 use Rattle.ipam_cluster.proofs.Events as cluster_events
 use Rattle.ipam_cluster.proofs.Standing.{unchanged_stands}
@@ -36,7 +36,7 @@ turn_made old mid new slot prepared fate made same unchanged is adds = record {
       (cluster_events.turn_made new base history prepared fate made is (adds base history (unchanged_stands old mid unchanged base history h)));
 }
 
-pub turn_told : (cluster : Cluster) (slot : ℕ) (fate : Fate) → (2 ^ 62 ≤ cluster.entries) × (state_in (slot_of cluster slot) ≡ state.Running) → IsToldOrMemory cluster (Turn slot fate) fault.Worn
+pub turn_told : (cluster : Cluster) (slot : ℕ) (fate : Fate) → (2 ^ 62 ≤ cluster.entries) × (state_in (slot_of_cluster cluster slot) ≡ state.Running) → IsToldOrMemory cluster (Turn slot fate) fault.Worn
 turn_told cluster slot fate facts = inr (record {
   refusal = Worn;
   is_told = refl;
@@ -44,7 +44,7 @@ turn_told cluster slot fate facts = inr (record {
 })
 
 pub feed_told : (cluster : Cluster) (slot at : ℕ) (live : List (List ℕ)) (result : Result Entry FeedFault)
-    → ((since grace : ℕ) → (result ≡ Err (feed.TooSoon since grace)) ↔ (WaitsWith (slot_of cluster slot) (record { at = since; grace = grace }) × at < since + grace))
+    → ((since grace : ℕ) → (result ≡ Err (feed.TooSoon since grace)) ↔ (WaitsWith (slot_of_cluster cluster slot) (record { at = since; grace = grace }) × at < since + grace))
     → (since grace : ℕ) → result ≡ Err (feed.TooSoon since grace) → IsToldOrMemory cluster (Feed slot at live) fault.TooSoon
 feed_told cluster slot at live result exactly since grace is =
     let facts = (exactly since grace).0 is in

@@ -12,7 +12,7 @@ use Rattle.ipam_model.specs.Course.{Restart, entries_of}
 use Rattle.ipam_model.specs.History.{Base, cluster_at}
 use Rattle.ipam_running.specs.declared.running.Running.{Running}
 use Rattle.ipam_cluster.specs.declared.cluster.Cluster.{Cluster}
-use Rattle.ipam_cluster.specs.Cluster.{AddsTo, IsSlot, StandsFor, slot_of}
+use Rattle.ipam_cluster.specs.Cluster.{AddsTo, IsSlot, StandsFor, slot_of_cluster}
 use Rattle.ipam_play.specs.Events.{Happens, Keeps, onto}
 use Rattle.ipam_play.proofs.Happenings.{course-one, onto-append}
 
@@ -34,9 +34,9 @@ range-more from (suc many) =
 
 -- what is stopped in the slots before this one
 unfoldable pub stops_below : Cluster → ℕ → List Entry
-stops_below cluster many = map entry.Stopped (filter (λ slot. is_some (slot_of cluster slot)) (range_with_len 0 many))
+stops_below cluster many = map entry.Stopped (filter (λ slot. is_some (slot_of_cluster cluster slot)) (range_with_len 0 many))
 
-stops-more : (cluster : Cluster) (slot : ℕ) → stops_below cluster (slot + 1) ≡ stops_below cluster slot ++ cond (is_some (slot_of cluster slot)) (entry.Stopped slot ∷ []) []
+stops-more : (cluster : Cluster) (slot : ℕ) → stops_below cluster (slot + 1) ≡ stops_below cluster slot ++ cond (is_some (slot_of_cluster cluster slot)) (entry.Stopped slot ∷ []) []
 unfolding stops_below
 stops-more cluster slot =
     ap (λ (l : List ℕ). map entry.Stopped (filter busy l)) (range-more 0 slot ∙ ap (λ (n : ℕ). range_with_len 0 slot ++ n ∷ []) (none-less slot))
@@ -45,7 +45,7 @@ stops-more cluster slot =
     ∙ ap (λ (l : List Entry). map entry.Stopped (filter busy (range_with_len 0 slot)) ++ l) (by (busy slot))
   where
     busy : ℕ → Bool
-    busy s = is_some (slot_of cluster s)
+    busy s = is_some (slot_of_cluster cluster s)
 
     none-less : (n : ℕ) → 0 + n ≡ n
     none-less n = omega arith
@@ -57,7 +57,7 @@ stops-more cluster slot =
 -- the slots before this one are stopped, and the others are as they were
 pub record Cleared (old new : Cluster) (before after : List Entry) (slot : ℕ) : Type 0 where
   pub added : after ≡ before ++ stops_below old slot
-  pub others : (other : ℕ) → slot ≤ other → slot_of new other ≡ slot_of old other
+  pub others : (other : ℕ) → slot ≤ other → slot_of_cluster new other ≡ slot_of_cluster old other
   pub stands : (base : Base) (history : List Entry) → StandsFor old base history → StandsFor new base (onto (stops_below old slot) history)
 
 pub nothing_cleared : (old : Cluster) (before : List Entry) → Cleared old old before before 0
@@ -68,10 +68,10 @@ nothing_cleared old before = record {
   stands = λ base history h. h;
 }
 
-pub idle_cleared : (old mid new : Cluster) (before between : List Entry) (slot : ℕ) → Cleared old mid before between slot → slot_of mid slot ≡ None → Keeps mid new
-    → ((other : ℕ) → other ≢ slot → slot_of new other ≡ slot_of mid other) → Cleared old new before between (slot + 1)
+pub idle_cleared : (old mid new : Cluster) (before between : List Entry) (slot : ℕ) → Cleared old mid before between slot → slot_of_cluster mid slot ≡ None → Keeps mid new
+    → ((other : ℕ) → other ≢ slot → slot_of_cluster new other ≡ slot_of_cluster mid other) → Cleared old new before between (slot + 1)
 idle_cleared old mid new before between slot h idle keeps others =
-    let none : is_some (slot_of old slot) ≡ false = ap is_some (sym (h.others slot (omega arith)) ∙ idle) in
+    let none : is_some (slot_of_cluster old slot) ≡ false = ap is_some (sym (h.others slot (omega arith)) ∙ idle) in
     let same : stops_below old (slot + 1) ≡ stops_below old slot =
     stops-more old slot ∙ ap (λ b. stops_below old slot ++ cond b (entry.Stopped slot ∷ []) []) none ∙ append-nil (stops_below old slot) in
     record {
@@ -80,10 +80,10 @@ idle_cleared old mid new before between slot h idle keeps others =
       stands = λ base history k. subst (λ (l : List Entry). StandsFor new base (onto l history)) (sym same) (keeps base (onto (stops_below old slot) history) (h.stands base history k));
     }
 
-pub busy_cleared : (old mid new : Cluster) (before between after : List Entry) (slot : ℕ) (stopped : Entry) → Cleared old mid before between slot → (slot_of mid slot ≡ None → ⊥) → stopped ≡ entry.Stopped slot → AddsTo mid new stopped
-    → ((other : ℕ) → other ≢ slot → slot_of new other ≡ slot_of mid other) → after ≡ between ++ stopped ∷ [] → Cleared old new before after (slot + 1)
+pub busy_cleared : (old mid new : Cluster) (before between after : List Entry) (slot : ℕ) (stopped : Entry) → Cleared old mid before between slot → (slot_of_cluster mid slot ≡ None → ⊥) → stopped ≡ entry.Stopped slot → AddsTo mid new stopped
+    → ((other : ℕ) → other ≢ slot → slot_of_cluster new other ≡ slot_of_cluster mid other) → after ≡ between ++ stopped ∷ [] → Cleared old new before after (slot + 1)
 busy_cleared old mid new before between after slot stopped h busy is adds others added =
-    let some : is_some (slot_of old slot) ≡ true = not-none (slot_of old slot) (λ e. busy (h.others slot (omega arith) ∙ e)) in
+    let some : is_some (slot_of_cluster old slot) ≡ true = not-none (slot_of_cluster old slot) (λ e. busy (h.others slot (omega arith) ∙ e)) in
     let more : stops_below old (slot + 1) ≡ stops_below old slot ++ stopped ∷ [] =
     stops-more old slot ∙ ap (λ b. stops_below old slot ++ cond b (entry.Stopped slot ∷ []) []) some ∙ ap (λ (e : Entry). stops_below old slot ++ e ∷ []) (sym is) in
     record {
@@ -100,7 +100,7 @@ busy_cleared old mid new before between after slot stopped h busy is adds others
 
 -- ---- all slots
 
-same-busy : (held : Option Running) (o : Option model.Running) → IsSlot held o → is_some held ≡ is_some o
+same-busy : (held : Option Running) (o : Option model.RunningRequest) → IsSlot held o → is_some held ≡ is_some o
 same-busy None None is = refl
 same-busy None (Some there) is = absurd is
 same-busy (Some running) None is = absurd is
@@ -109,8 +109,8 @@ same-busy (Some running) (Some there) is = refl
 restarts : (old : Cluster) (base : Base) (history : List Entry) → StandsFor old base history → entries_of (cluster_at base history) Restart ≡ Ok (stops_below old 64)
 unfolding stops_below
 restarts old base history k =
-    let same : (λ (slot : ℕ). is_some ((cluster_at base history).slots slot)) ≡ (λ (slot : ℕ). is_some (slot_of old slot)) =
-    fun_ext (λ (slot : ℕ). sym (same-busy (slot_of old slot) ((cluster_at base history).slots slot) (k.is_cluster.slots slot))) in
+    let same : (λ (slot : ℕ). is_some ((cluster_at base history).slots slot)) ≡ (λ (slot : ℕ). is_some (slot_of_cluster old slot)) =
+    fun_ext (λ (slot : ℕ). sym (same-busy (slot_of_cluster old slot) ((cluster_at base history).slots slot) (k.is_cluster.slots slot))) in
     ap (λ (p : ℕ → Bool). Ok (map entry.Stopped (filter p (range_with_len 0 64)))) same
 
 all_cleared : (old new : Cluster) (before after : List Entry) → Cleared old new before after 64 → Happens old new before after (Restart ∷ [])

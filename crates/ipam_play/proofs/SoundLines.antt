@@ -14,8 +14,8 @@ use Rattle.ipam_request_text.proofs.Lives.{live_reading-is}
 use Rattle.ipam_request_text.proofs.ReadBack.{read_sound}
 use Rattle.ipam_script.specs.declared.line.Line.{Line}
 use Rattle.ipam_script.specs.declared.line.Line.TheVariants as line
-use Rattle.ipam_script.specs.Reading.{begin_in, feed_in, feed_listed, line_parts, line_reading, lone_word, named_call, named_line, one_turn, row_in, row_of, text_reading, timed_feed, turn_in, turn_parts, turns_said}
-use Rattle.ipam_script.specs.Words.{number_of, slot_in, slot_of, split_word, turns_in, turns_of}
+use Rattle.ipam_script.specs.Reading.{begin_in, feed_in, feed_listed, line_parts, line_reading, lone_word, named_call, named_line, one_turn, row_in, row_line_of, text_reading, timed_feed, turn_in, turn_parts, turns_said}
+use Rattle.ipam_script.specs.Words.{number_of, slot_number_in, slot_named, split_word, turns_in, turns_of}
 use Rattle.ipam_play.specs.SoundLine.{IsSoundLine}
 
 -- the line is sound, where there is one
@@ -34,9 +34,9 @@ chosen : (b : Bool) (one other : Option Line) → IsSoundOrNone one → IsSoundO
 chosen true one other h k = h
 chosen false one other h k = k
 
-slot_below : (word : List ℕ) (slot : ℕ) → slot_of word ≡ Some slot → slot < 64
+slot_below : (word : List ℕ) (slot : ℕ) → slot_named word ≡ Some slot → slot < 64
 slot_below word slot e =
-    option_and_then_some slot_in (number_of word) slot e (λ n found e1.
+    option_and_then_some slot_number_in (number_of word) slot e (λ n found e1.
     let parts = cond_some (nat_lt n 64) n slot e1 in
     subst (λ (m : ℕ). m < 64) parts.1 (ltb-true n 64 parts.0))
 
@@ -58,14 +58,14 @@ begin_sound : (text : List ℕ) → IsSoundOrNone (begin_in text)
 unfolding begin_in
 begin_sound text =
     bound (split_word text) _ (λ first e1.
-    bound (slot_of first.0) _ (λ slot e2.
+    bound (slot_named first.0) _ (λ slot e2.
     bound (request_reading first.1) _ (λ request e3.
     (slot_below first.0 slot e2, read_sound first.1 request e3))))
 
 said_sound : (word turns : List ℕ) → IsSoundOrNone (turns_said word turns)
 unfolding turns_said
 said_sound word turns =
-    bound (slot_of word) _ (λ slot e1.
+    bound (slot_named word) _ (λ slot e1.
     bound (turns_of turns) _ (λ count e2.
     (slot_below word slot e1, some_turns turns count e2)))
 
@@ -73,7 +73,7 @@ turn_sound : (text : List ℕ) → IsSoundOrNone (turn_in text)
 turn_sound text = by (split_word text)
   where
     by : (o : Option (List ℕ × List ℕ)) → IsSoundOrNone (turn_parts text o)
-    by None = mapped (slot_of text) _ (λ slot e. (slot_below text slot e, leb-true 1 1 refl))
+    by None = mapped (slot_named text) _ (λ slot e. (slot_below text slot e, leb-true 1 1 refl))
     by (Some parts) = said_sound parts.0 parts.1
 
 timed_sound : (slot : ℕ) (text : List ℕ) → slot < 64 → IsSoundOrNone (timed_feed slot text)
@@ -88,7 +88,7 @@ feed_sound : (text : List ℕ) → IsSoundOrNone (feed_in text)
 unfolding feed_in
 feed_sound text =
     bound (split_word text) _ (λ first e1.
-    bound (slot_of first.0) _ (λ slot e2.
+    bound (slot_named first.0) _ (λ slot e2.
     by slot first.1 (slot_below first.0 slot e2) (live_reading first.1) refl))
   where
     by : (slot : ℕ) (rest : List ℕ) → slot < 64 → (o : Option (List (List ℕ))) → live_reading rest ≡ o → IsSoundOrNone (feed_listed slot rest o)
@@ -97,9 +97,9 @@ feed_sound text =
 
 call_sound : (word rest : List ℕ) → IsSoundOrNone (named_call word rest)
 call_sound word rest =
-    chosen (bytes_eq word (codes "fail")) _ _ (mapped (slot_of rest) _ (slot_below rest))
-    (chosen (bytes_eq word (codes "lose")) _ _ (mapped (slot_of rest) _ (slot_below rest))
-    (chosen (bytes_eq word (codes "stop")) _ None (mapped (slot_of rest) _ (slot_below rest)) tt))
+    chosen (bytes_eq word (codes "fail")) _ _ (mapped (slot_named rest) _ (slot_below rest))
+    (chosen (bytes_eq word (codes "lose")) _ _ (mapped (slot_named rest) _ (slot_below rest))
+    (chosen (bytes_eq word (codes "stop")) _ None (mapped (slot_named rest) _ (slot_below rest)) tt))
 
 named_sound : (word rest : List ℕ) → IsSoundOrNone (named_line word rest)
 named_sound word rest =

@@ -20,8 +20,8 @@ use Rattle.ipam_play.specs.declared.player.Stage.TheVariants as stage
 use Rattle.ipam_play.specs.Events.{ComesOf, Keeps, onto}
 use Rattle.ipam_play.specs.Gathering.{Gathers}
 use Rattle.ipam_play.specs.Played.{base_of}
-use Rattle.ipam_play.specs.Player.{IsBegun, IsBegunWith, IsCauseAtFirst, IsFinished, IsGathering, IsGatheredLine, IsOpened, IsPlayedLine, IsPlaying, journal_of, told_of}
-use Rattle.ipam_play.specs.Script.{Again, Gathered, OfBase, events_of, has_key, place_of, with_counter, with_row}
+use Rattle.ipam_play.specs.Player.{IsBegun, IsBegunWith, IsCauseAtFirst, IsFinished, IsGathering, IsGatheredLine, IsBaseOpened, IsPlayedLine, IsPlaying, journal_of, told_of}
+use Rattle.ipam_play.specs.Script.{Again, Gathered, OfBase, events_of, rows_have_key, place_of, with_counter, with_base_row}
 use Rattle.ipam_play.proofs.LineKinds.{place-events}
 use Rattle.ipam_play.proofs.Players.{base_keeps, first_keeps, line_happened, line_keeps}
 
@@ -72,12 +72,12 @@ counter-by new n base longer true (Err gather.Memory) is none again set = absurd
 counter-by new n base longer false (Err why) is none again set = absurd (cc again.0)
 
 module _ (old new : Player) (g n : Gathering) (was : old.stage ≡ stage.Gathering g) (is : new.stage ≡ stage.Gathering n) (same : journal_of new ≡ journal_of old) where
-  pub row_line : {T : Type 0} (row : Row) (r : Result T GatherFault) → ((gathered : Gathered) → Gathers g gathered → (r ≡ Err gather.Again) ↔ (has_key row.key gathered.rows ≡ true))
-      → ((gathered : Gathered) → Gathers g gathered → OnOk r (Gathers n (with_row row gathered))) → ((gathered : Gathered) → Gathers g gathered → OnErr r (Gathers n gathered))
+  pub row_line : {T : Type 0} (row : Row) (r : Result T GatherFault) → ((gathered : Gathered) → Gathers g gathered → (r ≡ Err gather.Again) ↔ (rows_have_key row.key gathered.rows ≡ true))
+      → ((gathered : Gathered) → Gathers g gathered → OnOk r (Gathers n (with_base_row row gathered))) → ((gathered : Gathered) → Gathers g gathered → OnErr r (Gathers n gathered))
       → (base : Gathered) → IsGathering old base → IsGatheredLine (told_of r) new base (place_of base (line.Row row))
   row_line row r again added kept base h =
       let gathers = gathers_there old g base was h in
-      row-by new n base (with_row row base) (has_key row.key base.rows) r is (same ∙ h.nothing) (again base gathers) (added base gathers) (kept base gathers)
+      row-by new n base (with_base_row row base) (rows_have_key row.key base.rows) r is (same ∙ h.nothing) (again base gathers) (added base gathers) (kept base gathers)
 
   pub counter_line : {T : Type 0} (counter : ℕ) (r : Result T GatherFault) → ((gathered : Gathered) → Gathers g gathered → OnErr r (is_some gathered.counter ≡ true × r ≡ Err gather.Again × Gathers n gathered))
       → ((gathered : Gathered) → Gathers g gathered → OnOk r (is_some gathered.counter ≡ false × Gathers n (with_counter counter gathered)))
@@ -94,7 +94,7 @@ counter_told (Err gather.Memory) again told = cc again
 
 -- ---- the base is opened
 
-opens-as : (new : Player) (o : OpenCluster) (base : Gathered) (store : Datastore) (made : List Entry) → new.stage ≡ stage.Playing o → IsOpened base store → StandsFor o.cluster (base_of store) (onto made [])
+opens-as : (new : Player) (o : OpenCluster) (base : Gathered) (store : Datastore) (made : List Entry) → new.stage ≡ stage.Playing o → IsBaseOpened base store → StandsFor o.cluster (base_of store) (onto made [])
     → journal_of new ≡ made → IsPlaying new base store []
 opens-as new o base store made is opened stands same = record {
   open_cluster = o;
@@ -117,7 +117,7 @@ module _ (old new : Player) (g : Gathering) (o : OpenCluster) (was : old.stage �
       } in
       rw (place-events base asked events with_events) begins
 
-  pub finishes : (base : Gathered) → ((base : Gathered) → Gathers g base → (store : Datastore) × IsOpened base store × StandsFor o.cluster (base_of store) [])
+  pub finishes : (base : Gathered) → ((base : Gathered) → Gathers g base → (store : Datastore) × IsBaseOpened base store × StandsFor o.cluster (base_of store) [])
       → journal_of new ≡ journal_of old → IsGathering old base → IsFinished {T = Unit {0}} (Ok tt) new base
   finishes base opens same h =
       let (store, opened, stands) = opens base (gathers_there old g base was h) in
@@ -153,7 +153,7 @@ module _ (old new : Player) (o n : OpenCluster) (was : old.stage ≡ stage.Playi
 
 -- ---- the first line after the base
 
-module _ (base : Gathered) (store : Datastore) (o n : OpenCluster) (before after : List Entry) (opened : IsOpened base store) (stands : StandsFor o.cluster (base_of store) []) where
+module _ (base : Gathered) (store : Datastore) (o n : OpenCluster) (before after : List Entry) (opened : IsBaseOpened base store) (stands : StandsFor o.cluster (base_of store) []) where
   pub first_kept : {T : Type 0} (result : Result T PlayFault) (asked : Line) → IfSome (events_of asked) (ComesOf result o.cluster n.cluster before after)
       → (events_of asked ≡ None → after ≡ before) → OnErr result (after ≡ before)
   first_kept (Ok done) asked comes same = tt

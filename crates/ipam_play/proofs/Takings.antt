@@ -4,9 +4,9 @@ use Rattle.std.specs.Prelude.{Ok}
 use Rattle.std.specs.Io.KnownBytes.{prepend_known}
 use Rattle.std.proofs.lemmas.List.{length-append}
 use Rattle.ipam_script.specs.declared.line.Line.{Line}
-use Rattle.ipam_script.specs.Lines.{lines_of, told}
+use Rattle.ipam_script.specs.Lines.{lines_of, told_line}
 use Rattle.ipam_play.specs.declared.lines.ScriptLines.{ScriptLines}
-use Rattle.ipam_play.specs.Readings.{AreReadWhole, AreWholeLines, Reading, TakesLine, TakesNone, reading_of, readings, readings_from}
+use Rattle.ipam_play.specs.Readings.{AreReadWhole, AreWholeLines, LineReading, TakesLine, TakesNone, line_reading_of, readings, readings_from}
 use Rattle.ipam_play.proofs.ReadingLemmas.{none_to_come, readings-line}
 
 prepend-twice : (first second : List ℕ) (known : Option (List ℕ)) → prepend_known (first ++ second) known ≡ prepend_known first (prepend_known second known)
@@ -22,7 +22,7 @@ unfolding readings_from lines_of
 readings-first bytes = refl
 
 -- the lines that were taken, and their readings
-pub record HasTaken (lines : ScriptLines) (was left : Option (List ℕ)) (done : List Reading) : Type 0 where
+pub record HasTaken (lines : ScriptLines) (was left : Option (List ℕ)) (done : List LineReading) : Type 0 where
   pub bytes : List ℕ
   pub are_whole : AreWholeLines bytes
   pub before : lines.before.bytes ≡ length bytes
@@ -38,7 +38,7 @@ taken_none lines left none start = record {
   are_read = readings-first;
 }
 
-pub taken_line : (line : Line) (old new : ScriptLines) (was mid left : Option (List ℕ)) (done : List Reading) → HasTaken old was mid done → TakesLine line old new mid left → HasTaken new was left (done ++ Ok line ∷ [])
+pub taken_line : (line : Line) (old new : ScriptLines) (was mid left : Option (List ℕ)) (done : List LineReading) → HasTaken old was mid done → TakesLine line old new mid left → HasTaken new was left (done ++ Ok line ∷ [])
 taken_line line old new was mid left done h t = record {
   bytes = h.bytes ++ (t.bytes ++ 10 ∷ []);
   are_whole = inr (h.bytes ++ t.bytes, sym (append_assoc h.bytes t.bytes (10 ∷ [])));
@@ -51,8 +51,8 @@ taken_line line old new was mid left done h t = record {
   are_read = λ rest.
       ap readings (behind rest)
       ∙ h.are_read (t.bytes ++ 10 ∷ rest)
-      ∙ ap (λ (l : List Reading). done ++ l) (readings-line (length h.bytes) t.bytes rest t.no_feed)
-      ∙ ap (λ (r : Reading). done ++ r ∷ readings_from (length h.bytes + length t.bytes + 1) rest) is-line
+      ∙ ap (λ (l : List LineReading). done ++ l) (readings-line (length h.bytes) t.bytes rest t.no_feed)
+      ∙ ap (λ (r : LineReading). done ++ r ∷ readings_from (length h.bytes + length t.bytes + 1) rest) is-line
       ∙ sym (append_assoc done (Ok line ∷ []) (readings_from (length h.bytes + length t.bytes + 1) rest))
       ∙ ap (λ (n : ℕ). (done ++ Ok line ∷ []) ++ readings_from n rest) (sym lengths);
 }
@@ -69,11 +69,11 @@ taken_line line old new was mid left done h t = record {
     longer : new.before.bytes ≡ length (h.bytes ++ (t.bytes ++ 10 ∷ []))
     longer = t.behind ∙ ap (λ (n : ℕ). n + length t.bytes + 1) h.before ∙ sym lengths
 
-    is-line : reading_of (told (length h.bytes) t.bytes) ≡ Ok line
-    is-line = ap (λ (n : ℕ). reading_of (told n t.bytes)) (sym h.before) ∙ t.is_line
+    is-line : line_reading_of (told_line (length h.bytes) t.bytes) ≡ Ok line
+    is-line = ap (λ (n : ℕ). line_reading_of (told_line n t.bytes)) (sym h.before) ∙ t.is_line
 
 -- no line more
-pub taken_all : (old new : ScriptLines) (was mid left : Option (List ℕ)) (done : List Reading) (h : HasTaken old was mid done) → TakesNone old new mid left → AreReadWhole h.bytes was left
+pub taken_all : (old new : ScriptLines) (was mid left : Option (List ℕ)) (done : List LineReading) (h : HasTaken old was mid done) → TakesNone old new mid left → AreReadWhole h.bytes was left
 taken_all old new was mid left done h t = record {
   are_whole = h.are_whole;
   part = new.lines;
@@ -81,6 +81,6 @@ taken_all old new was mid left done h t = record {
   read = h.taken ∙ prepend-twice h.bytes old.lines mid ∙ ap (prepend_known h.bytes) t.taken ∙ sym (prepend-twice h.bytes new.lines left);
 }
 
-pub all_readings : (lines : ScriptLines) (was left : Option (List ℕ)) (done : List Reading) (h : HasTaken lines was left done) → readings h.bytes ≡ done
+pub all_readings : (lines : ScriptLines) (was left : Option (List ℕ)) (done : List LineReading) (h : HasTaken lines was left done) → readings h.bytes ≡ done
 all_readings lines was left done h =
-    ap readings (sym (append-nil h.bytes)) ∙ h.are_read [] ∙ ap (λ (l : List Reading). done ++ l) (none_to_come (length h.bytes)) ∙ append-nil done
+    ap readings (sym (append-nil h.bytes)) ∙ h.are_read [] ∙ ap (λ (l : List LineReading). done ++ l) (none_to_come (length h.bytes)) ∙ append-nil done

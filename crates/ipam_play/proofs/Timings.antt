@@ -16,7 +16,7 @@ use Rattle.ipam_records.specs.Datastore.{Datastore}
 use Rattle.ipam_running.specs.declared.running.Running.{Running}
 use Rattle.ipam_running.specs.Running.{grace_of}
 use Rattle.ipam_cluster.specs.declared.cluster.Cluster.{Cluster}
-use Rattle.ipam_cluster.specs.Cluster.{AddsTo, IsSlot, IsUnchanged, StandsFor, grace_in, slot_of}
+use Rattle.ipam_cluster.specs.Cluster.{AddsTo, IsSlot, IsUnchanged, StandsFor, grace_in, slot_of_cluster}
 use Rattle.ipam_play.specs.declared.cluster.OpenCluster.{OpenCluster}
 use Rattle.ipam_play.specs.Times.{IsTimed, StandsTimed, times_asked}
 
@@ -48,21 +48,21 @@ unequal one other same differs = cc (sym (eq-eqb one other same) ∙ differs)
 -- ---- what an entry makes of the times of what runs
 
 -- the times of what runs
-abbrev pub grace_asked_in : Option model.Running → Option Grace
+abbrev pub grace_asked_in : Option model.RunningRequest → Option Grace
 grace_asked_in None = None
 grace_asked_in (Some one) = grace_of one.request
 
-in_both : (code : Option Running) (one : Option model.Running) → IsSlot code one → grace_in code ≡ grace_asked_in one
+in_both : (code : Option Running) (one : Option model.RunningRequest) → IsSlot code one → grace_in code ≡ grace_asked_in one
 in_both None None is = refl
 in_both None (Some one) is = absurd is
 in_both (Some running) None is = absurd is
 in_both (Some running) (Some one) is = is.grace
 
-after-fed : (live : List (List ℕ)) (one : Option model.Running) → grace_asked_in (run_after_feed live one) ≡ grace_asked_in one
+after-fed : (live : List (List ℕ)) (one : Option model.RunningRequest) → grace_asked_in (run_after_feed live one) ≡ grace_asked_in one
 after-fed live None = refl
 after-fed live (Some one) = refl
 
-after-called : (store : Datastore) (moment : ℕ) (answer : Option Answer) (one : Option model.Running) (grace : Grace) → grace_asked_in (goes_on store moment answer one) ≡ Some grace → grace_asked_in one ≡ Some grace
+after-called : (store : Datastore) (moment : ℕ) (answer : Option Answer) (one : Option model.RunningRequest) (grace : Grace) → grace_asked_in (goes_on store moment answer one) ≡ Some grace → grace_asked_in one ≡ Some grace
 after-called store moment (Some answer) one grace e = absurd (cc e)
 after-called store moment None None grace e = e
 after-called store moment None (Some one) grace e = e
@@ -74,7 +74,7 @@ BeginsNone (entry.Called c) = Unit {0}
 BeginsNone (entry.Fed slot at live) = Unit {0}
 BeginsNone (entry.Stopped slot) = Unit {0}
 
-at_slot : (slots : model.Slots) (slot : ℕ) (running : Option model.Running) (other : ℕ) (grace : Grace)
+at_slot : (slots : model.Slots) (slot : ℕ) (running : Option model.RunningRequest) (other : ℕ) (grace : Grace)
     → (grace_asked_in running ≡ Some grace → grace_asked_in (slots slot) ≡ Some grace)
     → grace_asked_in (model.with_slot slot running slots other) ≡ Some grace → grace_asked_in (slots other) ≡ Some grace
 at_slot slots slot running other grace here h = by (other == slot) refl h
@@ -83,7 +83,7 @@ at_slot slots slot running other grace here h = by (other == slot) refl h
     by true e k = subst (λ (n : ℕ). grace_asked_in (slots n) ≡ Some grace) (sym (eqb-true other slot e)) (here k)
     by false e k = k
 
-kept : (it : model.Cluster) (new : Entry) (other : ℕ) (grace : Grace) → BeginsNone new → grace_asked_in ((after it new).slots other) ≡ Some grace → grace_asked_in (it.slots other) ≡ Some grace
+kept : (it : model.ClusterState) (new : Entry) (other : ℕ) (grace : Grace) → BeginsNone new → grace_asked_in ((after it new).slots other) ≡ Some grace → grace_asked_in (it.slots other) ≡ Some grace
 unfolding after
 kept it (entry.Began slot request) other grace none h = absurd none
 kept it (entry.Called c) other grace none h =
@@ -93,7 +93,7 @@ kept it (entry.Fed slot at live) other grace none h =
 kept it (entry.Stopped slot) other grace none h = at_slot it.slots slot None other grace (λ k. absurd (cc k)) h
 
 -- a request begins there, or all is as it was
-began : (it : model.Cluster) (slot : ℕ) (request : Request) (other : ℕ) (grace : Grace) → grace_asked_in ((after it (entry.Began slot request)).slots other) ≡ Some grace
+began : (it : model.ClusterState) (slot : ℕ) (request : Request) (other : ℕ) (grace : Grace) → grace_asked_in ((after it (entry.Began slot request)).slots other) ≡ Some grace
     → ((other ≡ slot) × (grace_of request ≡ Some grace)) ⊎ ((other ≢ slot) × (grace_asked_in (it.slots other) ≡ Some grace))
 unfolding after
 began it slot request other grace h = by (other == slot) refl h
@@ -107,13 +107,13 @@ cluster-next : (base : Base) (history : List Entry) (new : Entry) → cluster_at
 unfolding cluster_at
 cluster-next base history new = refl
 
-there : (cluster : Cluster) (base : Base) (history : List Entry) → StandsFor cluster base history → (slot : ℕ) → grace_in (slot_of cluster slot) ≡ grace_asked_in ((cluster_at base history).slots slot)
-there cluster base history h slot = in_both (slot_of cluster slot) ((cluster_at base history).slots slot) (h.is_cluster.slots slot)
+there : (cluster : Cluster) (base : Base) (history : List Entry) → StandsFor cluster base history → (slot : ℕ) → grace_in (slot_of_cluster cluster slot) ≡ grace_asked_in ((cluster_at base history).slots slot)
+there cluster base history h slot = in_both (slot_of_cluster cluster slot) ((cluster_at base history).slots slot) (h.is_cluster.slots slot)
 
-there-next : (old new : Cluster) (base : Base) (history : List Entry) (made : Entry) → StandsFor old base history → AddsTo old new made → (slot : ℕ) (grace : Grace) → grace_in (slot_of new slot) ≡ Some grace
+there-next : (old new : Cluster) (base : Base) (history : List Entry) (made : Entry) → StandsFor old base history → AddsTo old new made → (slot : ℕ) (grace : Grace) → grace_in (slot_of_cluster new slot) ≡ Some grace
     → grace_asked_in ((after (cluster_at base history) made).slots slot) ≡ Some grace
 there-next old new base history made h adds slot grace e =
-    ap (λ (it : model.Cluster). grace_asked_in (it.slots slot)) (sym (cluster-next base history made))
+    ap (λ (it : model.ClusterState). grace_asked_in (it.slots slot)) (sym (cluster-next base history made))
     ∙ sym (there new base (made ∷ history) (adds base history h) slot) ∙ e
 
 -- ---- of a cluster
@@ -143,24 +143,24 @@ timed_began old new slot request ((base, (history, h)), timed) adds one two at g
         )
 
 -- nothing runs in this slot, and the others are as they were
-pub timed_stopped : (old new : OpenCluster) (slot : ℕ) → IsTimed old → slot_of new.cluster slot ≡ None → ((other : ℕ) → ¬ (other ≡ slot) → slot_of new.cluster other ≡ slot_of old.cluster other)
+pub timed_stopped : (old new : OpenCluster) (slot : ℕ) → IsTimed old → slot_of_cluster new.cluster slot ≡ None → ((other : ℕ) → ¬ (other ≡ slot) → slot_of_cluster new.cluster other ≡ slot_of_cluster old.cluster other)
     → new.at ≡ old.at → new.grace ≡ old.grace → IsTimed new
 timed_stopped old new slot timed idle others at graces = λ other grace e. by other grace (other == slot) refl e
   where
-    by : (other : ℕ) (grace : Grace) (b : Bool) → (other == slot) ≡ b → grace_in (slot_of new.cluster other) ≡ Some grace → (slice_index new.at other ≡ grace.at) × (slice_index new.grace other ≡ grace.grace)
+    by : (other : ℕ) (grace : Grace) (b : Bool) → (other == slot) ≡ b → grace_in (slot_of_cluster new.cluster other) ≡ Some grace → (slice_index new.at other ≡ grace.at) × (slice_index new.grace other ≡ grace.grace)
     by other grace true same e =
-        let none : grace_in (slot_of new.cluster other) ≡ None = ap (λ (n : ℕ). grace_in (slot_of new.cluster n)) (eqb-true other slot same) ∙ ap grace_in idle in
+        let none : grace_in (slot_of_cluster new.cluster other) ≡ None = ap (λ (n : ℕ). grace_in (slot_of_cluster new.cluster n)) (eqb-true other slot same) ∙ ap grace_in idle in
         absurd (cc (sym none ∙ e))
     by other grace false differs e =
         let times = timed other grace (ap grace_in (sym (others other (λ same. unequal other slot same differs))) ∙ e) in
         (ap (λ (l : List ℕ). slice_index l other) at ∙ times.0, ap (λ (l : List ℕ). slice_index l other) graces ∙ times.1)
 
 -- nothing runs at all
-pub never_timed : (cluster : Cluster) → ((slot : ℕ) → slot_of cluster slot ≡ None) → (slot : ℕ) (grace : Grace) → grace_in (slot_of cluster slot) ≡ Some grace → ⊥
+pub never_timed : (cluster : Cluster) → ((slot : ℕ) → slot_of_cluster cluster slot ≡ None) → (slot : ℕ) (grace : Grace) → grace_in (slot_of_cluster cluster slot) ≡ Some grace → ⊥
 never_timed cluster idle slot grace e = cc (sym (ap grace_in (idle slot)) ∙ e)
 
 -- the slots are as they were
-pub timed_still : (old new : OpenCluster) → IsTimed old → ((slot : ℕ) → slot_of new.cluster slot ≡ slot_of old.cluster slot) → new.at ≡ old.at → new.grace ≡ old.grace → IsTimed new
+pub timed_still : (old new : OpenCluster) → IsTimed old → ((slot : ℕ) → slot_of_cluster new.cluster slot ≡ slot_of_cluster old.cluster slot) → new.at ≡ old.at → new.grace ≡ old.grace → IsTimed new
 timed_still old new timed same at graces = λ slot grace e.
     let times = timed slot grace (ap grace_in (sym (same slot)) ∙ e) in
     (ap (λ (l : List ℕ). slice_index l slot) at ∙ times.0, ap (λ (l : List ℕ). slice_index l slot) graces ∙ times.1)

@@ -1,7 +1,7 @@
 -- What events do to a cluster, and to each history that it stands for.
 use Rattle.std.specs.Prelude.{◌≡◌, List, [], ◌∷◌, ◌++◌, ◌⊎◌, None, Result, Ok, Err}
 use Rattle.ipam_model.specs.declared.entry.Entry.{Entry}
-use Rattle.ipam_model.specs.Course.{Event, Refusal, Busy, Idle, Waiting, NotWaiting, TooSoon, Worn, course, entries_of}
+use Rattle.ipam_model.specs.Course.{Event, EventRefusal, Busy, Idle, Waiting, NotWaiting, TooSoon, Worn, course, entries_of}
 use Rattle.ipam_model.specs.History.{Base, cluster_at}
 use Rattle.ipam_cluster.specs.declared.cluster.Cluster.{Cluster}
 use Rattle.ipam_cluster.specs.Cluster.{StandsFor}
@@ -14,7 +14,7 @@ onto [] history = history
 onto (new ∷ made) history = onto made (new ∷ history)
 
 -- how a refusal is told
-abbrev pub fault_of : Refusal → PlayFault
+abbrev pub fault_of : EventRefusal → PlayFault
 fault_of Busy = fault.Busy
 fault_of Idle = fault.Idle
 fault_of Waiting = fault.Waiting
@@ -31,14 +31,14 @@ pub record Makes (old new : Cluster) (event : Event) (made : Entry) : Type 0 whe
       → entries_of (cluster_at base history) event ≡ Ok (made ∷ [])
 
 -- the event is refused, wherever the cluster stands
-abbrev pub Refuses : Cluster → Event → Refusal → Type 0
+abbrev pub Refuses : Cluster → Event → EventRefusal → Type 0
 Refuses cluster event refusal =
     (base : Base) (history : List Entry) → StandsFor cluster base history
     → entries_of (cluster_at base history) event ≡ Err refusal
 
 -- after these entries the event is refused, wherever the cluster stands, and told so
 pub record IsToldBy (cluster : Cluster) (made : List Entry) (event : Event) (told : PlayFault) : Type 0 where
-  pub refusal : Refusal
+  pub refusal : EventRefusal
   pub is_told : told ≡ fault_of refusal
   pub refuses : (base : Base) (history : List Entry) → StandsFor cluster base history
       → entries_of (cluster_at base (onto made history)) event ≡ Err refusal

@@ -3,7 +3,7 @@ use Rattle.std.specs.Prelude.{◌≡◌, ℕ, List, [], ◌∷◌, ◌++◌, ◌
 use Rattle.ipam_records.specs.Datastore.{Datastore}
 use Rattle.ipam_model.specs.declared.entry.Entry.{Entry}
 use Rattle.ipam_model.specs.Cluster as model
-use Rattle.ipam_model.specs.Course.{Event, Refusal, course, entries_of}
+use Rattle.ipam_model.specs.Course.{Event, EventRefusal, course, entries_of}
 use Rattle.ipam_model.specs.History.{cluster_at}
 use Rattle.ipam_model.specs.Opened.{IsRefusedBy, OpensAs, Texts}
 use Rattle.ipam_cluster.specs.Cluster.{StandsFor}
@@ -20,28 +20,28 @@ use Rattle.ipam_play.specs.declared.player.Stage.{Stage}
 use Rattle.ipam_play.specs.declared.player.Stage.TheVariants as stage
 use Rattle.ipam_play.specs.Events.{fault_of, onto}
 use Rattle.ipam_play.specs.Gathering.{Gathers}
-use Rattle.ipam_play.specs.Played.{AreTextsOf, base_of}
+use Rattle.ipam_play.specs.Played.{AreTextsOfBase, base_of}
 use Rattle.ipam_play.specs.Times.{StandsTimed}
-use Rattle.ipam_play.specs.Script.{Gathered, Place, OfBase, Again, Happens}
+use Rattle.ipam_play.specs.Script.{Gathered, LinePlace, OfBase, Again, Happens}
 
 -- the entries that were not forgotten
 abbrev pub journal_of : Player → List Entry
 journal_of player = player.journal.items
 
 -- the cluster behind these entries, the oldest first
-abbrev pub cluster_of : Datastore → List Entry → model.Cluster
+abbrev pub cluster_of : Datastore → List Entry → model.ClusterState
 cluster_of store entries = cluster_at (base_of store) (onto entries [])
 
 -- the base is opened as this datastore
-pub record IsOpened (base : Gathered) (store : Datastore) : Type 0 where
+pub record IsBaseOpened (base : Gathered) (store : Datastore) : Type 0 where
   pub texts : Texts
-  pub are_texts : AreTextsOf texts base
+  pub are_texts : AreTextsOfBase texts base
   pub opens : OpensAs texts store
 
 -- the base breaks this rule, of which this key is told
 pub record IsBroken (base : Gathered) (rule : ℕ) (about : List ℕ) : Type 0 where
   pub texts : Texts
-  pub are_texts : AreTextsOf texts base
+  pub are_texts : AreTextsOfBase texts base
   pub refused : IsRefusedBy texts rule about
 
 -- ---- where a player stands
@@ -65,19 +65,19 @@ pub record IsGathering (player : Player) (base : Gathered) : Type 0 where
 pub record IsPlaying (player : Player) (base : Gathered) (store : Datastore) (past : List Entry) : Type 0 where
   pub open_cluster : OpenCluster
   pub is : player.stage ≡ stage.Playing open_cluster
-  pub opened : IsOpened base store
+  pub opened : IsBaseOpened base store
   pub stands : StandsFor open_cluster.cluster (base_of store) (onto (past ++ journal_of player) [])
 
 -- ---- lines after the base
 
 -- the event is refused by the cluster, and told so
-pub record IsRefusal (cluster : model.Cluster) (event : Event) (told : PlayFault) : Type 0 where
-  pub refusal : Refusal
+pub record IsRefusal (cluster : model.ClusterState) (event : Event) (told : PlayFault) : Type 0 where
+  pub refusal : EventRefusal
   pub is_told : told ≡ fault_of refusal
   pub refuses : entries_of cluster event ≡ Err refusal
 
 -- there was no memory for the event, which is not refused
-pub record IsWanting (cluster : model.Cluster) (event : Event) (told : PlayFault) : Type 0 where
+pub record IsWanting (cluster : model.ClusterState) (event : Event) (told : PlayFault) : Type 0 where
   pub is_told : told ≡ fault.Memory
   pub would_make : List Entry
   pub makes : entries_of cluster event ≡ Ok would_make
@@ -123,7 +123,7 @@ told_of (Err gather.Memory) = Err fault.Memory
 -- a cluster over the base that was opened, in which all of the events happened
 pub record IsBegunWith (open_cluster : OpenCluster) (before after : List Entry) (base : Gathered) (events : List Event) : Type 0 where
   pub store : Datastore
-  pub opened : IsOpened base store
+  pub opened : IsBaseOpened base store
   pub made : List Entry
   pub added : after ≡ before ++ made
   pub stands : StandsFor open_cluster.cluster (base_of store) (onto made [])
@@ -138,7 +138,7 @@ pub record IsBegun (new : Player) (base : Gathered) (events : List Event) : Type
 -- the base was opened, and the first event is refused
 pub record IsRefusedFirst (base : Gathered) (events : List Event) (told : PlayFault) : Type 0 where
   pub store : Datastore
-  pub opened : IsOpened base store
+  pub opened : IsBaseOpened base store
   pub next : Event
   pub rest : List Event
   pub is_first : events ≡ next ∷ rest
@@ -171,7 +171,7 @@ pub record IsNotOpened (base : Gathered) (told : PlayFault) : Type 0 where
 abbrev pub IsCauseAtFirst : Gathered → List Event → PlayFault → Type 0
 IsCauseAtFirst base events told = (told ≡ fault.Memory) ⊎ (IsNotOpened base told ⊎ IsRefusedFirst base events told)
 
-abbrev pub IsGatheredLine : {T : Type 0} → Result T PlayFault → (new : Player) → (base : Gathered) → Place → Type 0
+abbrev pub IsGatheredLine : {T : Type 0} → Result T PlayFault → (new : Player) → (base : Gathered) → LinePlace → Type 0
 IsGatheredLine (Ok done) new base (OfBase longer) = IsGathering new longer
 IsGatheredLine (Err told) new base (OfBase longer) = IsGathering new base × (told ≡ fault.Memory)
 IsGatheredLine (Ok done) new base Again = ⊥

@@ -4,7 +4,7 @@ use Rattle.std.specs.Io.KnownBytes.{prepend_known}
 use Rattle.std.specs.List.{slice_split}
 use Rattle.ipam_lines.specs.Feeds.{HasNoFeed}
 use Rattle.ipam_script.specs.declared.line.Line.{Line}
-use Rattle.ipam_script.specs.Lines.{ScriptLine, Whole, Long as LongLine, is_line_end, lines_of, placed, told, without_empty_end}
+use Rattle.ipam_script.specs.Lines.{ScriptLine, Whole, Long as LongLine, is_line_end, lines_of, placed, told_line, without_empty_end}
 use Rattle.ipam_script.specs.Reading.{line_reading}
 use Rattle.ipam_play.specs.declared.refusal.LineRefusal.{LineRefusal}
 use Rattle.ipam_play.specs.declared.refusal.LineRefusal.TheVariants.{Long, Unreadable}
@@ -15,47 +15,47 @@ use Rattle.ipam_play.specs.declared.lines.ScriptFault.TheVariants.{Read, Memory}
 use Rattle.ipam_play.specs.declared.lines.ScriptLines.{ScriptLines}
 
 -- a line, or why it is none
-abbrev pub Reading : Type 0
-Reading = Result Line LineRefusal
+abbrev pub LineReading : Type 0
+LineReading = Result Line LineRefusal
 
-abbrev pub read_or_not : Option Line → Reading
+abbrev pub read_or_not : Option Line → LineReading
 read_or_not None = Err Unreadable
 read_or_not (Some line) = Ok line
 
-abbrev pub reading_of : ScriptLine → Reading
-reading_of LongLine = Err Long
-reading_of (Whole bytes) = read_or_not (line_reading bytes)
+abbrev pub line_reading_of : ScriptLine → LineReading
+line_reading_of LongLine = Err Long
+line_reading_of (Whole bytes) = read_or_not (line_reading bytes)
 
 -- the readings of these bytes, before which so many stand in the script
-unfoldable pub readings_from : (before : ℕ) → List ℕ → List Reading
-readings_from before bytes = map reading_of (placed before (without_empty_end (slice_split is_line_end bytes)))
+unfoldable pub readings_from : (before : ℕ) → List ℕ → List LineReading
+readings_from before bytes = map line_reading_of (placed before (without_empty_end (slice_split is_line_end bytes)))
 
-abbrev pub readings : List ℕ → List Reading
-readings script = map reading_of (lines_of script)
+abbrev pub readings : List ℕ → List LineReading
+readings script = map line_reading_of (lines_of script)
 
 abbrev pub Answer : Type 0
 Answer = Result Next ScriptFault
 
 -- What an answer says of the readings to come, and of those after it. A refused line and a fault end
 -- the reading.
-abbrev pub IsNext : Answer → (now after : List Reading) → Type 0
+abbrev pub IsNext : Answer → (now after : List LineReading) → Type 0
 IsNext (Ok (next.Line line)) now after = now ≡ Ok line ∷ after
 IsNext (Ok (next.Last line)) now after = now ≡ Ok line ∷ []
-IsNext (Ok (next.Refused why)) now after = (more : List Reading) × (now ≡ Err why ∷ more)
+IsNext (Ok (next.Refused why)) now after = (more : List LineReading) × (now ≡ Err why ∷ more)
 IsNext (Ok next.End) now after = now ≡ []
 IsNext (Err fault) now after = ⊤
 
 -- the readings to come, where the source tells its bytes
-abbrev pub coming : ScriptLines → Option (List ℕ) → Option (List Reading)
+abbrev pub coming : ScriptLines → Option (List ℕ) → Option (List LineReading)
 coming lines left = option_map (readings_from lines.before.bytes) (prepend_known lines.lines left)
 
 -- the same where the readings are known, and they stay known
-abbrev pub IsNextOf : Answer → (now after : Option (List Reading)) → Type 0
+abbrev pub IsNextOf : Answer → (now after : Option (List LineReading)) → Type 0
 IsNextOf answer None after = ⊤
-IsNextOf answer (Some now) after = (behind : List Reading) × (after ≡ Some behind) × IsNext answer now behind
+IsNextOf answer (Some now) after = (behind : List LineReading) × (after ≡ Some behind) × IsNext answer now behind
 
 -- what the bytes of a line say of an answer
-abbrev pub IsTold : Answer → Reading → Type 0
+abbrev pub IsTold : Answer → LineReading → Type 0
 IsTold (Ok (next.Line line)) reading = reading ≡ Ok line
 IsTold (Ok (next.Last line)) reading = ⊥
 IsTold (Ok (next.Refused why)) reading = reading ≡ Err why
@@ -63,7 +63,7 @@ IsTold (Ok next.End) reading = ⊥
 IsTold (Err fault) reading = fault ≡ Memory
 
 -- the same where they are the last
-abbrev pub IsLastTold : Answer → Reading → Type 0
+abbrev pub IsLastTold : Answer → LineReading → Type 0
 IsLastTold (Ok (next.Line line)) reading = ⊥
 IsLastTold (Ok (next.Last line)) reading = reading ≡ Ok line
 IsLastTold (Ok (next.Refused why)) reading = reading ≡ Err why
@@ -103,7 +103,7 @@ OnEnd (Err fault) p = ⊤
 pub record TakesLine (line : Line) (old new : ScriptLines) (was left : Option (List ℕ)) : Type 0 where
   pub bytes : List ℕ
   pub no_feed : HasNoFeed bytes
-  pub is_line : reading_of (told old.before.bytes bytes) ≡ Ok line
+  pub is_line : line_reading_of (told_line old.before.bytes bytes) ≡ Ok line
   pub behind : new.before.bytes ≡ old.before.bytes + length bytes + 1
   pub taken : prepend_known old.lines was ≡ prepend_known (bytes ++ 10 ∷ new.lines) left
 
@@ -133,7 +133,7 @@ pub record WantsLine (old : ScriptLines) (was left : Option (List ℕ)) : Type 0
   pub rest : List ℕ
   pub no_feed : HasNoFeed bytes
   pub is_rest : IsLineEnd rest
-  pub not_long : told old.before.bytes bytes ≡ Whole bytes
+  pub not_long : told_line old.before.bytes bytes ≡ Whole bytes
   pub taken : prepend_known old.lines was ≡ prepend_known (bytes ++ rest) left
 
 -- what an answer takes of the bytes to come

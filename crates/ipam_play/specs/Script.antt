@@ -9,7 +9,7 @@ use Rattle.ipam_script.specs.declared.line.Line.{Line}
 use Rattle.ipam_script.specs.declared.line.Line.TheVariants as line
 use Rattle.ipam_play.specs.declared.refusal.LineRefusal.{LineRefusal}
 use Rattle.ipam_play.specs.declared.refusal.LineRefusal.TheVariants as refusal
-use Rattle.ipam_play.specs.Readings.{Reading}
+use Rattle.ipam_play.specs.Readings.{LineReading}
 
 -- ---- the base
 
@@ -21,12 +21,12 @@ pub record Gathered : Type 0 where
 abbrev pub nothing_gathered : Gathered
 nothing_gathered = record { rows = []; counter = None }
 
-abbrev pub has_key : List ℕ → List RowText → Bool
-has_key key rows = list_any (λ (row : RowText). bytes_eq key row.key) rows
+abbrev pub rows_have_key : List ℕ → List RowText → Bool
+rows_have_key key rows = list_any (λ (row : RowText). bytes_eq key row.key) rows
 
 -- the same with one row more
-abbrev pub with_row : RowText → Gathered → Gathered
-with_row row base = record base { rows = base.rows ++ row ∷ [] }
+abbrev pub with_base_row : RowText → Gathered → Gathered
+with_base_row row base = record base { rows = base.rows ++ row ∷ [] }
 
 -- the same with this counter
 abbrev pub with_counter : ℕ → Gathered → Gathered
@@ -47,27 +47,27 @@ events_of (line.Stop slot) = Some (Stop slot ∷ [])
 events_of line.Restart = Some (Restart ∷ [])
 
 -- what a line is after the lines of the base so far
-pub data Place : Type 0 where
+pub data LinePlace : Type 0 where
   -- it is of the base, which is this with it
-  OfBase : Gathered → Place
+  OfBase : Gathered → LinePlace
   -- it was given before
-  Again : Place
+  Again : LinePlace
   -- the base is opened, and this happens
-  Happens : List Event → Place
+  Happens : List Event → LinePlace
 
-abbrev pub happening : Option (List Event) → Place
+abbrev pub happening : Option (List Event) → LinePlace
 happening None = Again
 happening (Some events) = Happens events
 
-abbrev pub place_of : Gathered → Line → Place
-place_of base (line.Row row) = if has_key row.key base.rows then Again else OfBase (with_row row base)
+abbrev pub place_of : Gathered → Line → LinePlace
+place_of base (line.Row row) = if rows_have_key row.key base.rows then Again else OfBase (with_base_row row base)
 place_of base (line.Counter counter) = if is_some base.counter then Again else OfBase (with_counter counter base)
 place_of base other = happening (events_of other)
 
 -- ---- scripts
 
 -- a line after the base: its number, from 1 on, and what it does
-pub record Step : Type 0 where
+pub record ScriptStep : Type 0 where
   pub number : ℕ
   pub events : List Event
 
@@ -80,18 +80,18 @@ pub data Stops : Type 0 where
 
 pub record Script : Type 0 where
   pub base : Gathered
-  pub steps : List Step
+  pub steps : List ScriptStep
   pub stops : Stops
 
 abbrev pub stopped : Gathered → Stops → Script
 stopped base stops = record { base = base; steps = []; stops = stops }
 
 -- one step more, before the others
-abbrev pub behind_step : Step → Script → Script
+abbrev pub behind_step : ScriptStep → Script → Script
 behind_step step script = record script { steps = step ∷ script.steps }
 
 -- the script of lines after the base, from this number on
-unfoldable pub steps_from : ℕ → Gathered → List Reading → Script
+unfoldable pub steps_from : ℕ → Gathered → List LineReading → Script
 steps_from number base [] = stopped base Ended
 steps_from number base (Err why ∷ more) = stopped base (Broken number why)
 steps_from number base (Ok line ∷ more) =
@@ -101,7 +101,7 @@ steps_from number base (Ok line ∷ more) =
     ]
 
 -- the script of lines from this number on, after these lines of the base
-unfoldable pub script_from : ℕ → Gathered → List Reading → Script
+unfoldable pub script_from : ℕ → Gathered → List LineReading → Script
 script_from number base [] = stopped base Ended
 script_from number base (Err why ∷ more) = stopped base (Broken number why)
 script_from number base (Ok line ∷ more) =
@@ -111,5 +111,5 @@ script_from number base (Ok line ∷ more) =
       | Happens events ↦ behind_step (record { number = number; events = events }) (steps_from (number + 1) base more)
     ]
 
-abbrev pub script_of : List Reading → Script
+abbrev pub script_of : List LineReading → Script
 script_of lines = script_from 1 nothing_gathered lines

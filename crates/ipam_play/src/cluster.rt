@@ -9,7 +9,7 @@ ghost use Rattle.ipam_model.specs.declared.entry.SlotState.TheVariants as state;
 ghost use Rattle.ipam_model.specs.SoundRequest.{IsSoundRequest};
 ghost use Rattle.ipam_model.specs.Opened.{AreByKey, OpensAs};
 ghost use Rattle.ipam_opening.specs.Opening.{IsFaultOf};
-ghost use Rattle.ipam_cluster.specs.Cluster.{StandsFor, AddsTo, slot_of, state_in};
+ghost use Rattle.ipam_cluster.specs.Cluster.{StandsFor, AddsTo, slot_of_cluster, state_in};
 ghost use Rattle.ipam_cluster.specs.Turns.{texts_in};
 ghost use Rattle.ipam_play.specs.Played.{base_of};
 ghost use Rattle.ipam_model.specs.declared.entry.Fate.{Fate as AnyFate};
@@ -138,11 +138,11 @@ impl OpenCluster {
     /// What runs in the slot is stopped, where anything does, for a restart.
     pub(crate) fn clear(&mut self, slot: u8) -> Option<Entry>
         requires { slot < SLOTS }
-        ensures idle { IsNone result ↔ (slot_of self.old.cluster slot ≡ None) }
+        ensures idle { IsNone result ↔ (slot_of_cluster self.old.cluster slot ≡ None) }
         ensures entry { IfSome result (λ stopped. stopped ≡ entry.Stopped slot) }
         ensures adds { IfSome result (AddsTo self.old.cluster self.new.cluster) }
         ensures kept { IfNone result (Keeps self.old.cluster self.new.cluster) }
-        ensures others { (other : ℕ) → other ≢ slot → slot_of self.new.cluster other ≡ slot_of self.old.cluster other }
+        ensures others { (other : ℕ) → other ≢ slot → slot_of_cluster self.new.cluster other ≡ slot_of_cluster self.old.cluster other }
         ensures timed { IsTimed self.old → IsTimed self.new }
     {
         self.cluster.stop(slot)
@@ -192,7 +192,7 @@ impl OpenCluster {
     fn may_feed_waiting(&self, slot: u8, at: u64) -> Result<(), PlayFault>
         requires slot { slot < SLOTS }
         requires standing { StandsTimed self.now }
-        requires waiting { state_in (slot_of self.now.cluster slot) ≡ state.Waiting }
+        requires waiting { state_in (slot_of_cluster self.now.cluster slot) ≡ state.Waiting }
         ensures may { (live : List (List ℕ)) → OnOk result (MayMake self.now.cluster [] (event.Feed slot at live)) }
         ensures refused { (live : List (List ℕ)) → IfErr result (IsToldBy self.now.cluster [] (event.Feed slot at live)) }
     {

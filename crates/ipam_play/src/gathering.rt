@@ -6,8 +6,8 @@ ghost use Rattle.ipam_cluster.specs.Turns.{texts_in};
 ghost use Rattle.ipam_model.specs.Opened.{AreByKey};
 ghost use Rattle.ipam_keeper.specs.Rows.{text_cmp};
 ghost use Rattle.ipam_play.specs.Gathering.{row_gathered};
-ghost use Rattle.ipam_play.specs.Played.{AreTextsOf};
-ghost use Rattle.ipam_play.specs.Script.{Gathered, has_key, nothing_gathered, with_row, with_counter};
+ghost use Rattle.ipam_play.specs.Played.{AreTextsOfBase};
+ghost use Rattle.ipam_play.specs.Script.{Gathered, rows_have_key, nothing_gathered, with_base_row, with_counter};
 
 use ipam_cluster::Base;
 use ipam_records::Row;
@@ -65,7 +65,7 @@ impl Gathering {
     /// The base as far as it is known, its rows by ascending key.
     pub(crate) fn base(&self, alloc: Global) -> Result<Base, AllocError>
         ensures texts { (gathered : Gathered) → Gathers self.now gathered → IfOk result
-            (λ base. AreTextsOf (texts_in base) gathered) }
+            (λ base. AreTextsOfBase (texts_in base) gathered) }
         ensures by_key { IfOk result (λ base. AreByKey base.rows.items) }
         ensures first { IfOk result (λ base. base.first ≡ 0) }
     {
@@ -90,9 +90,9 @@ impl Gathering {
     /// One row more. On `Err` nothing changes.
     pub(crate) fn add(&mut self, alloc: Global, row: &Row) -> Result<(), GatherFault>
         ensures again { (gathered : Gathered) → Gathers self.old gathered → ((result ≡ Err GatherFault.Again)
-            ↔ (has_key row.now.key gathered.rows ≡ true)) }
+            ↔ (rows_have_key row.now.key gathered.rows ≡ true)) }
         ensures added { (gathered : Gathered) → Gathers self.old gathered → OnOk result
-            (Gathers self.new (with_row row.now gathered)) }
+            (Gathers self.new (with_base_row row.now gathered)) }
         ensures unchanged { (gathered : Gathered) → Gathers self.old gathered → OnErr result
             (Gathers self.new gathered) }
     {

@@ -2,10 +2,10 @@
 ghost use Rattle.std.specs.Prelude.{◌≡◌, ◌+◌, ◌++◌, ◌<◌, ◌≤◌, [], List, ℕ, true, length, slice_index, take, IfOk, IfErr, IfNone, IfSome, OnErr, OnOk};
 ghost use Rattle.ipam_io.specs.Counts.{Rose};
 ghost use Rattle.ipam_lines.specs.Feeds.{HasNoFeed};
-ghost use Rattle.ipam_script.specs.Lines.{Whole, is_long, told};
+ghost use Rattle.ipam_script.specs.Lines.{Whole, is_long, told_line};
 ghost use Rattle.ipam_script.specs.declared.limits.TheConstants.{MOST_SCRIPT_BYTES};
 ghost use Rattle.std.specs.Io.KnownBytes.{IsAtEnd};
-ghost use Rattle.ipam_play.specs.Readings.{reading_of, coming, IfLine, IsLineEnd, IsNextOf, IsTold, IsLastTold, OnEnd, OnLine, Takes, UnlessRead};
+ghost use Rattle.ipam_play.specs.Readings.{line_reading_of, coming, IfLine, IsLineEnd, IsNextOf, IsTold, IsLastTold, OnEnd, OnLine, Takes, UnlessRead};
 ghost use Rattle.ipam_play.specs.SoundLine.{IsSoundLine};
 
 use crate::offset::Offset;
@@ -95,7 +95,7 @@ impl ScriptLines {
         ensures fault { IfErr result (λ e. e ≡ ScriptFault.Memory) }
         ensures cut { (bytes rest : List ℕ) × (self.now.lines ≡ bytes ++ rest) × IsLineEnd rest × HasNoFeed bytes
             × OnOk result (is_long self.now.before.bytes bytes ≡ true)
-            × OnErr result (told self.now.before.bytes bytes ≡ Whole bytes) }
+            × OnErr result (told_line self.now.before.bytes bytes ≡ Whole bytes) }
     {
         if is_long(self.before, line_part(self.lines.held())) {
             return Ok(Next::Refused(LineRefusal::Long));
@@ -106,12 +106,12 @@ impl ScriptLines {
     /// What the line of these bytes asks.
     fn line(&mut self, alloc: Global, bytes: &[u8]) -> Result<Next, ScriptFault>
         requires { length bytes.now < LINE_LIMIT }
-        ensures told { IsTold result (reading_of (told self.old.before.bytes bytes.now)) }
+        ensures told { IsTold result (line_reading_of (told_line self.old.before.bytes bytes.now)) }
         ensures sound { IfLine result IsSoundLine }
         ensures lines { self.new.lines ≡ self.old.lines }
         ensures before { OnLine result (self.new.before.bytes ≡ self.old.before.bytes + length bytes.now + 1) }
         ensures within { OnLine result (self.new.before.bytes ≤ 67108865) }
-        ensures not_long { OnErr result (told self.old.before.bytes bytes.now ≡ Whole bytes.now) }
+        ensures not_long { OnErr result (told_line self.old.before.bytes bytes.now ≡ Whole bytes.now) }
     {
         match asked(alloc, self.before, bytes) {
             Ok(Ok(line)) => {
@@ -126,9 +126,9 @@ impl ScriptLines {
     /// What the bytes ask that are left where the script ended.
     fn last(&self, alloc: Global) -> Result<Next, ScriptFault>
         requires { length self.now.lines < LINE_LIMIT }
-        ensures told { IsLastTold result (reading_of (told self.now.before.bytes self.now.lines)) }
+        ensures told { IsLastTold result (line_reading_of (told_line self.now.before.bytes self.now.lines)) }
         ensures sound { IfLine result IsSoundLine }
-        ensures not_long { OnErr result (told self.now.before.bytes self.now.lines ≡ Whole self.now.lines) }
+        ensures not_long { OnErr result (told_line self.now.before.bytes self.now.lines ≡ Whole self.now.lines) }
     {
         match asked(alloc, self.before, self.lines.held()) {
             Ok(Ok(line)) => Ok(Next::Last(line)),
@@ -146,10 +146,10 @@ fn asked(
     bytes: &[u8],
 ) -> Result<Result<Line, LineRefusal>, AllocError>
     requires short { length bytes.now < LINE_LIMIT }
-    ensures reading { IfOk result (λ r. r ≡ reading_of (told before.bytes bytes.now)) }
+    ensures reading { IfOk result (λ r. r ≡ line_reading_of (told_line before.bytes bytes.now)) }
     ensures sound { IfOk result (λ r. IfOk r IsSoundLine) }
     ensures in_time { IfOk result (λ r. IfOk r (λ line. before.bytes + length bytes.now ≤ MOST_SCRIPT_BYTES)) }
-    ensures not_long { OnErr result (told before.bytes bytes.now ≡ Whole bytes.now) }
+    ensures not_long { OnErr result (told_line before.bytes bytes.now ≡ Whole bytes.now) }
 {
     if bytes.is_empty() {
         return Ok(Err(LineRefusal::Unreadable));

@@ -6,7 +6,7 @@ ghost use Rattle.ipam_play.specs.Script.{Gathered, nothing_gathered, place_of, e
 ghost use Rattle.ipam_play.specs.SoundLine.{IsSoundLine};
 ghost use Rattle.ipam_play.specs.Gathering.{Gathers};
 ghost use Rattle.ipam_play.specs.Played.{base_of};
-ghost use Rattle.ipam_play.specs.Player.{IsOpened, IsNotOpened, IsBegunWith, IsCauseAtFirst, IsCauseOnceOpened, not_opened, told_of};
+ghost use Rattle.ipam_play.specs.Player.{IsBaseOpened, IsNotOpened, IsBegunWith, IsCauseAtFirst, IsCauseOnceOpened, not_opened, told_of};
 ghost use Rattle.ipam_cluster.specs.Cluster.{StandsFor};
 ghost use Rattle.ipam_play.specs.Times.{StandsTimed};
 ghost use Rattle.ipam_model.specs.Course.{Event};
@@ -14,7 +14,7 @@ ghost use Rattle.ipam_model.specs.Course.{Event};
 use crate::cluster::OpenCluster;
 use crate::fault::PlayFault;
 use crate::gathering::{GatherFault, Gathering};
-use crate::opener::OpensBase;
+use crate::opener::{OpensBase, PlaysFirst};
 use crate::playing::play_line;
 use ipam_cluster::OpenFault;
 use ipam_model::Entry;
@@ -113,6 +113,20 @@ impl Player {
             → IsPlaying self.new base store past }
         ensures journal { journal_of self.new ≡ journal_of self.old }
     {
+        self.finish_by(alloc)
+    }
+
+    /// The script ends. `Memory` is returned only where the base or its opening found none.
+    fn finish_by<T: OpensBase + Drop>(&mut self, alloc: T) -> Result<(), PlayFault>
+        ensures standing { IsStanding self.old → IsStanding self.new }
+        ensures gathered { (base : Gathered) → IsGathering self.old base → IsFinished result self.new base }
+        ensures played { (base : Gathered) (store : Datastore) (past : List Entry) → IsPlaying self.old base store past
+            → IsOk result }
+        ensures playing { (base : Gathered) (store : Datastore) (past : List Entry) → IsPlaying self.old base store past
+            → IsPlaying self.new base store past }
+        ensures journal { journal_of self.new ≡ journal_of self.old }
+        ensures want_of_memory_has_its_cause { IfErr result (λ told. told ≡ PlayFault.Memory → T.wants alloc) }
+    {
         match &self.stage {
             Stage::Gathering(gathering) => {
                 let cluster = opened(alloc, gathering)?;
@@ -128,7 +142,7 @@ impl Player {
 /// that is refused is told so.
 fn opened<T: OpensBase + Drop>(alloc: T, gathering: &Gathering) -> Result<OpenCluster, PlayFault>
     ensures opens { (base : Gathered) → Gathers gathering.now base → IfOk result (λ opened. (store : Datastore)
-        × IsOpened base store × StandsFor opened.cluster (base_of store) []) }
+        × IsBaseOpened base store × StandsFor opened.cluster (base_of store) []) }
     ensures fault { (base : Gathered) → Gathers gathering.now base → IfErr result (λ told.
         (told ≡ PlayFault.Memory) ⊎ IsNotOpened base told) }
     ensures standing { IfOk result StandsTimed }
@@ -153,9 +167,10 @@ fn not_opened(fault: OpenFault) -> PlayFault
     }
 }
 
-/// Opens the base, and plays the first line after it. On `Err` nothing changes.
-fn first_line(
-    alloc: Global,
+/// Opens the base, and plays the first line after it. On `Err` nothing changes. `Memory` is returned only where
+/// opening the base found none, or playing the line.
+fn first_line<T: OpensBase + PlaysFirst + Copy + Drop>(
+    alloc: T,
     gathering: &Gathering,
     journal: &mut Vec<Entry>,
     line: &Line,
@@ -167,14 +182,18 @@ fn first_line(
         → IfErr result (IsCauseAtFirst base events) }
     ensures standing { IfOk result StandsTimed }
     ensures kept { (base : Gathered) → Gathers gathering.now base → OnErr result (journal.new.items ≡ journal.old.items) }
+    ensures want_of_memory_has_its_cause { IfErr result (λ told. told ≡ PlayFault.Memory
+        → T.OpensBase.wants alloc ⊎ T.PlaysFirst.wants alloc) }
 {
-    let cluster = opened(alloc, gathering)?;
-    play_first(alloc, cluster, journal, line)
+    match opened(alloc, gathering) {
+        Ok(cluster) => alloc.play_first(cluster, journal, line),
+        Err(fault) => Err(fault),
+    }
 }
 
 /// Plays the first line after the base, over what was opened. On `Err` nothing changes, and `Memory` is
 /// returned only for an event that is not refused.
-fn play_first(
+pub(crate) fn play_first(
     alloc: Global,
     cluster: OpenCluster,
     journal: &mut Vec<Entry>,
@@ -182,12 +201,12 @@ fn play_first(
 ) -> Result<OpenCluster, PlayFault>
     requires sound { IsSoundLine line.now }
     requires standing { StandsTimed cluster }
-    ensures begun { (base : Gathered) (store : Datastore) (events : List Event) → IsOpened base store → StandsFor cluster.cluster (base_of store) []
+    ensures begun { (base : Gathered) (store : Datastore) (events : List Event) → IsBaseOpened base store → StandsFor cluster.cluster (base_of store) []
         → events_of line.now ≡ Some events → IfOk result (λ opened. IsBegunWith opened journal.old.items journal.new.items base events) }
-    ensures cause { (base : Gathered) (store : Datastore) (events : List Event) → IsOpened base store → StandsFor cluster.cluster (base_of store) []
+    ensures cause { (base : Gathered) (store : Datastore) (events : List Event) → IsBaseOpened base store → StandsFor cluster.cluster (base_of store) []
         → events_of line.now ≡ Some events → IfErr result (IsCauseOnceOpened base store events) }
     ensures standing { IfOk result StandsTimed }
-    ensures kept { (base : Gathered) (store : Datastore) → IsOpened base store → StandsFor cluster.cluster (base_of store) []
+    ensures kept { (base : Gathered) (store : Datastore) → IsBaseOpened base store → StandsFor cluster.cluster (base_of store) []
         → OnErr result (journal.new.items ≡ journal.old.items) }
 {
     let mut cluster = cluster;

@@ -1,5 +1,5 @@
 ghost use Rattle.std.specs.Prelude.{◌≡◌};
-ghost use Rattle.ipam_play.specs.Output.{refusal_text};
+ghost use Rattle.ipam_play.specs.Output.{line_refusal_text};
 
 /// Why a line of a script is refused.
 #[derive(Clone, Copy, Debug, PartialEq, Eq)]
@@ -28,7 +28,7 @@ pub enum LineRefusal {
 impl LineRefusal {
     /// The word for the line's refusal.
     pub fn text(self) -> &'static str
-        ensures { result.now ≡ refusal_text self }
+        ensures { result.now ≡ line_refusal_text self }
     {
         match self {
             LineRefusal::Long => "long",

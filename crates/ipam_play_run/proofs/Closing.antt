@@ -10,10 +10,10 @@ use Rattle.ipam_play.specs.declared.fault.PlayFault.{PlayFault}
 use Rattle.ipam_play.specs.declared.fault.PlayFault.TheVariants as fault
 use Rattle.ipam_play.specs.declared.player.Player.{Player}
 use Rattle.ipam_play.specs.declared.refusal.LineRefusal.{LineRefusal}
-use Rattle.ipam_play.specs.Output.{ending_text, refusal_text}
+use Rattle.ipam_play.specs.Output.{play_ending_text, line_refusal_text}
 use Rattle.ipam_play.specs.Played.{BaseRefused, IsPlayed, LineRefused, NotOpened, RefusedAtOnce, Whole, ending_of_stops}
 use Rattle.ipam_play.specs.Player.{IsFinished, IsGathering, IsNotOpened, IsPlaying}
-use Rattle.ipam_play.specs.Readings.{Reading}
+use Rattle.ipam_play.specs.Readings.{LineReading}
 use Rattle.ipam_play.specs.Script.{Broken, Ended, Gathered, Script, script_from, steps_from, stopped}
 use Rattle.ipam_play_run.specs.declared.end.PlayEnd.{PlayEnd}
 use Rattle.ipam_play_run.specs.declared.end.PlayEnd.TheVariants as end
@@ -29,7 +29,7 @@ use Rattle.ipam_play_run.proofs.Outcomes.{follows_end, played_stopped}
 -- ---- the last line is written
 
 pub line_ends : {T E : Type 0} (written : Result T E) (script : Script) (first now after : Option (List ℕ)) (held : List ℕ) (past : List Entry) (number : ℕ) (why : LineRefusal) → Wrote first now held past → IsPlayed script past (LineRefused number why)
-    → OnOk written (after ≡ append_known now (held ++ ending_text (LineRefused number why))) → OnErr written (AppendsPrefix now after (held ++ ending_text (LineRefused number why)))
+    → OnOk written (after ≡ append_known now (held ++ play_ending_text (LineRefused number why))) → OnErr written (AppendsPrefix now after (held ++ play_ending_text (LineRefused number why)))
     → HasWrittenJournal (ended_so written end.LineRefused) script first after
 line_ends (Ok done) script first now after held past number why w played wrote part =
     writes_all script first now after held past (LineRefused number why) IsRefusedLine w played (number, (why, refl)) wrote
@@ -37,7 +37,7 @@ line_ends (Err e) script first now after held past number why w played wrote par
     writes_part script first now after held past (LineRefused number why) w played part
 
 pub rule_ends : {T E : Type 0} (written : Result T E) (script : Script) (first now after : Option (List ℕ)) (held : List ℕ) (past : List Entry) (rule : ℕ) (about : List ℕ) → Wrote first now held past → IsPlayed script past (NotOpened rule about)
-    → OnOk written (after ≡ append_known now (held ++ ending_text (NotOpened rule about))) → OnErr written (AppendsPrefix now after (held ++ ending_text (NotOpened rule about)))
+    → OnOk written (after ≡ append_known now (held ++ play_ending_text (NotOpened rule about))) → OnErr written (AppendsPrefix now after (held ++ play_ending_text (NotOpened rule about)))
     → HasWrittenJournal (ended_so written end.NotOpened) script first after
 rule_ends (Ok done) script first now after held past rule about w played wrote part =
     writes_all script first now after held past (NotOpened rule about) IsRefusedBase w played (rule, (about, refl)) wrote
@@ -58,7 +58,7 @@ pub record Stands (script : Script) (first now : Option (List ℕ)) (held : List
   pub wrote : Wrote first now held past
   pub is_front : IsFront script past
 
-pub on_stands : (script : Script) (first now : Option (List ℕ)) (game : Game) (number : ℕ) (more : List Reading) → IsOn script first now game number more → Stands script first now (held_by game)
+pub on_stands : (script : Script) (first now : Option (List ℕ)) (game : Game) (number : ℕ) (more : List LineReading) → IsOn script first now game number more → Stands script first now (held_by game)
 on_stands script first now game number more (inl before) = record { past = []; wrote = before.wrote; is_front = inl refl }
 on_stands script first now game number more (inr going) = record {
   past = going.past;
@@ -66,12 +66,12 @@ on_stands script first now game number more (inr going) = record {
   is_front = follows_front script going.playing.store going.past (steps_from number script.base more) going.playing.follows;
 }
 
-pub on_front : (script : Script) (first now : Option (List ℕ)) (game : Game) (number : ℕ) (more : List Reading) → IsOn script first now game number more → WritesFront script first now []
+pub on_front : (script : Script) (first now : Option (List ℕ)) (game : Game) (number : ℕ) (more : List LineReading) → IsOn script first now game number more → WritesFront script first now []
 on_front script first now game number more on =
     let s = on_stands script first now game number more on in
     front_stays script first now (held_by game) s.past s.wrote s.is_front
 
-pub fault_ends : {T E : Type 0} (written : Result T E) (script : Script) (first now after : Option (List ℕ)) (game : Game) (number : ℕ) (more : List Reading) → IsOn script first now game number more
+pub fault_ends : {T E : Type 0} (written : Result T E) (script : Script) (first now after : Option (List ℕ)) (game : Game) (number : ℕ) (more : List LineReading) → IsOn script first now game number more
     → OnOk written (after ≡ append_known now (held_by game ++ read_fault_text)) → OnErr written (AppendsPrefix now after (held_by game ++ read_fault_text))
     → HasWrittenJournal (ended_so written end.ReadFault) script first after
 fault_ends (Ok done) script first now after game number more on wrote part =
@@ -110,7 +110,7 @@ fault_so_far (Ok done) script first now after game number on wrote is =
 fault_so_far (Err e) script first now after game number on wrote is = absurd (cc is)
 
 -- the next line is refused, whatever was before it
-pub refused_halts : (script : Script) (first now : Option (List ℕ)) (game : Game) (number : ℕ) (why : LineRefusal) (more : List Reading) → IsOn script first now game number (Err why ∷ more) → IsHalted (halt.Refused why) script first now game number
+pub refused_halts : (script : Script) (first now : Option (List ℕ)) (game : Game) (number : ℕ) (why : LineRefusal) (more : List LineReading) → IsOn script first now game number (Err why ∷ more) → IsHalted (halt.Refused why) script first now game number
 unfolding script_from steps_from
 refused_halts script first now game number why more (inl before) =
     let is : script ≡ stopped before.gathering.base (Broken number why) = before.gathering.is_script in
@@ -231,17 +231,17 @@ counts_halted T halt.Write e old mid new line ends is same =
 
 -- ---- the texts of the last lines, as they are written
 
-pub line_text : (number : ℕ) (why : LineRefusal) (digits said : List ℕ) → digits ≡ decimal number → said ≡ refusal_text why
-    → codes "line " ++ (digits ++ (codes ": " ++ (said ++ (codes "\n" ++ [])))) ≡ ending_text (LineRefused number why)
+pub line_text : (number : ℕ) (why : LineRefusal) (digits said : List ℕ) → digits ≡ decimal number → said ≡ line_refusal_text why
+    → codes "line " ++ (digits ++ (codes ": " ++ (said ++ (codes "\n" ++ [])))) ≡ play_ending_text (LineRefused number why)
 line_text number why digits said is_number is_said =
     ap (λ (l : List ℕ). codes "line " ++ (l ++ (codes ": " ++ (said ++ (codes "\n" ++ []))))) is_number
     ∙ ap (λ (l : List ℕ). codes "line " ++ (decimal number ++ (codes ": " ++ (l ++ (codes "\n" ++ []))))) is_said
-    ∙ ap (λ (l : List ℕ). codes "line " ++ (decimal number ++ (codes ": " ++ (refusal_text why ++ l)))) (append-nil (codes "\n"))
+    ∙ ap (λ (l : List ℕ). codes "line " ++ (decimal number ++ (codes ": " ++ (line_refusal_text why ++ l)))) (append-nil (codes "\n"))
     ∙ ap (λ (l : List ℕ). codes "line " ++ l)
-    (sym (append_assoc (decimal number ++ codes ": ") (refusal_text why) (codes "\n") ∙ append_assoc (decimal number) (codes ": ") (refusal_text why ++ codes "\n")))
+    (sym (append_assoc (decimal number ++ codes ": ") (line_refusal_text why) (codes "\n") ∙ append_assoc (decimal number) (codes ": ") (line_refusal_text why ++ codes "\n")))
 
 pub rule_text : (rule : ℕ) (about digits said : List ℕ) → digits ≡ decimal rule → said ≡ about
-    → codes "datastore OR" ++ (digits ++ (codes " " ++ (said ++ (codes "\n" ++ [])))) ≡ ending_text (NotOpened rule about)
+    → codes "datastore OR" ++ (digits ++ (codes " " ++ (said ++ (codes "\n" ++ [])))) ≡ play_ending_text (NotOpened rule about)
 rule_text rule about digits said is_rule is_about =
     ap (λ (l : List ℕ). codes "datastore OR" ++ (l ++ (codes " " ++ (said ++ (codes "\n" ++ []))))) is_rule
     ∙ ap (λ (l : List ℕ). codes "datastore OR" ++ (decimal rule ++ (codes " " ++ (l ++ (codes "\n" ++ []))))) is_about

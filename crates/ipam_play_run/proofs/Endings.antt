@@ -8,7 +8,7 @@ use denote.Ref.{Bor}
 use Rattle.ipam_io.specs.Streams.{AppendsPrefix}
 use Rattle.ipam_model.specs.declared.entry.Entry.{Entry}
 use Rattle.ipam_answer_text.specs.Entries.{entry_line}
-use Rattle.ipam_play.specs.Output.{ending_text, journal_text, output_text}
+use Rattle.ipam_play.specs.Output.{play_ending_text, journal_text, output_text}
 use Rattle.ipam_play.specs.Played.{Ending, IsPlayed}
 use Rattle.ipam_play.specs.Script.{Script}
 use Rattle.ipam_play_run.specs.Writing.{IsFront, OfAll, OfFront, WritesAll, WritesFront, WritesPart, Wrote, joined, read_fault_text}
@@ -84,21 +84,21 @@ front_stays script first now held past w front = record {
     })
 
 pub writes_all : (script : Script) (first now after : Option (List ℕ)) (held : List ℕ) (past : List Entry) (ending : Ending) (IsEnding : Ending → Type 0) → Wrote first now held past → IsPlayed script past ending → IsEnding ending
-    → after ≡ append_known now (held ++ ending_text ending) → WritesAll script first after IsEnding
+    → after ≡ append_known now (held ++ play_ending_text ending) → WritesAll script first after IsEnding
 writes_all script first now after held past ending IsEnding w played is_ending written = record {
   entries = past;
   ending = ending;
   is_played = played;
   is_ending = is_ending;
-  written = written ∙ all-lines first now held past (ending_text ending) w;
+  written = written ∙ all-lines first now held past (play_ending_text ending) w;
 }
 
 pub writes_part : (script : Script) (first now after : Option (List ℕ)) (held : List ℕ) (past : List Entry) (ending : Ending) → Wrote first now held past → IsPlayed script past ending
-    → AppendsPrefix now after (held ++ ending_text ending) → WritesPart script first after
+    → AppendsPrefix now after (held ++ play_ending_text ending) → WritesPart script first after
 writes_part script first now after held past ending w played part = record {
   text = output_text past ending;
   is_text = OfAll past ending played;
-  written = subst (λ (l : List ℕ). AppendsPrefix first after (journal_text past ++ l)) (append-nil (ending_text ending)) (part-lines first now after held past (ending_text ending) [] w part);
+  written = subst (λ (l : List ℕ). AppendsPrefix first after (journal_text past ++ l)) (append-nil (play_ending_text ending)) (part-lines first now after held past (play_ending_text ending) [] w part);
 }
 
 -- a write in the middle of a script, with the lines of these new entries
@@ -107,14 +107,14 @@ pub writes_middle : (script : Script) (first now after : Option (List ℕ)) (hel
 writes_middle script first now after held past new more ending w played part = record {
   text = output_text ((past ++ new) ++ more) ending;
   is_text = OfAll ((past ++ new) ++ more) ending played;
-  written = subst (λ (l : List ℕ). AppendsPrefix first after l) whole (part-lines first now after held past (journal_text new) (journal_text more ++ ending_text ending) w part);
+  written = subst (λ (l : List ℕ). AppendsPrefix first after l) whole (part-lines first now after held past (journal_text new) (journal_text more ++ play_ending_text ending) w part);
 }
   where
-    whole : journal_text past ++ (journal_text new ++ (journal_text more ++ ending_text ending)) ≡ output_text ((past ++ new) ++ more) ending
-    whole = sym (append_assoc (journal_text past) (journal_text new) (journal_text more ++ ending_text ending))
-        ∙ ap (λ (l : List ℕ). l ++ (journal_text more ++ ending_text ending)) (sym (journal-append past new))
-        ∙ sym (append_assoc (journal_text (past ++ new)) (journal_text more) (ending_text ending))
-        ∙ ap (λ (l : List ℕ). l ++ ending_text ending) (sym (journal-append (past ++ new) more))
+    whole : journal_text past ++ (journal_text new ++ (journal_text more ++ play_ending_text ending)) ≡ output_text ((past ++ new) ++ more) ending
+    whole = sym (append_assoc (journal_text past) (journal_text new) (journal_text more ++ play_ending_text ending))
+        ∙ ap (λ (l : List ℕ). l ++ (journal_text more ++ play_ending_text ending)) (sym (journal-append past new))
+        ∙ sym (append_assoc (journal_text (past ++ new)) (journal_text more) (play_ending_text ending))
+        ∙ ap (λ (l : List ℕ). l ++ play_ending_text ending) (sym (journal-append (past ++ new) more))
 
 pub writes_fault : (script : Script) (first now after : Option (List ℕ)) (held : List ℕ) (past : List Entry) → Wrote first now held past → IsFront script past
     → after ≡ append_known now (held ++ read_fault_text) → WritesFront script first after read_fault_text

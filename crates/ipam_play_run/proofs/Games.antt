@@ -7,7 +7,7 @@ use Rattle.ipam_model.specs.declared.entry.Entry.{Entry}
 use Rattle.ipam_play.specs.declared.player.Player.{Player}
 use Rattle.ipam_play.specs.Output.{journal_text}
 use Rattle.ipam_play.specs.Player.{IsGatheredLine, IsGathering, IsPlayedLine, IsPlaying, cluster_of, journal_of}
-use Rattle.ipam_play.specs.Readings.{Reading}
+use Rattle.ipam_play.specs.Readings.{LineReading}
 use Rattle.ipam_play.specs.Script.{Broken, Gathered, Script, events_of, place_of}
 use Rattle.ipam_play.specs.declared.fault.PlayFault.{PlayFault}
 use Rattle.ipam_play.specs.declared.fault.PlayFault.TheVariants as fault
@@ -82,7 +82,7 @@ unfolding journal_text
 journal-none = refl
 
 -- after a line of the base
-pub gathered_on : {T : Type 0} (result : Result T Halt) (script : Script) (first now after : Option (List ℕ)) (old new : Game) (number : ℕ) (more : List Reading)
+pub gathered_on : {T : Type 0} (result : Result T Halt) (script : Script) (first now after : Option (List ℕ)) (old new : Game) (number : ℕ) (more : List LineReading)
     → Wrote first now (held_by old) [] → IsGatheringOn script old.player (number + 1) more → WritesJournal result old new now after → IsBeforeOr result script first after new number more
 gathered_on (Ok done) script first now after old new number more w on j = record {
   wrote = subst (λ (l : List Entry). Wrote first after (held_by new) l) on.gathering.nothing (j.wrote first [] w);
@@ -131,7 +131,7 @@ event_halts {T} told first now old new asked held p script number event events r
     (steps {T = T} (Err told) script old.player new.player asked at.past number event events rest is p.gathered p.played p.playing at.to_come)
 
 pub base_went : {T U : Type 0} (done : T) (result : Result U Halt) (first now after : Option (List ℕ)) (old mid new : Game) (asked : Line) → held_by mid ≡ held_by old → PlaysLine (Ok done) old.player mid.player asked → WritesJournal result mid new now after
-    → (script : Script) (number : ℕ) (more : List Reading) → events_of asked ≡ None
+    → (script : Script) (number : ℕ) (more : List LineReading) → events_of asked ≡ None
     → IsBefore script first now old number (Ok asked ∷ more) → IsBeforeOr result script first after new number more
 base_went done result first now after old mid new asked held p j script number more none before =
     gathered_on result script first now after mid new number more
@@ -140,7 +140,7 @@ base_went done result first now after old mid new asked held p j script number m
     j
 
 pub base_halts : {T : Type 0} (told : PlayFault) (first now : Option (List ℕ)) (old new : Game) (asked : Line) → held_by new ≡ held_by old → PlaysLine {T = T} (Err told) old.player new.player asked
-    → (script : Script) (number : ℕ) (more : List Reading) → events_of asked ≡ None
+    → (script : Script) (number : ℕ) (more : List LineReading) → events_of asked ≡ None
     → IsBefore script first now old number (Ok asked ∷ more) → IsHalted (halt_of told) script first now new number
 base_halts {T} told first now old new asked held p script number more none before =
     halts (halt_of told) script first now new [] number

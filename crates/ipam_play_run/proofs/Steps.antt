@@ -5,7 +5,7 @@ use Rattle.std.proofs.lemmas.List.{length-append}
 use Rattle.ipam_records.specs.Datastore.{Datastore}
 use Rattle.ipam_model.specs.declared.entry.Entry.{Entry}
 use Rattle.ipam_model.specs.Cluster as model
-use Rattle.ipam_model.specs.Course.{Course, Event, Refusal, Busy, Idle, Waiting, NotWaiting, TooSoon, Worn, course, entries_of}
+use Rattle.ipam_model.specs.Course.{Course, Event, EventRefusal, Busy, Idle, Waiting, NotWaiting, TooSoon, Worn, course, entries_of}
 use Rattle.ipam_script.specs.declared.line.Line.{Line}
 use Rattle.ipam_script.specs.declared.line.Line.TheVariants as line
 use Rattle.ipam_play.specs.declared.fault.PlayFault.{PlayFault}
@@ -13,10 +13,10 @@ use Rattle.ipam_play.specs.declared.fault.PlayFault.TheVariants as fault
 use Rattle.ipam_play.specs.declared.player.Player.{Player}
 use Rattle.ipam_play.specs.declared.refusal.LineRefusal.TheVariants as refusal
 use Rattle.ipam_play.specs.Events.{fault_of}
-use Rattle.ipam_play.specs.Played.{BaseRefused, IsPlayed, LineRefused, NotOpened, RefusedAtOnce, ending_of_stops, refusal_of}
+use Rattle.ipam_play.specs.Played.{BaseRefused, IsPlayed, LineRefused, NotOpened, RefusedAtOnce, ending_of_stops, line_refusal_of}
 use Rattle.ipam_play.specs.Player.{AllHappened, HasHappened, IsCauseAtFirst, IsGatheredLine, IsGathering, IsPlayedLine, IsPlaying, IsRefusal, IsWanting, SomeHappened, cluster_of, journal_of}
-use Rattle.ipam_play.specs.Readings.{Reading}
-use Rattle.ipam_play.specs.Script.{Again, Broken, Gathered, Happens, OfBase, Place, Script, Stops, events_of, has_key, place_of, script_from, steps_from, with_counter, with_row}
+use Rattle.ipam_play.specs.Readings.{LineReading}
+use Rattle.ipam_play.specs.Script.{Again, Broken, Gathered, Happens, OfBase, LinePlace, Script, Stops, events_of, rows_have_key, place_of, script_from, steps_from, with_counter, with_base_row}
 use Rattle.ipam_play.proofs.Happenings.{course-cons, course_from, course-nothing}
 use Rattle.ipam_play.proofs.LineKinds.{place-events}
 use Rattle.ipam_play_run.specs.declared.halt.Halt.{Halt}
@@ -27,15 +27,15 @@ use Rattle.ipam_play_run.proofs.Outcomes.{follows_event, follows_first, played_r
 
 -- ---- one event
 
-course-made : (cluster : model.Cluster) (event : Event) (made : List Entry) → course cluster (event ∷ []) ≡ record { entries = made; refused = None } → entries_of cluster event ≡ Ok made
+course-made : (cluster : model.ClusterState) (event : Event) (made : List Entry) → course cluster (event ∷ []) ≡ record { entries = made; refused = None } → entries_of cluster event ≡ Ok made
 unfolding course_from course
 course-made cluster event made is = by (entries_of cluster event) (sym (course-cons cluster event []) ∙ is)
   where
-    by : (r : Result (List Entry) Refusal) → course_from cluster [] r ≡ record { entries = made; refused = None } → r ≡ Ok made
+    by : (r : Result (List Entry) EventRefusal) → course_from cluster [] r ≡ record { entries = made; refused = None } → r ≡ Ok made
     by (Ok entries) e = ap Ok (sym (append-nil entries) ∙ ap (λ (c : Course). c.entries) e)
     by (Err why) e = absurd (cc (ap (λ (c : Course). c.refused) e))
 
-refused-halts : (why : Refusal) → halt_of (fault_of why) ≡ halt.Refused (refusal_of why)
+refused-halts : (why : EventRefusal) → halt_of (fault_of why) ≡ halt.Refused (line_refusal_of why)
 refused-halts Busy = refl
 refused-halts Idle = refl
 refused-halts Waiting = refl
@@ -63,7 +63,7 @@ IsSteppedOr (Err told) script player past number rest = IsEnded (halt_of told) s
 memory-ends : (script : Script) (past : List Entry) (number : ℕ) (told : PlayFault) → told ≡ fault.Memory → IsEnded (halt_of told) script past number
 memory-ends script past number told is = subst (λ (t : PlayFault). IsEnded (halt_of t) script past number) (sym is) tt
 
-refusal-ends : (script : Script) (past : List Entry) (number : ℕ) (told : PlayFault) (why : Refusal) → told ≡ fault_of why → IsPlayed script past (LineRefused number (refusal_of why)) → IsEnded (halt_of told) script past number
+refusal-ends : (script : Script) (past : List Entry) (number : ℕ) (told : PlayFault) (why : EventRefusal) → told ≡ fault_of why → IsPlayed script past (LineRefused number (line_refusal_of why)) → IsEnded (halt_of told) script past number
 refusal-ends script past number told why is played =
     subst (λ (h : Halt). IsEnded h script past number) (sym (ap halt_of is ∙ refused-halts why)) played
 
@@ -87,7 +87,7 @@ module _ (script : Script) (number : ℕ) (event : Event) (events : List Event) 
       → IsPlaying new script.base store past → HasHappened result old new store past (event ∷ []) → IsSteppedOr result script new past number (line_then number events rest)
   playing-steps (Ok done) old new store past none follows playing has =
       let at : cluster_of store (past ++ journal_of old) ≡ cluster_of store past = ap (λ (l : List Entry). cluster_of store (past ++ l)) none ∙ ap (cluster_of store) (append-nil past) in
-      let made = course-made (cluster_of store past) event has.made (ap (λ (c : model.Cluster). course c (event ∷ [])) (sym at) ∙ has.made_by) in
+      let made = course-made (cluster_of store past) event has.made (ap (λ (c : model.ClusterState). course c (event ∷ [])) (sym at) ∙ has.made_by) in
       let kept : journal_of new ≡ has.made = has.added ∙ ap (λ (l : List Entry). l ++ has.made) none in
       record {
         store = store;
@@ -106,7 +106,7 @@ module _ (script : Script) (number : ℕ) (event : Event) (events : List Event) 
       by same empty (inr because) =
           let at : cluster_of store (past ++ journal_of new) ≡ cluster_of store past = ap (λ (l : List Entry). cluster_of store (past ++ l)) empty ∙ ap (cluster_of store) (append-nil past) in
           let refuses : entries_of (cluster_of store past) event ≡ Err because.refusal =
-          ap (λ (c : model.Cluster). entries_of c event) (sym at) ∙ ap (entries_of (cluster_of store (past ++ journal_of new))) same ∙ because.refuses in
+          ap (λ (c : model.ClusterState). entries_of c event) (sym at) ∙ ap (entries_of (cluster_of store (past ++ journal_of new))) same ∙ because.refuses in
           refusal-ends script past number told because.refusal because.is_told (played_refused script store past number event events rest because.refusal follows refuses)
 
   -- ---- a line of one event that opens the base
@@ -134,7 +134,7 @@ module _ (script : Script) (number : ℕ) (event : Event) (events : List Event) 
 
 -- ---- an event for which there is no memory
 
-never-told : (why : Refusal) → fault_of why ≡ fault.Memory → ⊥
+never-told : (why : EventRefusal) → fault_of why ≡ fault.Memory → ⊥
 never-told Busy is = cc is
 never-told Idle is = cc is
 never-told Waiting is = cc is
@@ -194,19 +194,19 @@ steps result script old new asked past number event events rest is gathered play
 steps result script old new asked past number event events rest is gathered played playing (inr un) =
     subst (λ (l : List Entry). IsSteppedOr result script new l number (line_then number events rest)) (sym un.nothing)
     (first-steps script number event events rest result new un.is_whole
-    (subst (λ (p : Place). IsGatheredLine result new script.base p) (place-events script.base asked (event ∷ []) is) (gathered script.base un.gathering)))
+    (subst (λ (p : LinePlace). IsGatheredLine result new script.base p) (place-events script.base asked (event ∷ []) is) (gathered script.base un.gathering)))
 
 -- ---- a line of the base
 
 -- the base is longer, and more lines are to come
-abbrev pub IsLongerOr : {T : Type 0} → Result T PlayFault → Script → Player → (number : ℕ) → List Reading → Type 0
+abbrev pub IsLongerOr : {T : Type 0} → Result T PlayFault → Script → Player → (number : ℕ) → List LineReading → Type 0
 IsLongerOr (Ok done) script player number more = IsGatheringOn script player (number + 1) more
 IsLongerOr (Err told) script player number more = IsEnded (halt_of told) script [] number
 
 place-base : (base : Gathered) (asked : Line) (events : List Event) → events_of asked ≡ None → place_of base asked ≡ Happens events → ⊥
-place-base base (line.Row row) events none is = by (has_key row.key base.rows) is
+place-base base (line.Row row) events none is = by (rows_have_key row.key base.rows) is
   where
-    by : (b : Bool) → cond b Again (OfBase (with_row row base)) ≡ Happens events → ⊥
+    by : (b : Bool) → cond b Again (OfBase (with_base_row row base)) ≡ Happens events → ⊥
     by true e = cc e
     by false e = cc e
 place-base base (line.Counter counter) events none is = by (is_some base.counter) is
@@ -222,18 +222,18 @@ place-base base (line.Feed slot at live) events none is = cc none
 place-base base (line.Stop slot) events none is = cc none
 place-base base line.Restart events none is = cc none
 
-unfoldable pub script-place : (number : ℕ) (base : Gathered) (more : List Reading) → Place → Script
+unfoldable pub script-place : (number : ℕ) (base : Gathered) (more : List LineReading) → LinePlace → Script
 script-place number base more place = elim place [
   | OfBase longer ↦ script_from (number + 1) longer more
   | Again ↦ record { base = base; steps = []; stops = Broken number refusal.Base }
   | Happens events ↦ line_then number events (steps_from (number + 1) base more)
 ]
 
-pub script-line : (number : ℕ) (base : Gathered) (asked : Line) (more : List Reading) → script_from number base (Ok asked ∷ more) ≡ script-place number base more (place_of base asked)
+pub script-line : (number : ℕ) (base : Gathered) (asked : Line) (more : List LineReading) → script_from number base (Ok asked ∷ more) ≡ script-place number base more (place_of base asked)
 unfolding script_from script-place
 script-line number base asked more = refl
 
-pub base_steps : {T : Type 0} (result : Result T PlayFault) (script : Script) (old new : Player) (asked : Line) (number : ℕ) (more : List Reading)
+pub base_steps : {T : Type 0} (result : Result T PlayFault) (script : Script) (old new : Player) (asked : Line) (number : ℕ) (more : List LineReading)
     → events_of asked ≡ None
     → ((base : Gathered) → IsGathering old base → IsGatheredLine result new base (place_of base asked))
     → IsGatheringOn script old number (Ok asked ∷ more) → IsLongerOr result script new number more
@@ -241,7 +241,7 @@ unfolding script-place
 base_steps result script old new asked number more none gathered on =
     by (place_of on.base asked) refl result (gathered on.base on.gathering)
   where
-    by : {T : Type 0} (place : Place) → place_of on.base asked ≡ place → (r : Result T PlayFault) → IsGatheredLine r new on.base place → IsLongerOr r script new number more
+    by : {T : Type 0} (place : LinePlace) → place_of on.base asked ≡ place → (r : Result T PlayFault) → IsGatheredLine r new on.base place → IsLongerOr r script new number more
     by (OfBase longer) at (Ok done) has = record {
       base = longer;
       gathering = has;

@@ -7,7 +7,7 @@ use Rattle.ipam_script.specs.declared.line.Line.{Line}
 use Rattle.ipam_script.specs.declared.line.Line.TheVariants as line
 use Rattle.ipam_play.specs.declared.refusal.LineRefusal.TheVariants as refusal
 use Rattle.ipam_play.specs.Player.{IsGathering}
-use Rattle.ipam_play.specs.Readings.{Reading}
+use Rattle.ipam_play.specs.Readings.{LineReading}
 use Rattle.ipam_play.specs.Script.{Broken, Gathered, Script, events_of, steps_from}
 use Rattle.ipam_play.proofs.LineKinds.{place-events}
 use Rattle.ipam_play_run.specs.declared.game.Game.{Game}
@@ -61,17 +61,17 @@ all_turned script first now game number slot count done rest some none h =
 -- ---- a line
 
 -- the script from a line after the base, by its events
-unfoldable pub steps-by : (number : ℕ) (base : Gathered) (more : List Reading) → Option (List Event) → Script
+unfoldable pub steps-by : (number : ℕ) (base : Gathered) (more : List LineReading) → Option (List Event) → Script
 steps-by number base more o = elim o [
   | None ↦ record { base = base; steps = []; stops = Broken number refusal.Base }
   | Some events ↦ line_then number events (steps_from (number + 1) base more)
 ]
 
-pub steps-line : (number : ℕ) (base : Gathered) (asked : Line) (more : List Reading) → steps_from number base (Ok asked ∷ more) ≡ steps-by number base more (events_of asked)
+pub steps-line : (number : ℕ) (base : Gathered) (asked : Line) (more : List LineReading) → steps_from number base (Ok asked ∷ more) ≡ steps-by number base more (events_of asked)
 unfolding steps_from steps-by
 steps-line number base asked more = refl
 
-pub steps-base : (number : ℕ) (base : Gathered) (more : List Reading) → (steps_from number base more).base ≡ base
+pub steps-base : (number : ℕ) (base : Gathered) (more : List LineReading) → (steps_from number base more).base ≡ base
 unfolding steps_from steps-by
 steps-base number base [] = refl
 steps-base number base (Err why ∷ more) = refl
@@ -82,7 +82,7 @@ steps-base number base (Ok asked ∷ more) = ap (λ (s : Script). s.base) (steps
     by (Some events) rest = rest
 
 -- a line with events
-pub line_at : (script : Script) (first now : Option (List ℕ)) (game : Game) (number : ℕ) (asked : Line) (events : List Event) (more : List Reading) → events_of asked ≡ Some events
+pub line_at : (script : Script) (first now : Option (List ℕ)) (game : Game) (number : ℕ) (asked : Line) (events : List Event) (more : List LineReading) → events_of asked ≡ Some events
     → IsOn script first now game number (Ok asked ∷ more) → IsAt script first now game (line_then number events (steps_from (number + 1) script.base more))
 unfolding steps-by script-place
 line_at script first now game number asked events more is (inl before) =
@@ -104,7 +104,7 @@ line_at script first now game number asked events more is (inr going) =
     (subst (λ (s : Script). IsGoing script first now game s) (steps-line number script.base asked more ∙ ap (steps-by number script.base more) is) going)
 
 -- after its events
-pub line_on : {T : Type 0} (result : Result T Halt) (script : Script) (first now : Option (List ℕ)) (game : Game) (number : ℕ) (more : List Reading)
+pub line_on : {T : Type 0} (result : Result T Halt) (script : Script) (first now : Option (List ℕ)) (game : Game) (number : ℕ) (more : List LineReading)
     → IsAtOr result script first now game number (line_then number [] (steps_from (number + 1) script.base more)) → IsOnOr result script first now game number more
 line_on (Ok done) script first now game number more g = inr (record {
   past = g.past;
@@ -119,7 +119,7 @@ line_on (Ok done) script first now game number more g = inr (record {
 line_on (Err why) script first now game number more h = h
 
 -- a line of the base
-pub base_on : {T : Type 0} (result : Result T Halt) (script : Script) (first now after : Option (List ℕ)) (old new : Game) (number : ℕ) (asked : Line) (more : List Reading) → events_of asked ≡ None
+pub base_on : {T : Type 0} (result : Result T Halt) (script : Script) (first now after : Option (List ℕ)) (old new : Game) (number : ℕ) (asked : Line) (more : List LineReading) → events_of asked ≡ None
     → (IsBefore script first now old number (Ok asked ∷ more) → IsBeforeOr result script first after new number more)
     → ((rest : Script) → rest.steps ≡ [] → rest.stops ≡ Broken number refusal.Base → IsGoing script first now old rest → IsLate result script first after new number)
     → IsOn script first now old number (Ok asked ∷ more) → IsOnOr result script first after new number more
@@ -154,13 +154,13 @@ one_event line.Restart other = inr (_, refl)
 pub record StepsLine {T : Type 0} (result : Result T Halt) (old new : Game) (now after : Option (List ℕ)) (asked : Line) : Type 0 where
   pub event : (script : Script) (first : Option (List ℕ)) (number : ℕ) (event : Event) (events : List Event) (rest : Script) → events_of asked ≡ Some (event ∷ [])
       → IsAt script first now old (line_then number (event ∷ events) rest) → IsAtOr result script first after new number (line_then number events rest)
-  pub base : (script : Script) (first : Option (List ℕ)) (number : ℕ) (more : List Reading) → events_of asked ≡ None
+  pub base : (script : Script) (first : Option (List ℕ)) (number : ℕ) (more : List LineReading) → events_of asked ≡ None
       → IsBefore script first now old number (Ok asked ∷ more) → IsBeforeOr result script first after new number more
   pub late : (script : Script) (first : Option (List ℕ)) (number : ℕ) (rest : Script) → events_of asked ≡ None → rest.steps ≡ [] → rest.stops ≡ Broken number refusal.Base
       → IsGoing script first now old rest → IsLate result script first after new number
 
 pub step_on : {T : Type 0} (result : Result T Halt) (now after : Option (List ℕ)) (old new : Game) (asked : Line) → ((slot count : ℕ) → asked ≡ line.Turn slot count → ⊥) → StepsLine result old new now after asked
-    → (script : Script) (first : Option (List ℕ)) (number : ℕ) (more : List Reading) → IsOn script first now old number (Ok asked ∷ more) → IsOnOr result script first after new number more
+    → (script : Script) (first : Option (List ℕ)) (number : ℕ) (more : List LineReading) → IsOn script first now old number (Ok asked ∷ more) → IsOnOr result script first after new number more
 step_on result now after old new asked other s script first number more on = by (one_event asked other)
   where
     by : (events_of asked ≡ None) ⊎ ((event : Event) × (events_of asked ≡ Some (event ∷ []))) → IsOnOr result script first after new number more

@@ -6,7 +6,7 @@ use Rattle.ipam_play.specs.declared.fault.PlayFault.{PlayFault}
 use Rattle.ipam_play.specs.declared.fault.PlayFault.TheVariants as fault
 use Rattle.ipam_play.specs.declared.refusal.LineRefusal.TheVariants as refusal
 use Rattle.ipam_play.specs.Played.{IsPlayed, LineRefused, NotOpened}
-use Rattle.ipam_play.specs.Readings.{Reading}
+use Rattle.ipam_play.specs.Readings.{LineReading}
 use Rattle.ipam_play.specs.Script.{Script, steps_from}
 use Rattle.ipam_play_run.specs.declared.game.Game.{Game}
 use Rattle.ipam_play_run.specs.declared.halt.Halt.{Halt}
@@ -44,7 +44,7 @@ pub record IsGoing (script : Script) (first now : Option (List ℕ)) (game : Gam
   pub playing : IsPlayingOn script game.player past rest
 
 -- the base is gathered, and the lines from this number on are to come
-pub record IsBefore (script : Script) (first now : Option (List ℕ)) (game : Game) (number : ℕ) (more : List Reading) : Type 0 where
+pub record IsBefore (script : Script) (first now : Option (List ℕ)) (game : Game) (number : ℕ) (more : List LineReading) : Type 0 where
   pub wrote : Wrote first now (held_by game) []
   pub gathering : IsGatheringOn script game.player number more
 
@@ -72,16 +72,16 @@ IsAtOr (Ok done) script first now game number rest = IsGoing script first now ga
 IsAtOr (Err why) script first now game number rest = IsHalted why script first now game number
 
 -- the next line of the base is to come, or it was halted
-abbrev pub IsBeforeOr : {T : Type 0} → Result T Halt → Script → (first now : Option (List ℕ)) → Game → (number : ℕ) → List Reading → Type 0
+abbrev pub IsBeforeOr : {T : Type 0} → Result T Halt → Script → (first now : Option (List ℕ)) → Game → (number : ℕ) → List LineReading → Type 0
 IsBeforeOr (Ok done) script first now game number more = IsBefore script first now game (number + 1) more
 IsBeforeOr (Err why) script first now game number more = IsHalted why script first now game number
 
 -- the lines from this number on are to come
-abbrev pub IsOn : (script : Script) (first now : Option (List ℕ)) → Game → (number : ℕ) → List Reading → Type 0
+abbrev pub IsOn : (script : Script) (first now : Option (List ℕ)) → Game → (number : ℕ) → List LineReading → Type 0
 IsOn script first now game number more =
     IsBefore script first now game number more ⊎ IsGoing script first now game (steps_from number script.base more)
 
-abbrev pub IsOnOr : {T : Type 0} → Result T Halt → (script : Script) (first now : Option (List ℕ)) → Game → (number : ℕ) → List Reading → Type 0
+abbrev pub IsOnOr : {T : Type 0} → Result T Halt → (script : Script) (first now : Option (List ℕ)) → Game → (number : ℕ) → List LineReading → Type 0
 IsOnOr (Ok done) script first now game number more = IsOn script first now game (number + 1) more
 IsOnOr (Err why) script first now game number more = IsHalted why script first now game number
 

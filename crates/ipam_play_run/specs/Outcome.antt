@@ -7,8 +7,8 @@ use Rattle.ipam_model.specs.Course.{Event, course, entries_of}
 use Rattle.ipam_model.specs.History.{start}
 use Rattle.ipam_play.specs.declared.player.Player.{Player}
 use Rattle.ipam_play.specs.Played.{Ending, OpensBase, base_of, ending_of, events_in}
-use Rattle.ipam_play.specs.Player.{IsGathering, IsOpened, IsPlaying, cluster_of, journal_of}
-use Rattle.ipam_play.specs.Readings.{Reading}
+use Rattle.ipam_play.specs.Player.{IsGathering, IsBaseOpened, IsPlaying, cluster_of, journal_of}
+use Rattle.ipam_play.specs.Readings.{LineReading}
 use Rattle.ipam_play.specs.Script.{Gathered, Script, behind_step, script_from}
 
 -- entries, and how it ends
@@ -17,7 +17,7 @@ pub record Outcome : Type 0 where
   pub ending : Ending
 
 -- what the script makes of a cluster
-abbrev pub outcome : model.Cluster → Script → Outcome
+abbrev pub outcome : model.ClusterState → Script → Outcome
 outcome cluster script =
     let happened = course cluster (events_in script.steps) in
     record { entries = happened.entries; ending = ending_of script happened.refused }
@@ -33,13 +33,13 @@ line_then number events rest = behind_step (record { number = number; events = e
 -- The base of the script was opened as this datastore, and after these entries the rest is to come.
 pub record Follows (script : Script) (store : Datastore) (past : List Entry) (rest : Script) : Type 0 where
   pub opens_base : OpensBase script
-  pub opened : IsOpened script.base store
+  pub opened : IsBaseOpened script.base store
   pub comes : outcome (start (base_of store)) script ≡ behind past (outcome (cluster_of store past) rest)
 
 -- ---- a player of the script, whose journal was taken
 
 -- its base is gathered, and the lines from this number on are to come
-pub record IsGatheringOn (script : Script) (player : Player) (number : ℕ) (more : List Reading) : Type 0 where
+pub record IsGatheringOn (script : Script) (player : Player) (number : ℕ) (more : List LineReading) : Type 0 where
   pub base : Gathered
   pub gathering : IsGathering player base
   pub is_script : script ≡ script_from number base more

@@ -6,7 +6,7 @@ ghost use Rattle.ipam_io.specs.Streams.{AppendsPrefix};
 ghost use Rattle.ipam_records.specs.Datastore.{Datastore};
 ghost use Rattle.ipam_model.specs.declared.entry.Entry.{Entry};
 ghost use Rattle.ipam_play.specs.Player.{IsPlaying, IsStanding};
-ghost use Rattle.ipam_play.specs.Readings.{Reading};
+ghost use Rattle.ipam_play.specs.Readings.{LineReading};
 ghost use Rattle.ipam_play.specs.Script.{Gathered, Script};
 ghost use Rattle.ipam_play.specs.SoundLine.{IsSoundLine};
 ghost use Rattle.ipam_play_run.specs.Writing.{CountsEnd, HasWrittenJournal, WroteSoFar, ended_so, joined};
@@ -132,7 +132,7 @@ impl Game {
 
     /// A read of the source failed. The lines of all entries so far are written, and the fault after them.
     pub(crate) fn read_fault<K: Sink>(self, sink: &mut K) -> PlayEnd
-        ensures written { (script : Script) (first : Option (List ℕ)) (number : ℕ) (more : List Reading) → IsOn script first (K.written sink.old) self number more
+        ensures written { (script : Script) (first : Option (List ℕ)) (number : ℕ) (more : List LineReading) → IsOn script first (K.written sink.old) self number more
             → HasWrittenJournal result script first (K.written sink.new) }
         ensures so_far { (script : Script) (first : Option (List ℕ)) (number : ℕ) → IsOn script first (K.written sink.old) self number []
             → result ≡ PlayEnd.ReadFault → WroteSoFar script first (K.written sink.new) }

@@ -8,7 +8,7 @@ ghost use Rattle.ipam_model.specs.declared.entry.Entry.{Entry};
 ghost use Rattle.ipam_model.specs.declared.entry.Fate.TheVariants.{Well};
 ghost use Rattle.ipam_play.specs.Player.{IsGathering, IsPlaying, IsStanding, journal_of};
 ghost use Rattle.ipam_play.specs.Output.{journal_text};
-ghost use Rattle.ipam_play.specs.Readings.{Reading};
+ghost use Rattle.ipam_play.specs.Readings.{LineReading};
 ghost use Rattle.ipam_play.specs.Script.{Broken, Gathered, Script, events_of, nothing_gathered};
 ghost use Rattle.ipam_play.specs.SoundLine.{IsSoundLine};
 ghost use Rattle.ipam_play.specs.declared.refusal.LineRefusal.TheVariants as refusal;
@@ -54,7 +54,7 @@ impl Game {
         requires sound { IsSoundLine line.now }
         requires standing { IsStanding self.old.player }
         ensures standing { IsStanding self.new.player }
-        ensures on { (script : Script) (first : Option (List ℕ)) (number : ℕ) (more : List Reading)
+        ensures on { (script : Script) (first : Option (List ℕ)) (number : ℕ) (more : List LineReading)
             → IsOn script first (K.written sink.old) self.old number (Ok line.now ∷ more)
             → IsOnOr result script first (K.written sink.new) self.new number more }
         ensures few { OnOk result (AreFew (held_by self.new)) }
@@ -120,7 +120,7 @@ impl Game {
             → events_of line.now ≡ Some (event ∷ [])
             → IsAt script first (K.written sink.old) self.old (line_then number (event ∷ events) rest)
             → IsAtOr result script first (K.written sink.new) self.new number (line_then number events rest) }
-        ensures base { (script : Script) (first : Option (List ℕ)) (number : ℕ) (more : List Reading)
+        ensures base { (script : Script) (first : Option (List ℕ)) (number : ℕ) (more : List LineReading)
             → events_of line.now ≡ None
             → IsBefore script first (K.written sink.old) self.old number (Ok line.now ∷ more)
             → IsBeforeOr result script first (K.written sink.new) self.new number more }

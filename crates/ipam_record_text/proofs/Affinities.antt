@@ -12,7 +12,7 @@ use Rattle.ipam_json.specs.Canonical.{IsCanonical}
 use Rattle.ipam_json.proofs.ReadsBack.{read-compact_text}
 use Rattle.ipam_record_text.specs.declared.fault.BodyFault.{BodyFault}
 use Rattle.ipam_record_text.specs.declared.fault.BodyFault.TheVariants.{Form, Table, Memory}
-use Rattle.ipam_record_text.specs.Blocks.{block_at, name_at}
+use Rattle.ipam_record_text.specs.Blocks.{block_cidr_at, name_at}
 use Rattle.ipam_json.specs.Held.{held}
 use Rattle.ipam_json.specs.Members.{◌>>=◌}
 use Rattle.ipam_record_text.specs.Affinity.{affinity_data, affinity_body, affinity_in, affinity_reading, state_at, IsAffinityRecord}
@@ -30,7 +30,7 @@ parts None name state a e = cc
 affinity_in-sound : (d : Data) (a : Affinity) → affinity_in d ≡ Some a → IsAffinityRecord a
 unfolding affinity_in
 affinity_in-sound d a e =
-    let (cidr, node) = parts (block_at (codes "cidr") d) (name_at (codes "node") d) (state_at (codes "state") d) a e in
+    let (cidr, node) = parts (block_cidr_at (codes "cidr") d) (name_at (codes "node") d) (state_at (codes "state") d) a e in
     record { node = name_at-is (codes "node") d a.node node; range = block_at-is (codes "cidr") d a.cidr cidr }
 
 pub affinity_held : (body : List ℕ) (a : Affinity) → held affinity_in affinity_body body ≡ Some a → IsAffinityRecord a × (body ≡ affinity_body a)

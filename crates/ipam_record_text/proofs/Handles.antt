@@ -39,7 +39,7 @@ use Rattle.ipam_record_text.specs.declared.fault.BodyFault.TheVariants.{Form, Ta
 use Rattle.ipam_json.specs.Held.{held}
 use Rattle.ipam_json.specs.Members.{◌>>=◌, only_if, in_32_bits, members_at}
 use Rattle.ipam_record_text.specs.Blocks.{block_cidr_of, id_at}
-use Rattle.ipam_record_text.specs.Handle.{with_counts, handle_data, handle_body, count_of_json, counted, with_new, AddsCount, counts_after, handle_of_counts, handle_in, handle_reading}
+use Rattle.ipam_record_text.specs.Handle.{with_counts, handle_data, handle_body, count_of_json, block_counted, with_new, AddsCount, counts_after, handle_of_counts, handle_in, handle_reading}
 use Rattle.ipam_record_text.proofs.Held.{reading-held, unheld-text, reading-told}
 use Rattle.ipam_json.proofs.Held.{held-was, held-text}
 use Rattle.ipam_record_text.proofs.Insertions.{insert_entry-either, below_entry, insert_entry-last, lookup-last}
@@ -77,8 +77,8 @@ count_of_json-is d n e = whole (as_whole d) e
     whole (Some w) e' = small_is (in_32_bits w) (in_32_bits-is w) n e'
     whole None e' = cc
 
-counted-is : (name : List ℕ) (d : Data) (c : CidrValue × ℕ) → counted name d ≡ Some c → IsCounted name d c
-unfolding counted
+counted-is : (name : List ℕ) (d : Data) (c : CidrValue × ℕ) → block_counted name d ≡ Some c → IsCounted name d c
+unfolding block_counted
 counted-is name d c e = parts (block_cidr_of name) (count_of_json d) refl refl e
   where
     parts : (b : Option CidrValue) (n : Option ℕ) → block_cidr_of name ≡ b → count_of_json d ≡ n → (b >>= λ block. n >>= λ k. Some (block, k)) ≡ Some c → IsCounted name d c
@@ -137,14 +137,14 @@ record HasFirst (cs : Counts) (name : List ℕ) (d : Data) (ms : Members) (all :
   pub block : CidrValue
   pub count : ℕ
   pub is : IsCounted name d (block, count)
-  pub is_counted : counted name d ≡ Some (block, count)
+  pub is_counted : block_counted name d ≡ Some (block, count)
   pub absent : count_in cs block ≡ 0
   pub rest : counts_after (ins cs block count) ms ≡ Some all
 
 first_of : (cs : Counts) (name : List ℕ) (d : Data) (ms : Members) (all : Counts) → counts_after cs (member name d ms) ≡ Some all → HasFirst cs name d ms all
-first_of cs name d ms all e = go (counted name d) refl e
+first_of cs name d ms all e = go (block_counted name d) refl e
   where
-    more : (c : CidrValue × ℕ) → counted name d ≡ Some c → (o : Option Counts) → with_new cs c.0 c.1 ≡ o → (o >>= λ m. counts_after m ms) ≡ Some all → HasFirst cs name d ms all
+    more : (c : CidrValue × ℕ) → block_counted name d ≡ Some c → (o : Option Counts) → with_new cs c.0 c.1 ≡ o → (o >>= λ m. counts_after m ms) ≡ Some all → HasFirst cs name d ms all
     more c is (Some m) new e' =
         let (none, same) = with_new-is cs c.0 c.1 m new in
         record {
@@ -157,11 +157,11 @@ first_of cs name d ms all e = go (counted name d) refl e
         }
     more c is None new e' = cc
 
-    go : (o : Option (CidrValue × ℕ)) → counted name d ≡ o → (o >>= λ c. with_new cs c.0 c.1 >>= λ m. counts_after m ms) ≡ Some all → HasFirst cs name d ms all
+    go : (o : Option (CidrValue × ℕ)) → block_counted name d ≡ o → (o >>= λ c. with_new cs c.0 c.1 >>= λ m. counts_after m ms) ≡ Some all → HasFirst cs name d ms all
     go (Some c) is e' = more c is (with_new cs c.0 c.1) refl e'
     go None is e' = cc
 
-with_first : (cs : Counts) (name : List ℕ) (d : Data) (ms : Members) (c : CidrValue × ℕ) → counted name d ≡ Some c → count_in cs c.0 ≡ 0 → counts_after cs (member name d ms) ≡ counts_after (ins cs c.0 c.1) ms
+with_first : (cs : Counts) (name : List ℕ) (d : Data) (ms : Members) (c : CidrValue × ℕ) → block_counted name d ≡ Some c → count_in cs c.0 ≡ 0 → counts_after cs (member name d ms) ≡ counts_after (ins cs c.0 c.1) ms
 with_first cs name d ms c is none = rw (is, with_new-absent cs c.0 c.1 none) refl
 
 -- a block that has no count in the end had none before
@@ -185,7 +185,7 @@ put_before (member name d ms) cs all r n e none =
     ∙ put_before ms (ins cs h.block h.count) all r n h.rest none
 
 -- a member that is put at its place among the members adds its count
-put_among : (ms : Members) (cs all : Counts) (k : List ℕ) (d : Data) (c : CidrValue × ℕ) → counts_after cs ms ≡ Some all → counted k d ≡ Some c → count_in all c.0 ≡ 0 → counts_after cs (put k d ms) ≡ Some (ins all c.0 c.1)
+put_among : (ms : Members) (cs all : Counts) (k : List ℕ) (d : Data) (c : CidrValue × ℕ) → counts_after cs ms ≡ Some all → block_counted k d ≡ Some c → count_in all c.0 ≡ 0 → counts_after cs (put k d ms) ≡ Some (ins all c.0 c.1)
 put_among no_members cs all k d c e is none =
     let same : cs ≡ all = cc in
     with_first cs k d no_members c is (rw same none) ∙ ap (λ l. Some (ins l c.0 c.1)) same
@@ -262,8 +262,8 @@ handle_read body h e = let is = handle_held body h (reading-held _ h e) in (is.1
 
 -- ---- a sound handle is found in its JSON
 
-counted-text : (c : CidrValue × ℕ) → IsBlockCidr c.0 → 0 < c.1 → c.1 < 2 ^ 32 → counted (cidr_text_of c.0) (number (unsigned c.1)) ≡ Some c
-unfolding counted count_of_json
+counted-text : (c : CidrValue × ℕ) → IsBlockCidr c.0 → 0 < c.1 → c.1 < 2 ^ 32 → block_counted (cidr_text_of c.0) (number (unsigned c.1)) ≡ Some c
+unfolding block_counted count_of_json
 counted-text c small some fits = rw (block_of-text c.0 small, lt-ltb c.1 (2 ^ 32) fits, lt-ltb 0 c.1 some) refl
 
 counts_back : (ms : Members) (done left : Counts) → counts_after [] ms ≡ Some done → IsStrictlySortedBy cidr_cmp (keys_of (done ++ left)) → All IsCount left → All (λ c. IsBlockCidr c.0) left → counts_after [] (with_counts ms left) ≡ Some (done ++ left)
@@ -345,7 +345,7 @@ unfolding with_new
 with_new-none cs r n h = rw (ne_eqb (count_in cs r) 0 (λ e. absurd (omega arith))) refl
 
 -- one more count
-pub one_more : (cs more : Counts) (before after all : Members) (name : List ℕ) (d : Data) (c : CidrValue × ℕ) → counts_after cs before ≡ counts_after [] all → before ≡ member name d after → counted name d ≡ Some c → count_in cs c.0 ≡ 0 → more ≡ ins cs c.0 c.1 → counts_after more after ≡ counts_after [] all
+pub one_more : (cs more : Counts) (before after all : Members) (name : List ℕ) (d : Data) (c : CidrValue × ℕ) → counts_after cs before ≡ counts_after [] all → before ≡ member name d after → block_counted name d ≡ Some c → count_in cs c.0 ≡ 0 → more ≡ ins cs c.0 c.1 → counts_after more after ≡ counts_after [] all
 one_more cs more before after all name d c same step is none added =
     ap (λ l. counts_after l after) added ∙ sym (with_first cs name d after c is none) ∙ sym (ap (counts_after cs) step) ∙ same
 
@@ -388,7 +388,7 @@ unfolding IsStrictlySortedBy
 no_counts cs none = subst AreCounts (sym none) (record { ascending = tt; each = All-nil IsCount })
 
 -- one member more is counted
-pub sound_added : (cs more : Counts) (name : List ℕ) (d : Data) (block : CidrValue) (n : ℕ) → AreCounts cs → counted name d ≡ Some (block, n) → more ≡ ins cs block n → AreCounts more
+pub sound_added : (cs more : Counts) (name : List ℕ) (d : Data) (block : CidrValue) (n : ℕ) → AreCounts cs → block_counted name d ≡ Some (block, n) → more ≡ ins cs block n → AreCounts more
 sound_added cs more name d block n sound is added =
     let one = counted-is name d (block, n) is in
     let entry : IsCount (block, n) = record { range = one.small.range; some = one.some; small = one.fits } in
@@ -397,7 +397,7 @@ sound_added cs more name d block n sound is added =
       each = All-insert_entry cidr_cmp_total block n cidr_cmp_exact IsCount cs entry sound.each;
     })
 
-pub repeated : (cs : Counts) (before after all : Members) (name : List ℕ) (d : Data) (c : CidrValue × ℕ) → counts_after cs before ≡ counts_after [] all → before ≡ member name d after → counted name d ≡ Some c → 0 < count_in cs c.0 → None ≡ counts_after [] all
+pub repeated : (cs : Counts) (before after all : Members) (name : List ℕ) (d : Data) (c : CidrValue × ℕ) → counts_after cs before ≡ counts_after [] all → before ≡ member name d after → block_counted name d ≡ Some c → 0 < count_in cs c.0 → None ≡ counts_after [] all
 repeated cs before after all name d c same step is some =
     let ends : counts_after cs (member name d after) ≡ None = rw (is, with_new-none cs c.0 c.1 some) refl in
     sym (sym same ∙ ap (counts_after cs) step ∙ ends)

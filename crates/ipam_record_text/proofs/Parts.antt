@@ -10,11 +10,11 @@ use Rattle.ipam_addr.specs.Width.{IsCidr}
 use Rattle.ipam_addr.specs.Names.{is_name_text, is_handle_text}
 use Rattle.ipam_addr.proofs.CidrTextLemmas.{cidr_reading-cidr_text_of, spelled-cidr_reading}
 use Rattle.ipam_block.specs.Sound.{IsBlockCidr}
-use Rattle.ipam_record_text.specs.Blocks.{value_of, cidr_of, block_cidr_of, name_of, id_of, cidr_at, block_at, name_at, id_at}
+use Rattle.ipam_record_text.specs.Blocks.{ok_cidr, cidr_of, block_cidr_of, name_read, id_of, cidr_at, block_cidr_at, name_at, id_at}
 use Rattle.ipam_json.specs.Members.{text_at}
 use Rattle.ipam_json.proofs.MemberLemmas.{then-is}
 
-value_of-some : (r : Result CidrValue AddrFault) (c : CidrValue) → value_of r ≡ Some c → r ≡ Ok c
+value_of-some : (r : Result CidrValue AddrFault) (c : CidrValue) → ok_cidr r ≡ Some c → r ≡ Ok c
 value_of-some (Ok r) c e = cc
 value_of-some (Err fault) c e = cc
 
@@ -24,7 +24,7 @@ cidr_of-is text r e = (spelled-cidr_reading text r (value_of-some _ r e)).sound
 
 pub cidr_of-text : (r : CidrValue) → IsCidr r → cidr_of (cidr_text_of r) ≡ Some r
 unfolding cidr_of
-cidr_of-text r h = ap value_of (cidr_reading-cidr_text_of r h)
+cidr_of-text r h = ap ok_cidr (cidr_reading-cidr_text_of r h)
 
 pub block_of-is : (text : List ℕ) (r : CidrValue) → block_cidr_of text ≡ Some r → IsBlockCidr r
 unfolding block_cidr_of
@@ -40,12 +40,12 @@ pub block_of-text : (r : CidrValue) → IsBlockCidr r → block_cidr_of (cidr_te
 unfolding block_cidr_of
 block_of-text r h = rw (cidr_of-text r h.range, le-leb _ _ h.small) refl
 
-pub name_of-is : (text name : List ℕ) → name_of text ≡ Some name → is_name_text name ≡ true
-unfolding name_of
+pub name_of-is : (text name : List ℕ) → name_read text ≡ Some name → is_name_text name ≡ true
+unfolding name_read
 name_of-is text name e = let (is, same) = cond_some _ text name e in rw (← same) is
 
-pub name_of-name : (name : List ℕ) → is_name_text name ≡ true → name_of name ≡ Some name
-unfolding name_of
+pub name_of-name : (name : List ℕ) → is_name_text name ≡ true → name_read name ≡ Some name
+unfolding name_read
 name_of-name name h = rw h refl
 
 pub id_of-is : (text id : List ℕ) → id_of text ≡ Some id → is_handle_text id ≡ true
@@ -61,11 +61,11 @@ id_of-id id h = rw h refl
 pub cidr_at-is : (name : List ℕ) (d : Data) (r : CidrValue) → cidr_at name d ≡ Some r → IsCidr r
 cidr_at-is name d r e = then-is cidr_of IsCidr cidr_of-is (text_at name d) r e
 
-pub block_at-is : (name : List ℕ) (d : Data) (r : CidrValue) → block_at name d ≡ Some r → IsBlockCidr r
+pub block_at-is : (name : List ℕ) (d : Data) (r : CidrValue) → block_cidr_at name d ≡ Some r → IsBlockCidr r
 block_at-is name d r e = then-is block_cidr_of IsBlockCidr block_of-is (text_at name d) r e
 
 pub name_at-is : (name : List ℕ) (d : Data) (found : List ℕ) → name_at name d ≡ Some found → is_name_text found ≡ true
-name_at-is name d found e = then-is name_of (λ t. is_name_text t ≡ true) name_of-is (text_at name d) found e
+name_at-is name d found e = then-is name_read (λ t. is_name_text t ≡ true) name_of-is (text_at name d) found e
 
 pub id_at-is : (name : List ℕ) (d : Data) (found : List ℕ) → id_at name d ≡ Some found → is_handle_text found ≡ true
 id_at-is name d found e = then-is id_of (λ t. is_handle_text t ≡ true) id_of-is (text_at name d) found e

@@ -28,9 +28,9 @@ use Rattle.ipam_pool.specs.declared.pools.Mode.TheVariants.{Automatic, Manual}
 use Rattle.ipam_select.specs.Formula.{Formula, every}
 use Rattle.ipam_select.specs.Every.{is_every}
 use Rattle.ipam_select.specs.Sound.{is_sound}
-use Rattle.ipam_record_text.specs.Rules.{mode_fields, selector_fields_unless, selector_fields, with_fields, mode_in, selector_in, selector_said}
+use Rattle.ipam_record_text.specs.Rules.{mode_fields, selector_fields_unless, selector_fields, with_fields, mode_kept_in, node_selector_in, selector_said}
 use Rattle.ipam_record_text.proofs.RuleLemmas.{selector_of-is, selector_of-printed, every_or}
-use Rattle.ipam_record_text.specs.Pools.{plain_fields, pool_data, pools_data, pools_body, plain_in, pool_in, pools_in, pools_after, size_at, are_added, table_of, refusal_fault, pools_reading, IsSoundPool, IsPoolsRecord, HasRefusedPool}
+use Rattle.ipam_record_text.specs.Pools.{plain_fields, pool_data, pools_data, pools_body, plain_in, pool_in, pool_list_in, pools_after, size_at, are_added, table_of, refusal_fault, pools_reading, IsSoundPool, IsPoolsRecord, HasRefusedPool}
 use Rattle.ipam_record_text.proofs.Standing.{standing_table, added_stands}
 use Rattle.ipam_json.proofs.Held.{held-was, held-text}
 use Rattle.ipam_json.proofs.MemberLemmas.{then-is}
@@ -89,7 +89,7 @@ parts mode None cidr disabled name p e = cc
 plain_in-sound : (d : Data) (p : Pool) (selector : Formula) → plain_in d ≡ Some p → is_sound selector ≡ true → IsSoundPool (record p { selector = selector })
 unfolding plain_in
 plain_in-sound d p selector e sound =
-    let (size, cidr, name) = parts (mode_in d) (size_at (codes "blockSize") d) (cidr_at (codes "cidr") d) (truth_at (codes "disabled") d) (name_at (codes "name") d) p e in
+    let (size, cidr, name) = parts (mode_kept_in d) (size_at (codes "blockSize") d) (cidr_at (codes "cidr") d) (truth_at (codes "disabled") d) (name_at (codes "name") d) p e in
     record {
       name = name_at-is (codes "name") d p.name name;
       cidr = cidr_at-is (codes "cidr") d p.cidr cidr;
@@ -104,7 +104,7 @@ selector_said-is None f e = rw (← same_Some every f e) refl
 pub pool_in-sound : (d : Data) (p : Pool) → pool_in d ≡ Some p → IsSoundPool p
 unfolding pool_in
 pool_in-sound d p e =
-    option_and_then_some _ (plain_in d) p e (λ plain is_plain e'. option_and_then_some _ (selector_in d) p e' (λ f is_selector e''.
+    option_and_then_some _ (plain_in d) p e (λ plain is_plain e'. option_and_then_some _ (node_selector_in d) p e' (λ f is_selector e''.
     let sound = plain_in-sound d plain f is_plain (selector_said-is _ f is_selector) in
     rw (← same_Some (record plain { selector = f }) p e'') sound))
 
@@ -121,8 +121,8 @@ pools_after-sound there (item d ds) pools e h =
     next (Some p) is e' more = more p (AllByRecursion-push IsSoundPool there p h (pool_in-sound d p is)) e'
     next None is e' more = cc
 
-pub pools_in-sound : (d : Data) (pools : List Pool) → pools_in d ≡ Some pools → AllByRecursion IsSoundPool pools
-unfolding pools_in
+pub pools_in-sound : (d : Data) (pools : List Pool) → pool_list_in d ≡ Some pools → AllByRecursion IsSoundPool pools
+unfolding pool_list_in
 pools_in-sound d pools e = then-is (pools_after []) (AllByRecursion IsSoundPool) (λ ds found e'. pools_after-sound [] ds found e' tt) (items_at (codes "pools") d) pools e
 
 -- ---- a sound table is found in its JSON
@@ -155,8 +155,8 @@ pools_after-pools_data there [] h = ap Some (sym (append-nil there))
 pools_after-pools_data there (p ∷ pools) h =
     rw (pool_in-pool_data p h.0) (pools_after-pools_data (there ++ p ∷ []) pools h.1 ∙ ap Some (append_assoc there (p ∷ []) pools))
 
-pools_in-pools_data : (pools : List Pool) → AllByRecursion IsSoundPool pools → pools_in (pools_data pools) ≡ Some pools
-unfolding pools_in pools_data
+pools_in-pools_data : (pools : List Pool) → AllByRecursion IsSoundPool pools → pool_list_in (pools_data pools) ≡ Some pools
+unfolding pool_list_in pools_data
 pools_in-pools_data pools h = pools_after-pools_data [] pools h
 
 canonical_by : (mode : Mode) (all : Bool) (p : Pool) → IsSoundPool p → IsCanonicalWithin 1 (object_of (fields_by mode all p))
@@ -195,8 +195,8 @@ read-pools_body : (pools : List Pool) → AllByRecursion IsSoundPool pools → r
 unfolding pools_body
 read-pools_body pools h = read-compact_text (pools_data pools) (pools_data-IsCanonical pools h)
 
-pub held-pools_body : (pools : List Pool) → AllByRecursion IsSoundPool pools → held pools_in pools_body (pools_body pools) ≡ Some pools
-held-pools_body pools h = held-text pools_in pools_body pools (pools_data pools) (read-pools_body pools h) (pools_in-pools_data pools h)
+pub held-pools_body : (pools : List Pool) → AllByRecursion IsSoundPool pools → held pool_list_in pools_body (pools_body pools) ≡ Some pools
+held-pools_body pools h = held-text pool_list_in pools_body pools (pools_data pools) (read-pools_body pools h) (pools_in-pools_data pools h)
 
 -- ---- the body of a table
 
@@ -215,8 +215,8 @@ table_of-is (Some ps) pools e = elim (cases_Bool (are_added [] ps)) [
 pub pools_read : (body : List ℕ) (pools : List Pool) → pools_reading body ≡ Ok pools → (body ≡ pools_body pools) × IsPoolsRecord pools
 unfolding pools_reading
 pools_read body pools e =
-    let (is_held, added) = table_of-is (held pools_in pools_body body) pools e in
-    let was = held-was pools_in pools_body body pools is_held in
+    let (is_held, added) = table_of-is (held pool_list_in pools_body body) pools e in
+    let was = held-was pool_list_in pools_body body pools is_held in
     (sym was.is_text, added_stands pools (record { each = pools_in-sound was.json pools was.was_found; added = added }))
 
 pub pools_reads_back : (pools : List Pool) → IsPoolsRecord pools → pools_reading (pools_body pools) ≡ Ok pools
@@ -225,15 +225,15 @@ pools_reads_back pools h = let is = standing_table pools h in rw (held-pools_bod
 
 read_of-pools_body : (body : List ℕ) (pools : List Pool) → AllByRecursion IsSoundPool pools → body ≡ pools_body pools → pools_reading body ≡ table_of (Some pools)
 unfolding pools_reading
-read_of-pools_body body pools h same = ap (λ b. table_of (held pools_in pools_body b)) same ∙ ap table_of (held-pools_body pools h)
+read_of-pools_body body pools h same = ap (λ b. table_of (held pool_list_in pools_body b)) same ∙ ap table_of (held-pools_body pools h)
 
 -- a body in which none are held is out of form
-pub unheld_form : (body : List ℕ) → held pools_in pools_body body ≡ None → pools_reading body ≡ Err Form
+pub unheld_form : (body : List ℕ) → held pool_list_in pools_body body ≡ None → pools_reading body ≡ Err Form
 unfolding pools_reading table_of
 unheld_form body none = ap table_of none
 
 -- where pools are held, what is refused of their table is refused of the body
-pub held_refused : (body : List ℕ) (pools : List Pool) (r : Result (List Pool) BodyFault) → held pools_in pools_body body ≡ Some pools → IfErr r (λ e. e ≢ NoMemory → table_of (Some pools) ≡ Err e) → IfErr r (λ e. e ≢ NoMemory → pools_reading body ≡ Err e)
+pub held_refused : (body : List ℕ) (pools : List Pool) (r : Result (List Pool) BodyFault) → held pool_list_in pools_body body ≡ Some pools → IfErr r (λ e. e ≢ NoMemory → table_of (Some pools) ≡ Err e) → IfErr r (λ e. e ≢ NoMemory → pools_reading body ≡ Err e)
 unfolding pools_reading
 held_refused body pools (Ok t) found told = tt
 held_refused body pools (Err e) found told = λ other. ap table_of found ∙ told other
@@ -261,8 +261,8 @@ table_of-refused (Some pools) e = elim (cases_Bool (are_added [] pools)) [
 pub table_unread : (body : List ℕ) → pools_reading body ≡ Err Table → HasRefusedPool body
 unfolding pools_reading
 table_unread body e =
-    let (pools, is_held, refused) = table_of-refused (held pools_in pools_body body) e in
-    let was = held-was pools_in pools_body body pools is_held in
+    let (pools, is_held, refused) = table_of-refused (held pool_list_in pools_body body) e in
+    let was = held-was pool_list_in pools_body body pools is_held in
     record {
       pools = pools;
       each = pools_in-sound was.json pools was.was_found;
@@ -278,12 +278,12 @@ refused_table pools refused = rw refused refl
 pub pools_reading-told : (body : List ℕ) (r : Result (List Pool) BodyFault) → IfOk r (λ t. IsPoolsRecord t × (body ≡ pools_body t)) → (r ≡ Err Form → (pools : List Pool) → AllByRecursion IsSoundPool pools → body ≢ pools_body pools) → (r ≡ Err Table → HasRefusedPool body) → r ≢ Err NoMemory → pools_reading body ≡ r
 unfolding pools_reading table_of
 pools_reading-told body (Ok t) told form table no_memory = ap pools_reading told.1 ∙ pools_reads_back t told.0
-pools_reading-told body (Err Form) told form table no_memory = go (held pools_in pools_body body) refl
+pools_reading-told body (Err Form) told form table no_memory = go (held pool_list_in pools_body body) refl
   where
-    go : (o : Option (List Pool)) → held pools_in pools_body body ≡ o → table_of o ≡ Err Form
+    go : (o : Option (List Pool)) → held pool_list_in pools_body body ≡ o → table_of o ≡ Err Form
     go None is = refl
     go (Some pools) is =
-        let was = held-was pools_in pools_body body pools is in
+        let was = held-was pool_list_in pools_body body pools is in
         absurd (form refl pools (pools_in-sound was.json pools was.was_found) (sym was.is_text))
 pools_reading-told body (Err Table) told form table no_memory =
     let has = table refl in

@@ -10,9 +10,9 @@ use Rattle.ipam_affinity.specs.declared.record.Affinity.{Affinity}
 use Rattle.ipam_json.specs.Built.{object_of}
 use Rattle.ipam_record_text.specs.declared.fault.BodyFault.{BodyFault}
 use Rattle.ipam_json.specs.Members.{◌>>=◌, text_at}
-use Rattle.ipam_record_text.specs.Reading.{reading}
+use Rattle.ipam_record_text.specs.Reading.{body_reading}
 use Rattle.ipam_block.specs.Sound.{IsBlockCidr}
-use Rattle.ipam_record_text.specs.Blocks.{block_at, name_at}
+use Rattle.ipam_record_text.specs.Blocks.{block_cidr_at, name_at}
 
 -- the JSON of an affinity
 unfoldable pub affinity_data : Affinity → Data
@@ -36,11 +36,11 @@ state_at name d = option_and_then state_of (text_at name d)
 -- the affinity that the JSON holds
 unfoldable pub affinity_in : Data → Option Affinity
 affinity_in d = do
-  cidr ← block_at (codes "cidr") d
+  cidr ← block_cidr_at (codes "cidr") d
   node ← name_at (codes "node") d
   state ← state_at (codes "state") d
   Some (record { node = node; cidr = cidr; state = state })
 
 -- what is read of an affinity's body
 unfoldable pub affinity_reading : List ℕ → Result Affinity BodyFault
-affinity_reading body = reading affinity_in affinity_body body
+affinity_reading body = body_reading affinity_in affinity_body body

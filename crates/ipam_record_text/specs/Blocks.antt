@@ -9,13 +9,13 @@ use Rattle.ipam_addr.specs.Names.{is_name_text, is_handle_text}
 use Rattle.ipam_block.specs.declared.limits.TheConstants.{ADDRESSES_MAX}
 use Rattle.ipam_json.specs.Members.{◌>>=◌, only_if, text_at}
 
-abbrev pub value_of : Result CidrValue AddrFault → Option CidrValue
-value_of (Ok r) = Some r
-value_of (Err fault) = None
+abbrev pub ok_cidr : Result CidrValue AddrFault → Option CidrValue
+ok_cidr (Ok r) = Some r
+ok_cidr (Err fault) = None
 
 -- the CIDR that a text writes
 unfoldable pub cidr_of : List ℕ → Option CidrValue
-cidr_of text = value_of (cidr_reading text)
+cidr_of text = ok_cidr (cidr_reading text)
 
 -- the CIDR that a text writes, where a block may have it
 unfoldable pub block_cidr_of : List ℕ → Option CidrValue
@@ -24,8 +24,8 @@ block_cidr_of text = do
   only_if (nat_le (cidr_size r) ADDRESSES_MAX) r
 
 -- the text, where it is a name
-unfoldable pub name_of : List ℕ → Option (List ℕ)
-name_of text = only_if (is_name_text text) text
+unfoldable pub name_read : List ℕ → Option (List ℕ)
+name_read text = only_if (is_name_text text) text
 
 -- the text, where it is the id of a handle
 unfoldable pub id_of : List ℕ → Option (List ℕ)
@@ -36,12 +36,12 @@ abbrev pub cidr_at : List ℕ → Data → Option CidrValue
 cidr_at name d = option_and_then cidr_of (text_at name d)
 
 -- the same, where a block may have it
-abbrev pub block_at : List ℕ → Data → Option CidrValue
-block_at name d = option_and_then block_cidr_of (text_at name d)
+abbrev pub block_cidr_at : List ℕ → Data → Option CidrValue
+block_cidr_at name d = option_and_then block_cidr_of (text_at name d)
 
 -- the name that has this name
 abbrev pub name_at : List ℕ → Data → Option (List ℕ)
-name_at name d = option_and_then name_of (text_at name d)
+name_at name d = option_and_then name_read (text_at name d)
 
 -- the id of a handle that has this name
 abbrev pub id_at : List ℕ → Data → Option (List ℕ)

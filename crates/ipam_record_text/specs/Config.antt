@@ -6,7 +6,7 @@ use Rattle.ipam_json.specs.Built.{object_of}
 use Rattle.ipam_record_text.specs.declared.config.Config.{Config}
 use Rattle.ipam_record_text.specs.declared.fault.BodyFault.{BodyFault}
 use Rattle.ipam_json.specs.Members.{◌>>=◌, truth_at, number_at}
-use Rattle.ipam_record_text.specs.Reading.{reading}
+use Rattle.ipam_record_text.specs.Reading.{body_reading}
 
 -- the JSON of a configuration
 unfoldable pub config_data : Config → Data
@@ -33,4 +33,4 @@ config_in d = do
 
 -- what is read of a configuration's body
 unfoldable pub config_reading : List ℕ → Result Config BodyFault
-config_reading body = reading config_in config_body body
+config_reading body = body_reading config_in config_body body

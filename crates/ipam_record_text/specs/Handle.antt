@@ -12,7 +12,7 @@ use Rattle.ipam_json.specs.Built.{object_of}
 use Rattle.ipam_json.specs.Path.{as_whole}
 use Rattle.ipam_record_text.specs.declared.fault.BodyFault.{BodyFault}
 use Rattle.ipam_json.specs.Members.{◌>>=◌, only_if, in_32_bits, members_at}
-use Rattle.ipam_record_text.specs.Reading.{reading}
+use Rattle.ipam_record_text.specs.Reading.{body_reading}
 use Rattle.ipam_record_text.specs.Blocks.{block_cidr_of, id_at}
 
 -- the members, and each block's text with its count at its place among them
@@ -38,8 +38,8 @@ count_of_json d = do
   only_if (nat_lt 0 n) n
 
 -- the block and the count that a member is
-unfoldable pub counted : List ℕ → Data → Option (CidrValue × ℕ)
-counted name d = do
+unfoldable pub block_counted : List ℕ → Data → Option (CidrValue × ℕ)
+block_counted name d = do
   block ← block_cidr_of name
   n ← count_of_json d
   Some (block, n)
@@ -57,7 +57,7 @@ pub record AddsCount (old new : List (CidrValue × ℕ)) (block : CidrValue) (co
 abbrev pub counts_after : List (CidrValue × ℕ) → Members → Option (List (CidrValue × ℕ))
 counts_after counts no_members = Some counts
 counts_after counts (member name d ms) = do
-  c ← counted name d
+  c ← block_counted name d
   more ← with_new counts c.0 c.1
   counts_after more ms
 
@@ -75,4 +75,4 @@ handle_in d = do
 
 -- what is read of a handle's body
 unfoldable pub handle_reading : List ℕ → Result HandleValue BodyFault
-handle_reading body = reading handle_in handle_body body
+handle_reading body = body_reading handle_in handle_body body

@@ -19,7 +19,7 @@ use Rattle.ipam_record_text.specs.declared.fault.BodyFault.TheVariants.{Form, Ta
 use Rattle.ipam_json.specs.Members.{◌>>=◌, only_if, truth_at, number_at, items_at}
 use Rattle.ipam_json.specs.Held.{held}
 use Rattle.ipam_record_text.specs.Blocks.{cidr_at, name_at}
-use Rattle.ipam_record_text.specs.Rules.{mode_fields, selector_fields, mode_in, selector_in}
+use Rattle.ipam_record_text.specs.Rules.{mode_fields, selector_fields, mode_kept_in, node_selector_in}
 
 -- what stands in the object of each pool
 abbrev pub plain_fields : Pool → List Field
@@ -79,13 +79,13 @@ plain_in d = do
   cidr ← cidr_at (codes "cidr") d
   disabled ← truth_at (codes "disabled") d
   name ← name_at (codes "name") d
-  Some (record { name = name; cidr = cidr; size = size; disabled = disabled; mode = mode_in d; selector = every })
+  Some (record { name = name; cidr = cidr; size = size; disabled = disabled; mode = mode_kept_in d; selector = every })
 
 -- the pool that the JSON holds
 unfoldable pub pool_in : Data → Option Pool
 pool_in d = do
   plain ← plain_in d
-  selector ← selector_in d
+  selector ← node_selector_in d
   Some (record plain { selector = selector })
 
 -- the pools, and after them those that the items hold
@@ -96,8 +96,8 @@ pools_after pools (item d ds) = do
   pools_after (pools ++ p ∷ []) ds
 
 -- the pools that the JSON holds
-unfoldable pub pools_in : Data → Option (List Pool)
-pools_in d = do
+unfoldable pub pool_list_in : Data → Option (List Pool)
+pool_list_in d = do
   items ← items_at (codes "pools") d
   pools_after [] items
 
@@ -113,4 +113,4 @@ refusal_fault _ = Table
 
 -- what is read of a table's body
 unfoldable pub pools_reading : List ℕ → Result (List Pool) BodyFault
-pools_reading body = table_of (held pools_in pools_body body)
+pools_reading body = table_of (held pool_list_in pools_body body)

@@ -7,5 +7,5 @@ use Rattle.ipam_record_text.specs.declared.fault.BodyFault.{BodyFault}
 use Rattle.ipam_record_text.specs.declared.fault.BodyFault.TheVariants.{Form}
 
 -- what is held in the body, or else that the form is wrong
-abbrev pub reading : {A : Type 0} → (Data → Option A) → (A → List ℕ) → List ℕ → Result A BodyFault
-reading found text body = ok_or (held found text body) Form
+abbrev pub body_reading : {A : Type 0} → (Data → Option A) → (A → List ℕ) → List ℕ → Result A BodyFault
+body_reading found text body = ok_or (held found text body) Form

@@ -13,7 +13,7 @@ use Rattle.ipam_reserve.specs.declared.reservations.TheConstants.{MOST_CIDRS, MO
 use Rattle.ipam_reserve.specs.Shape.{ReservationValue}
 use Rattle.ipam_record_text.specs.declared.fault.BodyFault.{BodyFault}
 use Rattle.ipam_json.specs.Members.{◌>>=◌, only_if, items_at}
-use Rattle.ipam_record_text.specs.Reading.{reading}
+use Rattle.ipam_record_text.specs.Reading.{body_reading}
 use Rattle.ipam_record_text.specs.Blocks.{cidr_of, name_at}
 
 abbrev pub cidr_data : CidrValue → Data
@@ -89,4 +89,4 @@ reservations_in d = do
 
 -- what is read of the body of reservations
 unfoldable pub reservations_reading : List ℕ → Result (List ReservationValue) BodyFault
-reservations_reading body = reading reservations_in reservations_body body
+reservations_reading body = body_reading reservations_in reservations_body body

@@ -30,16 +30,16 @@ with_fields [] ms = ms
 with_fields (f ∷ fs) ms = with_fields fs (put f.0 f.1 ms)
 
 -- A text that is not one of a manual pool is refused later, since it is not what is printed.
-abbrev pub mode_of : List ℕ → Mode
-mode_of text = if bytes_eq text (codes "Manual") then Manual else Automatic
+abbrev pub mode_kept : List ℕ → Mode
+mode_kept text = if bytes_eq text (codes "Manual") then Manual else Automatic
 
 abbrev pub mode_said : Option (List ℕ) → Mode
 mode_said None = Automatic
-mode_said (Some text) = mode_of text
+mode_said (Some text) = mode_kept text
 
 -- the mode that the JSON holds
-abbrev pub mode_in : Data → Mode
-mode_in d = mode_said (text_at (codes "assignmentMode") d)
+abbrev pub mode_kept_in : Data → Mode
+mode_kept_in d = mode_said (text_at (codes "assignmentMode") d)
 
 -- the selector that the text is read as, where neither it nor its printed form is too long
 unfoldable pub selector_of : List ℕ → Option Formula
@@ -52,5 +52,5 @@ selector_said None = Some every
 selector_said (Some text) = selector_of text
 
 -- the selector that the JSON holds
-abbrev pub selector_in : Data → Option Formula
-selector_in d = selector_said (text_at (codes "nodeSelector") d)
+abbrev pub node_selector_in : Data → Option Formula
+node_selector_in d = selector_said (text_at (codes "nodeSelector") d)

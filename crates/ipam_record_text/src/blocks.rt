@@ -3,7 +3,7 @@ ghost use Rattle.std.specs.Prelude.{◌≡◌, ◌≤◌, ◌<◌, IfOk, IsTrue,
 ghost use Rattle.serde_json.specs.View.{view};
 ghost use Rattle.ipam_addr.specs.Text.{cidr_text_of};
 ghost use Rattle.ipam_addr.specs.Width.{cidr_size};
-ghost use Rattle.ipam_record_text.specs.Blocks.{cidr_of, block_cidr_of, name_of, id_of, cidr_at, block_at, name_at, id_at};
+ghost use Rattle.ipam_record_text.specs.Blocks.{cidr_of, block_cidr_of, name_read, id_of, cidr_at, block_cidr_at, name_at, id_at};
 
 use ipam_addr::{Cidr, is_handle_id, is_name, push_cidr, read_cidr};
 use ipam_block::ADDRESSES_MAX;
@@ -38,9 +38,9 @@ fn is_small(cidr: Cidr) -> bool
 }
 
 /// The text, where it is a name.
-#[tactic(auto, unfolding(crate::specs::Blocks::name_of))]
+#[tactic(auto, unfolding(crate::specs::Blocks::name_read))]
 pub fn name_of(text: &str) -> Option<&str>
-    ensures { option_map (λ t. t.now) result ≡ name_of text.now }
+    ensures { option_map (λ t. t.now) result ≡ name_read text.now }
 {
     if is_name(text.as_bytes()) {
         Some(text)
@@ -80,7 +80,7 @@ pub(crate) fn cidr_at(value: &Value, name: &str) -> Option<Cidr>
 
 /// The same, where a block may have it.
 pub(crate) fn block_at(value: &Value, name: &str) -> Option<Cidr>
-    ensures { result ≡ block_at name.now (view value.now) }
+    ensures { result ≡ block_cidr_at name.now (view value.now) }
 {
     let text = text_at(value, name)?;
     block_of(text)

@@ -5,7 +5,7 @@ ghost use Rattle.serde_json.specs.View.{view, members_view};
 ghost use Rattle.ipam_handle.specs.Shape.{HandleValue};
 ghost use Rattle.ipam_handle.specs.Operations.{content, count_in};
 ghost use Rattle.ipam_handle.specs.Sound.{AreCounts, IsHandleRecord};
-ghost use Rattle.ipam_record_text.specs.Handle.{handle_data, handle_body, with_counts, count_of_json, counted, AddsCount, counts_after, handle_of_counts, handle_in};
+ghost use Rattle.ipam_record_text.specs.Handle.{handle_data, handle_body, with_counts, count_of_json, block_counted, AddsCount, counts_after, handle_of_counts, handle_in};
 ghost use Rattle.ipam_json.specs.Held.{held};
 
 use crate::blocks::{block_of, cidr_text, id_at};
@@ -157,9 +157,9 @@ fn listed(alloc: Global, counts: &BTreeMap<Cidr, u32>) -> Result<Seq<(Cidr, u32)
 }
 
 /// The block and the count that a member is.
-#[tactic(auto, unfolding(crate::specs::Handle::counted))]
+#[tactic(auto, unfolding(crate::specs::Handle::block_counted))]
 fn counted(name: &str, value: &Value) -> Option<(Cidr, u32)>
-    ensures value { result ≡ counted name.now (view value.now) }
+    ensures value { result ≡ block_counted name.now (view value.now) }
     ensures some { IfSome result (λ c. 0 < c.1) }
 {
     let block = block_of(name)?;

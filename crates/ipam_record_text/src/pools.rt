@@ -2,8 +2,8 @@ ghost use Rattle.std.specs.Prelude.{◌≡◌, ◌≢◌, [], Ok, Err, Some, IfO
 ghost use Rattle.serde_json.specs.View.{view, items_view, members_view};
 ghost use Rattle.ipam_json.specs.Built.{members_from};
 ghost use Rattle.ipam_select.specs.Formula.{every};
-ghost use Rattle.ipam_record_text.specs.Rules.{mode_in};
-ghost use Rattle.ipam_record_text.specs.Pools.{plain_fields, pool_data, pools_data, pools_body, plain_in, pool_in, pools_in, pools_after, size_at, table_of, refusal_fault, IsSoundPool, IsPoolsRecord, HasRefusedPool};
+ghost use Rattle.ipam_record_text.specs.Rules.{mode_kept_in};
+ghost use Rattle.ipam_record_text.specs.Pools.{plain_fields, pool_data, pools_data, pools_body, plain_in, pool_in, pool_list_in, pools_after, size_at, table_of, refusal_fault, IsSoundPool, IsPoolsRecord, HasRefusedPool};
 ghost use Rattle.ipam_json.specs.Held.{held};
 ghost use Rattle.ipam_pool.specs.declared.pools.Pool.{Pool as OnePool};
 ghost use Rattle.std.specs.List.{AllByRecursion};
@@ -119,7 +119,7 @@ fn refusal_fault(refusal: PoolRefusal) -> BodyFault
 #[tactic(auto, unfolding(ipam_json::specs::Held::held))]
 fn held_pools(alloc: Global, body: &str) -> Result<Option<Vec<Pool>>, AllocError>
     ensures { IfOk result
-        (λ found. option_map (λ v. v.items) found ≡ held pools_in pools_body body.now) }
+        (λ found. option_map (λ v. v.items) found ≡ held pool_list_in pools_body body.now) }
 {
     let Some(json) = json_of(alloc, body)? else {
         return Ok(None);
@@ -135,9 +135,9 @@ fn held_pools(alloc: Global, body: &str) -> Result<Option<Vec<Pool>>, AllocError
     }
 }
 
-#[tactic(auto, unfolding(crate::specs::Pools::pools_in))]
+#[tactic(auto, unfolding(crate::specs::Pools::pool_list_in))]
 fn pools_in(alloc: Global, json: &Value) -> Result<Option<Vec<Pool>>, AllocError>
-    ensures { IfOk result (λ found. option_map (λ v. v.items) found ≡ pools_in (view json.now)) }
+    ensures { IfOk result (λ found. option_map (λ v. v.items) found ≡ pool_list_in (view json.now)) }
 {
     match items_at(json, "pools") {
         Some(items) => pools_of_items(alloc, items),
@@ -184,7 +184,7 @@ fn pool_in(alloc: Global, json: &Value) -> Result<Option<Pool>, AllocError>
 #[tactic(auto, unfolding(crate::specs::Pools::plain_in))]
 fn parts_in(json: &Value) -> Option<(u8, Cidr, bool, &str)>
     ensures { option_map
-        (λ p. record { name = p.3.now; cidr = p.1; size = p.0; disabled = p.2; mode = mode_in (view json.now); selector = every }) result
+        (λ p. record { name = p.3.now; cidr = p.1; size = p.0; disabled = p.2; mode = mode_kept_in (view json.now); selector = every }) result
         ≡ plain_in (view json.now) }
 {
     let size = size_at(json, "blockSize")?;

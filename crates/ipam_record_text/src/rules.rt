@@ -4,7 +4,7 @@ ghost use Rattle.std.specs.Prelude.{◌≡◌, IfOk, OnOk};
 ghost use Rattle.serde_json.specs.Data.{string};
 ghost use Rattle.serde_json.specs.View.{view, members_view};
 ghost use Rattle.ipam_select.specs.Printing.{printed};
-ghost use Rattle.ipam_record_text.specs.Rules.{mode_fields, selector_fields, with_fields, mode_of, mode_in, selector_of, selector_in};
+ghost use Rattle.ipam_record_text.specs.Rules.{mode_fields, selector_fields, with_fields, mode_kept, mode_kept_in, selector_of, node_selector_in};
 
 use ipam_json::text_at;
 use ipam_pool::Mode;
@@ -56,7 +56,7 @@ fn selector_json(alloc: Global, selector: &NodeSelector) -> Result<Value, AllocE
 
 /// The mode that the object holds.
 pub(crate) fn mode_in(json: &Value) -> Mode
-    ensures { result ≡ mode_in (view json.now) }
+    ensures { result ≡ mode_kept_in (view json.now) }
 {
     match text_at(json, "assignmentMode") {
         Some(text) => mode_of(text),
@@ -65,7 +65,7 @@ pub(crate) fn mode_in(json: &Value) -> Mode
 }
 
 fn mode_of(text: &str) -> Mode
-    ensures { result ≡ mode_of text.now }
+    ensures { result ≡ mode_kept text.now }
 {
     if text == "Manual" {
         Mode::Manual
@@ -76,7 +76,7 @@ fn mode_of(text: &str) -> Mode
 
 /// The selector that the object holds, where its text is read as one.
 pub(crate) fn selector_in(alloc: Global, json: &Value) -> Result<Option<NodeSelector>, AllocError>
-    ensures { IfOk result (λ found. found ≡ selector_in (view json.now)) }
+    ensures { IfOk result (λ found. found ≡ node_selector_in (view json.now)) }
 {
     match text_at(json, "nodeSelector") {
         Some(text) => selector_of(alloc, text),

@@ -15,7 +15,7 @@ use Rattle.ipam_addr.specs.Text.{is_slash, address_text, cidr_reading, cidr_text
 use Rattle.ipam_addr.proofs.CidrTextLemmas.{cidr_reading-cidr_text_of, spelled-cidr_reading, cidr_reading-no_slash}
 use Rattle.ipam_records.specs.declared.key.Key.{Key}
 use Rattle.ipam_records.specs.declared.key.Key.TheVariants.{Config, Pools, Reservations, Block, Affinity, Handle}
-use Rattle.ipam_records.specs.KeyText.{key_bytes, IsKey, IsTextOf, cidr_printed, cidr_read, block_read, affinity_of_parts, affinity_read, handle_read, behind, key_of_kind, key_read}
+use Rattle.ipam_records.specs.KeyText.{key_bytes, IsKey, IsTextOf, cidr_printed, cidr_read, block_read, affinity_of_parts, affinity_read, handle_read, text_behind, key_of_kind, key_read}
 use Rattle.ipam_addr.proofs.SlashLemmas.{NoSlash-name, before_slash, after_slash, around_slash}
 
 text_is : (xs ys : List ℕ) → bytes_eq xs ys ≡ true → xs ≡ ys
@@ -64,7 +64,7 @@ unfolding key_read
 key_read-handle rest = refl
 
 -- the text of no single record's key
-pub key_read-kind : (text : List ℕ) → bytes_eq text (codes "config") ≡ false → bytes_eq text (codes "pools") ≡ false → bytes_eq text (codes "reservations") ≡ false → key_read text ≡ key_of_kind (behind (codes "block/") text) (behind (codes "affinity/") text) (behind (codes "handle/") text)
+pub key_read-kind : (text : List ℕ) → bytes_eq text (codes "config") ≡ false → bytes_eq text (codes "pools") ≡ false → bytes_eq text (codes "reservations") ≡ false → key_read text ≡ key_of_kind (text_behind (codes "block/") text) (text_behind (codes "affinity/") text) (text_behind (codes "handle/") text)
 unfolding key_read
 key_read-kind text a b c = rw (a, b, c) refl
 
@@ -130,7 +130,7 @@ handle_text text rest key split e = elim (cases_Bool (is_handle_text rest)) [
   | inr no_id ↦ let k = rw no_id at e in cc
 ]
 
-kind_text : (text : List ℕ) (key : Key) → key_of_kind (behind (codes "block/") text) (behind (codes "affinity/") text) (behind (codes "handle/") text) ≡ Some key → IsTextOf text key
+kind_text : (text : List ℕ) (key : Key) → key_of_kind (text_behind (codes "block/") text) (text_behind (codes "affinity/") text) (text_behind (codes "handle/") text) ≡ Some key → IsTextOf text key
 kind_text text key e = elim (cases_Bool (bytes_eq (take (length (codes "block/")) text) (codes "block/"))) [
   | inl block ↦ let k = rw block at e in block_text text (drop (length (codes "block/")) text) key (behind_text (codes "block/") text _ block refl) k
   | inr no_block ↦ elim (cases_Bool (bytes_eq (take (length (codes "affinity/")) text) (codes "affinity/"))) [
@@ -193,5 +193,5 @@ pub record IsOfKind (text : List ℕ) : Type 0 where
   pub no_pools : bytes_eq text (codes "pools") ≡ false
   pub no_reservations : bytes_eq text (codes "reservations") ≡ false
 
-pub key_read-parts : (text : List ℕ) (block affinity handle : Option (List ℕ)) → IsOfKind text → behind (codes "block/") text ≡ block → behind (codes "affinity/") text ≡ affinity → behind (codes "handle/") text ≡ handle → key_of_kind block affinity handle ≡ key_read text
+pub key_read-parts : (text : List ℕ) (block affinity handle : Option (List ℕ)) → IsOfKind text → text_behind (codes "block/") text ≡ block → text_behind (codes "affinity/") text ≡ affinity → text_behind (codes "handle/") text ≡ handle → key_of_kind block affinity handle ≡ key_read text
 key_read-parts text block affinity handle h a b c = sym (key_read-kind text h.no_config h.no_pools h.no_reservations ∙ (λ i. key_of_kind (a i) (b i) (c i)))

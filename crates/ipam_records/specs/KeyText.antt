@@ -55,8 +55,8 @@ abbrev pub handle_read : List ℕ → Option Key
 handle_read text = if is_handle_text text then Some (Handle text) else None
 
 -- what stands after this beginning, where the text has it
-abbrev pub behind : List ℕ → List ℕ → Option (List ℕ)
-behind start text = if bytes_eq (take (length start) text) start then Some (drop (length start) text) else None
+abbrev pub text_behind : List ℕ → List ℕ → Option (List ℕ)
+text_behind start text = if bytes_eq (take (length start) text) start then Some (drop (length start) text) else None
 
 -- the key of a kind, from what stands after `block/`, `affinity/` or `handle/`
 abbrev pub key_of_kind : (block affinity handle : Option (List ℕ)) → Option Key
@@ -71,4 +71,4 @@ key_read text =
     if bytes_eq text (codes "config") then Some Config
     else (if bytes_eq text (codes "pools") then Some Pools
     else (if bytes_eq text (codes "reservations") then Some Reservations
-    else key_of_kind (behind (codes "block/") text) (behind (codes "affinity/") text) (behind (codes "handle/") text)))
+    else key_of_kind (text_behind (codes "block/") text) (text_behind (codes "affinity/") text) (text_behind (codes "handle/") text)))

@@ -2,7 +2,7 @@ ghost use Rattle.std.specs.Prelude.{◌≡◌, ◌++◌, ◌↔◌, IfOk, OnOk, 
 ghost use Rattle.std.specs.Option.{option_copied};
 ghost use Rattle.std.specs.Str.{IsAscii};
 ghost use Rattle.ipam_records.specs.KeyRef.{owned_key};
-ghost use Rattle.ipam_records.specs.KeyText.{IsKey, IsTextOf, key_bytes, key_read, behind, cidr_read, block_read, affinity_of_parts, affinity_read, handle_read};
+ghost use Rattle.ipam_records.specs.KeyText.{IsKey, IsTextOf, key_bytes, key_read, text_behind, cidr_read, block_read, affinity_of_parts, affinity_read, handle_read};
 
 use crate::key::Key;
 use crate::key_ref::KeyRef;
@@ -96,7 +96,7 @@ fn is_word(text: &[u8], word: &str) -> bool
 
 // What stands after this beginning, where the text has it.
 fn behind<'a>(text: &'a [u8], start: &str) -> Option<&'a [u8]>
-    ensures { option_copied result ≡ behind start.now text.now }
+    ensures { option_copied result ≡ text_behind start.now text.now }
 {
     text.strip_prefix(start.as_bytes())
 }

@@ -19,7 +19,7 @@ use Rattle.ipam_parts.proofs.SettledLaws.{goes_on_settled, ended_settled}
 use Rattle.ipam_release.specs.declared.del.Frees.{Frees as Freed}
 use Rattle.ipam_release.specs.declared.del.Stage.{Stage}
 use Rattle.ipam_release.specs.declared.del.Stage.TheVariants.{Frees}
-use Rattle.ipam_release.specs.Del.{blocks_left, then_blocks, parts_at, parts_leaves, frees_at, frees_leaves}
+use Rattle.ipam_release.specs.Del.{blocks_left, then_blocks, parts_at, parts_leaves, del_at, frees_leaves}
 
 pub asks : (id : List ℕ) (moment : ℕ) (blocks : List CidrValue) (f : Freeing)
     → next_call (as_word del_stops (part_then (freeing_rest id f) (then_blocks id moment blocks))) ≡ next_call (freeing_rest id f)
@@ -100,8 +100,8 @@ goes_on_next id moment blocks rest cidr left f is begun =
 
 pub hears_in : (lent id : List ℕ) (stage : Stage) (f : Freed) (turned : FreeingTurned) (moment : ℕ) (said : Said)
     → lent ≡ id → stage ≡ Frees f → parts_leaves lent f turned ≡ after_reply (parts_at lent f) moment said
-    → frees_leaves id stage turned ≡ after_reply (frees_at id stage) moment said
+    → frees_leaves id stage turned ≡ after_reply (del_at id stage) moment said
 hears_in lent id stage f turned moment said same is leaves =
-    let P : Stage → Type 0 = λ s. frees_leaves lent s turned ≡ after_reply (frees_at lent s) moment said in
-    let Q : List ℕ → Type 0 = λ i. frees_leaves i stage turned ≡ after_reply (frees_at i stage) moment said in
+    let P : Stage → Type 0 = λ s. frees_leaves lent s turned ≡ after_reply (del_at lent s) moment said in
+    let Q : List ℕ → Type 0 = λ i. frees_leaves i stage turned ≡ after_reply (del_at i stage) moment said in
     subst Q same (subst P (sym is) leaves)

@@ -32,9 +32,9 @@ abbrev pub parts_leaves : List ℕ → Freed → FreeingTurned → Word DelAnswe
 parts_leaves id f turned =
     as_word del_stops (part_then (freeing_leaves id f.freeing turned) (then_blocks id f.moment f.blocks.items))
 
-abbrev pub frees_at : List ℕ → Stage → Word DelAnswer
-frees_at id Reads = del_word id
-frees_at id (Frees f) = parts_at id f
+abbrev pub del_at : List ℕ → Stage → Word DelAnswer
+del_at id Reads = del_word id
+del_at id (Frees f) = parts_at id f
 
 -- what is left once the freeing goes where a reply led it; no other stage has one
 abbrev pub frees_leaves : List ℕ → Stage → FreeingTurned → Word DelAnswer
@@ -42,11 +42,11 @@ frees_leaves id Reads turned = del_word id
 frees_leaves id (Frees f) turned = parts_leaves id f turned
 
 abbrev pub del_rest : DelProc → Word DelAnswer
-del_rest p = frees_at p.id p.stage
+del_rest p = del_at p.id p.stage
 
 -- what is left once the DEL goes there
 abbrev pub del_goes : DelProc → Goes → Word DelAnswer
-del_goes p (goes.To stage) = frees_at p.id stage
+del_goes p (goes.To stage) = del_at p.id stage
 del_goes p (goes.Frees turned) = frees_leaves p.id p.stage turned
 del_goes p (goes.Answers answer) = Ends answer
 

@@ -5,7 +5,7 @@ ghost use Rattle.ipam_records.specs.Word.{next_call, after_reply, answer_in};
 ghost use Rattle.ipam_model.specs.Reads.{handle_said};
 ghost use Rattle.ipam_model.specs.Remove.{del_word, del_stops, del_blocks};
 ghost use Rattle.ipam_model.specs.Step.{all_left as every_try, as_word, stop_answer};
-ghost use Rattle.ipam_release.specs.Del.{blocks_left, del_rest, del_leaves, del_goes, frees_at, frees_leaves, parts_at, parts_leaves};
+ghost use Rattle.ipam_release.specs.Del.{blocks_left, del_rest, del_leaves, del_goes, del_at, frees_leaves, parts_at, parts_leaves};
 
 use ipam_addr::Cidr;
 use ipam_model::{DelAnswer, LOST_RACES_MAX, Left, Outcome, Stop};
@@ -170,7 +170,7 @@ impl Frees {
 /// The freeing goes where a reply led it.
 fn freed(stage: &mut Stage, turned: FreeingTurned) -> Option<DelAnswer>
     ensures answer { (id : List ℕ) → result ≡ answer_in (frees_leaves id stage.old turned) }
-    ensures on { IfNone result ((id : List ℕ) → frees_at id stage.new ≡ frees_leaves id stage.old turned) }
+    ensures on { IfNone result ((id : List ℕ) → del_at id stage.new ≡ frees_leaves id stage.old turned) }
 {
     match stage {
         Stage::Frees(frees) => frees.go(turned),

@@ -15,14 +15,14 @@ use Rattle.ipam_record_text.proofs.Parts.{id_of-is}
 use Rattle.ipam_records.specs.Sound.{IsHandleId}
 use Rattle.ipam_request_text.specs.Parts.{texts_data}
 use Rattle.ipam_request_text.specs.Requests.{live_text}
-use Rattle.ipam_request_text.specs.Live.{id_in, ids_after, live_in, live_reading}
+use Rattle.ipam_request_text.specs.Live.{live_id_in, ids_after, live_in, live_reading}
 
 push-all : (xs : List (List ℕ)) (x : List ℕ) → AllByRecursion IsHandleId xs → IsHandleId x → AllByRecursion IsHandleId (xs ++ x ∷ [])
 push-all [] x h k = (k, tt)
 push-all (y ∷ xs) x h k = (h.0, push-all xs x h.1 k)
 
-id_in-is : (d : Data) (id : List ℕ) → id_in d ≡ Some id → IsHandleId id
-unfolding id_in
+id_in-is : (d : Data) (id : List ℕ) → live_id_in d ≡ Some id → IsHandleId id
+unfolding live_id_in
 id_in-is d id e = go (as_str d) e
   where
     go : (o : Option (List ℕ)) → option_and_then id_of o ≡ Some id → IsHandleId id
@@ -32,9 +32,9 @@ id_in-is d id e = go (as_str d) e
 ids_after-is : (there : List (List ℕ)) (ds : Items) (ids : List (List ℕ)) → ids_after there ds ≡ Some ids → AllByRecursion IsHandleId there → AllByRecursion IsHandleId ids
 ids_after-is there no_items ids e h = let same : there ≡ ids = cc in rw (← same) h
 ids_after-is there (item d ds) ids e h =
-    next (id_in d) refl e (λ c k e'. ids_after-is (there ++ c ∷ []) ds ids e' k)
+    next (live_id_in d) refl e (λ c k e'. ids_after-is (there ++ c ∷ []) ds ids e' k)
   where
-    next : (found : Option (List ℕ)) → id_in d ≡ found → (found >>= λ c. ids_after (there ++ c ∷ []) ds) ≡ Some ids → ((c : List ℕ) → AllByRecursion IsHandleId (there ++ c ∷ []) → ids_after (there ++ c ∷ []) ds ≡ Some ids → AllByRecursion IsHandleId ids) → AllByRecursion IsHandleId ids
+    next : (found : Option (List ℕ)) → live_id_in d ≡ found → (found >>= λ c. ids_after (there ++ c ∷ []) ds) ≡ Some ids → ((c : List ℕ) → AllByRecursion IsHandleId (there ++ c ∷ []) → ids_after (there ++ c ∷ []) ds ≡ Some ids → AllByRecursion IsHandleId ids) → AllByRecursion IsHandleId ids
     next (Some c) is e' more = more c (push-all there c h (id_in-is d c is)) e'
     next None is e' more = cc
 
@@ -58,8 +58,8 @@ live_reading-is text live e = go (read text) e
     go (Some d) e' = live_in-is d live e'
     go None e' = cc
 
-id_in-id : (id : List ℕ) → IsHandleId id → id_in (string id) ≡ Some id
-unfolding id_in id_of
+id_in-id : (id : List ℕ) → IsHandleId id → live_id_in (string id) ≡ Some id
+unfolding live_id_in id_of
 id_in-id id h = let is : is_handle_text id ≡ true = h in rw is refl
 
 ids_after-texts : (there live : List (List ℕ)) → AllByRecursion IsHandleId live → ids_after there (items_of (map string live)) ≡ Some (there ++ live)

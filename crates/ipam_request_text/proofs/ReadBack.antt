@@ -43,7 +43,7 @@ use Rattle.ipam_request_text.specs.Parts.{texts_data, pairs_data, address_data, 
 use Rattle.ipam_request_text.specs.Members.{with_text, unless, where_true, where_false, where_some_number, where_some_texts, where_some_pairs, where_manual, where_selective, where_scope, wishes}
 use Rattle.ipam_request_text.specs.Requests.{add_members, collect_members, probe_members, pool_members, config_members, change_data, request_data, request_text}
 use Rattle.ipam_request_text.specs.Fields.{found_or, truth_or, number_in, texts_in, pairs_in, address_in, mode_in, selector_in, scope_in}
-use Rattle.ipam_request_text.specs.Reading.{probe_in, add_of, add_in, asked_in, any_add_in, check_in, release_in, collect_in, pool_in, disable_in, reserve_in, config_in, shaped_in, known_in, named_in, request_in, sound_request_in, request_reading}
+use Rattle.ipam_request_text.specs.Reading.{probe_in, add_like_probe, add_in, asked_in, any_add_in, check_in, release_in, collect_in, one_pool_in, disable_in, reserve_in, settings_in, shaped_in, known_in, named_in, request_in_data, sound_request_in, request_reading}
 use Rattle.ipam_request_text.specs.Tests.{is_sound_request}
 use Rattle.ipam_block_text.proofs.PairKeys.{sorted_keys}
 use Rattle.ipam_request_text.proofs.SoundTests.{sound_there, sound_back}
@@ -56,7 +56,7 @@ pub read_sound : (text : List ℕ) (r : Request) → request_reading text ≡ So
 unfolding request_reading sound_request_in
 read_sound text r e =
     option_and_then_some _ (read text) r e (λ d found e1.
-    option_and_then_some _ (request_in d) r e1 (λ q found2 e2.
+    option_and_then_some _ (request_in_data d) r e1 (λ q found2 e2.
     let parts = cond_some (is_sound_request q) q r e2 in
     sound_back r (sym (ap is_sound_request parts.1) ∙ parts.0)))
 
@@ -120,8 +120,8 @@ known_told : (s : Shape) (ms : Members) (r : Request) → are_known s ms ≡ tru
 unfolding known_in
 known_told s ms r known found = bind _ _ _ (if_true (are_known s ms) (object ms) known) ∙ found
 
-tagged_told : (name : List ℕ) (s : Shape) (d : Data) → shape_named name ≡ Some s → request_in (tagged name d) ≡ known_in s d
-unfolding request_in named_in
+tagged_told : (name : List ℕ) (s : Shape) (d : Data) → shape_named name ≡ Some s → request_in_data (tagged name d) ≡ known_in s d
+unfolding request_in_data named_in
 tagged_told name s d is = bind _ _ _ is
 
 -- ---- ADDs and probes
@@ -216,8 +216,8 @@ disable_back : (name : List ℕ) (disabled : Bool) → disable_in (object (membe
 unfolding disable_in
 disable_back name disabled = refl
 
-pool_back : (p : OnePool) → IsSoundPool p → pool_in (object (pool_members p)) ≡ Some p
-unfolding pool_in pool_members
+pool_back : (p : OnePool) → IsSoundPool p → one_pool_in (object (pool_members p)) ≡ Some p
+unfolding one_pool_in pool_members
 pool_back p h =
     let base = put (codes "size") (whole_data p.size) (with_text (codes "name") p.name (put (codes "cidr") (cidr_data p.cidr) no_members)) in
     let disabled = where_true p.disabled (codes "disabled") base in
@@ -240,8 +240,8 @@ unfolding pool_members
 pool_known p =
     known_unless shape.Pool (is_every p.selector) (codes "selector") _ _ refl (known_mode shape.Pool p.mode _ refl (known_true shape.Pool p.disabled (codes "disabled") _ refl refl))
 
-config_back : (c : Settings) → c.max_blocks < 2 ^ 32 → config_in (object (config_members c)) ≡ Some c
-unfolding config_in config_members
+config_back : (c : Settings) → c.max_blocks < 2 ^ 32 → settings_in (object (config_members c)) ≡ Some c
+unfolding settings_in config_members
 config_back c small =
     let auto = where_false c.auto (codes "autoAllocateBlocks") no_members in
     let most = where_some_number c.max_blocks (codes "maxBlocksPerHost") auto in
@@ -262,7 +262,7 @@ unfolding reserve_in named_cidrs
 reserve_back r h =
     bind _ _ _ (cidrs_back [] r.cidrs (AllByRecursion-All IsCidr r.cidrs h.ranges)) ∙ bind _ _ _ (if_true (nat_le (length r.cidrs) 64) r (le-leb (length r.cidrs) 64 h.few))
 
-change_back : (r : Admin) → IsSoundChange r → request_in (change_data r) ≡ Some (Change r)
+change_back : (r : Admin) → IsSoundChange r → request_in_data (change_data r) ≡ Some (Change r)
 change_back (change.Pool p) h =
     tagged_told (codes "pool") shape.Pool _ refl ∙ known_told shape.Pool (pool_members p) _ (pool_known p) (ap (option_map (λ pool. Change (change.Pool pool))) (pool_back p h))
 change_back (change.Disable name disabled) h =
@@ -284,7 +284,7 @@ release_back : (node : List ℕ) (cidr : CidrValue) → IsCidr cidr → release_
 unfolding release_in
 release_back node cidr h = bind _ _ _ (cidr_in-cidr_data cidr h)
 
-request_back : (r : Request) → IsSoundRequest r → request_in (request_data r) ≡ Some r
+request_back : (r : Request) → IsSoundRequest r → request_in_data (request_data r) ≡ Some r
 request_back (Add r) h =
     tagged_told (codes "add") shape.Add _ refl ∙ known_told shape.Add (add_members r) _ (add_known r) (add_back r h.0)
 request_back (AddThis r address) h =

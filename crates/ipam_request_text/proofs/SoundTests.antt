@@ -16,7 +16,7 @@ use Rattle.ipam_block_text.proofs.PairKeys.{keys_sorted, sorted_keys}
 use Rattle.ipam_select.specs.Sound.{is_sound}
 use Rattle.ipam_pool.specs.declared.pools.Pool.{Pool as OnePool}
 use Rattle.ipam_reserve.specs.Shape.{ReservationValue}
-use Rattle.ipam_record_text.specs.Blocks.{value_of, cidr_of}
+use Rattle.ipam_record_text.specs.Blocks.{ok_cidr, cidr_of}
 use Rattle.ipam_record_text.specs.Pools.{IsSoundPool}
 use Rattle.ipam_records.specs.Sound.{IsHandleId, IsReservation}
 use Rattle.ipam_model.specs.declared.request.AddRequest.{AddRequest}
@@ -27,8 +27,8 @@ use Rattle.ipam_model.specs.declared.request.ProbeRequest.{ProbeRequest}
 use Rattle.ipam_model.specs.declared.request.Request.{Request}
 use Rattle.ipam_model.specs.declared.request.Request.TheVariants.{Add, AddThis, Del, Check, Release, Collect, Admin as Change, Probe}
 use Rattle.ipam_model.specs.Pairs.{Pair}
-use Rattle.ipam_model.specs.SoundRequest.{is_label_byte, IsLabel, AreLabels, IsPoolName, ArePoolNames, IsSoundAdd, IsSoundProbe, IsScope, IsSoundCollect, IsSoundChange, IsSoundRequest}
-use Rattle.ipam_request_text.specs.Tests.{is_address, is_cidr, is_label, are_labels, is_pool_name, are_pool_names, is_sound_add, is_sound_probe, is_scope, is_sound_collect, is_sound_pool, is_sound_reservation, is_sound_change, is_sound_request}
+use Rattle.ipam_model.specs.SoundRequest.{is_key_byte, IsLabel, AreLabels, IsPoolName, ArePoolNames, IsSoundAdd, IsSoundProbe, IsScope, IsSoundCollect, IsSoundChange, IsSoundRequest}
+use Rattle.ipam_request_text.specs.Tests.{is_address, is_cidr, is_label, are_sound_labels, is_pool_name, are_pool_names, is_sound_add, is_sound_probe, is_scope, is_sound_collect, is_sound_pool, is_sound_reservation, is_sound_change, is_sound_request}
 
 -- ---- lists whose elements all pass
 
@@ -66,8 +66,8 @@ label_there l h =
 
 label_back : (l : Pair) → is_label l ≡ true → IsLabel l
 label_back l h =
-    let parts = and_parts (nat_lt 0 (length l.0) && nat_le (length l.0) 317 && list_all is_label_byte l.0) (nat_le (length l.1) 253) h in
-    let key = and_parts (nat_lt 0 (length l.0) && nat_le (length l.0) 317) (list_all is_label_byte l.0) parts.0 in
+    let parts = and_parts (nat_lt 0 (length l.0) && nat_le (length l.0) 317 && list_all is_key_byte l.0) (nat_le (length l.1) 253) h in
+    let key = and_parts (nat_lt 0 (length l.0) && nat_le (length l.0) 317) (list_all is_key_byte l.0) parts.0 in
     let long = and_parts (nat_lt 0 (length l.0)) (nat_le (length l.0) 317) key.0 in
     record {
       key_some = ltb-true 0 (length l.0) long.0;
@@ -76,11 +76,11 @@ label_back l h =
       value_small = leb-true (length l.1) 253 parts.1;
     }
 
-labels_there : (ls : List Pair) → AreLabels ls → are_labels ls ≡ true
+labels_there : (ls : List Pair) → AreLabels ls → are_sound_labels ls ≡ true
 labels_there ls h =
     and_from _ _ (and_from _ _ (le-leb (length ls) 64 h.few) (all_there IsLabel is_label label_there ls h.each)) (sorted_keys ls h.ascending)
 
-labels_back : (ls : List Pair) → are_labels ls ≡ true → AreLabels ls
+labels_back : (ls : List Pair) → are_sound_labels ls ≡ true → AreLabels ls
 labels_back ls h =
     let parts = and_parts (nat_le (length ls) 64 && list_all is_label ls) (keys_ascend ls) h in
     let each = and_parts (nat_le (length ls) 64) (list_all is_label ls) parts.0 in
@@ -103,7 +103,7 @@ pool_name_back : (text : List ℕ) → is_pool_name text ≡ true → IsPoolName
 unfolding cidr_of
 pool_name_back text h = go (is_name_text text) (cidr_reading text) refl refl h
   where
-    go : (b : Bool) (r : Result CidrValue AddrFault) → is_name_text text ≡ b → cidr_reading text ≡ r → (b || is_some (value_of r)) ≡ true → IsPoolName text
+    go : (b : Bool) (r : Result CidrValue AddrFault) → is_name_text text ≡ b → cidr_reading text ≡ r → (b || is_some (ok_cidr r)) ≡ true → IsPoolName text
     go true r named read e = inl named
     go false (Ok cidr) named read e = inr (cidr, read)
     go false (Err fault) named read e = absurd cc
@@ -128,9 +128,9 @@ add_there r h =
 
 add_back : (r : AddRequest) → is_sound_add r ≡ true → IsSoundAdd r
 add_back r h =
-    let pools6 = and_parts (is_name_text r.node && are_attributes r.attributes && are_labels r.labels && are_pool_names r.pools4) (are_pool_names r.pools6) h in
-    let pools4 = and_parts (is_name_text r.node && are_attributes r.attributes && are_labels r.labels) (are_pool_names r.pools4) pools6.0 in
-    let labels = and_parts (is_name_text r.node && are_attributes r.attributes) (are_labels r.labels) pools4.0 in
+    let pools6 = and_parts (is_name_text r.node && are_attributes r.attributes && are_sound_labels r.labels && are_pool_names r.pools4) (are_pool_names r.pools6) h in
+    let pools4 = and_parts (is_name_text r.node && are_attributes r.attributes && are_sound_labels r.labels) (are_pool_names r.pools4) pools6.0 in
+    let labels = and_parts (is_name_text r.node && are_attributes r.attributes) (are_sound_labels r.labels) pools4.0 in
     let names = and_parts (is_name_text r.node) (are_attributes r.attributes) labels.0 in
     record {
       node = names.0;
@@ -146,10 +146,10 @@ probe_there r h =
 
 probe_back : (r : ProbeRequest) → is_sound_probe r ≡ true → IsSoundProbe r
 probe_back r h =
-    let family = and_parts (is_name_text r.node && are_labels r.labels && are_pool_names r.pools4 && are_pool_names r.pools6) (r.ipv4 || r.ipv6) h in
-    let pools6 = and_parts (is_name_text r.node && are_labels r.labels && are_pool_names r.pools4) (are_pool_names r.pools6) family.0 in
-    let pools4 = and_parts (is_name_text r.node && are_labels r.labels) (are_pool_names r.pools4) pools6.0 in
-    let names = and_parts (is_name_text r.node) (are_labels r.labels) pools4.0 in
+    let family = and_parts (is_name_text r.node && are_sound_labels r.labels && are_pool_names r.pools4 && are_pool_names r.pools6) (r.ipv4 || r.ipv6) h in
+    let pools6 = and_parts (is_name_text r.node && are_sound_labels r.labels && are_pool_names r.pools4) (are_pool_names r.pools6) family.0 in
+    let pools4 = and_parts (is_name_text r.node && are_sound_labels r.labels) (are_pool_names r.pools4) pools6.0 in
+    let names = and_parts (is_name_text r.node) (are_sound_labels r.labels) pools4.0 in
     record {
       node = names.0;
       labels = labels_back r.labels names.1;

@@ -75,8 +75,8 @@ addresses_after addresses (item d ds) = do
   addresses_after (addresses ++ a ∷ []) ds
 
 -- the CIDR whose text has this name
-abbrev pub cidr_at : List ℕ → Data → Option CidrValue
-cidr_at name d = option_and_then cidr_in (get name d)
+abbrev pub cidr_member : List ℕ → Data → Option CidrValue
+cidr_member name d = option_and_then cidr_in (get name d)
 
 abbrev pub mode_named : List ℕ → Option Mode
 mode_named text =

@@ -7,14 +7,14 @@ use Rattle.ipam_json.specs.Members.{◌>>=◌}
 use Rattle.ipam_record_text.specs.Blocks.{id_of}
 
 -- the id whose text the JSON is
-unfoldable pub id_in : Data → Option (List ℕ)
-id_in d = option_and_then id_of (as_str d)
+unfoldable pub live_id_in : Data → Option (List ℕ)
+live_id_in d = option_and_then id_of (as_str d)
 
 -- the ids, and after them those that the items are
 abbrev pub ids_after : List (List ℕ) → Items → Option (List (List ℕ))
 ids_after ids no_items = Some ids
 ids_after ids (item d ds) = do
-  id ← id_in d
+  id ← live_id_in d
   ids_after (ids ++ id ∷ []) ds
 
 -- the ids that the JSON lists

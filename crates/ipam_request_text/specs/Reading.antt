@@ -16,7 +16,7 @@ use Rattle.ipam_model.specs.declared.request.Request.{Request}
 use Rattle.ipam_model.specs.declared.request.Request.TheVariants as request
 use Rattle.ipam_request_text.specs.declared.shape.Shape.{Shape}
 use Rattle.ipam_request_text.specs.declared.shape.Shape.TheVariants.{Add, Del, Check, Release, Collect, Probe, Pool, Disable, Reserve, Unreserve, Config, Scope}
-use Rattle.ipam_request_text.specs.Fields.{truth_or, whole_or_0, number_or_0, small_at, texts_in, texts_or_none, pairs_or_none, address_in, addresses_after, cidr_at, mode_or, selector_or, scope_or}
+use Rattle.ipam_request_text.specs.Fields.{truth_or, whole_or_0, number_or_0, small_at, texts_in, texts_or_none, pairs_or_none, address_in, addresses_after, cidr_member, mode_or, selector_or, scope_or}
 use Rattle.ipam_request_text.specs.Shapes.{are_known, shape_named}
 use Rattle.ipam_request_text.specs.Tests.{is_sound_request}
 
@@ -31,8 +31,8 @@ probe_in d = do
   Some (record { node = node; labels = labels; ipv4 = ipv4; ipv6 = ipv6; pools4 = pools4; pools6 = pools6 })
 
 -- what an ADD asks beside what a probe asks
-abbrev pub add_of : ProbeRequest → (handle : List ℕ) → (secondary : List (List ℕ × List ℕ)) → AddRequest
-add_of probe handle secondary = record {
+abbrev pub add_like_probe : ProbeRequest → (handle : List ℕ) → (secondary : List (List ℕ × List ℕ)) → AddRequest
+add_like_probe probe handle secondary = record {
   node = probe.node;
   attributes = record { handle = handle; secondary = secondary };
   ipv4 = probe.ipv4;
@@ -47,7 +47,7 @@ add_in d = do
   probe ← probe_in d
   handle ← text_at (codes "handle") d
   secondary ← pairs_or_none (codes "secondary") d
-  Some (add_of probe handle secondary)
+  Some (add_like_probe probe handle secondary)
 
 -- the address that is asked for, if any
 abbrev pub asked_in : AddRequest → Option Data → Option Request
@@ -68,7 +68,7 @@ check_in d = do
 
 unfoldable pub release_in : Data → Option Request
 release_in d = do
-  cidr ← cidr_at (codes "cidr") d
+  cidr ← cidr_member (codes "cidr") d
   node ← text_at (codes "node") d
   Some (request.Release node cidr)
 
@@ -81,9 +81,9 @@ collect_in d = do
   scope ← scope_or d
   Some (record { live = live; at = at; grace = grace; scope = scope })
 
-unfoldable pub pool_in : Data → Option OnePool
-pool_in d = do
-  cidr ← cidr_at (codes "cidr") d
+unfoldable pub one_pool_in : Data → Option OnePool
+one_pool_in d = do
+  cidr ← cidr_member (codes "cidr") d
   size ← small_at (codes "size") d
   disabled ← truth_or false (codes "disabled") d
   mode ← mode_or d
@@ -105,8 +105,8 @@ reserve_in d = do
   reservation ← named_cidrs name cidrs
   Some (request.Admin (change.Reserve reservation))
 
-unfoldable pub config_in : Data → Option Settings
-config_in d = do
+unfoldable pub settings_in : Data → Option Settings
+settings_in d = do
   auto ← truth_or true (codes "autoAllocateBlocks") d
   max_blocks ← number_or_0 (codes "maxBlocksPerHost") d
   strict ← truth_or false (codes "strictAffinity") d
@@ -120,11 +120,11 @@ shaped_in Check d = check_in d
 shaped_in Release d = release_in d
 shaped_in Collect d = option_map request.Collect (collect_in d)
 shaped_in Probe d = option_map request.Probe (probe_in d)
-shaped_in Pool d = option_map (λ pool. request.Admin (change.Pool pool)) (pool_in d)
+shaped_in Pool d = option_map (λ pool. request.Admin (change.Pool pool)) (one_pool_in d)
 shaped_in Disable d = disable_in d
 shaped_in Reserve d = reserve_in d
 shaped_in Unreserve d = option_map (λ name. request.Admin (change.Unreserve name)) (text_at (codes "name") d)
-shaped_in Config d = option_map (λ settings. request.Admin (change.Config settings)) (config_in d)
+shaped_in Config d = option_map (λ settings. request.Admin (change.Config settings)) (settings_in d)
 shaped_in Scope d = None
 
 -- the same of an object whose members are all known
@@ -141,8 +141,8 @@ named_in name d = do
   known_in shape d
 
 -- the request that the JSON holds, sound or not
-unfoldable pub request_in : Data → Option Request
-request_in d = do
+unfoldable pub request_in_data : Data → Option Request
+request_in_data d = do
   members ← as_object d
   only ← only_member members
   named_in only.0 only.1
@@ -150,7 +150,7 @@ request_in d = do
 -- the request that the JSON holds, where it is sound
 unfoldable pub sound_request_in : Data → Option Request
 sound_request_in d = do
-  found ← request_in d
+  found ← request_in_data d
   only_if (is_sound_request found) found
 
 -- the request whose text this is

@@ -71,8 +71,8 @@ pool_members p =
     (with_text (codes "name") p.name
     (put (codes "cidr") (cidr_data p.cidr) no_members)))))
 
-abbrev pub pool_data : OnePool → Data
-pool_data p = tagged (codes "pool") (object (pool_members p))
+abbrev pub one_pool_data : OnePool → Data
+one_pool_data p = tagged (codes "pool") (object (pool_members p))
 
 abbrev pub disable_data : List ℕ → Bool → Data
 disable_data name disabled =
@@ -93,15 +93,15 @@ config_members c =
     (where_some_number c.max_blocks (codes "maxBlocksPerHost")
     (where_false c.auto (codes "autoAllocateBlocks") no_members))
 
-abbrev pub config_data : Settings → Data
-config_data c = tagged (codes "config") (object (config_members c))
+abbrev pub settings_data : Settings → Data
+settings_data c = tagged (codes "config") (object (config_members c))
 
 abbrev pub change_data : Admin → Data
-change_data (change.Pool pool) = pool_data pool
+change_data (change.Pool pool) = one_pool_data pool
 change_data (change.Disable name disabled) = disable_data name disabled
 change_data (change.Reserve reservation) = reserve_data reservation
 change_data (change.Unreserve name) = unreserve_data name
-change_data (change.Config settings) = config_data settings
+change_data (change.Config settings) = settings_data settings
 
 abbrev pub request_data : Request → Data
 request_data (Add request) = add_data request

@@ -21,7 +21,7 @@ use Rattle.ipam_model.specs.declared.request.ProbeRequest.{ProbeRequest}
 use Rattle.ipam_model.specs.declared.request.Request.{Request}
 use Rattle.ipam_model.specs.declared.request.Request.TheVariants.{Add, AddThis, Del, Check, Release, Collect, Admin as Change, Probe}
 use Rattle.ipam_model.specs.Pairs.{Pair}
-use Rattle.ipam_model.specs.SoundRequest.{is_label_byte}
+use Rattle.ipam_model.specs.SoundRequest.{is_key_byte}
 
 abbrev pub is_address : AddrValue → Bool
 is_address a = nat_lt a.number (address_count a.family)
@@ -33,11 +33,11 @@ is_cidr r =
 
 abbrev pub is_label : Pair → Bool
 is_label label =
-    nat_lt 0 (length label.0) && nat_le (length label.0) LABEL_KEY_BYTES_MAX && list_all is_label_byte label.0
+    nat_lt 0 (length label.0) && nat_le (length label.0) LABEL_KEY_BYTES_MAX && list_all is_key_byte label.0
     && nat_le (length label.1) LABEL_VALUE_BYTES_MAX
 
-abbrev pub are_labels : List Pair → Bool
-are_labels labels = nat_le (length labels) LABELS_MAX && list_all is_label labels && keys_ascend labels
+abbrev pub are_sound_labels : List Pair → Bool
+are_sound_labels labels = nat_le (length labels) LABELS_MAX && list_all is_label labels && keys_ascend labels
 
 abbrev pub is_pool_name : List ℕ → Bool
 is_pool_name text = is_name_text text || is_some (cidr_of text)
@@ -47,12 +47,12 @@ are_pool_names names = nat_le (length names) MOST_POOLS && list_all is_pool_name
 
 abbrev pub is_sound_add : AddRequest → Bool
 is_sound_add r =
-    is_name_text r.node && are_attributes r.attributes && are_labels r.labels
+    is_name_text r.node && are_attributes r.attributes && are_sound_labels r.labels
     && are_pool_names r.pools4 && are_pool_names r.pools6
 
 abbrev pub is_sound_probe : ProbeRequest → Bool
 is_sound_probe r =
-    is_name_text r.node && are_labels r.labels && are_pool_names r.pools4 && are_pool_names r.pools6
+    is_name_text r.node && are_sound_labels r.labels && are_pool_names r.pools4 && are_pool_names r.pools6
     && (r.ipv4 || r.ipv6)
 
 abbrev pub is_scope : Option (List ℕ × List ℕ) → Bool

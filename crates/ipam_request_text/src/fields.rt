@@ -2,7 +2,7 @@
 ghost use Rattle.std.specs.Prelude.{◌≡◌, [], ◌∷◌, ◌++◌, IfOk, option_map};
 ghost use Rattle.serde_json.specs.View.{view, items_view, members_view};
 ghost use Rattle.ipam_record_text.specs.Reservations.{cidrs_after};
-ghost use Rattle.ipam_request_text.specs.Fields.{truth_or, whole_or_0, number_in, number_or_0, small_at, texts_after, texts_in, texts_or_none, pairs_after, pairs_in, pairs_or_none, address_in, addresses_after, cidr_at, mode_named, mode_in, mode_or, selector_in, selector_or, named_scope, scope_in, scope_or};
+ghost use Rattle.ipam_request_text.specs.Fields.{truth_or, whole_or_0, number_in, number_or_0, small_at, texts_after, texts_in, texts_or_none, pairs_after, pairs_in, pairs_or_none, address_in, addresses_after, cidr_member, mode_named, mode_in, mode_or, selector_in, selector_or, named_scope, scope_in, scope_or};
 
 use crate::shape::{Shape, are_known};
 use ipam_addr::{Addr, Cidr, read_addr};
@@ -168,7 +168,7 @@ pub(crate) fn addresses_of(alloc: Global, items: &[Value]) -> Result<Option<Seq<
 
 /// The CIDR whose text has this name.
 pub(crate) fn cidr_at(value: &Value, name: &str) -> Option<Cidr>
-    ensures { result ≡ cidr_at name.now (view value.now) }
+    ensures { result ≡ cidr_member name.now (view value.now) }
 {
     let found = value.get(name)?;
     cidr_in(found)

@@ -3,7 +3,7 @@ ghost use Rattle.std.specs.Prelude.{◌≡◌, [], Err, Some, None, IfOk, IfSome
 ghost use Rattle.std.specs.List.{AllByRecursion};
 ghost use Rattle.serde_json.specs.View.{view, items_view};
 ghost use Rattle.ipam_records.specs.Sound.{IsHandleId};
-ghost use Rattle.ipam_request_text.specs.Live.{live_reading, live_in, ids_after, id_in};
+ghost use Rattle.ipam_request_text.specs.Live.{live_reading, live_in, ids_after, live_id_in};
 
 use crate::fault::AskFault;
 use ipam_json::json_of;
@@ -66,9 +66,9 @@ fn ids_in(alloc: Global, items: &[Value]) -> Result<Option<Seq<Text>>, AllocErro
     Ok(Some(Seq::of(ids)))
 }
 
-#[tactic(auto, unfolding(crate::specs::Live::id_in))]
+#[tactic(auto, unfolding(crate::specs::Live::live_id_in))]
 fn id_in(value: &Value) -> Option<&str>
-    ensures { option_map (λ t. t.now) result ≡ id_in (view value.now) }
+    ensures { option_map (λ t. t.now) result ≡ live_id_in (view value.now) }
 {
     let text = value.as_str()?;
     id_of(text)

@@ -2,7 +2,7 @@
 ghost use Rattle.std.specs.Prelude.{◌≡◌, codes, IfOk};
 ghost use Rattle.serde_json.specs.Find.{get};
 ghost use Rattle.serde_json.specs.View.{view};
-ghost use Rattle.ipam_request_text.specs.Reading.{probe_in, add_of, add_in, asked_in, any_add_in, check_in, release_in, collect_in, pool_in, disable_in, reserve_in, config_in, shaped_in};
+ghost use Rattle.ipam_request_text.specs.Reading.{probe_in, add_like_probe, add_in, asked_in, any_add_in, check_in, release_in, collect_in, one_pool_in, disable_in, reserve_in, settings_in, shaped_in};
 
 use crate::fields::{
     address_in, addresses_of, cidr_at, cidrs_of, mode_or, number_or_0, pairs_or_none, scope_or,
@@ -85,7 +85,7 @@ fn add_in(alloc: Global, value: &Value) -> Result<Option<AddRequest>, AllocError
 
 /// What an ADD asks beside what a probe asks.
 fn add_of(probe: ProbeRequest, handle: Text, secondary: Seq<(Text, Text)>) -> AddRequest
-    ensures { result ≡ add_of probe handle secondary }
+    ensures { result ≡ add_like_probe probe handle secondary }
 {
     let ProbeRequest {
         node,
@@ -234,9 +234,9 @@ fn pool_change_in(alloc: Global, value: &Value) -> Result<Option<Request>, Alloc
     }
 }
 
-#[tactic(auto, unfolding(crate::specs::Reading::pool_in))]
+#[tactic(auto, unfolding(crate::specs::Reading::one_pool_in))]
 fn pool_in(alloc: Global, value: &Value) -> Result<Option<Pool>, AllocError>
-    ensures { IfOk result (λ found. found ≡ pool_in (view value.now)) }
+    ensures { IfOk result (λ found. found ≡ one_pool_in (view value.now)) }
 {
     let Some(cidr) = cidr_at(value, "cidr") else {
         return Ok(None);
@@ -322,9 +322,9 @@ fn config_change_in(value: &Value) -> Option<Request>
     }
 }
 
-#[tactic(auto, unfolding(crate::specs::Reading::config_in))]
+#[tactic(auto, unfolding(crate::specs::Reading::settings_in))]
 fn config_in(value: &Value) -> Option<Config>
-    ensures { result ≡ config_in (view value.now) }
+    ensures { result ≡ settings_in (view value.now) }
 {
     let auto = truth_or(value, "autoAllocateBlocks", true)?;
     let max_blocks = number_or_0(value, "maxBlocksPerHost")?;

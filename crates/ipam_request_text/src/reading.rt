@@ -2,7 +2,7 @@
 ghost use Rattle.std.specs.Prelude.{◌≡◌, [], Err, Some, None, IfOk, IfSome};
 ghost use Rattle.serde_json.specs.View.{view};
 ghost use Rattle.ipam_model.specs.SoundRequest.{IsSoundRequest};
-ghost use Rattle.ipam_request_text.specs.Reading.{known_in, named_in, request_in, sound_request_in, request_reading, request_of_bytes};
+ghost use Rattle.ipam_request_text.specs.Reading.{known_in, named_in, request_in_data, sound_request_in, request_reading, request_of_bytes};
 
 use crate::fault::AskFault;
 use crate::objects::shaped_in;
@@ -71,9 +71,9 @@ pub fn request_in_json(alloc: Global, json: &Value) -> Result<Option<Request>, A
 }
 
 /// The request that the JSON holds, sound or not.
-#[tactic(auto, unfolding(crate::specs::Reading::request_in))]
+#[tactic(auto, unfolding(crate::specs::Reading::request_in_data))]
 fn request_in(alloc: Global, json: &Value) -> Result<Option<Request>, AllocError>
-    ensures { IfOk result (λ found. found ≡ request_in (view json.now)) }
+    ensures { IfOk result (λ found. found ≡ request_in_data (view json.now)) }
 {
     let Some(members) = json.as_object() else {
         return Ok(None);

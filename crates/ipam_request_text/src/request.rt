@@ -2,7 +2,7 @@ ghost use Rattle.std.specs.Prelude.{◌≡◌, ◌++◌, [], ◌∷◌, codes, I
 ghost use Rattle.serde_json.specs.Data.{object};
 ghost use Rattle.serde_json.specs.View.{view, members_view};
 ghost use Rattle.ipam_request_text.specs.Members.{with_text, wishes};
-ghost use Rattle.ipam_request_text.specs.Requests.{add_members, add_data, add_this_data, del_data, check_data, release_data, collect_data, probe_data, pool_data, disable_data, reserve_data, unreserve_data, config_data, change_data, request_data, request_text, live_text};
+ghost use Rattle.ipam_request_text.specs.Requests.{add_members, add_data, add_this_data, del_data, check_data, release_data, collect_data, probe_data, one_pool_data, disable_data, reserve_data, unreserve_data, settings_data, change_data, request_data, request_text, live_text};
 
 use crate::members::{
     put_false, put_mode, put_number, put_pairs, put_scope, put_selector, put_texts, put_true,
@@ -201,7 +201,7 @@ fn probe_value(alloc: Global, probe: &ProbeRequest) -> Result<Value, AllocError>
 
 #[tactic(auto, unfolding(crate::specs::Requests::pool_members))]
 fn pool_value(alloc: Global, pool: &Pool) -> Result<Value, AllocError>
-    ensures { IfOk result (λ v. view v ≡ pool_data pool.now) }
+    ensures { IfOk result (λ v. view v ≡ one_pool_data pool.now) }
 {
     let mut members = Map::new(alloc);
     let cidr = cidr_value(alloc, pool.cidr)?;
@@ -241,7 +241,7 @@ fn unreserve_value(alloc: Global, name: &Text) -> Result<Value, AllocError>
 
 #[tactic(auto, unfolding(crate::specs::Requests::config_members))]
 fn config_value(alloc: Global, config: &Config) -> Result<Value, AllocError>
-    ensures { IfOk result (λ v. view v ≡ config_data config.now) }
+    ensures { IfOk result (λ v. view v ≡ settings_data config.now) }
 {
     let mut members = Map::new(alloc);
     put_false(alloc, &mut members, "autoAllocateBlocks", config.auto)?;

@@ -9,7 +9,7 @@ ghost use Rattle.ipam_record_text.specs.Pools.{IsSoundPool};
 ghost use Rattle.ipam_records.specs.Sound.{IsName, IsHandleId, IsPair, AreAttributes, IsReservation};
 ghost use Rattle.ipam_request_text.specs.Naming.{WritesCidr};
 ghost use Rattle.ipam_request_text.specs.Tests.{is_sound_request};
-ghost use Rattle.ipam_model.specs.SoundRequest.{is_label_byte, IsLabel, AreLabels, IsPoolName, ArePoolNames, IsSoundAdd, IsSoundProbe, IsScope, IsSoundCollect, IsSoundChange, IsSoundRequest};
+ghost use Rattle.ipam_model.specs.SoundRequest.{is_key_byte, IsLabel, AreLabels, IsPoolName, ArePoolNames, IsSoundAdd, IsSoundProbe, IsScope, IsSoundCollect, IsSoundChange, IsSoundRequest};
 
 use ipam_addr::{Addr, Cidr, is_handle_id, is_name, read_cidr};
 use ipam_block::{Attributes, CHECKED_MAX, KEY_BYTES_MAX, PAIRS_MAX, VALUE_BYTES_MAX};
@@ -188,14 +188,14 @@ fn is_label(label: &(Text, Text)) -> bool
 }
 
 fn are_label_bytes(bytes: &[u8]) -> bool
-    ensures { result ≡ list_all is_label_byte bytes.now }
+    ensures { result ≡ list_all is_key_byte bytes.now }
 {
     bytes.iter().all(is_label_byte)
 }
 
 /// Whether it is a letter, a digit, `_`, `.`, `-` or `/`.
 fn is_label_byte(byte: &u8) -> bool
-    ensures { result ≡ is_label_byte byte.now }
+    ensures { result ≡ is_key_byte byte.now }
 {
     byte.is_ascii_alphanumeric() || *byte == b'_' || *byte == b'.' || *byte == b'-' || *byte == b'/'
 }

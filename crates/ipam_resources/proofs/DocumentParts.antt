@@ -18,7 +18,7 @@ use Rattle.ipam_resources.specs.declared.member.Member.TheVariants as member
 use Rattle.ipam_resources.specs.declared.resource.Resource.{Resource}
 use Rattle.ipam_resources.specs.Members.{◌>>=◌, found_at, required}
 use Rattle.ipam_resources.specs.Resources.{kind_in, resource_in, item_in}
-use Rattle.ipam_resources.specs.Documents.{IsReadable, alone, as_item, resources_after, resources_of, kind_said, by_kind, json_of, object_reading, document_reading}
+use Rattle.ipam_resources.specs.Documents.{IsReadable, one_resource, as_item, resources_after, resources_of, kind_said, by_kind, json_of, object_reading, document_reading}
 
 -- what was read where there is something
 pub bind_ok : {A B E P : Type 0} (f : A → Result B E) (r : Result A E) (y : B) → (r >>= f) ≡ Ok y → ((x : A) → r ≡ Ok x → f x ≡ Ok y → P) → P
@@ -53,10 +53,10 @@ several_each : (P : Resource → Type 0) → Each P → (o : Option Items) (rs :
 several_each P each (Some items) rs e = after_each P each [] items rs e tt
 several_each P each None rs e = cc
 
-alone_each : (P : Resource → Type 0) → Each P → (k : ResourceKind) (d : Data) (rs : List Resource) → alone (resource_in k d) ≡ Ok rs → AllByRecursion P rs
+alone_each : (P : Resource → Type 0) → Each P → (k : ResourceKind) (d : Data) (rs : List Resource) → one_resource (resource_in k d) ≡ Ok rs → AllByRecursion P rs
 alone_each P each k d rs e = go (resource_in k d) refl e
   where
-    go : (found : Result Resource Member) → resource_in k d ≡ found → alone found ≡ Ok rs → AllByRecursion P rs
+    go : (found : Result Resource Member) → resource_in k d ≡ found → one_resource found ≡ Ok rs → AllByRecursion P rs
     go (Ok r) is e' = subst (AllByRecursion P) (same_Ok (r ∷ []) rs e') (each k d r is, tt)
     go (Err m) is e' = cc
 
@@ -93,7 +93,7 @@ several_no_memory : (o : Option Items) → resources_of o ≡ Err fault.Memory �
 several_no_memory (Some items) e = after_no_memory [] items e
 several_no_memory None e = absurd cc
 
-alone_no_memory : (found : Result Resource Member) → alone found ≡ Err fault.Memory → ⊥
+alone_no_memory : (found : Result Resource Member) → one_resource found ≡ Err fault.Memory → ⊥
 alone_no_memory (Ok r) e = absurd cc
 alone_no_memory (Err m) e = absurd cc
 

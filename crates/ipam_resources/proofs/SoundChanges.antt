@@ -28,8 +28,8 @@ use Rattle.ipam_resources.specs.declared.member.Member.{Member}
 use Rattle.ipam_resources.specs.declared.member.Member.TheVariants as member
 use Rattle.ipam_resources.specs.declared.resource.Resource.{Resource}
 use Rattle.ipam_resources.specs.Members.{found_at, required, read_or, optional}
-use Rattle.ipam_resources.specs.Values.{name_in, size_in, bound_in, selector_in, ranges_in, default_size}
-use Rattle.ipam_resources.specs.Resources.{plain_pool, mode_at, pool_reading, reservation_reading, config_reading, config_name, pool_resource, reservation_resource, config_resource, pool_in, reservation_in, config_in, resource_in}
+use Rattle.ipam_resources.specs.Values.{name_in, size_in, bound_in, selector_value_in, ranges_in, default_size}
+use Rattle.ipam_resources.specs.Resources.{plain_pool, mode_at, pool_reading, reservation_reading, settings_reading, config_name, pool_resource, reservation_resource, config_resource, pool_resource_in, reservation_resource_in, config_resource_in, resource_in}
 use Rattle.ipam_resources.specs.Documents.{document_reading}
 use Rattle.ipam_resources.proofs.DocumentParts.{bind_ok, same_Ok, document_each}
 use Rattle.ipam_resources.proofs.ValueLemmas.{name_in-is, size_in-is, bound_in-is, selector_in-is, ranges_in-is}
@@ -79,14 +79,14 @@ pool_reading-sound : (d : Data) (p : Pool) → pool_reading d ≡ Ok p → IsSou
 unfolding pool_reading
 pool_reading-sound d p e =
     bind_ok _ (plain_pool d) p e (λ plain is_plain e1.
-    bind_ok _ (optional selector_in every member.NodeSelector d) p e1 (λ selector is_selector e2.
+    bind_ok _ (optional selector_value_in every member.NodeSelector d) p e1 (λ selector is_selector e2.
     bind_ok _ (mode_at d) p e2 (λ mode is_mode e3.
     let h = plain_pool-sound d plain is_plain in
     subst IsSoundPool (same_Ok (record plain { mode = mode; selector = selector }) p e3) (record {
       name = h.name;
       cidr = h.cidr;
       size = h.size;
-      selector = optional-is selector_in (λ f. is_sound f ≡ true) every refl selector_in-is member.NodeSelector d selector is_selector;
+      selector = optional-is selector_value_in (λ f. is_sound f ≡ true) every refl selector_in-is member.NodeSelector d selector is_selector;
     }))))
 
 -- ---- a reservation
@@ -108,8 +108,8 @@ reservation_reading-sound d r e =
 none_small : 0 < 2 ^ 32
 none_small = omega arith
 
-config_reading-sound : (d : Data) (c : Settings) → config_reading d ≡ Ok c → c.max_blocks < 2 ^ 32
-unfolding config_reading
+config_reading-sound : (d : Data) (c : Settings) → settings_reading d ≡ Ok c → c.max_blocks < 2 ^ 32
+unfolding settings_reading
 config_reading-sound d c e =
     bind_ok _ (optional as_bool false member.StrictAffinity d) c e (λ strict is_strict e1.
     bind_ok _ (optional as_bool true member.AutoAllocateBlocks d) c e1 (λ auto is_auto e2.
@@ -122,18 +122,18 @@ config_reading-sound d c e =
 abbrev Changes : Resource → Type 0
 Changes r = IsSoundChange r.change
 
-pool_in-sound : (d : Data) (r : Resource) → pool_in d ≡ Ok r → Changes r
-unfolding pool_in
+pool_in-sound : (d : Data) (r : Resource) → pool_resource_in d ≡ Ok r → Changes r
+unfolding pool_resource_in
 pool_in-sound d r e = bind_ok _ (pool_reading d) r e (λ pool is e1. subst Changes (same_Ok (pool_resource pool) r e1) (pool_reading-sound d pool is))
 
-reservation_in-sound : (d : Data) (r : Resource) → reservation_in d ≡ Ok r → Changes r
-unfolding reservation_in
+reservation_in-sound : (d : Data) (r : Resource) → reservation_resource_in d ≡ Ok r → Changes r
+unfolding reservation_resource_in
 reservation_in-sound d r e = bind_ok _ (reservation_reading d) r e (λ one is e1. subst Changes (same_Ok (reservation_resource one) r e1) (reservation_reading-sound d one is))
 
-config_in-sound : (k : ResourceKind) (d : Data) (r : Resource) → config_in k d ≡ Ok r → Changes r
-unfolding config_in
+config_in-sound : (k : ResourceKind) (d : Data) (r : Resource) → config_resource_in k d ≡ Ok r → Changes r
+unfolding config_resource_in
 config_in-sound k d r e =
-    bind_ok _ (config_reading d) r e (λ settings is e1.
+    bind_ok _ (settings_reading d) r e (λ settings is e1.
     bind_ok _ (config_name d) r e1 (λ name is_name e2.
     subst Changes (same_Ok (config_resource k settings name) r e2) (config_reading-sound d settings is)))
 

@@ -26,15 +26,15 @@ use Rattle.ipam_addr.proofs.TextLemmas.{spelled-address_of}
 use Rattle.ipam_select.specs.Formula.{Formula}
 use Rattle.ipam_select.specs.Sound.{is_sound}
 use Rattle.ipam_json.specs.Members.{◌>>=◌, in_32_bits}
-use Rattle.ipam_record_text.specs.Blocks.{cidr_of, name_of}
+use Rattle.ipam_record_text.specs.Blocks.{cidr_of, name_read}
 use Rattle.ipam_record_text.specs.Rules.{selector_of}
 use Rattle.ipam_json.proofs.MemberLemmas.{then-is, in_32_bits-is}
 use Rattle.ipam_record_text.proofs.Parts.{cidr_of-is, name_of-is}
 use Rattle.ipam_record_text.proofs.RuleLemmas.{selector_of-is}
 use Rattle.ipam_resources.specs.Documents.{json_of}
-use Rattle.ipam_resources.specs.Values.{name_in, size_in, bound_in, selector_in, is_empty, cidr_of_address, range_of, range_in, ranges_after, ranges_in}
+use Rattle.ipam_resources.specs.Values.{name_in, size_in, bound_in, selector_value_in, has_no_items, cidr_of_address, range_of, range_in, ranges_after, ranges_in}
 
-pub is_empty_view : (vs : List Value) → is_empty (items_view vs) ≡ (length vs == 0)
+pub is_empty_view : (vs : List Value) → has_no_items (items_view vs) ≡ (length vs == 0)
 is_empty_view [] = refl
 is_empty_view (v ∷ vs) = grind (arith, nat_tests)
 
@@ -54,7 +54,7 @@ json_of_bytes bytes h = elim (cases_Bool (is_utf8 bytes)) [
 
 pub name_in-is : (d : Data) (name : List ℕ) → name_in d ≡ Some name → is_name_text name ≡ true
 unfolding name_in
-name_in-is d name e = then-is name_of (λ t. is_name_text t ≡ true) name_of-is (as_str d) name e
+name_in-is d name e = then-is name_read (λ t. is_name_text t ≡ true) name_of-is (as_str d) name e
 
 pub size_in-is : (d : Data) (n : ℕ) → size_in d ≡ Some n → n < 2 ^ 8
 unfolding size_in
@@ -67,8 +67,8 @@ pub bound_in-is : (d : Data) (n : ℕ) → bound_in d ≡ Some n → n < 2 ^ 32
 unfolding bound_in
 bound_in-is d n e = then-is in_32_bits (λ k. k < 2 ^ 32) in_32_bits-is (as_whole d) n e
 
-pub selector_in-is : (d : Data) (f : Formula) → selector_in d ≡ Some f → is_sound f ≡ true
-unfolding selector_in
+pub selector_in-is : (d : Data) (f : Formula) → selector_value_in d ≡ Some f → is_sound f ≡ true
+unfolding selector_value_in
 selector_in-is d f e = then-is selector_of (λ g. is_sound g ≡ true) selector_of-is (as_str d) f e
 
 -- ---- ranges

@@ -26,9 +26,9 @@ bad_in_item n m = fault.Member (record { item = Some n; member = m })
 
 -- ---- one resource
 
-abbrev pub alone : Result Resource Member → Result (List Resource) DocumentFault
-alone (Ok resource) = Ok (resource ∷ [])
-alone (Err m) = Err (bad m)
+abbrev pub one_resource : Result Resource Member → Result (List Resource) DocumentFault
+one_resource (Ok resource) = Ok (resource ∷ [])
+one_resource (Err m) = Err (bad m)
 
 -- ---- a list
 
@@ -54,7 +54,7 @@ kind_said d = option_and_then document_kind_of (option_and_then as_str (found_at
 
 abbrev pub by_kind : Option DocumentKind → Data → Result (List Resource) DocumentFault
 by_kind None d = Err (bad member.Kind)
-by_kind (Some (One k)) d = alone (resource_in k d)
+by_kind (Some (One k)) d = one_resource (resource_in k d)
 by_kind (Some Several) d = resources_of (option_and_then as_array (found_at member.Items d))
 
 -- the JSON that the bytes are the text of

@@ -8,11 +8,11 @@ use Rattle.ipam_resources.specs.declared.member.Member.{Member}
 use Rattle.ipam_resources.specs.declared.member.Member.TheVariants as member
 use Rattle.ipam_resources.specs.declared.member.Place.{Place}
 
-abbrev pub kind_text : ResourceKind → List ℕ
-kind_text kind.Pool = codes "IPPool"
-kind_text kind.Reservation = codes "IPReservation"
-kind_text kind.Config = codes "IPAMConfig"
-kind_text kind.Configuration = codes "IPAMConfiguration"
+abbrev pub resource_kind_text : ResourceKind → List ℕ
+resource_kind_text kind.Pool = codes "IPPool"
+resource_kind_text kind.Reservation = codes "IPReservation"
+resource_kind_text kind.Config = codes "IPAMConfig"
+resource_kind_text kind.Configuration = codes "IPAMConfiguration"
 
 -- the kind of one resource whose text this is
 unfoldable pub kind_of : List ℕ → Option ResourceKind

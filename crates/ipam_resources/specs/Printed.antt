@@ -7,7 +7,7 @@ use Rattle.ipam_resources.specs.declared.fault.DocumentFault.TheVariants as faul
 use Rattle.ipam_resources.specs.declared.refusal.Refusal.{Refusal}
 use Rattle.ipam_resources.specs.declared.refusal.Refusal.TheVariants as refusal
 use Rattle.ipam_resources.specs.declared.resource.Resource.{Resource}
-use Rattle.ipam_resources.specs.Naming.{kind_text, place_path}
+use Rattle.ipam_resources.specs.Naming.{resource_kind_text, place_path}
 
 -- ---- why a resource is refused
 
@@ -23,11 +23,11 @@ numbered_refusal number name =
     else None)))))
 
 -- the refusal that an answer to the change of a resource is
-abbrev pub refusal_of : Answer → Option Refusal
-refusal_of (answer.Refused number name) = numbered_refusal number name
-refusal_of answer.Full = Some refusal.Full
-refusal_of answer.Spent = Some refusal.Spent
-refusal_of _ = None
+abbrev pub answer_refusal : Answer → Option Refusal
+answer_refusal (answer.Refused number name) = numbered_refusal number name
+answer_refusal answer.Full = Some refusal.Full
+answer_refusal answer.Spent = Some refusal.Spent
+answer_refusal _ = None
 
 abbrev pub refusal_text : Refusal → List ℕ
 refusal_text refusal.NameTaken = codes "name taken"
@@ -42,7 +42,7 @@ refusal_text refusal.Spent = codes "spent"
 -- ---- the lines
 
 abbrev pub resource_text : Resource → List ℕ
-resource_text r = kind_text r.kind ++ (codes " " ++ r.name)
+resource_text r = resource_kind_text r.kind ++ (codes " " ++ r.name)
 
 unfoldable pub applied_line : Resource → List ℕ
 applied_line r = codes "applied " ++ (resource_text r ++ codes "\n")

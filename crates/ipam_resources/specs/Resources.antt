@@ -18,7 +18,7 @@ use Rattle.ipam_resources.specs.declared.member.Member.TheVariants as member
 use Rattle.ipam_resources.specs.declared.resource.Resource.{Resource}
 use Rattle.ipam_resources.specs.Members.{◌>>=◌, required, optional}
 use Rattle.ipam_resources.specs.Naming.{kind_of}
-use Rattle.ipam_resources.specs.Values.{name_in, size_in, bound_in, selector_in, mode_in, uses_in, ranges_in, default_size}
+use Rattle.ipam_resources.specs.Values.{name_in, size_in, bound_in, selector_value_in, mode_value_in, uses_in, ranges_in, default_size}
 
 -- ---- a pool
 
@@ -35,12 +35,12 @@ plain_pool d = do
 unfoldable pub mode_at : Data → Result Mode Member
 mode_at d = do
   for_workloads ← optional uses_in tt member.AllowedUses d
-  optional mode_in Automatic member.AssignmentMode d
+  optional mode_value_in Automatic member.AssignmentMode d
 
 unfoldable pub pool_reading : Data → Result Pool Member
 pool_reading d = do
   plain ← plain_pool d
-  selector ← optional selector_in every member.NodeSelector d
+  selector ← optional selector_value_in every member.NodeSelector d
   mode ← mode_at d
   Ok (record plain { mode = mode; selector = selector })
 
@@ -54,8 +54,8 @@ reservation_reading d = do
 
 -- ---- a configuration
 
-unfoldable pub config_reading : Data → Result Settings Member
-config_reading d = do
+unfoldable pub settings_reading : Data → Result Settings Member
+settings_reading d = do
   strict ← optional as_bool false member.StrictAffinity d
   auto ← optional as_bool true member.AutoAllocateBlocks d
   most ← optional bound_in 0 member.MaxBlocksPerHost d
@@ -76,28 +76,28 @@ reservation_resource r = record { kind = kind.Reservation; name = r.name; change
 abbrev pub config_resource : ResourceKind → Settings → List ℕ → Resource
 config_resource k settings name = record { kind = k; name = name; change = change.Config settings }
 
-unfoldable pub pool_in : Data → Result Resource Member
-pool_in d = do
+unfoldable pub pool_resource_in : Data → Result Resource Member
+pool_resource_in d = do
   pool ← pool_reading d
   Ok (pool_resource pool)
 
-unfoldable pub reservation_in : Data → Result Resource Member
-reservation_in d = do
+unfoldable pub reservation_resource_in : Data → Result Resource Member
+reservation_resource_in d = do
   reservation ← reservation_reading d
   Ok (reservation_resource reservation)
 
-unfoldable pub config_in : ResourceKind → Data → Result Resource Member
-config_in k d = do
-  settings ← config_reading d
+unfoldable pub config_resource_in : ResourceKind → Data → Result Resource Member
+config_resource_in k d = do
+  settings ← settings_reading d
   name ← config_name d
   Ok (config_resource k settings name)
 
 -- the resource of this kind
 abbrev pub resource_in : ResourceKind → Data → Result Resource Member
-resource_in kind.Pool d = pool_in d
-resource_in kind.Reservation d = reservation_in d
-resource_in kind.Config d = config_in kind.Config d
-resource_in kind.Configuration d = config_in kind.Configuration d
+resource_in kind.Pool d = pool_resource_in d
+resource_in kind.Reservation d = reservation_resource_in d
+resource_in kind.Config d = config_resource_in kind.Config d
+resource_in kind.Configuration d = config_resource_in kind.Configuration d
 
 unfoldable pub kind_in : Data → Option ResourceKind
 kind_in d = option_and_then kind_of (as_str d)

@@ -14,12 +14,12 @@ use Rattle.ipam_select.specs.Formula.{Formula}
 use Rattle.ipam_pool.specs.declared.pools.Mode.{Mode}
 use Rattle.ipam_pool.specs.declared.pools.Mode.TheVariants.{Automatic, Manual}
 use Rattle.ipam_json.specs.Members.{◌>>=◌, only_if, in_32_bits}
-use Rattle.ipam_record_text.specs.Blocks.{cidr_of, name_of}
+use Rattle.ipam_record_text.specs.Blocks.{cidr_of, name_read}
 use Rattle.ipam_record_text.specs.Rules.{selector_of}
 
 -- a text that may name a pool or a reservation
 unfoldable pub name_in : Data → Option (List ℕ)
-name_in d = option_and_then name_of (as_str d)
+name_in d = option_and_then name_read (as_str d)
 
 -- a whole number from 0 to 255
 unfoldable pub size_in : Data → Option ℕ
@@ -32,8 +32,8 @@ unfoldable pub bound_in : Data → Option ℕ
 bound_in d = option_and_then in_32_bits (as_whole d)
 
 -- a selector by a text that is read as it
-unfoldable pub selector_in : Data → Option Formula
-selector_in d = option_and_then selector_of (as_str d)
+unfoldable pub selector_value_in : Data → Option Formula
+selector_value_in d = option_and_then selector_of (as_str d)
 
 -- a mode by its name
 unfoldable pub mode_of : List ℕ → Option Mode
@@ -41,8 +41,8 @@ mode_of text =
     if bytes_eq text (codes "Automatic") then Some Automatic
     else (if bytes_eq text (codes "Manual") then Some Manual else None)
 
-unfoldable pub mode_in : Data → Option Mode
-mode_in d = option_and_then mode_of (as_str d)
+unfoldable pub mode_value_in : Data → Option Mode
+mode_value_in d = option_and_then mode_of (as_str d)
 
 -- how long the slots' prefix is where nothing is said of it
 abbrev pub default_size : Family → ℕ
@@ -58,13 +58,13 @@ abbrev pub lists_text : List ℕ → Items → Bool
 lists_text text no_items = false
 lists_text text (item d ds) = is_text text (as_str d) || lists_text text ds
 
-abbrev pub is_empty : Items → Bool
-is_empty no_items = true
-is_empty (item d ds) = false
+abbrev pub has_no_items : Items → Bool
+has_no_items no_items = true
+has_no_items (item d ds) = false
 
 -- the uses of a pool are any, or workloads are one of them
 unfoldable pub are_uses : Items → Bool
-are_uses ds = is_empty ds || lists_text (codes "Workload") ds
+are_uses ds = has_no_items ds || lists_text (codes "Workload") ds
 
 abbrev pub uses_in : Data → Option (Unit {0})
 uses_in d = do

@@ -4,7 +4,7 @@ ghost use Rattle.serde_json.specs.View.{view};
 ghost use Rattle.ipam_resources.specs.declared.member.Member.TheVariants as member_of;
 ghost use Rattle.ipam_resources.specs.Members.{optional};
 ghost use Rattle.ipam_resources.specs.Values.{name_in, bound_in};
-ghost use Rattle.ipam_resources.specs.Resources.{config_reading, config_name, config_resource, config_in};
+ghost use Rattle.ipam_resources.specs.Resources.{settings_reading, config_name, config_resource, config_resource_in};
 
 use crate::kind::ResourceKind;
 use crate::member::Member;
@@ -18,13 +18,13 @@ use serde_json::Value;
 use std::alloc::{AllocError, Global};
 
 /// The resource, where it is that of a configuration, or its first bad member.
-#[tactic(auto, unfolding(crate::specs::Resources::config_in))]
+#[tactic(auto, unfolding(crate::specs::Resources::config_resource_in))]
 pub(crate) fn config_in(
     alloc: Global,
     kind: ResourceKind,
     json: &Value,
 ) -> Result<Result<Resource, Member>, AllocError>
-    ensures { IfOk result (λ found. found ≡ config_in kind (view json.now)) }
+    ensures { IfOk result (λ found. found ≡ config_resource_in kind (view json.now)) }
 {
     let config = match config_reading(json) {
         Ok(config) => config,
@@ -48,9 +48,9 @@ fn config_resource(kind: ResourceKind, config: Config, name: Text) -> Resource
     }
 }
 
-#[tactic(auto, unfolding(crate::specs::Resources::config_reading))]
+#[tactic(auto, unfolding(crate::specs::Resources::settings_reading))]
 fn config_reading(json: &Value) -> Result<Config, Member>
-    ensures { result ≡ config_reading (view json.now) }
+    ensures { result ≡ settings_reading (view json.now) }
 {
     let strict = truth_or(json, false, Member::StrictAffinity)?;
     let auto = truth_or(json, true, Member::AutoAllocateBlocks)?;

@@ -4,7 +4,7 @@ ghost use Rattle.std.specs.Str.{is_utf8};
 ghost use Rattle.serde_json.specs.Find.{as_array};
 ghost use Rattle.serde_json.specs.View.{view};
 ghost use Rattle.ipam_model.specs.SoundRequest.{IsSoundChange};
-ghost use Rattle.ipam_resources.specs.Documents.{IsReadable, bad, alone, resources_of, kind_said, json_of, object_reading, document_reading};
+ghost use Rattle.ipam_resources.specs.Documents.{IsReadable, bad, one_resource, resources_of, kind_said, json_of, object_reading, document_reading};
 ghost use Rattle.ipam_resources.specs.declared.member.Member.TheVariants as member_of;
 ghost use Rattle.ipam_resources.specs.Members.{found_at};
 ghost use Rattle.ipam_resources.specs.Resources.{resource_in};
@@ -108,7 +108,7 @@ fn alone(
     json: &Value,
 ) -> Result<Result<Vec<Resource>, DocumentFault>, AllocError>
     ensures { IfOk result (λ found. result_map_both (λ v. v.items) (λ fault. fault) found
-        ≡ alone (resource_in kind (view json.now))) }
+        ≡ one_resource (resource_in kind (view json.now))) }
 {
     match resource_in(alloc, kind, json)? {
         Ok(resource) => {

@@ -1,5 +1,5 @@
 ghost use Rattle.std.specs.Prelude.{◌≡◌};
-ghost use Rattle.ipam_resources.specs.Naming.{kind_text, kind_of, is_list_kind, document_kind_of};
+ghost use Rattle.ipam_resources.specs.Naming.{resource_kind_text, kind_of, is_list_kind, document_kind_of};
 
 /// The kinds of resources.
 #[derive(Clone, Copy, Debug, PartialEq, Eq)]
@@ -17,7 +17,7 @@ pub enum ResourceKind {
 impl ResourceKind {
     /// The kind as a resource says it.
     pub fn text(self) -> &'static str
-        ensures { result.now ≡ kind_text self }
+        ensures { result.now ≡ resource_kind_text self }
     {
         match self {
             ResourceKind::Pool => "IPPool",

@@ -6,8 +6,8 @@ ghost use Rattle.ipam_select.specs.Formula.{every};
 ghost use Rattle.ipam_pool.specs.declared.pools.Mode.TheVariants.{Automatic};
 ghost use Rattle.ipam_resources.specs.declared.member.Member.TheVariants as member_of;
 ghost use Rattle.ipam_resources.specs.Members.{optional};
-ghost use Rattle.ipam_resources.specs.Values.{size_in, uses_in, mode_in, selector_in, default_size};
-ghost use Rattle.ipam_resources.specs.Resources.{plain_pool, mode_at, pool_reading, pool_resource, pool_in};
+ghost use Rattle.ipam_resources.specs.Values.{size_in, uses_in, mode_value_in, selector_value_in, default_size};
+ghost use Rattle.ipam_resources.specs.Resources.{plain_pool, mode_at, pool_reading, pool_resource, pool_resource_in};
 
 use crate::kind::ResourceKind;
 use crate::member::Member;
@@ -23,9 +23,9 @@ use serde_json::Value;
 use std::alloc::{AllocError, Global};
 
 /// The resource, where it is that of a pool, or its first bad member.
-#[tactic(auto, unfolding(crate::specs::Resources::pool_in))]
+#[tactic(auto, unfolding(crate::specs::Resources::pool_resource_in))]
 pub(crate) fn pool_in(alloc: Global, json: &Value) -> Result<Result<Resource, Member>, AllocError>
-    ensures { IfOk result (λ found. found ≡ pool_in (view json.now)) }
+    ensures { IfOk result (λ found. found ≡ pool_resource_in (view json.now)) }
 {
     match pool_reading(alloc, json)? {
         Ok(pool) => {
@@ -112,7 +112,7 @@ fn size_or(json: &Value, default: u8, member: Member) -> Result<u8, Member>
 #[tactic(auto, unfolding(crate::specs::Members::optional))]
 fn selector_at(alloc: Global, json: &Value) -> Result<Result<NodeSelector, Member>, AllocError>
     ensures { IfOk result
-        (λ found. found ≡ optional selector_in every member_of.NodeSelector (view json.now)) }
+        (λ found. found ≡ optional selector_value_in every member_of.NodeSelector (view json.now)) }
 {
     match found_at(json, Member::NodeSelector) {
         None => Ok(Ok(NodeSelector::all(alloc))),
@@ -122,7 +122,7 @@ fn selector_at(alloc: Global, json: &Value) -> Result<Result<NodeSelector, Membe
 
 fn selector_of(alloc: Global, json: &Value) -> Result<Result<NodeSelector, Member>, AllocError>
     ensures { IfOk result
-        (λ found. found ≡ ok_or (selector_in (view json.now)) member_of.NodeSelector) }
+        (λ found. found ≡ ok_or (selector_value_in (view json.now)) member_of.NodeSelector) }
 {
     match selector_in(alloc, json)? {
         Some(selector) => Ok(Ok(selector)),
@@ -151,7 +151,7 @@ fn uses_at(json: &Value) -> Result<(), Member>
 
 #[tactic(auto, unfolding(crate::specs::Members::optional))]
 fn mode_or(json: &Value, default: Mode, member: Member) -> Result<Mode, Member>
-    ensures { result ≡ optional mode_in default member (view json.now) }
+    ensures { result ≡ optional mode_value_in default member (view json.now) }
 {
     match found_at(json, member) {
         None => Ok(default),

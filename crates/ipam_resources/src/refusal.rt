@@ -1,5 +1,5 @@
 ghost use Rattle.std.specs.Prelude.{◌≡◌, Some, IfOk};
-ghost use Rattle.ipam_resources.specs.Printed.{numbered_refusal, refusal_of};
+ghost use Rattle.ipam_resources.specs.Printed.{numbered_refusal, answer_refusal};
 
 use ipam_model::Answer;
 use ipam_text::Text;
@@ -29,7 +29,7 @@ pub enum Refusal {
 impl Refusal {
     /// The refusal that the answer is, where the change of a resource is answered so.
     pub fn of(answer: &Answer) -> Result<Option<Refusal>, AllocError>
-        ensures { IfOk result (λ found. found ≡ refusal_of answer.now) }
+        ensures { IfOk result (λ found. found ≡ answer_refusal answer.now) }
     {
         match answer {
             Answer::Refused(number, name) => numbered(*number, name),

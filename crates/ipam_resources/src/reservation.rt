@@ -5,7 +5,7 @@ ghost use Rattle.ipam_resources.specs.declared.member.Member.TheVariants as memb
 ghost use Rattle.ipam_resources.specs.Members.{required};
 ghost use Rattle.ipam_resources.specs.Values.{ranges_in};
 ghost use Rattle.ipam_record_text.specs.Reservations.{named_cidrs};
-ghost use Rattle.ipam_resources.specs.Resources.{reservation_reading, reservation_resource, reservation_in};
+ghost use Rattle.ipam_resources.specs.Resources.{reservation_reading, reservation_resource, reservation_resource_in};
 
 use crate::kind::ResourceKind;
 use crate::member::Member;
@@ -20,12 +20,12 @@ use serde_json::Value;
 use std::alloc::{AllocError, Global};
 
 /// The resource, where it is that of a reservation, or its first bad member.
-#[tactic(auto, unfolding(crate::specs::Resources::reservation_in))]
+#[tactic(auto, unfolding(crate::specs::Resources::reservation_resource_in))]
 pub(crate) fn reservation_in(
     alloc: Global,
     json: &Value,
 ) -> Result<Result<Resource, Member>, AllocError>
-    ensures { IfOk result (λ found. found ≡ reservation_in (view json.now)) }
+    ensures { IfOk result (λ found. found ≡ reservation_resource_in (view json.now)) }
 {
     match reservation_reading(alloc, json)? {
         Ok(reservation) => {

@@ -2,7 +2,7 @@
 ghost use Rattle.std.specs.Prelude.{◌≡◌, IfOk, option_map, codes};
 ghost use Rattle.serde_json.specs.Find.{as_str};
 ghost use Rattle.serde_json.specs.View.{view, items_view};
-ghost use Rattle.ipam_resources.specs.Values.{name_in, size_in, bound_in, selector_in, mode_of, mode_in, is_text, lists_text, is_empty, are_uses, uses_in};
+ghost use Rattle.ipam_resources.specs.Values.{name_in, size_in, bound_in, selector_value_in, mode_of, mode_value_in, is_text, lists_text, has_no_items, are_uses, uses_in};
 
 use ipam_json::{in_8_bits, in_32_bits};
 use ipam_pool::Mode;
@@ -37,9 +37,9 @@ pub(crate) fn bound_in(json: &Value) -> Option<u32>
 }
 
 /// The selector whose text the JSON is.
-#[tactic(auto, unfolding(crate::specs::Values::selector_in))]
+#[tactic(auto, unfolding(crate::specs::Values::selector_value_in))]
 pub(crate) fn selector_in(alloc: Global, json: &Value) -> Result<Option<NodeSelector>, AllocError>
-    ensures { IfOk result (λ found. found ≡ selector_in (view json.now)) }
+    ensures { IfOk result (λ found. found ≡ selector_value_in (view json.now)) }
 {
     match json.as_str() {
         Some(text) => selector_of(alloc, text),
@@ -48,9 +48,9 @@ pub(crate) fn selector_in(alloc: Global, json: &Value) -> Result<Option<NodeSele
 }
 
 /// The mode whose name the JSON is.
-#[tactic(auto, unfolding(crate::specs::Values::mode_in))]
+#[tactic(auto, unfolding(crate::specs::Values::mode_value_in))]
 pub(crate) fn mode_in(json: &Value) -> Option<Mode>
-    ensures { result ≡ mode_in (view json.now) }
+    ensures { result ≡ mode_value_in (view json.now) }
 {
     let text = json.as_str()?;
     mode_of(text)
@@ -79,7 +79,7 @@ fn are_uses(items: &[Value]) -> bool
 
 #[tactic(auto, using(crate::proofs::ValueLemmas::is_empty_view))]
 fn is_empty(items: &[Value]) -> bool
-    ensures { result ≡ is_empty (items_view items.now) }
+    ensures { result ≡ has_no_items (items_view items.now) }
 {
     items.is_empty()
 }

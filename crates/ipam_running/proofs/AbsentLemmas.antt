@@ -24,7 +24,7 @@ use Rattle.ipam_model.specs.Affinities.{release, release_found, release_once, re
 use Rattle.ipam_model.specs.Step.{all_left, as_word}
 use Rattle.ipam_claim.specs.declared.release.Stage.TheVariants.{Reads}
 use Rattle.ipam_claim.specs.declared.release.Reading.TheVariants as reading
-use Rattle.ipam_claim.specs.Release.{release_at, again}
+use Rattle.ipam_claim.specs.Release.{release_at, release_again}
 use Rattle.ipam_parts.proofs.TryLaws.{retried_once}
 use Rattle.ipam_model.specs.Reads.{affinity_said}
 
@@ -70,7 +70,7 @@ nothing_said node cidr Spent large can = refl
 at_none : (node : List ℕ) (cidr : CidrValue) (moment : ℕ) (said : Said) → affinity_said said ≡ None
     → after_reply (release_at (record { node = node; block = cidr }) all_left (Reads reading.Affinity)) moment said ≡ Ends (NoAffinity moment)
 at_none node cidr moment said none = ap (λ found. as_word release_stops (release_found (record { node = node; block = cidr })
-    (again (record { node = node; block = cidr }) all_left) all_left moment found)) none
+    (release_again (record { node = node; block = cidr }) all_left) all_left moment found)) none
 
 -- the read decides
 pub absent_hears : (node : List ℕ) (cidr : CidrValue) (moment : ℕ) (said : Said) → ADDRESSES_MAX < cidr_size cidr

@@ -12,13 +12,13 @@ use Rattle.ipam_add.specs.Adding.{add_rest}
 use Rattle.ipam_admin.specs.declared.admin.Stage.{Stage as AdminStage}
 use Rattle.ipam_admin.specs.declared.admin.Stage.TheVariants as admin
 use Rattle.ipam_admin.specs.Admin.{admin_rest, admin_at}
-use Rattle.ipam_assign.specs.AddThis.{this_rest, going}
+use Rattle.ipam_assign.specs.AddThis.{this_rest, this_going}
 use Rattle.ipam_assign.specs.declared.add_this.Stage.{Stage as ThisStage}
 use Rattle.ipam_assign.specs.declared.add_this.Stage.TheVariants as this
 use Rattle.ipam_assign.specs.declared.assigning.Stage.{Stage as AssignStage}
 use Rattle.ipam_assign.specs.declared.assigning.Stage.TheVariants as assign
 use Rattle.ipam_assign.specs.Assigning.{assigning_at, write_after, nothing}
-use Rattle.ipam_assign.specs.AddThis.{Going, then_next, next_for, wanted_at, looked_of, this_part, this_at}
+use Rattle.ipam_assign.specs.AddThis.{ThisGoing, this_then_next, this_next, wanted_at, looked_of, this_part, this_at}
 use Rattle.ipam_block.specs.Shape.{BlockValue}
 use Rattle.ipam_addr.specs.Shape.{CidrValue}
 use Rattle.ipam_claim.specs.declared.claim.Stage.{Stage as ClaimStage}
@@ -54,7 +54,7 @@ use Rattle.ipam_release.specs.declared.check.Stage.TheVariants as check
 use Rattle.ipam_release.specs.Check.{check_rest, check_at}
 use Rattle.ipam_release.specs.declared.del.Stage.{Stage as DelStage}
 use Rattle.ipam_release.specs.declared.del.Stage.TheVariants as del
-use Rattle.ipam_release.specs.Del.{del_rest, frees_at, then_blocks}
+use Rattle.ipam_release.specs.Del.{del_rest, del_at, then_blocks}
 use Rattle.ipam_model.specs.Remove.{del_stops, collect_stops}
 use Rattle.ipam_running.specs.declared.running.Kept.{Kept}
 use Rattle.ipam_running.specs.declared.running.Kept.TheVariants as kept
@@ -84,7 +84,7 @@ not_ended (Waits next) some = refl
 told_asks : {A : Type 0} (tell : A → Answer) (word : Word A) → IsSome (next_call word) → IsSome (next_call (telling tell word))
 told_asks tell word some = subst (λ call. IsSome call) (sym (asked_telling tell word)) some
 
-del_asks : (id : List ℕ) (stage : DelStage) → IsSome (next_call (frees_at id stage))
+del_asks : (id : List ℕ) (stage : DelStage) → IsSome (next_call (del_at id stage))
 del_asks id del.Reads = refl
 del_asks id (del.Frees f) =
     subst (λ call. IsSome call) (sym (asks_freeing del_stops (then_blocks id f.moment f.blocks.items) id f.freeing)) (freeing_asks id f.freeing)
@@ -140,19 +140,19 @@ assigning_asks id b revision (assign.Writes left) = refl
 assigning_asks id b revision (assign.Lowers lowering) =
     asks_on (lowering_rest id lowering) (onward nothing) (lowering_asks id lowering.cidr lowering.amount lowering.left lowering.stage)
 
-part_asks : (g : Going) (left : Left) (stage : ThisStage) → IsSome (next_call (this_part g left stage))
+part_asks : (g : ThisGoing) (left : Left) (stage : ThisStage) → IsSome (next_call (this_part g left stage))
 part_asks g left this.ReadsConfig = refl
 part_asks g left (this.ReadsPools configured) = refl
 part_asks g left (this.ReadsBlock ruled) = refl
 part_asks g left (this.Claims claims) =
-    asks_on (bound (claim_rest claims) (after_claim left)) (onward (then_next g))
+    asks_on (bound (claim_rest claims) (after_claim left)) (onward (this_then_next g))
     (asks_on (claim_rest claims) (after_claim left) (claim_asks claims.node claims.cidr claims.read claims.stage))
 part_asks g left (this.Assigns looked a) =
     asks_on (assigning_at g.request.attributes.handle a.block a.revision a.stage)
-    (onward (model.this_assigned (wanted_at g.request looked.address) (next_for g) (looked_of looked)))
+    (onward (model.this_assigned (wanted_at g.request looked.address) (this_next g) (looked_of looked)))
     (assigning_asks g.request.attributes.handle a.block a.revision a.stage)
 
-stage_asks : (g : Going) (left : Left) (stage : ThisStage) → IsSome (next_call (this_at (this_part g left stage)))
+stage_asks : (g : ThisGoing) (left : Left) (stage : ThisStage) → IsSome (next_call (this_at (this_part g left stage)))
 stage_asks g left stage = asks_on (this_part g left stage) _ (part_asks g left stage)
 
 -- ---- whichever it is
@@ -163,7 +163,7 @@ IsCollection k = (p : CollectProc) × (k ≡ kept.Collect p)
 -- everything but a collection has a next call
 asks : (k : Kept) → (IsCollection k → ⊥) → IsSome (next_call (rest_of k))
 asks (kept.Add p) other = told_asks _ (add_rest p) (stage_asks_add p.request p.turn p.stage)
-asks (kept.AddThis p) other = told_asks _ (this_rest p) (stage_asks (going p) p.left p.stage)
+asks (kept.AddThis p) other = told_asks _ (this_rest p) (stage_asks (this_going p) p.left p.stage)
 asks (kept.Del p) other = told_asks _ (del_rest p) (del_asks p.id p.stage)
 asks (kept.Check p) other = told_asks _ (check_rest p) (check_asks p.id p.stage)
 asks (kept.Release p) other = told_asks _ (release_rest p) (release_asks (tie_of p) p.left p.stage)

@@ -2,7 +2,7 @@
 use Rattle.std.proofs.Common.{◌≡◌, ◌∙◌, ℕ, ◌+◌, List, [], ◌∷◌, ◌++◌, length, Bool, true, false, refl, sym, ap, arith}
 use Rattle.std.specs.List.{list_any, slice_split}
 use Rattle.std.proofs.lemmas.Bool.{or_parts}
-use Rattle.ipam_script.specs.Lines.{ScriptLine, is_line_end, lines_of, placed, told, without_empty_end}
+use Rattle.ipam_script.specs.Lines.{ScriptLine, is_line_end, lines_of, placed, told_line, without_empty_end}
 
 pub cut : (line rest : List ℕ) → list_any is_line_end line ≡ false → slice_split is_line_end (line ++ 10 ∷ rest) ≡ line ∷ slice_split is_line_end rest
 cut [] rest h = refl
@@ -28,19 +28,19 @@ pub behind : (line x : List ℕ) (xs all : List (List ℕ)) → all ≡ x ∷ xs
 behind [] x xs all e = rw e refl
 behind (c ∷ line) x xs all e = rw e refl
 
-pub cut_first : (line rest : List ℕ) → list_any is_line_end line ≡ false → lines_of (line ++ 10 ∷ rest) ≡ told 0 line ∷ placed (length line + 1) (without_empty_end (slice_split is_line_end rest))
+pub cut_first : (line rest : List ℕ) → list_any is_line_end line ≡ false → lines_of (line ++ 10 ∷ rest) ≡ told_line 0 line ∷ placed (length line + 1) (without_empty_end (slice_split is_line_end rest))
 unfolding lines_of
 cut_first line rest h =
     let some = split_some rest in
     let tail = without_empty_end (slice_split is_line_end rest) in
     ap (λ parts. placed 0 (without_empty_end parts)) (cut line rest h)
     ∙ ap (placed 0) (behind line some.0 some.1 (slice_split is_line_end rest) some.2)
-    ∙ ap (λ n. told 0 line ∷ placed n tail) (omega arith)
+    ∙ ap (λ n. told_line 0 line ∷ placed n tail) (omega arith)
 
 pub cut_none : lines_of [] ≡ []
 unfolding lines_of
 cut_none = refl
 
-pub cut_last : (byte : ℕ) (line : List ℕ) → list_any is_line_end (byte ∷ line) ≡ false → lines_of (byte ∷ line) ≡ told 0 (byte ∷ line) ∷ []
+pub cut_last : (byte : ℕ) (line : List ℕ) → list_any is_line_end (byte ∷ line) ≡ false → lines_of (byte ∷ line) ≡ told_line 0 (byte ∷ line) ∷ []
 unfolding lines_of
 cut_last byte line h = ap (λ parts. placed 0 (without_empty_end parts)) (uncut (byte ∷ line) h)

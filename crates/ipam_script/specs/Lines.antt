@@ -24,13 +24,13 @@ is_long before line =
     nat_lt MOST_LINE_BYTES (length line)
     || (nat_lt 0 (length line) && nat_lt MOST_SCRIPT_BYTES (before + length line))
 
-abbrev pub told : (before : ℕ) → List ℕ → ScriptLine
-told before line = if is_long before line then Long else Whole line
+abbrev pub told_line : (before : ℕ) → List ℕ → ScriptLine
+told_line before line = if is_long before line then Long else Whole line
 
 -- the lines, the first of which begins after so many bytes
 abbrev pub placed : (before : ℕ) → List (List ℕ) → List ScriptLine
 placed before [] = []
-placed before (line ∷ lines) = told before line ∷ placed (before + length line + 1) lines
+placed before (line ∷ lines) = told_line before line ∷ placed (before + length line + 1) lines
 
 -- the lines of a script, in their order
 unfoldable pub lines_of : List ℕ → List ScriptLine

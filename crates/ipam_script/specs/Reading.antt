@@ -7,11 +7,11 @@ use Rattle.ipam_request_text.specs.Live.{live_reading}
 use Rattle.ipam_request_text.specs.Reading.{request_reading}
 use Rattle.ipam_script.specs.declared.line.Line.{Line}
 use Rattle.ipam_script.specs.declared.line.Line.TheVariants.{Row, Counter, Begin, Turn, Fail, Lose, Feed, Stop, Restart}
-use Rattle.ipam_script.specs.Words.{split_word, number_of, slot_of, turns_of}
+use Rattle.ipam_script.specs.Words.{split_word, number_of, slot_named, turns_of}
 
 -- the row, unless its key is no word
-abbrev pub row_of : (revision : ℕ) (key body : List ℕ) → Option Line
-row_of revision key body =
+abbrev pub row_line_of : (revision : ℕ) (key body : List ℕ) → Option Line
+row_line_of revision key body =
     only_if (nat_lt 0 (length key)) (Row (record { key = key; revision = revision; body = body }))
 
 -- `REVISION KEY BODY`, the body being all that is left
@@ -20,23 +20,23 @@ row_in text = do
   first ← split_word text
   revision ← number_of first.0
   second ← split_word first.1
-  row_of revision second.0 second.1
+  row_line_of revision second.0 second.1
 
 -- `SLOT REQUEST`, the request being all that is left
 unfoldable pub begin_in : List ℕ → Option Line
 begin_in text = do
   first ← split_word text
-  slot ← slot_of first.0
+  slot ← slot_named first.0
   request ← request_reading first.1
   Some (Begin slot request)
 
 -- one turn
 abbrev pub one_turn : List ℕ → Option Line
-one_turn text = option_map (λ slot. Turn slot 1) (slot_of text)
+one_turn text = option_map (λ slot. Turn slot 1) (slot_named text)
 
 unfoldable pub turns_said : (slot turns : List ℕ) → Option Line
 turns_said word turns = do
-  slot ← slot_of word
+  slot ← slot_named word
   count ← turns_of turns
   Some (Turn slot count)
 
@@ -64,14 +64,14 @@ feed_listed slot text None = timed_feed slot text
 unfoldable pub feed_in : List ℕ → Option Line
 feed_in text = do
   first ← split_word text
-  slot ← slot_of first.0
+  slot ← slot_named first.0
   feed_listed slot first.1 (live_reading first.1)
 
 abbrev pub named_call : (word rest : List ℕ) → Option Line
 named_call word rest =
-    if bytes_eq word (codes "fail") then option_map Fail (slot_of rest)
-    else if bytes_eq word (codes "lose") then option_map Lose (slot_of rest)
-    else if bytes_eq word (codes "stop") then option_map Stop (slot_of rest)
+    if bytes_eq word (codes "fail") then option_map Fail (slot_named rest)
+    else if bytes_eq word (codes "lose") then option_map Lose (slot_named rest)
+    else if bytes_eq word (codes "stop") then option_map Stop (slot_named rest)
     else None
 
 -- a line of more than one word, by its first

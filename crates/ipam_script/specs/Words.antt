@@ -25,11 +25,11 @@ abbrev pub number_of : List ℕ → Option ℕ
 number_of word = if is_index word then in_64_bits (digits_value 10 word) else None
 
 -- slots are counted from 0 to 63
-abbrev pub slot_in : ℕ → Option ℕ
-slot_in n = only_if (nat_lt n SLOTS) n
+abbrev pub slot_number_in : ℕ → Option ℕ
+slot_number_in n = only_if (nat_lt n SLOTS) n
 
-abbrev pub slot_of : List ℕ → Option ℕ
-slot_of word = option_and_then slot_in (number_of word)
+abbrev pub slot_named : List ℕ → Option ℕ
+slot_named word = option_and_then slot_number_in (number_of word)
 
 -- at least one turn, and at most 100,000
 abbrev pub turns_in : ℕ → Option ℕ

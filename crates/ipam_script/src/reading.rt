@@ -2,7 +2,7 @@
 ghost use Rattle.std.specs.Prelude.{◌≡◌, Err, Some, None, IfOk, codes};
 ghost use Rattle.ipam_request_text.specs.Live.{live_reading};
 ghost use Rattle.ipam_request_text.specs.Reading.{request_reading};
-ghost use Rattle.ipam_script.specs.Reading.{row_of, row_in, begin_in, one_turn, turns_said, turn_parts, turn_in, timed_feed, feed_listed, feed_in, named_call, named_line, lone_word, line_parts, text_reading, line_reading};
+ghost use Rattle.ipam_script.specs.Reading.{row_line_of, row_in, begin_in, one_turn, turns_said, turn_parts, turn_in, timed_feed, feed_listed, feed_in, named_call, named_line, lone_word, line_parts, text_reading, line_reading};
 
 use crate::fault::LineFault;
 use crate::line::Line;
@@ -117,7 +117,7 @@ fn row_in(alloc: Global, text: &str) -> Result<Option<Line>, AllocError>
 
 /// The row, unless its key is no word.
 fn row_of(alloc: Global, revision: u64, key: &str, body: &str) -> Result<Option<Line>, AllocError>
-    ensures { IfOk result (λ found. found ≡ row_of revision key.now body.now) }
+    ensures { IfOk result (λ found. found ≡ row_line_of revision key.now body.now) }
 {
     if key.is_empty() {
         return Ok(None);

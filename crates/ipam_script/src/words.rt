@@ -1,6 +1,6 @@
 //! The words and numbers of a line.
 ghost use Rattle.std.specs.Prelude.{◌≡◌, option_map};
-ghost use Rattle.ipam_script.specs.Words.{split_word, number_of, slot_in, slot_of, turns_in, turns_of};
+ghost use Rattle.ipam_script.specs.Words.{split_word, number_of, slot_number_in, slot_named, turns_in, turns_of};
 
 use ipam_json::is_index;
 use ipam_model::SLOTS;
@@ -24,14 +24,14 @@ pub(crate) fn number_of(word: &str) -> Option<u64>
 
 /// The slot that the word names.
 pub(crate) fn slot_of(word: &str) -> Option<u8>
-    ensures { result ≡ slot_of word.now }
+    ensures { result ≡ slot_named word.now }
 {
     let number = number_of(word)?;
     slot_in(number)
 }
 
 fn slot_in(number: u64) -> Option<u8>
-    ensures { result ≡ slot_in number }
+    ensures { result ≡ slot_number_in number }
 {
     if number < SLOTS as u64 {
         Some(number as u8)

@@ -5,7 +5,7 @@ use Rattle.std.specs.Ordering.{nat_cmp, match_ordering}
 use Rattle.std.specs.Cmp.Lexicographic.{slice_cmp}
 use Rattle.std.specs.List.{insert}
 use Rattle.ipam_select.specs.Formula.{Formula, Formulas, formula, formulas, conjunction, disjunction, negation}
-use Rattle.ipam_select.specs.Reading.{put, one_or}
+use Rattle.ipam_select.specs.Reading.{put_value, one_or}
 use Rattle.ipam_select.specs.declared.selector.Selector.{Selector, Not, And, Or, the_lemmas}
 
 abbrev Texts : Type 0
@@ -15,23 +15,23 @@ module _ (v : List ℕ) (all : Texts) (i : ℕ) (w : List ℕ) (h : i < length a
   here : drop i all ≡ w ∷ drop (i + 1) all
   here = drop_more all i w h ∙ ap (λ x. x ∷ drop (i + 1) all) (sym is)
 
-  pub put_less : slice_cmp nat_cmp v w ≡ Less → take i all ++ put v (drop i all) ≡ insert all i v
+  pub put_less : slice_cmp nat_cmp v w ≡ Less → take i all ++ put_value v (drop i all) ≡ insert all i v
   put_less e =
-      let o : match_ordering (slice_cmp nat_cmp v w) (v ∷ w ∷ drop (i + 1) all) (w ∷ drop (i + 1) all) (w ∷ put v (drop (i + 1) all)) ≡ v ∷ w ∷ drop (i + 1) all = rw e refl in
-      ap (λ xs. take i all ++ xs) (ap (put v) here ∙ o ∙ ap (λ xs. v ∷ xs) (sym here))
+      let o : match_ordering (slice_cmp nat_cmp v w) (v ∷ w ∷ drop (i + 1) all) (w ∷ drop (i + 1) all) (w ∷ put_value v (drop (i + 1) all)) ≡ v ∷ w ∷ drop (i + 1) all = rw e refl in
+      ap (λ xs. take i all ++ xs) (ap (put_value v) here ∙ o ∙ ap (λ xs. v ∷ xs) (sym here))
 
-  pub put_equal : slice_cmp nat_cmp v w ≡ Equal → take i all ++ put v (drop i all) ≡ all
+  pub put_equal : slice_cmp nat_cmp v w ≡ Equal → take i all ++ put_value v (drop i all) ≡ all
   put_equal e =
-      let o : match_ordering (slice_cmp nat_cmp v w) (v ∷ w ∷ drop (i + 1) all) (w ∷ drop (i + 1) all) (w ∷ put v (drop (i + 1) all)) ≡ w ∷ drop (i + 1) all = rw e refl in
-      ap (λ xs. take i all ++ xs) (ap (put v) here ∙ o ∙ sym here) ∙ take-append-drop i all
+      let o : match_ordering (slice_cmp nat_cmp v w) (v ∷ w ∷ drop (i + 1) all) (w ∷ drop (i + 1) all) (w ∷ put_value v (drop (i + 1) all)) ≡ w ∷ drop (i + 1) all = rw e refl in
+      ap (λ xs. take i all ++ xs) (ap (put_value v) here ∙ o ∙ sym here) ∙ take-append-drop i all
 
-  pub put_greater : slice_cmp nat_cmp v w ≡ Greater → take i all ++ put v (drop i all) ≡ take (i + 1) all ++ put v (drop (i + 1) all)
+  pub put_greater : slice_cmp nat_cmp v w ≡ Greater → take i all ++ put_value v (drop i all) ≡ take (i + 1) all ++ put_value v (drop (i + 1) all)
   put_greater e =
-      let o : match_ordering (slice_cmp nat_cmp v w) (v ∷ w ∷ drop (i + 1) all) (w ∷ drop (i + 1) all) (w ∷ put v (drop (i + 1) all)) ≡ w ∷ put v (drop (i + 1) all) = rw e refl in
+      let o : match_ordering (slice_cmp nat_cmp v w) (v ∷ w ∷ drop (i + 1) all) (w ∷ drop (i + 1) all) (w ∷ put_value v (drop (i + 1) all)) ≡ w ∷ put_value v (drop (i + 1) all) = rw e refl in
       let front : take (i + 1) all ≡ take i all ++ w ∷ [] = take_more all i w h ∙ ap (λ x. take i all ++ x ∷ []) (sym is) in
-      ap (λ xs. take i all ++ xs) (ap (put v) here ∙ o) ∙ sym (append_assoc (take i all) (w ∷ []) (put v (drop (i + 1) all))) ∙ ap (λ xs. xs ++ put v (drop (i + 1) all)) (sym front)
+      ap (λ xs. take i all ++ xs) (ap (put_value v) here ∙ o) ∙ sym (append_assoc (take i all) (w ∷ []) (put_value v (drop (i + 1) all))) ∙ ap (λ xs. xs ++ put_value v (drop (i + 1) all)) (sym front)
 
-pub put_last : (v : List ℕ) (all : Texts) → take (length all) all ++ put v (drop (length all) all) ≡ insert all (length all) v
+pub put_last : (v : List ℕ) (all : Texts) → take (length all) all ++ put_value v (drop (length all) all) ≡ insert all (length all) v
 put_last v all = rw (drop_all (length all) all (omega arith)) refl
 
 -- ---- one or several

@@ -1,7 +1,7 @@
 -- A literal, by its first token.
 use Rattle.std.proofs.Common.{◌≡◌, ℕ, zero, suc, ◌-◌, ◌<◌, Bool, List, [], ◌∷◌, None, nat_lt, refl, sym, ap, arith, lt-ltb}
 use Rattle.ipam_select.specs.Formula.{negation}
-use Rattle.ipam_select.specs.Reading.{parse_map, after, call_or_key, closed, choice_with, literal, after_mark}
+use Rattle.ipam_select.specs.Reading.{parse_map, behind_mark, call_or_key, closed, choice_with, literal, after_mark}
 use Rattle.ipam_select.specs.declared.token.Token.{Token}
 use Rattle.ipam_select.specs.declared.token.Token.TheVariants.{Word, Quoted}
 use Rattle.ipam_select.specs.declared.token.Mark as mark
@@ -17,10 +17,10 @@ unfolding literal
 literal-Quoted zero v ts = refl
 literal-Quoted (suc n) v ts = refl
 
-pub literal-Word : (n : ℕ) (w : List ℕ) (ts : List Token) → literal n (Word w ∷ ts) ≡ call_or_key (nat_lt 0 n) w ts (after Open ts)
+pub literal-Word : (n : ℕ) (w : List ℕ) (ts : List Token) → literal n (Word w ∷ ts) ≡ call_or_key (nat_lt 0 n) w ts (behind_mark Open ts)
 unfolding literal
 literal-Word zero w ts = refl
-literal-Word (suc n) w ts = ap (λ (more : Bool). call_or_key more w ts (after Open ts)) (sym (lt-ltb 0 (suc n) (omega arith)))
+literal-Word (suc n) w ts = ap (λ (more : Bool). call_or_key more w ts (behind_mark Open ts)) (sym (lt-ltb 0 (suc n) (omega arith)))
 
 pub literal-mark : (n : ℕ) (m : mark.Mark) (ts : List Token) → (m ≡ Bang → ⊥) → (m ≡ Open → ⊥) → after_mark n m ts ≡ None
 unfolding literal

@@ -2,7 +2,7 @@
 use Rattle.std.proofs.Common.{◌≡◌, ℕ, zero, suc, ◌<◌, ◌≤◌, Bool, true, false, ⊎_elim, List, [], ◌∷◌, length, Option, Some, None, if◌then◌else◌, codes, nat_lt, option_map, refl, sym, ap, ap₂, ◌∙◌, subst, arith, ltb-true, lt-ltb}
 use Rattle.ipam_select.specs.Formula.{Formula, every, has, is, negation, among, contains, starts, ends, conjunction, disjunction, Formulas, no_formula, formula_then}
 use Rattle.ipam_select.specs.Admitting.{same}
-use Rattle.ipam_select.specs.Reading.{Parse, parse_map, same_mark, after, after_word, value, put, values, values_or_none, set, if_word, operator_word, operator_of_mark, operator, is_negative, operand, negated, compared, has_key, called, call_or_key, closed, joined_more, joined, one_or, chain_with, choice_with, literal}
+use Rattle.ipam_select.specs.Reading.{Parse, parse_map, same_mark, behind_mark, after_word, value, put_value, values, values_or_none, set, if_word, operator_word, operator_of_mark, operator, is_negative, operand, negated, compared, has_key, called, call_or_key, closed, joined_more, joined, one_or, chain_with, choice_with, literal}
 use Rattle.ipam_select.specs.Grammar as phrase
 use Rattle.ipam_select.specs.Grammar.{Comparison, Literal, Chain, Choice, further_values, value_tokens, set_tokens, comparison_tokens, literal_tokens, chain_tokens, choice_tokens, comparison_depth, literal_depth, chain_depth, choice_depth, put_all, ascending, comparison_value, literal_value, chain_value, chain_members, choice_value, choice_members}
 use Rattle.ipam_select.specs.declared.token.Token.{Token}
@@ -32,7 +32,7 @@ same_mark_is Ands Ands e = refl
 same_mark_is Bars Bars e = refl
 same_mark_is _ _ e = absurd (cc)
 
-pub after_is : (m : mark.Mark) (ts rest : List Token) → after m ts ≡ Some rest → ts ≡ Mark m ∷ rest
+pub after_is : (m : mark.Mark) (ts rest : List Token) → behind_mark m ts ≡ Some rest → ts ≡ Mark m ∷ rest
 after_is m [] rest e = absurd (cc)
 after_is m (Word w ∷ ts) rest e = absurd (cc)
 after_is m (Quoted v ∷ ts) rest e = absurd (cc)
@@ -55,13 +55,13 @@ value_is (Word w ∷ ts) v rest e = absurd (cc)
 value_is (Quoted w ∷ ts) v rest e = ap (λ (p : List ℕ × List Token). Quoted p.0 ∷ p.1) (some_same (w, ts) (v, rest) e)
 
 -- one value more, or the last one
-pub values_more : (vs : List (List ℕ)) (ts : List Token) (v : List ℕ) (rest more : List Token) → value ts ≡ Some (v, rest) → after Comma rest ≡ Some more → values vs ts ≡ values (put v vs) more
+pub values_more : (vs : List (List ℕ)) (ts : List Token) (v : List ℕ) (rest more : List Token) → value ts ≡ Some (v, rest) → behind_mark Comma rest ≡ Some more → values vs ts ≡ values (put_value v vs) more
 values_more vs ts v rest more e f = ap (values vs) (value_is ts v rest e ∙ ap (λ xs. Quoted v ∷ xs) (after_is Comma rest more f))
 
-pub values_end : (vs : List (List ℕ)) (ts : List Token) (v : List ℕ) (rest more : List Token) → value ts ≡ Some (v, rest) → after CloseBrace rest ≡ Some more → values vs ts ≡ Some (put v vs, more)
+pub values_end : (vs : List (List ℕ)) (ts : List Token) (v : List ℕ) (rest more : List Token) → value ts ≡ Some (v, rest) → behind_mark CloseBrace rest ≡ Some more → values vs ts ≡ Some (put_value v vs, more)
 values_end vs ts v rest more e f = ap (values vs) (value_is ts v rest e ∙ ap (λ xs. Quoted v ∷ xs) (after_is CloseBrace rest more f))
 
-no_more : (vs : List (List ℕ)) (v : List ℕ) (rest : List Token) → after CloseBrace rest ≡ None → after Comma rest ≡ None → values vs (Quoted v ∷ rest) ≡ None
+no_more : (vs : List (List ℕ)) (v : List ℕ) (rest : List Token) → behind_mark CloseBrace rest ≡ None → behind_mark Comma rest ≡ None → values vs (Quoted v ∷ rest) ≡ None
 no_more vs v [] e f = refl
 no_more vs v (Word w ∷ rest) e f = refl
 no_more vs v (Quoted w ∷ rest) e f = refl
@@ -69,7 +69,7 @@ no_more vs v (Mark Comma ∷ rest) e f = absurd (cc)
 no_more vs v (Mark CloseBrace ∷ rest) e f = absurd (cc)
 no_more vs v (Mark _ ∷ rest) e f = refl
 
-pub values_stop : (vs : List (List ℕ)) (ts : List Token) (v : List ℕ) (rest : List Token) → value ts ≡ Some (v, rest) → after CloseBrace rest ≡ None → after Comma rest ≡ None → values vs ts ≡ None
+pub values_stop : (vs : List (List ℕ)) (ts : List Token) (v : List ℕ) (rest : List Token) → value ts ≡ Some (v, rest) → behind_mark CloseBrace rest ≡ None → behind_mark Comma rest ≡ None → values vs ts ≡ None
 values_stop vs ts v rest e f g = ap (values vs) (value_is ts v rest e) ∙ no_more vs v rest f g
 
 pub values_none : (vs : List (List ℕ)) (ts : List Token) → value ts ≡ None → values vs ts ≡ None
@@ -89,7 +89,7 @@ pub record AreValues (before : List (List ℕ)) (ts : List Token) (vs : List (Li
 
 values_read : (before : List (List ℕ)) (ts : List Token) (vs : List (List ℕ)) (rest : List Token) → values before ts ≡ Some (vs, rest) → AreValues before ts vs rest
 values_read before (Quoted v ∷ Mark Comma ∷ ts) vs rest e =
-    let more = values_read (put v before) ts vs rest e in
+    let more = values_read (put_value v before) ts vs rest e in
     record {
       first = v;
       further = more.first ∷ more.further;
@@ -97,7 +97,7 @@ values_read before (Quoted v ∷ Mark Comma ∷ ts) vs rest e =
       value = more.value;
     }
 values_read before (Quoted v ∷ Mark CloseBrace ∷ ts) vs rest e =
-    let same = some_same (put v before, ts) (vs, rest) e in
+    let same = some_same (put_value v before, ts) (vs, rest) e in
     record {
       first = v;
       further = [];
@@ -111,7 +111,7 @@ pub record IsSet (ts : List Token) (vs : List (List ℕ)) (rest : List Token) : 
   pub tokens : ts ≡ set_tokens listed rest
   pub value : ascending listed ≡ vs
 
-set_read_after : (inside : List Token) (o : Option (List Token)) (vs : List (List ℕ)) (rest : List Token) → after CloseBrace inside ≡ o → values_or_none inside o ≡ Some (vs, rest) → IsSet (Mark OpenBrace ∷ inside) vs rest
+set_read_after : (inside : List Token) (o : Option (List Token)) (vs : List (List ℕ)) (rest : List Token) → behind_mark CloseBrace inside ≡ o → values_or_none inside o ≡ Some (vs, rest) → IsSet (Mark OpenBrace ∷ inside) vs rest
 set_read_after inside None vs rest f e =
     let found = values_read [] inside vs rest e in
     record { listed = found.first ∷ found.further; tokens = ap (λ xs. Mark OpenBrace ∷ xs) found.tokens; value = found.value }
@@ -125,8 +125,8 @@ set_read_after inside (Some more) vs rest f e =
 
 pub set_read : (ts : List Token) (vs : List (List ℕ)) (rest : List Token) → set ts ≡ Some (vs, rest) → IsSet ts vs rest
 set_read ts vs rest e =
-    let found = and_then_some (λ inside. values_or_none inside (after CloseBrace inside)) (after OpenBrace ts) (vs, rest) e in
-    subst (λ xs. IsSet xs vs rest) (sym (after_is OpenBrace ts found.0 found.1)) (set_read_after found.0 (after CloseBrace found.0) vs rest refl found.2)
+    let found = and_then_some (λ inside. values_or_none inside (behind_mark CloseBrace inside)) (behind_mark OpenBrace ts) (vs, rest) e in
+    subst (λ xs. IsSet xs vs rest) (sym (after_is OpenBrace ts found.0 found.1)) (set_read_after found.0 (behind_mark CloseBrace found.0) vs rest refl found.2)
 
 -- ---- comparisons
 
@@ -279,7 +279,7 @@ has_read n w [] found s e = absurd (cc)
 has_read n w (Mark m ∷ ts) found s e = absurd (cc)
 has_read n w (Quoted v ∷ ts) found s e = absurd (cc)
 has_read n w (Word key ∷ ts) found s e =
-    let closing = map_some (λ rest. (has key, rest)) (after Close ts) found e in
+    let closing = map_some (λ rest. (has key, rest)) (behind_mark Close ts) found e in
     record {
       phrase = phrase.present key;
       tokens = same_word w (codes "has") (Mark Open ∷ Word key ∷ ts) s ∙ ap (λ xs. Word (codes "has") ∷ Mark Open ∷ Word key ∷ xs) (after_is Close ts closing.0 closing.1)
@@ -291,7 +291,7 @@ has_read n w (Word key ∷ ts) found s e =
 called_read : (n : ℕ) (w : List ℕ) (ts : List Token) (found : Found) → called w ts ≡ Some found → IsLiteral n (Word w ∷ Mark Open ∷ ts) found
 called_read n w ts found e =
     ⊎_elim (λ h.
-    let closing = map_some (λ rest. (every, rest)) (after Close ts) found h.1 in
+    let closing = map_some (λ rest. (every, rest)) (behind_mark Close ts) found h.1 in
     record {
       phrase = phrase.everything;
       tokens = same_word w (codes "all") (Mark Open ∷ ts) h.0 ∙ ap (λ xs. Word (codes "all") ∷ Mark Open ∷ xs) (after_is Close ts closing.0 closing.1)
@@ -303,7 +303,7 @@ called_read n w ts found e =
     ⊎_elim (λ h. has_read n w ts found h.0 h.1) (λ h2. absurd (none_is_not_some found h2.1)) (if_cases (same w (codes "has")) (has_key ts) None (Some found) h1.1))
     (if_cases (same w (codes "all")) _ _ (Some found) e)
 
-literal_read-word : (n : ℕ) (w : List ℕ) (ts : List Token) (o : Option (List Token)) (found : Found) → after Open ts ≡ o → call_or_key (nat_lt 0 n) w ts o ≡ Some found → IsLiteral n (Word w ∷ ts) found
+literal_read-word : (n : ℕ) (w : List ℕ) (ts : List Token) (o : Option (List Token)) (found : Found) → behind_mark Open ts ≡ o → call_or_key (nat_lt 0 n) w ts o ≡ Some found → IsLiteral n (Word w ∷ ts) found
 literal_read-word n w ts None found a e = compared_read n w ts found e
 literal_read-word n w ts (Some rest) found a e = subst (λ xs. IsLiteral n (Word w ∷ xs) found) (sym (after_is Open ts rest a)) (called_read n w rest found e)
 
@@ -330,7 +330,7 @@ record IsLiteralAt (n : ℕ) (ts : List Token) : Type 0 where
   literal : IsLiteral n ts (formula, after)
 
 chain_more : (n k : ℕ) (read : Parse Formula) → ReadsLiterals n read → ((ts : List Token) (fs : Formulas) (rest : List Token) → joined Ands read k ts ≡ Some (fs, rest) → IsChain n ts fs rest)
-    → (ts : List Token) (first : IsLiteralAt n ts) (o : Option (List Token)) (fs : Formulas) (rest : List Token) → after Ands first.after ≡ o → joined_more (joined Ands read k) first.formula first.after o ≡ Some (fs, rest) → IsChain n ts fs rest
+    → (ts : List Token) (first : IsLiteralAt n ts) (o : Option (List Token)) (fs : Formulas) (rest : List Token) → behind_mark Ands first.after ≡ o → joined_more (joined Ands read k) first.formula first.after o ≡ Some (fs, rest) → IsChain n ts fs rest
 chain_more n k read reads more ts first None fs rest a e =
     let same = some_same {A = Formulas × List Token} (formula_then first.formula no_formula, first.after) (fs, rest) e in
     record {
@@ -355,10 +355,10 @@ chain_read : (n : ℕ) (read : Parse Formula) → ReadsLiterals n read → (k : 
 unfolding joined
 chain_read n read reads zero ts fs rest e = absurd (cc)
 chain_read n read reads (suc k) ts fs rest e =
-    let found = and_then_some (λ p. joined_more (joined Ands read k) p.0 p.1 (after Ands p.1)) (read ts) (fs, rest) e in
+    let found = and_then_some (λ p. joined_more (joined Ands read k) p.0 p.1 (behind_mark Ands p.1)) (read ts) (fs, rest) e in
     let (f, end) = found.0 in
     let first : IsLiteralAt n ts = record { formula = f; after = end; literal = reads ts (f, end) found.1 } in
-    chain_more n k read reads (chain_read n read reads k) ts first (after Ands end) fs rest refl found.2
+    chain_more n k read reads (chain_read n read reads k) ts first (behind_mark Ands end) fs rest refl found.2
 
 pub chain_one : (c : Chain) → one_or conjunction (chain_members c) ≡ chain_value c
 chain_one (phrase.only l) = refl
@@ -396,7 +396,7 @@ chain_with_read n read reads ts found e =
     }
 
 choice_more : (n k : ℕ) (read : Parse Formula) → ((ts : List Token) (fs : Formulas) (rest : List Token) → joined Bars read k ts ≡ Some (fs, rest) → IsChoice n ts fs rest)
-    → (ts : List Token) (f : Formula) (end : List Token) → IsChainOf n ts (f, end) → (o : Option (List Token)) (fs : Formulas) (rest : List Token) → after Bars end ≡ o → joined_more (joined Bars read k) f end o ≡ Some (fs, rest) → IsChoice n ts fs rest
+    → (ts : List Token) (f : Formula) (end : List Token) → IsChainOf n ts (f, end) → (o : Option (List Token)) (fs : Formulas) (rest : List Token) → behind_mark Bars end ≡ o → joined_more (joined Bars read k) f end o ≡ Some (fs, rest) → IsChoice n ts fs rest
 choice_more n k read more ts f end first None fs rest a e =
     let same = some_same {A = Formulas × List Token} (formula_then f no_formula, end) (fs, rest) e in
     record {
@@ -421,9 +421,9 @@ choice_read : (n : ℕ) (read : Parse Formula) → ((ts : List Token) (found : F
 unfolding joined
 choice_read n read reads zero ts fs rest e = absurd (cc)
 choice_read n read reads (suc k) ts fs rest e =
-    let found = and_then_some (λ p. joined_more (joined Bars read k) p.0 p.1 (after Bars p.1)) (read ts) (fs, rest) e in
+    let found = and_then_some (λ p. joined_more (joined Bars read k) p.0 p.1 (behind_mark Bars p.1)) (read ts) (fs, rest) e in
     let (f, end) = found.0 in
-    choice_more n k read (choice_read n read reads k) ts f end (reads ts (f, end) found.1) (after Bars end) fs rest refl found.2
+    choice_more n k read (choice_read n read reads k) ts f end (reads ts (f, end) found.1) (behind_mark Bars end) fs rest refl found.2
 
 pub choice_with_read : (n : ℕ) (read : Parse Formula) → ReadsLiterals n read → (ts : List Token) (found : Found) → choice_with read ts ≡ Some found → IsChoiceOf n ts found
 choice_with_read n read reads ts found e =
@@ -450,9 +450,9 @@ refused_read n ts read reads found e =
 
 grouped_read : (n : ℕ) (ts : List Token) (read : Parse Formula) → ReadsLiterals n read → (found : Found) → closed (choice_with read ts) ≡ Some found → IsLiteral (suc n) (Mark Open ∷ ts) found
 grouped_read n ts read reads found e =
-    let inner = and_then_some (λ (p : Found). option_map (λ rest. (p.0, rest)) (after Close p.1)) (choice_with read ts) found e in
+    let inner = and_then_some (λ (p : Found). option_map (λ rest. (p.0, rest)) (behind_mark Close p.1)) (choice_with read ts) found e in
     let (f, end) = inner.0 in
-    let closing = map_some (λ (rest : List Token). (f, rest)) (after Close end) found inner.2 in
+    let closing = map_some (λ (rest : List Token). (f, rest)) (behind_mark Close end) found inner.2 in
     let c = choice_with_read n read reads ts (f, end) inner.1 in
     record {
       phrase = phrase.grouped c.phrase;
@@ -466,14 +466,14 @@ pub literal_read : (n : ℕ) → ReadsLiterals n (literal n)
 unfolding literal
 literal_read zero [] found e = absurd (cc)
 literal_read zero (Quoted v ∷ ts) found e = absurd (cc)
-literal_read zero (Word w ∷ ts) found e = literal_read-word 0 w ts (after Open ts) found refl e
+literal_read zero (Word w ∷ ts) found e = literal_read-word 0 w ts (behind_mark Open ts) found refl e
 literal_read zero (Mark Bang ∷ ts) found e = absurd (cc)
 literal_read zero (Mark Open ∷ ts) found e = absurd (cc)
 literal_read zero (Mark _ ∷ ts) found e = absurd (cc)
 literal_read (suc n) [] found e = absurd (cc)
 literal_read (suc n) (Quoted v ∷ ts) found e = absurd (cc)
 literal_read (suc n) (Word w ∷ ts) found e =
-    literal_read-word (suc n) w ts (after Open ts) found refl (ap (λ (more : Bool). call_or_key more w ts (after Open ts)) (lt-ltb 0 (suc n) (omega arith)) ∙ e)
+    literal_read-word (suc n) w ts (behind_mark Open ts) found refl (ap (λ (more : Bool). call_or_key more w ts (behind_mark Open ts)) (lt-ltb 0 (suc n) (omega arith)) ∙ e)
 literal_read (suc n) (Mark Bang ∷ ts) found e = refused_read n ts (literal n) (literal_read n) found e
 literal_read (suc n) (Mark Open ∷ ts) found e = grouped_read n ts (literal n) (literal_read n) found e
 literal_read (suc n) (Mark _ ∷ ts) found e = absurd (cc)

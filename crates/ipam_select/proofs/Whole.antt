@@ -1,7 +1,7 @@
 -- A phrase of the grammar is read, before whatever follows it.
 use Rattle.std.proofs.Common.{◌≡◌, ℕ, zero, suc, ◌-◌, ◌<◌, ◌≤◌, inl, inr, ⊎_elim, List, [], ◌∷◌, length, Some, None, codes, nat_lt, option_and_then, refl, sym, ap, ◌∙◌, subst, arith, lt-ltb}
 use Rattle.ipam_select.specs.Formula.{Formula, every, negation, among, conjunction, disjunction, Formulas, no_formula, formula_then}
-use Rattle.ipam_select.specs.Reading.{Parse, parse_map, after, put, values, set, compared, call_or_key, closed, joined_more, joined, one_or, chain_with, choice_with, literal, if_last, whole, reading}
+use Rattle.ipam_select.specs.Reading.{Parse, parse_map, behind_mark, put_value, values, set, compared, call_or_key, closed, joined_more, joined, one_or, chain_with, choice_with, literal, if_last, whole, reading}
 use Rattle.ipam_select.specs.Lexing.{tokens}
 use Rattle.ipam_select.specs.Grammar as phrase
 use Rattle.ipam_select.specs.Grammar.{Comparison, Literal, Chain, Choice, further_values, value_tokens, set_tokens, comparison_tokens, literal_tokens, chain_tokens, choice_tokens, comparison_depth, literal_depth, chain_depth, choice_depth, put_all, ascending, comparison_value, literal_value, chain_value, chain_members, choice_value, choice_members, is_blank_text, Spells, IsPhrase, Reads}
@@ -18,7 +18,7 @@ use Rattle.ipam_select.proofs.Spelling.{tokens_spelled, tokens_found}
 
 values_found : (before : List (List ℕ)) (v : List ℕ) (vs : List (List ℕ)) (rest : List Token) → values before (Quoted v ∷ further_values vs (Mark CloseBrace ∷ rest)) ≡ Some (put_all before (v ∷ vs), rest)
 values_found before v [] rest = refl
-values_found before v (w ∷ vs) rest = values_found (put v before) w vs rest
+values_found before v (w ∷ vs) rest = values_found (put_value v before) w vs rest
 
 set_found : (vs : List (List ℕ)) (rest : List Token) → set (set_tokens vs rest) ≡ Some (ascending vs, rest)
 set_found [] rest = refl
@@ -33,7 +33,7 @@ comparison_found key (phrase.holds v) n rest h = refl
 comparison_found key (phrase.begins v) n rest h = refl
 comparison_found key (phrase.finishes v) n rest h = refl
 
-not_called : (c : Comparison) (rest : List Token) → after Open (comparison_tokens c rest) ≡ None
+not_called : (c : Comparison) (rest : List Token) → behind_mark Open (comparison_tokens c rest) ≡ None
 not_called (phrase.equals v) rest = refl
 not_called (phrase.differs v) rest = refl
 not_called (phrase.one_of vs) rest = refl
@@ -44,21 +44,21 @@ not_called (phrase.finishes v) rest = refl
 
 -- ---- joined members
 
-last_found : (m : mark.Mark) (read : Parse Formula) (k : ℕ) (ts : List Token) (f : Formula) (rest : List Token) → 0 < k → read ts ≡ Some (f, rest) → after m rest ≡ None → joined m read k ts ≡ Some (formula_then f no_formula, rest)
+last_found : (m : mark.Mark) (read : Parse Formula) (k : ℕ) (ts : List Token) (f : Formula) (rest : List Token) → 0 < k → read ts ≡ Some (f, rest) → behind_mark m rest ≡ None → joined m read k ts ≡ Some (formula_then f no_formula, rest)
 unfolding joined
 last_found m read zero ts f rest h e a = absurd (omega arith)
 last_found m read (suc k) ts f rest h e a =
-    ap (option_and_then (λ p. joined_more (joined m read k) p.0 p.1 (after m p.1))) e ∙ ap (joined_more (joined m read k) f rest) a
+    ap (option_and_then (λ p. joined_more (joined m read k) p.0 p.1 (behind_mark m p.1))) e ∙ ap (joined_more (joined m read k) f rest) a
 
-next_found : (m : mark.Mark) (read : Parse Formula) (k : ℕ) (ts : List Token) (f : Formula) (rest next : List Token) (fs : Formulas) (end : List Token) → read ts ≡ Some (f, rest) → after m rest ≡ Some next
+next_found : (m : mark.Mark) (read : Parse Formula) (k : ℕ) (ts : List Token) (f : Formula) (rest next : List Token) (fs : Formulas) (end : List Token) → read ts ≡ Some (f, rest) → behind_mark m rest ≡ Some next
     → joined m read k next ≡ Some (fs, end) → joined m read (suc k) ts ≡ Some (formula_then f fs, end)
 unfolding joined
 next_found m read k ts f rest next fs end e a more =
-    ap (option_and_then (λ p. joined_more (joined m read k) p.0 p.1 (after m p.1))) e ∙ ap (joined_more (joined m read k) f rest) a ∙ ap (parse_map (formula_then f)) more
+    ap (option_and_then (λ p. joined_more (joined m read k) p.0 p.1 (behind_mark m p.1))) e ∙ ap (joined_more (joined m read k) f rest) a ∙ ap (parse_map (formula_then f)) more
 
 -- what follows doesn't go on with `&&` or `||`
 abbrev Ends : List Token → Type 0
-Ends rest = (after Ands rest ≡ None) × (after Bars rest ≡ None)
+Ends rest = (behind_mark Ands rest ≡ None) × (behind_mark Bars rest ≡ None)
 
 chain_whole : (c : Chain) (n : ℕ) (rest : List Token) → joined Ands (literal n) (length (chain_tokens c rest)) (chain_tokens c rest) ≡ Some (chain_members c, rest) → chain_with (literal n) (chain_tokens c rest) ≡ Some (chain_value c, rest)
 chain_whole c n rest e = ap (parse_map (one_or conjunction)) e ∙ ap (λ f. Some (f, rest)) (chain_one c)
@@ -78,7 +78,7 @@ mutual
       literal-Open n (choice_tokens c (Mark Close ∷ rest)) (omega arith) ∙ ap closed (choice_whole c (n - 1) (Mark Close ∷ rest)
       (choice_joined c (n - 1) (length (choice_tokens c (Mark Close ∷ rest))) (Mark Close ∷ rest) (omega arith) (refl, refl) (omega arith)))
 
-  chain_joined : (c : Chain) (n k : ℕ) (rest : List Token) → chain_depth c ≤ n → after Ands rest ≡ None → length (chain_tokens c rest) ≤ k → joined Ands (literal n) k (chain_tokens c rest) ≡ Some (chain_members c, rest)
+  chain_joined : (c : Chain) (n k : ℕ) (rest : List Token) → chain_depth c ≤ n → behind_mark Ands rest ≡ None → length (chain_tokens c rest) ≤ k → joined Ands (literal n) k (chain_tokens c rest) ≡ Some (chain_members c, rest)
   chain_joined (phrase.only l) n k rest h a long =
       last_found Ands (literal n) k (literal_tokens l rest) (literal_value l) rest (omega (arith, shorter_literal l rest)) (literal_found l n rest h) a
   chain_joined (phrase.both l c) n zero rest h a long = absurd (omega (arith, shorter_literal l (Mark Ands ∷ chain_tokens c rest)))

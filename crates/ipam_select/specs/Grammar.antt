@@ -5,7 +5,7 @@ use Rattle.ipam_select.specs.Formula.{Formula, every, has, is, negation, among, 
 use Rattle.ipam_select.specs.Words.{is_blank, is_key_byte, is_key, is_value, lacks}
 use Rattle.ipam_select.specs.Words as byte
 use Rattle.ipam_select.specs.Lexing.{is_at}
-use Rattle.ipam_select.specs.Reading.{put}
+use Rattle.ipam_select.specs.Reading.{put_value}
 use Rattle.ipam_select.specs.declared.token.Token.{Token}
 use Rattle.ipam_select.specs.declared.token.Token.TheVariants.{Word, Quoted, Mark}
 use Rattle.ipam_select.specs.declared.token.Mark as mark
@@ -124,7 +124,7 @@ abbrev mutual
 -- the values in ascending order, each once: one after another is put to those before
 abbrev pub put_all : List (List ℕ) → List (List ℕ) → List (List ℕ)
 put_all before [] = before
-put_all before (v ∷ vs) = put_all (put v before) vs
+put_all before (v ∷ vs) = put_all (put_value v before) vs
 
 abbrev pub ascending : List (List ℕ) → List (List ℕ)
 ascending vs = put_all [] vs

@@ -19,8 +19,8 @@ abbrev pub parse_map : {A B : Type 0} → (A → B) → Option (A × List Token)
 parse_map f r = option_map (λ p. (f p.0, p.1)) r
 
 -- a reader that reads nothing
-abbrev pub nothing : {A : Type 0} → Parse A
-nothing ts = None
+abbrev pub parses_nothing : {A : Type 0} → Parse A
+parses_nothing ts = None
 
 abbrev pub same_mark : mark.Mark → mark.Mark → Bool
 same_mark Open Open = true
@@ -42,9 +42,9 @@ is_mark m (Word w) = false
 is_mark m (Quoted v) = false
 
 -- what follows this token
-abbrev pub after : mark.Mark → List Token → Option (List Token)
-after m [] = None
-after m (t ∷ ts) = if is_mark m t then Some ts else None
+abbrev pub behind_mark : mark.Mark → List Token → Option (List Token)
+behind_mark m [] = None
+behind_mark m (t ∷ ts) = if is_mark m t then Some ts else None
 
 -- what follows this word
 abbrev pub after_word : List ℕ → List Token → Option (List Token)
@@ -60,14 +60,14 @@ value (Word w ∷ ts) = None
 value (Quoted v ∷ ts) = Some (v, ts)
 
 -- the values with this one among them: they ascend, and each stands once
-abbrev pub put : List ℕ → List (List ℕ) → List (List ℕ)
-put v [] = v ∷ []
-put v (w ∷ ws) = match_ordering (slice_cmp nat_cmp v w) (v ∷ w ∷ ws) (w ∷ ws) (w ∷ put v ws)
+abbrev pub put_value : List ℕ → List (List ℕ) → List (List ℕ)
+put_value v [] = v ∷ []
+put_value v (w ∷ ws) = match_ordering (slice_cmp nat_cmp v w) (v ∷ w ∷ ws) (w ∷ ws) (w ∷ put_value v ws)
 
 -- the values up to the closing brace, put to those before
 abbrev pub values : List (List ℕ) → Parse (List (List ℕ))
-values vs (Quoted v ∷ Mark Comma ∷ ts) = values (put v vs) ts
-values vs (Quoted v ∷ Mark CloseBrace ∷ ts) = Some (put v vs, ts)
+values vs (Quoted v ∷ Mark Comma ∷ ts) = values (put_value v vs) ts
+values vs (Quoted v ∷ Mark CloseBrace ∷ ts) = Some (put_value v vs, ts)
 values vs _ = None
 
 -- the values in braces, after the opening one
@@ -76,7 +76,7 @@ values_or_none ts (Some rest) = Some ([], rest)
 values_or_none ts None = values [] ts
 
 abbrev pub set : Parse (List (List ℕ))
-set ts = option_and_then (λ inside. values_or_none inside (after CloseBrace inside)) (after OpenBrace ts)
+set ts = option_and_then (λ inside. values_or_none inside (behind_mark CloseBrace inside)) (behind_mark OpenBrace ts)
 
 -- the operator, where this word is the next token
 abbrev pub if_word : List ℕ → Operator → Parse Operator
@@ -130,13 +130,13 @@ compared more key ts =
 abbrev pub has_key : Parse Formula
 has_key [] = None
 has_key (Mark m ∷ ts) = None
-has_key (Word key ∷ ts) = option_map (λ rest. (has key, rest)) (after Close ts)
+has_key (Word key ∷ ts) = option_map (λ rest. (has key, rest)) (behind_mark Close ts)
 has_key (Quoted v ∷ ts) = None
 
 -- a word and a parenthesis, and what follows them
 abbrev pub called : List ℕ → Parse Formula
 called w ts =
-    if same w (codes "all") then option_map (λ rest. (every, rest)) (after Close ts)
+    if same w (codes "all") then option_map (λ rest. (every, rest)) (behind_mark Close ts)
     else if same w (codes "has") then has_key ts
     else None
 
@@ -145,7 +145,7 @@ call_or_key more w ts (Some rest) = called w rest
 call_or_key more w ts None = compared more w ts
 
 abbrev pub closed : Option (Formula × List Token) → Option (Formula × List Token)
-closed found = option_and_then (λ p. option_map (λ rest. (p.0, rest)) (after Close p.1)) found
+closed found = option_and_then (λ p. option_map (λ rest. (p.0, rest)) (behind_mark Close p.1)) found
 
 abbrev pub marked_literal : Parse Formula → Parse Formula → mark.Mark → Parse Formula
 marked_literal deeper group Bang ts = parse_map negation (deeper ts)
@@ -156,7 +156,7 @@ marked_literal deeper group _ ts = None
 abbrev pub literal_with : Parse Formula → Parse Formula → Bool → Parse Formula
 literal_with deeper group more [] = None
 literal_with deeper group more (Mark m ∷ ts) = marked_literal deeper group m ts
-literal_with deeper group more (Word w ∷ ts) = call_or_key more w ts (after Open ts)
+literal_with deeper group more (Word w ∷ ts) = call_or_key more w ts (behind_mark Open ts)
 literal_with deeper group more (Quoted v ∷ ts) = None
 
 abbrev pub joined_more : Parse Formulas → Formula → List Token → Option (List Token) → Option (Formulas × List Token)
@@ -166,7 +166,7 @@ joined_more more f rest (Some ts) = parse_map (formula_then f) (more ts)
 -- One or several, joined by this token. The number bounds the turns: the count of the tokens is always enough.
 unfoldable pub joined : mark.Mark → Parse Formula → ℕ → Parse Formulas
 joined m read zero ts = None
-joined m read (suc n) ts = option_and_then (λ p. joined_more (joined m read n) p.0 p.1 (after m p.1)) (read ts)
+joined m read (suc n) ts = option_and_then (λ p. joined_more (joined m read n) p.0 p.1 (behind_mark m p.1)) (read ts)
 
 -- one stands for itself
 abbrev pub one_or : (Formulas → Formula) → Formulas → Formula
@@ -181,7 +181,7 @@ choice_with literal ts = parse_map (one_or disjunction) (joined Bars (chain_with
 
 -- with `!` and `(` at most so deep
 unfoldable pub literal : ℕ → Parse Formula
-literal zero = literal_with nothing nothing false
+literal zero = literal_with parses_nothing parses_nothing false
 literal (suc n) = literal_with (literal n) (choice_with (literal n)) true
 
 -- a literal that begins with this mark, after it

@@ -1,6 +1,6 @@
 ghost use Rattle.std.specs.Prelude.{◌≡◌, IfOk, option_map, nat_lt};
 ghost use Rattle.ipam_select.specs.Formula.{formula, is, among, contains, starts, ends};
-ghost use Rattle.ipam_select.specs.Reading.{operator, operator_word, operand, negated, compared, called, has_key, call_or_key, after, if_word, parse_map, set, value};
+ghost use Rattle.ipam_select.specs.Reading.{operator, operator_word, operand, negated, compared, called, has_key, call_or_key, behind_mark, if_word, parse_map, set, value};
 ghost use Rattle.ipam_select.specs.declared.token.Mark.TheVariants.{Open};
 
 use crate::front::{next, take, take_value, take_word};
@@ -19,7 +19,7 @@ pub(crate) fn worded(
     depth: usize,
 ) -> Result<Option<Selector>, AllocError>
     ensures { IfOk result (λ found. option_map (λ s. (formula s, tokens.new.items)) found
-        ≡ call_or_key (nat_lt 0 depth) word tokens.old.items (after Open tokens.old.items)) }
+        ≡ call_or_key (nat_lt 0 depth) word tokens.old.items (behind_mark Open tokens.old.items)) }
 {
     if take(tokens, Mark::Open) {
         Ok(called(tokens, &word))

@@ -1,5 +1,5 @@
 ghost use Rattle.std.specs.Prelude.{◌≡◌, ◌∷◌, ◌⊎◌, [], Option, Some, None, true, false, IfOk, MatchOption, MatchBool, option_map, is_some, length};
-ghost use Rattle.ipam_select.specs.Reading.{after, after_word, value};
+ghost use Rattle.ipam_select.specs.Reading.{behind_mark, after_word, value};
 
 use crate::token::{Mark, Token};
 use ipam_text::Text;
@@ -14,7 +14,7 @@ pub(crate) fn next(tokens: &mut VecDeque<Token>) -> Option<Token>
 
 /// Whether this token stands in front.
 pub(crate) fn is_at(tokens: &VecDeque<Token>, mark: Mark) -> bool
-    ensures { result ≡ is_some (after mark tokens.now.items) }
+    ensures { result ≡ is_some (behind_mark mark tokens.now.items) }
 {
     match tokens.front() {
         Some(token) => token.is_mark(mark),
@@ -24,8 +24,8 @@ pub(crate) fn is_at(tokens: &VecDeque<Token>, mark: Mark) -> bool
 
 /// Takes this token, where it stands in front.
 pub(crate) fn take(tokens: &mut VecDeque<Token>, mark: Mark) -> bool
-    ensures { MatchBool result (after mark tokens.old.items ≡ Some tokens.new.items)
-        ((after mark tokens.old.items ≡ None) × (tokens.new.items ≡ tokens.old.items)) }
+    ensures { MatchBool result (behind_mark mark tokens.old.items ≡ Some tokens.new.items)
+        ((behind_mark mark tokens.old.items ≡ None) × (tokens.new.items ≡ tokens.old.items)) }
 {
     if is_at(tokens, mark) {
         drop(next(tokens));

@@ -1,6 +1,6 @@
 ghost use Rattle.std.specs.Prelude.{◌≡◌, ◌≤◌, [], Some, None, IfOk, OnOk, MatchOption, option_map, length};
 ghost use Rattle.std.specs.List.{insert};
-ghost use Rattle.ipam_select.specs.Reading.{put, values, set};
+ghost use Rattle.ipam_select.specs.Reading.{put_value, values, set};
 
 use crate::front::{take, take_value};
 use crate::token::{Mark, Token};
@@ -48,7 +48,7 @@ fn values(alloc: Global, tokens: &mut VecDeque<Token>) -> Result<Option<Vec<Text
 
 /// Puts the text among these, which ascend, unless it is there.
 fn put(all: &mut Vec<Text>, text: Text) -> Result<(), AllocError>
-    ensures { OnOk result (all.new.items ≡ put text all.old.items) }
+    ensures { OnOk result (all.new.items ≡ put_value text all.old.items) }
 {
     if let Some(at) = place(all, &text) {
         all.insert(at, text)?;
@@ -58,8 +58,8 @@ fn put(all: &mut Vec<Text>, text: Text) -> Result<(), AllocError>
 
 /// Where the text belongs among these; none where it is there.
 fn place(all: &[Text], text: &Text) -> Option<usize>
-    ensures { MatchOption result (put text.now all.now ≡ all.now)
-        (λ at. (at ≤ length all.now) × (put text.now all.now ≡ insert all.now at text.now)) }
+    ensures { MatchOption result (put_value text.now all.now ≡ all.now)
+        (λ at. (at ≤ length all.now) × (put_value text.now all.now ≡ insert all.now at text.now)) }
 {
     for at in 0..all.len() {
         match text.cmp(&all[at]) {

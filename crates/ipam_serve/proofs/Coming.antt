@@ -26,7 +26,7 @@ use Rattle.ipam_serve.specs.declared.ran.Ran.TheVariants.{Answered, Waits}
 use Rattle.ipam_serve.specs.declared.turns.Feeding.{Feeding}
 use Rattle.ipam_serve.specs.declared.turns.Feeding.TheVariants as feeding
 use Rattle.ipam_serve.specs.Faults.{IfAnswered, OnWaits}
-use Rattle.ipam_serve.specs.Gains.{Took, asked_in, is_waiting}
+use Rattle.ipam_serve.specs.Gains.{TookTurns, request_running, is_waiting}
 use Rattle.ipam_serve.specs.Turns.{Called, Fed, answer_told}
 use Rattle.ipam_serve.proofs.Slots.{early-so, fed-due, untold-runs, waits-so}
 use Rattle.ipam_serve.proofs.Turning.{told-can, took-known, took-none}
@@ -58,7 +58,7 @@ module _ {T E : Type 0} (old new : PassValue) (fault : SharedFault E) (spent : (
   pub knows-err : UnlessSpent {T = T} {E = E} (Err fault) (IsTold old new) → IsTold old new
   knows-err knows = unless-err T fault (IsTold old new) (not-spent {T = T} fault old.left spent enough) knows
 
-  pub took-err : IsSamePass old new → UnlessSpent {T = T} {E = E} (Err fault) (SeesNext old [] new) → UnlessSpent {T = T} {E = E} (Err fault) (IsTold old new) → UnlessSpent {T = T} {E = E} (Err fault) (new.left + 1 ≡ old.left) → Took old [] 1 new
+  pub took-err : IsSamePass old new → UnlessSpent {T = T} {E = E} (Err fault) (SeesNext old [] new) → UnlessSpent {T = T} {E = E} (Err fault) (IsTold old new) → UnlessSpent {T = T} {E = E} (Err fault) (new.left + 1 ≡ old.left) → TookTurns old [] 1 new
   took-err same sees knows left =
       took-none old new same (sees-none sees) (unless-err T fault (IsTold old new) (not-spent {T = T} fault old.left spent enough) knows) (unless-err T fault (new.left + 1 ≡ old.left) (not-spent {T = T} fault old.left spent enough) left) enough
 
@@ -67,7 +67,7 @@ module _ {T E : Type 0} (old new : PassValue) (fault : SharedFault E) (spent : (
 
 -- ---- a call
 
-called-done : (old new : PassValue) (c : OneCall) → c.slot ≡ old.slot → IsSamePass old new → SeesNext old (entry.Called c ∷ []) new → Lawful new.base new.seen → Took old (entry.Called c ∷ []) 0 new → Called old (option_map Answered c.answer) new
+called-done : (old new : PassValue) (c : OneCall) → c.slot ≡ old.slot → IsSamePass old new → SeesNext old (entry.Called c ∷ []) new → Lawful new.base new.seen → TookTurns old (entry.Called c ∷ []) 0 new → Called old (option_map Answered c.answer) new
 called-done old new c own same sees lawful took = from c.answer refl
   where
     from : (answer : Option Answer) → c.answer ≡ answer → Called old (option_map Answered answer) new
@@ -94,7 +94,7 @@ called-so gives faults before after old new told (inr f) same sees knows left en
 still-waits : (old new : PassValue) → IsSamePass old new → SeesNext old [] new → is_waiting (runs_in old) ≡ true → is_waiting (runs_in new) ≡ true
 still-waits old new same sees waits = ap is_waiting (untold-runs old new same sees) ∙ waits
 
-pub waits-called : (old new : PassValue) (r : Result (Option Ran) Broken) (why : Type 0) → IfOk r (λ ran. (ran ≡ Some Waits) × why) → (why → state_of (runs_in old) ≡ state.Waiting) → IsSamePass old new → SeesNext old [] new → Took old [] 1 new → IfOk r (λ ran. Called old ran new)
+pub waits-called : (old new : PassValue) (r : Result (Option Ran) Broken) (why : Type 0) → IfOk r (λ ran. (ran ≡ Some Waits) × why) → (why → state_of (runs_in old) ≡ state.Waiting) → IsSamePass old new → SeesNext old [] new → TookTurns old [] 1 new → IfOk r (λ ran. Called old ran new)
 waits-called old new (Ok ran) why h waiting same sees took =
     subst (λ (o : Option Ran). Called old o new) (sym h.0)
     (took, still-waits old new same sees (waits-so (runs_in old) (waiting h.1)))
@@ -110,7 +110,7 @@ fed-so old new told at live is same sees knows left enough lawful = (
 
 pub too-soon-so : (old new : PassValue) (live : List (List ℕ)) (at : ℕ) (r : Result Feeding Broken) (why : ℕ → ℕ → Type 0) → IfOk r (λ one. (one ≡ feeding.TooSoon) × (since grace : ℕ) × why since grace)
     → ((since grace : ℕ) → why since grace → WaitsFor (runs_in old) (record { at = since; grace = grace }) × (at < since + grace))
-    → is_waiting (runs_in old) ≡ true → IsSamePass old new → SeesNext old [] new → Took old [] 1 new → IfOk r (λ one. Fed old live at one new)
+    → is_waiting (runs_in old) ≡ true → IsSamePass old new → SeesNext old [] new → TookTurns old [] 1 new → IfOk r (λ one. Fed old live at one new)
 too-soon-so old new live at (Ok one) why h early waits same sees took =
     let times = early h.1 h.2 h.3 in
     subst (λ (f : Feeding). Fed old live at f new) (sym h.0)
@@ -120,13 +120,13 @@ too-soon-so old new live at (Err broken) why h early waits same sees took = tt
 -- ---- a stop
 
 pub stop-so : (old new : PassValue) (told : Option Entry) → ((◌≡◌ {A = Result (Option Entry) Spent} (Ok told) (Ok None)) ↔ (0 < old.left × runs_in old ≡ None)) → IfSome told (λ stopped. stopped ≡ entry.Stopped old.slot) → IsSome (runs_in old)
-    → IsSamePass old new → SeesNext old (told_if told) new → IsTold old new → new.left + 1 ≡ old.left → 2 ≤ old.left → Took old (entry.Stopped old.slot ∷ []) 0 new
+    → IsSamePass old new → SeesNext old (told_if told) new → IsTold old new → new.left + 1 ≡ old.left → 2 ≤ old.left → TookTurns old (entry.Stopped old.slot ∷ []) 0 new
 stop-so old new None idle is runs same sees knows left enough = let none = (idle.0 refl).1 in absurd (cc (none, runs))
 stop-so old new (Some told) idle is runs same sees knows left enough = took-known old new told (entry.Stopped old.slot) is same sees knows left enough
 
 -- ---- what ran
 
-pub ran-can : (old new : PassValue) (ran : Ran) (first : Option Request) → Called old (Some ran) new → asked_in (runs_in old) ≡ first → (request : Request) → first ≡ Some request → IfAnswered ran (CanAnswer request)
+pub ran-can : (old new : PassValue) (ran : Ran) (first : Option Request) → Called old (Some ran) new → request_running (runs_in old) ≡ first → (request : Request) → first ≡ Some request → IfAnswered ran (CanAnswer request)
 ran-can old new (Answered told) first called same request asked = called.1 request (same ∙ asked)
 ran-can old new Waits first called same request asked = tt
 

@@ -12,19 +12,19 @@ use Rattle.ipam_serve.specs.declared.ran.Broken.TheVariants.{Halted, Worn, Memor
 use Rattle.ipam_serve.specs.declared.ran.Ran.{Ran}
 use Rattle.ipam_serve.specs.declared.ran.Ran.TheVariants.{Answered, Waits}
 use Rattle.ipam_serve.specs.Faults.{Halts, IfAnswered, OnWaits, OnWorn, answer_ran, spared_by}
-use Rattle.ipam_serve.specs.Gains.{Took, asked_after, asked_in, is_early, is_waiting}
-use Rattle.ipam_serve.specs.Runs.{Does, DoesPart, FeedsList, Taker, WentOn}
+use Rattle.ipam_serve.specs.Gains.{TookTurns, asked_after, request_running, is_early, is_waiting}
+use Rattle.ipam_serve.specs.Runs.{DoesDeed, DoesPart, FeedsList, Taker, WentOn}
 use Rattle.ipam_serve.specs.Spans.{Begins, Calls, Deed, Feeds, list_deed, own_feed}
 use Rattle.ipam_serve.specs.Turns.{Fed}
 use Rattle.ipam_serve.specs.declared.turns.Feeding.TheVariants as feeding
 use Rattle.ipam_serve.proofs.Running.{begins-calls, begun-then, does-part, fed-asked, fed-then, not-begun, own-part, own-then, same-some, waiting-some, went-asked, went-idle}
 use Rattle.ipam_serve.proofs.Turning.{passed-nothing, took-rest, took-spared}
 
-module _ (old : Taker) (middle : PassValue) (new : Taker) (request : Request) (r : Result Ran Broken) (took : Took old.pass (entry.Began old.pass.slot request ∷ []) 0 middle) where
-  pub ran-begun : IfOk r (λ ran. WentOn (record { pass = middle; turns = old.turns }) (answer_ran ran) (spared_by ran) new) → IfOk r (λ ran. Does old (Begins request) (answer_ran ran) (spared_by ran) new)
+module _ (old : Taker) (middle : PassValue) (new : Taker) (request : Request) (r : Result Ran Broken) (took : TookTurns old.pass (entry.Began old.pass.slot request ∷ []) 0 middle) where
+  pub ran-begun : IfOk r (λ ran. WentOn (record { pass = middle; turns = old.turns }) (answer_ran ran) (spared_by ran) new) → IfOk r (λ ran. DoesDeed old (Begins request) (answer_ran ran) (spared_by ran) new)
   ran-begun = from r
     where
-      from : (s : Result Ran Broken) → IfOk s (λ ran. WentOn (record { pass = middle; turns = old.turns }) (answer_ran ran) (spared_by ran) new) → IfOk s (λ ran. Does old (Begins request) (answer_ran ran) (spared_by ran) new)
+      from : (s : Result Ran Broken) → IfOk s (λ ran. WentOn (record { pass = middle; turns = old.turns }) (answer_ran ran) (spared_by ran) new) → IfOk s (λ ran. DoesDeed old (Begins request) (answer_ran ran) (spared_by ran) new)
       from (Ok ran) h = begun-then old middle new request (answer_ran ran) (spared_by ran) took h
       from (Err broken) h = tt
 
@@ -40,8 +40,8 @@ ran-idle old new (Ok (Answered told)) h = went-idle old new told 0 h
 ran-idle old new (Ok Waits) h = tt
 ran-idle old new (Err broken) h = tt
 
-pub ran-waits : (old new : Taker) (request : Request) (r : Result Ran Broken) → asked_in (runs_in old.pass) ≡ Some request → IfOk r (λ ran. WentOn old (answer_ran ran) (spared_by ran) new) → IfOk r (λ ran. OnWaits ran (is_waiting (runs_in new.pass) ≡ true))
-    → IfOk r (λ ran. OnWaits ran ((is_waiting (runs_in new.pass) ≡ true) × (asked_in (runs_in new.pass) ≡ Some request)))
+pub ran-waits : (old new : Taker) (request : Request) (r : Result Ran Broken) → request_running (runs_in old.pass) ≡ Some request → IfOk r (λ ran. WentOn old (answer_ran ran) (spared_by ran) new) → IfOk r (λ ran. OnWaits ran (is_waiting (runs_in new.pass) ≡ true))
+    → IfOk r (λ ran. OnWaits ran ((is_waiting (runs_in new.pass) ≡ true) × (request_running (runs_in new.pass) ≡ Some request)))
 ran-waits old new request (Ok (Answered told)) asked h w = tt
 ran-waits old new request (Ok Waits) asked h w = (w, went-asked old new 1 h ∙ asked)
 ran-waits old new request (Err broken) asked h w = tt
@@ -86,7 +86,7 @@ fed-broken old middle new live at (Err broken) fed h =
     subst (λ (b : Bool). DoesPart old (list_deed b live at) 1 new) (sym fed.1) (feeds-broken old middle new live at fed h)
 
 -- what was fed still runs
-pub fed-runs : (old new : PassValue) (live : List (List ℕ)) (at : ℕ) → is_waiting (runs_in old) ≡ true → Fed old live at feeding.Fed new → asked_in (runs_in new) ≡ asked_in (runs_in old) × IsSome (runs_in new)
+pub fed-runs : (old new : PassValue) (live : List (List ℕ)) (at : ℕ) → is_waiting (runs_in old) ≡ true → Fed old live at feeding.Fed new → request_running (runs_in new) ≡ request_running (runs_in old) × IsSome (runs_in new)
 fed-runs old new live at waits (took, due) =
     let same = fed-asked old new live at took in
     (same, same-some (runs_in new) (runs_in old) same (waiting-some (runs_in old) waits))
@@ -96,7 +96,7 @@ fed-runs old new live at waits (took, due) =
 pub nothing-part : (taker : Taker) (deed : Deed) → DoesPart taker deed 1 taker
 nothing-part taker deed = not-begun taker taker.pass deed (took-rest taker.pass)
 
-pub does-spared : (old new : Taker) (deed : Deed) (answer : Option Answer) (few more : ℕ) → few ≤ more → Does old deed answer few new → Does old deed answer more new
+pub does-spared : (old new : Taker) (deed : Deed) (answer : Option Answer) (few more : ℕ) → few ≤ more → DoesDeed old deed answer few new → DoesDeed old deed answer more new
 does-spared old new deed answer few more less d = record {
   entries = d.entries;
   did = d.did;
@@ -104,14 +104,14 @@ does-spared old new deed answer few more less d = record {
   passed = d.passed;
 }
 
-pub call-answered : (old new : Taker) (request : Request) (told : Answer) → Does old (Begins request) (Some told) 0 new → Does old (Calls request) (Some told) 1 new
+pub call-answered : (old new : Taker) (request : Request) (told : Answer) → DoesDeed old (Begins request) (Some told) 0 new → DoesDeed old (Calls request) (Some told) 1 new
 call-answered old new request told d = does-spared old new (Calls request) (Some told) 0 1 (omega arith) (begins-calls old new request (Some told) 0 d)
 
-pub call-fed : (old middle new : Taker) (request : Request) (r : Result Answer Broken) → Does old (Begins request) None 1 middle → IfOk r (λ told. Does middle (own_feed request) (Some told) 0 new) → IfOk r (λ told. Does old (Calls request) (Some told) 1 new)
+pub call-fed : (old middle new : Taker) (request : Request) (r : Result Answer Broken) → DoesDeed old (Begins request) None 1 middle → IfOk r (λ told. DoesDeed middle (own_feed request) (Some told) 0 new) → IfOk r (λ told. DoesDeed old (Calls request) (Some told) 1 new)
 call-fed old middle new request (Ok told) a b = own-then old middle new request told a b
 call-fed old middle new request (Err broken) a b = tt
 
-pub call-broken : (old middle new : Taker) (request : Request) (r : Result Answer Broken) → Does old (Begins request) None 1 middle → OnErr r (DoesPart middle (own_feed request) 1 new) → OnErr r (DoesPart old (Calls request) 2 new)
+pub call-broken : (old middle new : Taker) (request : Request) (r : Result Answer Broken) → DoesDeed old (Begins request) None 1 middle → OnErr r (DoesPart middle (own_feed request) 1 new) → OnErr r (DoesPart old (Calls request) 2 new)
 call-broken old middle new request (Ok told) a b = tt
 call-broken old middle new request (Err broken) a b = own-part old middle new request a b
 
@@ -148,6 +148,6 @@ worn-from (Err Worn) p q s from a b = from a b
 worn-from (Err Memory) p q s from a b = tt
 
 -- what runs still does, where the slot gained no entry
-pub still-runs : (old new : PassValue) (spared : ℕ) → Took old [] spared new → IsSome (runs_in old) → IsSome (runs_in new)
+pub still-runs : (old new : PassValue) (spared : ℕ) → TookTurns old [] spared new → IsSome (runs_in old) → IsSome (runs_in new)
 unfolding asked_after
 still-runs old new spared took runs = same-some (runs_in new) (runs_in old) took.runs runs

@@ -21,10 +21,10 @@ use Rattle.ipam_kept.specs.Turning.{IsDone, IsFailed}
 use Rattle.ipam_shared.specs.PassValue.{PassValue}
 use Rattle.ipam_shared.specs.Passes.{IsSamePass}
 use Rattle.ipam_shared.specs.Turning.{SeesNext, WasDone, met}
-use Rattle.ipam_serve.specs.Gains.{Gained, Took, calls_in, of_slot}
+use Rattle.ipam_serve.specs.Gains.{Gained, TookTurns, calls_in, of_slot}
 use Rattle.ipam_serve.specs.Keeping.{CameOf, IsByKeeper, KeeperFailed, MakesCalls, WasMade, WasMadeIfCall, WereMade}
-use Rattle.ipam_serve.specs.Spans.{AnswersWith, Begins, Calls, Deed, Did, Feeds, Nothing, Span, Stops}
-use Rattle.ipam_serve.specs.Runs.{Does, Taker}
+use Rattle.ipam_serve.specs.Spans.{AnswersWith, Begins, Calls, Deed, Did, Feeds, Nothing, SlotSpan, Stops}
+use Rattle.ipam_serve.specs.Runs.{DoesDeed, Taker}
 use Rattle.ipam_serve.proofs.Entries.{of_slot-own}
 use Rattle.ipam_serve.proofs.Turning.{took-nothing}
 
@@ -66,7 +66,7 @@ module _ {D : Type 0} (tells : Tells D) (gives : Gives D) (faults : D → ℕ) w
       (quiet-made base slot more earlier (quiet-rest slot told more e), λ own. quiet-entry base slot told more (more ++ earlier) e own)
 
   -- turns that made no call
-  pub makes-quiet : (old new : PassValue) (entries : List Entry) (spared : ℕ) → Took old entries spared new → calls_in entries ≡ 0 → MakesCalls tells gives faults old new
+  pub makes-quiet : (old new : PassValue) (entries : List Entry) (spared : ℕ) → TookTurns old entries spared new → calls_in entries ≡ 0 → MakesCalls tells gives faults old new
   makes-quiet old new entries spared took none = record {
     same = took.same;
     more = took.gained.more;
@@ -74,19 +74,19 @@ module _ {D : Type 0} (tells : Tells D) (gives : Gives D) (faults : D → ℕ) w
     made = quiet-made old.base old.slot took.gained.more old.seen (subst (λ l. calls_in l ≡ 0) (sym took.gained.own) none);
   }
 
-  pub makes-none : (old new : PassValue) (spared : ℕ) → Took old [] spared new → MakesCalls tells gives faults old new
+  pub makes-none : (old new : PassValue) (spared : ℕ) → TookTurns old [] spared new → MakesCalls tells gives faults old new
   unfolding calls_in
   makes-none old new spared took = makes-quiet old new [] spared took refl
 
-  pub makes-begun : (old new : PassValue) (request : Request) → Took old (entry.Began old.slot request ∷ []) 0 new → MakesCalls tells gives faults old new
+  pub makes-begun : (old new : PassValue) (request : Request) → TookTurns old (entry.Began old.slot request ∷ []) 0 new → MakesCalls tells gives faults old new
   unfolding calls_in
   makes-begun old new request took = makes-quiet old new (entry.Began old.slot request ∷ []) 0 took refl
 
-  pub makes-fed : (old new : PassValue) (live : List (List ℕ)) (at : ℕ) → Took old (entry.Fed old.slot at live ∷ []) 0 new → MakesCalls tells gives faults old new
+  pub makes-fed : (old new : PassValue) (live : List (List ℕ)) (at : ℕ) → TookTurns old (entry.Fed old.slot at live ∷ []) 0 new → MakesCalls tells gives faults old new
   unfolding calls_in
   makes-fed old new live at took = makes-quiet old new (entry.Fed old.slot at live ∷ []) 0 took refl
 
-  pub makes-stopped : (old new : PassValue) → Took old (entry.Stopped old.slot ∷ []) 0 new → MakesCalls tells gives faults old new
+  pub makes-stopped : (old new : PassValue) → TookTurns old (entry.Stopped old.slot ∷ []) 0 new → MakesCalls tells gives faults old new
   unfolding calls_in
   makes-stopped old new took = makes-quiet old new (entry.Stopped old.slot ∷ []) 0 took refl
 
@@ -194,7 +194,7 @@ calls-answer slot told (entry.Began other request ∷ earlier) h = absurd h
 calls-answer slot told (entry.Fed other at live ∷ earlier) h = absurd h
 calls-answer slot told (entry.Stopped other ∷ earlier) h = absurd h
 
-span-answers : (slot : ℕ) (first : Entry) (told : Answer) (entries : List Entry) → Span slot first (Some told) entries → Answering slot told entries
+span-answers : (slot : ℕ) (first : Entry) (told : Answer) (entries : List Entry) → SlotSpan slot first (Some told) entries → Answering slot told entries
 span-answers slot first told entries s =
     let a = calls-answer slot told s.calls s.reaches in
     record { call = a.call; earlier = a.earlier ++ first ∷ []; are = s.are ∙ ap (λ l. l ++ first ∷ []) a.are; own = a.own; answers = a.answers }
@@ -261,7 +261,7 @@ module _ {D : Type 0} (tells : Tells D) (gives : Gives D) (faults : D → ℕ) w
       f = failed-in old.base old.slot a.call a.earlier m.more old.seen (ap (of_slot old.slot) more ∙ gained.own ∙ a.are) a.answers m.made
 
   -- what came at the keeper of a line that was done
-  pub came-so : (old new : Taker) (deed : Deed) (answer : Option Answer) (spared : ℕ) → Does old deed answer spared new → MakesCalls tells gives faults old.pass new.pass → CameOf tells gives faults answer old.pass new.pass
+  pub came-so : (old new : Taker) (deed : Deed) (answer : Option Answer) (spared : ℕ) → DoesDeed old deed answer spared new → MakesCalls tells gives faults old.pass new.pass → CameOf tells gives faults answer old.pass new.pass
   came-so old new deed answer spared d m = record {
     calls = m;
     fault = λ e. answer-failed old.pass new.pass deed d.entries (subst (λ (o : Option Answer). Did old.pass.slot deed o d.entries) e d.did) d.took.gained m;

@@ -7,6 +7,7 @@ pub mod Coming
 pub mod Looking
 pub mod Running
 pub mod Going
+pub mod Wearing
 pub mod Onward
 pub mod LineParts
 pub mod Routing

@@ -1,5 +1,5 @@
 -- What a line comes to.
-use Rattle.std.proofs.Common.{◌≡◌, ◌↔◌, ◌⊎◌, ◌<◌, ◌≤◌, ◌^◌, ℕ, arith, Bool, true, false, inl, inr, List, [], ◌∷◌, Option, Some, None, Result, Ok, Err, IsSome, IsTrue, refl, sym, ap, subst}
+use Rattle.std.proofs.Common.{◌≡◌, ◌↔◌, ◌⊎◌, ◌<◌, ◌≤◌, ◌^◌, ℕ, suc, arith, Bool, true, false, inl, inr, List, [], ◌∷◌, Option, Some, None, Result, Ok, Err, IsSome, IsTrue, refl, sym, ap, subst}
 use Rattle.std.specs.Prelude.{IfOk, OnErr, option_map}
 use Rattle.ipam_io.specs.Readings.{prepend_known_readings}
 use Rattle.ipam_addr.specs.Shape.{AddrValue}
@@ -9,7 +9,7 @@ use Rattle.ipam_model.specs.declared.answer.Answer.{Answer}
 use Rattle.ipam_model.specs.declared.entry.Entry.TheVariants as entry
 use Rattle.ipam_model.specs.declared.request.AddRequest.{AddRequest}
 use Rattle.ipam_model.specs.declared.request.Request.{Request}
-use Rattle.ipam_model.specs.Cluster.{Running}
+use Rattle.ipam_model.specs.Cluster.{RunningRequest}
 use Rattle.ipam_model.specs.History.{moment_of}
 use Rattle.cni_types.specs.declared.calls.Look.{Look}
 use Rattle.cni_types.specs.declared.calls.Look.TheVariants.{Version, Add, Del, Check, Gc, Status}
@@ -25,39 +25,39 @@ use Rattle.ipam_session.specs.declared.replies.Reply.{Reply}
 use Rattle.ipam_session.specs.declared.replies.Reply.TheVariants as reply
 use Rattle.ipam_session.specs.declared.wish.Wish.{Wish}
 use Rattle.ipam_session.specs.declared.wish.Wish.TheVariants as wish
-use Rattle.ipam_session.specs.Calls.{begun_at, call_begun, call_told}
-use Rattle.ipam_session.specs.Lines.{called, reply_unless_unread}
+use Rattle.ipam_session.specs.Calls.{begun_at, call_begun, call_reply_told}
+use Rattle.ipam_session.specs.Lines.{called_reply, reply_unless_unread}
 use Rattle.ipam_shared.specs.PassValue.{PassValue}
 use Rattle.ipam_shared.specs.Passes.{runs_in}
 use Rattle.ipam_serve.specs.declared.ran.Broken.{Broken}
 use Rattle.ipam_serve.specs.declared.ran.Ran.{Ran}
 use Rattle.ipam_serve.specs.declared.ran.Ran.TheVariants.{Answered, Waits}
 use Rattle.ipam_serve.specs.Faults.{IfAnswered, IsWorn, OnWaits, answer_ran, spared_by}
-use Rattle.ipam_serve.specs.Gains.{Gained, Took, asked_after, calls_in, is_early, is_waiting}
-use Rattle.ipam_serve.specs.Lines.{Breaks, IsUnanswered, Replies, Server, TakesTurn, TellsRun, WearsOut, deed_of, wants_entry, is_collect, reading, reads_clock, reply_fed, reply_ran, server_at, standing, timed}
-use Rattle.ipam_serve.specs.Runs.{Does, DoesPart, FeedsList, IsAtRest, Taker}
-use Rattle.ipam_serve.specs.Spans.{Begins, Calls, Deed, Feeds, IsTimeless, Nothing, list_deed}
+use Rattle.ipam_serve.specs.Gains.{Gained, Spends, TookTurns, asked_after, calls_in, is_early, is_waiting}
+use Rattle.ipam_serve.specs.Lines.{BreaksOff, IsUnanswered, Replies, Server, TakesTurn, TellsRun, WearsOut, deed_of, wants_entry, is_collect, clock_reading, reads_clock, reply_fed, reply_ran, server_at, spared_in, standing_after, timed, waits_of_call}
+use Rattle.ipam_serve.specs.Runs.{DoesDeed, DoesPart, FeedsList, IsAtRest, Taker}
+use Rattle.ipam_serve.specs.Spans.{Begins, Calls, Deed, Feeds, IsTimeless, Nothing, list_deed, waits_of}
 use Rattle.ipam_serve.proofs.Going.{does-spared}
 use Rattle.ipam_serve.proofs.Running.{does-part, none-asked, part-spared}
-use Rattle.ipam_serve.proofs.Turning.{passed-nothing, took-nothing, took-rest, took-spared}
+use Rattle.ipam_serve.proofs.Turning.{passed-nothing, spends-same, took-nothing, took-rest, took-spared}
 
 -- ---- what runs
 
-pub none-waits : (o : Option Running) → o ≡ None → is_waiting o ≡ false
+pub none-waits : (o : Option RunningRequest) → o ≡ None → is_waiting o ≡ false
 none-waits o e = ap is_waiting e
 
-pub rests-waits : (o : Option Running) (b : Bool) → IsAtRest o → (IsTrue b ↔ IsSome o) → b ≡ true → is_waiting o ≡ true
+pub rests-waits : (o : Option RunningRequest) (b : Bool) → IsAtRest o → (IsTrue b ↔ IsSome o) → b ≡ true → is_waiting o ≡ true
 rests-waits None b rests knows e = absurd (cc (knows.0 e))
 rests-waits (Some running) b (inl none) knows e = absurd (cc none)
 rests-waits (Some running) b (inr waits) knows e = waits
 
-pub rests-none : (o : Option Running) (b : Bool) → (IsTrue b ↔ IsSome o) → b ≡ false → o ≡ None
+pub rests-none : (o : Option RunningRequest) (b : Bool) → (IsTrue b ↔ IsSome o) → b ≡ false → o ≡ None
 rests-none None b knows e = refl
 rests-none (Some running) b knows e = let yes = knows.1 refl in absurd (cc (yes, e))
 
 -- ---- nothing is done
 
-does-nothing : (taker : Taker) → Does taker Nothing None 1 taker
+does-nothing : (taker : Taker) → DoesDeed taker Nothing None 1 taker
 does-nothing taker = record { entries = []; did = (refl, refl); took = took-rest taker.pass; passed = passed-nothing taker.turns }
 
 pub reads-none : (ahead : Option (ℕ → ℕ)) → ahead ≡ prepend_known_readings [] ahead
@@ -66,13 +66,13 @@ reads-none (Some ahead) = refl
 
 module _ (server : Server) where
   nothing : (asked : Option Wish) (one : Reply) (opened : List ℕ) → deed_of asked (runs_in server.taker.pass) 0 ≡ Nothing → reads_clock asked (runs_in server.taker.pass) ≡ false
-      → TakesTurn asked server.taker.pass server.taker.pass → reply_unless_unread asked (standing server.taker.pass server.taker.pass 0 None opened) ≡ Some one → Replies asked one server server
+      → TakesTurn asked server.taker.pass server.taker.pass → reply_unless_unread asked (standing_after server.taker.pass server.taker.pass 0 None opened) ≡ Some one → Replies asked one server server
   nothing asked one opened deed reads turned replied = record {
     at = 0;
     answer = None;
     opened = opened;
-    does = subst (λ (d : Deed). Does server.taker d None 1 server.taker) (sym deed) (does-nothing server.taker);
-    reads = subst (λ (b : Bool). server.ahead ≡ prepend_known_readings (reading b 0) server.ahead) (sym reads) (reads-none server.ahead);
+    does = subst (λ (d : Deed). DoesDeed server.taker d None 1 server.taker) (sym deed) (does-nothing server.taker);
+    reads = subst (λ (b : Bool). server.ahead ≡ prepend_known_readings (clock_reading b 0) server.ahead) (sym reads) (reads-none server.ahead);
     turned = turned;
     replied = replied;
   }
@@ -96,7 +96,7 @@ module _ (server : Server) where
   opened-replies text = nothing (Some wish.Opened) (reply.Opened text) text refl refl tt refl
 
   -- as far as it came, which is nowhere
-  pub breaks-at-once : (asked : Option Wish) → Breaks asked server server
+  pub breaks-at-once : (asked : Option Wish) → BreaksOff asked server server
   breaks-at-once asked = record {
     at = 0;
     does = record { entries = []; did = inl refl; took = took-spared server.taker.pass server.taker.pass [] 1 2 (omega arith) (took-rest server.taker.pass); passed = passed-nothing server.taker.turns };
@@ -105,14 +105,14 @@ module _ (server : Server) where
 
 -- ---- requests
 
-module _ (old new : Server) (request : Request) (at : ℕ) (idle : is_waiting (runs_in old.taker.pass) ≡ false) (reads : old.ahead ≡ prepend_known_readings (reading (is_collect request) at) new.ahead) where
-  request-reads : old.ahead ≡ prepend_known_readings (reading (reads_clock (Some (wish.Request request)) (runs_in old.taker.pass)) at) new.ahead
+module _ (old new : Server) (request : Request) (at : ℕ) (idle : is_waiting (runs_in old.taker.pass) ≡ false) (reads : old.ahead ≡ prepend_known_readings (clock_reading (is_collect request) at) new.ahead) where
+  request-reads : old.ahead ≡ prepend_known_readings (clock_reading (reads_clock (Some (wish.Request request)) (runs_in old.taker.pass)) at) new.ahead
   request-reads = rw idle reads
 
-  request-did : (answer : Option Answer) (spared : ℕ) → spared ≤ 1 → Does old.taker (Begins (timed at request)) answer spared new.taker → Does old.taker (deed_of (Some (wish.Request request)) (runs_in old.taker.pass) at) answer 1 new.taker
+  request-did : (answer : Option Answer) (spared : ℕ) → spared ≤ 1 → DoesDeed old.taker (Begins (timed at request)) answer spared new.taker → DoesDeed old.taker (deed_of (Some (wish.Request request)) (runs_in old.taker.pass) at) answer 1 new.taker
   request-did answer spared few d = rw idle (does-spared old.taker new.taker (Begins (timed at request)) answer spared 1 few d)
 
-  pub request-replies : (ran : Ran) → Does old.taker (Begins (timed at request)) (answer_ran ran) (spared_by ran) new.taker → IfAnswered ran (λ told. runs_in new.taker.pass ≡ None) → OnWaits ran (is_waiting (runs_in new.taker.pass) ≡ true)
+  pub request-replies : (ran : Ran) → DoesDeed old.taker (Begins (timed at request)) (answer_ran ran) (spared_by ran) new.taker → IfAnswered ran (λ told. runs_in new.taker.pass ≡ None) → OnWaits ran (is_waiting (runs_in new.taker.pass) ≡ true)
       → Replies (Some (wish.Request request)) (reply_ran ran) old new
   request-replies (Answered told) d none waits = record {
     at = at;
@@ -133,7 +133,7 @@ module _ (old new : Server) (request : Request) (at : ℕ) (idle : is_waiting (r
     replied = rw (idle, waits) refl;
   }
 
-  pub request-breaks : DoesPart old.taker (Begins (timed at request)) 1 new.taker → Breaks (Some (wish.Request request)) old new
+  pub request-breaks : DoesPart old.taker (Begins (timed at request)) 1 new.taker → BreaksOff (Some (wish.Request request)) old new
   request-breaks d = record {
     at = at;
     does = rw idle (part-spared old.taker new.taker (Begins (timed at request)) 1 2 (omega arith) d);
@@ -143,7 +143,7 @@ module _ (old new : Server) (request : Request) (at : ℕ) (idle : is_waiting (r
 -- ---- a second list
 
 module _ (old new : Server) (live : List (List ℕ)) (at : ℕ) (waits : is_waiting (runs_in old.taker.pass) ≡ true) (reads : old.ahead ≡ prepend_known_readings (at ∷ []) new.ahead) where
-  feed-reads : old.ahead ≡ prepend_known_readings (reading (reads_clock (Some (wish.Feed live)) (runs_in old.taker.pass)) at) new.ahead
+  feed-reads : old.ahead ≡ prepend_known_readings (clock_reading (reads_clock (Some (wish.Feed live)) (runs_in old.taker.pass)) at) new.ahead
   feed-reads = rw waits reads
 
   pub feed-replies : (told : Option Answer) → FeedsList old.taker live at told new.taker → Replies (Some (wish.Feed live)) (reply_fed told) old new
@@ -166,7 +166,7 @@ module _ (old new : Server) (live : List (List ℕ)) (at : ℕ) (waits : is_wait
     replied = rw (waits, due) refl;
   }
 
-  pub feed-breaks : DoesPart old.taker (list_deed (is_early (runs_in old.taker.pass) at) live at) 1 new.taker → Breaks (Some (wish.Feed live)) old new
+  pub feed-breaks : DoesPart old.taker (list_deed (is_early (runs_in old.taker.pass) at) live at) 1 new.taker → BreaksOff (Some (wish.Feed live)) old new
   feed-breaks d = record {
     at = at;
     does = rw waits (part-spared old.taker new.taker (list_deed (is_early (runs_in old.taker.pass) at) live at) 1 2 (omega arith) d);
@@ -177,13 +177,13 @@ pub feed-rests : (old new : Taker) (live : List (List ℕ)) (at : ℕ) (told : O
 feed-rests old new live at None (early, still, d) = inr still
 feed-rests old new live at (Some told) (due, none, d) = inl none
 
-pub ran-rests : (o : Option Running) (ran : Ran) → IfAnswered ran (λ told. o ≡ None) → OnWaits ran (is_waiting o ≡ true) → IsAtRest o
+pub ran-rests : (o : Option RunningRequest) (ran : Ran) → IfAnswered ran (λ told. o ≡ None) → OnWaits ran (is_waiting o ≡ true) → IsAtRest o
 ran-rests o (Answered told) none waits = inl none
 ran-rests o Waits none waits = inr waits
 
 -- ---- a stop
 
-pub stop-replies : (server : Server) (new : PassValue) → is_waiting (runs_in server.taker.pass) ≡ true → Took server.taker.pass (entry.Stopped server.taker.pass.slot ∷ []) 0 new
+pub stop-replies : (server : Server) (new : PassValue) → is_waiting (runs_in server.taker.pass) ≡ true → TookTurns server.taker.pass (entry.Stopped server.taker.pass.slot ∷ []) 0 new
     → Replies (Some wish.Stop) reply.Stopped server (server_at new server.taker.turns server.ahead)
 unfolding calls_in
 stop-replies server new waits took = record {
@@ -201,9 +201,9 @@ stop-replies server new waits took = record {
   replied = rw waits refl;
 }
 
-pub stop-breaks : (server : Server) (new : PassValue) → new ≡ server.taker.pass → Breaks (Some wish.Stop) server (server_at new server.taker.turns server.ahead)
+pub stop-breaks : (server : Server) (new : PassValue) → new ≡ server.taker.pass → BreaksOff (Some wish.Stop) server (server_at new server.taker.turns server.ahead)
 stop-breaks server new same =
-    subst (λ (p : PassValue). Breaks (Some wish.Stop) server (server_at p server.taker.turns server.ahead)) (sym same)
+    subst (λ (p : PassValue). BreaksOff (Some wish.Stop) server (server_at p server.taker.turns server.ahead)) (sym same)
     (breaks-at-once server (Some wish.Stop))
 
 -- ---- a CNI call
@@ -247,14 +247,14 @@ module _ (server : Server) (env : List Pair) (stdin : List ℕ) (idle : is_waiti
     replied = rw (idle, begun) t.tells;
   }
 
-  pub call-breaks : (new : Taker) (request : Request) (version : versions.Version) → call_begun env stdin ≡ Some (Runs request version) → DoesPart server.taker (Calls request) 2 new → Breaks (Some (wish.Cni env stdin)) server (record { taker = new; ahead = server.ahead })
+  pub call-breaks : (new : Taker) (request : Request) (version : versions.Version) → call_begun env stdin ≡ Some (Runs request version) → DoesPart server.taker (Calls request) 2 new → BreaksOff (Some (wish.Cni env stdin)) server (record { taker = new; ahead = server.ahead })
   call-breaks new request version begun d = record { at = 0; does = rw (idle, begun) d; reads = inl refl }
 
   pub call-some-replies : (new : Taker) (request : Request) (version : versions.Version) (r : Result Reply Broken) → call_begun env stdin ≡ Some (Runs request version) → IfOk r (λ one. TellsRun request version server.taker one new) → IfOk r (λ one. Replies (Some (wish.Cni env stdin)) one server (record { taker = new; ahead = server.ahead }))
   call-some-replies new request version (Ok one) begun t = call-replies new request version one begun t
   call-some-replies new request version (Err broken) begun t = tt
 
-  pub call-some-broken : (new : Taker) (request : Request) (version : versions.Version) (r : Result Reply Broken) → call_begun env stdin ≡ Some (Runs request version) → OnErr r (DoesPart server.taker (Calls request) 2 new) → OnErr r (Breaks (Some (wish.Cni env stdin)) server (record { taker = new; ahead = server.ahead }))
+  pub call-some-broken : (new : Taker) (request : Request) (version : versions.Version) (r : Result Reply Broken) → call_begun env stdin ≡ Some (Runs request version) → OnErr r (DoesPart server.taker (Calls request) 2 new) → OnErr r (BreaksOff (Some (wish.Cni env stdin)) server (record { taker = new; ahead = server.ahead }))
   call-some-broken new request version (Ok one) begun d = tt
   call-some-broken new request version (Err broken) begun d = call-breaks new request version begun d
 
@@ -264,46 +264,47 @@ pub waits-alone : (p q : Type 0) (ran : Ran) → OnWaits ran (p × q) → OnWait
 waits-alone p q (Answered told) h = tt
 waits-alone p q Waits h = h.0
 
-pub stopped-idle : (old new : PassValue) → Took old (entry.Stopped old.slot ∷ []) 0 new → runs_in new ≡ None
+pub stopped-idle : (old new : PassValue) → TookTurns old (entry.Stopped old.slot ∷ []) 0 new → runs_in new ≡ None
 unfolding asked_after
 stopped-idle old new took = none-asked (runs_in new) took.runs
 
-pub told-so : (old new : Taker) (request : Request) (version : versions.Version) (told : Answer) (r : Result Reply Broken) → Does old (Calls request) (Some told) 1 new → IfOk r (λ one. option_map called (call_told request version told) ≡ Some one) → IfOk r (λ one. TellsRun request version old one new)
+pub told-so : (old new : Taker) (request : Request) (version : versions.Version) (told : Answer) (r : Result Reply Broken) → DoesDeed old (Calls request) (Some told) 1 new → IfOk r (λ one. option_map called_reply (call_reply_told request version told) ≡ Some one) → IfOk r (λ one. TellsRun request version old one new)
 told-so old new request version told (Ok one) d t = record { told = told; does = d; tells = t }
 told-so old new request version told (Err broken) d t = tt
 
-pub told-broken : (old new : Taker) (request : Request) (told : Answer) (r : Result Reply Broken) → Does old (Calls request) (Some told) 1 new → OnErr r (DoesPart old (Calls request) 2 new)
+pub told-broken : (old new : Taker) (request : Request) (told : Answer) (r : Result Reply Broken) → DoesDeed old (Calls request) (Some told) 1 new → OnErr r (DoesPart old (Calls request) 2 new)
 told-broken old new request told (Ok one) d = tt
 told-broken old new request told (Err broken) d = part-spared old new (Calls request) 1 2 (omega arith) (does-part old new (Calls request) (Some told) 1 d)
 
 -- ---- too few turns, or too many entries
 
 -- where the line wants an entry
-full : (asked : Option Wish) (new : PassValue) → wants_entry asked ≡ true → IsWorn new → (new.left < 2) ⊎ ((wants_entry asked ≡ true) × (2 ^ 62 ≤ moment_of new.base new.seen))
-full asked new wants (inl few) = inl few
-full asked new wants (inr many) = inr (wants, many)
+full : (asked : Option Wish) (old new : PassValue) → wants_entry asked ≡ true → IsWorn (spared_in asked) old new
+    → ((new.left < 2) × Spends (spared_in asked) old new) ⊎ ((wants_entry asked ≡ true) × (2 ^ 62 ≤ moment_of new.base new.seen) × Spends (suc (spared_in asked)) old new)
+full asked old new wants (inl few) = inl few
+full asked old new wants (inr (many, spends)) = inr (wants, many, spends)
 
 module _ (old new : PassValue) where
-  pub request-wears : (request : Request) → is_waiting (runs_in old) ≡ false → IsWorn new → IsUnanswered old new → WearsOut (Some (wish.Request request)) old new
-  request-wears request idle worn unanswered = record { due = rw idle refl; worn = full (Some (wish.Request request)) new refl worn; unanswered = unanswered; untaken = tt }
+  pub request-wears : (request : Request) → is_waiting (runs_in old) ≡ false → IsWorn 0 old new → IsUnanswered old new → WearsOut (Some (wish.Request request)) old new
+  request-wears request idle worn unanswered = record { due = rw idle refl; worn = full (Some (wish.Request request)) old new refl worn; unanswered = unanswered; untaken = tt }
 
-  pub call-wears : (env : List Pair) (stdin : List ℕ) (request : Request) (version : versions.Version) → is_waiting (runs_in old) ≡ false → call_begun env stdin ≡ Some (Runs request version) → IsWorn new → IsUnanswered old new → WearsOut (Some (wish.Cni env stdin)) old new
-  call-wears env stdin request version idle begun worn unanswered = record { due = rw (idle, begun) refl; worn = full (Some (wish.Cni env stdin)) new refl worn; unanswered = unanswered; untaken = tt }
+  pub call-wears : (env : List Pair) (stdin : List ℕ) (request : Request) (version : versions.Version) → is_waiting (runs_in old) ≡ false → call_begun env stdin ≡ Some (Runs request version) → IsWorn (waits_of request) old new → IsUnanswered old new → WearsOut (Some (wish.Cni env stdin)) old new
+  call-wears env stdin request version idle begun worn unanswered = record { due = rw (idle, begun) refl; worn = full (Some (wish.Cni env stdin)) old new refl (subst (λ (o : Option CallBegun). IsWorn (waits_of_call o) old new) (sym begun) worn); unanswered = unanswered; untaken = tt }
 
-  pub feed-wears : (live : List (List ℕ)) → is_waiting (runs_in old) ≡ true → IsWorn new → IsSome (runs_in new) → WearsOut (Some (wish.Feed live)) old new
-  feed-wears live waits worn runs = record { due = waits; worn = full (Some (wish.Feed live)) new refl worn; unanswered = inr runs; untaken = tt }
+  pub feed-wears : (live : List (List ℕ)) → is_waiting (runs_in old) ≡ true → IsWorn 0 old new → IsSome (runs_in new) → WearsOut (Some (wish.Feed live)) old new
+  feed-wears live waits worn runs = record { due = waits; worn = full (Some (wish.Feed live)) old new refl worn; unanswered = inr runs; untaken = tt }
 
   pub stop-wears : is_waiting (runs_in old) ≡ true → new ≡ old → new.left < 2 → WearsOut (Some wish.Stop) old new
-  stop-wears waits same few = record { due = waits; worn = inl few; unanswered = inl (subst (λ (p : PassValue). Gained old.slot old.seen [] p.seen) (sym same) (took-nothing old).gained); untaken = same }
+  stop-wears waits same few = record { due = waits; worn = inl (few, spends-same old new same); unanswered = inl (subst (λ (p : PassValue). Gained old.slot old.seen [] p.seen) (sym same) (took-nothing old).gained); untaken = same }
 
-  pub routes-wears : Took old [] 1 new → (new ≡ old) × (new.left < 2) → WearsOut (Some wish.Routes) old new
-  routes-wears took (same, few) = record { due = refl; worn = inl few; unanswered = inl took.gained; untaken = same }
+  pub routes-wears : TookTurns old [] 1 new → (new ≡ old) × (new.left < 2) → WearsOut (Some wish.Routes) old new
+  routes-wears took (same, few) = record { due = refl; worn = inl (few, spends-same old new same); unanswered = inl took.gained; untaken = same }
 
-  pub since-wears : (revision : ℕ) → Took old [] 1 new → (new ≡ old) × (new.left < 2) → WearsOut (Some (wish.RoutesSince revision)) old new
-  since-wears revision took (same, few) = record { due = refl; worn = inl few; unanswered = inl took.gained; untaken = same }
+  pub since-wears : (revision : ℕ) → TookTurns old [] 1 new → (new ≡ old) × (new.left < 2) → WearsOut (Some (wish.RoutesSince revision)) old new
+  since-wears revision took (same, few) = record { due = refl; worn = inl (few, spends-same old new same); unanswered = inl took.gained; untaken = same }
 
-  pub page-wears : (kind : RowKind) (after : Option Key) → Took old [] 1 new → (new ≡ old) × (new.left < 2) → WearsOut (Some (wish.Rows kind after)) old new
-  page-wears kind after took (same, few) = record { due = refl; worn = inl few; unanswered = inl took.gained; untaken = same }
+  pub page-wears : (kind : RowKind) (after : Option Key) → TookTurns old [] 1 new → (new ≡ old) × (new.left < 2) → WearsOut (Some (wish.Rows kind after)) old new
+  page-wears kind after took (same, few) = record { due = refl; worn = inl (few, spends-same old new same); unanswered = inl took.gained; untaken = same }
 
-  pub usage-wears : Took old [] 1 new → (new ≡ old) × (new.left < 2) → WearsOut (Some wish.Usage) old new
-  usage-wears took (same, few) = record { due = refl; worn = inl few; unanswered = inl took.gained; untaken = same }
+  pub usage-wears : TookTurns old [] 1 new → (new ≡ old) × (new.left < 2) → WearsOut (Some wish.Usage) old new
+  usage-wears took (same, few) = record { due = refl; worn = inl (few, spends-same old new same); unanswered = inl took.gained; untaken = same }

@@ -13,15 +13,16 @@ use Rattle.ipam_serve.specs.declared.ran.Broken.TheVariants.{Halted, Worn, Memor
 use Rattle.ipam_serve.specs.declared.ran.Ran.{Ran}
 use Rattle.ipam_serve.specs.declared.ran.Ran.TheVariants.{Answered, Waits}
 use Rattle.ipam_serve.specs.Faults.{Halts, IfAnswered, IsWorn, OnWorn, answer_ran, found_of, spared_by}
-use Rattle.ipam_serve.specs.Gains.{asked_in, is_early}
+use Rattle.ipam_serve.specs.Gains.{request_running, is_early}
 use Rattle.ipam_serve.specs.Going.{FeedsOwn, GoesOnTo, GoesToAnswer, Steps}
 use Rattle.ipam_serve.specs.Keeping.{MakesCalls}
 use Rattle.ipam_serve.specs.Runs.{DoesPart, FeedsList, Taker, WentOn}
-use Rattle.ipam_serve.specs.Spans.{Deed, Feeds, IsTimeless, list_deed}
+use Rattle.ipam_serve.specs.Spans.{Deed, Feeds, IsTimeless, list_deed, waits_of}
 use Rattle.ipam_serve.proofs.Coming.{ran-can, ran-waiting}
-use Rattle.ipam_serve.proofs.Going.{nothing-part, still-runs}
+use Rattle.ipam_serve.proofs.Going.{nothing-part, still-runs, worn-so}
 use Rattle.ipam_serve.proofs.Keeping.{makes-nothing, makes-then}
 use Rattle.ipam_serve.proofs.Running.{due-own, far-ran, far-stays}
+use Rattle.ipam_serve.proofs.Wearing.{worn-then}
 
 -- what is so where it is worn is so of any result that is
 pub same-worn : (S T : Type 0) (why : Broken) (p : Type 0) → OnWorn {T = S} (Err why) p → OnWorn {T = T} (Err why) p
@@ -40,12 +41,12 @@ found-halts (Answered told) old new same = same
 found-halts Waits old new same = same
 
 module _ {D : Type 0} (tells : Tells D) (gives : Gives D) (faults : D → ℕ) where
-  pub goes-ran : (old middle new : Taker) (ran : Ran) → WentOn old None 0 middle → asked_in (runs_in middle.pass) ≡ asked_in (runs_in old.pass) → MakesCalls tells gives faults old.pass middle.pass
+  pub goes-ran : (old middle new : Taker) (ran : Ran) → WentOn old None 0 middle → request_running (runs_in middle.pass) ≡ request_running (runs_in old.pass) → MakesCalls tells gives faults old.pass middle.pass
       → Steps tells gives faults (Ok (Some ran)) middle new → GoesOnTo tells gives faults (Ok ran) old new
   goes-ran old middle new ran far same made s = record {
     ran = far-ran old middle new ran far s.step s.passed;
     broken = tt;
-    can_answer = λ request asked. ran-can middle.pass new.pass ran (asked_in (runs_in old.pass)) s.step same request asked;
+    can_answer = λ request asked. ran-can middle.pass new.pass ran (request_running (runs_in old.pass)) s.step same request asked;
     waits = ran-waiting middle.pass new.pass ran s.step;
     worn = tt;
     runs = tt;
@@ -59,7 +60,8 @@ module _ {D : Type 0} (tells : Tells D) (gives : Gives D) (faults : D → ℕ) w
     broken = far-stays old middle new far s.no_step s.passed;
     can_answer = λ request asked. tt;
     waits = tt;
-    worn = same-worn (Option Ran) Ran why (IsWorn new.pass) s.worn;
+    worn = same-worn (Option Ran) Ran why (IsWorn 0 old.pass new.pass)
+        (worn-so {T = Option Ran} (Err why) _ _ (worn-then old.pass middle.pass new.pass far.calls 0 0 far.took) s.worn);
     runs = any-worn Ran why (IsSome (runs_in new.pass)) (still-runs middle.pass new.pass 1 s.no_step runs);
     keeper = makes-then tells gives faults old.pass middle.pass new.pass made s.keeper;
   }
@@ -75,7 +77,7 @@ module _ {D : Type 0} (tells : Tells D) (gives : Gives D) (faults : D → ℕ) w
     ran = tt;
     broken = w.broken;
     can_answer = λ request asked. tt;
-    worn = same-worn Ran Answer why (IsWorn new.pass) w.worn;
+    worn = same-worn Ran Answer why (IsWorn 0 old.pass new.pass) w.worn;
     runs = same-worn Ran Answer why (IsSome (runs_in new.pass)) w.runs;
     keeper = w.keeper;
   }
@@ -89,13 +91,14 @@ module _ {D : Type 0} (tells : Tells D) (gives : Gives D) (faults : D → ℕ) w
     can_answer = tt;
     idle = tt;
     worn = tt;
+    collects = tt;
     runs = tt;
     keeper = makes-nothing tells gives faults taker.pass;
   }
 
   pub own-fed : (old new : Taker) (live : List (List ℕ)) (request : Request) (told : Answer) → FeedsList old live 0 (Some told) new → CanAnswer request told → MakesCalls tells gives faults old.pass new.pass
       → FeedsOwn tells gives faults (Feeds live 0) request (Ok told) old new
-  own-fed old new live request told fed can made = record { fed = fed.2; broken = tt; can_answer = can; idle = fed.1; worn = tt; runs = tt; keeper = made }
+  own-fed old new live request told fed can made = record { fed = fed.2; broken = tt; can_answer = can; idle = fed.1; worn = tt; collects = tt; runs = tt; keeper = made }
 
   -- the same of the list that it was taken from
   pub own-fed-of : (old new : Taker) (live list : List (List ℕ)) → live ≡ list → (request : Request) (told : Answer) → FeedsList old live 0 (Some told) new → CanAnswer request told
@@ -103,21 +106,22 @@ module _ {D : Type 0} (tells : Tells D) (gives : Gives D) (faults : D → ℕ) w
   own-fed-of old new live list same request told fed can made =
       subst (λ (l : List (List ℕ)). FeedsOwn tells gives faults (Feeds l 0) request (Ok told) old new) same (own-fed old new live request told fed can made)
 
-  pub own-unfed : (old new : Taker) (live : List (List ℕ)) (asked : CollectRequest) (why : Broken) → asked_in (runs_in old.pass) ≡ Some (Collect asked) → IsTimeless (Collect asked)
-      → DoesPart old (list_deed (is_early (runs_in old.pass) 0) live 0) 1 new → OnWorn {T = Option Answer} (Err why) (IsWorn new.pass) → OnWorn {T = Option Answer} (Err why) (IsSome (runs_in new.pass)) → MakesCalls tells gives faults old.pass new.pass
+  pub own-unfed : (old new : Taker) (live : List (List ℕ)) (asked : CollectRequest) (why : Broken) → request_running (runs_in old.pass) ≡ Some (Collect asked) → IsTimeless (Collect asked)
+      → DoesPart old (list_deed (is_early (runs_in old.pass) 0) live 0) 1 new → OnWorn {T = Option Answer} (Err why) (IsWorn 0 old.pass new.pass) → OnWorn {T = Option Answer} (Err why) (IsSome (runs_in new.pass)) → MakesCalls tells gives faults old.pass new.pass
       → FeedsOwn tells gives faults (Feeds live 0) (Collect asked) (Err why) old new
   own-unfed old new live asked why is timeless does worn runs made = record {
     fed = tt;
     broken = subst (λ (b : Bool). DoesPart old (list_deed b live 0) 1 new) (due-own (runs_in old.pass) asked is timeless) does;
     can_answer = tt;
     idle = tt;
-    worn = same-worn (Option Answer) Answer why (IsWorn new.pass) worn;
+    worn = same-worn (Option Answer) Answer why (IsWorn 0 old.pass new.pass) worn;
+    collects = any-worn Answer why (waits_of (Collect asked) ≡ 1) refl;
     runs = same-worn (Option Answer) Answer why (IsSome (runs_in new.pass)) runs;
     keeper = made;
   }
 
-  pub own-unfed-of : (old new : Taker) (live list : List (List ℕ)) → live ≡ list → (asked : CollectRequest) (why : Broken) → asked_in (runs_in old.pass) ≡ Some (Collect asked) → IsTimeless (Collect asked)
-      → DoesPart old (list_deed (is_early (runs_in old.pass) 0) live 0) 1 new → OnWorn {T = Option Answer} (Err why) (IsWorn new.pass) → OnWorn {T = Option Answer} (Err why) (IsSome (runs_in new.pass)) → MakesCalls tells gives faults old.pass new.pass
+  pub own-unfed-of : (old new : Taker) (live list : List (List ℕ)) → live ≡ list → (asked : CollectRequest) (why : Broken) → request_running (runs_in old.pass) ≡ Some (Collect asked) → IsTimeless (Collect asked)
+      → DoesPart old (list_deed (is_early (runs_in old.pass) 0) live 0) 1 new → OnWorn {T = Option Answer} (Err why) (IsWorn 0 old.pass new.pass) → OnWorn {T = Option Answer} (Err why) (IsSome (runs_in new.pass)) → MakesCalls tells gives faults old.pass new.pass
       → FeedsOwn tells gives faults (Feeds list 0) (Collect asked) (Err why) old new
   own-unfed-of old new live list same asked why is timeless does worn runs made =
       subst (λ (l : List (List ℕ)). FeedsOwn tells gives faults (Feeds l 0) (Collect asked) (Err why) old new) same (own-unfed old new live asked why is timeless does worn runs made)

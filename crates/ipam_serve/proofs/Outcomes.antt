@@ -9,26 +9,26 @@ use Rattle.ipam_kept.specs.Kept.{Tells}
 use Rattle.ipam_model.specs.declared.answer.Answer.{Answer}
 use Rattle.ipam_model.specs.declared.entry.Entry.TheVariants as entry
 use Rattle.ipam_model.specs.declared.request.Request.{Request}
-use Rattle.ipam_model.specs.Cluster.{Running}
+use Rattle.ipam_model.specs.Cluster.{RunningRequest}
 use Rattle.ipam_session.specs.declared.call.CallBegun.TheVariants.{Runs}
 use Rattle.ipam_session.specs.declared.replies.Reply.{Reply}
 use Rattle.ipam_session.specs.declared.replies.Reply.TheVariants as reply
 use Rattle.ipam_session.specs.declared.wish.Wish.{Wish}
 use Rattle.ipam_session.specs.declared.wish.Wish.TheVariants as wish
-use Rattle.ipam_session.specs.Calls.{call_begun, call_told}
-use Rattle.ipam_session.specs.Lines.{called}
+use Rattle.ipam_session.specs.Calls.{call_begun, call_reply_told}
+use Rattle.ipam_session.specs.Lines.{called_reply}
 use Rattle.ipam_shared.specs.PassValue.{PassValue}
 use Rattle.ipam_shared.specs.Passes.{runs_in}
 use Rattle.ipam_serve.specs.declared.ran.Broken.{Broken}
 use Rattle.ipam_serve.specs.declared.ran.Broken.TheVariants.{Halted, Worn, Memory}
 use Rattle.ipam_serve.specs.declared.ran.Ran.{Ran}
 use Rattle.ipam_serve.specs.Faults.{Halts, IfAnswered, IsWorn, OnHalted, OnWaits, OnWorn, answer_ran, spared_by}
-use Rattle.ipam_serve.specs.Gains.{Took, is_early, is_waiting}
+use Rattle.ipam_serve.specs.Gains.{TookTurns, is_early, is_waiting}
 use Rattle.ipam_serve.specs.Keeping.{MakesCalls}
-use Rattle.ipam_serve.specs.Lines.{Breaks, IsUnanswered, Replies, Server, WearsOut, is_collect, reading, reply_fed, reply_ran, server_at, timed}
+use Rattle.ipam_serve.specs.Lines.{BreaksOff, IsUnanswered, Replies, Server, WearsOut, is_collect, clock_reading, reply_fed, reply_ran, server_at, timed}
 use Rattle.ipam_serve.specs.Outcomes.{Comes, ComesOfCall}
-use Rattle.ipam_serve.specs.Runs.{Does, DoesPart, FeedsList, IsAtRest, Taker}
-use Rattle.ipam_serve.specs.Spans.{Begins, Calls, list_deed}
+use Rattle.ipam_serve.specs.Runs.{DoesDeed, DoesPart, FeedsList, IsAtRest, Taker}
+use Rattle.ipam_serve.specs.Spans.{Begins, Calls, list_deed, waits_of}
 use Rattle.ipam_serve.proofs.Going.{memory-worn, worn-both, worn-from, worn-so}
 use Rattle.ipam_serve.proofs.Keeping.{makes-none, makes-nothing, makes-same, makes-stopped}
 use Rattle.ipam_serve.proofs.LineParts.{breaks-at-once, call-some-broken, call-some-replies, call-wears, feed-breaks, feed-replies, feed-rests, feed-wears, opened-replies, ran-rests, request-breaks, request-replies, request-wears, stop-breaks, stop-replies, stop-wears, stopped-idle, told-broken, told-so, waits-alone}
@@ -40,7 +40,7 @@ never-halts Halted count h = absurd h
 never-halts Worn count h = refl
 never-halts Memory count h = refl
 
-idle-rests : {T : Type 0} (r : Result T Broken) (o : Option Running) → OnOk r (o ≡ None) → OnOk r (IsAtRest o)
+idle-rests : {T : Type 0} (r : Result T Broken) (o : Option RunningRequest) → OnOk r (o ≡ None) → OnOk r (IsAtRest o)
 idle-rests (Ok value) o none = inl none
 idle-rests (Err broken) o none = tt
 
@@ -75,8 +75,8 @@ module _ {D : Type 0} (tells : Tells D) (gives : Gives D) (faults : D → ℕ) w
 
   -- ---- a request
 
-  module _ (old new : Server) (request : Request) (at : ℕ) (idle : is_waiting (runs_in old.taker.pass) ≡ false) (reads : old.ahead ≡ prepend_known_readings (reading (is_collect request) at) new.ahead) (made : MakesCalls tells gives faults old.taker.pass new.taker.pass) where
-    pub comes-ran : (ran : Ran) (q : Type 0) → Does old.taker (Begins (timed at request)) (answer_ran ran) (spared_by ran) new.taker → IfAnswered ran (λ told. runs_in new.taker.pass ≡ None) → OnWaits ran ((is_waiting (runs_in new.taker.pass) ≡ true) × q)
+  module _ (old new : Server) (request : Request) (at : ℕ) (idle : is_waiting (runs_in old.taker.pass) ≡ false) (reads : old.ahead ≡ prepend_known_readings (clock_reading (is_collect request) at) new.ahead) (made : MakesCalls tells gives faults old.taker.pass new.taker.pass) where
+    pub comes-ran : (ran : Ran) (q : Type 0) → DoesDeed old.taker (Begins (timed at request)) (answer_ran ran) (spared_by ran) new.taker → IfAnswered ran (λ told. runs_in new.taker.pass ≡ None) → OnWaits ran ((is_waiting (runs_in new.taker.pass) ≡ true) × q)
         → Comes tells gives faults (Some (wish.Request request)) (Ok (reply_ran ran)) old new
     comes-ran ran q does none waits =
         let alone = waits-alone (is_waiting (runs_in new.taker.pass) ≡ true) q ran waits in
@@ -88,7 +88,7 @@ module _ {D : Type 0} (tells : Tells D) (gives : Gives D) (faults : D → ℕ) w
           keeper = made;
         }
 
-    pub comes-unrun : (why : Broken) → DoesPart old.taker (Begins (timed at request)) 1 new.taker → OnWorn {T = Unit {0}} (Err why) (IsWorn new.taker.pass) → OnWorn {T = Unit {0}} (Err why) (IsUnanswered old.taker.pass new.taker.pass)
+    pub comes-unrun : (why : Broken) → DoesPart old.taker (Begins (timed at request)) 1 new.taker → OnWorn {T = Unit {0}} (Err why) (IsWorn 0 old.taker.pass new.taker.pass) → OnWorn {T = Unit {0}} (Err why) (IsUnanswered old.taker.pass new.taker.pass)
         → Comes tells gives faults (Some (wish.Request request)) (Err why) old new
     comes-unrun why does worn unanswered = record {
       replied = tt;
@@ -110,7 +110,7 @@ module _ {D : Type 0} (tells : Tells D) (gives : Gives D) (faults : D → ℕ) w
       keeper = made;
     }
 
-    pub comes-unfed : (why : Broken) → DoesPart old.taker (list_deed (is_early (runs_in old.taker.pass) at) live at) 1 new.taker → OnWorn {T = Unit {0}} (Err why) (IsWorn new.taker.pass) → OnWorn {T = Unit {0}} (Err why) (IsSome (runs_in new.taker.pass))
+    pub comes-unfed : (why : Broken) → DoesPart old.taker (list_deed (is_early (runs_in old.taker.pass) at) live at) 1 new.taker → OnWorn {T = Unit {0}} (Err why) (IsWorn 0 old.taker.pass new.taker.pass) → OnWorn {T = Unit {0}} (Err why) (IsSome (runs_in new.taker.pass))
         → Comes tells gives faults (Some (wish.Feed live)) (Err why) old new
     comes-unfed why does worn runs = record {
       replied = tt;
@@ -123,7 +123,7 @@ module _ {D : Type 0} (tells : Tells D) (gives : Gives D) (faults : D → ℕ) w
   -- ---- a stop
 
   module _ (server : Server) (new : PassValue) (waits : is_waiting (runs_in server.taker.pass) ≡ true) where
-    pub comes-stopped : Took server.taker.pass (entry.Stopped server.taker.pass.slot ∷ []) 0 new → Comes tells gives faults (Some wish.Stop) (Ok reply.Stopped) server (server_at new server.taker.turns server.ahead)
+    pub comes-stopped : TookTurns server.taker.pass (entry.Stopped server.taker.pass.slot ∷ []) 0 new → Comes tells gives faults (Some wish.Stop) (Ok reply.Stopped) server (server_at new server.taker.turns server.ahead)
     comes-stopped took = record {
       replied = stop-replies server new waits took;
       broken = tt;
@@ -143,7 +143,7 @@ module _ {D : Type 0} (tells : Tells D) (gives : Gives D) (faults : D → ℕ) w
 
   -- ---- one turn that has no entry
 
-  module _ (server : Server) (new : PassValue) (took : Took server.taker.pass [] 1 new) (asked : Option Wish) where
+  module _ (server : Server) (new : PassValue) (took : TookTurns server.taker.pass [] 1 new) (asked : Option Wish) where
     pub comes-seen : (one : Reply) → runs_in new ≡ runs_in server.taker.pass → IsAtRest (runs_in server.taker.pass) → Replies asked one server (server_at new server.taker.turns server.ahead)
         → Comes tells gives faults asked (Ok one) server (server_at new server.taker.turns server.ahead)
     comes-seen one same rests replied = record {
@@ -154,7 +154,7 @@ module _ {D : Type 0} (tells : Tells D) (gives : Gives D) (faults : D → ℕ) w
       keeper = makes-none tells gives faults server.taker.pass new 1 took;
     }
 
-    pub comes-unseen : (why : Broken) → Breaks asked server (server_at new server.taker.turns server.ahead) → ((new ≡ server.taker.pass) × (new.left < 2) → WearsOut asked server.taker.pass new) → OnWorn {T = Unit {0}} (Err why) ((new ≡ server.taker.pass) × (new.left < 2))
+    pub comes-unseen : (why : Broken) → BreaksOff asked server (server_at new server.taker.turns server.ahead) → ((new ≡ server.taker.pass) × (new.left < 2) → WearsOut asked server.taker.pass new) → OnWorn {T = Unit {0}} (Err why) ((new ≡ server.taker.pass) × (new.left < 2))
         → Comes tells gives faults asked (Err why) server (server_at new server.taker.turns server.ahead)
     comes-unseen why breaks wears worn = record {
       replied = tt;
@@ -177,8 +177,8 @@ module _ {D : Type 0} (tells : Tells D) (gives : Gives D) (faults : D → ℕ) w
     keeper = comes.keeper;
   }
 
-  pub comes-told : (old new : Taker) (request : Request) (version : versions.Version) (told : Answer) (r : Result Reply Broken) → Does old (Calls request) (Some told) 1 new → runs_in new.pass ≡ None
-      → MakesCalls tells gives faults old.pass new.pass → IfOk r (λ one. option_map called (call_told request version told) ≡ Some one) → OnErr r (r ≡ Err Memory) → ComesOfCall tells gives faults request version r old new
+  pub comes-told : (old new : Taker) (request : Request) (version : versions.Version) (told : Answer) (r : Result Reply Broken) → DoesDeed old (Calls request) (Some told) 1 new → runs_in new.pass ≡ None
+      → MakesCalls tells gives faults old.pass new.pass → IfOk r (λ one. option_map called_reply (call_reply_told request version told) ≡ Some one) → OnErr r (r ≡ Err Memory) → ComesOfCall tells gives faults request version r old new
   comes-told old new request version told r does none made is memory = record {
     told = told-so old new request version told r does is;
     broken = told-broken old new request told r does;
@@ -192,7 +192,7 @@ module _ {D : Type 0} (tells : Tells D) (gives : Gives D) (faults : D → ℕ) w
       always (Ok one) p = p
       always (Err broken) p = tt
 
-  pub comes-untold : (old new : Taker) (request : Request) (version : versions.Version) (why : Broken) → DoesPart old (Calls request) 2 new → OnWorn {T = Unit {0}} (Err why) (IsWorn new.pass) → OnWorn {T = Unit {0}} (Err why) (IsUnanswered old.pass new.pass)
+  pub comes-untold : (old new : Taker) (request : Request) (version : versions.Version) (why : Broken) → DoesPart old (Calls request) 2 new → OnWorn {T = Unit {0}} (Err why) (IsWorn (waits_of request) old.pass new.pass) → OnWorn {T = Unit {0}} (Err why) (IsUnanswered old.pass new.pass)
       → MakesCalls tells gives faults old.pass new.pass → ComesOfCall tells gives faults request version (Err why) old new
   comes-untold old new request version why does worn unanswered made = record {
     told = tt;

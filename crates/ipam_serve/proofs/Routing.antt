@@ -1,7 +1,7 @@
 -- What a line that asks for routes, rows or usage comes to.
 use Rattle.std.proofs.Common.{◌≡◌, ◌↔◌, ◌<◌, ℕ, ◌+◌, arith, ltb-true, lt-ltb, Bool, true, false, inl, List, [], Option, Some, None, Result, Ok, Err, refl, sym, ap, ◌∙◌, subst}
 use Rattle.std.specs.Prelude.{IfOk, nat_lt}
-use Rattle.ipam_model.specs.Cluster.{Running}
+use Rattle.ipam_model.specs.Cluster.{RunningRequest}
 use Rattle.ipam_model.specs.History.{store_at}
 use Rattle.ipam_records.specs.declared.key.Key.{Key}
 use Rattle.ipam_words.specs.declared.kind.RowKind.{RowKind}
@@ -21,8 +21,8 @@ use Rattle.ipam_shared.specs.declared.faults.SharedFault.TheVariants.{Inner, Spe
 use Rattle.ipam_shared.specs.PassValue.{PassValue}
 use Rattle.ipam_shared.specs.Passes.{runs_in}
 use Rattle.ipam_serve.specs.declared.ran.Broken.{Broken}
-use Rattle.ipam_serve.specs.Gains.{Took}
-use Rattle.ipam_serve.specs.Lines.{Breaks, Replies, Server, page_seen, server_at, since_in}
+use Rattle.ipam_serve.specs.Gains.{TookTurns}
+use Rattle.ipam_serve.specs.Lines.{BreaksOff, Replies, Server, page_seen, server_at, since_in}
 use Rattle.ipam_serve.specs.Looks.{IsUsage}
 use Rattle.ipam_serve.specs.Runs.{IsAtRest}
 use Rattle.ipam_serve.specs.Turns.{IsToldOf}
@@ -83,7 +83,7 @@ told-faults old new revision some_left fault (Err broken) compacted ahead h = tt
 
 -- ---- the line
 
-module _ (server : Server) (new : PassValue) (took : Took server.taker.pass [] 1 new) where
+module _ (server : Server) (new : PassValue) (took : TookTurns server.taker.pass [] 1 new) where
   pub routes-replies : (counter : ℕ) (routes : List Route) → AreRoutes new.base new.seen counter routes → new.left + 1 ≡ server.taker.pass.left
       → Replies (Some wish.Routes) (reply.Routes counter routes) server (server_at new server.taker.turns server.ahead)
   routes-replies counter routes are one = record {
@@ -132,21 +132,21 @@ module _ (server : Server) (new : PassValue) (took : Took server.taker.pass [] 1
     replied = λ i. Some (reply.Usage (sym are.is_revision i) (sym are.are_pools i));
   }
 
-  took-two : Took server.taker.pass [] 2 new
+  took-two : TookTurns server.taker.pass [] 2 new
   took-two = took-spared server.taker.pass new [] 1 2 (omega arith) took
 
-  pub routes-breaks : Breaks (Some wish.Routes) server (server_at new server.taker.turns server.ahead)
+  pub routes-breaks : BreaksOff (Some wish.Routes) server (server_at new server.taker.turns server.ahead)
   routes-breaks = record { at = 0; does = record { entries = []; did = inl refl; took = took-two; passed = passed-nothing server.taker.turns }; reads = inl refl }
 
-  pub since-breaks : (revision : ℕ) → Breaks (Some (wish.RoutesSince revision)) server (server_at new server.taker.turns server.ahead)
+  pub since-breaks : (revision : ℕ) → BreaksOff (Some (wish.RoutesSince revision)) server (server_at new server.taker.turns server.ahead)
   since-breaks revision = record { at = 0; does = record { entries = []; did = inl refl; took = took-two; passed = passed-nothing server.taker.turns }; reads = inl refl }
 
-  pub page-breaks : (kind : RowKind) (after : Option Key) → Breaks (Some (wish.Rows kind after)) server (server_at new server.taker.turns server.ahead)
+  pub page-breaks : (kind : RowKind) (after : Option Key) → BreaksOff (Some (wish.Rows kind after)) server (server_at new server.taker.turns server.ahead)
   page-breaks kind after = record { at = 0; does = record { entries = []; did = inl refl; took = took-two; passed = passed-nothing server.taker.turns }; reads = inl refl }
 
-  pub usage-breaks : Breaks (Some wish.Usage) server (server_at new server.taker.turns server.ahead)
+  pub usage-breaks : BreaksOff (Some wish.Usage) server (server_at new server.taker.turns server.ahead)
   usage-breaks = record { at = 0; does = record { entries = []; did = inl refl; took = took-two; passed = passed-nothing server.taker.turns }; reads = inl refl }
 
 -- what was at rest still is
 pub same-rests : (old new : PassValue) → runs_in new ≡ runs_in old → IsAtRest (runs_in old) → IsAtRest (runs_in new)
-same-rests old new same rests = subst (λ (o : Option Running). IsAtRest o) (sym same) rests
+same-rests old new same rests = subst (λ (o : Option RunningRequest). IsAtRest o) (sym same) rests

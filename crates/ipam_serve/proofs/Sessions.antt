@@ -5,7 +5,7 @@ use Rattle.std.specs.Io.KnownBytes.{append_known, prepend_known}
 use Rattle.ipam_io.specs.Streams.{AppendsPrefix}
 use Rattle.ipam_model.specs.declared.entry.Entry.{Entry}
 use Rattle.ipam_model.specs.declared.entry.Entry.TheVariants as entry
-use Rattle.ipam_model.specs.Cluster.{Running}
+use Rattle.ipam_model.specs.Cluster.{RunningRequest}
 use Rattle.ipam_session.specs.declared.replies.Reply.{Reply}
 use Rattle.ipam_session.specs.Replies.{reply_line}
 use Rattle.ipam_session.specs.declared.wish.Wish.{Wish}
@@ -19,11 +19,11 @@ use Rattle.ipam_serve.specs.declared.ends.SessionEnd.TheVariants as end
 use Rattle.ipam_serve.specs.declared.ran.Broken.{Broken}
 use Rattle.ipam_serve.specs.declared.ran.Broken.TheVariants.{Halted, Worn, Memory}
 use Rattle.ipam_serve.specs.Faults.{OnWorn}
-use Rattle.ipam_serve.specs.Gains.{Gained, Passed, Settles, asked_after, asked_in, calls_in}
+use Rattle.ipam_serve.specs.Gains.{Gained, Passed, Settles, asked_after, request_running, calls_in}
 use Rattle.ipam_serve.specs.Keeping.{AtKeeper}
-use Rattle.ipam_serve.specs.Lines.{Breaks, Replies, Server, TellsOpened, WearsOut, asked_by, server_at}
+use Rattle.ipam_serve.specs.Lines.{BreaksOff, Replies, Server, TellsOpened, WearsOut, asked_by, server_at}
 use Rattle.ipam_serve.specs.Runs.{Taker}
-use Rattle.ipam_serve.specs.Sessions.{AsksOnce, Ends, EndsReply, Exchange, Exchanges, IsCause, IsStopped, Leaves, LeavesUndone, LeavesUnsettled, LeavesUntold, Nothing, ReadsLine, Rest, Serves, Session, StopsLast, Sums, Talk, Talks, Told, Undone, Unsettled, Unsettles, Untold, end_of, lines_in, lines_read, server_before, talk_at, unsure, with_pass}
+use Rattle.ipam_serve.specs.Sessions.{AsksOnce, Ends, EndsReply, Exchange, Exchanges, IsCause, IsStopped, Leaves, LeavesUndone, LeavesUnsettled, LeavesUntold, Nothing, ReadsLine, Rest, Serves, Session, StopsLast, Sums, Talk, Talks, ToldLine, Undone, Unsettled, Unsettles, Untold, end_of, lines_in, lines_read, server_before, talk_at, unsure, with_pass}
 use Rattle.ipam_serve.proofs.Entries.{of_slot-told}
 use Rattle.ipam_serve.proofs.Running.{none-asked}
 use Rattle.ipam_serve.proofs.Turning.{Went, passed-nothing, passed-then, then-gained, took-nothing, went-settles, went-slot, went-spared, went-then, went-took}
@@ -50,13 +50,13 @@ spent-more m n old new less s = record { entries = s.entries; took = went-spared
 replies-spent : (asked : Option Wish) (reply : Reply) (old new : Server) → Replies asked reply old new → Spent 1 old.taker new.taker
 replies-spent asked reply old new r = record { entries = r.does.entries; took = went-took old.taker.pass new.taker.pass r.does.entries 1 r.does.took; passed = r.does.passed }
 
-breaks-spent : (asked : Option Wish) (old new : Server) → Breaks asked old new → Spent 2 old.taker new.taker
+breaks-spent : (asked : Option Wish) (old new : Server) → BreaksOff asked old new → Spent 2 old.taker new.taker
 breaks-spent asked old new b = record { entries = b.does.entries; took = went-took old.taker.pass new.taker.pass b.does.entries 2 b.does.took; passed = b.does.passed }
 
 settles-spent : (old new : PassValue) (turns : Option ℕ) → Settles old new → Spent 1 (record { pass = old; turns = turns }) (record { pass = new; turns = turns })
 settles-spent old new turns s = record { entries = []; took = went-settles old new s; passed = passed-nothing turns }
 
-told-spent : (at : AtKeeper) (line : List ℕ) (reply : Reply) (old : Talk) (middle : PassValue) (new : Talk) → Told at line reply old middle new → Spent 2 old.server.taker new.server.taker
+told-spent : (at : AtKeeper) (line : List ℕ) (reply : Reply) (old : Talk) (middle : PassValue) (new : Talk) → ToldLine at line reply old middle new → Spent 2 old.server.taker new.server.taker
 told-spent at line reply old middle new t =
     spent-then 1 1 old.server.taker (record { pass = middle; turns = new.server.taker.turns }) new.server.taker
     (replies-spent (asked_by line) reply old.server (server_before middle new.server) t.replies)
@@ -96,7 +96,7 @@ idle-or-left old new entries spared t idle = from old.left refl
     from zero e =
         let least = t.at_least in
         let few : length entries ≤ 0 = omega arith in
-        inl (none-asked (runs_in new) (t.runs ∙ ap (λ o. asked_after (asked_in o) entries) idle ∙ no-entries entries few))
+        inl (none-asked (runs_in new) (t.runs ∙ ap (λ o. asked_after (request_running o) entries) idle ∙ no-entries entries few))
     from (suc n) e = let some : 0 < old.left = omega arith in inr (t.one_stays some)
 
 pub serves-stop : (at : AtKeeper) (how : SessionEnd) (old new : Talk) → Serves at how old new → runs_in old.server.taker.pass ≡ None → (runs_in new.server.taker.pass ≡ None) ⊎ (0 < new.server.taker.pass.left)
@@ -120,7 +120,7 @@ stopped-so old new (Some told) idle is runs same sees left = record {
   left = left;
 }
 
-pub some-left : (o : Option Running) (left : ℕ) → (o ≡ None) ⊎ (0 < left) → IsSome o → 0 < left
+pub some-left : (o : Option RunningRequest) (left : ℕ) → (o ≡ None) ⊎ (0 < left) → IsSome o → 0 < left
 some-left o left (inl none) some = absurd (cc (none, some))
 some-left o left (inr more) some = more
 
@@ -224,11 +224,11 @@ module _ (at : AtKeeper) (line : List ℕ) (old new : Talk) (turns : Option ℕ)
   reads-new = record { is_line = reads.is_line; bytes = reads.bytes ∙ ap (prepend_known (line ++ 10 ∷ [])) (sym same) }
 
   -- it was not done to its end
-  pub ends-undone : (why : Broken) → Breaks (asked_by line) (with_turns turns old.server) new.server → OnWorn {T = Reply} (Err why) (WearsOut (asked_by line) old.server.taker.pass new.server.taker.pass) → new.written ≡ mid → at.came None old.server.taker.pass new.server.taker.pass → Ends at (end_of why) old new
+  pub ends-undone : (why : Broken) → BreaksOff (asked_by line) (with_turns turns old.server) new.server → OnWorn {T = Reply} (Err why) (WearsOut (asked_by line) old.server.taker.pass new.server.taker.pass) → new.written ≡ mid → at.came None old.server.taker.pass new.server.taker.pass → Ends at (end_of why) old new
   ends-undone why breaks worn written keeper = record { rest = Undone line; leaves = leaves; cause = cause why worn }
     where
       leaves : LeavesUndone at line old new
-      leaves = record { asks = asks; reads = reads-new; breaks = subst (λ t. Breaks (asked_by line) (with_turns t old.server) new.server) same_turns breaks; writes = written ∙ kept; keeper = keeper }
+      leaves = record { asks = asks; reads = reads-new; breaks = subst (λ t. BreaksOff (asked_by line) (with_turns t old.server) new.server) same_turns breaks; writes = written ∙ kept; keeper = keeper }
 
       cause : (b : Broken) → OnWorn {T = Reply} (Err b) (WearsOut (asked_by line) old.server.taker.pass new.server.taker.pass) → IsCause (end_of b) (Undone line) old.coming old.server.taker.pass new.server.taker.pass
       cause Halted w = inr tt
@@ -237,7 +237,7 @@ module _ (at : AtKeeper) (line : List ℕ) (old new : Talk) (turns : Option ℕ)
 
   module _ (middle : PassValue) (reply : Reply) (replied : Replies (asked_by line) reply (with_turns turns old.server) (server_before middle new.server)) (opened : TellsOpened old.opened (asked_by line) reply)
       (keeps : (r : Replies (asked_by line) reply old.server (server_before middle new.server)) → at.came r.answer old.server.taker.pass middle) (settles : Settles middle new.server.taker.pass) where
-    told-new : Told at line reply old middle new
+    told-new : ToldLine at line reply old middle new
     told-new = record { replies = replies; opened = opened; keeper = keeps replies; settles = settles }
       where
         replies : Replies (asked_by line) reply old.server (server_before middle new.server)

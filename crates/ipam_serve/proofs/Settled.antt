@@ -18,7 +18,7 @@ use Rattle.ipam_shared.specs.Turning.{SeesNext, UnlessSpent, WasDone}
 use Rattle.ipam_shared.proofs.Settled.{still-sure}
 use Rattle.ipam_serve.specs.declared.ends.SessionEnd.{SessionEnd}
 use Rattle.ipam_serve.specs.declared.ends.SessionEnd.TheVariants as end
-use Rattle.ipam_serve.specs.Gains.{Settles, Took}
+use Rattle.ipam_serve.specs.Gains.{Settles, TookTurns}
 use Rattle.ipam_serve.specs.Keeping.{AtKeeper, at_keeper}
 use Rattle.ipam_serve.specs.Sessions.{EndsReply, RoseAt, RoseIf, Unsettles, is_halted, is_read_fault, is_write_fault}
 use Rattle.ipam_serve.proofs.Entries.{of_slot-told}
@@ -41,7 +41,7 @@ settles-turn old new same sees left enough moment = record {
 }
 
 -- what it knew to be sure is so after turns too
-pub took-sure : {D : Type 0} (tells sure : Tells D) (old new : PassValue) (entries : List Entry) (spared : ℕ) → Took old entries spared new → IsSure tells sure old → IsSure tells sure new
+pub took-sure : {D : Type 0} (tells sure : Tells D) (old new : PassValue) (entries : List Entry) (spared : ℕ) → TookTurns old entries spared new → IsSure tells sure old → IsSure tells sure new
 took-sure tells sure old new entries spared t is = still-sure tells sure old new (ap (λ (p : PassValue). p.base) t.same) (t.gained.more, t.gained.grew) t.sure is
 
 module _ {D : Type 0} (tells sure : Tells D) (gives : Gives D) (faults : D → ℕ) (broken : D → Type 0) where

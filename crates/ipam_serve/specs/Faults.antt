@@ -1,5 +1,5 @@
 -- Why what runs is not brought to its end.
-use Rattle.std.specs.Prelude.{◌≡◌, ℕ, ⊤, ◌<◌, ◌≤◌, ◌^◌, ◌⊎◌, Option, Some, None, Result, Ok, Err}
+use Rattle.std.specs.Prelude.{◌≡◌, ℕ, suc, ⊤, ◌<◌, ◌≤◌, ◌^◌, ◌⊎◌, Option, Some, None, Result, Ok, Err}
 use Rattle.ipam_io.specs.Counts.{Rose}
 use Rattle.ipam_model.specs.declared.answer.Answer.{Answer}
 use Rattle.ipam_model.specs.History.{moment_of}
@@ -8,6 +8,7 @@ use Rattle.ipam_serve.specs.declared.ran.Broken.{Broken}
 use Rattle.ipam_serve.specs.declared.ran.Broken.TheVariants.{Halted, Worn, Memory}
 use Rattle.ipam_serve.specs.declared.ran.Ran.{Ran}
 use Rattle.ipam_serve.specs.declared.ran.Ran.TheVariants.{Answered, Waits}
+use Rattle.ipam_serve.specs.Gains.{Spends}
 
 -- the answer, where what ran came to one
 abbrev pub answer_ran : Ran → Option Answer
@@ -34,9 +35,11 @@ abbrev pub IfAnswered : Ran → (Answer → Type 0) → Type 0
 IfAnswered (Answered told) p = p told
 IfAnswered Waits p = ⊤
 
--- the pass has too few turns left for one more and a last stop, or there are too many entries
-abbrev pub IsWorn : PassValue → Type 0
-IsWorn pass = (pass.left < 2) ⊎ (2 ^ 62 ≤ moment_of pass.base pass.seen)
+-- The pass has too few turns left for one more and a last stop, and each that it took made an entry, but for so
+-- many. Or there are too many entries, and one turn more was taken, which found that.
+abbrev pub IsWorn : (spared : ℕ) → (old new : PassValue) → Type 0
+IsWorn spared old new =
+    ((new.left < 2) × Spends spared old new) ⊎ ((2 ^ 62 ≤ moment_of new.base new.seen) × Spends (suc spared) old new)
 
 -- a fact where there were too few turns or too many entries
 abbrev pub OnWorn : {T : Type 0} → Result T Broken → Type 0 → Type 0

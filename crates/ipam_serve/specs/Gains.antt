@@ -6,7 +6,7 @@ use Rattle.ipam_model.specs.declared.answer.Answer.{Answer}
 use Rattle.ipam_model.specs.declared.entry.Entry.{Entry}
 use Rattle.ipam_model.specs.declared.entry.Entry.TheVariants as entry
 use Rattle.ipam_model.specs.declared.request.Request.{Request}
-use Rattle.ipam_model.specs.Cluster.{Running}
+use Rattle.ipam_model.specs.Cluster.{RunningRequest}
 use Rattle.ipam_model.specs.Course.{is_due}
 use Rattle.ipam_model.specs.History.{moment_of, slot_of_entry}
 use Rattle.ipam_shared.specs.PassValue.{PassValue}
@@ -15,16 +15,16 @@ use Rattle.ipam_shared.specs.Passes.{IsSamePass, runs_in}
 -- ---- what runs
 
 -- the request that runs, if one does
-abbrev pub asked_in : Option Running → Option Request
-asked_in runs = option_map (λ (running : Running). running.request) runs
+abbrev pub request_running : Option RunningRequest → Option Request
+request_running runs = option_map (λ (running : RunningRequest). running.request) runs
 
 -- a collection waits for its second list
-abbrev pub is_waiting : Option Running → Bool
+abbrev pub is_waiting : Option RunningRequest → Bool
 is_waiting None = false
 is_waiting (Some running) = waits running.word
 
 -- a second list that is made at this time comes before the grace is over
-abbrev pub is_early : Option Running → (at : ℕ) → Bool
+abbrev pub is_early : Option RunningRequest → (at : ℕ) → Bool
 is_early None at = false
 is_early (Some running) at = not (is_due running.request at)
 
@@ -56,15 +56,20 @@ pub record Gained (slot : ℕ) (earlier entries later : List Entry) : Type 0 whe
 -- The pass took turns, by which its slot gained these entries, the newest first. No more than so many
 -- turns were spared an entry, and none was taken with less than two turns left. It knows no more to be sure
 -- than before; and it took no turn, or the last one told it of all that it has seen.
-pub record Took (old : PassValue) (entries : List Entry) (spared : ℕ) (new : PassValue) : Type 0 where
+pub record TookTurns (old : PassValue) (entries : List Entry) (spared : ℕ) (new : PassValue) : Type 0 where
   pub same : IsSamePass old new
   pub gained : Gained old.slot old.seen entries new.seen
-  pub runs : asked_in (runs_in new) ≡ asked_after (asked_in (runs_in old)) entries
+  pub runs : request_running (runs_in new) ≡ asked_after (request_running (runs_in old)) entries
   pub at_least : new.left + length entries ≤ old.left
   pub at_most : old.left ≤ new.left + length entries + spared
   pub one_stays : 0 < old.left → 0 < new.left
   pub sure : new.sure ≡ old.sure
   pub told : (new ≡ old) ⊎ (new.moment ≡ moment_of new.base new.seen)
+
+-- it took turns, of which no more than so many were spared an entry
+pub record Spends (spared : ℕ) (old new : PassValue) : Type 0 where
+  pub entries : List Entry
+  pub took : TookTurns old entries spared new
 
 -- The pass took at most one turn, in which it made sure of what it was told of. Its slot gained nothing.
 pub record Settles (old new : PassValue) : Type 0 where

@@ -1,5 +1,5 @@
 -- What a line has a session do, and what it is replied.
-use Rattle.std.specs.Prelude.{◌≡◌, ◌⊎◌, ℕ, ⊤, ◌+◌, ◌<◌, ◌≤◌, ◌^◌, Bool, true, false, not, IsSome, List, [], ◌∷◌, Option, Some, None, option_map, nat_lt, if◌then◌else◌}
+use Rattle.std.specs.Prelude.{◌≡◌, ◌⊎◌, ℕ, suc, ⊤, ◌+◌, ◌<◌, ◌≤◌, ◌^◌, Bool, true, false, not, IsSome, List, [], ◌∷◌, Option, Some, None, option_map, nat_lt, if◌then◌else◌}
 use Rattle.ipam_io.specs.Readings.{prepend_known_readings}
 use Rattle.ipam_model.specs.declared.answer.Answer.{Answer}
 use Rattle.ipam_model.specs.declared.request.Request.{Request}
@@ -12,7 +12,7 @@ use Rattle.ipam_show.specs.Usage.{pools_usage}
 use Rattle.ipam_feed.specs.Feed.{changes_since}
 use Rattle.ipam_feed.specs.Route.{routes_in}
 use Rattle.ipam_kept.specs.Feed.{floor_in, writes_in}
-use Rattle.ipam_model.specs.Cluster.{Running}
+use Rattle.ipam_model.specs.Cluster.{RunningRequest}
 use Rattle.ipam_model.specs.History.{moment_of, store_at}
 use Rattle.ipam_session.specs.declared.call.CallBegun.{CallBegun}
 use Rattle.ipam_session.specs.declared.call.CallBegun.TheVariants.{Told, Runs}
@@ -24,16 +24,16 @@ use Rattle.ipam_session.specs.declared.wish.Wish.TheVariants as wish
 use Rattle.cni_types.specs.declared.version.Version.{Version}
 use Rattle.ipam_session.specs.declared.refusal.Refusal.TheVariants.{TooSoon}
 use Rattle.ipam_session.specs.declared.replies.Reply.TheVariants as reply
-use Rattle.ipam_session.specs.Calls.{call_begun, call_told}
-use Rattle.ipam_session.specs.Lines.{Standing, called, reply_unless_unread}
+use Rattle.ipam_session.specs.Calls.{call_begun, call_reply_told}
+use Rattle.ipam_session.specs.Lines.{Standing, called_reply, reply_unless_unread}
 use Rattle.ipam_session.specs.Wishes.{wish_of_line}
 use Rattle.ipam_shared.specs.PassValue.{PassValue}
 use Rattle.ipam_shared.specs.Passes.{runs_in}
 use Rattle.ipam_serve.specs.declared.ran.Ran.{Ran}
 use Rattle.ipam_serve.specs.declared.ran.Ran.TheVariants.{Answered, Waits}
-use Rattle.ipam_serve.specs.Gains.{Gained, is_early, is_waiting}
-use Rattle.ipam_serve.specs.Runs.{Does, DoesPart, Taker}
-use Rattle.ipam_serve.specs.Spans.{Begins, Calls, Deed, Nothing, Stops, list_deed}
+use Rattle.ipam_serve.specs.Gains.{Gained, Spends, is_early, is_waiting}
+use Rattle.ipam_serve.specs.Runs.{DoesDeed, DoesPart, Taker}
+use Rattle.ipam_serve.specs.Spans.{Begins, Calls, Deed, Nothing, Stops, list_deed, waits_of}
 
 -- what the line asks of a session
 abbrev pub asked_by : List ℕ → Option Wish
@@ -57,7 +57,7 @@ deed_of_call (Some (Told status text)) = Nothing
 deed_of_call (Some (Runs request version)) = Calls request
 
 -- what is done for a wish where this runs in the slot, at this time by the clock
-abbrev pub deed_of : Option Wish → Option Running → (at : ℕ) → Deed
+abbrev pub deed_of : Option Wish → Option RunningRequest → (at : ℕ) → Deed
 deed_of None runs at = Nothing
 deed_of (Some (wish.Cni env stdin)) runs at =
     if is_waiting runs then Nothing else deed_of_call (call_begun env stdin)
@@ -72,7 +72,7 @@ deed_of (Some wish.Usage) runs at = Nothing
 deed_of (Some wish.Opened) runs at = Nothing
 
 -- The clock is read for a collection that is to be begun, and for a second list while one waits.
-abbrev pub reads_clock : Option Wish → Option Running → Bool
+abbrev pub reads_clock : Option Wish → Option RunningRequest → Bool
 reads_clock None runs = false
 reads_clock (Some (wish.Cni env stdin)) runs = false
 reads_clock (Some (wish.Request request)) runs = if is_waiting runs then false else is_collect request
@@ -84,8 +84,8 @@ reads_clock (Some (wish.Rows kind after)) runs = false
 reads_clock (Some wish.Usage) runs = false
 reads_clock (Some wish.Opened) runs = false
 
-abbrev pub reading : Bool → (at : ℕ) → List ℕ
-reading read at = if read then at ∷ [] else []
+abbrev pub clock_reading : Bool → (at : ℕ) → List ℕ
+clock_reading read at = if read then at ∷ [] else []
 
 -- ---- replies
 
@@ -102,8 +102,8 @@ page_seen pass kind after = page_in (store_at pass.base pass.seen) kind after
 
 -- on what the reply rests: what the pass has seen before the line and after it, and the text of the
 -- opening
-abbrev pub standing : (old new : PassValue) (at : ℕ) → Option Answer → (opened : List ℕ) → Standing
-standing old new at answer opened = record {
+abbrev pub standing_after : (old new : PassValue) (at : ℕ) → Option Answer → (opened : List ℕ) → Standing
+standing_after old new at answer opened = record {
   waited = is_waiting (runs_in old);
   waits = is_waiting (runs_in new);
   too_soon = is_early (runs_in old) at;
@@ -146,21 +146,21 @@ pub record Replies (asked : Option Wish) (reply : Reply) (old new : Server) : Ty
   pub at : ℕ
   pub answer : Option Answer
   pub opened : List ℕ
-  pub does : Does old.taker (deed_of asked (runs_in old.taker.pass) at) answer 1 new.taker
-  pub reads : old.ahead ≡ prepend_known_readings (reading (reads_clock asked (runs_in old.taker.pass)) at) new.ahead
+  pub does : DoesDeed old.taker (deed_of asked (runs_in old.taker.pass) at) answer 1 new.taker
+  pub reads : old.ahead ≡ prepend_known_readings (clock_reading (reads_clock asked (runs_in old.taker.pass)) at) new.ahead
   pub turned : TakesTurn asked old.taker.pass new.taker.pass
-  pub replied : reply_unless_unread asked (standing old.taker.pass new.taker.pass at answer opened) ≡ Some reply
+  pub replied : reply_unless_unread asked (standing_after old.taker.pass new.taker.pass at answer opened) ≡ Some reply
 
 -- a line that asks which opening this is, is replied its text
 abbrev pub TellsOpened : (opened : List ℕ) → Option Wish → Reply → Type 0
 TellsOpened opened asked one = asked ≡ Some wish.Opened → one ≡ reply.Opened opened
 
 -- a wish was done as far as it came
-pub record Breaks (asked : Option Wish) (old new : Server) : Type 0 where
+pub record BreaksOff (asked : Option Wish) (old new : Server) : Type 0 where
   pub at : ℕ
   pub does : DoesPart old.taker (deed_of asked (runs_in old.taker.pass) at) 2 new.taker
   pub reads : (new.ahead ≡ old.ahead)
-      ⊎ (old.ahead ≡ prepend_known_readings (reading (reads_clock asked (runs_in old.taker.pass)) at) new.ahead)
+      ⊎ (old.ahead ≡ prepend_known_readings (clock_reading (reads_clock asked (runs_in old.taker.pass)) at) new.ahead)
 
 -- ---- too few turns, or too many entries
 
@@ -213,10 +213,31 @@ KeepsTurn (Some (wish.Rows kind after)) old new = new ≡ old
 KeepsTurn (Some wish.Usage) old new = new ≡ old
 KeepsTurn (Some wish.Opened) old new = ⊤
 
--- The line wanted a turn, of which fewer than two were left, or an entry, for which the history has no room.
+abbrev pub waits_of_call : Option CallBegun → ℕ
+waits_of_call None = 0
+waits_of_call (Some (Told status text)) = 0
+waits_of_call (Some (Runs request version)) = waits_of request
+
+-- How many turns it may have taken that made no entry: the collection of a CNI call was found to wait.
+abbrev pub spared_in : Option Wish → ℕ
+spared_in None = 0
+spared_in (Some (wish.Cni env stdin)) = waits_of_call (call_begun env stdin)
+spared_in (Some (wish.Request request)) = 0
+spared_in (Some (wish.Feed live)) = 0
+spared_in (Some wish.Stop) = 0
+spared_in (Some wish.Routes) = 0
+spared_in (Some (wish.RoutesSince revision)) = 0
+spared_in (Some (wish.Rows kind after)) = 0
+spared_in (Some wish.Usage) = 0
+spared_in (Some wish.Opened) = 0
+
+-- The line wanted a turn, of which fewer than two were left, or an entry, for which the history has no room. No
+-- turn was taken in vain: each made an entry, but for one that found a collection to wait, and one that found that
+-- there is no room.
 pub record WearsOut (asked : Option Wish) (old new : PassValue) : Type 0 where
   pub due : wants_turn asked (is_waiting (runs_in old)) ≡ true
-  pub worn : (new.left < 2) ⊎ ((wants_entry asked ≡ true) × (2 ^ 62 ≤ moment_of new.base new.seen))
+  pub worn : ((new.left < 2) × Spends (spared_in asked) old new)
+      ⊎ ((wants_entry asked ≡ true) × (2 ^ 62 ≤ moment_of new.base new.seen) × Spends (suc (spared_in asked)) old new)
   pub unanswered : IsUnanswered old new
   pub untaken : KeepsTurn asked old new
 
@@ -234,5 +255,5 @@ reply_fed None = reply.Refused TooSoon
 -- the request of a CNI call was answered, and this tells so
 pub record TellsRun (request : Request) (version : Version) (old : Taker) (reply : Reply) (new : Taker) : Type 0 where
   pub told : Answer
-  pub does : Does old (Calls request) (Some told) 1 new
-  pub tells : option_map called (call_told request version told) ≡ Some reply
+  pub does : DoesDeed old (Calls request) (Some told) 1 new
+  pub tells : option_map called_reply (call_reply_told request version told) ≡ Some reply

@@ -17,7 +17,7 @@ use Rattle.ipam_serve.specs.declared.ran.Broken.{Broken}
 use Rattle.ipam_serve.specs.declared.ran.Broken.TheVariants as broken
 use Rattle.ipam_serve.specs.Gains.{Gained, Passed, Settles}
 use Rattle.ipam_serve.specs.Keeping.{AtKeeper}
-use Rattle.ipam_serve.specs.Lines.{Breaks, Replies, Server, TellsOpened, WearsOut, asked_by}
+use Rattle.ipam_serve.specs.Lines.{BreaksOff, Replies, Server, TellsOpened, WearsOut, asked_by}
 use Rattle.ipam_serve.specs.Runs.{Taker}
 
 -- ---- lines and replies
@@ -61,7 +61,7 @@ server_before pass server = record { taker = record { pass = pass; turns = serve
 
 module _ (at : AtKeeper) where
   -- The line was done, which left this pass, and replied to. What it told rests on what this pass was told of.
-  pub record Told (line : List ℕ) (reply : Reply) (old : Talk) (middle : PassValue) (new : Talk) : Type 0 where
+  pub record ToldLine (line : List ℕ) (reply : Reply) (old : Talk) (middle : PassValue) (new : Talk) : Type 0 where
     pub replies : Replies (asked_by line) reply old.server (server_before middle new.server)
     pub opened : TellsOpened old.opened (asked_by line) reply
     pub keeper : at.came replies.answer old.server.taker.pass middle
@@ -73,7 +73,7 @@ module _ (at : AtKeeper) where
     pub asks : AsksOnce old new
     pub reads : ReadsLine x.line old.coming new.coming
     pub middle : PassValue
-    pub told : Told x.line x.reply old middle new
+    pub told : ToldLine x.line x.reply old middle new
     pub settled : at.settled new.server.taker.pass
     pub same : new.opened ≡ old.opened
     pub writes : new.written ≡ append_known old.written (reply_line x.reply)
@@ -98,7 +98,7 @@ module _ (at : AtKeeper) where
   pub record LeavesUndone (line : List ℕ) (old new : Talk) : Type 0 where
     pub asks : AsksOnce old new
     pub reads : ReadsLine line old.coming new.coming
-    pub breaks : Breaks (asked_by line) old.server new.server
+    pub breaks : BreaksOff (asked_by line) old.server new.server
     pub writes : new.written ≡ old.written
     pub keeper : at.came None old.server.taker.pass new.server.taker.pass
 
@@ -121,7 +121,7 @@ module _ (at : AtKeeper) where
     pub asks : AsksOnce old new
     pub reads : ReadsLine line old.coming new.coming
     pub middle : PassValue
-    pub told : Told at line reply old middle new
+    pub told : ToldLine at line reply old middle new
     pub why : Unsettles how middle new.server.taker.pass
     pub writes : new.written ≡ old.written
 
@@ -131,7 +131,7 @@ module _ (at : AtKeeper) where
     pub asks : AsksOnce old new
     pub reads : ReadsLine line old.coming new.coming
     pub middle : PassValue
-    pub told : Told at line reply old middle new
+    pub told : ToldLine at line reply old middle new
     pub settled : at.settled new.server.taker.pass
     pub writes : AppendsPrefix old.written new.written (reply_line reply)
 
@@ -160,11 +160,11 @@ IsUnsettled (Undone line) = ⊥
 IsUnsettled (Unsettled line reply) = ⊤
 IsUnsettled (Untold line reply) = ⊥
 
-abbrev pub IsUntold : Rest → Type 0
-IsUntold Nothing = ⊥
-IsUntold (Undone line) = ⊥
-IsUntold (Unsettled line reply) = ⊥
-IsUntold (Untold line reply) = ⊤
+abbrev pub IsReplyUntold : Rest → Type 0
+IsReplyUntold Nothing = ⊥
+IsReplyUntold (Undone line) = ⊥
+IsReplyUntold (Unsettled line reply) = ⊥
+IsReplyUntold (Untold line reply) = ⊤
 
 -- the line that was not done to its end wore the pass or the history out, or no turn was left to make sure of
 -- what a line did
@@ -181,7 +181,7 @@ IsCause end.Closed rest coming first last = (rest ≡ Nothing) × IfSome coming 
 IsCause end.Cut rest coming first last = (rest ≡ Nothing) × IfSome coming (λ bytes. IsLine SESSION_LINE_BYTES bytes × (bytes ≢ []))
 IsCause end.LineTooLong rest coming first last = (rest ≡ Nothing) × IfSome coming (IsTooLong SESSION_LINE_BYTES)
 IsCause end.ReadFault rest coming first last = rest ≡ Nothing
-IsCause end.WriteFault rest coming first last = IsUntold rest
+IsCause end.WriteFault rest coming first last = IsReplyUntold rest
 IsCause end.Halted rest coming first last = (rest ≡ Nothing) ⊎ IsUndone rest
 IsCause end.Worn rest coming first last = IsWornAt rest first last
 IsCause end.Memory rest coming first last = ⊤

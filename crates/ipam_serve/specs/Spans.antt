@@ -29,7 +29,7 @@ Reaches slot None calls = GoesOn slot calls
 Reaches slot (Some told) calls = AnswersWith slot told calls
 
 -- this entry, and then calls up to their answer, or with none so far
-pub record Span (slot : ℕ) (first : Entry) (answer : Option Answer) (entries : List Entry) : Type 0 where
+pub record SlotSpan (slot : ℕ) (first : Entry) (answer : Option Answer) (entries : List Entry) : Type 0 where
   pub calls : List Entry
   pub are : entries ≡ calls ++ first ∷ []
   pub reaches : Reaches slot answer calls
@@ -39,13 +39,18 @@ pub record FedOwn (slot : ℕ) (asked : CollectRequest) (answer : Option Answer)
   pub earlier : List Entry
   pub later : List Entry
   pub are : entries ≡ later ++ earlier
-  pub before : Span slot (entry.Began slot (Collect asked)) None earlier
-  pub behind : Span slot (entry.Fed slot 0 asked.live) answer later
+  pub before : SlotSpan slot (entry.Began slot (Collect asked)) None earlier
+  pub behind : SlotSpan slot (entry.Fed slot 0 asked.live) answer later
 
 -- a collection that was made at the time 0 and has no grace
 abbrev pub IsTimeless : Request → Type 0
 IsTimeless (Collect asked) = (asked.at ≡ 0) × (asked.grace ≡ 0)
 IsTimeless other = Unit {0}
+
+-- how many turns may find that it waits, of those that a CNI call takes which makes this request
+abbrev pub waits_of : Request → ℕ
+waits_of (Collect asked) = 1
+waits_of other = 0
 
 -- ---- what is done in the slot
 
@@ -73,15 +78,15 @@ own_feed other = Nothing
 
 abbrev pub CallSpan : ℕ → Request → Option Answer → List Entry → Type 0
 CallSpan slot request answer entries =
-    Span slot (entry.Began slot request) answer entries
+    SlotSpan slot (entry.Began slot request) answer entries
     ⊎ ((asked : CollectRequest) × (request ≡ Collect asked) × FedOwn slot asked answer entries)
 
 -- it was done, with these entries of the slot and this answer, if there is one yet
 abbrev pub Did : ℕ → Deed → Option Answer → List Entry → Type 0
 Did slot Nothing answer entries = (answer ≡ None) × (entries ≡ [])
-Did slot (Begins request) answer entries = Span slot (entry.Began slot request) answer entries
+Did slot (Begins request) answer entries = SlotSpan slot (entry.Began slot request) answer entries
 Did slot (Calls request) answer entries = CallSpan slot request answer entries
-Did slot (Feeds live at) answer entries = Span slot (entry.Fed slot at live) answer entries
+Did slot (Feeds live at) answer entries = SlotSpan slot (entry.Fed slot at live) answer entries
 Did slot Stops answer entries = (answer ≡ None) × (entries ≡ entry.Stopped slot ∷ [])
 
 -- it was done as far as it came

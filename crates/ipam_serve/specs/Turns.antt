@@ -20,7 +20,7 @@ use Rattle.ipam_serve.specs.declared.ran.Ran.TheVariants.{Answered, Waits}
 use Rattle.ipam_serve.specs.declared.turns.Feeding.{Feeding}
 use Rattle.ipam_serve.specs.declared.turns.Feeding.TheVariants as feeding
 use Rattle.ipam_serve.specs.Faults.{OnHalted, OnWorn}
-use Rattle.ipam_serve.specs.Gains.{Took, asked_in, is_early, is_waiting}
+use Rattle.ipam_serve.specs.Gains.{TookTurns, request_running, is_early, is_waiting}
 
 -- what an entry tells of a call's answer
 abbrev pub answer_told : Entry → Option Ran
@@ -34,7 +34,7 @@ pub record Made (old : PassValue) (answer : Option Answer) (new : PassValue) : T
   pub made : OneCall
   pub own : made.slot ≡ old.slot
   pub answers : made.answer ≡ answer
-  pub took : Took old (entry.Called made ∷ []) 0 new
+  pub took : TookTurns old (entry.Called made ∷ []) 0 new
 
 -- what a turn came to for what runs: a call without an answer, one with an answer that its request can
 -- have, or that it waits
@@ -42,15 +42,15 @@ abbrev pub Called : PassValue → Option Ran → PassValue → Type 0
 Called old None new = Made old None new
 Called old (Some (Answered told)) new =
     Made old (Some told) new
-    × ((request : Request) → asked_in (runs_in old) ≡ Some request → CanAnswer request told)
-Called old (Some Waits) new = Took old [] 1 new × (is_waiting (runs_in new) ≡ true)
+    × ((request : Request) → request_running (runs_in old) ≡ Some request → CanAnswer request told)
+Called old (Some Waits) new = TookTurns old [] 1 new × (is_waiting (runs_in new) ≡ true)
 
 -- what a turn came to for a second list
 abbrev pub Fed : PassValue → List (List ℕ) → (at : ℕ) → Feeding → PassValue → Type 0
 Fed old live at feeding.Fed new =
-    Took old (entry.Fed old.slot at live ∷ []) 0 new × (is_early (runs_in old) at ≡ false)
+    TookTurns old (entry.Fed old.slot at live ∷ []) 0 new × (is_early (runs_in old) at ≡ false)
 Fed old live at feeding.TooSoon new =
-    Took old [] 1 new × (is_early (runs_in old) at ≡ true) × (is_waiting (runs_in new) ≡ true)
+    TookTurns old [] 1 new × (is_early (runs_in old) at ≡ true) × (is_waiting (runs_in new) ≡ true)
 
 -- the fault tells this of the routes
 abbrev pub IsToldOf : SharedFault SinceFault → Since → Type 0
@@ -62,7 +62,7 @@ IsToldOf (Inner fault_of.Memory) since = ⊥
 -- One turn was taken, by which the slot gained nothing and what runs still does; or too few were left. No gate
 -- was passed.
 pub record TakesOne {T : Type 0} (result : Result T Broken) (old new : PassValue) : Type 0 where
-  pub took : Took old [] 1 new
+  pub took : TookTurns old [] 1 new
   pub one : OnOk result (new.left + 1 ≡ old.left)
   pub runs : runs_in new ≡ runs_in old
   pub worn : OnWorn result ((new ≡ old) × (new.left < 2))
@@ -70,7 +70,7 @@ pub record TakesOne {T : Type 0} (result : Result T Broken) (old new : PassValue
 
 -- the same, with what was told, or nothing where too few turns were left
 pub record TakesLook {T : Type 0} (told : Option T) (old new : PassValue) : Type 0 where
-  pub took : Took old [] 1 new
+  pub took : TookTurns old [] 1 new
   pub one : IfSome told (λ value. new.left + 1 ≡ old.left)
   pub runs : runs_in new ≡ runs_in old
   pub worn : IfNone told ((new ≡ old) × (new.left < 2))

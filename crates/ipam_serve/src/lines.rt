@@ -5,8 +5,8 @@ ghost use Rattle.ipam_io.specs.Readings.{prepend_known_readings};
 ghost use Rattle.ipam_records.specs.Sound.{IsHandleId};
 ghost use Rattle.ipam_model.specs.SoundRequest.{IsSoundRequest};
 ghost use Rattle.ipam_model.specs.CanAnswer.{CanAnswer};
-ghost use Rattle.ipam_session.specs.Calls.{IsOfCall, IsSoundBegun, call_begun, call_told, is_of_call};
-ghost use Rattle.ipam_session.specs.Lines.{called};
+ghost use Rattle.ipam_session.specs.Calls.{IsOfCall, IsSoundBegun, call_begun, call_reply_told, is_of_call};
+ghost use Rattle.ipam_session.specs.Lines.{called_reply};
 ghost use Rattle.ipam_session.specs.Wishes.{IsSoundWish};
 ghost use Rattle.ipam_serve.specs.Spans.{IsTimeless};
 ghost use Rattle.ipam_session.specs.declared.wish.Wish.TheVariants as wish;
@@ -14,7 +14,7 @@ ghost use Rattle.ipam_shared.specs.Passes.{runs_in};
 ghost use Rattle.ipam_serve.specs.Faults.{Halts, OnWorn};
 ghost use Rattle.ipam_serve.specs.Gains.{is_waiting};
 ghost use Rattle.ipam_serve.specs.Keeping.{MakesCalls};
-ghost use Rattle.ipam_serve.specs.Lines.{Breaks, Replies, WearsOut, asked_by, is_collect, reading, reply_fed, reply_ran, server_at, timed};
+ghost use Rattle.ipam_serve.specs.Lines.{BreaksOff, Replies, WearsOut, asked_by, is_collect, clock_reading, reply_fed, reply_ran, server_at, timed};
 ghost use Rattle.ipam_serve.specs.Outcomes.{Comes, ComesOfCall};
 ghost use Rattle.ipam_serve.specs.Runs.{IsAtRest};
 
@@ -55,7 +55,7 @@ pub fn answer_line<R: Wait, D: Keeper, G: SessionGate, C: Clock, P: Patience>(
     ensures replied { IfOk result (λ reply. Replies (asked_by line.items) reply
         (server_at pass.old (G.turns gate.old) (C.ahead clock.old))
         (server_at pass.new (G.turns gate.new) (C.ahead clock.new))) }
-    ensures broken { OnErr result (Breaks (asked_by line.items)
+    ensures broken { OnErr result (BreaksOff (asked_by line.items)
         (server_at pass.old (G.turns gate.old) (C.ahead clock.old))
         (server_at pass.new (G.turns gate.new) (C.ahead clock.new))) }
     ensures rests { OnOk result (IsAtRest (runs_in pass.new)) }
@@ -472,7 +472,7 @@ fn call_reply(
     requires of_call { IsTrue (is_of_call request.now) }
     requires can_answer { CanAnswer request.now answer.now }
     ensures told { IfOk result (λ reply.
-        option_map called (call_told request.now version answer.now) ≡ Some reply) }
+        option_map called_reply (call_reply_told request.now version answer.now) ≡ Some reply) }
     ensures memory { OnErr result (result ≡ Err Broken.Memory) }
 {
     match tell_call(alloc, request, answer, version) {
@@ -485,7 +485,7 @@ fn call_reply(
 fn set_time<C: Clock>(clock: &mut C, request: &mut Request) -> u64
     ensures timed { request.new ≡ timed result request.old }
     ensures reads { C.ahead clock.old
-        ≡ prepend_known_readings (reading (is_collect request.old) result) (C.ahead clock.new) }
+        ≡ prepend_known_readings (clock_reading (is_collect request.old) result) (C.ahead clock.new) }
     ensures sound { IsSoundRequest request.old → IsSoundRequest request.new }
 {
     match request {

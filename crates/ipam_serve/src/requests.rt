@@ -8,12 +8,12 @@ ghost use Rattle.ipam_model.specs.CanAnswer.{CanAnswer};
 ghost use Rattle.ipam_model.specs.SoundRequest.{IsSoundCollect, IsSoundRequest};
 ghost use Rattle.ipam_shared.specs.Passes.{runs_in};
 ghost use Rattle.ipam_serve.specs.Faults.{Halts, IfAnswered, IsWorn, OnWaits, OnWorn, answer_ran, found_of, spared_by};
-ghost use Rattle.ipam_serve.specs.Gains.{asked_in, is_early, is_waiting};
+ghost use Rattle.ipam_serve.specs.Gains.{request_running, is_early, is_waiting};
 ghost use Rattle.ipam_serve.specs.Keeping.{MakesCalls};
 ghost use Rattle.ipam_serve.specs.Lines.{IsUnanswered};
 ghost use Rattle.ipam_serve.specs.Going.{FeedsOwn, GoesOnTo, GoesToAnswer, Steps};
-ghost use Rattle.ipam_serve.specs.Runs.{Does, DoesPart, FeedsList};
-ghost use Rattle.ipam_serve.specs.Spans.{Begins, Calls, Feeds, IsTimeless, list_deed, own_feed};
+ghost use Rattle.ipam_serve.specs.Runs.{DoesDeed, DoesPart, FeedsList};
+ghost use Rattle.ipam_serve.specs.Spans.{Begins, Calls, Feeds, IsTimeless, list_deed, own_feed, waits_of};
 
 use crate::gates::SessionGate;
 use crate::patience::{Losses, Patience};
@@ -41,7 +41,7 @@ pub fn run_request<R: Wait, D: Keeper, G: SessionGate, P: Patience>(
     requires lock { pass.old.lock ≡ shared.now }
     requires idle { runs_in pass.old ≡ None }
     requires sound { IsSoundRequest request.now }
-    ensures ran { IfOk result (λ ran. Does
+    ensures ran { IfOk result (λ ran. DoesDeed
         (record { pass = pass.old; turns = G.turns gate.old }) (Begins request.now) (answer_ran ran) (spared_by ran)
         (record { pass = pass.new; turns = G.turns gate.new })) }
     ensures broken { OnErr result (DoesPart
@@ -50,8 +50,8 @@ pub fn run_request<R: Wait, D: Keeper, G: SessionGate, P: Patience>(
     ensures can_answer { IfOk result (λ ran. IfAnswered ran (CanAnswer request.now)) }
     ensures idle { IfOk result (λ ran. IfAnswered ran (λ told. runs_in pass.new ≡ None)) }
     ensures waits { IfOk result (λ ran. OnWaits ran
-        ((is_waiting (runs_in pass.new) ≡ true) × (asked_in (runs_in pass.new) ≡ Some request.now))) }
-    ensures worn { OnWorn result (IsWorn pass.new) }
+        ((is_waiting (runs_in pass.new) ≡ true) × (request_running (runs_in pass.new) ≡ Some request.now))) }
+    ensures worn { OnWorn result (IsWorn 0 pass.old pass.new) }
     ensures unanswered { OnWorn result (IsUnanswered pass.old pass.new) }
     ensures stops { Halts result (G.stops gate.old) (G.stops gate.new) }
     ensures keeper { MakesCalls D.rows D.given D.faults pass.old pass.new }
@@ -178,9 +178,9 @@ pub fn run_feed<R: Wait, D: Keeper, G: SessionGate, P: Patience>(
     ensures broken { OnErr result (DoesPart
         (record { pass = pass.old; turns = G.turns gate.old }) (list_deed (is_early (runs_in pass.old) at) live.now at) 1
         (record { pass = pass.new; turns = G.turns gate.new })) }
-    ensures can_answer { (request : Asked) → asked_in (runs_in pass.old) ≡ Some request
+    ensures can_answer { (request : Asked) → request_running (runs_in pass.old) ≡ Some request
         → IfOk result (λ told. IfSome told (CanAnswer request)) }
-    ensures worn { OnWorn result (IsWorn pass.new) }
+    ensures worn { OnWorn result (IsWorn 0 pass.old pass.new) }
     ensures runs { OnWorn result (IsSome (runs_in pass.new)) }
     ensures stops { Halts result (G.stops gate.old) (G.stops gate.new) }
     ensures keeper { MakesCalls D.rows D.given D.faults pass.old pass.new }
@@ -215,7 +215,7 @@ pub fn run_call<R: Wait, D: Keeper, G: SessionGate, P: Patience>(
     requires idle { runs_in pass.old ≡ None }
     requires sound { IsSoundRequest request.now }
     requires timeless { IsTimeless request.now }
-    ensures ran { IfOk result (λ told. Does
+    ensures ran { IfOk result (λ told. DoesDeed
         (record { pass = pass.old; turns = G.turns gate.old }) (Calls request.now) (Some told) 1
         (record { pass = pass.new; turns = G.turns gate.new })) }
     ensures broken { OnErr result (DoesPart
@@ -223,7 +223,7 @@ pub fn run_call<R: Wait, D: Keeper, G: SessionGate, P: Patience>(
         (record { pass = pass.new; turns = G.turns gate.new })) }
     ensures can_answer { IfOk result (CanAnswer request.now) }
     ensures idle { OnOk result (runs_in pass.new ≡ None) }
-    ensures worn { OnWorn result (IsWorn pass.new) }
+    ensures worn { OnWorn result (IsWorn (waits_of request.now) pass.old pass.new) }
     ensures unanswered { OnWorn result (IsUnanswered pass.old pass.new) }
     ensures stops { Halts result (G.stops gate.old) (G.stops gate.new) }
     ensures keeper { MakesCalls D.rows D.given D.faults pass.old pass.new }
@@ -249,7 +249,7 @@ fn feed_own<R: Wait, D: Keeper, G: SessionGate, P: Patience>(
 ) -> Result<Answer, Broken>
     requires lock { pass.old.lock ≡ shared.now }
     requires waits { is_waiting (runs_in pass.old) ≡ true }
-    requires asked { asked_in (runs_in pass.old) ≡ Some request.now }
+    requires asked { request_running (runs_in pass.old) ≡ Some request.now }
     requires sound { IsSoundRequest request.now }
     requires timeless { IsTimeless request.now }
     ensures fed { FeedsOwn D.rows D.given D.faults (own_feed request.now) request.now result
@@ -275,7 +275,7 @@ fn feed_first<R: Wait, D: Keeper, G: SessionGate, P: Patience>(
 ) -> Result<Answer, Broken>
     requires lock { pass.old.lock ≡ shared.now }
     requires waits { is_waiting (runs_in pass.old) ≡ true }
-    requires asked { asked_in (runs_in pass.old) ≡ Some (Collect asked.now) }
+    requires asked { request_running (runs_in pass.old) ≡ Some (Collect asked.now) }
     requires sound { IsSoundCollect asked.now }
     requires timeless { IsTimeless (Collect asked.now) }
     ensures fed { FeedsOwn D.rows D.given D.faults (Feeds asked.now.live 0) (Collect asked.now) result

@@ -9,7 +9,7 @@ ghost use Rattle.ipam_model.specs.Cluster.{state_of};
 ghost use Rattle.ipam_model.specs.SoundRequest.{IsSoundRequest};
 ghost use Rattle.ipam_shared.specs.Passes.{runs_in};
 ghost use Rattle.ipam_serve.specs.Faults.{IsWorn, OnHalted, OnWorn};
-ghost use Rattle.ipam_serve.specs.Gains.{Took, asked_in, is_early, is_waiting};
+ghost use Rattle.ipam_serve.specs.Gains.{TookTurns, request_running, is_early, is_waiting};
 ghost use Rattle.ipam_serve.specs.Keeping.{MakesCalls};
 ghost use Rattle.ipam_kept.specs.Feed.{AreRoutes};
 ghost use Rattle.ipam_model.specs.History.{store_at};
@@ -43,9 +43,9 @@ pub(crate) fn begin<R: Wait, D: Keeper>(
     requires idle { runs_in pass.old ≡ None }
     requires sound { IsSoundRequest request.now }
     ensures begun { OnOk result
-        (Took pass.old (entry.Began pass.old.slot request.now ∷ []) 0 pass.new) }
-    ensures not_begun { OnErr result (Took pass.old [] 1 pass.new) }
-    ensures worn { OnWorn result (IsWorn pass.new) }
+        (TookTurns pass.old (entry.Began pass.old.slot request.now ∷ []) 0 pass.new) }
+    ensures not_begun { OnErr result (TookTurns pass.old [] 1 pass.new) }
+    ensures worn { OnWorn result (IsWorn 0 pass.old pass.new) }
     ensures not_halted { OnHalted result ⊥ }
 {
     if pass.left() < 2 {
@@ -87,8 +87,8 @@ pub(crate) fn call<R: Wait, D: Keeper>(
     requires lock { pass.old.lock ≡ shared.now }
     requires runs { IsSome (runs_in pass.old) }
     ensures called { IfOk result (λ ran. Called pass.old ran pass.new) }
-    ensures not_called { OnErr result (Took pass.old [] 1 pass.new) }
-    ensures worn { OnWorn result (IsWorn pass.new) }
+    ensures not_called { OnErr result (TookTurns pass.old [] 1 pass.new) }
+    ensures worn { OnWorn result (IsWorn 0 pass.old pass.new) }
     ensures not_halted { OnHalted result ⊥ }
     ensures keeper { MakesCalls D.rows D.given D.faults pass.old pass.new }
 {
@@ -153,8 +153,8 @@ pub(crate) fn feed<R: Wait, D: Keeper>(
     requires waits { is_waiting (runs_in pass.old) ≡ true }
     requires sound { All IsHandleId live.now }
     ensures fed { IfOk result (λ feeding. Fed pass.old live.now at feeding pass.new) }
-    ensures not_fed { OnErr result (Took pass.old [] 1 pass.new) }
-    ensures worn { OnWorn result (IsWorn pass.new) }
+    ensures not_fed { OnErr result (TookTurns pass.old [] 1 pass.new) }
+    ensures worn { OnWorn result (IsWorn 0 pass.old pass.new) }
     ensures not_halted { OnHalted result ⊥ }
 {
     if pass.left() < 2 {
@@ -196,7 +196,7 @@ pub(crate) fn stop<R: Wait, D: Keeper>(
 ) -> Result<(), Broken>
     requires lock { pass.old.lock ≡ shared.now }
     requires runs { IsSome (runs_in pass.old) }
-    ensures stopped { OnOk result (Took pass.old (entry.Stopped pass.old.slot ∷ []) 0 pass.new) }
+    ensures stopped { OnOk result (TookTurns pass.old (entry.Stopped pass.old.slot ∷ []) 0 pass.new) }
     ensures not_stopped { OnErr result (pass.new ≡ pass.old) }
     ensures worn { OnWorn result (pass.new.left < 2) }
     ensures not_halted { OnHalted result ⊥ }

@@ -13,18 +13,18 @@ use Rattle.ipam_session.specs.declared.route.Since.{Since}
 use Rattle.ipam_session.specs.declared.route.Since.TheVariants.{Changes, Compacted, Ahead}
 use Rattle.ipam_session.specs.declared.replies.Reply.{Reply}
 use Rattle.ipam_session.specs.declared.replies.Reply.TheVariants.{Called, Answered, Waiting, Stopped, Refused, Routes, RoutesSince, Rows, Usage, Opened}
-use Rattle.ipam_session.specs.Replies.{call_data, route_data, change_data, routes_data, changes_data, since_data, row_data, with_more, page_data, pool_data, usage_data, reply_data}
+use Rattle.ipam_session.specs.Replies.{call_reply_data, route_data, route_change_data, routes_data, changes_data, since_data, row_data, with_more, page_data, pool_usage_data, usage_data, reply_data}
 
-pub call_without : (status : ℕ) (stdout : List ℕ) → has_float (call_data status stdout) ≡ false
-unfolding call_data
+pub call_without : (status : ℕ) (stdout : List ℕ) → has_float (call_reply_data status stdout) ≡ false
+unfolding call_reply_data
 call_without status stdout = refl
 
 route_without : (route : OneRoute) → has_float (route_data route) ≡ false
 unfolding route_data
 route_without route = refl
 
-change_without : (change : Change) → has_float (change_data change) ≡ false
-unfolding change_data
+change_without : (change : Change) → has_float (route_change_data change) ≡ false
+unfolding route_change_data
 change_without change = refl
 
 routes_without : (revision : ℕ) (routes : List OneRoute) → has_float (routes_data revision routes) ≡ false
@@ -33,7 +33,7 @@ routes_without revision routes = rw (items_without route_data route_without rout
 
 changes_without : (revision : ℕ) (changes : List Change) → has_float (changes_data revision changes) ≡ false
 unfolding changes_data
-changes_without revision changes = rw (items_without change_data change_without changes) refl
+changes_without revision changes = rw (items_without route_change_data change_without changes) refl
 
 since_without : (since : Since) → has_float (since_data since) ≡ false
 since_without (Changes revision changes) = changes_without revision changes
@@ -55,13 +55,13 @@ page_without : (page : Page) → has_float (page_data page) ≡ false
 unfolding page_data
 page_without page = more_without page.more _ (rows_without page.revision page.rows)
 
-pool_without : (pool : PoolUsage) → has_float (pool_data pool) ≡ false
-unfolding pool_data
+pool_without : (pool : PoolUsage) → has_float (pool_usage_data pool) ≡ false
+unfolding pool_usage_data
 pool_without pool = refl
 
 usage_without : (revision : ℕ) (pools : List PoolUsage) → has_float (usage_data revision pools) ≡ false
 unfolding usage_data
-usage_without revision pools = rw (items_without pool_data pool_without pools) refl
+usage_without revision pools = rw (items_without pool_usage_data pool_without pools) refl
 
 pub reply_without : (reply : Reply) → has_float (reply_data reply) ≡ false
 reply_without (Called status stdout) = call_without status stdout

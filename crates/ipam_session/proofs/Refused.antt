@@ -10,8 +10,8 @@ use Rattle.ipam_session.specs.declared.replies.Reply.{Reply}
 use Rattle.ipam_session.specs.declared.replies.Reply.TheVariants as reply
 use Rattle.ipam_session.specs.declared.wish.Wish.{Wish}
 use Rattle.ipam_session.specs.declared.wish.Wish.TheVariants as wish
-use Rattle.ipam_session.specs.Calls.{call_begun, call_told}
-use Rattle.ipam_session.specs.Lines.{Standing, refused, answered, called, call_replied, reply_to, reply_unless_unread, reply_to_line, begins, feeds, stops}
+use Rattle.ipam_session.specs.Calls.{call_begun, call_reply_told}
+use Rattle.ipam_session.specs.Lines.{Standing, refused, answered, called_reply, call_replied, reply_to_wish, reply_unless_unread, reply_to_line, begins, feeds, stops}
 use Rattle.ipam_session.specs.Wishes.{wish_of_line}
 
 -- ---- what is no refusal
@@ -20,14 +20,14 @@ answer_no_refusal : (answer : Option Answer) (why : Refusal) → answered answer
 answer_no_refusal None why e = cc
 answer_no_refusal (Some found) why e = cc
 
-told_no_refusal : (told : Option (ℕ × List ℕ)) (why : Refusal) → option_map called told ≡ refused why → ⊥
+told_no_refusal : (told : Option (ℕ × List ℕ)) (why : Refusal) → option_map called_reply told ≡ refused why → ⊥
 told_no_refusal None why e = cc
 told_no_refusal (Some told) why e = cc
 
 begun_no_refusal : (begun : CallBegun) (answer : Option Answer) (why : Refusal) → call_replied begun answer ≡ refused why → ⊥
 begun_no_refusal (Told status text) answer why e = cc
 begun_no_refusal (Runs request version) None why e = cc
-begun_no_refusal (Runs request version) (Some found) why e = told_no_refusal (call_told request version found) why e
+begun_no_refusal (Runs request version) (Some found) why e = told_no_refusal (call_reply_told request version found) why e
 
 call_no_refusal : (begun : Option CallBegun) (answer : Option Answer) (why : Refusal) → (begun >>= λ one. call_replied one answer) ≡ refused why → ⊥
 call_no_refusal None answer why e = cc

@@ -12,7 +12,7 @@ use Rattle.cni_types.specs.declared.version.Version as versions
 use Rattle.cni_types.specs.Looking.{look_reading}
 use Rattle.cni_types.specs.Reading.{Pair}
 use Rattle.cni_asks.specs.declared.replies.CniReply.{CniReply}
-use Rattle.cni_asks.specs.Replying.{reply_of, told}
+use Rattle.cni_asks.specs.Replying.{cni_reply_of, told}
 use Rattle.cni_asks.proofs.AllReplies.{each_has_one}
 use Rattle.cni_asks.proofs.GcReplies.{gc_has_one, status_has_one}
 use Rattle.ipam_session.specs.declared.call.CallBegun.{CallBegun}
@@ -22,8 +22,8 @@ use Rattle.ipam_session.specs.declared.replies.Reply.{Reply}
 use Rattle.ipam_session.specs.declared.replies.Reply.TheVariants as reply
 use Rattle.ipam_session.specs.declared.wish.Wish.{Wish}
 use Rattle.ipam_session.specs.declared.wish.Wish.TheVariants as wish
-use Rattle.ipam_session.specs.Calls.{begun_at, call_begun, is_of_call, IsOfCall, call_reply_of, call_told}
-use Rattle.ipam_session.specs.Lines.{Standing, AnswersWish, refused, answered, called, call_replied, reply_unless_unread, reply_to_line}
+use Rattle.ipam_session.specs.Calls.{begun_at, call_begun, is_of_call, IsOfCall, call_reply_of, call_reply_told}
+use Rattle.ipam_session.specs.Lines.{Standing, AnswersWish, refused, answered, called_reply, call_replied, reply_unless_unread, reply_to_line}
 use Rattle.ipam_session.specs.Wishes.{wish_of_line}
 use Rattle.ipam_session.proofs.Asked.{begun_of_call}
 
@@ -56,12 +56,12 @@ reply_some (request.Collect collect) found of can = gc_has_one found (collect, c
 reply_some (request.Admin change) found of can = absurd cc
 reply_some (request.Probe probe) found of can = status_has_one found (probe, can)
 
-pub told_some : (asked : Request) (version : versions.Version) (found : Answer) → IsTrue (is_of_call asked) → CanAnswer asked found → IsSome (call_told asked version found)
+pub told_some : (asked : Request) (version : versions.Version) (found : Answer) → IsTrue (is_of_call asked) → CanAnswer asked found → IsSome (call_reply_told asked version found)
 told_some asked version found of can = mapped (told version) (call_reply_of asked found) (reply_some asked found of can)
 
 call_some : (begun : CallBegun) (found : Answer) → IsOfCall begun → ((asked : Request) (version : versions.Version) → begun ≡ Runs asked version → CanAnswer asked found) → IsSome (call_replied begun (Some found))
 call_some (Told status text) found of can = refl
-call_some (Runs asked version) found of can = mapped called (call_told asked version found) (told_some asked version found of (can asked version refl))
+call_some (Runs asked version) found of can = mapped called_reply (call_reply_told asked version found) (told_some asked version found of (can asked version refl))
 
 cni_some : (waited : Bool) (begun : Option CallBegun) (found : Answer) → IsSome begun → ((one : CallBegun) → begun ≡ Some one → IsOfCall one) → ((asked : Request) (version : versions.Version) → begun ≡ Some (Runs asked version) → CanAnswer asked found) → IsSome (if waited then refused Waiting else (begun >>= λ one. call_replied one (Some found)))
 cni_some true begun found some of can = refl

@@ -16,7 +16,7 @@ use Rattle.cni_asks.specs.declared.asks.Ask.{Ask}
 use Rattle.cni_asks.specs.declared.asks.Ask.TheVariants.{Tell, Begin}
 use Rattle.cni_asks.specs.declared.replies.CniReply.{CniReply}
 use Rattle.cni_asks.specs.Asking.{ask_of}
-use Rattle.cni_asks.specs.Replying.{is_of_container, reply_of, told}
+use Rattle.cni_asks.specs.Replying.{is_of_container, cni_reply_of, told}
 use Rattle.cni_asks.specs.GcAsking.{collect_of, probe_of}
 use Rattle.cni_asks.specs.GcReplying.{gc_reply_of, status_reply_of}
 use Rattle.ipam_session.specs.declared.call.CallBegun.{CallBegun}
@@ -63,8 +63,8 @@ IsOfCall (Runs request version) = IsTrue (is_of_call request)
 abbrev pub call_reply_of : Request → Answer → Option CniReply
 call_reply_of (Collect collect) found = gc_reply_of found
 call_reply_of (Probe probe) found = status_reply_of found
-call_reply_of other found = reply_of other found
+call_reply_of other found = cni_reply_of other found
 
 -- the status and the text that it is told, in a version
-abbrev pub call_told : Request → Version → Answer → Option (ℕ × List ℕ)
-call_told request version found = option_map (told version) (call_reply_of request found)
+abbrev pub call_reply_told : Request → Version → Answer → Option (ℕ × List ℕ)
+call_reply_told request version found = option_map (told version) (call_reply_of request found)

@@ -19,7 +19,7 @@ use Rattle.ipam_feed.specs.declared.route.Route.{Route as OneRoute}
 use Rattle.ipam_session.specs.declared.route.Since.{Since}
 use Rattle.ipam_session.specs.declared.wish.Wish.{Wish}
 use Rattle.ipam_session.specs.declared.wish.Wish.TheVariants as wish
-use Rattle.ipam_session.specs.Calls.{call_begun, call_told}
+use Rattle.ipam_session.specs.Calls.{call_begun, call_reply_told}
 use Rattle.ipam_session.specs.Wishes.{wish_of_line}
 
 -- What a reply rests on beside its line.
@@ -51,37 +51,37 @@ refused why = Some (reply.Refused why)
 abbrev pub answered : Option Answer → Option Reply
 answered answer = option_map reply.Answered answer
 
-abbrev pub called : ℕ × List ℕ → Reply
-called told = reply.Called told.0 told.1
+abbrev pub called_reply : ℕ × List ℕ → Reply
+called_reply told = reply.Called told.0 told.1
 
 -- a call that runs is told of the answer to its request
 abbrev pub call_replied : CallBegun → Option Answer → Option Reply
 call_replied (Told status text) answer = Some (reply.Called status text)
 call_replied (Runs request version) answer = do
   found ← answer
-  option_map called (call_told request version found)
+  option_map called_reply (call_reply_told request version found)
 
 -- While a collection waits, no other request is begun; it is fed or stopped then alone.
-abbrev pub reply_to : Wish → Standing → Option Reply
-reply_to (wish.Cni env stdin) s =
+abbrev pub reply_to_wish : Wish → Standing → Option Reply
+reply_to_wish (wish.Cni env stdin) s =
     if s.waited then refused refusal.Waiting
     else (call_begun env stdin >>= λ begun. call_replied begun s.answer)
-reply_to (wish.Request request) s =
+reply_to_wish (wish.Request request) s =
     if s.waited then refused refusal.Waiting
     else (if s.waits then Some reply.Waiting else answered s.answer)
-reply_to (wish.Feed live) s =
+reply_to_wish (wish.Feed live) s =
     if s.waited then (if s.too_soon then refused refusal.TooSoon else answered s.answer)
     else refused refusal.NotWaiting
-reply_to wish.Stop s = if s.waited then Some reply.Stopped else refused refusal.NotWaiting
-reply_to wish.Routes s = Some (reply.Routes s.revision s.routes)
-reply_to (wish.RoutesSince revision) s = Some (reply.RoutesSince (s.since revision))
-reply_to (wish.Rows kind after) s = Some (reply.Rows (s.page kind after))
-reply_to wish.Usage s = Some (reply.Usage s.revision s.usage)
-reply_to wish.Opened s = Some (reply.Opened s.opened)
+reply_to_wish wish.Stop s = if s.waited then Some reply.Stopped else refused refusal.NotWaiting
+reply_to_wish wish.Routes s = Some (reply.Routes s.revision s.routes)
+reply_to_wish (wish.RoutesSince revision) s = Some (reply.RoutesSince (s.since revision))
+reply_to_wish (wish.Rows kind after) s = Some (reply.Rows (s.page kind after))
+reply_to_wish wish.Usage s = Some (reply.Usage s.revision s.usage)
+reply_to_wish wish.Opened s = Some (reply.Opened s.opened)
 
 abbrev pub reply_unless_unread : Option Wish → Standing → Option Reply
 reply_unless_unread None s = refused refusal.Line
-reply_unless_unread (Some asked) s = reply_to asked s
+reply_unless_unread (Some asked) s = reply_to_wish asked s
 
 -- the reply to a line; none while its request runs
 unfoldable pub reply_to_line : List ℕ → Standing → Option Reply

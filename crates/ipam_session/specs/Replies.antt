@@ -29,12 +29,12 @@ refusal_name refusal.Line = codes "line"
 -- ---- calls
 
 -- what a call ends with: its status and its standard output
-unfoldable pub call_data : ℕ → List ℕ → Data
-call_data status stdout =
+unfoldable pub call_reply_data : ℕ → List ℕ → Data
+call_reply_data status stdout =
     object_of ((codes "status", whole_data status) ∷ (codes "stdout", string stdout) ∷ [])
 
 unfoldable pub call_text : ℕ → List ℕ → List ℕ
-call_text status stdout = compact_text (call_data status stdout)
+call_text status stdout = compact_text (call_reply_data status stdout)
 
 -- ---- routes
 
@@ -42,8 +42,8 @@ unfoldable pub route_data : OneRoute → Data
 route_data route =
     object_of ((codes "cidr", string (cidr_text_of route.cidr)) ∷ (codes "node", string route.node) ∷ [])
 
-unfoldable pub change_data : Change → Data
-change_data change =
+unfoldable pub route_change_data : Change → Data
+route_change_data change =
     object_of ((codes "cidr", string (cidr_text_of change.route.cidr))
     ∷ (codes "node", string change.route.node)
     ∷ (codes "revision", whole_data change.revision)
@@ -56,7 +56,7 @@ routes_data revision routes =
 
 unfoldable pub changes_data : ℕ → List Change → Data
 changes_data revision changes =
-    object_of ((codes "changes", array_of (map change_data changes))
+    object_of ((codes "changes", array_of (map route_change_data changes))
     ∷ (codes "revision", whole_data revision) ∷ [])
 
 abbrev pub since_data : Since → Data
@@ -86,8 +86,8 @@ page_data page =
 -- ---- usage
 
 -- a pool, and what its blocks come to
-unfoldable pub pool_data : PoolUsage → Data
-pool_data pool =
+unfoldable pub pool_usage_data : PoolUsage → Data
+pool_usage_data pool =
     object_of ((codes "addresses", string pool.addresses)
     ∷ (codes "blocks", whole_data pool.blocks)
     ∷ (codes "cidr", string (cidr_text_of pool.cidr))
@@ -99,12 +99,12 @@ pool_data pool =
 
 unfoldable pub usage_data : ℕ → List PoolUsage → Data
 usage_data revision pools =
-    object_of ((codes "pools", array_of (map pool_data pools)) ∷ (codes "revision", whole_data revision) ∷ [])
+    object_of ((codes "pools", array_of (map pool_usage_data pools)) ∷ (codes "revision", whole_data revision) ∷ [])
 
 -- ---- replies
 
 abbrev pub reply_data : Reply → Data
-reply_data (reply.Called status stdout) = call_data status stdout
+reply_data (reply.Called status stdout) = call_reply_data status stdout
 reply_data (reply.Answered answer) = tagged (codes "answer") (answer_data answer)
 reply_data reply.Waiting = tagged (codes "waiting") (boolean true)
 reply_data reply.Stopped = tagged (codes "stopped") (boolean true)

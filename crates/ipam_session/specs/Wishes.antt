@@ -9,7 +9,7 @@ use Rattle.ipam_json.specs.Path.{as_whole}
 use Rattle.ipam_json.specs.Members.{◌>>=◌, only_if, text_at, only_member}
 use Rattle.ipam_records.specs.KeyText.{key_read}
 use Rattle.ipam_records.specs.Sound.{IsHandleId}
-use Rattle.ipam_words.specs.Kinds.{is_of_kind, kind_named}
+use Rattle.ipam_words.specs.Kinds.{is_key_of_kind, kind_named}
 use Rattle.ipam_model.specs.SoundRequest.{IsSoundRequest}
 use Rattle.ipam_request_text.specs.Fields.{pairs_in}
 use Rattle.ipam_request_text.specs.Live.{live_in}
@@ -76,7 +76,7 @@ page_wish d = do
   word ← text_at (codes "rows") known
   kind ← kind_named word
   after ← text_at (codes "after") known
-  own ← only_if (is_of_kind kind after) after
+  own ← only_if (is_key_of_kind kind after) after
   key ← key_read own
   Some (wish.Rows kind (Some key))
 

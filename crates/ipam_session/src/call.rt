@@ -4,7 +4,7 @@ ghost use Rattle.ipam_model.specs.CanAnswer.{CanAnswer};
 ghost use Rattle.cni_types.specs.Sound.{IsSoundLook, IsSoundGc, IsSoundStatus};
 ghost use Rattle.cni_types.specs.Texts.{error_text};
 ghost use Rattle.cni_asks.specs.Asking.{is_neither_gc_nor_status};
-ghost use Rattle.ipam_session.specs.Calls.{ask_of_call, begun_of, begun_at, call_begun, IsSoundBegun, IsOfCall, is_of_call, call_told};
+ghost use Rattle.ipam_session.specs.Calls.{ask_of_call, begun_of, begun_at, call_begun, IsSoundBegun, IsOfCall, is_of_call, call_reply_told};
 
 use cni_asks::{Ask, ask, gc, gc_reply, reply, status, status_reply};
 use cni_types::{CniError, CniGc, CniStatus, Look, LookFault, Version, look, push_error};
@@ -100,7 +100,7 @@ pub fn tell_call(
 ) -> Result<(u8, Text), AllocError>
     requires of_call { IsTrue (is_of_call request.now) }
     requires can_answer { CanAnswer request.now answer.now }
-    ensures { IfOk result (λ r. call_told request.now version answer.now ≡ Some r) }
+    ensures { IfOk result (λ r. call_reply_told request.now version answer.now ≡ Some r) }
 {
     match request {
         Request::Collect(_) => gc_reply(alloc, answer, version),

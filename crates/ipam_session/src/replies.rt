@@ -4,7 +4,7 @@ ghost use Rattle.serde_json.specs.View.{view};
 ghost use Rattle.ipam_json.specs.Built.{object_of, array_of};
 ghost use Rattle.ipam_records.specs.Key.{key_of};
 ghost use Rattle.ipam_records.specs.KeyText.{key_bytes};
-ghost use Rattle.ipam_session.specs.Replies.{call_data, call_text, route_data, change_data, routes_data, changes_data, since_data, row_data, page_data, pool_data, usage_data, reply_data, reply_line};
+ghost use Rattle.ipam_session.specs.Replies.{call_reply_data, call_text, route_data, route_change_data, routes_data, changes_data, since_data, row_data, page_data, pool_usage_data, usage_data, reply_data, reply_line};
 
 use crate::refusal::Refusal;
 use crate::route::Since;
@@ -104,9 +104,9 @@ fn reply_value(alloc: Global, reply: &Reply) -> Result<Value, AllocError>
     }
 }
 
-#[tactic(auto, unfolding(crate::specs::Replies::call_data))]
+#[tactic(auto, unfolding(crate::specs::Replies::call_reply_data))]
 fn call_value(alloc: Global, status: u8, stdout: &str) -> Result<Value, AllocError>
-    ensures { IfOk result (λ v. view v ≡ call_data status stdout.now) }
+    ensures { IfOk result (λ v. view v ≡ call_reply_data status stdout.now) }
 {
     json!(in alloc; {"status": status, "stdout": stdout})
 }
@@ -168,9 +168,9 @@ fn route_value(alloc: Global, route: &Route) -> Result<Value, AllocError>
     json!(in alloc; {"cidr": cidr, "node": node})
 }
 
-#[tactic(auto, unfolding(crate::specs::Replies::change_data))]
+#[tactic(auto, unfolding(crate::specs::Replies::route_change_data))]
 fn change_value(alloc: Global, change: &Change) -> Result<Value, AllocError>
-    ensures { IfOk result (λ v. view v ≡ change_data change.now) }
+    ensures { IfOk result (λ v. view v ≡ route_change_data change.now) }
 {
     let cidr = cidr_string(alloc, change.route.cidr)?;
     let node = change.route.node.as_str();
@@ -229,9 +229,9 @@ fn usage_value(alloc: Global, revision: u64, pools: &[PoolUsage]) -> Result<Valu
     json!(in alloc; {"pools": pools, "revision": revision})
 }
 
-#[tactic(auto, unfolding(crate::specs::Replies::pool_data))]
+#[tactic(auto, unfolding(crate::specs::Replies::pool_usage_data))]
 fn pool_value(alloc: Global, pool: &PoolUsage) -> Result<Value, AllocError>
-    ensures { IfOk result (λ v. view v ≡ pool_data pool.now) }
+    ensures { IfOk result (λ v. view v ≡ pool_usage_data pool.now) }
 {
     let addresses = pool.addresses.as_str();
     let cidr = cidr_string(alloc, pool.cidr)?;

@@ -5,7 +5,7 @@ use Rattle.turn_lock.specs.Passes.{Pass as Turns, StandsPast, Stood, Turned}
 use Rattle.ipam_model.specs.declared.entry.Entry.{Entry}
 use Rattle.ipam_model.specs.Consistent.{IsConsistent}
 use Rattle.ipam_model.specs.History.{Lawful, cluster_at, moment_of, slot_of_entry}
-use Rattle.ipam_cluster.specs.Cluster.{slot_of}
+use Rattle.ipam_cluster.specs.Cluster.{slot_of_cluster}
 use Rattle.ipam_kept.specs.declared.kept.Kept.{Kept}
 use Rattle.ipam_kept.specs.Kept.{KeptFor, Tells}
 use Rattle.ipam_kept.specs.Sure.{HeldFor, SureFor}
@@ -158,7 +158,7 @@ module _ {D : Type 0} (tells sure : Tells D) (does : Locked D → Locked D → T
       })
 
   -- the pass after it knows whether something runs in its slot
-  pub turned-pass : (running : Bool) → (IsTrue running ↔ IsSome (slot_of t.after.kept.cluster new.number)) → entries ≡ t.after.kept.cluster.entries → IsPass (value_of new entries known) running
+  pub turned-pass : (running : Bool) → (IsTrue running ↔ IsSome (slot_of_cluster t.after.kept.cluster new.number)) → entries ≡ t.after.kept.cluster.entries → IsPass (value_of new entries known) running
   turned-pass running runs counted =
       let stands = held-now.fed.kept_for.cluster in
       let some = same-some _ _ (stands.is_cluster.slots new.number) in

@@ -3,7 +3,7 @@ use Rattle.std.proofs.Common.{◌≡◌, ◌≢◌, ◌↔◌, ℕ, List, [], �
 use Rattle.turn_lock.specs.Histories.{NoneBy}
 use Rattle.ipam_model.specs.declared.entry.Entry.{Entry}
 use Rattle.ipam_model.specs.declared.entry.Entry.TheVariants as entry
-use Rattle.ipam_model.specs.Cluster.{Cluster, after, fresh_run, run_after_feed, goes_on, state_of}
+use Rattle.ipam_model.specs.Cluster.{ClusterState, after, fresh_run, run_after_feed, goes_on, state_of}
 use Rattle.ipam_model.specs.Cluster as model
 use Rattle.ipam_model.specs.History.{Base, cluster_at, slot_of_entry}
 use Rattle.ipam_laws.proofs.KeptWords.{other-slot}
@@ -14,7 +14,7 @@ use Rattle.ipam_shared.specs.Turning.{times_of}
 
 -- ---- entries of other slots
 
-slot-after : (cluster : Cluster) (new : Entry) (slot : ℕ) → slot_of_entry new ≢ slot → (after cluster new).slots slot ≡ cluster.slots slot
+slot-after : (cluster : ClusterState) (new : Entry) (slot : ℕ) → slot_of_entry new ≢ slot → (after cluster new).slots slot ≡ cluster.slots slot
 unfolding after
 slot-after cluster (entry.Began other request) slot apart = other-slot other slot (fresh_run request) cluster.slots apart
 slot-after cluster (entry.Fed other at live) slot apart = other-slot other slot (run_after_feed live (cluster.slots other)) cluster.slots apart
@@ -35,25 +35,25 @@ runs-unused base (new ∷ seen) slot others = slot-after (cluster_at base seen) 
 
 -- ---- the slots of a cluster that stands for a history
 
-pub same-some : (a : Option Running) (b : Option model.Running) → IsSlot a b → IsSome a ↔ IsSome b
+pub same-some : (a : Option Running) (b : Option model.RunningRequest) → IsSlot a b → IsSome a ↔ IsSome b
 same-some None None h = (λ e. e, λ e. e)
 same-some None (Some one) h = absurd h
 same-some (Some running) None h = absurd h
 same-some (Some running) (Some one) h = (λ e. refl, λ e. refl)
 
-pub same-none : (a : Option Running) (b : Option model.Running) → IsSlot a b → (a ≡ None) ↔ (b ≡ None)
+pub same-none : (a : Option Running) (b : Option model.RunningRequest) → IsSlot a b → (a ≡ None) ↔ (b ≡ None)
 same-none None None h = (λ e. refl, λ e. refl)
 same-none None (Some one) h = absurd h
 same-none (Some running) None h = absurd h
 same-none (Some running) (Some one) h = (λ e. cc, λ e. cc)
 
-pub same-state : (a : Option Running) (b : Option model.Running) → IsSlot a b → state_in a ≡ state_of b
+pub same-state : (a : Option Running) (b : Option model.RunningRequest) → IsSlot a b → state_in a ≡ state_of b
 same-state None None h = refl
 same-state None (Some one) h = absurd h
 same-state (Some running) None h = absurd h
 same-state (Some running) (Some one) h = ap (λ word. state_of (Some (record one { word = word }))) h.word
 
-pub same-times : (a : Option Running) (b : Option model.Running) → IsSlot a b → grace_in a ≡ times_of b
+pub same-times : (a : Option Running) (b : Option model.RunningRequest) → IsSlot a b → grace_in a ≡ times_of b
 same-times None None h = refl
 same-times None (Some one) h = absurd h
 same-times (Some running) None h = absurd h

@@ -17,7 +17,7 @@ use Rattle.ipam_cluster.specs.declared.faults.FeedFault.{FeedFault}
 use Rattle.ipam_cluster.specs.declared.faults.FeedFault.TheVariants as feed_fault
 use Rattle.ipam_cluster.specs.declared.faults.PrepareFault.{PrepareFault}
 use Rattle.ipam_cluster.specs.declared.faults.PrepareFault.TheVariants as prepare_fault
-use Rattle.ipam_cluster.specs.Cluster.{slot_of, state_in, WaitsWith}
+use Rattle.ipam_cluster.specs.Cluster.{slot_of_cluster, state_in, WaitsWith}
 use Rattle.ipam_kept.specs.declared.kept.Kept.{Kept}
 use Rattle.ipam_kept.specs.Feed.{AreChanges, AreRoutes, FedFor, IsAhead, IsCompacted}
 use Rattle.ipam_kept.specs.Giving.{Gives}
@@ -36,34 +36,34 @@ told_if (Some told) = told ∷ []
 module _ {D : Type 0} (slot : ℕ) (before : Kept D) where
   -- a request was begun, or was not
   pub record Begins (request : Request) (answer : Result Entry BeginFault) (after : Kept D) : Type 0 where
-    pub busy : (answer ≡ Err begin_fault.SlotBusy) ↔ IsSome (slot_of before.cluster slot)
-    pub worn : (answer ≡ Err begin_fault.Worn) ↔ (slot_of before.cluster slot ≡ None × 2 ^ 62 ≤ before.cluster.entries)
+    pub busy : (answer ≡ Err begin_fault.SlotBusy) ↔ IsSome (slot_of_cluster before.cluster slot)
+    pub worn : (answer ≡ Err begin_fault.Worn) ↔ (slot_of_cluster before.cluster slot ≡ None × 2 ^ 62 ≤ before.cluster.entries)
     pub entry : IfOk answer (λ began. began ≡ entry.Began slot request)
     pub keeper : LeavesKeeper before after
 
   -- a second list was fed, or was not
   pub record Feeds (live : List (List ℕ)) (at : ℕ) (answer : Result Entry FeedFault) (after : Kept D) : Type 0 where
-    pub not_waiting : (answer ≡ Err feed_fault.NotWaiting) ↔ ¬ (state_in (slot_of before.cluster slot) ≡ state.Waiting)
+    pub not_waiting : (answer ≡ Err feed_fault.NotWaiting) ↔ ¬ (state_in (slot_of_cluster before.cluster slot) ≡ state.Waiting)
     pub too_soon : (since grace : ℕ) → ((answer ≡ Err (feed_fault.TooSoon since grace))
-        ↔ (WaitsWith (slot_of before.cluster slot) (record { at = since; grace = grace }) × at < since + grace))
+        ↔ (WaitsWith (slot_of_cluster before.cluster slot) (record { at = since; grace = grace }) × at < since + grace))
     pub worn : (answer ≡ Err feed_fault.Worn) ↔ (2 ^ 62 ≤ before.cluster.entries
-        × (grace : Grace) × WaitsWith (slot_of before.cluster slot) grace × grace.at + grace.grace ≤ at)
+        × (grace : Grace) × WaitsWith (slot_of_cluster before.cluster slot) grace × grace.at + grace.grace ≤ at)
     pub entry : IfOk answer (λ fed. fed ≡ entry.Fed slot at live)
     pub keeper : LeavesKeeper before after
 
   -- a call was made, done or not, or was not
   pub record Calls (gives : Gives D) (faults : D → ℕ) (answer : Result Entry PrepareFault) (after : Kept D) : Type 0 where
-    pub idle : (answer ≡ Err prepare_fault.SlotIdle) ↔ (slot_of before.cluster slot ≡ None)
-    pub waiting : (answer ≡ Err prepare_fault.Waiting) ↔ (state_in (slot_of before.cluster slot) ≡ state.Waiting)
-    pub worn : (answer ≡ Err prepare_fault.Worn) ↔ (2 ^ 62 ≤ before.cluster.entries × state_in (slot_of before.cluster slot) ≡ state.Running)
+    pub idle : (answer ≡ Err prepare_fault.SlotIdle) ↔ (slot_of_cluster before.cluster slot ≡ None)
+    pub waiting : (answer ≡ Err prepare_fault.Waiting) ↔ (state_in (slot_of_cluster before.cluster slot) ≡ state.Waiting)
+    pub worn : (answer ≡ Err prepare_fault.Worn) ↔ (2 ^ 62 ≤ before.cluster.entries × state_in (slot_of_cluster before.cluster slot) ≡ state.Running)
     pub turned : IfOk answer (λ told. IsDone faults slot before after told ⊎ IsFailed gives faults slot before after told)
     pub refused : IfErr answer (λ fault. IsRefused faults before after)
 
   -- what ran was stopped, or nothing did
   pub record Stops (answer : Option Entry) (after : Kept D) : Type 0 where
-    pub idle : (answer ≡ None) ↔ (slot_of before.cluster slot ≡ None)
+    pub idle : (answer ≡ None) ↔ (slot_of_cluster before.cluster slot ≡ None)
     pub entry : IfSome answer (λ stopped. stopped ≡ entry.Stopped slot)
-    pub idle_after : slot_of after.cluster slot ≡ None
+    pub idle_after : slot_of_cluster after.cluster slot ≡ None
     pub keeper : LeavesKeeper before after
 
 -- the routes were told, or were not

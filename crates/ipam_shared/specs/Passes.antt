@@ -5,7 +5,7 @@ use Rattle.turn_lock.specs.declared.limits.TheConstants.{SPLIT_TURNS}
 use Rattle.turn_lock.specs.Histories.{NoneBy}
 use Rattle.ipam_model.specs.declared.entry.Entry.{Entry}
 use Rattle.ipam_model.specs.declared.limits.TheConstants.{SLOTS}
-use Rattle.ipam_model.specs.Cluster.{Running}
+use Rattle.ipam_model.specs.Cluster.{RunningRequest}
 use Rattle.ipam_model.specs.Consistent.{IsConsistent}
 use Rattle.ipam_model.specs.History.{Base, Lawful, cluster_at, moment_of, slot_of_entry}
 use Rattle.ipam_kept.specs.declared.kept.Kept.{Kept}
@@ -17,11 +17,11 @@ use Rattle.ipam_shared.specs.Origins.{base_in}
 use Rattle.ipam_shared.specs.PassValue.{PassValue}
 
 -- what runs in a slot at the end of a history
-abbrev pub runs_at : Base → List Entry → ℕ → Option Running
+abbrev pub runs_at : Base → List Entry → ℕ → Option RunningRequest
 runs_at base history slot = (cluster_at base history).slots slot
 
 -- what runs in the pass's slot, at the end of what it has seen
-abbrev pub runs_in : PassValue → Option Running
+abbrev pub runs_in : PassValue → Option RunningRequest
 runs_in pass = runs_at pass.base pass.seen pass.slot
 
 -- what was seen is a lawful history of a consistent base

@@ -4,7 +4,7 @@ use Rattle.turn_lock.specs.Histories.{AtMostOneBy, NoneBy}
 use Rattle.ipam_collect.specs.declared.collect.Grace.{Grace}
 use Rattle.ipam_model.specs.declared.entry.Entry.{Entry}
 use Rattle.ipam_model.specs.declared.entry.SlotState.TheVariants as state
-use Rattle.ipam_model.specs.Cluster.{Running, state_of}
+use Rattle.ipam_model.specs.Cluster.{RunningRequest, state_of}
 use Rattle.ipam_model.specs.History.{moment_of, slot_of_entry}
 use Rattle.ipam_running.specs.Running.{grace_of}
 use Rattle.ipam_kept.specs.declared.kept.Kept.{Kept}
@@ -82,9 +82,9 @@ pub record HadTurn {D : Type 0} (tells sure : Tells D) (did : (before after : Ke
 -- ---- the slot
 
 -- a collection waits, which has these times
-abbrev pub times_of : Option Running → Option Grace
+abbrev pub times_of : Option RunningRequest → Option Grace
 times_of None = None
 times_of (Some running) = grace_of running.request
 
-abbrev pub WaitsFor : Option Running → Grace → Type 0
+abbrev pub WaitsFor : Option RunningRequest → Grace → Type 0
 WaitsFor runs grace = (state_of runs ≡ state.Waiting) × (times_of runs ≡ Some grace)

@@ -3,7 +3,7 @@ ghost use Rattle.std.specs.Prelude.{◌≡◌, ◌↔◌, ◌<◌, ◌++◌, ℕ
 ghost use Rattle.ipam_model.specs.declared.entry.Entry.{Entry as OneEntry};
 ghost use Rattle.ipam_model.specs.declared.limits.TheConstants.{SLOTS};
 ghost use Rattle.ipam_model.specs.History.{Base, slot_of_entry};
-ghost use Rattle.ipam_cluster.specs.Cluster.{slot_of};
+ghost use Rattle.ipam_cluster.specs.Cluster.{slot_of_cluster};
 ghost use Rattle.ipam_kept.specs.declared.kept.Kept.{Kept as KeptValue};
 ghost use Rattle.ipam_kept.specs.Kept.{IsKept};
 ghost use Rattle.ipam_kept.specs.Sure.{HeldFor};
@@ -55,7 +55,7 @@ impl<D: Keeper, W: Deed<D>> Step<Locked<D>> for InSlot<W> {
     ghost can = { λ step locked. (step.slot < SLOTS) × W.can step.deed × IsKept D.rows locked.kept };
 
     ghost does = { λ step before out after. W.does step.deed step.slot before.kept out.0 after.kept
-        × (IsTrue out.1 ↔ IsSome (slot_of after.kept.cluster step.slot)) × (out.2 ≡ after.kept.cluster.entries) };
+        × (IsTrue out.1 ↔ IsSome (slot_of_cluster after.kept.cluster step.slot)) × (out.2 ≡ after.kept.cluster.entries) };
 
     ghost adds = { λ step before out after. W.told out.0 };
 

@@ -15,7 +15,7 @@ use Rattle.ipam_records.specs.declared.record.Record.{Record}
 use Rattle.ipam_records.specs.declared.record.Record.TheVariants as record_of
 use Rattle.ipam_records.specs.Datastore.{Datastore}
 use Rattle.ipam_model.specs.Reads.{StoredRecord}
-use Rattle.ipam_show.specs.Kept.{blocks_kept, is_reserved, pools_kept}
+use Rattle.ipam_show.specs.Kept.{blocks_kept, is_reserved_kept, pools_kept}
 use Rattle.ipam_show.specs.Words.{node_word}
 
 -- ---- where an address is assigned
@@ -63,7 +63,7 @@ has_pool a store = list_any (λ pool. holds_address pool.cidr a) (pools_kept sto
 abbrev pub unheld_word : AddrValue → Datastore → List ℕ
 unheld_word a store =
     if not (has_pool a store) then codes " in no pool\n"
-    else (if is_reserved store a then codes " reserved\n" else codes " free\n")
+    else (if is_reserved_kept store a then codes " reserved\n" else codes " free\n")
 
 -- what is said of an address
 abbrev pub said_of : AddrValue → Datastore → Option Held → List ℕ

@@ -13,12 +13,12 @@ abbrev pub block_head : Cells
 block_head = codes "BLOCK" ∷ codes "NODE" ∷ codes "STATE" ∷ codes "USED" ∷ codes "BORROWED" ∷ []
 
 -- the state of the affinity of the block's node to it, where there is one
-abbrev pub state_at : Datastore → Option (List ℕ) → BlockCount → Option State
-state_at store (Some node) c = state_kept store node c.cidr
-state_at store None c = None
+abbrev pub state_kept_at : Datastore → Option (List ℕ) → BlockCount → Option State
+state_kept_at store (Some node) c = state_kept store node c.cidr
+state_kept_at store None c = None
 
-abbrev pub state_of : Datastore → BlockCount → Option State
-state_of store c = state_at store c.node c
+abbrev pub block_state : Datastore → BlockCount → Option State
+block_state store c = state_kept_at store c.node c
 
 -- how many addresses are used, and how many there are
 unfoldable pub used_word : BlockCount → List ℕ
@@ -30,7 +30,7 @@ borrowed_word c = if c.told == 0 then codes "-" else decimal c.borrowed
 
 abbrev pub block_row : Datastore → BlockCount → Cells
 block_row store c =
-    cidr_text_of c.cidr ∷ node_word c.node ∷ state_word (state_of store c) ∷ used_word c ∷ borrowed_word c ∷ []
+    cidr_text_of c.cidr ∷ node_word c.node ∷ state_word (block_state store c) ∷ used_word c ∷ borrowed_word c ∷ []
 
 abbrev pub block_rows : Datastore → List BlockCount → List Cells
 block_rows store counts = block_head ∷ map (block_row store) counts

@@ -21,24 +21,24 @@ abbrev pub widths : (columns : ℕ) → List Cells → List ℕ
 widths columns rows = map (λ column. widest column rows) (range_with_len 0 columns)
 
 -- how much the text is shorter than its column
-abbrev pub room : (width : ℕ) → List ℕ → List ℕ
-room width text = replicate (width - length text) 32
+abbrev pub cell_room : (width : ℕ) → List ℕ → List ℕ
+cell_room width text = replicate (width - length text) 32
 
 -- the text of the first column stands at its left end
 unfoldable pub first_placed : (width : ℕ) → List ℕ → List ℕ
-first_placed width text = text ++ room width text
+first_placed width text = text ++ cell_room width text
 
 -- that of another column stands at its right end, after two spaces
 unfoldable pub later_placed : (width : ℕ) → List ℕ → List ℕ
-later_placed width text = codes "  " ++ (room width text ++ text)
+later_placed width text = codes "  " ++ (cell_room width text ++ text)
 
-abbrev pub placed : (column width : ℕ) → List ℕ → List ℕ
-placed column width text = if column == 0 then first_placed width text else later_placed width text
+abbrev pub cell_placed : (column width : ℕ) → List ℕ → List ℕ
+cell_placed column width text = if column == 0 then first_placed width text else later_placed width text
 
 -- the columns of a row from this one on, which have these widths
 abbrev pub cells_from : (column : ℕ) → List ℕ → Cells → List ℕ
 cells_from column [] row = []
-cells_from column (width ∷ widths) row = placed column width (cell column row) ++ cells_from (column + 1) widths row
+cells_from column (width ∷ widths) row = cell_placed column width (cell column row) ++ cells_from (column + 1) widths row
 
 abbrev pub line : List ℕ → Cells → List ℕ
 line widths row = cells_from 0 widths row ++ codes "\n"

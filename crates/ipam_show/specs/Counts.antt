@@ -13,7 +13,7 @@ use Rattle.ipam_records.specs.Datastore.{Datastore}
 use Rattle.ipam_model.specs.Pairs.{has_value, value_of}
 use Rattle.ipam_model.specs.Reads.{StoredRecord}
 use Rattle.ipam_show.specs.declared.counting.BlockCount.{BlockCount}
-use Rattle.ipam_show.specs.Kept.{blocks_kept, is_reserved}
+use Rattle.ipam_show.specs.Kept.{blocks_kept, is_reserved_kept}
 
 -- ---- one block
 
@@ -51,13 +51,13 @@ block_count reserved b =
 
 -- ---- all blocks
 
-abbrev pub count_of : (reserved : AddrValue → Bool) → Record → Option BlockCount
-count_of reserved (record_of.Block b) = Some (block_count reserved b)
-count_of reserved _ = None
+abbrev pub block_count_in : (reserved : AddrValue → Bool) → Record → Option BlockCount
+block_count_in reserved (record_of.Block b) = Some (block_count reserved b)
+block_count_in reserved _ = None
 
 abbrev pub counts_in : (reserved : AddrValue → Bool) → List StoredRecord → List BlockCount
-counts_in reserved = filter_map (λ row. count_of reserved row.1)
+counts_in reserved = filter_map (λ row. block_count_in reserved row.1)
 
 -- each block, counted, by family, base and prefix
 abbrev pub counts_kept : Datastore → List BlockCount
-counts_kept store = counts_in (is_reserved store) (blocks_kept store)
+counts_kept store = counts_in (is_reserved_kept store) (blocks_kept store)

@@ -13,8 +13,8 @@ use Rattle.ipam_show.specs.Kept.{pools_kept}
 use Rattle.ipam_show.specs.Scopes.{block_sum, free_sum, is_any, is_in_pool, used_sum}
 
 -- `addresses` is a text, since no number of JSON's readers holds 2^128
-unfoldable pub pool_data : List BlockCount → Pool → Data
-pool_data counts pool =
+unfoldable pub pool_shown_data : List BlockCount → Pool → Data
+pool_shown_data counts pool =
     object_of
     ((codes "addresses", string (decimal (cidr_size pool.cidr)))
     ∷ (codes "blocks", whole_data (block_sum (is_in_pool pool.cidr) counts))
@@ -25,14 +25,14 @@ pool_data counts pool =
     ∷ [])
 
 -- the pools in the order in which they were added, and what all blocks come to
-unfoldable pub pools_data : List BlockCount → List Pool → Data
-pools_data counts pools =
+unfoldable pub pools_shown_data : List BlockCount → List Pool → Data
+pools_shown_data counts pools =
     object_of
     ((codes "blocks", whole_data (block_sum is_any counts))
     ∷ (codes "freeInBlocks", whole_data (free_sum is_any counts))
-    ∷ (codes "pools", array_of (map (pool_data counts) pools))
+    ∷ (codes "pools", array_of (map (pool_shown_data counts) pools))
     ∷ (codes "used", whole_data (used_sum is_any counts))
     ∷ [])
 
 unfoldable pub json_text : Datastore → List ℕ
-json_text store = compact_text (pools_data (counts_kept store) (pools_kept store)) ++ codes "\n"
+json_text store = compact_text (pools_shown_data (counts_kept store) (pools_kept store)) ++ codes "\n"

@@ -19,8 +19,8 @@ abbrev pub reservations_kept : Datastore → List ReservationValue
 reservations_kept store = reservations_said (reply_of store (Get key.Reservations))
 
 -- whether some reservation holds the address
-abbrev pub is_reserved : Datastore → AddrValue → Bool
-is_reserved store = is_in_union (reservations_kept store)
+abbrev pub is_reserved_kept : Datastore → AddrValue → Bool
+is_reserved_kept store = is_in_union (reservations_kept store)
 
 -- the rows of the blocks, by family, base and prefix
 abbrev pub blocks_kept : Datastore → List StoredRecord

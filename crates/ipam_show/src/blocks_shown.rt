@@ -1,7 +1,7 @@
 //! `show blocks`: the blocks are shown.
 ghost use Rattle.std.specs.Prelude.{◌≡◌, ◌≤◌, length, IfOk, string_bytes};
 ghost use Rattle.ipam_records.specs.Datastore.{most_blocks};
-ghost use Rattle.ipam_show.specs.Blocks.{block_head, block_row, block_rows, blocks_text, borrowed_word, state_of, used_word};
+ghost use Rattle.ipam_show.specs.Blocks.{block_head, block_row, block_rows, blocks_text, borrowed_word, block_state, used_word};
 ghost use Rattle.ipam_show.specs.Kept.{blocks_kept};
 
 use crate::cells::{cidr_cell, node_cell, number_cell, state_cell};
@@ -70,7 +70,7 @@ fn block_row(alloc: Global, store: &Store, count: &BlockCount) -> Result<Seq<Tex
 
 /// The state of the affinity of the block's node to it.
 fn state_of(alloc: Global, store: &Store, count: &BlockCount) -> Result<Option<State>, AllocError>
-    ensures { IfOk result (λ state. state ≡ state_of store.now.store count.now) }
+    ensures { IfOk result (λ state. state ≡ block_state store.now.store count.now) }
 {
     match &count.node {
         Some(node) => state_kept(alloc, store, node.as_str(), count.cidr),

@@ -5,7 +5,7 @@ ghost use Rattle.ipam_reserve.specs.Spans.{is_reserved_by};
 ghost use Rattle.ipam_records.specs.Datastore.{most_blocks};
 ghost use Rattle.ipam_records.specs.Pages.{rows_of_pages};
 ghost use Rattle.ipam_model.specs.Pairs.{value_of};
-ghost use Rattle.ipam_show.specs.Counts.{borrowed_in, borrows, block_count, count_of, counts_in, counts_kept, free_in, told_in};
+ghost use Rattle.ipam_show.specs.Counts.{borrowed_in, borrows, block_count, block_count_in, counts_in, counts_kept, free_in, told_in};
 ghost use Rattle.ipam_show.specs.Kept.{blocks_kept};
 
 use crate::keeping::{block_pages, reservations_kept};
@@ -95,7 +95,7 @@ fn count_of(
     reserved: &Reserved,
     kept: &Record,
 ) -> Result<Option<BlockCount>, AllocError>
-    ensures { IfOk result (λ count. count ≡ count_of (is_reserved_by reserved.now) kept.now) }
+    ensures { IfOk result (λ count. count ≡ block_count_in (is_reserved_by reserved.now) kept.now) }
 {
     match kept {
         Record::Block(block) => Ok(Some(block_count(alloc, reserved, block)?)),
@@ -194,7 +194,7 @@ fn borrows(block: &Block, allocation: &Allocation) -> bool
 fn node_said(allocation: &Allocation) -> Option<&str>
     ensures { option_copied result ≡ value_of (codes "node") allocation.now.attributes.secondary }
 {
-    for pair in allocation.attributes.secondary.as_slice() {
+    for pair in allocation.attributes.get().secondary.as_slice() {
         if pair.0.as_str() == "node" {
             return Some(pair.1.as_str());
         }

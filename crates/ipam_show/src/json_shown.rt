@@ -5,7 +5,7 @@ ghost use Rattle.serde_json.specs.Written.{compact_text};
 ghost use Rattle.ipam_json.specs.Built.{array_of};
 ghost use Rattle.ipam_records.specs.Datastore.{most_blocks};
 ghost use Rattle.ipam_show.specs.Kept.{blocks_kept};
-ghost use Rattle.ipam_show.specs.Json.{json_text, pool_data, pools_data};
+ghost use Rattle.ipam_show.specs.Json.{json_text, pool_shown_data, pools_shown_data};
 
 use crate::cells::{addresses_cell, cidr_cell};
 use crate::counting::{BlockCount, counts_kept};
@@ -30,16 +30,16 @@ pub fn show_json(alloc: Global, store: &Store) -> Result<String, AllocError>
 
 fn pools_string(alloc: Global, counts: &[BlockCount], pools: &[Pool]) -> Result<String, AllocError>
     requires { length counts.now < 2 ^ 32 }
-    ensures { IfOk result (λ text. string_bytes text ≡ compact_text (pools_data counts.now pools.now)) }
+    ensures { IfOk result (λ text. string_bytes text ≡ compact_text (pools_shown_data counts.now pools.now)) }
 {
     let json = pools_value(alloc, counts, pools)?;
     json.to_string(alloc)
 }
 
-#[tactic(auto, unfolding(crate::specs::Json::pools_data))]
+#[tactic(auto, unfolding(crate::specs::Json::pools_shown_data))]
 fn pools_value(alloc: Global, counts: &[BlockCount], pools: &[Pool]) -> Result<Value, AllocError>
     requires { length counts.now < 2 ^ 32 }
-    ensures { IfOk result (λ json. view json ≡ pools_data counts.now pools.now) }
+    ensures { IfOk result (λ json. view json ≡ pools_shown_data counts.now pools.now) }
 {
     let list = list_value(alloc, counts, pools)?;
     let blocks = block_sum(&Scope::All, counts);
@@ -50,7 +50,7 @@ fn pools_value(alloc: Global, counts: &[BlockCount], pools: &[Pool]) -> Result<V
 
 fn list_value(alloc: Global, counts: &[BlockCount], pools: &[Pool]) -> Result<Value, AllocError>
     requires { length counts.now < 2 ^ 32 }
-    ensures { IfOk result (λ json. view json ≡ array_of (map (pool_data counts.now) pools.now)) }
+    ensures { IfOk result (λ json. view json ≡ array_of (map (pool_shown_data counts.now) pools.now)) }
 {
     let mut list = Vec::new(alloc);
     for pool in pools {
@@ -59,10 +59,10 @@ fn list_value(alloc: Global, counts: &[BlockCount], pools: &[Pool]) -> Result<Va
     Ok(Value::Array(list))
 }
 
-#[tactic(auto, unfolding(crate::specs::Json::pool_data))]
+#[tactic(auto, unfolding(crate::specs::Json::pool_shown_data))]
 fn pool_value(alloc: Global, counts: &[BlockCount], pool: &Pool) -> Result<Value, AllocError>
     requires { length counts.now < 2 ^ 32 }
-    ensures { IfOk result (λ json. view json ≡ pool_data counts.now pool.now) }
+    ensures { IfOk result (λ json. view json ≡ pool_shown_data counts.now pool.now) }
 {
     let scope = Scope::Pool(pool.cidr);
     let addresses = addresses_cell(alloc, pool.cidr)?;

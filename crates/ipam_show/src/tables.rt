@@ -1,6 +1,6 @@
 //! Tables of texts, whose columns stand in line.
 ghost use Rattle.std.specs.Prelude.{◌≡◌, ◌++◌, ◌-◌, length, replicate, IfOk, OnOk, string_bytes};
-ghost use Rattle.ipam_show.specs.Columns.{cell, cells_from, first_placed, later_placed, line, placed, table_text, wider, widest, widths};
+ghost use Rattle.ipam_show.specs.Columns.{cell, cells_from, first_placed, later_placed, line, cell_placed, table_text, wider, widest, widths};
 
 use ipam_text::{Seq, Text};
 use std::alloc::{AllocError, Global};
@@ -78,7 +78,7 @@ fn push_cells(text: &mut String, widths: &[usize], row: &Seq<Text>) -> Result<()
 }
 
 fn push_cell(text: &mut String, column: usize, width: usize, cell: &str) -> Result<(), AllocError>
-    ensures { OnOk result (string_bytes text.new ≡ string_bytes text.old ++ placed column width cell.now) }
+    ensures { OnOk result (string_bytes text.new ≡ string_bytes text.old ++ cell_placed column width cell.now) }
 {
     if column == 0 {
         push_first(text, width, cell)

@@ -6,6 +6,10 @@ use Rattle.ipam_socket.specs.declared.gate.StreamPeer.{StreamPeer}
 use Rattle.ipam_socket.specs.declared.stream.Stream.{Stream}
 use Rattle.ipam_socket.specs.declared.stream.Stream.TheVariants.{File, Host}
 
+-- the connection that it is a link of
+abbrev pub connection_of : {C S : Type 0} → SocketLink C S → S
+connection_of link = link.stream
+
 -- how many reads of it failed
 abbrev pub link_read_faults : {C S : Type 0} → SocketLink C S → ℕ
 link_read_faults link = link.read_faults
@@ -13,6 +17,10 @@ link_read_faults link = link.read_faults
 -- how many writes to it failed
 abbrev pub link_write_faults : {C S : Type 0} → SocketLink C S → ℕ
 link_write_faults link = link.write_faults
+
+-- the connection whose peer it is
+abbrev pub whose : StreamPeer → Stream
+whose peer = peer.stream.now
 
 -- whom the gate looks at
 abbrev pub peer_of : {P : Type 0} → PeerGate P → P

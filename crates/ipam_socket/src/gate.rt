@@ -3,7 +3,7 @@ ghost use Rattle.std.specs.Prelude.{◌≡◌, ◌≤◌, ℕ};
 ghost use Rattle.std.specs.Bool.{OnTrue, OnFalse};
 ghost use Rattle.ipam_io.specs.Counts.{Rose, next_count};
 ghost use Rattle.ipam_io.specs.Passing.{OnStop, OnGo};
-ghost use Rattle.ipam_socket.specs.Links.{peer_of, looks_of, gone_of};
+ghost use Rattle.ipam_socket.specs.Links.{peer_of, looks_of, gone_of, whose};
 
 use crate::stream::Stream;
 use ipam_io::{Gate, Passed, Point};
@@ -35,6 +35,7 @@ pub struct StreamPeer<'a> {
 impl StreamPeer<'_> {
     /// The peer of this connection, at which nobody has looked.
     pub fn new(stream: &Stream) -> StreamPeer<'_>
+        ensures connection { whose result ≡ stream.now }
         ensures looks { looks_of result ≡ 0 }
         ensures gone { gone_of result ≡ 0 }
     {

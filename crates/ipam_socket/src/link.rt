@@ -1,6 +1,6 @@
 //! A connection as a link, which waits for no longer than its limits.
 ghost use Rattle.std.specs.Prelude.{◌≡◌, ◌<◌, ◌≤◌, length, IfOk};
-ghost use Rattle.ipam_socket.specs.Links.{link_read_faults, link_write_faults};
+ghost use Rattle.ipam_socket.specs.Links.{connection_of, link_read_faults, link_write_faults};
 
 use crate::limits::Limits;
 use crate::stream::{Connected, may_begin};
@@ -31,6 +31,7 @@ pub struct SocketLink<C, S> {
 impl<C: Clock, S: Connected> SocketLink<C, S> {
     /// The daemon's end of this connection.
     pub fn of_session(clock: C, stream: S, limits: Limits) -> SocketLink<C, S>
+        ensures connection { connection_of result ≡ stream }
         ensures read_faults { link_read_faults result ≡ 0 }
         ensures write_faults { link_write_faults result ≡ 0 }
     {
@@ -40,6 +41,7 @@ impl<C: Clock, S: Connected> SocketLink<C, S> {
 
     /// The client's end of this connection, where each first byte is taken.
     pub fn of_call(clock: C, stream: S, limits: Limits) -> SocketLink<C, S>
+        ensures connection { connection_of result ≡ stream }
         ensures read_faults { link_read_faults result ≡ 0 }
         ensures write_faults { link_write_faults result ≡ 0 }
     {
@@ -53,6 +55,7 @@ impl<C: Clock, S: Connected> SocketLink<C, S> {
         is_session: bool,
         is_checked: bool,
     ) -> SocketLink<C, S>
+        ensures connection { connection_of result ≡ stream }
         ensures read_faults { link_read_faults result ≡ 0 }
         ensures write_faults { link_write_faults result ≡ 0 }
     {

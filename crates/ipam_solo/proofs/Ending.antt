@@ -22,7 +22,7 @@ use Rattle.ipam_laws.proofs.Fates.{alone_faults}
 use Rattle.ipam_laws.proofs.OwnAnswers.{own_answers}
 use Rattle.ipam_laws.proofs.StandsFor.{begins_anew, entries-are}
 use Rattle.ipam_running.specs.declared.running.Running.{Running}
-use Rattle.ipam_cluster.specs.Cluster.{IsSlot, StandsFor, slot_of}
+use Rattle.ipam_cluster.specs.Cluster.{IsSlot, StandsFor, slot_of_cluster}
 use Rattle.ipam_kept.specs.declared.kept.Kept.{Kept}
 use Rattle.ipam_kept.specs.declared.write.RowWrite.{RowWrite}
 use Rattle.ipam_kept.specs.Kept.{IsKept, KeepsWith, KeptFor, LeavesKeeper, Stays, Tells}
@@ -39,12 +39,12 @@ on-err (Err error) p = p
 
 -- ---- nothing runs
 
-none-there : (o : Option Running) (one : Option model.Running) → IsSlot o one → o ≡ None → one ≡ None
+none-there : (o : Option Running) (one : Option model.RunningRequest) → IsSlot o one → o ≡ None → one ≡ None
 none-there None None is e = refl
 none-there None (Some one) is e = absurd is
 none-there (Some running) one is e = absurd (cc e)
 
-none-here : (o : Option Running) (one : Option model.Running) → IsSlot o one → one ≡ None → o ≡ None
+none-here : (o : Option Running) (one : Option model.RunningRequest) → IsSlot o one → one ≡ None → o ≡ None
 none-here None one is e = refl
 none-here (Some running) None is e = absurd is
 none-here (Some running) (Some one) is e = absurd (cc e)
@@ -53,11 +53,11 @@ module _ {D : Type 0} (tells : Tells D) where
   -- the slots of the history are idle
   idle-there : (kept : Kept D) (base : Base) (history : List Entry) → KeptFor tells kept base history → NothingRuns kept → (slot : ℕ) → (cluster_at base history).slots slot ≡ None
   idle-there kept base history is nothing slot =
-      none-there (slot_of kept.cluster slot) ((cluster_at base history).slots slot) (is.cluster.is_cluster.slots slot) (nothing slot)
+      none-there (slot_of_cluster kept.cluster slot) ((cluster_at base history).slots slot) (is.cluster.is_cluster.slots slot) (nothing slot)
 
-  idle-here : (kept : Kept D) (base : Base) (history : List Entry) → KeptFor tells kept base history → (slot : ℕ) → (cluster_at base history).slots slot ≡ None → slot_of kept.cluster slot ≡ None
+  idle-here : (kept : Kept D) (base : Base) (history : List Entry) → KeptFor tells kept base history → (slot : ℕ) → (cluster_at base history).slots slot ≡ None → slot_of_cluster kept.cluster slot ≡ None
   idle-here kept base history is slot none =
-      none-here (slot_of kept.cluster slot) ((cluster_at base history).slots slot) (is.cluster.is_cluster.slots slot) none
+      none-here (slot_of_cluster kept.cluster slot) ((cluster_at base history).slots slot) (is.cluster.is_cluster.slots slot) none
 
   -- ---- what is kept for what
 
@@ -86,7 +86,7 @@ module _ {D : Type 0} (tells : Tells D) where
   -- ---- an answer
 
   -- another slot is idle after it
-  other-idle : (faults : D → ℕ) (request : Request) (old begun before new : Kept D) (c : Called) → IsKept tells old → NothingRuns old → KeepsWith tells old begun (entry.Began 0 request) → SoFar tells faults request begun before → KeepsWith tells before new (entry.Called c) → c.slot ≡ 0 → (slot : ℕ) → slot ≢ 0 → slot_of new.cluster slot ≡ None
+  other-idle : (faults : D → ℕ) (request : Request) (old begun before new : Kept D) (c : Called) → IsKept tells old → NothingRuns old → KeepsWith tells old begun (entry.Began 0 request) → SoFar tells faults request begun before → KeepsWith tells before new (entry.Called c) → c.slot ≡ 0 → (slot : ℕ) → slot ≢ 0 → slot_of_cluster new.cluster slot ≡ None
   other-idle faults request old begun before new c (base, (history, kept)) nothing begins far keeps own slot differ =
       let started = entry.Began 0 request ∷ history in
       let all = keeps base (far.steps ++ started) (far.keeps base started (begins base history kept)) in
@@ -96,7 +96,7 @@ module _ {D : Type 0} (tells : Tells D) where
       ∙ begun-leaves base history request slot differ
       ∙ idle-there old base history kept nothing slot)
 
-  own-idle : (faults : D → ℕ) (request : Request) (old begun before new : Kept D) (c : Called) (told : Answer) → IsKept tells old → KeepsWith tells old begun (entry.Began 0 request) → SoFar tells faults request begun before → KeepsWith tells before new (entry.Called c) → c.slot ≡ 0 → c.answer ≡ Some told → slot_of new.cluster 0 ≡ None
+  own-idle : (faults : D → ℕ) (request : Request) (old begun before new : Kept D) (c : Called) (told : Answer) → IsKept tells old → KeepsWith tells old begun (entry.Began 0 request) → SoFar tells faults request begun before → KeepsWith tells before new (entry.Called c) → c.slot ≡ 0 → c.answer ≡ Some told → slot_of_cluster new.cluster 0 ≡ None
   own-idle faults request old begun before new c told (base, (history, kept)) begins far keeps own is =
       let started = entry.Began 0 request ∷ history in
       let all = keeps base (far.steps ++ started) (far.keeps base started (begins base history kept)) in
@@ -104,7 +104,7 @@ module _ {D : Type 0} (tells : Tells D) where
       (answer-leaves base (far.steps ++ started) c told own is)
 
   -- where slot 0 and the others are idle, nothing runs
-  pub all-idle : (kept : Kept D) → slot_of kept.cluster 0 ≡ None → ((slot : ℕ) → slot ≢ 0 → slot_of kept.cluster slot ≡ None) → NothingRuns kept
+  pub all-idle : (kept : Kept D) → slot_of_cluster kept.cluster 0 ≡ None → ((slot : ℕ) → slot ≢ 0 → slot_of_cluster kept.cluster slot ≡ None) → NothingRuns kept
   all-idle kept own other = by
     where
       by : NothingRuns kept
@@ -137,7 +137,7 @@ module _ {D : Type 0} (tells : Tells D) where
       let comes = alone_histories (base_at base history) request earlier last told (anew.same_lawful.0 all.cluster.stands.lawful) alone is in
       let same = base-is old base history kept in (
         comes.0 ∙ ap (λ (b : Base). (alone_over b request).0) same,
-        all.cluster.is_cluster.store ∙ ap (λ (one : model.Cluster). one.store) anew.same_cluster ∙ comes.1
+        all.cluster.is_cluster.store ∙ ap (λ (one : model.ClusterState). one.store) anew.same_cluster ∙ comes.1
             ∙ ap (λ (b : Base). (alone_over b request).1) same,
       )
 
@@ -241,7 +241,7 @@ module _ {D : Type 0} (tells : Tells D) where
   doubt-on one two three (inr none) (inl again) = inr (again ∙ none)
 
   -- what runs is stopped
-  pub stop-keeps : (request : Request) (now new : Kept D) (told : Option Entry) → There request now → (IsNone told → slot_of now.cluster 0 ≡ None) → IfSome told (λ (e : Entry). e ≡ entry.Stopped 0) → IfSome told (KeepsWith tells now new) → KeepsWith tells now new (entry.Stopped 0)
+  pub stop-keeps : (request : Request) (now new : Kept D) (told : Option Entry) → There request now → (IsNone told → slot_of_cluster now.cluster 0 ≡ None) → IfSome told (λ (e : Entry). e ≡ entry.Stopped 0) → IfSome told (KeepsWith tells now new) → KeepsWith tells now new (entry.Stopped 0)
   stop-keeps request now new None at none is keeps = let no = none refl in absurd (cc (no, at.is))
   stop-keeps request now new (Some e) at none is keeps = subst (λ (x : Entry). KeepsWith tells now new x) is keeps
 
@@ -257,7 +257,7 @@ module _ {D : Type 0} (tells : Tells D) where
         keeps = λ b h k. stops b (earlier ++ h) (before b h k);
       }
 
-  pub stopped-idle : (faults : D → ℕ) (request : Request) (old begun now new : Kept D) → IsKept tells old → NothingRuns old → KeepsWith tells old begun (entry.Began 0 request) → SoFar tells faults request begun now → slot_of new.cluster 0 ≡ None → ((slot : ℕ) → ¬ (slot ≡ 0) → slot_of new.cluster slot ≡ slot_of now.cluster slot) → NothingRuns new
+  pub stopped-idle : (faults : D → ℕ) (request : Request) (old begun now new : Kept D) → IsKept tells old → NothingRuns old → KeepsWith tells old begun (entry.Began 0 request) → SoFar tells faults request begun now → slot_of_cluster new.cluster 0 ≡ None → ((slot : ℕ) → ¬ (slot ≡ 0) → slot_of_cluster new.cluster slot ≡ slot_of_cluster now.cluster slot) → NothingRuns new
   stopped-idle faults request old begun now new (base, (history, kept)) nothing begins far own others =
       let started = entry.Began 0 request ∷ history in
       let all = far.keeps base started (begins base history kept) in

@@ -8,7 +8,7 @@ use Rattle.ipam_model.specs.declared.entry.Entry.{Entry}
 use Rattle.ipam_model.specs.declared.entry.Entry.TheVariants as entry
 use Rattle.ipam_model.specs.declared.request.Request.{Request}
 use Rattle.ipam_model.specs.Alone.{IsAlone}
-use Rattle.ipam_model.specs.Cluster.{Running, Slots, after, fresh_run, run_after_feed, goes_on, with_slot}
+use Rattle.ipam_model.specs.Cluster.{RunningRequest, Slots, after, fresh_run, run_after_feed, goes_on, with_slot}
 use Rattle.ipam_model.specs.History.{Base, cluster_at}
 use Rattle.ipam_model.specs.Moments.{request_in}
 use Rattle.ipam_laws.proofs.KeptWords.{other-slot, own-slot}
@@ -16,19 +16,19 @@ use Rattle.ipam_solo.specs.Steps.{GoesOn}
 
 -- ---- slot 0
 
-abbrev asked_in : Option Running → Option Request
-asked_in = option_map (λ (running : Running). running.request)
+abbrev asked_in : Option RunningRequest → Option Request
+asked_in = option_map (λ (running : RunningRequest). running.request)
 
-fed-asked : (live : List (List ℕ)) (o : Option Running) → asked_in (run_after_feed live o) ≡ asked_in o
+fed-asked : (live : List (List ℕ)) (o : Option RunningRequest) → asked_in (run_after_feed live o) ≡ asked_in o
 fed-asked live None = refl
 fed-asked live (Some running) = refl
 
-goes-asked : (store : Datastore) (moment : ℕ) (o : Option Running) → asked_in (goes_on store moment None o) ≡ asked_in o
+goes-asked : (store : Datastore) (moment : ℕ) (o : Option RunningRequest) → asked_in (goes_on store moment None o) ≡ asked_in o
 goes-asked store moment None = refl
 goes-asked store moment (Some running) = refl
 
 -- what the slot is given is what it has
-given : (changed : ℕ) (o : Option Running) (slots : Slots) → changed ≡ 0 → asked_in (with_slot changed o slots 0) ≡ asked_in o
+given : (changed : ℕ) (o : Option RunningRequest) (slots : Slots) → changed ≡ 0 → asked_in (with_slot changed o slots 0) ≡ asked_in o
 given changed o slots e = subst (λ (s : ℕ). asked_in (with_slot s o slots 0) ≡ asked_in o) (sym e) (ap asked_in (own-slot 0 o slots))
 
 pub begun-runs : (base : Base) (history : List Entry) (request : Request) → request_in (cluster_at base (entry.Began 0 request ∷ history)) 0 ≡ Some request
@@ -53,7 +53,7 @@ still-runs base history request (entry.Stopped slot ∷ steps) h runs = absurd h
 
 -- ---- the other slots
 
-other-given : (changed slot : ℕ) (o : Option Running) (slots : Slots) → changed ≡ 0 → slot ≢ 0 → with_slot changed o slots slot ≡ slots slot
+other-given : (changed slot : ℕ) (o : Option RunningRequest) (slots : Slots) → changed ≡ 0 → slot ≢ 0 → with_slot changed o slots slot ≡ slots slot
 other-given changed slot o slots e differ = other-slot changed slot o slots (λ same. differ (sym same ∙ e))
 
 -- steps leave them

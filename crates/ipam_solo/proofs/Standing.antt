@@ -23,7 +23,7 @@ use Rattle.ipam_collect.specs.Collect.{grace_asked}
 use Rattle.ipam_running.specs.Running.{running_rest, running_grace, grace_of}
 use Rattle.ipam_running.proofs.StillLemmas.{waits_with}
 use Rattle.ipam_cluster.proofs.Waiting.{asks-times, is-waiting, not-idle}
-use Rattle.ipam_cluster.specs.Cluster.{IsSlot, StandsFor, grace_in, slot_of, state_in, WaitsWith}
+use Rattle.ipam_cluster.specs.Cluster.{IsSlot, StandsFor, grace_in, slot_of_cluster, state_in, WaitsWith}
 use Rattle.ipam_kept.specs.declared.kept.Kept.{Kept}
 use Rattle.ipam_kept.specs.Kept.{IsKept, KeepsWith, KeptFor, Tells}
 use Rattle.ipam_solo.specs.Solo.{HasNoGrace}
@@ -34,13 +34,13 @@ use Rattle.ipam_solo.specs.Steps.{Runs}
 -- something runs there, with the times of the request
 pub record There {D : Type 0} (request : Request) (kept : Kept D) : Type 0 where
   pub running : Running
-  pub is : slot_of kept.cluster 0 ≡ Some running
+  pub is : slot_of_cluster kept.cluster 0 ≡ Some running
   pub grace : running_grace running ≡ grace_of request
 
-abbrev asked_in : Option model.Running → Option Request
-asked_in = option_map (λ (one : model.Running). one.request)
+abbrev asked_in : Option model.RunningRequest → Option Request
+asked_in = option_map (λ (one : model.RunningRequest). one.request)
 
-found : (o : Option Running) (one : Option model.Running) (request : Request) → IsSlot o one → asked_in one ≡ Some request
+found : (o : Option Running) (one : Option model.RunningRequest) (request : Request) → IsSlot o one → asked_in one ≡ Some request
     → (running : Running) × (o ≡ Some running) × (running_grace running ≡ grace_of request)
 found None None request is e = absurd (cc e)
 found None (Some one) request is e = absurd is
@@ -51,27 +51,27 @@ found (Some running) (Some one) request is e =
 
 pub there : {D : Type 0} (tells : Tells D) (request : Request) (kept : Kept D) → Runs tells request kept → There request kept
 there tells request kept runs =
-    let (running, is, grace) = found (slot_of kept.cluster 0) ((cluster_at runs.base runs.history).slots 0) request (runs.kept_for.cluster.is_cluster.slots 0) runs.runs in
+    let (running, is, grace) = found (slot_of_cluster kept.cluster 0) ((cluster_at runs.base runs.history).slots 0) request (runs.kept_for.cluster.is_cluster.slots 0) runs.runs in
     record { running = running; is = is; grace = grace }
 
 pub runs-kept : {D : Type 0} (tells : Tells D) (request : Request) (kept : Kept D) → Runs tells request kept → IsKept tells kept
 runs-kept tells request kept runs = (runs.base, (runs.history, runs.kept_for))
 
-pub never-idle : {D : Type 0} (request : Request) (kept : Kept D) → There request kept → state_in (slot_of kept.cluster 0) ≢ state.Idle
+pub never-idle : {D : Type 0} (request : Request) (kept : Kept D) → There request kept → state_in (slot_of_cluster kept.cluster 0) ≢ state.Idle
 never-idle request kept at = λ e. not-idle (waits (running_rest at.running)) (sym (ap state_in at.is) ∙ e)
 
 -- what waits is a collection
-pub waits-collect : {D : Type 0} (request : Request) (kept : Kept D) → There request kept → state_in (slot_of kept.cluster 0) ≡ state.Waiting → (c : CollectRequest) × (request ≡ Collect c)
+pub waits-collect : {D : Type 0} (request : Request) (kept : Kept D) → There request kept → state_in (slot_of_cluster kept.cluster 0) ≡ state.Waiting → (c : CollectRequest) × (request ≡ Collect c)
 waits-collect request kept at e =
     let (grace, is) = waits_with at.running (is-waiting (waits (running_rest at.running)) (sym (ap state_in at.is) ∙ e)) in
     asks-times request grace (sym at.grace ∙ is)
 
 -- with its times
-pub times-are : {D : Type 0} (c : CollectRequest) (kept : Kept D) → There (Collect c) kept → grace_in (slot_of kept.cluster 0) ≡ Some (grace_asked c)
+pub times-are : {D : Type 0} (c : CollectRequest) (kept : Kept D) → There (Collect c) kept → grace_in (slot_of_cluster kept.cluster 0) ≡ Some (grace_asked c)
 times-are c kept at = ap grace_in at.is ∙ at.grace
 
 -- so it waits with its own time and without a grace
-pub first-waits : {D : Type 0} (request : Request) (kept : Kept D) (c : CollectRequest) → There request kept → request ≡ Collect c → HasNoGrace request → state_in (slot_of kept.cluster 0) ≡ state.Waiting → WaitsWith (slot_of kept.cluster 0) (record { at = c.at; grace = 0 })
+pub first-waits : {D : Type 0} (request : Request) (kept : Kept D) (c : CollectRequest) → There request kept → request ≡ Collect c → HasNoGrace request → state_in (slot_of_cluster kept.cluster 0) ≡ state.Waiting → WaitsWith (slot_of_cluster kept.cluster 0) (record { at = c.at; grace = 0 })
 first-waits request kept c at is none waiting =
     let own = subst (λ (r : Request). There r kept) is at in
     let no_grace : c.grace ≡ 0 = subst (λ (r : Request). HasNoGrace r) is none in
@@ -79,7 +79,7 @@ first-waits request kept c at is none waiting =
 
 -- ---- entries count
 
-after-counts : (one : model.Cluster) (new : Entry) → (after one new).entries ≡ one.entries + 1
+after-counts : (one : model.ClusterState) (new : Entry) → (after one new).entries ≡ one.entries + 1
 unfolding after
 after-counts one (entry.Began slot request) = refl
 after-counts one (entry.Fed slot at live) = refl

@@ -11,14 +11,14 @@ use Rattle.ipam_model.specs.declared.request.Request.{Request}
 use Rattle.ipam_model.specs.declared.request.Request.TheVariants.{Collect}
 use Rattle.ipam_model.specs.Alone.{IsAlone, alone_over}
 use Rattle.ipam_model.specs.History.{Base}
-use Rattle.ipam_cluster.specs.Cluster.{slot_of}
+use Rattle.ipam_cluster.specs.Cluster.{slot_of_cluster}
 use Rattle.ipam_kept.specs.declared.kept.Kept.{Kept}
 use Rattle.ipam_kept.specs.Kept.{KeptFor, Tells}
 use Rattle.ipam_kept.specs.Rows.{AreTextsOf}
 
 -- nothing runs
 abbrev pub NothingRuns : {D : Type 0} → Kept D → Type 0
-NothingRuns kept = (slot : ℕ) → slot_of kept.cluster slot ≡ None
+NothingRuns kept = (slot : ℕ) → slot_of_cluster kept.cluster slot ≡ None
 
 -- a collection's second list may be made at once
 abbrev pub HasNoGrace : Request → Type 0

@@ -12,7 +12,7 @@ use Rattle.ipam_model.specs.Alone.{IsFirstList}
 use Rattle.ipam_model.specs.History.{Base, cluster_at}
 use Rattle.ipam_model.specs.Moments.{request_in}
 use Rattle.ipam_model.specs.SoundRequest.{IsSoundRequest}
-use Rattle.ipam_cluster.specs.Cluster.{slot_of}
+use Rattle.ipam_cluster.specs.Cluster.{slot_of_cluster}
 use Rattle.ipam_kept.specs.declared.kept.Kept.{Kept}
 use Rattle.ipam_kept.specs.Kept.{IsKept, KeptFor, KeepsWith, LeavesKeeper, Stays, Tells}
 use Rattle.ipam_solo.specs.Solo.{HasNoGrace, KeepsWithAll, NoMoreDoubt, NothingRuns}
@@ -51,11 +51,11 @@ pub record IsUnbegun {D : Type 0} (tells : Tells D) (old new : Kept D) : Type 0 
 -- slot 0 was stopped, whether or not something ran there
 pub record IsStop {D : Type 0} (tells : Tells D) (old new : Kept D) : Type 0 where
   pub told : Option Entry
-  pub idle : IsNone told → slot_of old.cluster 0 ≡ None
+  pub idle : IsNone told → slot_of_cluster old.cluster 0 ≡ None
   pub is_stop : IfSome told (λ e. e ≡ entry.Stopped 0)
   pub keeps : IfSome told (KeepsWith tells old new)
-  pub idle_after : slot_of new.cluster 0 ≡ None
-  pub others : (other : ℕ) → ¬ (other ≡ 0) → slot_of new.cluster other ≡ slot_of old.cluster other
+  pub idle_after : slot_of_cluster new.cluster 0 ≡ None
+  pub others : (other : ℕ) → ¬ (other ≡ 0) → slot_of_cluster new.cluster other ≡ slot_of_cluster old.cluster other
   pub keeper : LeavesKeeper old new
 
 -- ---- a call

@@ -4,7 +4,7 @@ ghost use Rattle.ipam_model.specs.declared.entry.Entry.TheVariants as entry;
 ghost use Rattle.ipam_model.specs.declared.entry.SlotState.TheVariants as state;
 ghost use Rattle.ipam_model.specs.SoundRequest.{IsSoundCollect, IsSoundRequest};
 ghost use Rattle.ipam_model.specs.declared.request.Request.TheVariants.{Collect};
-ghost use Rattle.ipam_cluster.specs.Cluster.{WaitsWith, slot_of, state_in};
+ghost use Rattle.ipam_cluster.specs.Cluster.{WaitsWith, slot_of_cluster, state_in};
 ghost use Rattle.ipam_kept.specs.Kept.{IsKept, KeepsWith, LeavesKeeper, Stays};
 ghost use Rattle.ipam_solo.specs.Solo.{HasNoGrace, NothingRuns};
 ghost use Rattle.ipam_solo.specs.Steps.{Begins, CameToEnd, CountsOne, IsDoneCall, IsFailedCall, IsFed, IsNoStep, IsStep, IsStop, IsUnbegun, MayBegin, MayGoOn, Runs, Wants, WentOn, answer_told};
@@ -144,7 +144,7 @@ fn step<D: Keeper>(
 /// Makes the next call.
 fn turn<D: Keeper>(alloc: Global, kept: &mut Kept<D>) -> Result<Option<Answer>, AllocError>
     requires kept { IsKept D.rows kept.old }
-    requires running { state_in (slot_of kept.old.cluster 0) ≡ state.Running }
+    requires running { state_in (slot_of_cluster kept.old.cluster 0) ≡ state.Running }
     ensures called { IfOk result (λ told. IsDoneCall D.rows D.faults kept.old kept.new told
         ⊎ IsFailedCall D.rows D.faults kept.old kept.new told) }
     ensures counts { OnOk result (CountsOne kept.old kept.new) }
@@ -173,7 +173,7 @@ fn feed<D: Keeper>(alloc: Global, kept: &mut Kept<D>, request: &Request) -> Resu
     requires sound { IsSoundRequest request.now }
     requires no_grace { HasNoGrace request.now }
     requires runs { Runs D.rows request.now kept.old }
-    requires waiting { state_in (slot_of kept.old.cluster 0) ≡ state.Waiting }
+    requires waiting { state_in (slot_of_cluster kept.old.cluster 0) ≡ state.Waiting }
     ensures fed { OnOk result (IsFed D.rows request.now kept.old kept.new) }
     ensures counts { OnOk result (CountsOne kept.old kept.new) }
     ensures unchanged { OnErr result (Stays D.rows kept.old kept.new) }
@@ -194,7 +194,7 @@ fn feed_first<D: Keeper>(
 ) -> Result<(), AllocError>
     requires sound { IsSoundCollect collect.now }
     requires kept { IsKept D.rows kept.old }
-    requires waits { WaitsWith (slot_of kept.old.cluster 0) (record { at = collect.now.at; grace = 0 }) }
+    requires waits { WaitsWith (slot_of_cluster kept.old.cluster 0) (record { at = collect.now.at; grace = 0 }) }
     ensures fed { OnOk result (IsFed D.rows (Collect collect.now) kept.old kept.new) }
     ensures counts { OnOk result (CountsOne kept.old kept.new) }
     ensures unchanged { OnErr result (Stays D.rows kept.old kept.new) }

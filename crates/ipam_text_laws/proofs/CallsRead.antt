@@ -15,7 +15,7 @@ use Rattle.json.proofs.Printed.Utf8.{IsUtf8-are_ascii}
 use Rattle.ipam_json.specs.Members.{◌>>=◌, only_if}
 use Rattle.cni_types.specs.Reading.{Pair}
 use Rattle.ipam_request_text.specs.Fields.{pairs_in}
-use Rattle.ipam_call.specs.Requests.{last_of, with_value, env_members, call_data, call_text}
+use Rattle.ipam_call.specs.Requests.{last_of, with_value, env_members, call_data, cni_call_text}
 use Rattle.ipam_session.specs.declared.wish.Wish.{Wish}
 use Rattle.ipam_session.specs.declared.wish.Wish.TheVariants.{Cni}
 use Rattle.ipam_session.specs.Wishes.{wish_in, call_wish, wish_of_line}
@@ -88,8 +88,8 @@ data_read env input =
     ap (λ ms. option_and_then (λ found. Some (Cni found input)) (pairs_in (object ms))) (sent_members env)
     ∙ ap (option_and_then (λ found. Some (Cni found input))) (pairs_read [] (pairs_sent env))
 
-pub sent_read : (env : List Pair) (input : List ℕ) → HasTextValues env → IsUtf8 input → wish_of_line (call_text env input) ≡ Some (Cni (pairs_sent env) input)
-unfolding wish_of_line call_text
+pub sent_read : (env : List Pair) (input : List ℕ) → HasTextValues env → IsUtf8 input → wish_of_line (cni_call_text env input) ≡ Some (Cni (pairs_sent env) input)
+unfolding wish_of_line cni_call_text
 sent_read env input values text =
     let utf8 = is_utf8-from_IsUtf8 (compact_text (call_data env input)) (IsUtf8-compact_text (call_data env input) (data_canonical env input) (data_texts env input values text)) in
     rw (utf8, read-compact_text (call_data env input) (data_canonical env input)) (data_read env input)

@@ -24,7 +24,7 @@ use Rattle.ipam_model.specs.declared.entry.Entry.TheVariants as entry
 use Rattle.ipam_model.specs.declared.entry.Fate.{Fate}
 use Rattle.ipam_model.specs.declared.entry.Fate.TheVariants.{Well, Before, After}
 use Rattle.ipam_model.specs.AffinityLaw.{HasAt}
-use Rattle.ipam_model.specs.Cluster.{Running, after, word_after_reply, fresh_run, call_entry, call_made, record_written, run_after_feed, goes_on, store_with}
+use Rattle.ipam_model.specs.Cluster.{RunningRequest, after, word_after_reply, fresh_run, call_entry, call_made, record_written, run_after_feed, goes_on, store_with}
 use Rattle.ipam_model.specs.Consistent.{IsWithinLimits}
 use Rattle.ipam_model.specs.History.{Base, Lawful, cluster_at, store_at}
 use Rattle.ipam_model.specs.Named.{name_of, told_of}
@@ -171,7 +171,7 @@ told-sound Spent h few = tt
 
 -- ---- what runs in a slot
 
-abbrev OfSlot : Option Running → Type 0
+abbrev OfSlot : Option RunningRequest → Type 0
 OfSlot None = Unit {0}
 OfSlot (Some running) = Tells IsSoundAnswer running.word
 
@@ -180,7 +180,7 @@ fed-word live (Ends answer) h = h
 fed-word live (Asks label asked next) h = h
 fed-word live (Waits next) h = h live
 
-fed-slot : (live : List (List ℕ)) (o : Option Running) → OfSlot o → OfSlot (run_after_feed live o)
+fed-slot : (live : List (List ℕ)) (o : Option RunningRequest) → OfSlot o → OfSlot (run_after_feed live o)
 fed-slot live None h = tt
 fed-slot live (Some running) h = fed-word live running.word h
 
@@ -189,7 +189,7 @@ heard-word store moment (Ends answer) fits sound h = h
 heard-word store moment (Asks label asked next) fits sound h = h.1 moment (reply_of store asked) fits (said-sound store asked sound)
 heard-word store moment (Waits next) fits sound h = h
 
-goes-slot : (store : Datastore) (moment : ℕ) (answer : Option Answer) (o : Option Running) → FitsIn64 moment → IsDatastore store → OfSlot o → OfSlot (goes_on store moment answer o)
+goes-slot : (store : Datastore) (moment : ℕ) (answer : Option Answer) (o : Option RunningRequest) → FitsIn64 moment → IsDatastore store → OfSlot o → OfSlot (goes_on store moment answer o)
 goes-slot store moment (Some answer) o fits sound h = tt
 goes-slot store moment None None fits sound h = tt
 goes-slot store moment None (Some running) fits sound h = heard-word store moment running.word fits sound h
@@ -286,7 +286,7 @@ history_sound base (entry.Called c ∷ history) sound limits h times =
     let may = h.1 in
     let few = may.turn.not_worn in
     let cluster = cluster_at base history in
-    let tells : OfSlot (Some may.running) = subst (λ (o : Option Running). OfSlot o) may.runs (slots-tell base history sound h.0 c.slot) in
+    let tells : OfSlot (Some may.running) = subst (λ (o : Option RunningRequest). OfSlot o) may.runs (slots-tell base history sound h.0 c.slot) in
     let told = call-sound c.slot c.fate cluster.store cluster.entries may.running.word c (omega (arith, few)) (sound_law base history sound h.0) (limits_law base history sound limits h.0) tells may.is_called in (
       record { call = told.0; reply = told.1; written = written-sound base history c sound h; answer = told.2 },
       history_sound base history sound limits h.0 times.1,
@@ -315,5 +315,5 @@ history_named base (entry.Stopped slot ∷ history) sound h = (tt, history_named
 history_named base (entry.Called c ∷ history) sound h =
     let may = h.1 in
     let cluster = cluster_at base history in
-    let tells : OfSlot (Some may.running) = subst (λ (o : Option Running). OfSlot o) may.runs (slots-tell base history sound h.0 c.slot) in
+    let tells : OfSlot (Some may.running) = subst (λ (o : Option RunningRequest). OfSlot o) may.runs (slots-tell base history sound h.0 c.slot) in
     (call-named c.slot c.fate cluster.store cluster.entries may.running.word c tells may.is_called, history_named base history sound h.0)

@@ -29,7 +29,7 @@ use Rattle.ipam_model.specs.Add.{five_reads}
 use Rattle.ipam_model.specs.Affinities.{BlockRead, Tie, on_claim_write, claim, claim_found, claim_kept, claim_block, claim_confirm, claiming, baring, is_at_mark, release, release_once, release_found, release_look, release_block, release_delete, release_stops}
 use Rattle.ipam_model.specs.Assigning.{Target, assign, assign_block, assign_lost, after_claim, claim_for}
 use Rattle.ipam_model.specs.Choice.{Seen}
-use Rattle.ipam_model.specs.Counting.{most_count, raise, raise_once, raise_write, lower, lower_once, written_or_deleted, revision_said, Freeing, free, free_once, free_found, free_these, credit_of}
+use Rattle.ipam_model.specs.Counting.{most_count, raise, raise_once, raise_write, lower, lower_once, written_or_deleted, revision_said, FreedOfHandle, free, free_once, free_found, free_these, credit_of}
 use Rattle.ipam_model.specs.Named.{name_of}
 use Rattle.ipam_model.specs.Reads.{config_said, pools_said, reservations_said, rows_said, handle_said, block_said, affinity_said}
 use Rattle.ipam_model.specs.Step.{all_left, left_of, Part, goes, stops, with_retries, part_then}
@@ -84,11 +84,11 @@ lower-tells credit left named = tries-tells Any (lower_once credit) (lower_once-
 -- ---- freeing
 
 -- the handle's id is one, and the block a CIDR
-pub record IsSoundFreeing (what : Freeing) : Type 0 where
+pub record IsSoundFreeing (what : FreedOfHandle) : Type 0 where
   pub id : IsHandleId what.handle
   pub range : IsCidr what.block
 
-free_these-tells : (what : Freeing) (again : Part ℕ) (left : Left) (amount : ℕ) (found : ℕ × block.BlockValue) → IsSoundFreeing what → IsSoundRead (Some found) → Tells (Comes Any) again → Tells (Comes Any) (free_these what again left amount found)
+free_these-tells : (what : FreedOfHandle) (again : Part ℕ) (left : Left) (amount : ℕ) (found : ℕ × block.BlockValue) → IsSoundFreeing what → IsSoundRead (Some found) → Tells (Comes Any) again → Tells (Comes Any) (free_these what again left amount found)
 free_these-tells what again left zero found sound read h = tt
 free_these-tells what again left (suc more) found sound read h = (
   (read.0.block.range, read.1),
@@ -97,15 +97,15 @@ free_these-tells what again left (suc more) found sound read h = (
       (λ taken few. followed-tells Any Any (lower (credit_of what.handle what.block (suc more)) left) (λ now done. goes now (suc more)) (lower-tells (credit_of what.handle what.block (suc more)) left sound.id) (λ now done any. tt)) h,
 )
 
-free_found-tells : (what : Freeing) (again : Part ℕ) (left : Left) (found : Option (ℕ × block.BlockValue)) → IsSoundFreeing what → IsSoundRead found → Tells (Comes Any) again → Tells (Comes Any) (free_found what again left found)
+free_found-tells : (what : FreedOfHandle) (again : Part ℕ) (left : Left) (found : Option (ℕ × block.BlockValue)) → IsSoundFreeing what → IsSoundRead found → Tells (Comes Any) again → Tells (Comes Any) (free_found what again left found)
 free_found-tells what again left None sound read h = tt
 free_found-tells what again left (Some found) sound read h = free_these-tells what again left (count_by what.picks found.1.allocations) found sound read h
 
-free_once-tells : (what : Freeing) → IsSoundFreeing what → (again : Part ℕ) (left : Left) → Tells (Comes Any) again → Tells (Comes Any) (free_once what again left)
+free_once-tells : (what : FreedOfHandle) → IsSoundFreeing what → (again : Part ℕ) (left : Left) → Tells (Comes Any) again → Tells (Comes Any) (free_once what again left)
 free_once-tells what sound again left h =
     (sound.range, λ moment said fits told. free_found-tells what again left (block_said said) sound (block_said-sound said told) h)
 
-pub free-tells : (what : Freeing) (left : Left) → IsSoundFreeing what → Tells (Comes Any) (free what left)
+pub free-tells : (what : FreedOfHandle) (left : Left) → IsSoundFreeing what → Tells (Comes Any) (free what left)
 free-tells what left sound = tries-tells Any (free_once what) (free_once-tells what sound) left.races left.claims
 
 -- ---- the five reads of a round

@@ -340,28 +340,28 @@ record IsSoundWanted (wanted : this.Wanted) : Type 0 where
   address : IsAddress wanted.address
 
 -- the moments fit 64 bits, and the slot is a CIDR
-record IsSoundLooked (looked : this.Looked) : Type 0 where
+record IsSoundLooked (looked : this.LookedAtBlock) : Type 0 where
   c : FitsIn64 looked.rules.c
   p : FitsIn64 looked.rules.p
   b : FitsIn64 looked.b
   range : IsCidr looked.cidr
 
-this_assigned-tells : (wanted : this.Wanted) (next : this.NextRound) (looked : this.Looked) (left : Left) (done : Option Assigned) → IsSoundWanted wanted → IsSoundLooked looked → FollowThis next → IsSoundDone done → Tells (Comes SaysThis) (this.this_assigned wanted next looked left done)
+this_assigned-tells : (wanted : this.Wanted) (next : this.NextThisRound) (looked : this.LookedAtBlock) (left : Left) (done : Option Assigned) → IsSoundWanted wanted → IsSoundLooked looked → FollowThis next → IsSoundDone done → Tells (Comes SaysThis) (this.this_assigned wanted next looked left done)
 this_assigned-tells wanted next looked left (Some done) named sound n fits = record { address = named.address; b = sound.b; c = sound.c; p = sound.p; w = fits }
 this_assigned-tells wanted next looked left None named sound n fits = n left
 
-this_take-tells : (wanted : this.Wanted) (next : this.NextRound) (left : Left) (looked : this.Looked) (found : ℕ × block.BlockValue) → IsSoundWanted wanted → IsSoundLooked looked → IsSoundRead (Some found) → FollowThis next → Tells (Comes SaysThis) (this.this_take wanted next left looked found)
+this_take-tells : (wanted : this.Wanted) (next : this.NextThisRound) (left : Left) (looked : this.LookedAtBlock) (found : ℕ × block.BlockValue) → IsSoundWanted wanted → IsSoundLooked looked → IsSoundRead (Some found) → FollowThis next → Tells (Comes SaysThis) (this.this_take wanted next left looked found)
 this_take-tells wanted next left looked found named sound h n =
     let target = target_in found (wanted.address.number - looked.cidr.base) in
     followed-tells IsSoundDone SaysThis (assign wanted.request.attributes target left) (this.this_assigned wanted next looked)
     (assign-tells wanted.request.attributes target left named.asker.id (record { range = h.0.block.range; revision = h.1 }))
     (λ now done fits. this_assigned-tells wanted next looked now done named sound n fits)
 
-this_claim-tells : (wanted : this.Wanted) (next : this.NextRound) (left : Left) (looked : this.Looked) (read : BlockRead) → IsSoundWanted wanted → IsSoundLooked looked → IsSoundRead read → FollowThis next → Tells (Comes SaysThis) (this.this_claim wanted next left looked read)
+this_claim-tells : (wanted : this.Wanted) (next : this.NextThisRound) (left : Left) (looked : this.LookedAtBlock) (read : BlockRead) → IsSoundWanted wanted → IsSoundLooked looked → IsSoundRead read → FollowThis next → Tells (Comes SaysThis) (this.this_claim wanted next left looked read)
 this_claim-tells wanted next left looked read named sound h n =
     followed-tells Any SaysThis (claim_for wanted.request.node looked.cidr read left) (λ now done. next now) (claim_for-tells wanted.request.node looked.cidr read left named.asker.node sound.range h) (λ now done any. n now)
 
-this_free-tells : (wanted : this.Wanted) (next : this.NextRound) (left : Left) (looked : this.Looked) (found : ℕ × block.BlockValue) → IsSoundWanted wanted → IsSoundLooked looked → IsSoundRead (Some found) → FollowThis next → Tells (Comes SaysThis) (this.this_free wanted next left looked found)
+this_free-tells : (wanted : this.Wanted) (next : this.NextThisRound) (left : Left) (looked : this.LookedAtBlock) (found : ℕ × block.BlockValue) → IsSoundWanted wanted → IsSoundLooked looked → IsSoundRead (Some found) → FollowThis next → Tells (Comes SaysThis) (this.this_free wanted next left looked found)
 this_free-tells wanted next left looked found named sound h n = from (share_of looked.rules.config.strict wanted.request.node found.1)
   where
     from : (share : Share) → Tells (Comes SaysThis) (by_share share (this.this_take wanted next left looked found) (this.this_claim wanted next left looked (Some found)) (goes left (add_this.NotAffine looked.cidr looked.b)))
@@ -369,17 +369,17 @@ this_free-tells wanted next left looked found named sound h n = from (share_of l
     from Claims = this_claim-tells wanted next left looked (Some found) named sound h n
     from Leaves = (sound.range, sound.b)
 
-this_held-tells : (free : Part AddThisAnswer) (left : Left) (looked : this.Looked) (held : Option Allocation) → IsSoundLooked looked → Tells (Comes SaysThis) free → Tells (Comes SaysThis) (this.this_held free left looked held)
+this_held-tells : (free : Part AddThisAnswer) (left : Left) (looked : this.LookedAtBlock) (held : Option Allocation) → IsSoundLooked looked → Tells (Comes SaysThis) free → Tells (Comes SaysThis) (this.this_held free left looked held)
 this_held-tells free left looked None sound h = h
 this_held-tells free left looked (Some held) sound h = sound.b
 
-this_block-tells : (wanted : this.Wanted) (next : this.NextRound) (left : Left) (looked : this.Looked) (read : BlockRead) → IsSoundWanted wanted → IsSoundLooked looked → IsSoundRead read → FollowThis next → Tells (Comes SaysThis) (this.this_block wanted next left looked read)
+this_block-tells : (wanted : this.Wanted) (next : this.NextThisRound) (left : Left) (looked : this.LookedAtBlock) (read : BlockRead) → IsSoundWanted wanted → IsSoundLooked looked → IsSoundRead read → FollowThis next → Tells (Comes SaysThis) (this.this_block wanted next left looked read)
 this_block-tells wanted next left looked None named sound h n = this_claim-tells wanted next left looked None named sound h n
 this_block-tells wanted next left looked (Some found) named sound h n =
     this_held-tells (this.this_free wanted next left looked found) left looked (holder found.1 (wanted.address.number - looked.cidr.base)) sound
     (this_free-tells wanted next left looked found named sound h n)
 
-this_in_pool-tells : (wanted : this.Wanted) (next : this.NextRound) (left : Left) (rules : this.Rules) (pools : List Pool) (pool : Option Pool) → IsSoundWanted wanted → FitsIn64 rules.c → FitsIn64 rules.p → HaveSlots pools → IsHolding pools wanted.address pool → FollowThis next → Tells (Comes SaysThis) (this.this_in_pool wanted next left rules pool)
+this_in_pool-tells : (wanted : this.Wanted) (next : this.NextThisRound) (left : Left) (rules : this.RulesRead) (pools : List Pool) (pool : Option Pool) → IsSoundWanted wanted → FitsIn64 rules.c → FitsIn64 rules.p → HaveSlots pools → IsHolding pools wanted.address pool → FollowThis next → Tells (Comes SaysThis) (this.this_in_pool wanted next left rules pool)
 this_in_pool-tells wanted next left rules pools None named first second have holds n = second
 this_in_pool-tells wanted next left rules pools (Some pool) named first second have holds n =
     let range = holding-range pools pool wanted.address have holds.0 holds.1 in (
@@ -388,7 +388,7 @@ this_in_pool-tells wanted next left rules pools (Some pool) named first second h
           (record { c = first; p = second; b = third; range = range }) (block_said-sound said told) n,
     )
 
-this_round-tells : (wanted : this.Wanted) → IsSoundWanted wanted → (next : this.NextRound) (left : Left) → FollowThis next → Tells (Comes SaysThis) (this.this_round wanted next left)
+this_round-tells : (wanted : this.Wanted) → IsSoundWanted wanted → (next : this.NextThisRound) (left : Left) → FollowThis next → Tells (Comes SaysThis) (this.this_round wanted next left)
 this_round-tells wanted named next left n = (
   tt,
   λ c config first one. (

@@ -3,7 +3,7 @@
 ghost use Rattle.std.specs.Prelude.{◌≡◌, ℕ, ◌≤◌, List, Some, IsUtf8};
 ghost use Rattle.cni_types.specs.Reading.{Pair};
 ghost use Rattle.ipam_call.specs.Replies.{reply_of_line};
-ghost use Rattle.ipam_call.specs.Requests.{call_text as text_sent};
+ghost use Rattle.ipam_call.specs.Requests.{cni_call_text as text_sent};
 ghost use Rattle.ipam_session.specs.Calls.{call_begun};
 ghost use Rattle.ipam_session.specs.Replies.{call_text as text_replied};
 ghost use Rattle.ipam_session.specs.Wishes.{wish_of_line};

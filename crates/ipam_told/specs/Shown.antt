@@ -6,9 +6,9 @@ use Rattle.ipam_show.specs.Blocks.{blocks_text}
 use Rattle.ipam_show.specs.Json.{json_text}
 use Rattle.ipam_show.specs.Node.{node_text}
 use Rattle.ipam_show.specs.Pools.{pools_text}
-use Rattle.ipam_words.specs.Views.{Seen, Pools, Json, Blocks, Address, Node}
+use Rattle.ipam_words.specs.Views.{AskedView, Pools, Json, Blocks, Address, Node}
 
-abbrev pub shown_text : Seen → Datastore → List ℕ
+abbrev pub shown_text : AskedView → Datastore → List ℕ
 shown_text Pools store = pools_text store
 shown_text Json store = json_text store
 shown_text Blocks store = blocks_text store

@@ -1,2 +1,3 @@
 -- The upkeep that words name.
 pub mod Words
+pub mod Given

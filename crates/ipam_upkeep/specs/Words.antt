@@ -2,7 +2,7 @@
 use Rattle.std.specs.Prelude.{◌≡◌, ℕ, List, [], ◌∷◌, true, codes, bytes_eq, Option, Some, None, option_map, if◌then◌else◌}
 use Rattle.ipam_addr.specs.Names.{is_name_text}
 use Rattle.ipam_words.specs.Daemon.{address_before}
-use Rattle.ipam_words.specs.Words.{AreWorkers, Asked, command_named}
+use Rattle.ipam_words.specs.Words.{AreWorkers, AskedCommand, command_named}
 use Rattle.ipam_words.specs.Words as asked
 use Rattle.ipam_upkeep.specs.declared.reading.Upkeep.{Upkeep}
 use Rattle.ipam_upkeep.specs.declared.reading.Upkeep.TheVariants as upkeep
@@ -47,7 +47,7 @@ named_beside (word ∷ first ∷ []) = pair_named word first
 named_beside (word ∷ first ∷ second ∷ more) = None
 
 -- `audit N` is a command; no other is upkeep
-abbrev pub by_command : Option Asked → (beside : Option Upkept) → Option Upkept
+abbrev pub by_command : Option AskedCommand → (beside : Option Upkept) → Option Upkept
 by_command (Some (asked.Audit workers)) beside = Some (Audit workers)
 by_command (Some other) beside = None
 by_command None beside = beside

@@ -4,9 +4,10 @@ use std::alloc::{AllocError, Global};
 
 /// What `--help` writes of these words, behind what it writes of the others.
 const MORE_HELP: &str = "\
-So do audit N and the two below, which else ask the database. ipam WORD --help writes the lines of one word.
+audit N and these two ask the daemon in the same way, and the database where no daemon is named:
   ipam backup FILE     copies all rows of one moment into a new database, FILE
   ipam unreserve NAME  takes back the reservation of that name
+ipam WORD --help writes the lines of one word.
 ";
 
 /// What stands before a line that goes on from the one before it.

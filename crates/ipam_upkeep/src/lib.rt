@@ -2,8 +2,10 @@
 //! and the help of one word.
 #![tactic(auto)]
 
+mod given;
 mod help;
 mod reading;
 
+pub use given::words_given;
 pub use help::{help_of, help_text};
 pub use reading::{Upkeep, UpkeepAsk, help_asked, upkeep_asked};

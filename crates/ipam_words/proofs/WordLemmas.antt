@@ -11,14 +11,14 @@ use Rattle.ipam_words.specs.declared.kind.RowKind.{RowKind}
 use Rattle.ipam_words.specs.declared.reading.TheConstants.{MOST_WORKERS}
 use Rattle.ipam_words.specs.Kinds.{kind_named}
 use Rattle.ipam_words.specs.Views as seen
-use Rattle.ipam_words.specs.Words.{AreWorkers, Asked, Cni, Play, Apply, Get, Routes, Gen, Show, Audit, Serve, Call, Help, Version, IsSound, address_seen, asked_by, audit_named, command_named, count_named, count_of, first_named, get_named, get_of, node_named, number_of, release_named, release_of, routes_named, second_named, serve_named, view_named, word_named, workers_of, workers_within}
+use Rattle.ipam_words.specs.Words.{AreWorkers, AskedCommand, Cni, Play, Apply, Get, Routes, Gen, Show, Audit, Serve, Call, Help, Version, IsSound, address_seen, asked_by, audit_named, command_named, count_named, generated_of, first_named, get_named, get_of, node_view_named, small_number_of, release_named, release_of, routes_named, second_named, serve_named, view_named, word_named, workers_of, workers_within}
 
 -- what is asked, if anything, is sound
-abbrev AllSound : Option Asked → Type 0
+abbrev AllSound : Option AskedCommand → Type 0
 AllSound None = Unit {0}
 AllSound (Some asked) = IsSound asked
 
-if-sound : (b : Bool) (one other : Option Asked) → AllSound one → AllSound other → AllSound (if b then one else other)
+if-sound : (b : Bool) (one other : Option AskedCommand) → AllSound one → AllSound other → AllSound (if b then one else other)
 if-sound true one other h k = h
 if-sound false one other h k = k
 
@@ -55,8 +55,8 @@ view-sound word =
     if-sound (bytes_eq word (codes "--json")) (Some (Show seen.Json)) _ tt
     (if-sound (bytes_eq word (codes "blocks")) (Some (Show seen.Blocks)) (address_seen (address_of word)) tt (address-sound (address_of word)))
 
-node-sound : (word node : List ℕ) → AllSound (node_named word node)
-unfolding node_named
+node-sound : (word node : List ℕ) → AllSound (node_view_named word node)
+unfolding node_view_named
 node-sound word node = if-sound (bytes_eq word (codes "node") && is_name_text node) (Some (Show (seen.Node node))) None tt tt
 
 -- ---- workers
@@ -93,8 +93,8 @@ two-words word first =
     if-sound (bytes_eq word (codes "get")) (get_named first) _ (get-sound (kind_named first))
     (if-sound (bytes_eq word (codes "show")) (view_named first) _ (view-sound first)
     (if-sound (bytes_eq word (codes "routes")) (routes_named first) _ (routes-sound first)
-    (if-sound (bytes_eq word (codes "gen")) (count_named first) _ (gen-sound (count_of first))
-    (if-sound (bytes_eq word (codes "audit")) (audit_named first) _ (audit-sound (workers_of first) (number-workers (number_of first)))
+    (if-sound (bytes_eq word (codes "gen")) (count_named first) _ (gen-sound (generated_of first))
+    (if-sound (bytes_eq word (codes "audit")) (audit_named first) _ (audit-sound (workers_of first) (number-workers (small_number_of first)))
     (if-sound (bytes_eq word (codes "call")) (Some (Call first)) None tt tt)))))
 
 block-sound : (node : List ℕ) (read : Result CidrValue AddrFault) → is_name_text node ≡ true → AllSound (release_of node read)
@@ -113,14 +113,14 @@ three-words : (word first second : List ℕ) → AllSound (second_named word fir
 unfolding second_named
 three-words word first second =
     if-sound (bytes_eq word (codes "release")) (release_named first second) _ (release-sound first second)
-    (if-sound (bytes_eq word (codes "serve")) (serve_named first second) _ (serve-sound first (workers_of second) (number-workers (number_of second)))
-    (if-sound (bytes_eq word (codes "show")) (node_named first second) None (node-sound first second) tt))
+    (if-sound (bytes_eq word (codes "serve")) (serve_named first second) _ (serve-sound first (workers_of second) (number-workers (small_number_of second)))
+    (if-sound (bytes_eq word (codes "show")) (node_view_named first second) None (node-sound first second) tt))
 
 -- ---- what was read
 
-if-some : (read : Option Command) (named : Option Asked) → option_map asked_by read ≡ named → AllSound named → IfSome read (λ command. IsSound (asked_by command))
+if-some : (read : Option Command) (named : Option AskedCommand) → option_map asked_by read ≡ named → AllSound named → IfSome read (λ command. IsSound (asked_by command))
 if-some None named is h = tt
-if-some (Some command) named is h = subst (λ (o : Option Asked). AllSound o) (sym is) h
+if-some (Some command) named is h = subst (λ (o : Option AskedCommand). AllSound o) (sym is) h
 
 pub one_sound : (word : List ℕ) (read : Option Command) → option_map asked_by read ≡ word_named word → IfSome read (λ command. IsSound (asked_by command))
 one_sound word read is = if-some read (word_named word) is (one-word word)

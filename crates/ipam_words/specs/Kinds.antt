@@ -1,8 +1,9 @@
 -- The kinds of rows, by the words for them.
-use Rattle.std.specs.Prelude.{ℕ, ◌==◌, Bool, List, codes, bytes_eq, Option, Some, None, if◌then◌else◌}
+use Rattle.std.specs.Prelude.{ℕ, Bool, List, codes, bytes_eq, Option, Some, None, if◌then◌else◌}
 use Rattle.std.specs.List.{before_first}
 use Rattle.ipam_words.specs.declared.kind.RowKind.{RowKind}
 use Rattle.ipam_words.specs.declared.kind.RowKind.TheVariants.{Config, Pools, Reservations, Block, Affinity, Handle}
+pub use Rattle.ipam_addr.specs.Text.{is_slash}
 
 abbrev pub kind_word : RowKind → List ℕ
 kind_word Config = codes "config"
@@ -23,9 +24,6 @@ kind_named word =
     else (if bytes_eq word (codes "handle") then Some Handle
     else None)))))
 
-abbrev pub is_slash : ℕ → Bool
-is_slash byte = byte == 47
-
 -- a row whose key has the kind's word before its first slash, or has no slash and is that word
-abbrev pub is_of_kind : RowKind → (key : List ℕ) → Bool
-is_of_kind kind key = bytes_eq (before_first is_slash key) (kind_word kind)
+abbrev pub is_key_of_kind : RowKind → (key : List ℕ) → Bool
+is_key_of_kind kind key = bytes_eq (before_first is_slash key) (kind_word kind)

@@ -5,14 +5,14 @@ use Rattle.ipam_words.specs.declared.view.View.{View}
 use Rattle.ipam_words.specs.declared.view.View.TheVariants as view
 
 -- what is shown, as `View` has it, with the name itself in place of a loan
-pub data Seen : Type 0 where
-  Pools : Seen
-  Json : Seen
-  Blocks : Seen
-  Address : AddrValue → Seen
-  Node : List ℕ → Seen
+pub data AskedView : Type 0 where
+  Pools : AskedView
+  Json : AskedView
+  Blocks : AskedView
+  Address : AddrValue → AskedView
+  Node : List ℕ → AskedView
 
-abbrev pub seen_by : View → Seen
+abbrev pub seen_by : View → AskedView
 seen_by view.Pools = Pools
 seen_by view.Json = Json
 seen_by view.Blocks = Blocks

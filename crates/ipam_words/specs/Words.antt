@@ -11,26 +11,26 @@ use Rattle.ipam_words.specs.declared.command.Command.TheVariants as command
 use Rattle.ipam_words.specs.declared.kind.RowKind.{RowKind}
 use Rattle.ipam_words.specs.declared.reading.TheConstants.{MOST_GENERATED, MOST_WORKERS}
 use Rattle.ipam_words.specs.Kinds.{kind_named}
-use Rattle.ipam_words.specs.Views.{Seen, seen_by}
+use Rattle.ipam_words.specs.Views.{AskedView, seen_by}
 use Rattle.ipam_words.specs.Views as seen
 
 -- what is asked, as `Command` has it, with the name itself in place of a loan
-pub data Asked : Type 0 where
-  Cni : Asked
-  Play : Asked
-  Apply : Asked
-  Get : Option RowKind → Asked
-  Show : Seen → Asked
-  Routes : List ℕ → Asked
-  Release : List ℕ → CidrValue → Asked
-  Gen : ℕ → Asked
-  Audit : ℕ → Asked
-  Serve : List ℕ → ℕ → Asked
-  Call : List ℕ → Asked
-  Help : Asked
-  Version : Asked
+pub data AskedCommand : Type 0 where
+  Cni : AskedCommand
+  Play : AskedCommand
+  Apply : AskedCommand
+  Get : Option RowKind → AskedCommand
+  Show : AskedView → AskedCommand
+  Routes : List ℕ → AskedCommand
+  Release : List ℕ → CidrValue → AskedCommand
+  Gen : ℕ → AskedCommand
+  Audit : ℕ → AskedCommand
+  Serve : List ℕ → ℕ → AskedCommand
+  Call : List ℕ → AskedCommand
+  Help : AskedCommand
+  Version : AskedCommand
 
-abbrev pub asked_by : Command → Asked
+abbrev pub asked_by : Command → AskedCommand
 asked_by command.Cni = Cni
 asked_by command.Play = Play
 asked_by command.Apply = Apply
@@ -47,7 +47,7 @@ asked_by command.Version = Version
 
 -- ---- one word
 
-unfoldable pub word_named : List ℕ → Option Asked
+unfoldable pub word_named : List ℕ → Option AskedCommand
 word_named word =
     if bytes_eq word (codes "cni") then Some Cni
     else (if bytes_eq word (codes "play") then Some Play
@@ -60,55 +60,55 @@ word_named word =
 
 -- ---- two words
 
-abbrev pub get_of : Option RowKind → Option Asked
+abbrev pub get_of : Option RowKind → Option AskedCommand
 get_of None = None
 get_of (Some kind) = Some (Get (Some kind))
 
-abbrev pub get_named : List ℕ → Option Asked
+abbrev pub get_named : List ℕ → Option AskedCommand
 get_named word = get_of (kind_named word)
 
-abbrev pub address_seen : Option AddrValue → Option Asked
+abbrev pub address_seen : Option AddrValue → Option AskedCommand
 address_seen (Some address) = Some (Show (seen.Address address))
 address_seen None = None
 
 -- the pools as JSON, the blocks, or the address that the word writes
-unfoldable pub view_named : List ℕ → Option Asked
+unfoldable pub view_named : List ℕ → Option AskedCommand
 view_named word =
     if bytes_eq word (codes "--json") then Some (Show seen.Json)
     else (if bytes_eq word (codes "blocks") then Some (Show seen.Blocks)
     else address_seen (address_of word))
 
-unfoldable pub routes_named : List ℕ → Option Asked
+unfoldable pub routes_named : List ℕ → Option AskedCommand
 routes_named node = if is_name_text node then Some (Routes node) else None
 
-abbrev pub number_in : ℕ → Option ℕ
-number_in n = if nat_lt n (2 ^ 32) then Some n else None
+abbrev pub number_in_32_bits : ℕ → Option ℕ
+number_in_32_bits n = if nat_lt n (2 ^ 32) then Some n else None
 
 -- the number that the word writes in decimal, with no `0` before another digit, where 32 bits hold it
-abbrev pub number_of : List ℕ → Option ℕ
-number_of word = if is_index word then number_in (digits_value 10 word) else None
+abbrev pub small_number_of : List ℕ → Option ℕ
+small_number_of word = if is_index word then number_in_32_bits (digits_value 10 word) else None
 
 -- as many requests as may be generated
-abbrev pub count_in : ℕ → Option ℕ
-count_in n = if nat_le n MOST_GENERATED then Some n else None
+abbrev pub generated_within : ℕ → Option ℕ
+generated_within n = if nat_le n MOST_GENERATED then Some n else None
 
-abbrev pub count_of : List ℕ → Option ℕ
-count_of word = option_and_then count_in (number_of word)
+abbrev pub generated_of : List ℕ → Option ℕ
+generated_of word = option_and_then generated_within (small_number_of word)
 
-abbrev pub count_named : List ℕ → Option Asked
-count_named word = option_map Gen (count_of word)
+abbrev pub count_named : List ℕ → Option AskedCommand
+count_named word = option_map Gen (generated_of word)
 
 -- as many workers as there may be
 abbrev pub workers_within : ℕ → Option ℕ
 workers_within n = if nat_le 1 n && nat_le n MOST_WORKERS then Some n else None
 
 abbrev pub workers_of : List ℕ → Option ℕ
-workers_of word = option_and_then workers_within (number_of word)
+workers_of word = option_and_then workers_within (small_number_of word)
 
-abbrev pub audit_named : List ℕ → Option Asked
+abbrev pub audit_named : List ℕ → Option AskedCommand
 audit_named word = option_map Audit (workers_of word)
 
-unfoldable pub first_named : (word first : List ℕ) → Option Asked
+unfoldable pub first_named : (word first : List ℕ) → Option AskedCommand
 first_named word first =
     if bytes_eq word (codes "get") then get_named first
     else (if bytes_eq word (codes "show") then view_named first
@@ -120,31 +120,31 @@ first_named word first =
 
 -- ---- three words
 
-abbrev pub release_of : List ℕ → Result CidrValue AddrFault → Option Asked
+abbrev pub release_of : List ℕ → Result CidrValue AddrFault → Option AskedCommand
 release_of node (Ok cidr) = Some (Release node cidr)
 release_of node (Err fault) = None
 
-unfoldable pub release_named : (node block : List ℕ) → Option Asked
+unfoldable pub release_named : (node block : List ℕ) → Option AskedCommand
 release_named node block = if is_name_text node then release_of node (cidr_reading block) else None
 
-abbrev pub serve_named : (address word : List ℕ) → Option Asked
+abbrev pub serve_named : (address word : List ℕ) → Option AskedCommand
 serve_named address word = option_map (Serve address) (workers_of word)
 
-unfoldable pub node_named : (word node : List ℕ) → Option Asked
-node_named word node =
+unfoldable pub node_view_named : (word node : List ℕ) → Option AskedCommand
+node_view_named word node =
     if bytes_eq word (codes "node") && is_name_text node then Some (Show (seen.Node node)) else None
 
-unfoldable pub second_named : (word first second : List ℕ) → Option Asked
+unfoldable pub second_named : (word first second : List ℕ) → Option AskedCommand
 second_named word first second =
     if bytes_eq word (codes "release") then release_named first second
     else (if bytes_eq word (codes "serve") then serve_named first second
-    else (if bytes_eq word (codes "show") then node_named first second
+    else (if bytes_eq word (codes "show") then node_view_named first second
     else None))
 
 -- ---- all words
 
 -- what the words ask, where they have a command's form
-abbrev pub command_named : List (List ℕ) → Option Asked
+abbrev pub command_named : List (List ℕ) → Option AskedCommand
 command_named [] = Some Cni
 command_named (word ∷ []) = word_named word
 command_named (word ∷ first ∷ []) = first_named word first
@@ -158,7 +158,7 @@ abbrev pub AreWorkers : ℕ → Type 0
 AreWorkers workers = (0 < workers) × (workers ≤ MOST_WORKERS)
 
 -- a node that gives up a block has a name's form, and workers are as many as there may be
-abbrev pub IsSound : Asked → Type 0
+abbrev pub IsSound : AskedCommand → Type 0
 IsSound (Release node cidr) = is_name_text node ≡ true
 IsSound (Audit workers) = AreWorkers workers
 IsSound (Serve address workers) = AreWorkers workers

@@ -1,6 +1,6 @@
 ghost use Rattle.std.specs.Prelude.{◌≡◌, Some, IfSome};
 ghost use Rattle.std.specs.List.{before_first};
-ghost use Rattle.ipam_words.specs.Kinds.{is_of_kind, is_slash, kind_named, kind_word};
+ghost use Rattle.ipam_words.specs.Kinds.{is_key_of_kind, is_slash, kind_named, kind_word};
 
 /// A kind of rows, as an operator names it.
 #[derive(Clone, Copy, Debug, PartialEq, Eq)]
@@ -55,7 +55,7 @@ impl RowKind {
     /// Whether a row with this key is of the kind: what stands before the key's first slash, or all of
     /// it where it has none, is the kind's word.
     pub fn has(self, key: &str) -> bool
-        ensures { result ≡ is_of_kind self key.now }
+        ensures { result ≡ is_key_of_kind self key.now }
     {
         word_before_slash(key.as_bytes()) == self.name().as_bytes()
     }

@@ -1,6 +1,6 @@
 ghost use Rattle.std.specs.Prelude.{◌≡◌, IfSome, option_map, map, string_bytes};
 ghost use Rattle.ipam_addr.specs.Text.{address_of};
-ghost use Rattle.ipam_words.specs.Words.{IsSound, address_seen, asked_by, audit_named, command_named, count_named, count_of, first_named, get_named, node_named, number_of, release_named, routes_named, second_named, serve_named, view_named, word_named, workers_of};
+ghost use Rattle.ipam_words.specs.Words.{IsSound, address_seen, asked_by, audit_named, command_named, count_named, generated_of, first_named, get_named, node_view_named, small_number_of, release_named, routes_named, second_named, serve_named, view_named, word_named, workers_of};
 
 use crate::command::Command;
 use crate::kind::RowKind;
@@ -132,9 +132,9 @@ fn second_named<'a>(word: &str, first: &'a str, second: &'a str) -> Option<Comma
     }
 }
 
-#[tactic(auto, unfolding(crate::specs::Words::node_named))]
+#[tactic(auto, unfolding(crate::specs::Words::node_view_named))]
 fn node_named<'a>(word: &str, node: &'a str) -> Option<Command<'a>>
-    ensures { option_map asked_by result ≡ node_named word.now node.now }
+    ensures { option_map asked_by result ≡ node_view_named word.now node.now }
 {
     if word == "node" && is_name(node.as_bytes()) {
         Some(Command::Show(View::Node(node)))
@@ -167,7 +167,7 @@ fn serve_named<'a>(address: &'a str, word: &str) -> Option<Command<'a>>
 
 /// The number that the word writes in decimal, where so many requests are generated at most.
 fn count_of(word: &str) -> Option<u32>
-    ensures { result ≡ count_of word.now }
+    ensures { result ≡ generated_of word.now }
 {
     let count = number_of(word)?;
     if count <= MOST_GENERATED {
@@ -191,7 +191,7 @@ fn workers_of(word: &str) -> Option<u8>
 
 /// The number that the word writes in decimal, where 32 bits hold it.
 fn number_of(word: &str) -> Option<u32>
-    ensures { result ≡ number_of word.now }
+    ensures { result ≡ small_number_of word.now }
 {
     if !is_index(word.as_bytes()) {
         return None;

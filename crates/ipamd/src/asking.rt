@@ -11,7 +11,7 @@ use ipam_asked_views::show;
 use ipam_client::{Address, Connector, Connects, Limits};
 use ipam_environment::daemon_named;
 use ipam_io::{Link, Sink, StdSink, StdSource};
-use ipam_operator::{End, apply, release, routes, unreached};
+use ipam_operator::{apply, release, routes, unreached};
 use ipam_text::Seq;
 use ipam_words::{Command, DaemonAsk, daemon_asked};
 use std::io;
@@ -52,7 +52,7 @@ fn unasked(rt: &HostRuntime) -> u8 {
 fn ask_at(rt: &HostRuntime, address: &str, command: &Command<'_>) -> u8 {
     let mut connector = Connector::new(rt, Address::of(address), Limits::of_call());
     match connector.connect() {
-        Some(link) => ask_over(rt, command, &mut Viewed::new(rt, link)).code(),
+        Some(link) => ask_over(rt, command, &mut Viewed::new(rt, link)),
         None => unreached_at(rt, address),
     }
 }
@@ -63,14 +63,23 @@ pub(crate) fn unreached_at(rt: &HostRuntime, address: &str) -> u8 {
     unreached(&mut StdSink::new(io::writer(rt))).code()
 }
 
-/// Asks over the link.
-fn ask_over<L: Link>(rt: &HostRuntime, command: &Command<'_>, link: &mut L) -> End {
+/// Asks over the link. What no daemon is asked is not sent, and told as `unasked` does.
+fn ask_over<L: Link>(rt: &HostRuntime, command: &Command<'_>, link: &mut L) -> u8 {
     let mut sink = StdSink::new(io::writer(rt));
-    match command {
+    let end = match command {
         Command::Get(kind) => get(rt.alloc(), &mut sink, link, *kind),
         Command::Show(view) => show(rt.alloc(), &mut sink, link, view),
         Command::Routes(node) => routes(rt.alloc(), &mut sink, link, node),
         Command::Release(node, block) => release(rt.alloc(), &mut sink, link, node, *block),
-        _ => apply(rt.alloc(), &mut StdSource::new(rt.stdin()), &mut sink, link),
-    }
+        Command::Apply => apply(rt.alloc(), &mut StdSource::new(rt.stdin()), &mut sink, link),
+        Command::Cni
+        | Command::Play
+        | Command::Gen(_)
+        | Command::Audit(_)
+        | Command::Serve(_, _)
+        | Command::Call(_)
+        | Command::Help
+        | Command::Version => return unasked(rt),
+    };
+    end.code()
 }

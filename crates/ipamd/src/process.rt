@@ -1,41 +1,43 @@
 //! What the process was given: its words and its environment.
 use ipam_text::Seq;
+use ipam_upkeep::words_given;
 use std::alloc::AllocError;
 use std::env::FillError;
 use std::io::ErrorKind;
 use std::rt::Env;
 use std::{env, io};
 
-/// Stands for words of which one is no text. It names no command.
-const NO_TEXT: &str = "\u{fffd}";
-
 /// The bytes that an entry of the environment is first read into.
 const FIRST_ROOM: usize = 256;
 
-/// The words after the program's name.
+/// The words after the program's name. Where one is no text, they name no command.
 pub(crate) fn words_of(rt: &HostRuntime) -> Result<Vec<String>, AllocError> {
+    words_given(rt.alloc(), all_words(rt)?)
+}
+
+/// All words of the command line, with the program's name. None where one is no text.
+fn all_words(rt: &HostRuntime) -> Result<Option<Vec<String>>, AllocError> {
     match env::args(rt) {
-        Ok(args) => after_name(rt, args),
-        Err(error) => unread(rt, &error),
+        Ok(args) => Ok(Some(kept(rt, args)?)),
+        Err(error) => unread(&error),
     }
 }
 
-fn after_name(rt: &HostRuntime, args: env::Args) -> Result<Vec<String>, AllocError> {
+fn kept(rt: &HostRuntime, args: env::Args) -> Result<Vec<String>, AllocError> {
     let mut words = Vec::new(rt.alloc());
-    for word in args.skip(1) {
+    for word in args {
         words.push(word)?;
     }
     Ok(words)
 }
 
-/// The words that weren't read, since one is no text or there was no memory.
-fn unread(rt: &HostRuntime, error: &io::Error) -> Result<Vec<String>, AllocError> {
-    if error.kind() != ErrorKind::InvalidData {
-        return Err(AllocError);
+/// Why the words weren't read: one is no text, or there was no memory.
+fn unread(error: &io::Error) -> Result<Option<Vec<String>>, AllocError> {
+    if error.kind() == ErrorKind::InvalidData {
+        Ok(None)
+    } else {
+        Err(AllocError)
     }
-    let mut words = Vec::new(rt.alloc());
-    words.push(String::from_str(rt.alloc(), NO_TEXT)?)?;
-    Ok(words)
 }
 
 /// The entries of the environment, in their order.

@@ -1,7 +1,8 @@
-use Rattle.std.proofs.Common.{refl}
+use Rattle.std.proofs.Common.{◌≡◌, Err, ap, inr, refl}
+use Rattle.ipam_resources.specs.declared.fault.DocumentFault.TheVariants as fault
 use Rattle.ipam_apply.specs.Applied.{Good}
 use Rattle.ipam_apply.proofs.DocumentKinds.{document_kinds}
-use Rattle.ipam_apply.proofs.Endings.{fault-ends}
+use Rattle.ipam_apply.proofs.Endings.{bad_wants, fault-ends}
 use Rattle.ipam_apply.proofs.document.apply_document.Goals as goal
 
 pub apply_resources-requires : goal.apply_resources-requires
@@ -18,3 +19,10 @@ pub returns-in-Err-clause-ended : goal.returns-in-Err-clause-ended
 returns-in-Err-clause-ended g c =
     fault-ends _ c.args.document.now _ _ c.tell_document.result c.in-Err.fault refl c.in-Err.ensures.refused c.in-Err.ensures.memory
     c.tell_document.ensures.told c.tell_document.ensures.fixed c.tell_document.ensures.untold c.tell_document.ensures.no_fault
+
+pub returns-in-Ok-clause-want_of_memory_has_its_cause : goal.returns-in-Ok-clause-want_of_memory_has_its_cause
+returns-in-Ok-clause-want_of_memory_has_its_cause g c = λ is. inr (c.apply_resources.ensures.want_of_memory_has_its_cause is)
+
+pub returns-in-Err-clause-want_of_memory_has_its_cause : goal.returns-in-Err-clause-want_of_memory_has_its_cause
+returns-in-Err-clause-want_of_memory_has_its_cause g c =
+    λ is. bad_wants (c.in-Err.fault ≡ fault.Memory) (g.T.ReadsDocuments.wants c.args.alloc) _ (λ none. c.in-Err.ensures.wants (ap Err none)) (c.tell_document.ensures.want_of_memory_has_its_cause is)

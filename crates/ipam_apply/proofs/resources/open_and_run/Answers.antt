@@ -1,4 +1,7 @@
+use Rattle.std.proofs.Common.{◌≡◌, ◌⊎◌, inr}
+use Rattle.ipam_kept.specs.declared.kept.KeptFault.TheVariants as fault
 use Rattle.ipam_apply.specs.Applied.{NotOpened}
+use Rattle.ipam_commands.proofs.Wanting.{unopened_wants}
 use Rattle.ipam_apply.proofs.Endings.{not-loaded, opened-ends}
 use Rattle.ipam_apply.proofs.Readiness.{ready-again}
 use Rattle.ipam_apply.proofs.resources.open_and_run.Goals as goal
@@ -17,3 +20,11 @@ pub returns-in-Err-clause-ended : goal.returns-in-Err-clause-ended
 returns-in-Err-clause-ended g c =
     NotOpened c.in-Err.fault (not-loaded g.D.Keeper.rows g.D.Keeper.faults c.args.keeper c.in-Err.keeper c.in-Err.fault c.in-Err.ensures.refused.fault)
     c.in-Err.ensures.refused.same_rows c.tell_fault.ensures.written
+
+pub returns-in-Ok-clause-want_of_memory_has_its_cause : goal.returns-in-Ok-clause-want_of_memory_has_its_cause
+returns-in-Ok-clause-want_of_memory_has_its_cause g c = λ is. inr (inr (c.run-end.ensures.want_of_memory_has_its_cause is))
+
+pub returns-in-Err-clause-want_of_memory_has_its_cause : goal.returns-in-Err-clause-want_of_memory_has_its_cause
+returns-in-Err-clause-want_of_memory_has_its_cause g c =
+    λ is. unopened_wants (c.in-Err.fault ≡ fault.Memory) (g.T.OpensKept.wants c.args.alloc) (g.T.MakesBroken.wants c.args.alloc)
+    (g.T.MakesSteps.wants c.args.alloc ⊎ g.T.MakesLines.wants c.args.alloc) c.in-Err.ensures.want_of_memory_has_its_cause (c.tell_fault.ensures.want_of_memory_has_its_cause is)

@@ -4,6 +4,7 @@ use Rattle.std.proofs.lemmas.Iterator.Consumers.{YieldsList-end}
 use Rattle.std.proofs.lemmas.List.{map-id}
 use Rattle.ipam_records.specs.Datastore.{Datastore}
 use Rattle.ipam_resources.specs.declared.resource.Resource.{Resource}
+use Rattle.ipam_apply.specs.declared.step.Step.TheVariants.{Ended}
 use Rattle.ipam_apply.specs.Applying.{AreApplied}
 use Rattle.ipam_apply.proofs.Readiness.{ready-rows}
 use Rattle.ipam_apply.proofs.Runs.{all-end, applied-one, given-left, one-end, took-one}
@@ -31,6 +32,9 @@ returns-in-Ended-clause-ended g c =
     one-end c.args.kept.now.cluster.store.store c.args.resources.items c.loop-resource.yielded c.in-Some.resource _ c.loop-resource.kept.cluster.store.store _ _ _ c.in-Ended.end
     (sym c.into_iter-resource-iterator.ensures.into_iter_gives.0 ∙ given ∙ ap (λ (xs : List Resource). c.loop-resource.yielded ++ xs) next)
     h.applied h.took c.in-Ended.ensures.ended
+
+pub returns-in-Ended-clause-want_of_memory_has_its_cause : goal.returns-in-Ended-clause-want_of_memory_has_its_cause
+returns-in-Ended-clause-want_of_memory_has_its_cause g c = λ is. c.in-Ended.ensures.want_of_memory_has_its_cause (ap Ended is)
 
 pub returns-clause-ended : goal.returns-clause-ended
 returns-clause-ended g c =

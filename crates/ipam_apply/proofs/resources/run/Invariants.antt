@@ -1,5 +1,5 @@
 -- What was given so far is applied and told, and the cluster is ready.
-use Rattle.std.proofs.Common.{◌≡◌}
+use Rattle.std.proofs.Common.{◌≡◌, None}
 use Rattle.ipam_apply.specs.Applying.{AreApplied, applied_lines}
 use Rattle.ipam_apply.specs.Outside.{Took}
 use Rattle.ipam_apply.specs.Ready.{IsReady}
@@ -9,11 +9,15 @@ abbrev pub invariant-loop-resource : goal.invariant-loop-resource
 invariant-loop-resource g l = record {
   applied : AreApplied l.initial.kept.cluster.store.store l.yielded l.kept.cluster.store.store;
   took : Took (record {
+    left = None;
+    read_faults = 0;
     written = g.K.Sink.written l.initial.sink;
     write_faults = g.K.Sink.write_faults l.initial.sink;
     rows = g.D.Keeper.rows l.initial.kept.keeper;
     keeper_faults = g.D.Keeper.faults l.initial.kept.keeper;
   }) (record {
+    left = None;
+    read_faults = 0;
     written = g.K.Sink.written l.sink;
     write_faults = g.K.Sink.write_faults l.sink;
     rows = g.D.Keeper.rows l.kept.keeper;

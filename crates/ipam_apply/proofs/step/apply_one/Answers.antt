@@ -1,3 +1,4 @@
+use Rattle.std.proofs.Common.{inl, inr}
 use Rattle.ipam_commands.specs.Telling.{Writes}
 use Rattle.ipam_apply.proofs.Steps.{may-tell, step-ends, step-ready, step-store, stop-ends, told-again}
 use Rattle.ipam_apply.proofs.step.apply_one.Goals as goal
@@ -50,3 +51,9 @@ returns-in-Ok-clause-ready g c =
     (told-again c.args.resource c.into_change-change.result c.into_change-change.ensures c.in-Ok.answer
     (λ text own end. Writes w w' f f' text own end) c.tell_answer.result c.tell_answer.ensures.told)
     c.in-Ok.ensures.answered c.in-Ok.ensures.kept c.in-Ok.ensures.idle
+
+pub returns-in-Ok-clause-want_of_memory_has_its_cause : goal.returns-in-Ok-clause-want_of_memory_has_its_cause
+returns-in-Ok-clause-want_of_memory_has_its_cause g c = λ is. inr (c.tell_answer.ensures.want_of_memory_has_its_cause is)
+
+pub returns-in-Err-clause-want_of_memory_has_its_cause : goal.returns-in-Err-clause-want_of_memory_has_its_cause
+returns-in-Err-clause-want_of_memory_has_its_cause g c = λ is. inl c.in-Err.ensures.want_of_memory_has_its_cause

@@ -11,8 +11,10 @@ loop-allocation-preserved c =
     let xs = take l.allocation-index c.args.allocations.now in
     let ys = take (l.allocation-index + 1) c.args.allocations.now in
     let more : ys ≡ xs ++ a ∷ [] = take_more c.args.allocations.now l.allocation-index a c.loop-allocation-test.true ∙ ap (λ x. xs ++ x ∷ []) (sym c.allocation-item.is) in
+    let listed = rw c.get.ensures at c.in_ok-index.ensures.attributes in
+    let at_index = rw c.get.ensures at c.in_ok-index.ensures.index in
     record {
-      attributes = attributes_more (borrowed l.attributes.items) (borrowed c.number.new.attributes.items) xs ys a l.invariant.attributes c.in_ok-index.ensures.attributes more;
+      attributes = attributes_more (borrowed l.attributes.items) (borrowed c.number.new.attributes.items) xs ys a l.invariant.attributes listed more;
       numbering = c.in_ok-index.ensures.numbering;
-      held = held_more l.held.items c.push.new.self.items (borrowed l.attributes.items) (borrowed c.number.new.attributes.items) xs ys a c.in_ok-index.index l.invariant.held c.in_ok-index.ensures.attributes c.in_ok-index.ensures.index c.in_ok-push.ensures.items more;
+      held = held_more l.held.items c.push.new.self.items (borrowed l.attributes.items) (borrowed c.number.new.attributes.items) xs ys a c.in_ok-index.index l.invariant.held listed at_index c.in_ok-push.ensures.items more;
     }

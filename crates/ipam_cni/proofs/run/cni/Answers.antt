@@ -1,10 +1,11 @@
+use Rattle.ipam_cni.proofs.Makings.{any_sink}
 use Rattle.ipam_cni.proofs.Statuses.{told_status, told_to_end}
 use Rattle.ipam_cni.proofs.run.cni.Goals as goal
 
 -- the end is the one that the call came to
 pub returns-clause-called : goal.returns-clause-called
 returns-clause-called g c =
-    (c.make_call-end.result, c.make_call-end.ensures.went, c.tell_end.ensures.told)
+    (c.make_call-end.result, any_sink _ _ c.make_call-end.result _ _ _ _ _ _ _ _ _ _ _ _ c.make_call-end.ensures.went, c.tell_end.ensures.told)
 
 pub returns-clause-to_end : goal.returns-clause-to_end
 returns-clause-to_end g c =

@@ -1,5 +1,5 @@
 use Rattle.std.proofs.Common.{sym, ◌∙◌}
-use Rattle.ipam_cluster.specs.Cluster.{slot_of}
+use Rattle.ipam_cluster.specs.Cluster.{slot_of_cluster}
 use Rattle.ipam_gen.proofs.DrawLemmas.{drawing-never-waits, drawn-request, drawn-turn, idle-state}
 use Rattle.ipam_gen.proofs.drawing.draw_once.Goals as goal
 
@@ -11,7 +11,7 @@ pub returns-in_ok-begin_next-in-Idle-clause-drawing : goal.returns-in_ok-begin_n
 returns-in_ok-begin_next-in-Idle-clause-drawing c =
     λ count less d. drawn-request c.args.counted.now c.begin_next.new.counted count c.args.draws.now.x c.draw-drawn.new.self.x c.begin_next.new.draws.x
     c.args.begun c.draw-drawn.result c.draw-drawn.ensures.value c.draw-drawn.ensures.state c.in_ok-begin_next-in-Idle.ensures.state less d
-    (idle-state (slot_of c.args.counted.now.cluster c.draw-drawn.result) (sym c.state.ensures ∙ c.in-Idle.is))
+    (idle-state (slot_of_cluster c.args.counted.now.cluster c.draw-drawn.result) (sym c.state.ensures ∙ c.in-Idle.is))
     c.in_ok-begin_next-in-Idle.ensures.happens
 
 pub returns-in_ok-turn-in-Running-clause-drawing : goal.returns-in_ok-turn-in-Running-clause-drawing

@@ -1,12 +1,12 @@
 use Rattle.std.proofs.Common.{Err, ap, arith, ◌∙◌, sym}
-use Rattle.ipam_cluster.specs.Cluster.{slot_of}
+use Rattle.ipam_cluster.specs.Cluster.{slot_of_cluster}
 use Rattle.ipam_gen.proofs.AddLemmas.{adds-fed, counts-one}
 use Rattle.ipam_cluster.proofs.Waiting.{never-early}
 use Rattle.ipam_gen.proofs.events.feed.Goals as goal
 
 pub unreachable-requires-in-Err-TooSoon : goal.unreachable-requires-in-Err-TooSoon
 unreachable-requires-in-Err-TooSoon c =
-    never-early (slot_of c.args.cluster.now 0) 0 c.in-Err-TooSoon._since c.in-Err-TooSoon._grace
+    never-early (slot_of_cluster c.args.cluster.now 0) 0 c.in-Err-TooSoon._since c.in-Err-TooSoon._grace
     c.requires.waits ((c.feed.ensures.too_soon c.in-Err-TooSoon._since c.in-Err-TooSoon._grace).0 (c.in-Err-TooSoon.is ∙ ap Err c.in-Err-TooSoon.field-0-is))
 
 pub returns-in-Ok-clause-adds : goal.returns-in-Ok-clause-adds

@@ -1,5 +1,5 @@
 use Rattle.std.proofs.Common.{◌≡◌, ℕ, ◌-◌, ◌^◌}
-use Rattle.ipam_cluster.specs.Cluster.{slot_of}
+use Rattle.ipam_cluster.specs.Cluster.{slot_of_cluster}
 use Rattle.ipam_gen.specs.Counted.{Leads}
 use Rattle.ipam_gen.specs.Generated.{TakesTurns}
 use Rattle.ipam_gen.proofs.running.run_out.Given as goal
@@ -7,7 +7,7 @@ use Rattle.ipam_gen.proofs.running.run_out.Given as goal
 abbrev pub invariant-loop-counted : goal.invariant-loop-counted
 invariant-loop-counted l = record {
   turns : Leads l.initial.counted l.counted (TakesTurns l.slot);
-  others : (other : ℕ) → ¬ (other ≡ l.slot) → slot_of l.counted.cluster other ≡ slot_of l.initial.counted.cluster other;
+  others : (other : ℕ) → ¬ (other ≡ l.slot) → slot_of_cluster l.counted.cluster other ≡ slot_of_cluster l.initial.counted.cluster other;
 }
 
 -- how many entries there may still be

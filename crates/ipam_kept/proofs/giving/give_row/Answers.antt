@@ -1,6 +1,6 @@
 use Rattle.std.proofs.Common.{◌≡◌, OnOk, sym, ap, ◌∙◌, subst}
 use Rattle.ipam_records.specs.declared.call.Row.{Row}
-use Rattle.ipam_keeper.specs.Keeping.{Change, PutIn, IsOldOrNew, OnFailed, known_with}
+use Rattle.ipam_keeper.specs.Keeping.{KeeperChange, PutIn, IsOldOrNew, OnFailed, known_with}
 use Rattle.ipam_keeper.specs.Rows.{row_with}
 use Rattle.ipam_kept.specs.Giving.{known_after}
 use Rattle.ipam_kept.specs.Rows.{change_of}
@@ -24,4 +24,4 @@ pub returns-in-Put-clause-given : goal.returns-in-Put-clause-given
 returns-in-Put-clause-given g c =
     let row : row_with c.as_str.result.now c.in-Put.row.revision c.as_str-in-Put.result.now ≡ c.in-Put.row = λ i. record { key = c.as_str.ensures i; revision = c.in-Put.row.revision; body = c.as_str-in-Put.ensures i } in
     let same : PutIn (row_with c.as_str.result.now c.in-Put.row.revision c.as_str-in-Put.result.now) ≡ change_of c.args.write.now = ap PutIn row ∙ ap change_of (sym c.in-Put.is) in
-    subst (λ (k : Change). OnFailed c.put.result (g.D.Keeper.given c.args.keeper.now k c.put.new.self)) same c.put.ensures.given
+    subst (λ (k : KeeperChange). OnFailed c.put.result (g.D.Keeper.given c.args.keeper.now k c.put.new.self)) same c.put.ensures.given

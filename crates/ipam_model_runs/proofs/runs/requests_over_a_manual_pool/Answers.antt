@@ -8,8 +8,8 @@ use Rattle.ipam_json.specs.Built.{object_of, array_of}
 use Rattle.ipam_json.proofs.ReadsBack.{read-compact_text}
 use Rattle.ipam_json.specs.Held.{held, if_printed}
 use Rattle.ipam_json.specs.Members.{◌>>=◌}
-use Rattle.ipam_record_text.specs.Blocks.{cidr_of, name_of}
-use Rattle.ipam_record_text.specs.Pools.{pools_reading, pools_in, pools_body, pools_data, pool_data, pool_in, plain_in, size_at, table_of}
+use Rattle.ipam_record_text.specs.Blocks.{cidr_of, name_read}
+use Rattle.ipam_record_text.specs.Pools.{pools_reading, pool_list_in, pools_body, pools_data, pool_data, pool_in, plain_in, size_at, table_of}
 use Rattle.ipam_model_runs.specs.ManualPools.{saying_automatic}
 use Rattle.ipam_model_runs.proofs.Unfolded.{runs_computed, names_read}
 use Rattle.ipam_model_runs.proofs.runs.requests_over_a_manual_pool.Goals as goal
@@ -53,6 +53,6 @@ is_said =
 
 -- what the text holds is printed without its mode
 pub returns-clause-automatic_said : goal.returns-clause-automatic_said
-unfolding said pools_reading held pools_in pool_in plain_in size_at cidr_of name_of pools_body pools_data pool_data table_of names_read escape_byte digits
+unfolding said pools_reading held pool_list_in pool_in plain_in size_at cidr_of name_read pools_body pools_data pool_data table_of names_read escape_byte digits
 returns-clause-automatic_said c =
-    ap (λ o. table_of (o >>= λ d. pools_in d >>= λ pools. if_printed pools_body saying_automatic pools)) is_said
+    ap (λ o. table_of (o >>= λ d. pool_list_in d >>= λ pools. if_printed pools_body saying_automatic pools)) is_said

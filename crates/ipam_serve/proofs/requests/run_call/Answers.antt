@@ -1,7 +1,9 @@
-use Rattle.std.proofs.Common.{inr}
-use Rattle.ipam_serve.proofs.Going.{call-answered, call-broken, call-fed, worn-so}
+use Rattle.std.proofs.Common.{Err, arith, inr}
+use Rattle.ipam_serve.proofs.Going.{call-answered, call-broken, call-fed, worn-from, worn-so}
 use Rattle.ipam_serve.proofs.Running.{begins-calls-part}
 use Rattle.ipam_serve.proofs.Keeping.{makes-then}
+use Rattle.ipam_serve.proofs.Wearing.{worn-more, worn-waited}
+use Rattle.ipam_serve.specs.Spans.{waits_of}
 use Rattle.ipam_serve.proofs.requests.run_call.Goals as goal
 
 pub returns-in-Ok-Answered-clause-ran : goal.returns-in-Ok-Answered-clause-ran
@@ -40,4 +42,11 @@ pub returns-in-Ok-Waits-clause-idle : goal.returns-in-Ok-Waits-clause-idle
 returns-in-Ok-Waits-clause-idle g c = c.feed_own.ensures.fed.idle
 
 pub returns-in-Ok-Waits-clause-worn : goal.returns-in-Ok-Waits-clause-worn
-returns-in-Ok-Waits-clause-worn g c = c.feed_own.ensures.fed.worn
+returns-in-Ok-Waits-clause-worn g c =
+    let ran = rw c.in-Ok-Waits.field-0-is at c.in-Ok-Waits.ensures.ran in
+    worn-from c.feed_own.result _ _ _ (worn-waited c.args.pass.now c.run_request.new.pass c.feed_own.new.pass ran.entries c.args.request.now ran.took)
+    c.feed_own.ensures.fed.collects c.feed_own.ensures.fed.worn
+
+pub returns-in-Err-clause-worn : goal.returns-in-Err-clause-worn
+returns-in-Err-clause-worn g c =
+    worn-so {T = Unit {0}} (Err c.in-Err.broken) _ _ (worn-more c.args.pass.now c.run_request.new.pass 0 (waits_of c.args.request.now) (omega arith)) c.in-Err.ensures.worn

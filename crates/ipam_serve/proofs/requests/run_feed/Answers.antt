@@ -1,8 +1,9 @@
 use Rattle.std.proofs.Common.{◌∙◌}
 use Rattle.ipam_shared.specs.Passes.{runs_in}
-use Rattle.ipam_serve.proofs.Going.{fed-broken, fed-found, fed-runs, feeds-early, still-runs, worn-any}
+use Rattle.ipam_serve.proofs.Going.{fed-broken, fed-found, fed-runs, feeds-early, still-runs, worn-any, worn-so}
 use Rattle.ipam_serve.proofs.Running.{not-begun, waiting-some}
 use Rattle.ipam_serve.proofs.Keeping.{makes-fed, makes-none, makes-then}
+use Rattle.ipam_serve.proofs.Wearing.{worn-then}
 use Rattle.ipam_serve.proofs.requests.run_feed.Goals as goal
 
 pub run_fed-requires-clause-runs : goal.run_fed-requires-clause-runs
@@ -48,7 +49,8 @@ pub returns-in-Err-clause-keeper : goal.returns-in-Err-clause-keeper
 returns-in-Err-clause-keeper g c = makes-none g.D.Keeper.rows g.D.Keeper.given g.D.Keeper.faults c.args.pass.now c.feed.new.pass 1 c.in-Err.ensures.not_fed
 
 pub returns-in-Ok-Fed-clause-worn : goal.returns-in-Ok-Fed-clause-worn
-returns-in-Ok-Fed-clause-worn g c = c.run_fed.ensures.went.worn
+returns-in-Ok-Fed-clause-worn g c =
+    worn-so c.run_fed.result _ _ (worn-then c.args.pass.now c.feed.new.pass c.run_fed.new.pass _ 0 0 (rw c.in-Ok-Fed.field-0-is at c.in-Ok-Fed.ensures.fed).0) c.run_fed.ensures.went.worn
 
 pub returns-in-Ok-Fed-clause-runs : goal.returns-in-Ok-Fed-clause-runs
 returns-in-Ok-Fed-clause-runs g c = c.run_fed.ensures.went.runs

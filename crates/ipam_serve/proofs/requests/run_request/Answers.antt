@@ -2,6 +2,7 @@ use Rattle.std.proofs.Common.{inl, inr}
 use Rattle.ipam_serve.proofs.Going.{broken-begun, ran-begun, ran-idle, ran-waits, worn-any, worn-so}
 use Rattle.ipam_serve.proofs.Running.{begun-asked, not-begun, some-asked}
 use Rattle.ipam_serve.proofs.Keeping.{makes-begun, makes-none, makes-then}
+use Rattle.ipam_serve.proofs.Wearing.{worn-then}
 use Rattle.ipam_serve.proofs.requests.run_request.Goals as goal
 
 pub run_on-requires-clause-runs : goal.run_on-requires-clause-runs
@@ -50,4 +51,4 @@ pub returns-in-Err-clause-keeper : goal.returns-in-Err-clause-keeper
 returns-in-Err-clause-keeper g c = makes-none g.D.Keeper.rows g.D.Keeper.given g.D.Keeper.faults c.args.pass.now c.begin.new.pass 1 c.in-Err.ensures.not_begun
 
 pub returns-in-Ok-clause-worn : goal.returns-in-Ok-clause-worn
-returns-in-Ok-clause-worn g c = c.run_on.ensures.went.worn
+returns-in-Ok-clause-worn g c = worn-so c.run_on.result _ _ (worn-then c.args.pass.now c.begin.new.pass c.run_on.new.pass _ 0 0 c.in-Ok.ensures.begun) c.run_on.ensures.went.worn

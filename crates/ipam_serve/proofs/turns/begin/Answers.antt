@@ -1,6 +1,7 @@
-use Rattle.std.proofs.Common.{◌≤◌}
+use Rattle.std.proofs.Common.{◌≤◌, Err, ap}
 use Rattle.ipam_serve.proofs.Coming.{took-err}
 use Rattle.ipam_serve.proofs.Turning.{took-known, took-rest}
+use Rattle.ipam_serve.proofs.Wearing.{worn-few, worn-found}
 use Rattle.ipam_serve.proofs.turns.begin.Goals as goal
 
 pub returns-then-left-lt2-clause-not_begun : goal.returns-then-left-lt2-clause-not_begun
@@ -15,3 +16,12 @@ pub returns-in-Err-clause-not_begun : goal.returns-in-Err-clause-not_begun
 returns-in-Err-clause-not_begun g c =
     let enough : 2 ≤ c.args.pass.now.left = rw (← c.left.ensures) c.if-left-lt2.false in
     took-err c.args.pass.now c.begin.new.pass c.in-Err.fault c.in-Err.ensures.spent enough c.in-Err.ensures.same c.in-Err.ensures.seen c.in-Err.ensures.knows c.in-Err.ensures.left
+
+pub returns-then-left-lt2-clause-worn : goal.returns-then-left-lt2-clause-worn
+returns-then-left-lt2-clause-worn g c = worn-few c.args.pass.now (rw (← c.left.ensures) c.if-left-lt2.true)
+
+pub returns-in-Err-clause-worn : goal.returns-in-Err-clause-worn
+returns-in-Err-clause-worn g c =
+    let enough : 2 ≤ c.args.pass.now.left = rw (← c.left.ensures) c.if-left-lt2.false in
+    worn-found c.not_begun.result c.args.pass.now c.begin.new.pass (λ e. (c.in-Err.ensures.worn.0 (ap Err (c.not_begun.ensures.worn e))).2)
+    (took-err c.args.pass.now c.begin.new.pass c.in-Err.fault c.in-Err.ensures.spent enough c.in-Err.ensures.same c.in-Err.ensures.seen c.in-Err.ensures.knows c.in-Err.ensures.left)

@@ -1,6 +1,8 @@
 use Rattle.std.proofs.Common.{◌≤◌, Err, ap}
 use Rattle.ipam_serve.proofs.Coming.{called-so, on-err, sees-none, took-err, waits-called}
+use Rattle.ipam_serve.proofs.Going.{worn-so}
 use Rattle.ipam_serve.proofs.Turning.{took-rest}
+use Rattle.ipam_serve.proofs.Wearing.{worn-few, worn-many}
 use Rattle.ipam_serve.proofs.Keeping.{makes-call, makes-none, makes-nothing}
 use Rattle.ipam_serve.proofs.turns.call.Goals as goal
 
@@ -40,3 +42,14 @@ returns-in-Err-clause-keeper g c =
     let enough : 2 ≤ c.args.pass.now.left = rw (← c.left.ensures) c.if-left-lt2.false in
     makes-none g.D.Keeper.rows g.D.Keeper.given g.D.Keeper.faults c.args.pass.now c.turn.new.pass 1
     (took-err c.args.pass.now c.turn.new.pass c.in-Err.fault c.in-Err.ensures.spent enough c.in-Err.ensures.same c.in-Err.ensures.seen c.in-Err.ensures.knows c.in-Err.ensures.left)
+
+pub returns-then-left-lt2-clause-worn : goal.returns-then-left-lt2-clause-worn
+returns-then-left-lt2-clause-worn g c = worn-few c.args.pass.now (rw (← c.left.ensures) c.if-left-lt2.true)
+
+pub returns-in-Err-clause-worn : goal.returns-in-Err-clause-worn
+returns-in-Err-clause-worn g c =
+    let enough : 2 ≤ c.args.pass.now.left = rw (← c.left.ensures) c.if-left-lt2.false in
+    worn-so c.not_called.result _ _
+    (λ e. worn-many c.args.pass.now c.turn.new.pass (c.in-Err.ensures.worn.0 (ap Err e)).1
+    (took-err c.args.pass.now c.turn.new.pass c.in-Err.fault c.in-Err.ensures.spent enough c.in-Err.ensures.same c.in-Err.ensures.seen c.in-Err.ensures.knows c.in-Err.ensures.left))
+    c.not_called.ensures.worn

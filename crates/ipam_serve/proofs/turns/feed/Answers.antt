@@ -1,6 +1,8 @@
 use Rattle.std.proofs.Common.{◌≤◌, Err, ap}
 use Rattle.ipam_serve.proofs.Coming.{fed-so, on-err, sees-none, too-soon-so, took-err}
+use Rattle.ipam_serve.proofs.Going.{worn-so}
 use Rattle.ipam_serve.proofs.Turning.{took-rest}
+use Rattle.ipam_serve.proofs.Wearing.{worn-few, worn-many}
 use Rattle.ipam_serve.proofs.turns.feed.Goals as goal
 
 pub returns-then-left-lt2-clause-not_fed : goal.returns-then-left-lt2-clause-not_fed
@@ -24,3 +26,14 @@ returns-in-Err-clause-not_fed g c =
     let enough : 2 ≤ c.args.pass.now.left = rw (← c.left.ensures) c.if-left-lt2.false in
     on-err c.not_fed.result
     (took-err c.args.pass.now c.feed.new.pass c.in-Err.fault c.in-Err.ensures.spent enough c.in-Err.ensures.same c.in-Err.ensures.seen c.in-Err.ensures.knows c.in-Err.ensures.left)
+
+pub returns-then-left-lt2-clause-worn : goal.returns-then-left-lt2-clause-worn
+returns-then-left-lt2-clause-worn g c = worn-few c.args.pass.now (rw (← c.left.ensures) c.if-left-lt2.true)
+
+pub returns-in-Err-clause-worn : goal.returns-in-Err-clause-worn
+returns-in-Err-clause-worn g c =
+    let enough : 2 ≤ c.args.pass.now.left = rw (← c.left.ensures) c.if-left-lt2.false in
+    worn-so c.not_fed.result _ _
+    (λ e. worn-many c.args.pass.now c.feed.new.pass (c.in-Err.ensures.worn.0 (ap Err e)).1
+    (took-err c.args.pass.now c.feed.new.pass c.in-Err.fault c.in-Err.ensures.spent enough c.in-Err.ensures.same c.in-Err.ensures.seen c.in-Err.ensures.knows c.in-Err.ensures.left))
+    c.not_fed.ensures.worn

@@ -2,12 +2,12 @@ use Rattle.std.proofs.Common.{Err, ap, arith, ◌∙◌}
 use Rattle.ipam_model.specs.declared.entry.Entry.TheVariants as entry
 use Rattle.ipam_solo.proofs.Calls.{counts-one, is-fed}
 use Rattle.ipam_cluster.proofs.Waiting.{never-early}
-use Rattle.ipam_cluster.specs.Cluster.{slot_of}
+use Rattle.ipam_cluster.specs.Cluster.{slot_of_cluster}
 use Rattle.ipam_solo.proofs.steps.feed_first.Goals as goal
 
 pub unreachable-requires-in-Err-TooSoon : goal.unreachable-requires-in-Err-TooSoon
 unreachable-requires-in-Err-TooSoon g c =
-    never-early (slot_of c.args.kept.now.cluster 0) c.args.collect.now.at c.in-Err-TooSoon._since c.in-Err-TooSoon._grace
+    never-early (slot_of_cluster c.args.kept.now.cluster 0) c.args.collect.now.at c.in-Err-TooSoon._since c.in-Err-TooSoon._grace
     c.requires.waits ((c.feed.ensures.too_soon c.in-Err-TooSoon._since c.in-Err-TooSoon._grace).0 (c.in-Err-TooSoon.is ∙ ap Err c.in-Err-TooSoon.field-0-is))
 
 pub returns-in-Ok-clause-fed : goal.returns-in-Ok-clause-fed

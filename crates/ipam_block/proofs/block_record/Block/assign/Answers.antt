@@ -16,4 +16,4 @@ invariant_of-self c =
     let written = rw (← c.self.view_is) at c.requires.written in
     let whole = IsBlock-assigned _ _ c.args.attributes c.self.invariant.2 own written free in
     let place = rw c.as_slice.ensures.value at c.in-Err.ensures.lower in
-    (omega arith, omega arith, rw (c.take_from.ensures.items, c.insert_reserved.ensures.items, place) whole)
+    (omega arith, omega arith, rw (c.take_from.ensures.items, c.insert_reserved.ensures.items, c.of.ensures, place) whole)

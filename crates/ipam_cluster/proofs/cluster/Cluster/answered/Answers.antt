@@ -7,7 +7,7 @@ use Rattle.ipam_records.specs.Datastore.{write_granted}
 use Rattle.ipam_records.specs.Said.{Said, said}
 use Rattle.ipam_running.specs.declared.running.RunningTurned.{RunningTurned}
 use Rattle.ipam_running.specs.Running.{running_rest}
-use Rattle.ipam_cluster.specs.Cluster.{slot_of}
+use Rattle.ipam_cluster.specs.Cluster.{slot_of_cluster}
 use Rattle.ipam_cluster.specs.declared.turns.Prepared.{Prepared}
 use Rattle.ipam_cluster.specs.Preparing.{IsPrepared, Leads, TellsOf}
 use Rattle.ipam_cluster.proofs.Asking.{if_ok, is_prepared, may_be_told, running_asks}
@@ -15,18 +15,18 @@ use Rattle.ipam_cluster.proofs.cluster.Cluster.answered.Goals as goal
 
 pub call-requires : goal.call-requires
 call-requires c =
-    let held : slot_of c.args.self.now c.args.slot ≡ Some c.in-Some.running = grind (arith, common_steps) in
-    running_asks (slot_of c.args.self.now c.args.slot) c.in-Some.running held c.requires.runs
+    let held : slot_of_cluster c.args.self.now c.args.slot ≡ Some c.in-Some.running = grind (arith, common_steps) in
+    running_asks (slot_of_cluster c.args.self.now c.args.slot) c.in-Some.running held c.requires.runs
 
 pub took-requires : goal.took-requires
 took-requires c =
-    let held : slot_of c.args.self.now c.args.slot ≡ Some c.in-Some.running = grind (arith, common_steps) in
+    let held : slot_of_cluster c.args.self.now c.args.slot ≡ Some c.in-Some.running = grind (arith, common_steps) in
     subst (λ (s : Said). MayHear (running_rest c.in-Some.running) s) (sym c.reply-reply.ensures.reply)
     (may_be_told c.args.self.now c.args.slot c.in-Some.running c.in_ok-call.call c.requires.stood held c.in_ok-call.ensures)
 
 pub returns-clause-prepared : goal.returns-clause-prepared
 returns-clause-prepared c =
-    let held : slot_of c.args.self.now c.args.slot ≡ Some c.in-Some.running = grind (arith, common_steps) in
+    let held : slot_of_cluster c.args.self.now c.args.slot ≡ Some c.in-Some.running = grind (arith, common_steps) in
     let call = c.in_ok-call.call in
     let said_is = c.reply-reply.ensures.reply in
     if_ok c.of.result (IsPrepared c.args.self.now) (λ prepared is.

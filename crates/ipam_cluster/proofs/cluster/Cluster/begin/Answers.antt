@@ -1,6 +1,6 @@
 use Rattle.std.proofs.Common.{◌≡◌, Some, None, arith, ap, sym}
 use Rattle.std.proofs.lemmas.Grind.{common_steps}
-use Rattle.ipam_cluster.specs.Cluster.{slot_of, AddsTo}
+use Rattle.ipam_cluster.specs.Cluster.{slot_of_cluster, AddsTo}
 use Rattle.ipam_model.specs.declared.entry.Entry.TheVariants as entry
 use Rattle.ipam_model.specs.declared.entry.Entry.{Entry}
 use Rattle.std.proofs.Common.{subst}
@@ -14,7 +14,7 @@ put-requires-clause-room c =
 
 pub returns-in-Ok-clause-adds : goal.returns-in-Ok-clause-adds
 returns-in-Ok-clause-adds c =
-    let idle : slot_of c.args.self.now c.args.slot ≡ None = grind (arith, common_steps) in
+    let idle : slot_of_cluster c.args.self.now c.args.slot ≡ None = grind (arith, common_steps) in
     let added : AddsTo c.args.self.now c.put.new.self (entry.Began c.args.slot c.args.request.now) =
     begins c.args.self.now c.put.new.self c.args.slot c.in-Ok.running c.args.request.now
     c.requires.slot c.args.self.now.all_slots c.if-self-ge-MOST_ENTRIES.false idle c.requires.sound

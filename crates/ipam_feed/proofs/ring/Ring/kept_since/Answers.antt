@@ -4,7 +4,7 @@ use Rattle.ipam_records.specs.Datastore.{Datastore}
 use Rattle.ipam_feed.specs.declared.change.Change.{Change}
 use Rattle.ipam_feed.specs.Route.{routes_in}
 use Rattle.ipam_feed.specs.Change.{Leads}
-use Rattle.ipam_feed.specs.Feed.{changes_since, routes_at, store_after}
+use Rattle.ipam_feed.specs.Feed.{changes_since, routes_at, store_after_writes}
 use Rattle.ipam_feed.specs.Shape.{RingValue}
 use Rattle.ipam_feed.specs.Keeping.{ring_in}
 use Rattle.ipam_feed.specs.Follows.{Follows}
@@ -24,6 +24,6 @@ pub returns : goal.returns
 returns c = record {
   exact = exact c;
   leads = λ base writes follows.
-      subst (λ (cs : List Change). Leads (routes_at base writes c.args.revision) cs (routes_in (store_after base writes))) (sym (exact c base writes follows))
+      subst (λ (cs : List Change). Leads (routes_at base writes c.args.revision) cs (routes_in (store_after_writes base writes))) (sym (exact c base writes follows))
       (leads_since base follows.ascending writes follows.next c.args.revision);
 }

@@ -15,6 +15,6 @@ loop-allocation-preserved c =
     let here : drop i items ≡ item ∷ drop (i + 1) items = drop_more items i item (omega arith) ∙ ap (λ a. a ∷ drop (i + 1) items) (sym c.allocation-item.is) in
     let left : drop i block.allocations ≡ item ∷ drop (i + 1) block.allocations =
     subst (λ (l : List Allocation). drop i l ≡ item ∷ drop (i + 1) l) c.allocations-allocation-items.ensures here in
-    ap (λ (f : Option (List ℕ)). with_shorts rows block f (drop (i + 1) block.allocations)) c.in_ok-first.ensures
+    ap (λ (f : Option (List ℕ)). with_shorts rows block f (drop (i + 1) block.allocations)) (rw c.get.ensures at c.in_ok-first.ensures)
     ∙ sym (ap (with_shorts rows block c.loop-allocation.first) left)
     ∙ c.loop-allocation.invariant

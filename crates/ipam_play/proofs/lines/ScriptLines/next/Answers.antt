@@ -1,16 +1,16 @@
 use Rattle.std.proofs.Common.{◌≡◌, ◌≢◌, ◌+◌, [], ◌++◌, ◌∷◌, length, List, ℕ, subst}
 use Rattle.std.specs.Io.KnownBytes.{prepend_known, IsAtEnd}
 use Rattle.ipam_lines.specs.Feeds.{IsLine, IsTooLong}
-use Rattle.ipam_script.specs.Lines.{told}
+use Rattle.ipam_script.specs.Lines.{told_line}
 use Rattle.std.specs.Prelude.{OnErr}
 use Rattle.ipam_script.specs.Lines.{Whole}
-use Rattle.ipam_play.specs.Readings.{reading_of, IsTold, OnLine}
+use Rattle.ipam_play.specs.Readings.{line_reading_of, IsTold, OnLine}
 use Rattle.ipam_play.proofs.ReadingLemmas.{line_comes, last_comes, end_comes, long_comes, takes_last, takes_line, wanting_comes, wanting_takes}
 use Rattle.ipam_play.proofs.lines.ScriptLines.next.Goals as goal
 
 pub returns-in-Ok-Line-clause-next : goal.returns-in-Ok-Line-clause-next
 returns-in-Ok-Line-clause-next g c =
-    let asks = subst (λ (b : List ℕ). IsTold c.line.result (reading_of (told c.args.self.now.before.bytes b))) c.deref.ensures.value c.line.ensures.told in
+    let asks = subst (λ (b : List ℕ). IsTold c.line.result (line_reading_of (told_line c.args.self.now.before.bytes b))) c.deref.ensures.value c.line.ensures.told in
     let at : OnLine c.line.result (c.line.new.self.before.bytes ≡ c.args.self.now.before.bytes + length c.in-Ok-Line.bytes.items + 1) =
     rw c.deref.ensures.value at c.line.ensures.before in
     let same : prepend_known c.args.self.now.lines (g.S.Source.left c.args.source.now)
@@ -41,10 +41,10 @@ returns-in-Err-TooLong-clause-next g c =
 
 pub returns-in-Ok-Line-clause-takes : goal.returns-in-Ok-Line-clause-takes
 returns-in-Ok-Line-clause-takes g c =
-    let asks = subst (λ (b : List ℕ). IsTold c.line.result (reading_of (told c.args.self.now.before.bytes b))) c.deref.ensures.value c.line.ensures.told in
+    let asks = subst (λ (b : List ℕ). IsTold c.line.result (line_reading_of (told_line c.args.self.now.before.bytes b))) c.deref.ensures.value c.line.ensures.told in
     let at : OnLine c.line.result (c.line.new.self.before.bytes ≡ c.args.self.now.before.bytes + length c.in-Ok-Line.bytes.items + 1) =
     rw c.deref.ensures.value at c.line.ensures.before in
-    let short = subst (λ (b : List ℕ). OnErr c.line.result (told c.args.self.now.before.bytes b ≡ Whole b)) c.deref.ensures.value c.line.ensures.not_long in
+    let short = subst (λ (b : List ℕ). OnErr c.line.result (told_line c.args.self.now.before.bytes b ≡ Whole b)) c.deref.ensures.value c.line.ensures.not_long in
     let same : prepend_known c.args.self.now.lines (g.S.Source.left c.args.source.now)
     ≡ prepend_known ((c.in-Ok-Line.bytes.items ++ 10 ∷ []) ++ c.next.new.self) (g.S.Source.left c.next.new.source) = rw c.in-Ok-Line.field-0-is at c.in-Ok-Line.ensures.bytes in
     let line : IsLine 1048577 c.in-Ok-Line.bytes.items = rw c.in-Ok-Line.field-0-is at c.in-Ok-Line.ensures.line in

@@ -1,6 +1,6 @@
 use Rattle.std.proofs.Common.{◌↔◌, ap, sym, ◌∙◌, subst, IsTrue, IsSome}
 use Rattle.turn_lock.specs.Passes.{Pass as Turns}
-use Rattle.ipam_cluster.specs.Cluster.{slot_of}
+use Rattle.ipam_cluster.specs.Cluster.{slot_of_cluster}
 use Rattle.ipam_model.specs.declared.entry.Entry.{Entry}
 use Rattle.ipam_shared.specs.declared.opened.Opened.{Opened}
 use Rattle.ipam_shared.proofs.Passing.{had-turn, turned-pass}
@@ -17,4 +17,4 @@ invariant_of-pass g c =
     let e = c.in-Ok.ensures in
     let number = c.number-slot.ensures.is ∙ sym (ap (λ (t : Turns Opened Entry). t.number) e.ran.1) in
     turned-pass g.D.Keeper.rows g.D.Keeper.settled _ _ _ c.pass.inside.turns c.turn.new.pass c.pass.inside.moment c.in-Ok.entries c.pass.inside.sure c.pass.view_is e.ran.0 e.ran.1 e.turned
-    c.in-Ok.running (subst (λ n. IsTrue c.in-Ok.running ↔ IsSome (slot_of e.turned.after.kept.cluster n)) number e.turned.did.1) e.turned.did.2
+    c.in-Ok.running (subst (λ n. IsTrue c.in-Ok.running ↔ IsSome (slot_of_cluster e.turned.after.kept.cluster n)) number e.turned.did.1) e.turned.did.2

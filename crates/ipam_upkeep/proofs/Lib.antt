@@ -1,0 +1,2 @@
+-- What is shown of words that are given.
+mod GivenLemmas
