@@ -4,10 +4,10 @@
 set -eu
 top=$(cd "$(dirname "$0")/.." && pwd)
 turns=${1:-1000000}
-program=$("$top/bench/built.sh" ipam_shared_tests)
+program=$("$top/bench/built.sh" ipam_tests)
 echo "kept, alone:"
-echo "kept $turns" | "$program"
+printf '== ipam_shared_tests\n%s\n' "kept $turns" | "$program"
 for passes in 1 4 16; do
     echo "shared, $passes passes:"
-    echo "turns $((passes - 1)) $((turns / passes))" | "$program"
+    printf '== ipam_shared_tests\n%s\n' "turns $((passes - 1)) $((turns / passes))" | "$program"
 done

@@ -1,5 +1,5 @@
 #!/usr/bin/env python3
-"""Writes the lines `addr|..` of stdin and stdout of crates/ipam_leaf_tests: address texts, and what
+"""Writes the lines `addr|..` of ipam_leaf_tests in crates/ipam_tests/stdin and stdout: address texts, and what
 must be read from each: the text and the number in hex, or `!` where it is refused.
 
 The judge is Python's `ipaddress`. It and ipam_addr differ in two places, where ipam_addr's own

@@ -1,5 +1,5 @@
 #!/usr/bin/env python3
-"""Writes the lines `call|..` of stdin and stdout of crates/ipam_request_tests: CNI calls, and what must be read of each.
+"""Writes the lines `call|..` of ipam_request_tests in crates/ipam_tests/stdin and stdout: CNI calls, and what must be read of each.
 
 The reader below is written from the rules alone. A line has the environment, standard input, and
 what the call asks or `refused`, the version, the code and the details. The first lines have one

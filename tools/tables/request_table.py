@@ -1,5 +1,5 @@
 #!/usr/bin/env python3
-"""Writes the lines `request|..` and `live|..` of stdin and stdout of crates/ipam_request_tests: texts of requests and of live lists, and what is read from each.
+"""Writes the lines `request|..` and `live|..` of ipam_request_tests in crates/ipam_tests/stdin and stdout: texts of requests and of live lists, and what is read from each.
 
 The reader below was written only from the format, over Python's own `json` and `ipaddress`. A line
 has a text, and the printed text of what it is read as, or `unreadable`.

@@ -1,5 +1,5 @@
 #!/usr/bin/env python3
-"""Writes the lines `document|..` of stdin and stdout of crates/ipam_request_tests: documents of resources, and what must be read from each.
+"""Writes the lines `document|..` of ipam_request_tests in crates/ipam_tests/stdin and stdout: documents of resources, and what must be read from each.
 
 The reader below is written from the format alone, over Python's own `json` and `ipaddress`. In a
 document `␤` stands for a line feed. What is told of it is, for each resource, its line and the text of

@@ -1,5 +1,5 @@
 #!/usr/bin/env python3
-"""Writes the lines `selector|..` of stdin and stdout of crates/ipam_leaf_tests: selector texts and what must be read from each.
+"""Writes the lines `selector|..` of ipam_leaf_tests in crates/ipam_tests/stdin and stdout: selector texts and what must be read from each.
 
 The parser, the printer and the matcher below were written only from the grammar. A line has a text,
 the printed form of what it is read as, and `y` or `n` for each of three lists of labels. A text that is

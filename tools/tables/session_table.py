@@ -1,5 +1,5 @@
 #!/usr/bin/env python3
-"""Writes the lines `line|..` of stdin and stdout of crates/ipam_request_tests: lines of a session, and what must be read from each.
+"""Writes the lines `line|..` of ipam_request_tests in crates/ipam_tests/stdin and stdout: lines of a session, and what must be read from each.
 
 The reader below was written only from the format, over Python's own `json`. A line of the table has
 a line and what it asks, or `line` if it asks for nothing that is known.

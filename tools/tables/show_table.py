@@ -1,5 +1,5 @@
 #!/usr/bin/env python3
-"""Writes the lines of five kinds of stdin and stdout of crates/ipam_record_tests: what an operator is shown of ten datastores.
+"""Writes the lines of five kinds of ipam_record_tests in crates/ipam_tests/stdin and stdout: what an operator is shown of ten datastores.
 
 Each datastore is made of pools, blocks and reservations, and its rows are written from them. What must be
 shown is counted from the same values, address by address, and not from the rows.

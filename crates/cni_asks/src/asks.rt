@@ -3,7 +3,7 @@ use ipam_model::Request;
 use ipam_text::Text;
 
 /// What a call begins.
-#[derive(Debug, Drop)]
+#[derive(Drop)]
 pub enum Ask {
     /// Nothing: this text answers it at once, with success.
     Tell(Text),

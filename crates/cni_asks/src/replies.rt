@@ -3,7 +3,7 @@ use ipam_addr::Addr;
 use ipam_text::{Seq, Text};
 
 /// What a call is answered.
-#[derive(Debug, Drop)]
+#[derive(Drop)]
 pub enum CniReply {
     /// These addresses are the container's, in the order of the families.
     Addresses(Seq<Addr>),

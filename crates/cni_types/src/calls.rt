@@ -3,7 +3,7 @@ use ipam_addr::Addr;
 use ipam_text::{Seq, Text};
 
 /// What a call asks.
-#[derive(Debug, Drop)]
+#[derive(Drop)]
 pub enum Look {
     /// The versions that are supported, told in this one.
     Version(Version),
@@ -21,7 +21,7 @@ pub enum Look {
 }
 
 /// An address for each family that is wanted, or one address that is asked for.
-#[derive(Debug, Drop)]
+#[derive(Drop)]
 pub struct CniAdd {
     /// The configuration's version. The reply is written in it.
     pub version: Version,
@@ -47,7 +47,7 @@ pub struct CniAdd {
 }
 
 /// All addresses of the handle are given back.
-#[derive(Debug, Drop)]
+#[derive(Drop)]
 pub struct CniDel {
     /// The configuration's version. An error is written in it.
     pub version: Version,
@@ -56,7 +56,7 @@ pub struct CniDel {
 }
 
 /// Whether the handle has all of these addresses.
-#[derive(Debug, Drop)]
+#[derive(Drop)]
 pub struct CniCheck {
     /// The configuration's version, 0.4.0 or later. An error is written in it.
     pub version: Version,
@@ -68,7 +68,7 @@ pub struct CniCheck {
 }
 
 /// What the network holds on the node for others than these handles is given back.
-#[derive(Debug, Drop)]
+#[derive(Drop)]
 pub struct CniGc {
     /// The configuration's version, 1.1.0 or later. An error is written in it.
     pub version: Version,
@@ -81,7 +81,7 @@ pub struct CniGc {
 }
 
 /// Whether an address of each family that is wanted could be given.
-#[derive(Debug, Drop)]
+#[derive(Drop)]
 pub struct CniStatus {
     /// The configuration's version, 1.1.0 or later. An error is written in it.
     pub version: Version,

@@ -5,7 +5,7 @@ ghost use Rattle.cni_types.specs.Refusal.{member_text, attachment_text};
 use std::alloc::{AllocError, Global};
 
 /// Why a call is refused whose standard input is a configuration.
-#[derive(Clone, Copy, Debug, PartialEq, Eq)]
+#[derive(Clone, Copy)]
 pub(crate) enum Refusal {
     /// The version is not supported, or has not the command.
     Version,
@@ -14,7 +14,7 @@ pub(crate) enum Refusal {
 }
 
 /// A member of the configuration, by its path.
-#[derive(Clone, Copy, Debug, PartialEq, Eq)]
+#[derive(Clone, Copy)]
 pub(crate) enum Member {
     Name,
     NodeName,
@@ -37,7 +37,7 @@ pub(crate) enum Member {
 }
 
 /// A variable of the environment.
-#[derive(Clone, Copy, Debug, PartialEq, Eq)]
+#[derive(Clone, Copy)]
 pub(crate) enum Variable {
     Command,
     ContainerId,

@@ -23,7 +23,6 @@ use std::mem;
 
 /// An ADD without an address: an address of each family that is wanted, IPv4 first. Where IPv6 has
 /// none, that of IPv4 is freed.
-#[derive(Debug)]
 pub struct AddProc {
     request: AddRequest,
     turn: Turn,
@@ -41,7 +40,7 @@ impl Drop for AddProc {
 }
 
 /// Which of the wanted families is served.
-#[derive(Clone, Copy, Debug)]
+#[derive(Clone, Copy)]
 enum Turn {
     /// The only one.
     Only(Family),
@@ -51,7 +50,7 @@ enum Turn {
     Second(Grant),
 }
 
-#[derive(Debug, Drop)]
+#[derive(Drop)]
 enum Stage {
     Serves(Serving),
     /// What was given is freed, and this is answered.
@@ -59,14 +58,14 @@ enum Stage {
 }
 
 /// Where a reply leads.
-#[derive(Debug, Drop)]
+#[derive(Drop)]
 enum Goes {
     Serve(ServingTurned),
     Free(FreeingTurned),
 }
 
 /// Where a reply led an ADD without an address.
-#[derive(Debug, Drop)]
+#[derive(Drop)]
 pub struct AddTurned {
     goes: Goes,
 }

@@ -12,21 +12,21 @@ use ipam_model::{AddAnswer, Assigned, Given, Left, Scan};
 use ipam_parts::{Freeing, Picks};
 
 /// Where an address is assigned, and the moments of the reads by which it was picked.
-#[derive(Clone, Copy, Debug)]
+#[derive(Clone, Copy)]
 pub struct Spot {
     scan: Scan,
     place: Place,
 }
 
 /// An address that was given: where, and by which write of the block.
-#[derive(Clone, Copy, Debug)]
+#[derive(Clone, Copy)]
 pub struct Grant {
     spot: Spot,
     done: Assigned,
 }
 
 /// What the rounds of a family come to.
-#[derive(Debug, Drop)]
+#[derive(Drop)]
 pub enum Obtained {
     /// The address, with memory to tell of it.
     Gave(Grant, Spare),

@@ -32,7 +32,7 @@ use std::alloc::{AllocError, Global};
 
 /// The rounds of one family of an ADD: what was read is scanned, and by what is picked an address
 /// is assigned or a block is claimed. The request is lent to each call.
-#[derive(Debug, Drop)]
+#[derive(Drop)]
 pub struct Serving {
     family: Family,
     rounds: Rounds,
@@ -40,7 +40,7 @@ pub struct Serving {
     step: Step,
 }
 
-#[derive(Debug, Drop)]
+#[derive(Drop)]
 enum Step {
     Scans(Scanning),
     Claims(ClaimProc),
@@ -48,7 +48,7 @@ enum Step {
 }
 
 /// Where a reply leads.
-#[derive(Debug, Drop)]
+#[derive(Drop)]
 enum Goes {
     To(Step),
     Learned(Learned),
@@ -59,7 +59,7 @@ enum Goes {
 }
 
 /// Where a reply led.
-#[derive(Debug, Drop)]
+#[derive(Drop)]
 pub struct ServingTurned {
     goes: Goes,
 }

@@ -6,7 +6,7 @@ use std::alloc::{AllocError, Global};
 use std::marker::Model;
 
 /// Memory to tell of the addresses of two families.
-#[derive(Debug, Drop)]
+#[derive(Drop)]
 pub struct Spare {
     given: Vec<Given>,
 }

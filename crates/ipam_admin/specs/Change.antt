@@ -1,6 +1,6 @@
 -- What a change makes of a record.
 use Rattle.std.specs.Prelude.{if◌then◌else◌}
-use Rattle.ipam_reserve.specs.Shape.{ReservationValue}
+use Rattle.ipam_pool.specs.Shape.{ReservationValue}
 use Rattle.ipam_model.specs.Admin.{Changed, Becomes, Refuses, is_named}
 use Rattle.ipam_admin.specs.declared.change.Change.{Change}
 use Rattle.ipam_admin.specs.declared.change.Change.TheVariants as change

@@ -16,7 +16,6 @@ use std::alloc::{AllocError, Global};
 
 /// A change of the pools, the reservations or the configuration: the record is read, changed and
 /// written, even if the change makes no difference.
-#[derive(Debug)]
 pub struct AdminProc {
     request: Admin,
     left: Left,
@@ -34,7 +33,7 @@ impl Drop for AdminProc {
 }
 
 /// The call that is made next.
-#[derive(Debug, Drop)]
+#[derive(Drop)]
 enum Stage {
     /// The record is read.
     Reads,
@@ -43,14 +42,14 @@ enum Stage {
 
 /// The record as it is to be written, at the revision at which it was found, or anew where it was
 /// missing.
-#[derive(Debug, Drop)]
+#[derive(Drop)]
 struct Writes {
     new: Record,
     revision: Option<u64>,
 }
 
 /// Where a reply leads.
-#[derive(Debug, Drop)]
+#[derive(Drop)]
 enum Goes {
     To(Stage),
     /// A race was lost, and this is left.
@@ -59,7 +58,7 @@ enum Goes {
 }
 
 /// Where a reply led a change.
-#[derive(Debug, Drop)]
+#[derive(Drop)]
 pub struct AdminTurned {
     goes: Goes,
 }

@@ -12,7 +12,7 @@ use ipam_text::Text;
 use std::alloc::{AllocError, Global};
 
 /// What a change makes of a record.
-#[derive(Debug, Drop)]
+#[derive(Drop)]
 pub(crate) enum Change {
     Becomes(Record),
     /// The number of the refusal, and the name that it is about.

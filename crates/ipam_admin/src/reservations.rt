@@ -4,8 +4,8 @@ ghost use Rattle.ipam_model.specs.Admin.{is_named, with_reservation, reserve_cha
 ghost use Rattle.ipam_admin.specs.Change.{changed_to, reservation_in};
 
 use crate::change::Change;
+use ipam_pool::{MOST_RESERVATIONS, Reservation};
 use ipam_records::Record;
-use ipam_reserve::{MOST_RESERVATIONS, Reservation};
 use ipam_text::{Seq, Text};
 use std::alloc::{AllocError, Global};
 

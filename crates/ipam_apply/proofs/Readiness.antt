@@ -11,7 +11,7 @@ use Rattle.ipam_kept.specs.declared.write.RowWrite.{RowWrite}
 use Rattle.ipam_kept.specs.Doubt.{IsDoubt}
 use Rattle.ipam_kept.specs.Kept.{IsKept, KeptFor, Tells}
 use Rattle.ipam_kept.specs.Rows.{AreToldKept}
-use Rattle.ipam_solo.specs.Solo.{NothingRuns, base_of}
+use Rattle.ipam_kept.specs.Solo.{NothingRuns, base_of}
 use Rattle.ipam_commands.specs.Courses.{AreRowsOf}
 use Rattle.ipam_apply.specs.Ready.{IsReady}
 

@@ -13,7 +13,7 @@ use Rattle.ipam_resources.specs.declared.resource.Resource.{Resource}
 use Rattle.ipam_resources.specs.Printed.{applied_line, answer_refusal, refused_line}
 use Rattle.ipam_commands.specs.declared.status.Status.{Status}
 use Rattle.ipam_commands.specs.declared.status.Status.TheVariants as status
-use Rattle.ipam_solo.specs.Courses.{IsAnswerCourse, IsFaultCourse}
+use Rattle.ipam_kept.specs.Courses.{IsAnswerCourse, IsFaultCourse}
 use Rattle.ipam_commands.specs.Courses.{IsStopCourse}
 use Rattle.ipam_commands.specs.Telling.{keeper_line}
 use Rattle.ipam_apply.specs.declared.step.Step.{Step}

@@ -6,7 +6,7 @@ use Rattle.ipam_model.specs.SoundRequest.{IsSoundChange}
 use Rattle.ipam_resources.specs.declared.resource.Resource.{Resource}
 use Rattle.ipam_kept.specs.declared.kept.Kept.{Kept}
 use Rattle.ipam_kept.specs.Kept.{KeptFor, Tells}
-use Rattle.ipam_solo.specs.Solo.{NothingRuns, base_of}
+use Rattle.ipam_kept.specs.Solo.{NothingRuns, base_of}
 use Rattle.ipam_apply.specs.declared.step.Step.{Step}
 use Rattle.ipam_apply.specs.declared.step.Step.TheVariants.{Applied, Ended}
 

@@ -10,10 +10,9 @@ use crate::telling::tell_document;
 use ipam_commands::{MakesBroken, Status, tell};
 use ipam_io::{Sink, Source};
 use ipam_keeper::Keeper;
-use ipam_kept::OpensKept;
+use ipam_kept::{MakesSteps, OpensKept};
 use ipam_lines::InputFault;
 use ipam_resources::DOCUMENT_MAX;
-use ipam_solo::MakesSteps;
 use std::alloc::Global;
 
 /// Applies the resources of the source's document, one after another, each as a request that runs by itself

@@ -11,9 +11,8 @@ use crate::step::{Step, apply_one};
 use ipam_commands::{MakesBroken, Status, tell_fault};
 use ipam_io::Sink;
 use ipam_keeper::Keeper;
-use ipam_kept::{Kept, OpensKept};
+use ipam_kept::{Kept, MakesSteps, OpensKept};
 use ipam_resources::Resource;
-use ipam_solo::MakesSteps;
 use ipam_text::Seq;
 
 /// Opens the keeper's rows, and applies the resources.

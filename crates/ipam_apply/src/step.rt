@@ -9,14 +9,13 @@ use crate::telling::tell_answer;
 use ipam_commands::Status;
 use ipam_io::Sink;
 use ipam_keeper::Keeper;
-use ipam_kept::Kept;
+use ipam_kept::{Kept, MakesSteps, run_alone};
 use ipam_model::{Answer, Request};
 use ipam_resources::Resource;
-use ipam_solo::{MakesSteps, run_alone};
 use std::alloc::AllocError;
 
 /// What comes of one resource.
-#[derive(Clone, Copy, Debug, PartialEq, Eq)]
+#[derive(Clone, Copy)]
 pub(crate) enum Step {
     /// It is applied, and its line is written.
     Applied,

@@ -10,8 +10,8 @@ use Rattle.ipam_records.specs.declared.key.Kind.TheVariants as kind
 use Rattle.ipam_records.specs.Label.{idle}
 use Rattle.ipam_records.specs.Said.{Said}
 use Rattle.ipam_records.specs.Word.{Ends, Asks, after_reply}
-use Rattle.ipam_reserve.specs.Spans.{ReservedValue, is_reserved_by}
-use Rattle.ipam_reserve.specs.Union.{is_in_union}
+use Rattle.ipam_pool.specs.Spans.{ReservedValue, is_reserved_by}
+use Rattle.ipam_pool.specs.Union.{is_in_union}
 use Rattle.ipam_model.specs.Choice.{Seen, is_confirmed_for}
 use Rattle.ipam_model.specs.Reads.{reservations_said, rows_said}
 use Rattle.ipam_model.specs.Usable.{Asked}

@@ -11,7 +11,7 @@ use Rattle.ipam_records.specs.declared.key.Key.TheVariants as key
 use Rattle.ipam_records.specs.declared.key.Kind.TheVariants as kind
 use Rattle.ipam_records.specs.Label.{idle}
 use Rattle.ipam_records.specs.Word.{Word, Ends, Asks}
-use Rattle.ipam_reserve.specs.Spans.{is_reserved_by}
+use Rattle.ipam_pool.specs.Spans.{is_reserved_by}
 use Rattle.ipam_model.specs.declared.answer.Scan.{Scan}
 use Rattle.ipam_model.specs.Add.{five_reads}
 use Rattle.ipam_model.specs.Choice.{Pick, Seen, is_confirmed_for, pick_of}

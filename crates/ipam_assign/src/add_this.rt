@@ -35,7 +35,6 @@ use ipam_records::{Call, Config, Heard, Key, Procedure, Record, Reply};
 use std::alloc::{AllocError, Global};
 
 /// An ADD of one address.
-#[derive(Debug)]
 pub struct AddThisProc {
     request: AddRequest,
     address: Addr,
@@ -57,7 +56,7 @@ impl Drop for AddThisProc {
 }
 
 /// The call that is made next.
-#[derive(Debug, Drop)]
+#[derive(Drop)]
 enum Stage {
     ReadsConfig,
     ReadsPools(Configured),
@@ -67,14 +66,14 @@ enum Stage {
 }
 
 /// The configuration, and the moment at which it was read.
-#[derive(Clone, Copy, Debug)]
+#[derive(Clone, Copy)]
 struct Configured {
     config: Config,
     c: u64,
 }
 
 /// The configuration, and the moments at which it and the pools were read.
-#[derive(Clone, Copy, Debug)]
+#[derive(Clone, Copy)]
 struct Rules {
     config: Config,
     c: u64,
@@ -82,14 +81,14 @@ struct Rules {
 }
 
 /// The rules, and the slot of the address.
-#[derive(Debug, Drop)]
+#[derive(Drop)]
 struct Ruled {
     rules: Rules,
     place: Place,
 }
 
 /// What was looked at in a round: the rules, and the block at the moment b.
-#[derive(Clone, Copy, Debug)]
+#[derive(Clone, Copy)]
 struct Looked {
     rules: Rules,
     address: Addr,
@@ -98,7 +97,7 @@ struct Looked {
 }
 
 /// Where a reply leads.
-#[derive(Debug, Drop)]
+#[derive(Drop)]
 enum Goes {
     To(Stage),
     Claim(ClaimTurned),
@@ -107,7 +106,7 @@ enum Goes {
 }
 
 /// Where a reply led an ADD of one address.
-#[derive(Debug, Drop)]
+#[derive(Drop)]
 pub struct AddThisTurned {
     goes: Goes,
 }

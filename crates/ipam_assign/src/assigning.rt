@@ -17,7 +17,6 @@ use std::alloc::{AllocError, Global};
 
 /// An address of a block is assigned to a handle: the handle's count is raised, then the block is
 /// written. Where that is lost, the count is lowered again. The handle's id is lent to each call.
-#[derive(Debug)]
 pub struct Assigning {
     /// The block as it is to be written, at the revision at which it was read.
     block: Block,
@@ -35,7 +34,7 @@ impl Drop for Assigning {
     }
 }
 
-#[derive(Debug, Drop)]
+#[derive(Drop)]
 enum Stage {
     Raises(Raising),
     /// The block is written, with so much left.
@@ -44,7 +43,7 @@ enum Stage {
 }
 
 /// Where a reply leads.
-#[derive(Debug, Drop)]
+#[derive(Drop)]
 enum Goes {
     Raise(RaisingTurned),
     Lower(LoweringTurned),
@@ -54,7 +53,7 @@ enum Goes {
 }
 
 /// Where a reply led.
-#[derive(Debug, Drop)]
+#[derive(Drop)]
 pub struct AssigningTurned {
     goes: Goes,
 }

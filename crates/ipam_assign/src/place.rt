@@ -11,7 +11,7 @@ use ipam_block::Block;
 use std::marker::Model;
 
 /// An address, and the slot that holds it.
-#[derive(Clone, Copy, Debug)]
+#[derive(Clone, Copy)]
 pub struct Place {
     cidr: Cidr,
     address: Addr,

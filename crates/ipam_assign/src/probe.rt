@@ -18,7 +18,6 @@ use ipam_text::{Seq, Text};
 use std::alloc::{AllocError, Global};
 
 /// A probe: whether an address of each wanted family could be given, IPv4 first. It writes nothing.
-#[derive(Debug)]
 pub struct ProbeProc {
     request: ProbeRequest,
     turn: Turn,
@@ -36,7 +35,7 @@ impl Drop for ProbeProc {
 }
 
 /// Which of the wanted families is looked at.
-#[derive(Clone, Copy, Debug)]
+#[derive(Clone, Copy)]
 enum Turn {
     /// The only one.
     Only(Family),
@@ -47,7 +46,7 @@ enum Turn {
 }
 
 /// Where a reply leads.
-#[derive(Debug, Drop)]
+#[derive(Drop)]
 enum Goes {
     Learned(Learned),
     /// IPv4 has an address, and IPv6 is looked at.
@@ -56,7 +55,7 @@ enum Goes {
 }
 
 /// Where a reply led a probe.
-#[derive(Debug, Drop)]
+#[derive(Drop)]
 pub struct ProbeTurned {
     goes: Goes,
 }

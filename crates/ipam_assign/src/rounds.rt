@@ -4,7 +4,7 @@ use ipam_model::Left;
 
 /// How many rounds may still follow. Each but the first follows a lost race or a confirmed claim,
 /// so there are as many as may be lost or confirmed.
-#[derive(Clone, Copy, Debug, PartialEq, Eq)]
+#[derive(Clone, Copy)]
 pub struct Rounds {
     more: u64,
 }

@@ -15,15 +15,13 @@ use crate::reading::config_in;
 use ipam_choice::{Confirmed, Known, Picked, Wanted, pick_known};
 use ipam_model::Scan;
 use ipam_parts::{listing_in, pools_in, reservations_in};
-use ipam_pool::PoolTable;
+use ipam_pool::{PoolTable, Reserved};
 use ipam_records::{Call, Config, Heard, Key, Kind};
-use ipam_reserve::Reserved;
 use std::alloc::{AllocError, Global};
 use std::mem;
 
 /// The five reads of a round: the configuration, the pools and the reservations are read, and the
 /// affinities and the blocks are listed.
-#[derive(Debug)]
 pub struct Scanning {
     stage: Stage,
 }
@@ -35,7 +33,7 @@ impl Drop for Scanning {
 }
 
 /// The read that is next, with what was read before.
-#[derive(Debug, Drop)]
+#[derive(Drop)]
 enum Stage {
     ReadsConfig,
     ReadsPools(Configured),
@@ -44,20 +42,20 @@ enum Stage {
     ListsBlocks(Gathered),
 }
 
-#[derive(Clone, Copy, Debug)]
+#[derive(Clone, Copy)]
 struct Configured {
     config: Config,
     c: u64,
 }
 
-#[derive(Debug, Drop)]
+#[derive(Drop)]
 struct Pooled {
     configured: Configured,
     pools: PoolTable,
     p: u64,
 }
 
-#[derive(Debug, Drop)]
+#[derive(Drop)]
 struct Reserving {
     pooled: Pooled,
     reserved: Reserved,
@@ -65,7 +63,7 @@ struct Reserving {
 }
 
 /// Of the affinities the confirmed ones of the node are kept.
-#[derive(Debug, Drop)]
+#[derive(Drop)]
 struct Gathered {
     reserving: Reserving,
     confirmed: Confirmed,
@@ -73,13 +71,13 @@ struct Gathered {
 }
 
 /// What a reply was about, with its moment.
-#[derive(Debug, Drop)]
+#[derive(Drop)]
 pub struct Learned {
     read: Read,
     moment: u64,
 }
 
-#[derive(Debug, Drop)]
+#[derive(Drop)]
 enum Read {
     Config(Config),
     Pools(PoolTable),

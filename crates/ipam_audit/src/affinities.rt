@@ -6,7 +6,7 @@ ghost use Rattle.ipam_audit.specs.Reported.{stale_of, stale_in, stray_of, stray_
 
 use crate::look::{has_node, listing};
 use ipam_addr::Cidr;
-use ipam_affinity::{Affinity, State};
+use ipam_block::{Affinity, State};
 use ipam_records::{Kind, Record};
 use ipam_store::Store;
 use ipam_text::Text;

@@ -2,7 +2,7 @@ use ipam_addr::Cidr;
 use ipam_text::{Seq, Text};
 
 /// A handle's count of a block that is above what the handle owns there.
-#[derive(Debug, Drop)]
+#[derive(Drop)]
 pub struct Excess {
     /// The handle's id.
     pub handle: Text,
@@ -15,7 +15,7 @@ pub struct Excess {
 }
 
 /// What is left over in a datastore, and how many records there are.
-#[derive(Debug, Drop)]
+#[derive(Drop)]
 pub struct Report {
     /// By the handle's id, then by the block's family, base and prefix.
     pub excess: Seq<Excess>,

@@ -1,5 +1,5 @@
 /// Numbers that are the same at each run, by a linear congruential generator.
-#[derive(Clone, Copy, Debug)]
+#[derive(Clone, Copy)]
 pub struct Draws {
     state: u64,
 }

@@ -1,6 +1,6 @@
 use crate::times;
 use ipam_addr::{Addr, Cidr, Family, cidr};
-use ipam_reserve::{Reservation, Reserved};
+use ipam_pool::{Reservation, Reserved};
 use ipam_text::{Seq, Text};
 use std::alloc::{AllocError, Global};
 use std::io;

@@ -8,3 +8,4 @@ pub mod Freeing
 pub mod Tested
 pub mod Marks
 pub mod Searched
+pub mod States

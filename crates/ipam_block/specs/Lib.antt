@@ -1,4 +1,4 @@
--- A block as contracts see it, and its operations on lists.
+-- A block as contracts see it; an affinity's states and their names.
 pub mod Kept
 pub mod Pairs
 pub mod Shape
@@ -6,3 +6,4 @@ pub mod Sound
 pub mod Operations
 pub mod Picked
 pub mod Test
+pub mod State

@@ -37,12 +37,11 @@ impl Clone for Attributes {
 
 /// Attributes that copies share: the first copy takes memory of its own, and those made of a copy take
 /// none but a count.
-#[derive(Debug)]
 pub struct SharedAttributes {
     kept: Kept,
 }
 
-#[derive(Debug, Drop)]
+#[derive(Drop)]
 pub(crate) enum Kept {
     /// Not copied yet, with the allocator for the first copy.
     Own(Attributes, Global),
@@ -101,7 +100,6 @@ impl Clone for SharedAttributes {
 
 /// One held address of a block: its ordinal, counted from the block's first address as 0, and the
 /// stamp of its assignment, by which a later assignment of the same address differs from it.
-#[derive(Debug)]
 pub struct Allocation {
     /// The number of the address in the block. In a block it is at most 4,095.
     pub ordinal: u16,

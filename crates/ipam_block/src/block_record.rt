@@ -18,7 +18,6 @@ use std::marker::Model;
 
 /// The record of one block of addresses. It always owns the memory for all of its ordinals, so that
 /// assigning and freeing take none.
-#[derive(Debug)]
 pub struct Block {
     cidr: Cidr,
     node: Option<Text>,

@@ -5,8 +5,8 @@ use Rattle.serde_json.specs.Data.{Data, string}
 use Rattle.ipam_addr.specs.Text.{cidr_text_of}
 use Rattle.serde_json.specs.View.{items_of}
 use Rattle.std.proofs.lemmas.List.{at_drop_more, drop_all}
-use Rattle.serde_json.specs.Written.{compact_text, comma_if, items_text}
-use Rattle.ipam_json.specs.Built.{array_of}
+use Rattle.serde_json.specs.Written.{compact_text, comma_if, items_text, members_text}
+use Rattle.ipam_json.specs.Built.{array_of, members_from}
 use Rattle.std.specs.Borrow.{Bor}
 use Rattle.std.specs.Prelude.{OnOk, Result}
 use Rattle.std.proofs.lemmas.Grind.{flat_map-append}
@@ -16,9 +16,11 @@ use Rattle.ipam_block.specs.Shape.{BlockValue}
 use Rattle.ipam_block_text.specs.declared.parts.Parts.{Parts}
 use Rattle.ipam_block_text.specs.Parts.{block_parts}
 use Rattle.ipam_block_text.specs.Body.{host_data, place_data, attributes_data, secondary_data, stamps_data, parts_data, block_body}
+use Rattle.ipam_block_text.specs.Attributes.{Pair}
 use Rattle.ipam_block_text.specs.Numbering.{borrowed}
 use Rattle.ipam_block_text.specs.Pieces.{holders_text, rest_text}
 use Rattle.ipam_block_text.proofs.Numbers.{parts_same}
+use Rattle.ipam_block_text.proofs.PairKeys.{pair_field}
 
 regroup : (a b c d e f r : List ℕ) → a ++ (b ++ (c ++ (d ++ (e ++ (f ++ r))))) ≡ (a ++ (b ++ (c ++ (d ++ (e ++ f))))) ++ r
 regroup a b c d e f r = simp append_assoc
@@ -108,3 +110,30 @@ module _ {A : Type 0} (f : A → Data) where
       → length xs ≤ i → out ++ left_text later (drop i xs) ≡ whole → after ≡ out ++ 93 ∷ [] → after ≡ whole
   list_ended out after whole later xs i past before closed =
       closed ∙ sym (ap (λ ys. out ++ left_text later ys) (drop_all i xs past)) ∙ before
+
+-- ---- pairs are written one by one
+
+-- the text of the pairs that are left, with the closing brace
+abbrev pub left_pairs : Bool → List Pair → List ℕ
+left_pairs later pairs = members_text later (members_from (map pair_field pairs))
+
+pair_split : (out comma key value rest : List ℕ) → (out ++ (comma ++ (key ++ 58 ∷ value))) ++ rest ≡ out ++ (comma ++ (key ++ 58 ∷ (value ++ rest)))
+pair_split out comma key value rest =
+    append_assoc out (comma ++ (key ++ 58 ∷ value)) rest
+    ∙ ap (λ s. out ++ s) (append_assoc comma (key ++ 58 ∷ value) rest ∙ ap (λ s. comma ++ s) (append_assoc key (58 ∷ value) rest))
+
+pub pair_written : (out after whole : List ℕ) (later : Bool) (pairs : List Pair) (i : ℕ) (d : Pair)
+    → i < length pairs → after ≡ out ++ (comma_if later ++ (quoted (get_or pairs i d).0 ++ 58 ∷ quoted (get_or pairs i d).1))
+    → out ++ left_pairs later (drop i pairs) ≡ whole → after ++ left_pairs true (drop (i + 1) pairs) ≡ whole
+unfolding pair_field
+pair_written out after whole later pairs i d within more before =
+    let rest = left_pairs true (drop (i + 1) pairs) in
+    ap (λ s. s ++ rest) more
+    ∙ pair_split out (comma_if later) (quoted (get_or pairs i d).0) (quoted (get_or pairs i d).1) rest
+    ∙ sym (ap (λ s. out ++ s) (at_drop_more (left_pairs later) pairs i d within))
+    ∙ before
+
+pub pairs_ended : (out after whole : List ℕ) (later : Bool) (pairs : List Pair) (i : ℕ)
+    → length pairs ≤ i → out ++ left_pairs later (drop i pairs) ≡ whole → after ≡ out ++ 125 ∷ [] → after ≡ whole
+pairs_ended out after whole later pairs i past before closed =
+    closed ∙ sym (ap (λ ys. out ++ left_pairs later ys) (drop_all i pairs past)) ∙ before

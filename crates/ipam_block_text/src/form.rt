@@ -291,7 +291,7 @@ fn is_small_pair(pair: &(Text, Text)) -> bool
     1 <= key.len() && key.len() <= KEY_BYTES_MAX && value.len() <= VALUE_BYTES_MAX
 }
 
-fn keys_ascend(pairs: &[(Text, Text)]) -> bool
+pub(crate) fn keys_ascend(pairs: &[(Text, Text)]) -> bool
     ensures { result ≡ keys_ascend pairs.now }
 {
     match pairs {

@@ -12,7 +12,7 @@ use std::collections::BTreeMap;
 
 /// What the text of a block says, but for the stamps: for each ordinal that is held the index of
 /// its attributes, the attributes, and the rest as the block has it.
-#[derive(Debug, Drop)]
+#[derive(Drop)]
 pub(crate) struct Parts {
     pub node: Option<Text>,
     pub places: Seq<Option<usize>>,
@@ -23,7 +23,7 @@ pub(crate) struct Parts {
 }
 
 /// The addresses of a block, and how its text numbers the attributes in use.
-#[derive(Debug, Drop)]
+#[derive(Drop)]
 pub(crate) struct Uses<'a> {
     pub cidr: Cidr,
     /// The attributes in use, each once, by the least ordinal that has them.

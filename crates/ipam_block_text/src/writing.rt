@@ -10,8 +10,10 @@ ghost use Rattle.ipam_block.specs.Operations.{node_bytes};
 ghost use Rattle.ipam_block_text.specs.Numbering.{borrowed};
 ghost use Rattle.ipam_block_text.specs.Pieces.{holders_text, rest_text};
 ghost use Rattle.ipam_json.specs.Built.{whole_data};
+ghost use Rattle.ipam_block_text.specs.Limits.{keys_ascend};
 ghost use Rattle.ipam_block_text.specs.Body.{host_data, place_data, attributes_data, secondary_data};
 
+use crate::form::keys_ascend;
 use crate::parts::Uses;
 use crate::print::secondary_value;
 use ipam_addr::{Cidr, push_cidr};
@@ -143,16 +145,47 @@ fn push_attributes(
     push(out, "}")
 }
 
-/// Appends the pairs by the bytes of their keys.
+/// Appends the pairs by the bytes of their keys. Those of a sound block are in this order.
 fn push_secondary(alloc: Global, out: &mut String, pairs: &[(Text, Text)]) -> Result<(), AllocError>
     ensures { OnOk result
         (string_bytes out.new ≡ string_bytes out.old ++ compact_text (secondary_data pairs.now)) }
 {
-    if pairs.is_empty() {
-        return push(out, "{}");
+    if keys_ascend(pairs) {
+        return push_ascending(alloc, out, pairs);
     }
     let text = secondary_value(alloc, pairs)?.to_string(alloc)?;
     push(out, text.as_str())
+}
+
+/// Appends pairs that are in the order of their keys.
+fn push_ascending(alloc: Global, out: &mut String, pairs: &[(Text, Text)]) -> Result<(), AllocError>
+    requires { IsTrue (keys_ascend pairs.now) }
+    ensures { OnOk result
+        (string_bytes out.new ≡ string_bytes out.old ++ compact_text (secondary_data pairs.now)) }
+{
+    push(out, "{")?;
+    let mut later = false;
+    for pair in pairs {
+        push_pair(alloc, out, later, pair)?;
+        later = true;
+    }
+    push(out, "}")
+}
+
+/// Appends a pair as a member, after a comma where something stands before.
+fn push_pair(
+    alloc: Global,
+    out: &mut String,
+    later: bool,
+    pair: &(Text, Text),
+) -> Result<(), AllocError>
+    ensures { OnOk result (string_bytes out.new
+        ≡ string_bytes out.old ++ (comma_if later ++ (quoted pair.now.0 ++ 58 ∷ quoted pair.now.1))) }
+{
+    push_comma(out, later)?;
+    push_quoted(alloc, out, pair.0.as_str())?;
+    push(out, ":")?;
+    push_quoted(alloc, out, pair.1.as_str())
 }
 
 /// Appends the list of the numbers.

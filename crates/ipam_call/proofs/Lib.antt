@@ -7,3 +7,8 @@ pub mod Statuses
 pub mod Empty
 pub mod Tellings
 pub mod ErrorTexts
+mod Refused
+mod Seen
+mod Texts
+mod Unasked
+mod Nobody

@@ -2,7 +2,7 @@ use cni_types::Version;
 use ipam_text::Text;
 
 /// What the daemon replied.
-#[derive(Debug, Drop)]
+#[derive(Drop)]
 pub struct DaemonReply {
     /// 0 on success, 1 with an error.
     pub status: u8,
@@ -26,7 +26,7 @@ pub enum CallFault {
 }
 
 /// How a call ends.
-#[derive(Debug, Drop)]
+#[derive(Drop)]
 pub enum CallEnd {
     /// The daemon replied, with success or with an error of the call.
     Replied(DaemonReply),

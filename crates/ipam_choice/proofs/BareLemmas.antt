@@ -13,8 +13,8 @@ use Rattle.ipam_addr.specs.Slots.{last_slot_of, slot_of}
 use Rattle.ipam_block.specs.Shape as block
 use Rattle.ipam_handle.specs.Order.{cidr_cmp}
 use Rattle.ipam_pool.specs.declared.pools.Pool.{Pool}
-use Rattle.ipam_reserve.specs.Spans.{ReservedValue, is_reserved_by}
-use Rattle.ipam_reserve.specs.Free.{IsFull, HasRoom, IsNextSlot, AreFullFrom}
+use Rattle.ipam_pool.specs.Spans.{ReservedValue, is_reserved_by}
+use Rattle.ipam_pool.specs.Free.{IsFull, HasRoom, IsNextSlot, AreFullFrom}
 use Rattle.ipam_records.specs.declared.record.Record.TheVariants as record_of
 use Rattle.ipam_records.specs.KeyOrderLaws.{cidr_cmp_total, cidrs_same}
 use Rattle.ipam_model.specs.Reads.{StoredRecord}

@@ -5,8 +5,8 @@ use Rattle.ipam_addr.specs.Shape.{AddrValue, CidrValue}
 use Rattle.ipam_addr.specs.Width.{cidr_size}
 use Rattle.ipam_addr.specs.Holding.{Holds}
 use Rattle.ipam_block.specs.Operations.{ordinal_address}
-use Rattle.ipam_reserve.specs.Spans.{ReservedValue, is_reserved_by}
-use Rattle.ipam_reserve.specs.Free.{IsFull, HasRoom}
+use Rattle.ipam_pool.specs.Spans.{ReservedValue, is_reserved_by}
+use Rattle.ipam_pool.specs.Free.{IsFull, HasRoom}
 use Rattle.ipam_model.specs.Choice.{first_found}
 use Rattle.ipam_choice.specs.Sight.{free_at, has_free}
 use Rattle.ipam_model.proofs.ChoiceLemmas.{first_found-none}

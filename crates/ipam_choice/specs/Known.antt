@@ -3,7 +3,7 @@ use Rattle.std.specs.Prelude.{ℕ, Bool, List, [], ◌∷◌, Option, Some, None
 use Rattle.ipam_addr.specs.Shape.{AddrValue, CidrValue}
 use Rattle.ipam_pool.specs.declared.pools.Pool.{Pool}
 use Rattle.ipam_record_text.specs.declared.config.Config.{Config}
-use Rattle.ipam_reserve.specs.Spans.{is_reserved_by}
+use Rattle.ipam_pool.specs.Spans.{is_reserved_by}
 use Rattle.ipam_records.specs.Listing.{rows_of}
 use Rattle.ipam_model.specs.Choice.{may_claim, Pick, Unknown}
 use Rattle.ipam_model.specs.Reads.{StoredRecord}

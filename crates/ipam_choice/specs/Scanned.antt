@@ -3,7 +3,7 @@ use Rattle.std.specs.Prelude.{◌≡◌, ◌⊎◌, ℕ, ◌<◌, ◌≤◌, Boo
 use Rattle.ipam_addr.specs.Shape.{AddrValue, CidrValue}
 use Rattle.ipam_addr.specs.Slots.{last_slot_of, slot_of}
 use Rattle.ipam_pool.specs.declared.pools.Pool.{Pool}
-use Rattle.ipam_reserve.specs.Spans.{is_reserved_by}
+use Rattle.ipam_pool.specs.Spans.{is_reserved_by}
 use Rattle.ipam_records.specs.Listing.{rows_of}
 use Rattle.ipam_records.specs.BlockLists.{cidrs_of_node, cidrs_unowned, cidrs_roomy}
 use Rattle.ipam_model.specs.Reads.{StoredRecord}

@@ -1,9 +1,9 @@
 -- What is asked and seen, as the specification has it.
 use Rattle.std.specs.Prelude.{◌≡◌, List}
 use Rattle.ipam_addr.specs.Shape.{AddrValue}
-use Rattle.ipam_reserve.specs.Shape.{ReservationValue}
-use Rattle.ipam_reserve.specs.Spans.{ReservedValue, is_reserved_by}
-use Rattle.ipam_reserve.specs.Union.{is_in_union}
+use Rattle.ipam_pool.specs.Shape.{ReservationValue}
+use Rattle.ipam_pool.specs.Spans.{ReservedValue, is_reserved_by}
+use Rattle.ipam_pool.specs.Union.{is_in_union}
 use Rattle.ipam_records.specs.Listing.{rows_of}
 use Rattle.ipam_model.specs.Usable.{Asked}
 use Rattle.ipam_model.specs.Choice.{Seen}

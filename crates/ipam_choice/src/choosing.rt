@@ -1,6 +1,6 @@
 ghost use Rattle.std.specs.Prelude.{◌≡◌, List, All, IfOk, [], ◌∷◌, count_by};
 ghost use Rattle.ipam_addr.specs.Holding.{is_same_family};
-ghost use Rattle.ipam_reserve.specs.Shape.{ReservationValue};
+ghost use Rattle.ipam_pool.specs.Shape.{ReservationValue};
 ghost use Rattle.ipam_model.specs.Choice.{IsChoice, pick_of};
 ghost use Rattle.ipam_choice.specs.Picked.{ranked_in, pick_as};
 ghost use Rattle.ipam_choice.specs.First.{first_of};

@@ -7,13 +7,13 @@ ghost use Rattle.ipam_records.specs.Listing.{rows_of};
 ghost use Rattle.ipam_model.specs.Choice.{is_confirmed_for};
 
 use ipam_addr::Cidr;
-use ipam_affinity::State;
+use ipam_block::State;
 use ipam_records::{Listing, Record};
 use std::alloc::{AllocError, Global};
 use std::collections::BTreeSet;
 
 /// The blocks whose affinity to a node is confirmed.
-#[derive(Debug, Drop)]
+#[derive(Drop)]
 pub struct Confirmed {
     cidrs: BTreeSet<Cidr>,
 }

@@ -6,7 +6,7 @@ ghost use Rattle.ipam_choice.specs.Level.{level_number};
 use crate::picked::Rank;
 
 /// The ranks, by the order in which they are looked at.
-#[derive(Clone, Copy, Debug, PartialEq, Eq)]
+#[derive(Clone, Copy, PartialEq, Eq)]
 pub(crate) enum Level {
     Own,
     Unconfirmed,

@@ -19,9 +19,8 @@ use crate::picked::{Candidate, Listed, Rank};
 use crate::slots::{is_slot, listed_at, next_bare};
 use ipam_addr::{Cidr, slot};
 use ipam_block::Block;
-use ipam_pool::Pool;
+use ipam_pool::{Pool, Reserved};
 use ipam_records::Listing;
-use ipam_reserve::Reserved;
 
 /// What the rank of a slot is read from.
 #[derive(Clone, Copy)]

@@ -1,8 +1,8 @@
 ghost use Rattle.std.specs.Prelude.{◌≡◌, ◌+◌, ◌≤◌, false, IfSome, IsNone, ℕ};
 ghost use Rattle.ipam_addr.specs.Slots.{last_slot_of};
 ghost use Rattle.ipam_pool.specs.Slots.{is_slot_of};
-ghost use Rattle.ipam_reserve.specs.Spans.{is_reserved_by};
-ghost use Rattle.ipam_reserve.specs.Free.{IsNextSlot, AreFullFrom};
+ghost use Rattle.ipam_pool.specs.Spans.{is_reserved_by};
+ghost use Rattle.ipam_pool.specs.Free.{IsNextSlot, AreFullFrom};
 ghost use Rattle.ipam_records.specs.Listing.{rows_of};
 ghost use Rattle.ipam_choice.specs.Picked.{found_in};
 ghost use Rattle.ipam_choice.specs.Sight.{IsSlotted, block_under};
@@ -11,9 +11,8 @@ ghost use Rattle.ipam_choice.specs.Scanned.{IsFirstBare, is_bare_slot};
 use crate::ahead::Ahead;
 use crate::picked::Listed;
 use ipam_addr::{Cidr, last_slot, slot};
-use ipam_pool::Pool;
+use ipam_pool::{Pool, Reserved};
 use ipam_records::{Listing, Record};
-use ipam_reserve::Reserved;
 use std::cmp::Ordering;
 
 /// Whether the CIDR is one of the pool's slots.

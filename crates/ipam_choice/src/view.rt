@@ -5,9 +5,8 @@ ghost use Rattle.ipam_model.specs.Usable.{is_name_of, is_cidr_read, is_same_cidr
 
 use crate::confirmed::Confirmed;
 use ipam_addr::{Cidr, Family, read_cidr};
-use ipam_pool::{Mode, Pool, PoolTable};
+use ipam_pool::{Mode, Pool, PoolTable, Reserved};
 use ipam_records::{Config, Listing};
-use ipam_reserve::Reserved;
 use ipam_text::Text;
 
 /// What a request says about one family.

@@ -1,6 +1,6 @@
 -- What is left of a release at each of its stages.
 use Rattle.std.specs.Prelude.{ℕ, if◌then◌else◌}
-use Rattle.ipam_affinity.specs.declared.state.State.TheVariants.{PendingDeletion}
+use Rattle.ipam_block.specs.declared.state.State.TheVariants.{PendingDeletion}
 use Rattle.ipam_records.specs.declared.call.Call.TheVariants.{Get, Update}
 use Rattle.ipam_records.specs.declared.key.Key.TheVariants as key
 use Rattle.ipam_records.specs.declared.record.Record.TheVariants as record_of

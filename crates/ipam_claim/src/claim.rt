@@ -11,8 +11,7 @@ ghost use Rattle.ipam_model.specs.Reads.{affinity_said};
 ghost use Rattle.ipam_claim.specs.Claim.{lent_block, claim_at, writing_at, claim_rest, claim_leaves, claim_goes};
 
 use ipam_addr::Cidr;
-use ipam_affinity::{Affinity, State};
-use ipam_block::Block;
+use ipam_block::{Affinity, Block, State};
 use ipam_model::ClaimAnswer;
 use ipam_parts::{BlockCidr, FoundBlock, WriteEnd};
 use ipam_records::{Call, Heard, Key, Procedure, Record, Reply};
@@ -20,7 +19,7 @@ use ipam_text::Text;
 use std::alloc::{AllocError, Global};
 
 /// The call that a claim makes next.
-#[derive(Clone, Copy, Debug, PartialEq, Eq)]
+#[derive(Clone, Copy)]
 enum Stage {
     /// The affinity is read.
     Looks,
@@ -28,7 +27,7 @@ enum Stage {
 }
 
 /// What a claim writes next.
-#[derive(Clone, Copy, Debug, PartialEq, Eq)]
+#[derive(Clone, Copy)]
 enum Writing {
     /// The affinity was missing, and is created.
     Creates,
@@ -41,20 +40,19 @@ enum Writing {
 }
 
 /// Where a reply leads.
-#[derive(Clone, Copy, Debug, PartialEq, Eq)]
+#[derive(Clone, Copy)]
 enum Goes {
     To(Stage),
     Answers(ClaimAnswer),
 }
 
 /// Where a reply led a claim.
-#[derive(Debug, Drop)]
+#[derive(Drop)]
 pub struct ClaimTurned {
     goes: Goes,
 }
 
 /// A claim of a block by a node. The block was read before. A lost race ends the claim.
-#[derive(Debug)]
 pub struct ClaimProc {
     node: Text,
     cidr: BlockCidr,

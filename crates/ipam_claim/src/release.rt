@@ -3,7 +3,7 @@ ghost use Rattle.ipam_addr.specs.Width.{cidr_size};
 ghost use Rattle.ipam_block.specs.declared.limits.TheConstants.{ADDRESSES_MAX};
 ghost use Rattle.ipam_records.specs.declared.key.Key.TheVariants as key_of;
 ghost use Rattle.ipam_records.specs.declared.record.Record.TheVariants as record_of;
-ghost use Rattle.ipam_affinity.specs.declared.state.State.TheVariants.{PendingDeletion};
+ghost use Rattle.ipam_block.specs.declared.state.State.TheVariants.{PendingDeletion};
 ghost use Rattle.ipam_records.specs.Hearing.{MayHear};
 ghost use Rattle.ipam_records.specs.Said.{said, Can};
 ghost use Rattle.ipam_records.specs.Word.{next_call, after_reply, answer_in};
@@ -15,8 +15,7 @@ ghost use Rattle.ipam_claim.specs.declared.release.Stage.TheVariants.{Reads, Wri
 ghost use Rattle.ipam_claim.specs.Release.{tie_of, release_again, stage_at_mark, release_at, release_rest, release_leaves, release_goes};
 
 use ipam_addr::Cidr;
-use ipam_affinity::{Affinity, State};
-use ipam_block::Block;
+use ipam_block::{Affinity, Block, State};
 use ipam_model::{LOST_RACES_MAX, Left, ReleaseAnswer};
 use ipam_parts::{BlockCidr, FoundBlock, WriteEnd, after_lost, all_left, found_block};
 use ipam_records::{Call, Heard, Key, Procedure, Record, Reply};
@@ -25,20 +24,20 @@ use std::alloc::{AllocError, Global};
 use std::mem;
 
 /// What a release has seen: the revision of its mark, and the block as it was read after it.
-#[derive(Debug, Drop)]
+#[derive(Drop)]
 struct Marked {
     mark: u64,
     read: Option<FoundBlock>,
 }
 
 /// The call that a release makes next.
-#[derive(Debug, Drop)]
+#[derive(Drop)]
 enum Stage {
     Reads(Reading),
     Writes(Writing),
 }
 
-#[derive(Debug, Drop)]
+#[derive(Drop)]
 enum Reading {
     /// The affinity is read.
     Affinity,
@@ -48,7 +47,7 @@ enum Reading {
     Again(Marked),
 }
 
-#[derive(Debug, Drop)]
+#[derive(Drop)]
 enum Writing {
     /// The affinity is marked for deletion at this revision.
     Marks(u64),
@@ -59,7 +58,7 @@ enum Writing {
 }
 
 /// Where a reply leads.
-#[derive(Debug, Drop)]
+#[derive(Drop)]
 enum Goes {
     To(Stage),
     /// The affinity was found at its mark.
@@ -70,13 +69,12 @@ enum Goes {
 }
 
 /// Where a reply led a release.
-#[derive(Debug, Drop)]
+#[derive(Drop)]
 pub struct ReleaseTurned {
     goes: Goes,
 }
 
 /// The release of a node's affinity to a block.
-#[derive(Debug)]
 pub struct ReleaseAffinityProc {
     node: Text,
     cidr: BlockCidr,

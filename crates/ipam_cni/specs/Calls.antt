@@ -17,8 +17,8 @@ use Rattle.ipam_kept.specs.Kept.{opened}
 use Rattle.ipam_kept.specs.declared.kept.KeptFault.{KeptFault}
 use Rattle.ipam_kept.specs.declared.kept.KeptFault.TheVariants as fault
 use Rattle.ipam_kept.specs.Rows.{AreTextsOf, texts_loaded}
-use Rattle.ipam_solo.specs.Courses.{IsAnswerCourse, IsFaultCourse}
-use Rattle.ipam_solo.specs.Solo.{IsStoppedAlone}
+use Rattle.ipam_kept.specs.Courses.{IsAnswerCourse, IsFaultCourse}
+use Rattle.ipam_kept.specs.Solo.{IsStoppedAlone}
 use Rattle.cni_types.specs.declared.calls.Look.{Look}
 use Rattle.cni_types.specs.declared.code.Code.TheVariants as code
 use Rattle.cni_types.specs.declared.error.CniError.{CniError}

@@ -10,7 +10,7 @@ use Rattle.ipam_model.specs.Alone.{alone_over}
 use Rattle.ipam_model.specs.Opened.{IsRefusedBy, OpensAs}
 use Rattle.ipam_kept.specs.Kept.{opened}
 use Rattle.ipam_kept.specs.Rows.{AreTextsOf, texts_loaded}
-use Rattle.ipam_solo.specs.Courses.{IsAnswerCourse}
+use Rattle.ipam_kept.specs.Courses.{IsAnswerCourse}
 use Rattle.cni_types.specs.declared.calls.Look.{Look}
 use Rattle.cni_types.specs.declared.calls.Look.TheVariants.{Version, Add, Del, Check, Gc, Status}
 use Rattle.cni_types.specs.declared.code.Code.TheVariants.{BadDatastore}

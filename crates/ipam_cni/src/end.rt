@@ -15,7 +15,7 @@ pub enum CniFault {
 }
 
 /// How a call ends.
-#[derive(Debug, Drop)]
+#[derive(Drop)]
 pub enum CniEnd {
     /// With this status and this text.
     Told(u8, Text),

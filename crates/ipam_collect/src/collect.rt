@@ -22,7 +22,6 @@ use std::mem;
 
 /// A collection of the addresses whose handles are in neither of two lists of live ones. Between
 /// its two listings of the blocks it waits for the second list.
-#[derive(Debug)]
 pub struct CollectProc {
     request: CollectRequest,
     stage: Stage,
@@ -38,14 +37,14 @@ impl Drop for CollectProc {
 }
 
 /// When a collection's first list was made, and its grace, both in seconds.
-#[derive(Clone, Copy, Debug, PartialEq, Eq)]
+#[derive(Clone, Copy)]
 pub struct Grace {
     pub at: u64,
     pub grace: u64,
 }
 
 /// What a collection does next.
-#[derive(Debug, Drop)]
+#[derive(Drop)]
 enum Stage {
     /// The blocks are listed.
     Lists,
@@ -57,14 +56,14 @@ enum Stage {
 }
 
 /// What may leak, as it was listed at the moment.
-#[derive(Debug, Drop)]
+#[derive(Drop)]
 struct Found {
     b1: u64,
     suspects: Seq<Suspect>,
 }
 
 /// What may leak, and the second list of live handles.
-#[derive(Debug, Drop)]
+#[derive(Drop)]
 struct FoundTwice {
     b1: u64,
     suspects: Seq<Suspect>,
@@ -72,7 +71,7 @@ struct FoundTwice {
 }
 
 /// Where a reply leads.
-#[derive(Debug, Drop)]
+#[derive(Drop)]
 enum Goes {
     To(Stage),
     /// The freeing goes on.
@@ -81,7 +80,7 @@ enum Goes {
 }
 
 /// Where a reply led a collection.
-#[derive(Debug, Drop)]
+#[derive(Drop)]
 pub struct CollectTurned {
     goes: Goes,
 }

@@ -14,7 +14,7 @@ use ipam_records::{Call, Heard};
 use std::alloc::{AllocError, Global};
 
 /// The leaks are freed, one after the other. The blocks were listed at the moments.
-#[derive(Debug, Drop)]
+#[derive(Drop)]
 pub struct Frees {
     b1: u64,
     b2: u64,

@@ -7,7 +7,7 @@ use std::collections::BTreeSet;
 use std::marker::Model;
 
 /// A list of live handles, whose ids are looked up in a time that grows with its logarithm.
-#[derive(Debug, Drop)]
+#[derive(Drop)]
 pub struct Live<'a> {
     list: &'a [Text],
     ids: BTreeSet<&'a str>,

@@ -14,7 +14,7 @@ use std::marker::Model;
 
 /// An address that may be collected, with the handle and the stamp that it is recorded with, and
 /// the block that it lies in.
-#[derive(Debug, Drop)]
+#[derive(Drop)]
 pub struct Suspect {
     address: Addr,
     handle: Text,

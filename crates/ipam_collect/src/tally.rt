@@ -12,7 +12,6 @@ use std::mem;
 
 /// What is told of the leaks that are done with, and the leaks that are left, the first of which is
 /// being freed. There is memory to tell of them all.
-#[derive(Debug)]
 pub struct Tally {
     items: Vec<Item>,
     left: VecDeque<Suspect>,

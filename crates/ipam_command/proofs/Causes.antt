@@ -25,9 +25,9 @@ use Rattle.ipam_commands.specs.declared.status.Status.TheVariants as status
 use Rattle.ipam_commands.specs.Changing.{ChangeEnds, ChangeWrites, outcome_status, release_line}
 use Rattle.ipam_commands.specs.Statuses.{code_of_status}
 use Rattle.ipam_commands.specs.Telling.{Cut, FaultWrites, IsNotLoaded, NotOpened, Opened, ReportsRows, Untold, Whole, Writes, keeper_line}
-use Rattle.ipam_told.specs.Shown.{shown_text}
+use Rattle.ipam_show.specs.Shown.{shown_text}
 use Rattle.ipam_commands.specs.Texts.{routes_text}
-use Rattle.ipam_told.specs.Rows.{rows_text}
+use Rattle.ipam_show.specs.Rows.{rows_text}
 use Rattle.ipam_resources.specs.declared.resource.Resource.{Resource}
 use Rattle.ipam_resources.specs.Printed.{applied_line, fault_line, refused_line}
 use Rattle.ipam_apply.specs.Applied as apply

@@ -17,17 +17,17 @@ use Rattle.ipam_play_run.specs.Writing.{WritesAll}
 use Rattle.ipam_gen.specs.declared.end.GenEnd.{GenEnd}
 use Rattle.ipam_gen.specs.declared.end.GenEnd.TheVariants as gen
 use Rattle.ipam_gen.specs.Summary.{CountsFaults, WritesSummary}
-use Rattle.ipam_headline.specs.Generating.{HasCountedRight}
-use Rattle.ipam_headline.specs.Headline.{HasWrittenRight, script_in}
+use Rattle.ipam_command.specs.Generating.{HasCountedRight}
+use Rattle.ipam_command.specs.Headline.{HasWrittenRight, script_in}
 use Rattle.ipam_commands.specs.declared.outcome.ChangeOutcome.{ChangeOutcome}
 use Rattle.ipam_commands.specs.declared.status.Status.{Status}
 use Rattle.ipam_commands.specs.declared.status.Status.TheVariants as status
 use Rattle.ipam_commands.specs.Changing.{ChangeEnds, ChangeWrites, outcome_status, release_line}
 use Rattle.ipam_commands.specs.Statuses.{code_of_status}
 use Rattle.ipam_commands.specs.Telling.{AreOpened, Cut, NotOpened, Opened, ReportsRows, Untold, Whole, Writes}
-use Rattle.ipam_told.specs.Shown.{shown_text}
+use Rattle.ipam_show.specs.Shown.{shown_text}
 use Rattle.ipam_commands.specs.Texts.{routes_text}
-use Rattle.ipam_told.specs.Rows.{rows_text}
+use Rattle.ipam_show.specs.Rows.{rows_text}
 use Rattle.ipam_resources.specs.declared.resource.Resource.{Resource}
 use Rattle.ipam_resources.specs.Documents.{document_reading}
 use Rattle.ipam_resources.specs.Printed.{applied_line, fault_line, refused_line}

@@ -4,9 +4,9 @@ use Rattle.std.specs.Prelude.{IfSome}
 use Rattle.ipam_play.specs.Readings.{readings}
 use Rattle.ipam_play.specs.Script.{script_of}
 use Rattle.ipam_play_run.specs.Writing as play_run
-use Rattle.ipam_headline.specs.Headline.{HasWrittenRight, script_in}
-use Rattle.ipam_headline.proofs.Generating.{counted_right}
-use Rattle.ipam_headline.proofs.Writing.{written_right}
+use Rattle.ipam_command.specs.Headline.{HasWrittenRight, script_in}
+use Rattle.ipam_command.proofs.Generating.{counted_right}
+use Rattle.ipam_command.proofs.Writing.{written_right}
 use Rattle.cni_types.specs.Reading.{Pair}
 use Rattle.ipam_records.specs.declared.call.Row.{Row as RowText}
 use Rattle.ipam_records.specs.Datastore.{Datastore}

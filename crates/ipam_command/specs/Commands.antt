@@ -11,13 +11,13 @@ use Rattle.ipam_play_run.specs.declared.end.PlayEnd.{PlayEnd}
 use Rattle.ipam_play_run.specs.declared.end.PlayEnd.TheVariants as play
 use Rattle.ipam_gen.specs.declared.end.GenEnd.{GenEnd}
 use Rattle.ipam_gen.specs.Summary as gen
-use Rattle.ipam_headline.specs.Headline.{HasWrittenRight, HasWrittenSoFarRight, script_in}
-use Rattle.ipam_headline.specs.Generating.{HasCountedRight}
+use Rattle.ipam_command.specs.Headline.{HasWrittenRight, HasWrittenSoFarRight, script_in}
+use Rattle.ipam_command.specs.Generating.{HasCountedRight}
 use Rattle.ipam_commands.specs.declared.status.Status.{Status}
 use Rattle.ipam_commands.specs.Telling.{ReportsRows, Writes}
-use Rattle.ipam_told.specs.Shown.{shown_text}
+use Rattle.ipam_show.specs.Shown.{shown_text}
 use Rattle.ipam_commands.specs.Texts.{routes_text}
-use Rattle.ipam_told.specs.Rows.{rows_text}
+use Rattle.ipam_show.specs.Rows.{rows_text}
 use Rattle.ipam_commands.specs.declared.outcome.ChangeOutcome.{ChangeOutcome}
 use Rattle.ipam_commands.specs.Changing.{ChangeEnds, ChangeWrites, release_line}
 use Rattle.ipam_kept.specs.declared.kept.KeptFault.{KeptFault}

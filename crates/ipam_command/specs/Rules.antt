@@ -12,14 +12,14 @@ use Rattle.ipam_words.specs.declared.texts.TheConstants.{HELP, VERSION}
 use Rattle.ipam_play.specs.Played.{Ending, Whole, LineRefused, NotOpened}
 use Rattle.ipam_play_run.specs.Writing.{WritesAll}
 use Rattle.ipam_gen.specs.Summary.{WritesSummary}
-use Rattle.ipam_headline.specs.Headline.{script_in}
+use Rattle.ipam_command.specs.Headline.{script_in}
 use Rattle.ipam_commands.specs.declared.outcome.ChangeOutcome.{ChangeOutcome}
 use Rattle.ipam_commands.specs.Changing.{IsChanged, OpenedSo, outcome_status, release_line}
 use Rattle.ipam_commands.specs.Statuses.{code_of_status}
 use Rattle.ipam_commands.specs.Telling.{AreBroken, AreOpened}
-use Rattle.ipam_told.specs.Shown.{shown_text}
+use Rattle.ipam_show.specs.Shown.{shown_text}
 use Rattle.ipam_commands.specs.Texts.{routes_text}
-use Rattle.ipam_told.specs.Rows.{rows_text}
+use Rattle.ipam_show.specs.Rows.{rows_text}
 use Rattle.ipam_resources.specs.declared.fault.DocumentFault.{DocumentFault}
 use Rattle.ipam_resources.specs.declared.refusal.Refusal.{Refusal}
 use Rattle.ipam_resources.specs.declared.resource.Resource.{Resource}

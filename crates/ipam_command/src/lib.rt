@@ -1,6 +1,8 @@
-//! The commands of the program, over any source, sink and keeper.
+//! The commands of the program, over any source, sink and keeper. And the laws that what the program writes is right
+//! in the whole sense of the model.
 #![tactic(auto)]
 
+pub mod headline;
 mod running;
 mod statuses;
 

@@ -1,13 +1,10 @@
 //! A word is asked of a daemon.
 use crate::target::backed_up;
 use crate::texts::{lines_of, shown, words_of};
-use ipam_asked_audit::audit;
-use ipam_asked_rows::get;
-use ipam_asked_views::show;
+use ipam_asked::{audit, get, show};
 use ipam_io::{MemoryLink, MemorySink, MemorySource};
 use ipam_operator::{End, apply, release, routes, unreserve};
-use ipam_upkeep::{Upkeep, upkeep_asked};
-use ipam_words::{Command, read_words};
+use ipam_words::{Command, Upkeep, read_words, upkeep_asked};
 use std::alloc::{AllocError, Global};
 use std::thread::Threads;
 

@@ -2,15 +2,14 @@
 ghost use Rattle.std.specs.Prelude.{◌≡◌, IfOk};
 ghost use Rattle.ipam_model.specs.SoundRequest.{IsSoundChange, IsSoundRequest};
 ghost use Rattle.ipam_kept.specs.Kept.{IsKept};
-ghost use Rattle.ipam_solo.specs.Solo.{HasNoGrace, NothingRuns};
+ghost use Rattle.ipam_kept.specs.Solo.{HasNoGrace, NothingRuns};
 
 use crate::telling::tell_each;
 use crate::told::{answer_text, base_text};
 use ipam_keeper::{Keeper, MemoryKeeper};
-use ipam_kept::Kept;
+use ipam_kept::{Kept, run_alone};
 use ipam_model::{Admin, Request};
 use ipam_request_text::read_request;
-use ipam_solo::run_alone;
 use std::alloc::{AllocError, Global};
 
 /// What is in front of the first `⇒`, and what is after it.

@@ -1,7 +1,7 @@
 //! Requests, and settlings of which some fail.
 ghost use Rattle.std.specs.Prelude.{◌≡◌};
 ghost use Rattle.ipam_kept.specs.Kept.{IsKept};
-ghost use Rattle.ipam_solo.specs.Solo.{NothingRuns};
+ghost use Rattle.ipam_kept.specs.Solo.{NothingRuns};
 
 use crate::kept::{parts, ran};
 use ipam_keeper::{Keeper, MemoryKeeper};

@@ -3,8 +3,8 @@ use crate::command::{WELL, push_run, push_run_by_word};
 use crate::texts::push_line;
 use crate::{asked, audits, freed, keepers, kept, rows, scripts, settled};
 use ipam_keeper::MemoryKeeper;
+use ipam_lines::report;
 use ipam_sqlite::FileKeeper;
-use ipam_table::report;
 use std::alloc::{AllocError, Global};
 use std::thread::Threads;
 

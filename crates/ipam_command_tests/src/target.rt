@@ -1,5 +1,5 @@
 //! A new database in memory.
-use ipam_backup::{Target, back_up_asked};
+use ipam_asked::{Target, back_up_asked};
 use ipam_io::{MemoryLink, MemorySink, Sink};
 use ipam_keeper::{KeepFault, Keeper, MemoryKeeper, Row};
 use ipam_operator::End;

@@ -24,12 +24,12 @@ use Rattle.ipam_kept.specs.declared.kept.KeptFault.{KeptFault}
 use Rattle.ipam_kept.specs.declared.kept.KeptFault.TheVariants as fault
 use Rattle.ipam_kept.specs.Kept.{KeptFor, Tells, opened}
 use Rattle.ipam_kept.specs.Opening.{IsFaultOf, IsOpened}
-use Rattle.ipam_solo.specs.Solo.{IsAnswered, IsFaulted, IsStopped, base_of}
+use Rattle.ipam_kept.specs.Solo.{IsAnswered, IsFaulted, IsStopped, base_of}
 use Rattle.ipam_commands.specs.declared.outcome.ChangeOutcome.{ChangeOutcome}
 use Rattle.ipam_commands.specs.declared.outcome.ChangeOutcome.TheVariants as outcome
 use Rattle.ipam_commands.specs.Courses.{AreRowsOf}
 use Rattle.ipam_commands.specs.Changing.{ChangeEnds, ChangeRuns, IsChange, outcome_of}
-use Rattle.ipam_solo.proofs.Courses.{answer-course, fault-course}
+use Rattle.ipam_kept.proofs.Courses.{answer-course, fault-course}
 use Rattle.ipam_commands.proofs.CourseRuns.{stop-course}
 
 -- ---- what an answer comes to

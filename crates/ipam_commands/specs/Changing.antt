@@ -17,7 +17,7 @@ use Rattle.ipam_commands.specs.declared.outcome.ChangeOutcome.{ChangeOutcome}
 use Rattle.ipam_commands.specs.declared.outcome.ChangeOutcome.TheVariants as outcome
 use Rattle.ipam_commands.specs.declared.status.Status.{Status}
 use Rattle.ipam_commands.specs.declared.status.Status.TheVariants as status
-use Rattle.ipam_solo.specs.Courses.{IsAnswerCourse, IsFaultCourse}
+use Rattle.ipam_kept.specs.Courses.{IsAnswerCourse, IsFaultCourse}
 use Rattle.ipam_commands.specs.Courses.{AreRowsOf, IsStopCourse}
 use Rattle.ipam_commands.specs.Telling.{AreBroken, AreOpened, FaultWrites}
 

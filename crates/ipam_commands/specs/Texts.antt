@@ -1,8 +1,8 @@
 -- The texts of the operator's commands.
 use Rattle.std.specs.Prelude.{ℕ, ◌&&◌, List, [], ◌∷◌, ◌++◌, Bool, true, false, bytes_eq, codes, if◌then◌else◌}
 use Rattle.ipam_addr.specs.Text.{cidr_text_of}
-use Rattle.ipam_affinity.specs.declared.record.Affinity.{Affinity}
-pub use Rattle.ipam_affinity.specs.State.{is_confirmed}
+use Rattle.ipam_block.specs.declared.record.Affinity.{Affinity}
+pub use Rattle.ipam_block.specs.State.{is_confirmed}
 use Rattle.ipam_records.specs.declared.key.Kind.TheVariants as kind
 use Rattle.ipam_records.specs.declared.record.Record.{Record}
 use Rattle.ipam_records.specs.declared.record.Record.TheVariants as record_of

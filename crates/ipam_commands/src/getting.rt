@@ -1,14 +1,14 @@
 //! `get` and `get KIND`: the rows are told.
 ghost use Rattle.std.specs.Prelude.{◌≡◌};
 ghost use Rattle.ipam_commands.specs.Telling.{ReportsRows, Writes};
-ghost use Rattle.ipam_told.specs.Rows.{rows_text};
+ghost use Rattle.ipam_show.specs.Rows.{rows_text};
 
 use crate::loading::Loaded;
 use crate::reporting::{TellsRows, tell_rows};
 use crate::status::Status;
 use ipam_io::Sink;
 use ipam_keeper::Keeper;
-use ipam_told::rows_text;
+use ipam_show::rows_text;
 use ipam_words::RowKind;
 use std::alloc::{AllocError, Global};
 

@@ -5,7 +5,7 @@ ghost use Rattle.ipam_commands.specs.Telling.{IsSaid};
 use crate::status::Status;
 
 /// What a request that changes one thing came to.
-#[derive(Clone, Copy, Debug, PartialEq, Eq)]
+#[derive(Clone, Copy)]
 pub enum ChangeOutcome {
     /// The change was made.
     Made,

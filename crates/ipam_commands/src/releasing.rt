@@ -4,7 +4,7 @@ ghost use Rattle.ipam_records.specs.Sound.{IsName};
 ghost use Rattle.ipam_model.specs.declared.request.Request.TheVariants.{Release};
 ghost use Rattle.ipam_model.specs.SoundRequest.{IsSoundRequest};
 ghost use Rattle.ipam_kept.specs.declared.kept.KeptFault.{KeptFault as Fault};
-ghost use Rattle.ipam_solo.specs.Solo.{HasNoGrace};
+ghost use Rattle.ipam_kept.specs.Solo.{HasNoGrace};
 ghost use Rattle.ipam_commands.specs.declared.outcome.ChangeOutcome.{ChangeOutcome as Outcome};
 ghost use Rattle.ipam_commands.specs.Changing.{ChangeEnds, ChangeWrites, IsChange, release_line};
 ghost use Rattle.ipam_commands.specs.Telling.{Writes};

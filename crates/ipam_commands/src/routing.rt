@@ -11,7 +11,7 @@ use crate::loading::Loaded;
 use crate::reporting::{TellsRows, tell_rows};
 use crate::status::Status;
 use ipam_addr::push_cidr;
-use ipam_affinity::{Affinity, State};
+use ipam_block::{Affinity, State};
 use ipam_io::Sink;
 use ipam_keeper::Keeper;
 use ipam_records::{Call, Kind, Record, Reply};

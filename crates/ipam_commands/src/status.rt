@@ -21,7 +21,7 @@ pub const BROKEN_ROWS: u8 = 7;
 pub const LINE_REFUSED: u8 = 8;
 
 /// How a command ended.
-#[derive(Clone, Copy, Debug, PartialEq, Eq)]
+#[derive(Clone, Copy)]
 pub enum Status {
     /// All was done.
     Done,

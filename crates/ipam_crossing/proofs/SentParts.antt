@@ -2,7 +2,7 @@
 use denote.Param.Send.{IsSend}
 use Rattle.std.proofs.Crossing.{frees, send as heap_send}
 use Rattle.std.proofs.MapsCrossingOver.{BTreeSet-send}
-use Rattle.ipam_reserve.specs.contracts.reserved_set.Reserved as Reserved
+use Rattle.ipam_pool.specs.contracts.reserved_set.Reserved as Reserved
 use Rattle.ipam_choice.specs.contracts.confirmed.Confirmed as Confirmed
 use Rattle.ipam_model.specs.contracts.request.AddRequest as AddRequest
 use Rattle.ipam_parts.specs.contracts.found.BlockCidr as BlockCidr

@@ -15,13 +15,13 @@ use Rattle.ipam_addr.specs.contracts.address.Addr as Addr
 use Rattle.ipam_addr.specs.contracts.cidrs.Cidr as Cidr
 use Rattle.ipam_pool.specs.contracts.pools.Pool as Pool
 use Rattle.ipam_pool.specs.contracts.table.PoolTable as PoolTable
-use Rattle.ipam_reserve.specs.contracts.reservations.Reservation as Reservation
+use Rattle.ipam_pool.specs.contracts.reservations.Reservation as Reservation
 use Rattle.ipam_block.specs.contracts.allocation.Attributes as Attributes
 use Rattle.ipam_block.specs.contracts.allocation.Kept as KeptAttributes
 use Rattle.ipam_block.specs.contracts.allocation.SharedAttributes as SharedAttributes
 use Rattle.ipam_block.specs.contracts.allocation.Allocation as Allocation
 use Rattle.ipam_block.specs.contracts.block_record.Block as Block
-use Rattle.ipam_affinity.specs.contracts.record.Affinity as Affinity
+use Rattle.ipam_block.specs.contracts.record.Affinity as Affinity
 use Rattle.ipam_handle.specs.contracts.handles.Handle as Handle
 use Rattle.ipam_crossing.proofs.SentSelectors.{text_send, node_selector_send}
 

@@ -1,6 +1,5 @@
 //! CNI calls of a container.
-use ipam_call::run_call;
-use ipam_client::call;
+use ipam_call::{call, run_call};
 use ipam_io::{Link, MemorySink, MemorySource};
 use ipam_text::Text;
 use std::alloc::{AllocError, Global};

@@ -7,14 +7,14 @@ use std::net::{Net, TcpListener, TcpStream};
 
 /// The title of the scenario and how many lines came of it, or these where they are not those that are
 /// wanted.
-pub(crate) fn report<R: Host + Sync + Files + Net<Listener = TcpListener, Stream = TcpStream>>(
+pub fn report<R: Host + Sync + Files + Net<Listener = TcpListener, Stream = TcpStream>>(
     host: R,
     rt: &HostRuntime,
     scenario: &str,
 ) -> Result<String, AllocError> {
     let (title, steps) = scenario.split_once('\n').unwrap_or((scenario, ""));
     let found = told(host, rt, title, steps)?;
-    ipam_table::report(rt.alloc(), scenario, found.as_str())
+    ipam_lines::report(rt.alloc(), scenario, found.as_str())
 }
 
 /// What comes of the steps. The title begins with the kind of the scenario and a name, as in `session free:`.

@@ -5,7 +5,7 @@ use crate::ends::told_end;
 use crate::few::Few;
 use crate::loopback::{ANY_PORT, limits_of, listening, reached, socket_path};
 use crate::rows::{FREE, keeper_of, numbers, opening, push_line};
-use ipam_client::{Connector, Connects};
+use ipam_call::{Connector, Connects};
 use ipam_daemon::{
     Address, Host, Keeper, Leaving, Limits, NewAlarm, SocketListener, serve, serve_by,
 };

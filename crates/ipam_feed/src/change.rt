@@ -3,12 +3,11 @@ ghost use Rattle.ipam_feed.specs.Feed.{write_revision};
 ghost use Rattle.ipam_feed.specs.Turned.{change_meant};
 
 use crate::route::Route;
-use ipam_affinity::State;
+use ipam_block::State;
 use ipam_records::{Key, Record, Write};
 use std::alloc::AllocError;
 
 /// That a write of this revision gave a route or took it.
-#[derive(Debug)]
 pub struct Change {
     pub revision: u64,
     pub route: Route,

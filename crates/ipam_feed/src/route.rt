@@ -6,14 +6,13 @@ ghost use Rattle.ipam_feed.specs.Route.{route_of, routes_of, route_cmp, has_rout
 ghost use Rattle.ipam_feed.specs.Turned.{turned, with_route, without_route};
 
 use ipam_addr::Cidr;
-use ipam_affinity::State;
+use ipam_block::State;
 use ipam_records::Record;
 use ipam_text::Text;
 use std::alloc::AllocError;
 use std::cmp::Ordering;
 
 /// That a node's addresses lie in the block of this CIDR.
-#[derive(Debug)]
 pub struct Route {
     pub node: Text,
     pub cidr: Cidr,

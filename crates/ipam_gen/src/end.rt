@@ -1,5 +1,5 @@
 /// How a run of the generator ended.
-#[derive(Clone, Copy, Debug, PartialEq, Eq)]
+#[derive(Clone, Copy)]
 pub enum GenEnd {
     /// All of it ran, and the summary was written.
     Done,

@@ -31,7 +31,6 @@ impl From<AllocError> for RaiseFault {
 }
 
 /// How many addresses are held under one id, by block. A block with none has no count.
-#[derive(Debug)]
 pub struct Handle {
     id: Text,
     counts: Vec<(Cidr, u32)>,

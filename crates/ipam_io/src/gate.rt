@@ -5,7 +5,7 @@ ghost use Rattle.ipam_io.specs.Counts.{Rose};
 ghost use Rattle.ipam_io.specs.Passing.{OnStop, OnGo, count_of_turns};
 
 /// Where a pass is made.
-#[derive(Clone, Copy, Debug, PartialEq, Eq)]
+#[derive(Clone, Copy, PartialEq, Eq)]
 pub enum Point {
     /// Before a line of a session is read.
     Line,
@@ -14,7 +14,7 @@ pub enum Point {
 }
 
 /// What a gate answers.
-#[derive(Clone, Copy, Debug, PartialEq, Eq)]
+#[derive(Clone, Copy)]
 pub enum Passed {
     /// Go on.
     Go,

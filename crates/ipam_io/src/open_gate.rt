@@ -4,7 +4,7 @@ ghost use Rattle.std.specs.Prelude.{◌≡◌};
 use super::gate::{Gate, Passed, Point};
 
 /// A gate that never stops a pass, and counts none.
-#[derive(Clone, Copy, Debug, Default)]
+#[derive(Clone, Copy, Default)]
 pub struct OpenGate;
 
 impl OpenGate {

@@ -4,7 +4,7 @@ ghost use Rattle.ipam_json.specs.declared.fault.ReadFault.TheVariants.{Memory};
 use std::alloc::AllocError;
 
 /// The kind of value that a reader asked for.
-#[derive(Clone, Copy, Debug, PartialEq, Eq)]
+#[derive(Clone, Copy, Debug)]
 pub enum Want {
     /// A JSON object.
     Object,

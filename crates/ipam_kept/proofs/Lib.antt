@@ -7,3 +7,10 @@ pub mod Standing
 pub mod FedStanding
 pub mod SureStanding
 pub mod Openings
+pub mod Histories
+pub mod SoloStanding
+pub mod Ending
+pub mod StepLemmas
+pub mod Calls
+pub mod Courses
+pub mod Running

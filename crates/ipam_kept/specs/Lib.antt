@@ -1,4 +1,4 @@
--- What a kept cluster keeps, and what its calls do.
+-- What a kept cluster keeps, what its calls do, and what becomes of a request that runs by itself.
 pub mod Rows
 pub mod Broken
 pub mod Doubt
@@ -9,3 +9,6 @@ pub mod Feed
 pub mod Sure
 pub mod Opening
 pub mod Turning
+pub mod Solo
+pub mod Steps
+pub mod Courses

@@ -4,7 +4,7 @@ use ipam_records::Row;
 use ipam_text::Text;
 
 /// What a keeper is given of a write.
-#[derive(Debug, Drop)]
+#[derive(Drop)]
 pub enum RowWrite {
     /// The row is put in, in place of the one of its key if there is one.
     Put(Row),

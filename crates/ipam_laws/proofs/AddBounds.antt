@@ -7,9 +7,9 @@ use Rattle.ipam_block.specs.declared.allocation.Allocation.{Allocation}
 use Rattle.ipam_block.specs.declared.allocation.Attributes.{Attributes}
 use Rattle.ipam_block.specs.Shape as block
 use Rattle.ipam_block.specs.Operations.{holder}
-use Rattle.ipam_affinity.specs.declared.record.Affinity.{Affinity}
-use Rattle.ipam_affinity.specs.declared.state.State.{State}
-use Rattle.ipam_affinity.specs.declared.state.State.TheVariants.{Pending, Confirmed, PendingDeletion}
+use Rattle.ipam_block.specs.declared.record.Affinity.{Affinity}
+use Rattle.ipam_block.specs.declared.state.State.{State}
+use Rattle.ipam_block.specs.declared.state.State.TheVariants.{Pending, Confirmed, PendingDeletion}
 use Rattle.ipam_records.specs.Said.{Said}
 use Rattle.ipam_records.specs.Word.{Ends}
 use Rattle.ipam_model.specs.declared.outcome.AddAnswer.{AddAnswer}

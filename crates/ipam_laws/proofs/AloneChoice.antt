@@ -4,9 +4,9 @@ use Rattle.std.specs.Prelude.{Contains, slice_get, not, ◌&&◌, ◌||◌, is_s
 use Rattle.std.specs.List.{filter, find, list_any, range_with_len}
 use Rattle.ipam_addr.specs.Shape.{AddrValue, CidrValue}
 use Rattle.ipam_addr.specs.Width.{cidr_size}
-use Rattle.ipam_affinity.specs.declared.state.State.TheVariants.{Confirmed}
+use Rattle.ipam_block.specs.declared.state.State.TheVariants.{Confirmed}
 use Rattle.ipam_block.specs.Operations.{ordinal_address}
-use Rattle.ipam_reserve.specs.Union.{is_in_union}
+use Rattle.ipam_pool.specs.Union.{is_in_union}
 use Rattle.ipam_records.specs.declared.key.Key.TheVariants as key
 use Rattle.ipam_records.specs.declared.key.Kind.TheVariants as kind
 use Rattle.ipam_records.specs.declared.record.Record.TheVariants as record_of

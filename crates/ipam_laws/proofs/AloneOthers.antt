@@ -3,8 +3,8 @@ use Rattle.std.proofs.Common.{◌≡◌, ◌≢◌, ℕ, ◌+◌, Bool, true, fa
 use Rattle.std.specs.Prelude.{◌==◌}
 use Rattle.std.proofs.lemmas.Bool.{eqb-false}
 use Rattle.ipam_addr.specs.Shape.{CidrValue}
-use Rattle.ipam_affinity.specs.declared.record.Affinity.{Affinity}
-use Rattle.ipam_affinity.specs.declared.state.State.TheVariants.{PendingDeletion}
+use Rattle.ipam_block.specs.declared.record.Affinity.{Affinity}
+use Rattle.ipam_block.specs.declared.state.State.TheVariants.{PendingDeletion}
 use Rattle.ipam_records.specs.declared.call.Call.TheVariants.{Get, List as ListAll, Delete, Update}
 use Rattle.ipam_records.specs.declared.key.Key.TheVariants as key
 use Rattle.ipam_records.specs.declared.key.Kind.TheVariants as kind

@@ -8,8 +8,8 @@ use Rattle.std.proofs.lemmas.List.Elements.{Contains-append_left, Contains-appen
 use Rattle.std.proofs.lemmas.Slice.Eq.{bytes_eq-Decides}
 use Rattle.ipam_addr.specs.Shape.{CidrValue}
 use Rattle.ipam_addr.specs.Width.{IsCidr}
-use Rattle.ipam_affinity.specs.declared.state.State.{State}
-use Rattle.ipam_affinity.specs.declared.state.State.TheVariants.{Pending, Confirmed, PendingDeletion}
+use Rattle.ipam_block.specs.declared.state.State.{State}
+use Rattle.ipam_block.specs.declared.state.State.TheVariants.{Pending, Confirmed, PendingDeletion}
 use Rattle.ipam_block.specs.declared.allocation.Allocation.{Allocation}
 use Rattle.ipam_block.specs.Operations.{is_owned}
 use Rattle.ipam_pool.specs.Sound.{IsPoolTable}

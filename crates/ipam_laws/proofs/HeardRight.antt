@@ -1,7 +1,7 @@
 -- What an operator's change and the release of an affinity are answered is right.
 use Rattle.std.proofs.Common.{◌≡◌, ℕ, ◌+◌, inl, inr, List, [], ◌∷◌, Option, Some, None, refl, sym, ap, ◌∙◌, subst, arith}
 use Rattle.ipam_addr.specs.Shape.{CidrValue}
-use Rattle.ipam_affinity.specs.declared.state.State.TheVariants.{PendingDeletion}
+use Rattle.ipam_block.specs.declared.state.State.TheVariants.{PendingDeletion}
 use Rattle.ipam_records.specs.declared.call.Call.{Call}
 use Rattle.ipam_records.specs.declared.call.Call.TheVariants.{Get, Update, Delete}
 use Rattle.ipam_records.specs.declared.key.Key.TheVariants as key

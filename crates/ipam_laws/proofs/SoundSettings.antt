@@ -19,7 +19,7 @@ use Rattle.ipam_pool.proofs.Changing.{IsPoolTable-with_disabled, IsPoolTable-wit
 use Rattle.ipam_select.specs.Formula.{Formula}
 use Rattle.ipam_select.specs.Sound.{is_sound}
 use Rattle.ipam_pool.specs.declared.pools.Mode.{Mode}
-use Rattle.ipam_reserve.specs.Shape.{ReservationValue}
+use Rattle.ipam_pool.specs.Shape.{ReservationValue}
 use Rattle.ipam_records.specs.declared.record.Record.{Record}
 use Rattle.ipam_records.specs.declared.record.Record.TheVariants as record_of
 use Rattle.ipam_records.specs.Datastore.{reply_to_get}

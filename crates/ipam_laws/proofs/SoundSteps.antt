@@ -1,8 +1,8 @@
 -- Each record that a step writes is sound, where what was known was.
 use Rattle.std.proofs.Common.{◌≡◌, ℕ, ◌+◌, ◌^◌, ◌<◌, ◌≤◌, inl, inr, List, [], Option, Some, None, refl, sym, ap, ◌∙◌, subst, arith}
 use Rattle.ipam_addr.specs.Shape.{CidrValue}
-use Rattle.ipam_affinity.specs.declared.state.State.{State}
-use Rattle.ipam_affinity.specs.declared.state.State.TheVariants.{Confirmed, PendingDeletion}
+use Rattle.ipam_block.specs.declared.state.State.{State}
+use Rattle.ipam_block.specs.declared.state.State.TheVariants.{Confirmed, PendingDeletion}
 use Rattle.ipam_block.specs.Shape as block
 use Rattle.ipam_handle.specs.Operations.{content, count_of, with_raised_count}
 use Rattle.ipam_handle.specs.Shape as handle

@@ -3,8 +3,8 @@
 use Rattle.std.proofs.Common.{◌≡◌, ◌≢◌, inl, inr, ℕ, zero, suc, ◌+◌, ◌≤◌, Bool, true, false, not, cond, List, [], ◌∷◌, Option, Some, None, refl, sym, ap, ◌∙◌, subst, arith}
 use Rattle.std.specs.Prelude.{◌&&◌}
 use Rattle.ipam_addr.specs.Shape.{AddrValue, CidrValue}
-use Rattle.ipam_affinity.specs.declared.record.Affinity.{Affinity}
-use Rattle.ipam_affinity.specs.declared.state.State.TheVariants.{PendingDeletion}
+use Rattle.ipam_block.specs.declared.record.Affinity.{Affinity}
+use Rattle.ipam_block.specs.declared.state.State.TheVariants.{PendingDeletion}
 use Rattle.ipam_records.specs.declared.call.Call.{Call}
 use Rattle.ipam_records.specs.declared.call.Call.TheVariants.{Get, Update, Delete, Create}
 use Rattle.ipam_records.specs.declared.key.Key.TheVariants as key

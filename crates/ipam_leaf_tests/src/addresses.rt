@@ -3,7 +3,7 @@ use ipam_addr::{
     Addr, Cidr, has_slots, is_handle_id, is_name, last_slot, push_addr, push_cidr, read_addr,
     read_cidr, slot_number,
 };
-use ipam_affinity::{Affinity, State};
+use ipam_block::{Affinity, State};
 use ipam_text::Text;
 use std::alloc::{AllocError, Global};
 

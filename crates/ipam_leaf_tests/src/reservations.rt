@@ -1,7 +1,7 @@
 //! What sets of reserved CIDRs say. A question begins with the CIDRs, in front of `;`.
 use crate::addresses::{addr_of, cidr_of};
 use ipam_addr::{Cidr, Spared, has_slots, push_addr};
-use ipam_reserve::{Reservation, Reserved};
+use ipam_pool::{Reservation, Reserved};
 use ipam_text::{Seq, Text};
 use std::alloc::{AllocError, Global};
 

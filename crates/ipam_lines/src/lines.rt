@@ -16,7 +16,7 @@ pub(crate) const CHUNK: usize = 4096;
 const MOST_ROOM: usize = 65_536;
 
 /// What comes next.
-#[derive(Debug, PartialEq, Eq, Drop)]
+#[derive(Debug, Drop)]
 pub enum Got {
     /// The bytes of a line, without its line feed.
     Line(Vec<u8>),

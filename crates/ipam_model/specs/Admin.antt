@@ -5,8 +5,8 @@ use Rattle.ipam_pool.specs.declared.pools.Pool.{Pool}
 use Rattle.ipam_pool.specs.declared.pools.PoolRefusal.{PoolRefusal}
 use Rattle.ipam_pool.specs.declared.pools.PoolRefusal.TheVariants.{NameTaken, Overlap, Size, Prefix}
 use Rattle.ipam_pool.specs.Changes.{has_name, refusal_of, with_disabled, with_rules}
-use Rattle.ipam_reserve.specs.declared.reservations.TheConstants.{MOST_RESERVATIONS}
-use Rattle.ipam_reserve.specs.Shape.{ReservationValue}
+use Rattle.ipam_pool.specs.declared.reservations.TheConstants.{MOST_RESERVATIONS}
+use Rattle.ipam_pool.specs.Shape.{ReservationValue}
 use Rattle.ipam_records.specs.declared.key.Key.{Key}
 use Rattle.ipam_records.specs.declared.key.Key.TheVariants as key
 use Rattle.ipam_records.specs.declared.call.Call.TheVariants.{Get}

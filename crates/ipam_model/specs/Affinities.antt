@@ -3,9 +3,9 @@ use Rattle.std.specs.Prelude.{ℕ, Bool, false, ◌==◌, List, Option, Some, No
 use Rattle.ipam_addr.specs.Shape.{CidrValue}
 use Rattle.ipam_block.specs.Shape as block
 use Rattle.ipam_block.specs.Operations.{fresh_block, next_block, affine_to}
-use Rattle.ipam_affinity.specs.declared.record.Affinity.{Affinity}
-use Rattle.ipam_affinity.specs.declared.state.State.{State}
-use Rattle.ipam_affinity.specs.declared.state.State.TheVariants.{Pending, Confirmed, PendingDeletion}
+use Rattle.ipam_block.specs.declared.record.Affinity.{Affinity}
+use Rattle.ipam_block.specs.declared.state.State.{State}
+use Rattle.ipam_block.specs.declared.state.State.TheVariants.{Pending, Confirmed, PendingDeletion}
 use Rattle.ipam_records.specs.declared.key.Key.TheVariants as key
 use Rattle.ipam_records.specs.declared.call.Call.{Call}
 use Rattle.ipam_records.specs.declared.call.Call.TheVariants.{Get, Create, Update, Delete}

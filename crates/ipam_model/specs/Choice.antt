@@ -6,12 +6,12 @@ use Rattle.ipam_addr.specs.Width.{cidr_size}
 use Rattle.ipam_addr.specs.Holding.{is_same_family}
 use Rattle.ipam_addr.specs.Slots.{last_slot_of, slot_of}
 use Rattle.ipam_pool.specs.declared.pools.Pool.{Pool}
-use Rattle.ipam_reserve.specs.Shape.{ReservationValue}
-use Rattle.ipam_reserve.specs.Union.{is_in_union}
+use Rattle.ipam_pool.specs.Shape.{ReservationValue}
+use Rattle.ipam_pool.specs.Union.{is_in_union}
 use Rattle.ipam_block.specs.Shape as block
 use Rattle.ipam_block.specs.Operations.{ordinal_address, room}
-use Rattle.ipam_affinity.specs.declared.state.State.{State}
-use Rattle.ipam_affinity.specs.declared.state.State.TheVariants.{Confirmed}
+use Rattle.ipam_block.specs.declared.state.State.{State}
+use Rattle.ipam_block.specs.declared.state.State.TheVariants.{Confirmed}
 use Rattle.ipam_record_text.specs.declared.config.Config.{Config}
 use Rattle.ipam_records.specs.declared.record.Record.TheVariants as record_of
 use Rattle.ipam_model.specs.declared.choice.Choice.{Choice}

@@ -9,7 +9,7 @@ use Rattle.ipam_handle.specs.Operations.{count_of}
 use Rattle.ipam_pool.specs.declared.pools.Pool.{Pool}
 use Rattle.ipam_pool.specs.Slots.{IsSlotOf}
 use Rattle.ipam_records.specs.declared.call.Call.TheVariants.{Get}
-use Rattle.ipam_affinity.specs.declared.state.State.TheVariants.{PendingDeletion}
+use Rattle.ipam_block.specs.declared.state.State.TheVariants.{PendingDeletion}
 use Rattle.ipam_records.specs.declared.key.Key.{Key}
 use Rattle.ipam_records.specs.declared.key.Key.TheVariants as key
 use Rattle.ipam_records.specs.declared.record.Record.{Record}

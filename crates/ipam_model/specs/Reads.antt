@@ -1,9 +1,9 @@
 -- What a request reads from a reply.
 use Rattle.std.specs.Prelude.{ℕ, true, false, List, [], Option, Some, None}
 use Rattle.ipam_pool.specs.declared.pools.Pool.{Pool}
-use Rattle.ipam_reserve.specs.Shape.{ReservationValue}
+use Rattle.ipam_pool.specs.Shape.{ReservationValue}
 use Rattle.ipam_block.specs.Shape as block
-use Rattle.ipam_affinity.specs.declared.record.Affinity.{Affinity}
+use Rattle.ipam_block.specs.declared.record.Affinity.{Affinity}
 use Rattle.ipam_handle.specs.Shape as handle
 use Rattle.ipam_handle.specs.Operations.{content}
 use Rattle.ipam_record_text.specs.declared.config.Config.{Config}

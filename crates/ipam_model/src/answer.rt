@@ -10,7 +10,7 @@ use ipam_text::{Seq, Text};
 /// An address that was given, with the moments of the calls that it rests on: the reads of the
 /// configuration (c), the pools (p) and the reservations (r), the lists of affinities (f) and
 /// blocks (b), and the write of the block (w).
-#[derive(Clone, Copy, Debug, PartialEq, Eq)]
+#[derive(Clone, Copy)]
 pub struct Given {
     /// The address, which the write at `w` assigned to the request's handle.
     pub address: Addr,
@@ -30,7 +30,7 @@ pub struct Given {
 
 /// An address that was asked for and given, with the moments of the reads of the configuration
 /// (c), the pools (p) and the block (b), and of the write of the block (w).
-#[derive(Clone, Copy, Debug, PartialEq, Eq)]
+#[derive(Clone, Copy)]
 pub struct GivenThis {
     /// The address, which the write at `w` assigned to the request's handle.
     pub address: Addr,
@@ -45,7 +45,7 @@ pub struct GivenThis {
 }
 
 /// What was looked at for a family, with the moments of the five reads.
-#[derive(Clone, Copy, Debug, PartialEq, Eq)]
+#[derive(Clone, Copy)]
 pub struct Scan {
     /// The family for which an address was looked for.
     pub family: Family,
@@ -62,7 +62,6 @@ pub struct Scan {
 }
 
 /// An address that was held by a handle that is not live.
-#[derive(Debug)]
 pub struct Item {
     /// The address that was held.
     pub address: Addr,
@@ -86,7 +85,6 @@ impl Drop for Item {
 }
 
 /// What a collection found, with the moments of its two lists of blocks.
-#[derive(Debug)]
 pub struct Collected {
     /// The moment of the list of blocks before the second list of live handles.
     pub b1: u64,
@@ -109,7 +107,6 @@ impl Drop for Collected {
 
 /// What a request is answered. A bare number is the moment of the read that decided it, where
 /// nothing else is said.
-#[derive(Debug)]
 pub enum Answer {
     /// One address for each wanted family, IPv4 first.
     Added(Seq<Given>),

@@ -1,7 +1,7 @@
 use ipam_addr::Cidr;
 
 /// Which address an ADD takes, or what it does to come to one.
-#[derive(Clone, Copy, Debug, PartialEq, Eq)]
+#[derive(Clone, Copy)]
 pub enum Choice {
     /// This ordinal of the node's own block.
     Use(Cidr, u16),

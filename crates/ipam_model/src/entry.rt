@@ -7,7 +7,7 @@ use ipam_text::{Seq, Text};
 use std::alloc::{AllocError, Global};
 
 /// What became of a call.
-#[derive(Clone, Copy, Debug, PartialEq, Eq)]
+#[derive(Clone, Copy)]
 pub enum Fate {
     /// It was done and answered.
     Well,
@@ -18,7 +18,7 @@ pub enum Fate {
 }
 
 /// What there is to do in a slot.
-#[derive(Clone, Copy, Debug, PartialEq, Eq)]
+#[derive(Clone, Copy, PartialEq, Eq)]
 pub enum SlotState {
     /// No request runs.
     Idle,
@@ -29,7 +29,7 @@ pub enum SlotState {
 }
 
 /// The name of a call: what it is about, without the record that it writes.
-#[derive(Debug, Drop)]
+#[derive(Drop)]
 pub enum CallName {
     /// Reads the record of this key.
     Get(Key),
@@ -44,7 +44,7 @@ pub enum CallName {
 }
 
 /// What the datastore answered, in short.
-#[derive(Clone, Copy, Debug, PartialEq, Eq)]
+#[derive(Clone, Copy)]
 pub enum Told {
     /// The call failed before the datastore answered.
     Nothing,
@@ -67,7 +67,7 @@ pub enum Told {
 }
 
 /// A call that was made for the request of a slot.
-#[derive(Debug, Drop)]
+#[derive(Drop)]
 pub struct Called {
     /// The number of the slot, from 0 to 63.
     pub slot: u8,
@@ -84,7 +84,7 @@ pub struct Called {
 }
 
 /// One thing that happened, in a slot.
-#[derive(Debug, Drop)]
+#[derive(Drop)]
 pub enum Entry {
     /// The request began in this slot, which was idle.
     Began(u8, Request),

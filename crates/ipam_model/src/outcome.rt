@@ -4,7 +4,7 @@ use ipam_addr::{Addr, Cidr};
 use ipam_text::{Seq, Text};
 
 /// A claim of a block by a node.
-#[derive(Clone, Copy, Debug, PartialEq, Eq)]
+#[derive(Clone, Copy)]
 pub enum ClaimAnswer {
     /// The block was written with the node, and then the affinity was confirmed.
     Confirmed,
@@ -17,7 +17,7 @@ pub enum ClaimAnswer {
 }
 
 /// A release of an affinity.
-#[derive(Clone, Copy, Debug, PartialEq, Eq)]
+#[derive(Clone, Copy)]
 pub enum ReleaseAnswer {
     /// The block was written without the node, and then the affinity was deleted.
     Released,
@@ -32,7 +32,7 @@ pub enum ReleaseAnswer {
 }
 
 /// An ADD without an address. `Again` has the lost races and the claims.
-#[derive(Debug, Drop)]
+#[derive(Drop)]
 pub enum AddAnswer {
     /// One address for each wanted family, IPv4 first.
     Added(Seq<Given>),
@@ -54,7 +54,7 @@ pub enum AddAnswer {
 }
 
 /// An ADD of one address.
-#[derive(Debug, Drop)]
+#[derive(Drop)]
 pub enum AddThisAnswer {
     /// The address that was asked for.
     AddedThis(GivenThis),
@@ -78,7 +78,7 @@ pub enum AddThisAnswer {
 }
 
 /// A DEL of a handle.
-#[derive(Clone, Copy, Debug, PartialEq, Eq)]
+#[derive(Clone, Copy)]
 pub enum DelAnswer {
     /// The handle was read at this moment. It holds nothing any more of what it held then.
     Deleted(u64),
@@ -90,7 +90,7 @@ pub enum DelAnswer {
 }
 
 /// The freeing of one assignment.
-#[derive(Clone, Copy, Debug, PartialEq, Eq)]
+#[derive(Clone, Copy)]
 pub enum FreeAnswer {
     /// The block was written without the assignment, and the handle's count was lowered.
     Freed,
@@ -103,7 +103,7 @@ pub enum FreeAnswer {
 }
 
 /// A CHECK of a handle.
-#[derive(Clone, Copy, Debug, PartialEq, Eq)]
+#[derive(Clone, Copy)]
 pub enum CheckAnswer {
     /// The handle held each address when the address's block was read.
     Checked,
@@ -113,7 +113,7 @@ pub enum CheckAnswer {
 }
 
 /// A collection.
-#[derive(Debug, Drop)]
+#[derive(Drop)]
 pub enum CollectAnswer {
     /// The leaks that were found. None of them is held any more.
     Collected(Collected),
@@ -125,7 +125,7 @@ pub enum CollectAnswer {
 }
 
 /// A change by an operator.
-#[derive(Debug, Drop)]
+#[derive(Drop)]
 pub enum AdminAnswer {
     /// The change was written, even where it made no difference. The write took this revision.
     Done(u64),
@@ -145,7 +145,7 @@ pub enum AdminAnswer {
 }
 
 /// A probe.
-#[derive(Debug, Drop)]
+#[derive(Drop)]
 pub enum ProbeAnswer {
     /// One scan for each wanted family, IPv4 first. By each of them an address could be taken or a
     /// block claimed.
@@ -158,7 +158,7 @@ pub enum ProbeAnswer {
 }
 
 /// An address that was given, with its block and its stamp.
-#[derive(Clone, Copy, Debug, PartialEq, Eq)]
+#[derive(Clone, Copy)]
 pub struct Gift {
     /// The address, with the moments of the reads and of the write.
     pub given: Given,
@@ -169,7 +169,7 @@ pub struct Gift {
 }
 
 /// What the rounds of a family come to.
-#[derive(Debug, Drop)]
+#[derive(Drop)]
 pub enum Served {
     /// An address was assigned.
     Gave(Gift),

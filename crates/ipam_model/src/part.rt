@@ -1,7 +1,7 @@
 //! What the parts of a request have in common.
 
 /// How many races a request may still lose and go on, and how many claims it may still confirm.
-#[derive(Clone, Copy, Debug, PartialEq, Eq)]
+#[derive(Clone, Copy)]
 pub struct Left {
     /// From 0 to 63. At 0 the next lost race stops the request.
     pub races: u32,
@@ -25,7 +25,7 @@ pub enum Stop {
 }
 
 /// A part comes to something or stops the request, with what is left.
-#[derive(Clone, Copy, Debug, Drop)]
+#[derive(Clone, Copy, Drop)]
 pub enum Outcome<A> {
     /// The part came to this, and the request goes on.
     Went(Left, A),
@@ -34,7 +34,7 @@ pub enum Outcome<A> {
 }
 
 /// The moment at which an address was assigned, and the stamp of its allocation.
-#[derive(Clone, Copy, Debug, PartialEq, Eq)]
+#[derive(Clone, Copy)]
 pub struct Assigned {
     /// The moment of the write of the block.
     pub moment: u64,

@@ -2,14 +2,12 @@ ghost use Rattle.std.specs.Prelude.{◌≡◌};
 
 use ipam_addr::{Addr, Cidr};
 use ipam_block::Attributes;
-use ipam_pool::Pool;
+use ipam_pool::{Pool, Reservation};
 use ipam_records::Config;
-use ipam_reserve::Reservation;
 use ipam_text::{Seq, Text};
 use std::alloc::AllocError;
 
 /// An address for each family that is wanted, or one address that is asked for.
-#[derive(Debug)]
 pub struct AddRequest {
     /// The name of the node that the address is for. In a sound request it has 1 to 253 bytes.
     pub node: Text,
@@ -63,7 +61,7 @@ impl Clone for AddRequest {
 }
 
 /// Whether an address of each family could be given.
-#[derive(Debug, Drop)]
+#[derive(Drop)]
 pub struct ProbeRequest {
     /// The name of the node that an address would be for. In a sound request it has 1 to 253 bytes.
     pub node: Text,
@@ -100,7 +98,6 @@ impl Clone for ProbeRequest {
 }
 
 /// A collection of the addresses whose handles are live in neither of two lists.
-#[derive(Debug)]
 pub struct CollectRequest {
     /// The first list of live handles.
     pub live: Seq<Text>,
@@ -124,7 +121,7 @@ impl Drop for CollectRequest {
 }
 
 /// A change of the pools, the reservations or the configuration.
-#[derive(Debug, Drop)]
+#[derive(Drop)]
 pub enum Admin {
     /// Appends a pool, or sets the rest of the one of this name, CIDR and size.
     Pool(Pool),
@@ -139,7 +136,6 @@ pub enum Admin {
 }
 
 /// What the allocator is asked.
-#[derive(Debug)]
 pub enum Request {
     /// An address for each wanted family, of which a sound request has at least one.
     Add(AddRequest),

@@ -3,7 +3,7 @@ use Rattle.std.specs.Prelude.{true, [], ◌∷◌, ◌++◌, Some, None, codes}
 use Rattle.ipam_records.specs.declared.key.Key.TheVariants as key
 use Rattle.ipam_records.specs.declared.key.Kind.TheVariants as kind
 use Rattle.ipam_records.specs.declared.record.Record.TheVariants as record_of
-use Rattle.ipam_reserve.specs.Shape.{ReservationValue}
+use Rattle.ipam_pool.specs.Shape.{ReservationValue}
 use Rattle.ipam_model.specs.declared.answer.Answer.TheVariants as answer
 use Rattle.ipam_model.specs.declared.entry.CallName.TheVariants as name
 use Rattle.ipam_model.specs.declared.entry.Entry.TheVariants as entry

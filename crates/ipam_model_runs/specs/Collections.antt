@@ -1,7 +1,7 @@
 -- Collections of addresses that no live handle owns.
 use Rattle.std.specs.Prelude.{ℕ, ◌+◌, Bool, true, false, List, [], ◌∷◌, ◌++◌, Option, Some, None, codes}
 use Rattle.ipam_block.specs.declared.allocation.Allocation.{Allocation}
-use Rattle.ipam_affinity.specs.declared.state.State.TheVariants.{Confirmed}
+use Rattle.ipam_block.specs.declared.state.State.TheVariants.{Confirmed}
 use Rattle.ipam_records.specs.declared.key.Key.TheVariants as key
 use Rattle.ipam_records.specs.declared.key.Kind.TheVariants as kind
 use Rattle.ipam_model.specs.declared.answer.Answer.{Answer}

@@ -1,6 +1,6 @@
 -- DELs.
 use Rattle.std.specs.Prelude.{[], ◌∷◌, Some, None, codes}
-use Rattle.ipam_affinity.specs.declared.state.State.TheVariants.{Confirmed}
+use Rattle.ipam_block.specs.declared.state.State.TheVariants.{Confirmed}
 use Rattle.ipam_handle.specs.Operations.{content}
 use Rattle.ipam_records.specs.declared.key.Key.TheVariants as key
 use Rattle.ipam_records.specs.declared.record.Record.TheVariants as record_of

@@ -1,7 +1,7 @@
 -- A manual pool gives addresses to those that name it or ask for one of its own.
 use Rattle.std.specs.Prelude.{◌≡◌, ℕ, List, [], ◌∷◌, ◌++◌, Err, Some, None, codes}
 use Rattle.ipam_addr.specs.declared.address.Family.TheVariants.{V4}
-use Rattle.ipam_affinity.specs.declared.state.State.TheVariants.{Confirmed}
+use Rattle.ipam_block.specs.declared.state.State.TheVariants.{Confirmed}
 use Rattle.ipam_pool.specs.declared.pools.Mode.TheVariants.{Manual}
 use Rattle.ipam_pool.specs.declared.pools.Pool.{Pool}
 use Rattle.ipam_record_text.specs.declared.fault.BodyFault.TheVariants.{Form}

@@ -1,6 +1,6 @@
 -- ADDs of one address.
 use Rattle.std.specs.Prelude.{true, false, [], ◌∷◌, ◌++◌, Some, None, codes}
-use Rattle.ipam_affinity.specs.declared.state.State.TheVariants.{Pending, Confirmed}
+use Rattle.ipam_block.specs.declared.state.State.TheVariants.{Pending, Confirmed}
 use Rattle.ipam_records.specs.declared.key.Key.TheVariants as key
 use Rattle.ipam_records.specs.declared.record.Record.TheVariants as record_of
 use Rattle.ipam_model.specs.declared.answer.Answer.TheVariants as answer

@@ -1,6 +1,6 @@
 -- What the freeing of one address and a claim answer, where they are procedures of their own.
 use Rattle.std.specs.Prelude.{◌≡◌, ℕ, zero, suc, List, [], ◌∷◌, ◌++◌, Some, None, codes}
-use Rattle.ipam_affinity.specs.declared.state.State.TheVariants.{Pending, Confirmed, PendingDeletion}
+use Rattle.ipam_block.specs.declared.state.State.TheVariants.{Pending, Confirmed, PendingDeletion}
 use Rattle.ipam_records.specs.declared.key.Key.TheVariants as key
 use Rattle.ipam_records.specs.Said.{Said, Found, Missing, Can, Exists, Conflict, Full, Spent}
 use Rattle.ipam_model.specs.declared.entry.CallName.{CallName}

@@ -1,6 +1,6 @@
 -- ADDs and a DEL that lose races to an ADD.
 use Rattle.std.specs.Prelude.{◌≡◌, List, [], ◌∷◌, ◌++◌, Some, None, codes}
-use Rattle.ipam_affinity.specs.declared.state.State.TheVariants.{Pending, Confirmed}
+use Rattle.ipam_block.specs.declared.state.State.TheVariants.{Pending, Confirmed}
 use Rattle.ipam_records.specs.declared.key.Key.TheVariants as key
 use Rattle.ipam_model.specs.declared.answer.Answer.TheVariants as answer
 use Rattle.ipam_model.specs.declared.entry.CallName.TheVariants as name

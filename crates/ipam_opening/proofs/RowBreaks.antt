@@ -6,8 +6,8 @@ use Rattle.std.proofs.lemmas.Bool.{cases_Bool}
 use Rattle.std.proofs.lemmas.Slice.Eq.{bytes_eq-Decides}
 use Rattle.ipam_addr.specs.Shape.{CidrValue}
 use Rattle.ipam_addr.specs.Width.{IsCidr}
-use Rattle.ipam_affinity.specs.declared.state.State.{State}
-use Rattle.ipam_affinity.specs.declared.state.State.TheVariants.{Pending, Confirmed, PendingDeletion}
+use Rattle.ipam_block.specs.declared.state.State.{State}
+use Rattle.ipam_block.specs.declared.state.State.TheVariants.{Pending, Confirmed, PendingDeletion}
 use Rattle.ipam_pool.specs.declared.pools.Pool.{Pool}
 use Rattle.ipam_pool.specs.Slots.{is_slot_of}
 use Rattle.ipam_pool.proofs.SlotsLemmas.{any_slot}
@@ -26,7 +26,7 @@ use Rattle.ipam_model.specs.Opened.{Texts, Breaks, NoText, AnotherKey, NoTable, 
 use Rattle.ipam_model.specs.Reads.{StoredRecord}
 use Rattle.ipam_records.proofs.DatastoreLemmas.{row_key-row_of}
 use Rattle.ipam_records.proofs.RowKinds.{each-kind}
-use Rattle.ipam_affinity.specs.declared.record.Affinity.{Affinity}
+use Rattle.ipam_block.specs.declared.record.Affinity.{Affinity}
 use Rattle.ipam_block.specs.Shape as block
 use Rattle.ipam_model.specs.Affinities.{affinity}
 use Rattle.ipam_model.specs.AffinityLaw.{HasAffinity, HasNode}

@@ -2,8 +2,8 @@
 use Rattle.std.specs.Prelude.{ℕ, Bool, true, false, not, ◌&&◌, ◌||◌, ◌==◌, nat_lt, nat_le, List, [], Option, Some, None, is_none, option_map, Result, Ok, Err, if◌then◌else◌}
 use Rattle.std.specs.List.{list_any}
 use Rattle.ipam_addr.specs.Shape.{CidrValue}
-use Rattle.ipam_affinity.specs.declared.state.State.{State}
-use Rattle.ipam_affinity.specs.declared.state.State.TheVariants.{Confirmed}
+use Rattle.ipam_block.specs.declared.state.State.{State}
+use Rattle.ipam_block.specs.declared.state.State.TheVariants.{Confirmed}
 use Rattle.ipam_pool.specs.declared.pools.Pool.{Pool}
 use Rattle.ipam_pool.specs.Slots.{is_slot_of}
 use Rattle.ipam_records.specs.declared.call.Row.{Row as RowText}
@@ -22,7 +22,7 @@ use Rattle.ipam_model.specs.Reads.{StoredRecord}
 use Rattle.ipam_opening.specs.declared.rule.Rule.{Rule}
 use Rattle.ipam_opening.specs.declared.rule.Rule.TheVariants as rule
 use Rattle.ipam_records.specs.BlockLists.{is_node}
-pub use Rattle.ipam_affinity.specs.State.{is_confirmed}
+pub use Rattle.ipam_block.specs.State.{is_confirmed}
 
 abbrev pub number_of : Rule → ℕ
 number_of rule.Form = 1

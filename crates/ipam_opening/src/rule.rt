@@ -2,7 +2,7 @@ ghost use Rattle.std.specs.Prelude.{◌≡◌};
 ghost use Rattle.ipam_opening.specs.Rules.{number_of};
 
 /// The ten rules of the rows that are opened, by ascending number.
-#[derive(Clone, Copy, Debug, PartialEq, Eq)]
+#[derive(Clone, Copy)]
 pub(crate) enum Rule {
     /// Key and body are texts of the format.
     Form,

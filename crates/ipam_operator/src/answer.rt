@@ -11,7 +11,7 @@ use serde_json::Value;
 use std::alloc::{AllocError, Global};
 
 /// What the daemon answered the request of an operator.
-#[derive(Debug, Drop)]
+#[derive(Drop)]
 pub enum OperatorAnswer {
     /// The change was made.
     Done,

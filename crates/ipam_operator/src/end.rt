@@ -7,7 +7,7 @@ pub const LINK_FAULT: u8 = 10;
 pub const REPLY_FAULT: u8 = 11;
 
 /// How an operator's word over a daemon ended.
-#[derive(Clone, Copy, Debug, PartialEq, Eq)]
+#[derive(Clone, Copy, PartialEq, Eq)]
 pub enum End {
     /// All was done.
     Done,

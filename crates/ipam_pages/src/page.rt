@@ -15,7 +15,7 @@ use ipam_words::RowKind;
 use std::alloc::{AllocError, Global};
 
 /// Rows of one kind, and whether more of them come after these.
-#[derive(Debug, Drop)]
+#[derive(Drop)]
 pub struct Page {
     /// The revision of the datastore.
     pub revision: u64,

@@ -3,7 +3,7 @@ ghost use Rattle.std.specs.Prelude.{◌≡◌, ◌<◌};
 use std::marker::Model;
 
 /// How many addresses of a block: at least one.
-#[derive(Debug, Drop)]
+#[derive(Drop)]
 pub struct Amount {
     count: u32,
 }

@@ -12,7 +12,6 @@ use std::alloc::AllocError;
 use std::marker::Model;
 
 /// A block as it was read, with its revision. It may be written once more.
-#[derive(Debug)]
 pub struct FoundBlock {
     revision: u64,
     block: Block,
@@ -71,7 +70,7 @@ impl FoundBlock {
 }
 
 /// The CIDR of a block: it has at most 4,096 addresses.
-#[derive(Debug, Drop)]
+#[derive(Drop)]
 pub struct BlockCidr {
     cidr: Cidr,
 }

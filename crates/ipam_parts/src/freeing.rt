@@ -22,7 +22,7 @@ use ipam_records::{Call, Heard, Key, Record};
 use std::alloc::{AllocError, Global};
 
 /// What is freed of what a handle holds in a block.
-#[derive(Clone, Copy, Debug, PartialEq, Eq)]
+#[derive(Clone, Copy)]
 pub enum Picks {
     /// All of it.
     All,
@@ -32,7 +32,6 @@ pub enum Picks {
 
 /// Addresses of a block are freed that a handle holds, and its count is lowered: the call that is
 /// made next. The handle's id is lent to each call.
-#[derive(Debug)]
 pub struct Freeing {
     cidr: Cidr,
     picks: Picks,
@@ -51,7 +50,7 @@ impl Drop for Freeing {
     }
 }
 
-#[derive(Debug, Drop)]
+#[derive(Drop)]
 enum Stage {
     /// The block is read.
     Reads,
@@ -61,7 +60,7 @@ enum Stage {
 }
 
 /// The block as it is to be written, at the revision at which it was found, without so many.
-#[derive(Debug, Drop)]
+#[derive(Drop)]
 struct Freed {
     block: Block,
     revision: u64,
@@ -69,7 +68,7 @@ struct Freed {
 }
 
 /// Where a reply leads.
-#[derive(Debug, Drop)]
+#[derive(Drop)]
 enum Goes {
     To(Stage),
     /// A race was lost, and this is left.
@@ -80,7 +79,7 @@ enum Goes {
 }
 
 /// Where a reply led.
-#[derive(Debug, Drop)]
+#[derive(Drop)]
 pub struct FreeingTurned {
     goes: Goes,
 }

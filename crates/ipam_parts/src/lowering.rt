@@ -19,7 +19,6 @@ use std::alloc::{AllocError, Global};
 
 /// A handle's count of a block is lowered, by as much as the handle is known to have: the call that
 /// is made next. The handle's id is lent to each call.
-#[derive(Debug)]
 pub struct Lowering {
     cidr: Cidr,
     amount: Amount,
@@ -38,7 +37,7 @@ impl Drop for Lowering {
     }
 }
 
-#[derive(Debug, Drop)]
+#[derive(Drop)]
 enum Stage {
     /// The handle is read.
     Reads,
@@ -47,14 +46,14 @@ enum Stage {
 
 /// The handle as it is to be written, at the revision at which it was found. One without counts is
 /// deleted.
-#[derive(Debug, Drop)]
+#[derive(Drop)]
 struct Lowered {
     handle: Handle,
     revision: u64,
 }
 
 /// Where a reply leads.
-#[derive(Debug, Drop)]
+#[derive(Drop)]
 enum Goes {
     Writes(Lowered),
     /// A race was lost, and this is left.
@@ -63,7 +62,7 @@ enum Goes {
 }
 
 /// Where a reply led.
-#[derive(Debug, Drop)]
+#[derive(Drop)]
 pub struct LoweringTurned {
     goes: Goes,
 }

@@ -18,7 +18,6 @@ use std::alloc::{AllocError, Global};
 
 /// A handle's count of a block is raised by one: the call that is made next. The handle's id is
 /// lent to each call.
-#[derive(Debug)]
 pub struct Raising {
     cidr: Cidr,
     left: Left,
@@ -35,7 +34,7 @@ impl Drop for Raising {
     }
 }
 
-#[derive(Debug, Drop)]
+#[derive(Drop)]
 enum Stage {
     /// The handle is read.
     Reads,
@@ -43,14 +42,14 @@ enum Stage {
 }
 
 /// The handle as it is to be written, at the revision at which it was found.
-#[derive(Debug, Drop)]
+#[derive(Drop)]
 struct Raised {
     handle: Handle,
     revision: Option<u64>,
 }
 
 /// Where a reply leads.
-#[derive(Debug, Drop)]
+#[derive(Drop)]
 enum Goes {
     Writes(Raised),
     /// A race was lost, and this is left.
@@ -59,7 +58,7 @@ enum Goes {
 }
 
 /// Where a reply led.
-#[derive(Debug, Drop)]
+#[derive(Drop)]
 pub struct RaisingTurned {
     goes: Goes,
 }

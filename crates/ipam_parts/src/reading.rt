@@ -6,9 +6,8 @@ ghost use Rattle.ipam_parts.specs.Reading.{found_revision, lent_block};
 
 use ipam_block::Block;
 use ipam_handle::Handle;
-use ipam_pool::PoolTable;
+use ipam_pool::{PoolTable, Reservation};
 use ipam_records::{Listing, Record, Reply};
-use ipam_reserve::Reservation;
 use ipam_text::Text;
 use std::alloc::{AllocError, Global};
 

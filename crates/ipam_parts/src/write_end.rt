@@ -4,7 +4,7 @@ ghost use Rattle.ipam_records.specs.Said.{said};
 use ipam_records::Reply;
 
 /// How a write ended.
-#[derive(Clone, Copy, Debug, PartialEq, Eq)]
+#[derive(Clone, Copy)]
 pub enum WriteEnd {
     /// It took this revision.
     Took(u64),

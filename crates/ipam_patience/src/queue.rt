@@ -31,7 +31,7 @@ pub struct Queue {
 }
 
 /// A place in a queue.
-#[derive(Clone, Copy, Debug)]
+#[derive(Clone, Copy)]
 pub struct Place {
     number: u64,
     /// How often its owner waited.
@@ -39,7 +39,7 @@ pub struct Place {
 }
 
 /// Those who had a place in a queue at some time.
-#[derive(Clone, Copy, Debug)]
+#[derive(Clone, Copy)]
 pub struct Others {
     // the number of the place behind theirs
     behind: u64,

@@ -8,7 +8,7 @@ use Rattle.ipam_addr.specs.Width.{size_of}
 use Rattle.ipam_addr.proofs.HoldingLemmas.{holds_from}
 use Rattle.ipam_addr.proofs.SlotLemmas.{slot_number_holds}
 use Rattle.ipam_pool.specs.declared.pools.Pool.{Pool}
-use Rattle.ipam_affinity.specs.declared.state.State.TheVariants.{Confirmed}
+use Rattle.ipam_block.specs.declared.state.State.TheVariants.{Confirmed}
 use Rattle.ipam_block.specs.declared.allocation.Allocation.{Allocation}
 use Rattle.ipam_block.specs.Operations.{ordinal_address, holder}
 use Rattle.ipam_block.specs.Shape.{BlockValue}

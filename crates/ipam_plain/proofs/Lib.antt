@@ -21,3 +21,7 @@ pub mod Readying
 pub mod Gaining
 pub mod GainingThis
 pub mod Following
+mod Ahead
+mod QueueSteps
+mod QueueHistory
+mod WholeHistories

@@ -9,8 +9,8 @@ use Rattle.ipam_block.specs.Operations.{ordinal_address, room}
 use Rattle.ipam_block.specs.Shape.{BlockValue}
 use Rattle.ipam_pool.specs.declared.pools.Pool.{Pool}
 use Rattle.ipam_record_text.specs.declared.config.Config.{Config}
-use Rattle.ipam_reserve.specs.Shape.{ReservationValue}
-use Rattle.ipam_reserve.specs.Union.{is_in_union}
+use Rattle.ipam_pool.specs.Shape.{ReservationValue}
+use Rattle.ipam_pool.specs.Union.{is_in_union}
 use Rattle.ipam_records.specs.declared.key.Key.TheVariants as key
 use Rattle.ipam_model.specs.Choice.{Foreign, Lacks, Own, Pick, Picks, Rank, Ranked, Seen, Unclaimed, Unconfirmed, Unknown, best_of_ranks, block_at, first_found, first_slot, first_slot_in, has_free_address, if_rank, is_block_of, is_confirmed_for, is_unowned_and_empty, may_claim, pick_of, pick_unless, rank_at, rank_number, rank_of, rank_of_block, ranked_at, room_of}
 use Rattle.ipam_model.specs.Plain.{Rows, seen_in}

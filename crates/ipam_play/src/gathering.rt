@@ -16,7 +16,7 @@ use std::alloc::{AllocError, Global};
 use std::collections::BTreeMap;
 
 /// Where the counter of a base is from.
-#[derive(Clone, Copy, Debug, PartialEq, Eq)]
+#[derive(Clone, Copy, PartialEq, Eq)]
 pub(crate) enum Counter {
     /// It is the greatest revision, or 0.
     Greatest,
@@ -25,7 +25,7 @@ pub(crate) enum Counter {
 }
 
 /// Why a row was not gathered.
-#[derive(Clone, Copy, Debug, PartialEq, Eq)]
+#[derive(Clone, Copy)]
 pub(crate) enum GatherFault {
     /// One of its key was given before.
     Again,

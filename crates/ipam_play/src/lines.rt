@@ -19,7 +19,7 @@ use std::alloc::{AllocError, Global};
 const LINE_LIMIT: usize = MOST_LINE_BYTES + 1;
 
 /// What comes next in a script.
-#[derive(Debug, Drop)]
+#[derive(Drop)]
 pub enum Next {
     /// A line that has a line end.
     Line(Line),

@@ -1,5 +1,5 @@
 /// How the run of a script ended.
-#[derive(Clone, Copy, Debug, PartialEq, Eq)]
+#[derive(Clone, Copy)]
 pub enum PlayEnd {
     /// All of it was played and written.
     Done,

@@ -17,7 +17,6 @@ pub enum Mode {
 }
 
 /// A CIDR whose addresses are given out, cut into slots of one size.
-#[derive(Debug)]
 pub struct Pool {
     /// The name. No other pool of the same table has it.
     pub name: Text,

@@ -15,7 +15,6 @@ use std::marker::Model;
 pub const MOST_POOLS: usize = 64;
 
 /// Pools with names of their own that share no address, in the order in which they were added.
-#[derive(Debug)]
 pub struct PoolTable {
     pools: Vec<Pool>,
 }

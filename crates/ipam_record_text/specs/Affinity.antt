@@ -4,9 +4,9 @@ use Rattle.serde_json.specs.Data.{Data, string}
 use Rattle.serde_json.specs.Written.{compact_text}
 use Rattle.ipam_addr.specs.Text.{cidr_text_of}
 use Rattle.ipam_addr.specs.Names.{is_name_text}
-use Rattle.ipam_affinity.specs.State.{state_text, state_of}
-use Rattle.ipam_affinity.specs.declared.state.State.{State}
-use Rattle.ipam_affinity.specs.declared.record.Affinity.{Affinity}
+use Rattle.ipam_block.specs.State.{state_text, state_of}
+use Rattle.ipam_block.specs.declared.state.State.{State}
+use Rattle.ipam_block.specs.declared.record.Affinity.{Affinity}
 use Rattle.ipam_json.specs.Built.{object_of}
 use Rattle.ipam_record_text.specs.declared.fault.BodyFault.{BodyFault}
 use Rattle.ipam_json.specs.Members.{◌>>=◌, text_at}

@@ -9,8 +9,8 @@ use Rattle.ipam_addr.specs.Text.{cidr_text_of}
 use Rattle.ipam_addr.specs.Width.{IsCidr}
 use Rattle.ipam_addr.specs.Names.{is_name_text}
 use Rattle.ipam_json.specs.Built.{object_of, array_of}
-use Rattle.ipam_reserve.specs.declared.reservations.TheConstants.{MOST_CIDRS, MOST_RESERVATIONS}
-use Rattle.ipam_reserve.specs.Shape.{ReservationValue}
+use Rattle.ipam_pool.specs.declared.reservations.TheConstants.{MOST_CIDRS, MOST_RESERVATIONS}
+use Rattle.ipam_pool.specs.Shape.{ReservationValue}
 use Rattle.ipam_record_text.specs.declared.fault.BodyFault.{BodyFault}
 use Rattle.ipam_json.specs.Members.{◌>>=◌, only_if, items_at}
 use Rattle.ipam_record_text.specs.Reading.{body_reading}

@@ -6,7 +6,7 @@ ghost use Rattle.ipam_json.specs.Held.{held};
 use crate::blocks::{block_at, cidr_text, name_at};
 use crate::fault::BodyFault;
 use ipam_addr::Cidr;
-use ipam_affinity::{Affinity, State};
+use ipam_block::{Affinity, State};
 use ipam_json::{json_of, text_at};
 use ipam_text::Text;
 use serde_json::{Value, json};

@@ -9,7 +9,7 @@ use serde_json::{Value, json};
 use std::alloc::{AllocError, Global};
 
 /// How addresses are given out.
-#[derive(Clone, Copy, Debug, PartialEq, Eq)]
+#[derive(Clone, Copy)]
 pub struct Config {
     /// Whether no address of another node's block is given out.
     pub strict: bool,

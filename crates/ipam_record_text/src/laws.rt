@@ -1,11 +1,11 @@
 //! Laws of bodies. Each function does nothing: its contract is the law.
 ghost use Rattle.std.specs.Prelude.{◌≡◌, ◌≢◌, ℕ, List, Ok, Err};
 ghost use Rattle.std.specs.List.{AllByRecursion};
-ghost use Rattle.ipam_affinity.specs.declared.record.Affinity.{Affinity};
+ghost use Rattle.ipam_block.specs.declared.record.Affinity.{Affinity};
 ghost use Rattle.ipam_handle.specs.Shape.{HandleValue};
 ghost use Rattle.ipam_handle.specs.Sound.{IsHandleRecord};
 ghost use Rattle.ipam_pool.specs.declared.pools.Pool.{Pool};
-ghost use Rattle.ipam_reserve.specs.Shape.{ReservationValue};
+ghost use Rattle.ipam_pool.specs.Shape.{ReservationValue};
 ghost use Rattle.ipam_record_text.specs.declared.config.Config.{Config};
 ghost use Rattle.ipam_record_text.specs.declared.fault.BodyFault.TheVariants.{Form, Table};
 ghost use Rattle.ipam_record_text.specs.Config.{config_body, config_reading, IsConfigRecord};

@@ -1,7 +1,7 @@
 ghost use Rattle.std.specs.Prelude.{◌≡◌, ◌≢◌, ◌≤◌, [], ◌∷◌, ◌++◌, length, Err, Some, IfOk, List, map, option_map, option_and_then, bytes_eq, string_bytes, vec_len};
 ghost use Rattle.std.specs.List.{list_any};
 ghost use Rattle.serde_json.specs.View.{view, items_view};
-ghost use Rattle.ipam_reserve.specs.Shape.{ReservationValue};
+ghost use Rattle.ipam_pool.specs.Shape.{ReservationValue};
 ghost use Rattle.ipam_record_text.specs.Reservations.{cidr_data, reservation_data, reservations_data, reservations_body, cidr_in, cidrs_after, named_cidrs, reservation_in, may_follow, reservations_after, reservations_in, IsReservationsRecord};
 ghost use Rattle.ipam_json.specs.Held.{held};
 
@@ -9,7 +9,7 @@ use crate::blocks::{cidr_of, cidr_text, name_at};
 use crate::fault::BodyFault;
 use ipam_addr::Cidr;
 use ipam_json::{items_at, json_of};
-use ipam_reserve::{MOST_RESERVATIONS, Reservation};
+use ipam_pool::{MOST_RESERVATIONS, Reservation};
 use ipam_text::{Seq, Text};
 use serde_json::{Value, json};
 use std::alloc::{AllocError, Global};

@@ -1,11 +1,11 @@
 -- What holds of no row, and of a row of each kind of record, holds of whatever row is found.
 use Rattle.std.proofs.Common.{ℕ, List, Option, Some, None}
-use Rattle.ipam_affinity.specs.declared.record.Affinity.{Affinity}
+use Rattle.ipam_block.specs.declared.record.Affinity.{Affinity}
 use Rattle.ipam_block.specs.Shape.{BlockValue}
 use Rattle.ipam_handle.specs.Shape.{HandleValue}
 use Rattle.ipam_pool.specs.declared.pools.Pool.{Pool}
 use Rattle.ipam_record_text.specs.declared.config.Config.{Config}
-use Rattle.ipam_reserve.specs.Shape.{ReservationValue}
+use Rattle.ipam_pool.specs.Shape.{ReservationValue}
 use Rattle.ipam_records.specs.declared.record.Record.{Record}
 use Rattle.ipam_records.specs.declared.record.Record.TheVariants as record_of
 

@@ -8,7 +8,7 @@ use ipam_text::Text;
 
 /// What the datastore is asked. A write names its record, and the revision that the record is
 /// to have there.
-#[derive(Debug, Drop)]
+#[derive(Drop)]
 pub enum Call {
     /// Reads the record of this key.
     Get(Key),
@@ -58,7 +58,7 @@ pub enum Reply<'a> {
 }
 
 /// A write, with the revision that it takes.
-#[derive(Debug, Drop)]
+#[derive(Drop)]
 pub enum Write {
     /// The record with this revision, new or in place of the one of its key.
     Put(u64, Record),
@@ -67,7 +67,6 @@ pub enum Write {
 }
 
 /// A record as texts, as it is kept outside of the process.
-#[derive(Debug)]
 pub struct Row {
     /// The text of the record's key.
     pub key: Text,

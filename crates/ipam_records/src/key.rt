@@ -5,7 +5,6 @@ use ipam_text::Text;
 use std::alloc::AllocError;
 
 /// What a record is found by.
-#[derive(Debug)]
 pub enum Key {
     /// The configuration, of which there is one record at most.
     Config,
@@ -50,7 +49,7 @@ impl Clone for Key {
 }
 
 /// The records that are listed together.
-#[derive(Clone, Copy, Debug, PartialEq, Eq)]
+#[derive(Clone, Copy)]
 pub enum Kind {
     /// Blocks, listed by family, base and prefix.
     Block,

@@ -11,7 +11,7 @@ use std::alloc::{AllocError, Global};
 use std::cmp::Ordering;
 
 /// A key that borrows its texts, so that making one takes no memory.
-#[derive(Clone, Copy, Debug)]
+#[derive(Clone, Copy)]
 pub enum KeyRef<'a> {
     /// The configuration, of which there is one record at most.
     Config,

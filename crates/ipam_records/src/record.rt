@@ -2,17 +2,14 @@ ghost use Rattle.std.specs.Prelude.{◌≡◌, IfOk};
 
 use crate::key::Key;
 use crate::key_ref::KeyRef;
-use ipam_affinity::Affinity;
-use ipam_block::Block;
+use ipam_block::{Affinity, Block};
 use ipam_handle::Handle;
-use ipam_pool::PoolTable;
+use ipam_pool::{PoolTable, Reservation};
 use ipam_record_text::Config;
-use ipam_reserve::Reservation;
 use ipam_text::Seq;
 use std::alloc::{AllocError, Global};
 
 /// What the datastore keeps under a key.
-#[derive(Debug)]
 pub enum Record {
     /// How addresses are given out.
     Config(Config),

@@ -21,7 +21,6 @@ use std::alloc::{AllocError, Global};
 use std::collections::VecDeque;
 
 /// A CHECK of a handle and of addresses that it is to hold.
-#[derive(Debug)]
 pub struct CheckProc {
     id: Text,
     stage: Stage,
@@ -34,7 +33,7 @@ impl Drop for CheckProc {
 }
 
 /// The call that a CHECK makes next.
-#[derive(Debug, Drop)]
+#[derive(Drop)]
 enum Stage {
     /// The pools are read. These addresses are to be looked at.
     Reads(Seq<Addr>),
@@ -42,7 +41,7 @@ enum Stage {
 }
 
 /// An address that is looked for.
-#[derive(Clone, Copy, Debug, PartialEq, Eq)]
+#[derive(Clone, Copy)]
 enum Visit {
     /// In the slot that holds it.
     Slot(Addr, Cidr),
@@ -52,7 +51,7 @@ enum Visit {
 
 /// The address is looked for in the block of its slot, and then each of the others in its own. The
 /// pools were read at the moment.
-#[derive(Debug, Drop)]
+#[derive(Drop)]
 struct Looks {
     moment: u64,
     address: Addr,
@@ -61,7 +60,7 @@ struct Looks {
 }
 
 /// Where a reply leads.
-#[derive(Debug, Drop)]
+#[derive(Drop)]
 enum Goes {
     To(Stage),
     /// The address was held, and the next is looked at.
@@ -70,7 +69,7 @@ enum Goes {
 }
 
 /// Where a reply led a CHECK.
-#[derive(Debug, Drop)]
+#[derive(Drop)]
 pub struct CheckTurned {
     goes: Goes,
 }

@@ -16,7 +16,6 @@ use std::alloc::{AllocError, Global};
 use std::collections::VecDeque;
 
 /// A DEL of a handle: all that it holds is freed, block by block.
-#[derive(Debug)]
 pub struct DelProc {
     id: Text,
     stage: Stage,
@@ -29,7 +28,7 @@ impl Drop for DelProc {
 }
 
 /// The call that a DEL makes next.
-#[derive(Debug, Drop)]
+#[derive(Drop)]
 enum Stage {
     /// The handle is read.
     Reads,
@@ -38,7 +37,7 @@ enum Stage {
 
 /// What the handle holds in a block is freed, and then in each of the others. The handle was read
 /// at the moment.
-#[derive(Debug, Drop)]
+#[derive(Drop)]
 struct Frees {
     moment: u64,
     freeing: Freeing,
@@ -46,7 +45,7 @@ struct Frees {
 }
 
 /// Where a reply leads.
-#[derive(Debug, Drop)]
+#[derive(Drop)]
 enum Goes {
     To(Stage),
     /// The freeing goes on.
@@ -55,7 +54,7 @@ enum Goes {
 }
 
 /// Where a reply led a DEL.
-#[derive(Debug, Drop)]
+#[derive(Drop)]
 pub struct DelTurned {
     goes: Goes,
 }

@@ -17,7 +17,6 @@ use ipam_text::Text;
 use std::alloc::{AllocError, Global};
 
 /// The freeing of one assignment: of an address that is recorded to a handle with a stamp.
-#[derive(Debug)]
 pub struct FreeProc {
     id: Text,
     freeing: Freeing,
@@ -30,7 +29,7 @@ impl Drop for FreeProc {
 }
 
 /// Where a reply led the freeing of one assignment.
-#[derive(Debug, Drop)]
+#[derive(Drop)]
 pub struct FreeTurned {
     freeing: FreeingTurned,
 }

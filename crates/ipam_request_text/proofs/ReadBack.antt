@@ -23,7 +23,7 @@ use Rattle.ipam_record_text.specs.declared.config.Config.{Config as Settings}
 use Rattle.ipam_json.specs.Members.{◌>>=◌, only_if, in_32_bits, in_8_bits}
 use Rattle.ipam_record_text.specs.Reservations.{cidr_in, named_cidrs, cidr_data}
 use Rattle.ipam_record_text.proofs.ReservationLists.{cidr_in-cidr_data, cidrs_back}
-use Rattle.ipam_reserve.specs.Shape.{ReservationValue}
+use Rattle.ipam_pool.specs.Shape.{ReservationValue}
 use Rattle.ipam_records.specs.Sound.{IsReservation}
 use Rattle.ipam_model.specs.declared.request.AddRequest.{AddRequest}
 use Rattle.ipam_model.specs.declared.request.Admin.{Admin}

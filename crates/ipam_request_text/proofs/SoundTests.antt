@@ -15,7 +15,7 @@ use Rattle.ipam_block_text.proofs.Limited.{attributes_there, attributes_back}
 use Rattle.ipam_block_text.proofs.PairKeys.{keys_sorted, sorted_keys}
 use Rattle.ipam_select.specs.Sound.{is_sound}
 use Rattle.ipam_pool.specs.declared.pools.Pool.{Pool as OnePool}
-use Rattle.ipam_reserve.specs.Shape.{ReservationValue}
+use Rattle.ipam_pool.specs.Shape.{ReservationValue}
 use Rattle.ipam_record_text.specs.Blocks.{ok_cidr, cidr_of}
 use Rattle.ipam_record_text.specs.Pools.{IsSoundPool}
 use Rattle.ipam_records.specs.Sound.{IsHandleId, IsReservation}

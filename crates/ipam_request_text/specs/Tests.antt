@@ -9,8 +9,8 @@ use Rattle.ipam_select.specs.declared.limits.TheConstants.{LABELS_MAX, LABEL_KEY
 use Rattle.ipam_select.specs.Sound.{is_sound}
 use Rattle.ipam_pool.specs.declared.pools.Pool.{Pool as OnePool}
 use Rattle.ipam_pool.specs.declared.table.TheConstants.{MOST_POOLS}
-use Rattle.ipam_reserve.specs.declared.reservations.TheConstants.{MOST_CIDRS}
-use Rattle.ipam_reserve.specs.Shape.{ReservationValue}
+use Rattle.ipam_pool.specs.declared.reservations.TheConstants.{MOST_CIDRS}
+use Rattle.ipam_pool.specs.Shape.{ReservationValue}
 use Rattle.ipam_record_text.specs.Blocks.{cidr_of}
 use Rattle.ipam_block.specs.declared.limits.TheConstants.{CHECKED_MAX}
 use Rattle.ipam_model.specs.declared.request.AddRequest.{AddRequest}

@@ -11,9 +11,8 @@ use crate::parts::{address_value, addresses_value, cidr_value, cidrs_value, text
 use ipam_addr::{Addr, Cidr};
 use ipam_json::tagged;
 use ipam_model::{AddRequest, Admin, CollectRequest, ProbeRequest, Request};
-use ipam_pool::Pool;
+use ipam_pool::{Pool, Reservation};
 use ipam_records::Config;
-use ipam_reserve::Reservation;
 use ipam_text::Text;
 use serde_json::{Map, Value, json, put};
 use std::alloc::{AllocError, Global};

@@ -14,8 +14,7 @@ ghost use Rattle.ipam_model.specs.SoundRequest.{is_key_byte, IsLabel, AreLabels,
 use ipam_addr::{Addr, Cidr, is_handle_id, is_name, read_cidr};
 use ipam_block::{Attributes, CHECKED_MAX, KEY_BYTES_MAX, PAIRS_MAX, VALUE_BYTES_MAX};
 use ipam_model::{AddRequest, Admin, CollectRequest, ProbeRequest, Request};
-use ipam_pool::{MOST_POOLS, Pool};
-use ipam_reserve::Reservation;
+use ipam_pool::{MOST_POOLS, Pool, Reservation};
 use ipam_select::{LABEL_KEY_BYTES_MAX, LABEL_VALUE_BYTES_MAX, LABELS_MAX};
 use ipam_text::Text;
 

@@ -15,7 +15,7 @@ use Rattle.ipam_select.specs.Formula.{every}
 use Rattle.ipam_select.specs.Sound.{is_sound}
 use Rattle.ipam_pool.specs.declared.pools.Pool.{Pool}
 use Rattle.ipam_pool.specs.declared.pools.Mode.TheVariants.{Automatic}
-use Rattle.ipam_reserve.specs.Shape.{ReservationValue}
+use Rattle.ipam_pool.specs.Shape.{ReservationValue}
 use Rattle.ipam_record_text.specs.declared.config.Config.{Config as Settings}
 use Rattle.ipam_record_text.specs.Pools.{IsSoundPool}
 use Rattle.ipam_record_text.specs.Reservations.{IsReservation, named_cidrs, cidr_in}

@@ -7,7 +7,7 @@ use Rattle.ipam_select.specs.Formula.{every}
 use Rattle.ipam_pool.specs.declared.pools.Pool.{Pool}
 use Rattle.ipam_pool.specs.declared.pools.Mode.{Mode}
 use Rattle.ipam_pool.specs.declared.pools.Mode.TheVariants.{Automatic}
-use Rattle.ipam_reserve.specs.Shape.{ReservationValue}
+use Rattle.ipam_pool.specs.Shape.{ReservationValue}
 use Rattle.ipam_record_text.specs.declared.config.Config.{Config as Settings}
 use Rattle.ipam_record_text.specs.Reservations.{cidr_in, named_cidrs}
 use Rattle.ipam_model.specs.declared.request.Admin.TheVariants as change

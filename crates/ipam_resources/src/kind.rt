@@ -2,7 +2,7 @@ ghost use Rattle.std.specs.Prelude.{◌≡◌};
 ghost use Rattle.ipam_resources.specs.Naming.{resource_kind_text, kind_of, is_list_kind, document_kind_of};
 
 /// The kinds of resources.
-#[derive(Clone, Copy, Debug, PartialEq, Eq)]
+#[derive(Clone, Copy)]
 pub enum ResourceKind {
     /// `IPPool`
     Pool,
@@ -46,7 +46,7 @@ impl ResourceKind {
 }
 
 /// What a document holds.
-#[derive(Clone, Copy, Debug, PartialEq, Eq)]
+#[derive(Clone, Copy)]
 pub(crate) enum DocumentKind {
     /// One resource, which the document itself is.
     One(ResourceKind),

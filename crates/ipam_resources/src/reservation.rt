@@ -14,7 +14,7 @@ use crate::ranges::ranges_in;
 use crate::resource::Resource;
 use ipam_addr::Cidr;
 use ipam_model::Admin;
-use ipam_reserve::Reservation;
+use ipam_pool::Reservation;
 use ipam_text::{Seq, Text};
 use serde_json::Value;
 use std::alloc::{AllocError, Global};

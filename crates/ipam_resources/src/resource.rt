@@ -3,7 +3,7 @@ use ipam_model::Admin;
 use ipam_text::Text;
 
 /// What a resource of an operator's document changes.
-#[derive(Debug, Drop)]
+#[derive(Drop)]
 pub struct Resource {
     /// The kind that the resource states.
     pub kind: ResourceKind,

@@ -13,7 +13,6 @@ use std::alloc::{AllocError, Global};
 
 /// The release of a node's affinity to a CIDR that is too large for a block. No node has one, so its
 /// one read decides.
-#[derive(Debug)]
 pub struct AbsentRelease {
     node: Text,
     cidr: LargeCidr,
@@ -26,7 +25,7 @@ impl Drop for AbsentRelease {
 }
 
 /// The read of a release that finds no affinity.
-#[derive(Clone, Copy, Debug)]
+#[derive(Clone, Copy)]
 pub struct AbsentTurned {
     moment: u64,
 }

@@ -6,7 +6,7 @@ use ipam_addr::Cidr;
 use std::marker::Model;
 
 /// A CIDR that is too large for a block.
-#[derive(Debug, Drop)]
+#[derive(Drop)]
 pub(crate) struct LargeCidr {
     cidr: Cidr,
 }

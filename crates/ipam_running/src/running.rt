@@ -23,7 +23,6 @@ use ipam_text::Text;
 use std::alloc::{AllocError, Global};
 
 /// A request that runs: the procedure that serves it, whichever it is.
-#[derive(Debug)]
 pub struct Running {
     pub(crate) kept: Kept,
 }
@@ -35,7 +34,7 @@ impl Drop for Running {
 }
 
 /// The procedure of a request.
-#[derive(Debug, Drop)]
+#[derive(Drop)]
 pub(crate) enum Kept {
     Add(AddProc),
     AddThis(AddThisProc),
@@ -50,7 +49,6 @@ pub(crate) enum Kept {
 }
 
 /// Where a reply led what runs.
-#[derive(Debug)]
 pub struct RunningTurned {
     pub(crate) turned: Turned,
 }
@@ -71,7 +69,7 @@ impl RunningTurned {
 }
 
 /// Where a reply led the procedure.
-#[derive(Debug, Drop)]
+#[derive(Drop)]
 pub(crate) enum Turned {
     Add(AddTurned),
     AddThis(AddThisTurned),

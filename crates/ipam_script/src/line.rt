@@ -3,7 +3,7 @@ use ipam_records::Row;
 use ipam_text::{Seq, Text};
 
 /// What a line of a script asks. A slot is a number from 0 to 63.
-#[derive(Debug, Drop)]
+#[derive(Drop)]
 pub enum Line {
     /// A row that is there at the beginning. Its key and its body may be none.
     Row(Row),

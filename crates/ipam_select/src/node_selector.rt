@@ -4,11 +4,9 @@ ghost use Rattle.ipam_select.specs.Admitting.{admits};
 ghost use Rattle.ipam_select.specs.Every.{is_every};
 ghost use Rattle.ipam_select.specs.Sound.{is_sound, IsReadOfSome};
 
-use crate::printing::push_selector;
 use crate::selector::Selector;
 use ipam_text::Text;
 use std::alloc::{AllocError, Global};
-use std::fmt;
 use std::marker::Model;
 
 /// A selector with what its copies are made in, which contracts see as the formula that it stands
@@ -92,16 +90,5 @@ impl Clone for NodeSelector {
     fn clone(&self) -> Result<NodeSelector, AllocError> {
         let selector = self.selector.copy(self.alloc)?;
         Ok(NodeSelector::new(self.alloc, selector))
-    }
-}
-
-/// The printed form.
-impl fmt::Debug for NodeSelector {
-    fn fmt<W: fmt::Write>(&self, f: &mut fmt::Formatter<W>) -> fmt::Result {
-        let mut text = String::new(self.alloc);
-        match push_selector(&mut text, &self.selector) {
-            Ok(()) => f.write_str(text.as_str()),
-            Err(_) => Err(fmt::Error),
-        }
     }
 }

@@ -14,7 +14,7 @@ pub(crate) enum Token {
 }
 
 /// A token that has one spelling.
-#[derive(Clone, Copy, PartialEq, Eq, Debug)]
+#[derive(Clone, Copy, PartialEq, Eq)]
 pub(crate) enum Mark {
     Open,
     Close,
@@ -34,7 +34,7 @@ pub(crate) enum Mark {
 }
 
 /// What stands between a key and its values.
-#[derive(Clone, Copy, PartialEq, Eq, Debug)]
+#[derive(Clone, Copy)]
 pub(crate) enum Operator {
     Equals,
     Differs,

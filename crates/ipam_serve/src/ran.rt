@@ -1,7 +1,7 @@
 use ipam_model::Answer;
 
 /// What became of a request that ran.
-#[derive(Debug, Drop)]
+#[derive(Drop)]
 pub enum Ran {
     /// It came to this answer.
     Answered(Answer),

@@ -133,7 +133,7 @@ fn not_called(fault: SharedFault<PrepareFault>) -> Result<Option<Ran>, Broken>
 }
 
 /// What became of a second list.
-#[derive(Clone, Copy, Debug, PartialEq, Eq)]
+#[derive(Clone, Copy)]
 pub(crate) enum Feeding {
     Fed,
     /// The grace is not over.

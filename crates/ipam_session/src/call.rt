@@ -13,7 +13,7 @@ use ipam_text::Text;
 use std::alloc::{AllocError, Global};
 
 /// What a call comes to before anything runs.
-#[derive(Debug, Drop)]
+#[derive(Drop)]
 pub enum CallBegun {
     /// The reply is this status and this text, at once.
     Told(u8, Text),

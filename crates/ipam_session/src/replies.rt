@@ -20,7 +20,7 @@ use serde_json::{Value, json};
 use std::alloc::{AllocError, Global};
 
 /// What a line is replied.
-#[derive(Debug, Drop)]
+#[derive(Drop)]
 pub enum Reply {
     /// The status and the standard output of a CNI call.
     Called(u8, Text),

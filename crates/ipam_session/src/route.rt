@@ -2,7 +2,7 @@ use ipam_feed::Change;
 use ipam_text::Seq;
 
 /// What became of the routes after a revision.
-#[derive(Debug, Drop)]
+#[derive(Drop)]
 pub enum Since {
     /// The datastore's revision, and the changes up to it.
     Changes(u64, Seq<Change>),

@@ -4,7 +4,7 @@ use ipam_text::{Seq, Text};
 use ipam_words::RowKind;
 
 /// What a line of a session asks.
-#[derive(Debug, Drop)]
+#[derive(Drop)]
 pub enum Wish {
     /// A CNI call with this environment and this standard input.
     Cni(Seq<(Text, Text)>, Text),

@@ -1,7 +1,7 @@
 -- The table of blocks.
 use Rattle.std.specs.Prelude.{ℕ, ◌==◌, List, [], ◌∷◌, ◌++◌, codes, decimal, map, Option, Some, None, if◌then◌else◌}
 use Rattle.ipam_addr.specs.Text.{cidr_text_of}
-use Rattle.ipam_affinity.specs.declared.state.State.{State}
+use Rattle.ipam_block.specs.declared.state.State.{State}
 use Rattle.ipam_records.specs.Datastore.{Datastore}
 use Rattle.ipam_show.specs.declared.counting.BlockCount.{BlockCount}
 use Rattle.ipam_show.specs.Columns.{Cells, table_text}

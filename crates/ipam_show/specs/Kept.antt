@@ -1,10 +1,10 @@
 -- What a datastore keeps, as a request reads it.
 use Rattle.std.specs.Prelude.{ℕ, Bool, List, Option, option_map}
 use Rattle.ipam_addr.specs.Shape.{AddrValue, CidrValue}
-use Rattle.ipam_affinity.specs.declared.state.State.{State}
+use Rattle.ipam_block.specs.declared.state.State.{State}
 use Rattle.ipam_pool.specs.declared.pools.Pool.{Pool}
-use Rattle.ipam_reserve.specs.Shape.{ReservationValue}
-use Rattle.ipam_reserve.specs.Union.{is_in_union}
+use Rattle.ipam_pool.specs.Shape.{ReservationValue}
+use Rattle.ipam_pool.specs.Union.{is_in_union}
 use Rattle.ipam_records.specs.declared.call.Call.TheVariants.{Get}
 use Rattle.ipam_records.specs.declared.key.Key.TheVariants as key
 use Rattle.ipam_records.specs.declared.key.Kind.TheVariants as kind

@@ -1,4 +1,4 @@
--- What the operator is shown of a datastore.
+-- What the operator is shown of a datastore, and what `get` and `show` tell of rows.
 pub mod Kept
 pub mod Counts
 pub mod Scopes
@@ -10,3 +10,5 @@ pub mod Blocks
 pub mod Node
 pub mod Address
 pub mod Usage
+pub mod Rows
+pub mod Shown

@@ -1,7 +1,7 @@
 -- The texts of cells.
 use Rattle.std.specs.Prelude.{ℕ, ◌*◌, ◌/◌, List, ◌++◌, codes, decimal, Option, Some, None}
-use Rattle.ipam_affinity.specs.declared.state.State.{State}
-use Rattle.ipam_affinity.specs.State.{state_text}
+use Rattle.ipam_block.specs.declared.state.State.{State}
+use Rattle.ipam_block.specs.State.{state_text}
 
 -- how many of a hundred, rounded down
 abbrev pub percent_of : (used size : ℕ) → ℕ

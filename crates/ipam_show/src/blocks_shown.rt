@@ -8,7 +8,7 @@ use crate::cells::{cidr_cell, node_cell, number_cell, state_cell};
 use crate::counting::{BlockCount, counts_kept};
 use crate::keeping::state_kept;
 use crate::tables::table_text;
-use ipam_affinity::State;
+use ipam_block::State;
 use ipam_store::Store;
 use ipam_text::{Seq, Text};
 use std::alloc::{AllocError, Global};

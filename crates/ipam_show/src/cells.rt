@@ -5,7 +5,7 @@ ghost use Rattle.ipam_addr.specs.Width.{cidr_size};
 ghost use Rattle.ipam_show.specs.Words.{node_word, percent_of, percent_text, state_word};
 
 use ipam_addr::{Cidr, push_cidr};
-use ipam_affinity::State;
+use ipam_block::State;
 use ipam_text::Text;
 use itoa::Buffer;
 use std::alloc::{AllocError, Global};

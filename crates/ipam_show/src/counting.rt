@@ -1,7 +1,7 @@
 //! The addresses of each block, counted.
 ghost use Rattle.std.specs.Prelude.{◌≡◌, ◌<◌, ◌≤◌, ◌^◌, ◌++◌, length, IfOk, OnOk, codes};
 ghost use Rattle.std.specs.Option.{option_copied};
-ghost use Rattle.ipam_reserve.specs.Spans.{is_reserved_by};
+ghost use Rattle.ipam_pool.specs.Spans.{is_reserved_by};
 ghost use Rattle.ipam_records.specs.Datastore.{most_blocks};
 ghost use Rattle.ipam_records.specs.Pages.{rows_of_pages};
 ghost use Rattle.ipam_model.specs.Pairs.{value_of};
@@ -11,14 +11,13 @@ ghost use Rattle.ipam_show.specs.Kept.{blocks_kept};
 use crate::keeping::{block_pages, reservations_kept};
 use ipam_addr::{Cidr, Spared};
 use ipam_block::{Allocation, Block};
+use ipam_pool::Reserved;
 use ipam_records::Record;
-use ipam_reserve::Reserved;
 use ipam_store::Store;
 use ipam_text::Text;
 use std::alloc::{AllocError, Global};
 
 /// One block: where it is, and how many of its addresses are used, free and borrowed.
-#[derive(Debug)]
 pub(crate) struct BlockCount {
     /// The addresses of the block.
     pub(crate) cidr: Cidr,

@@ -4,10 +4,9 @@ ghost use Rattle.ipam_records.specs.Pages.{rows_of_pages};
 ghost use Rattle.ipam_show.specs.Kept.{blocks_kept, pools_kept, reservations_kept, state_kept};
 
 use ipam_addr::Cidr;
-use ipam_affinity::State;
-use ipam_pool::Pool;
+use ipam_block::State;
+use ipam_pool::{Pool, Reservation};
 use ipam_records::{Call, Key, Kind, Record, Reply};
-use ipam_reserve::Reservation;
 use ipam_store::Store;
 use ipam_text::Text;
 use std::alloc::{AllocError, Global};

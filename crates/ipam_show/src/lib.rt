@@ -1,4 +1,5 @@
-//! The operator's view of a datastore: its pools, its blocks, one address, one node.
+//! The operator's view of a datastore: its pools, its blocks, one address, one node. And what `get` and `show`
+//! tell of rows, wherever the rows come from.
 #![tactic(auto)]
 
 mod address_shown;
@@ -9,6 +10,8 @@ mod json_shown;
 mod keeping;
 mod node_shown;
 mod pools_shown;
+mod rows;
+mod shown;
 mod sums;
 mod tables;
 mod usage;
@@ -18,4 +21,6 @@ pub use blocks_shown::show_blocks;
 pub use json_shown::show_json;
 pub use node_shown::show_node;
 pub use pools_shown::show_pools;
+pub use rows::rows_text;
+pub use shown::shown_text;
 pub use usage::{PoolUsage, pools_usage};

@@ -15,7 +15,6 @@ use ipam_text::Text;
 use std::alloc::{AllocError, Global};
 
 /// A pool, and what its blocks come to.
-#[derive(Debug)]
 pub struct PoolUsage {
     /// The addresses of the pool.
     pub cidr: Cidr,

@@ -3,7 +3,7 @@ ghost use Rattle.std.specs.Prelude.{◌≡◌};
 ghost use Rattle.ipam_socket.specs.Addresses.{IsAddressOf};
 
 /// Where a daemon is reached, as a word of the command line says it.
-#[derive(Clone, Copy, Debug)]
+#[derive(Clone, Copy)]
 pub enum Address<'a> {
     /// The path of a Unix stream socket file, from the root.
     File(&'a str),

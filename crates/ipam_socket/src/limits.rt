@@ -2,7 +2,7 @@
 use std::time::Duration;
 
 /// How long a link waits before it fails.
-#[derive(Clone, Copy, Debug)]
+#[derive(Clone, Copy)]
 pub struct Limits {
     /// For the whole first line.
     pub first: Duration,

@@ -10,7 +10,7 @@ use std::os::unix::net::UnixStream;
 use std::time::Duration;
 
 /// A connection over a Unix stream socket or over TCP. It may be read and written by `&`.
-#[derive(Debug, Drop)]
+#[derive(Drop)]
 pub enum Stream {
     /// A connection over a socket file.
     File(UnixStream),

@@ -10,7 +10,7 @@ const LINE_FEED: u8 = b'\n';
 
 /// How much longer is waited for a line. Only the time that is spent waiting for bytes counts, and
 /// so no client is cut off for what its daemon takes to answer.
-#[derive(Clone, Copy, Debug)]
+#[derive(Clone, Copy)]
 pub struct Waits {
     limits: Limits,
     /// Whether the time that is left is that of a line that has begun, or of the first.

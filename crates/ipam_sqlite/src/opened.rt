@@ -21,7 +21,7 @@ const COMMIT: &str = "COMMIT";
 const REMOVE: &str = "DELETE FROM rows WHERE key = ?1";
 
 /// When changes are put on the disk.
-#[derive(Clone, Copy, Debug, PartialEq, Eq)]
+#[derive(Clone, Copy)]
 pub enum Syncs {
     /// Each change is on the disk before its call answers.
     AtOnce,

@@ -1,6 +1,6 @@
 //! What a ring reports, as tables.
 use crate::rings::{Made, Step, changes_text, ring_after, routes_text};
-use ipam_affinity::State;
+use ipam_block::State;
 use ipam_feed::{Ring, SinceFault};
 use std::alloc::{AllocError, Global};
 use std::process::Abort;

@@ -3,7 +3,7 @@ ghost use Rattle.std.specs.Prelude.{◌≡◌, IfOk};
 ghost use Rattle.ipam_feed.specs.Feed.{write_revision};
 
 use ipam_addr::{push_cidr, read_cidr};
-use ipam_affinity::{Affinity, State};
+use ipam_block::{Affinity, State};
 use ipam_feed::{Change, Ring, Route};
 use ipam_records::{Key, Listing, Record, Write};
 use ipam_text::Text;

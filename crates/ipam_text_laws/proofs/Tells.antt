@@ -2,7 +2,7 @@
 use Rattle.std.proofs.Common.{ℕ, zero, suc, ◌-◌, List, Option, Some, None, arith}
 use Rattle.std.specs.List.{AllByRecursion}
 use Rattle.ipam_block.specs.Sound.{IsBlockRecord}
-use Rattle.ipam_affinity.specs.declared.record.Affinity.{Affinity}
+use Rattle.ipam_block.specs.declared.record.Affinity.{Affinity}
 use Rattle.ipam_records.specs.declared.record.Record.{Record}
 use Rattle.ipam_records.specs.declared.record.Record.TheVariants as record_of
 use Rattle.ipam_records.specs.Key.{key_of}

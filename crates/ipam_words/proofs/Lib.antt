@@ -2,3 +2,4 @@ mod AddressLemmas
 mod NumberLemmas
 mod SlashLemmas
 mod WordLemmas
+mod GivenLemmas

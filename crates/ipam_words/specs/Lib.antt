@@ -3,3 +3,5 @@ pub mod Kinds
 pub mod Views
 pub mod Words
 pub mod Daemon
+pub mod Upkeep
+pub mod Given

@@ -3,7 +3,7 @@ use crate::view::View;
 use ipam_addr::Cidr;
 
 /// What the words of a command line ask.
-#[derive(Clone, Copy, Debug)]
+#[derive(Clone, Copy)]
 pub enum Command<'a> {
     /// One CNI call, over the database.
     Cni,

@@ -7,7 +7,7 @@ use crate::command::Command;
 use crate::reading::read_words;
 
 /// What a daemon is asked.
-#[derive(Clone, Copy, Debug)]
+#[derive(Clone, Copy)]
 pub struct DaemonAsk<'a> {
     /// The daemon's address, which is any text.
     pub address: &'a str,

@@ -3,7 +3,7 @@ ghost use Rattle.std.specs.List.{before_first};
 ghost use Rattle.ipam_words.specs.Kinds.{is_key_of_kind, is_slash, kind_named, kind_word};
 
 /// A kind of rows, as an operator names it.
-#[derive(Clone, Copy, Debug, PartialEq, Eq)]
+#[derive(Clone, Copy)]
 pub enum RowKind {
     /// The one row of the configuration.
     Config,

@@ -1,7 +1,7 @@
 use ipam_addr::Addr;
 
 /// What an operator is shown of a datastore.
-#[derive(Clone, Copy, Debug)]
+#[derive(Clone, Copy)]
 pub enum View<'a> {
     /// The pools, in a table.
     Pools,

@@ -1,15 +1,13 @@
 //! The operator's words over a running daemon.
 ghost use Rattle.std.specs.Prelude.{◌≡◌, codes, map, option_map, string_bytes};
-ghost use Rattle.ipam_environment.specs.Daemon.{address_of};
-ghost use Rattle.ipam_environment.specs.Values.{last_value};
+ghost use Rattle.ipam_call.specs.Daemon.{address_of};
+ghost use Rattle.ipam_call.specs.Values.{last_value};
 ghost use Rattle.ipam_words.specs.Daemon.{ask_of, daemon_asked};
 
 use crate::telling::{tell_unasked, tell_unreached};
 use crate::viewed::Viewed;
-use ipam_asked_rows::get;
-use ipam_asked_views::show;
-use ipam_client::{Address, Connector, Connects, Limits};
-use ipam_environment::daemon_named;
+use ipam_asked::{get, show};
+use ipam_call::{Address, Connector, Connects, Limits, daemon_named};
 use ipam_io::{Link, Sink, StdSink, StdSource};
 use ipam_operator::{apply, release, routes, unreached};
 use ipam_text::Seq;

@@ -1,7 +1,7 @@
 //! The program: its commands over standard input and output, and over a database file, and its daemon.
 #![tactic(auto)]
 
-ghost use Rattle.ipam_upkeep.specs.Words.{IsFit, of_upkeep};
+ghost use Rattle.ipam_words.specs.Upkeep.{IsFit, of_upkeep};
 
 mod asking;
 mod new_file;
@@ -14,14 +14,14 @@ mod upkeep;
 mod viewed;
 
 use asking::{ask, asked_of};
-use ipam_client::call;
+use ipam_call::{Database, call, call_variables, daemon_named, database_named};
 use ipam_command::{DONE, NO_MEMORY, WRITE_FAULT};
 use ipam_daemon::Host;
-use ipam_environment::{Database, call_variables, daemon_named, database_named};
 use ipam_io::{Sink, StdSink, StdSource};
 use ipam_text::Seq;
-use ipam_upkeep::{Upkeep, UpkeepAsk, help_asked, help_of, help_text, upkeep_asked};
-use ipam_words::{Command, read_words};
+use ipam_words::{
+    Command, Upkeep, UpkeepAsk, help_asked, help_of, help_text, read_words, upkeep_asked,
+};
 use process::{entries_of, words_of};
 use serving::serve_database;
 use std::alloc::AllocError;

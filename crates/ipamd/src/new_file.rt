@@ -4,7 +4,7 @@ ghost use Rattle.ipam_io.specs.Counts.{next_count};
 ghost use Rattle.ipam_keeper.specs.Keeping.{OnFailed, UnlessFailed};
 
 use crate::telling::tell_copied;
-use ipam_backup::Target;
+use ipam_asked::Target;
 use ipam_keeper::{KeepFault, Keeper, Row};
 use ipam_sqlite::{FileKeeper, SqliteKeeper, StorageFault, Syncs};
 use ipam_text::Text;
@@ -18,7 +18,7 @@ use std::{fs, io};
 const MODE: u32 = 0o640;
 
 /// Why the file was not made.
-#[derive(Clone, Copy, Debug)]
+#[derive(Clone, Copy)]
 pub(crate) enum NotMade {
     /// The file is there, or a log or journal of its name.
     There,

@@ -1,6 +1,6 @@
 //! What the process was given: its words and its environment.
 use ipam_text::Seq;
-use ipam_upkeep::words_given;
+use ipam_words::words_given;
 use std::alloc::AllocError;
 use std::env::FillError;
 use std::io::ErrorKind;

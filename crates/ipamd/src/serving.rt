@@ -1,7 +1,7 @@
 //! The daemon over the database.
 use crate::telling::{tell_no_path, tell_reading, tell_why};
+use ipam_call::{Database, database_named};
 use ipam_daemon::{Host, Opening, Served, new_opening, serve, tell_served};
-use ipam_environment::{Database, database_named};
 use ipam_io::StdSink;
 use ipam_sqlite::{SqliteKeeper, Syncs, fold_log};
 use ipam_text::Seq;

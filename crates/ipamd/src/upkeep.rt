@@ -1,21 +1,19 @@
 //! An audit over a daemon, a backup, and a reservation that is taken back.
 ghost use Rattle.ipam_records.specs.Sound.{IsName};
-ghost use Rattle.ipam_upkeep.specs.Words.{IsFit, of_upkeep};
+ghost use Rattle.ipam_words.specs.Upkeep.{IsFit, of_upkeep};
 
 use crate::asking::unreached_at;
 use crate::new_file::{NewFile, NotMade, unmake};
 use crate::no_file::NoFile;
 use crate::telling::{tell_missing, tell_no_path, tell_reading, tell_there, tell_unmade, tell_why};
 use crate::viewed::Viewed;
-use ipam_asked_audit::audit;
-use ipam_backup::{back_up_asked, back_up_kept};
-use ipam_client::{Address, Connector, Connects, Limits};
-use ipam_environment::Database;
+use ipam_asked::{audit, back_up_asked, back_up_kept};
+use ipam_call::{Address, Connector, Connects, Database, Limits};
 use ipam_io::{Link, StdSink};
 use ipam_keeper::Keeper;
 use ipam_operator::{End, tell};
 use ipam_sqlite::FileKeeper;
-use ipam_upkeep::Upkeep;
+use ipam_words::Upkeep;
 use std::io;
 use std::thread::Threads;
 

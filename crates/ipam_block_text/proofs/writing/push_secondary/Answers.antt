@@ -10,4 +10,4 @@ returns c =
     let value = c.in_ok-secondary_value.ensures in
     let text : c.as_str.result.now ≡ compact_text (secondary_data c.args.pairs.now) =
     c.as_str.ensures.value ∙ c.in_ok-text.ensures.text (ap has_float value ∙ has_float-secondary_data c.args.pairs.now) ∙ ap compact_text value in
-    on_ok c.push-2.result c.push-2.ensures (λ last. last ∙ ap (λ s. string_bytes c.args.out.now ++ s) text)
+    on_ok c.push.result c.push.ensures (λ last. last ∙ ap (λ s. string_bytes c.args.out.now ++ s) text)

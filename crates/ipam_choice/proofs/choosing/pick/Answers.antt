@@ -1,5 +1,5 @@
 use Rattle.std.proofs.Common.{◌∙◌}
-use Rattle.ipam_reserve.specs.Spans.{is_reserved_by}
+use Rattle.ipam_pool.specs.Spans.{is_reserved_by}
 use Rattle.ipam_choice.specs.Confirmed.{has_confirmed}
 use Rattle.ipam_choice.specs.Viewed.{asked_of, seen_of}
 use Rattle.ipam_choice.proofs.PickLemmas.{known_pick}

@@ -1,5 +1,5 @@
 use Rattle.std.proofs.Common.{◌≡◌, ℕ, Bool, Option, Some, None, ap, sym, ◌∙◌, [], ◌∷◌}
-use Rattle.ipam_reserve.specs.Spans.{is_reserved_by}
+use Rattle.ipam_pool.specs.Spans.{is_reserved_by}
 use Rattle.ipam_records.specs.Listing.{rows_of}
 use Rattle.ipam_model.specs.Choice.{Pick}
 use Rattle.ipam_model.specs.Usable.{unknown_name}

@@ -1,11 +1,11 @@
 use Rattle.std.proofs.Common.{Some, refl, ap, rules, subst}
 use Rattle.ipam_words.specs.declared.command.Command.{Command}
 use Rattle.ipam_words.specs.Words.{Cni, Play, Apply, Get, Help, IsSound, Routes, Release, Gen, Show, Version, asked_by}
-use Rattle.ipam_told.specs.Shown.{shown_text}
+use Rattle.ipam_show.specs.Shown.{shown_text}
 use Rattle.ipam_words.specs.Views.{seen_by}
 use Rattle.ipam_commands.specs.Texts.{routes_text}
-use Rattle.ipam_told.specs.Rows.{rows_text}
-use Rattle.ipam_headline.proofs.Writing.{so_far_right}
+use Rattle.ipam_show.specs.Rows.{rows_text}
+use Rattle.ipam_command.proofs.Writing.{so_far_right}
 use Rattle.ipam_command.proofs.CallLemmas.{call_by_records, leaves_spared, never_says_try_again, tells_of_add}
 use Rattle.ipam_command.proofs.DoLemmas.{apply-ends, asked, does-gen, does-play, does-tell, written-right}
 use Rattle.ipam_command.proofs.running.run.Goals as goal

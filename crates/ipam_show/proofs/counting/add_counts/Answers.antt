@@ -1,6 +1,6 @@
 use Rattle.std.proofs.Common.{ℕ, sym, refl, append-nil}
 use Rattle.ipam_records.specs.declared.record.Record.{Record}
-use Rattle.ipam_reserve.specs.Spans.{is_reserved_by}
+use Rattle.ipam_pool.specs.Spans.{is_reserved_by}
 use Rattle.ipam_show.specs.Counts.{block_count_in}
 use Rattle.ipam_show.proofs.Steps.{step_option}
 use Rattle.ipam_show.proofs.counting.add_counts.Goals as goal

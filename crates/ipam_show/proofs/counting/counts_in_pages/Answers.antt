@@ -1,7 +1,7 @@
 use Rattle.std.proofs.Common.{ℕ}
 use Rattle.std.proofs.lemmas.List.Elements.{filter_map-append}
 use Rattle.ipam_records.specs.declared.record.Record.{Record}
-use Rattle.ipam_reserve.specs.Spans.{is_reserved_by}
+use Rattle.ipam_pool.specs.Spans.{is_reserved_by}
 use Rattle.ipam_show.specs.Counts.{block_count_in, counts_in}
 use Rattle.ipam_show.proofs.Steps.{step_page}
 use Rattle.ipam_show.proofs.counting.counts_in_pages.Goals as goal

@@ -1,5 +1,5 @@
 use Rattle.std.proofs.Common.{◌≡◌, ◌++◌, drop}
-use Rattle.ipam_reserve.specs.Spans.{is_reserved_by}
+use Rattle.ipam_pool.specs.Spans.{is_reserved_by}
 use Rattle.ipam_records.specs.Pages.{rows_of_pages}
 use Rattle.ipam_show.specs.Counts.{counts_in}
 use Rattle.ipam_show.proofs.counting.counts_in_pages.Given as goal

@@ -2,8 +2,8 @@ use Rattle.std.proofs.Common.{◌≡◌, ◌∙◌, ap, length, Bool, arith}
 use Rattle.std.proofs.lemmas.Result.{IfOk-weaker}
 use Rattle.ipam_addr.specs.Shape.{AddrValue}
 use Rattle.ipam_records.specs.Pages.{rows_of_pages}
-use Rattle.ipam_reserve.specs.Spans.{is_reserved_by}
-use Rattle.ipam_reserve.specs.Union.{is_in_union}
+use Rattle.ipam_pool.specs.Spans.{is_reserved_by}
+use Rattle.ipam_pool.specs.Union.{is_in_union}
 use Rattle.ipam_model.specs.Reads.{StoredRecord}
 use Rattle.ipam_show.specs.Counts.{block_count_in, counts_in}
 use Rattle.ipam_show.specs.Kept.{blocks_kept, is_reserved_kept}

@@ -2,7 +2,7 @@ use Rattle.std.proofs.Common.{◌≡◌, length, ap, arith}
 use Rattle.std.specs.Prelude.{not}
 use Rattle.ipam_block.proofs.Ordinals.{queued-below, shared_count}
 use Rattle.ipam_block.specs.Operations.{ordinal_address}
-use Rattle.ipam_reserve.specs.Spans.{is_reserved_by}
+use Rattle.ipam_pool.specs.Spans.{is_reserved_by}
 use Rattle.ipam_show.proofs.Counted.{count_few}
 use Rattle.ipam_show.proofs.counting.free_in.Goals as goal
 

@@ -1,7 +1,7 @@
 use Rattle.std.proofs.Common.{◌≡◌, take}
 use Rattle.std.specs.Prelude.{count_by, not}
 use Rattle.ipam_block.specs.Operations.{ordinal_address}
-use Rattle.ipam_reserve.specs.Spans.{is_reserved_by}
+use Rattle.ipam_pool.specs.Spans.{is_reserved_by}
 use Rattle.ipam_show.proofs.counting.free_in.Given as goal
 
 abbrev pub invariant-loop-place : goal.invariant-loop-place

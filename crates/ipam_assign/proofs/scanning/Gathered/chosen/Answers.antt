@@ -4,7 +4,7 @@ use Rattle.ipam_choice.specs.Picked.{pick_as}
 use Rattle.ipam_choice.specs.Viewed.{asked_of}
 use Rattle.ipam_records.specs.Listing.{rows_of}
 use Rattle.ipam_records.specs.Said.{said}
-use Rattle.ipam_reserve.specs.Spans.{is_reserved_by}
+use Rattle.ipam_pool.specs.Spans.{is_reserved_by}
 use Rattle.ipam_assign.proofs.PickedLemmas.{pick_fits}
 use Rattle.ipam_assign.proofs.scanning.Gathered.chosen.Goals as goal
 

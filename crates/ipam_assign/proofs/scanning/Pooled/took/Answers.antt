@@ -1,6 +1,6 @@
 use Rattle.std.proofs.Common.{◌∙◌, ap}
 use Rattle.ipam_records.specs.Said.{said}
-use Rattle.ipam_reserve.specs.Union.{is_in_union}
+use Rattle.ipam_pool.specs.Union.{is_in_union}
 use Rattle.ipam_assign.specs.Scanning.{scanning_at}
 use Rattle.ipam_assign.proofs.ScanningLemmas.{reserved_known}
 use Rattle.ipam_assign.proofs.scanning.Pooled.took.Goals as goal

@@ -1,2 +1,0 @@
--- An affinity's states and their names.
-pub mod State

@@ -1,0 +1,16 @@
+pub mod Wires
+pub mod Sorted
+pub mod Saying
+pub mod Fits
+pub mod Pages
+pub mod KindSteps
+pub mod Counted
+pub mod Loaded
+pub mod Texts
+pub mod ShowSaying
+pub mod AuditWires
+pub mod AuditSaying
+pub mod Standings
+pub mod BackupWires
+pub mod Tries
+pub mod Fillings

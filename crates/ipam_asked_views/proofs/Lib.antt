@@ -1,4 +1,0 @@
-pub mod Counted
-pub mod Loaded
-pub mod Texts
-pub mod Saying

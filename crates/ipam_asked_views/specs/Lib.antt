@@ -1,3 +1,0 @@
--- What is shown of rows that were read page by page.
-pub mod Datastore
-pub mod Showing

@@ -1,2 +1,0 @@
-mod Unasked
-mod Nobody

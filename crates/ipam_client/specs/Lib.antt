@@ -1,2 +1,0 @@
--- What is written where the daemon isn't reached.
-pub mod Unreached

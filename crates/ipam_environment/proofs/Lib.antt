@@ -1,3 +1,0 @@
-mod Refused
-mod Seen
-mod Texts

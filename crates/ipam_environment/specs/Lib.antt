@@ -1,5 +1,0 @@
--- What the environment says.
-pub mod Values
-pub mod Call
-pub mod Database
-pub mod Daemon

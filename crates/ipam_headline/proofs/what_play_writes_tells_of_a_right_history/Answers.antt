@@ -1,5 +1,0 @@
-use Rattle.ipam_headline.proofs.Writing.{written_right}
-use Rattle.ipam_headline.proofs.what_play_writes_tells_of_a_right_history.Goals as goal
-
-pub returns : goal.returns
-returns c = written_right

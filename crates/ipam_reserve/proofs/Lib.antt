@@ -1,5 +1,0 @@
--- Lemmas on spans.
-pub mod Gaps
-pub mod Merging
-pub mod Members
-pub mod Rooms

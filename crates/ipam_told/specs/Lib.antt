@@ -1,3 +1,0 @@
--- What `get` and `show` tell of rows.
-pub mod Rows
-pub mod Shown

@@ -1,2 +1,0 @@
--- What is shown of words that are given.
-mod GivenLemmas

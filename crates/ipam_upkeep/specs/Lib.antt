@@ -1,3 +1,0 @@
--- The upkeep that words name.
-pub mod Words
-pub mod Given

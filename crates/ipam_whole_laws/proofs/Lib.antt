@@ -1,5 +1,0 @@
--- Proofs of the laws.
-mod Ahead
-mod QueueSteps
-mod QueueHistory
-mod Whole
