@@ -1,5 +1,5 @@
 #!/usr/bin/env python3
-"""Writes scenarios of crates/ipam_command_tests: CNI calls with one thing broken each, and their replies.
+"""Writes scenarios of ipam_command_tests in crates/ipam_tests/stdin and stdout: CNI calls with one thing broken each, and their replies.
 
 In each call one thing is broken: a member, a variable, a version or the input (the calls of
 tools/tables/cni_table.py with code and details), the rows, or what the call asks of the rows. This script states

@@ -1,5 +1,5 @@
 #!/usr/bin/env python3
-"""Writes scenarios of crates/ipam_command_tests: the scripts that `play` is tested with, and what `play` must write for each.
+"""Writes scenarios of ipam_command_tests in crates/ipam_tests/stdin and stdout: the scripts that `play` is tested with, and what `play` must write for each.
 
 The second allocator gives what is expected. For scripts that are refused before anything happens, and for
 failing input and output, this script states it. Some scripts have lines that were worked out by hand, and

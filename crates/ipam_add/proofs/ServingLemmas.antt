@@ -5,9 +5,9 @@ use Rattle.ipam_block.specs.Operations.{ordinal_address}
 use Rattle.ipam_records.specs.Hearing.{MayHear}
 use Rattle.ipam_records.specs.Said.{Said}
 use Rattle.ipam_records.specs.Word.{Word, next_call, after_reply, answer_in, bound}
-use Rattle.ipam_claim.specs.Claim.{claim_rest, claim_leaves}
-use Rattle.ipam_claim.specs.declared.claim.ClaimProc.{ClaimProc}
-use Rattle.ipam_claim.specs.declared.claim.ClaimTurned.{ClaimTurned}
+use Rattle.ipam_parts.specs.Claim.{claim_rest, claim_leaves}
+use Rattle.ipam_parts.specs.declared.claim.ClaimProc.{ClaimProc}
+use Rattle.ipam_parts.specs.declared.claim.ClaimTurned.{ClaimTurned}
 use Rattle.ipam_model.specs.declared.answer.Scan.{Scan}
 use Rattle.ipam_model.specs.declared.outcome.ClaimAnswer.{ClaimAnswer}
 use Rattle.ipam_model.specs.declared.outcome.Served.TheVariants as served

@@ -2,9 +2,9 @@
 use Rattle.std.specs.Prelude.{ℕ, Option, Some, None, option_map}
 use Rattle.ipam_addr.specs.declared.address.Family.{Family}
 use Rattle.ipam_records.specs.Word.{bound}
-use Rattle.ipam_claim.specs.Claim.{claim_rest, claim_leaves}
-use Rattle.ipam_claim.specs.declared.claim.ClaimProc.{ClaimProc}
-use Rattle.ipam_claim.specs.declared.claim.ClaimTurned.{ClaimTurned}
+use Rattle.ipam_parts.specs.Claim.{claim_rest, claim_leaves}
+use Rattle.ipam_parts.specs.declared.claim.ClaimProc.{ClaimProc}
+use Rattle.ipam_parts.specs.declared.claim.ClaimTurned.{ClaimTurned}
 use Rattle.ipam_model.specs.declared.answer.Scan.{Scan}
 use Rattle.ipam_model.specs.declared.outcome.Served.{Served}
 use Rattle.ipam_model.specs.declared.outcome.Served.TheVariants as served

@@ -24,8 +24,8 @@ use ipam_assign::{
 };
 use ipam_block::Block;
 use ipam_choice::{Candidate, Picked, Rank, Wanted};
-use ipam_claim::{ClaimProc, ClaimTurned};
 use ipam_model::{AddAnswer, AddRequest, Assigned, ClaimAnswer, Left, Outcome, Scan, Stop};
+use ipam_parts::{ClaimProc, ClaimTurned};
 use ipam_records::{Call, Heard, Procedure};
 use ipam_text::Text;
 use std::alloc::{AllocError, Global};

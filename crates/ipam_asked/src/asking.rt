@@ -8,8 +8,7 @@ ghost use Rattle.ipam_asked.specs.Page.{after_text, last_row, page_line, page_of
 ghost use Rattle.ipam_asked.specs.Rows.{AsksKind, AsksRows};
 
 use crate::page::read_page;
-use ipam_io::Link;
-use ipam_lines::Lines;
+use ipam_io::{Lines, Link};
 use ipam_operator::{AskFault, REPLY_BYTES, ask};
 use ipam_records::Row;
 use ipam_words::RowKind;

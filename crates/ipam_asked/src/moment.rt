@@ -5,9 +5,8 @@ ghost use Rattle.ipam_operator.specs.Asking.{Asks};
 ghost use Rattle.ipam_asked.specs.Moment.{AsksAfter, AsksBetween, AsksOnce, AsksTries, revision_line, revision_of_line, rows_told, stood, tries_at_most};
 
 use crate::asking::ask_kinds;
-use ipam_io::Link;
+use ipam_io::{Lines, Link};
 use ipam_json::whole_at;
-use ipam_lines::Lines;
 use ipam_operator::{AskFault, REPLY_BYTES, ask, json_of_line};
 use ipam_records::Row;
 use ipam_words::RowKind;

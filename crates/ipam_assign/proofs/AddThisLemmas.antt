@@ -5,14 +5,14 @@ use Rattle.ipam_pool.specs.declared.pools.Pool.{Pool}
 use Rattle.ipam_records.specs.Hearing.{MayHear}
 use Rattle.ipam_records.specs.Said.{Said}
 use Rattle.ipam_records.specs.Word.{Word, Ends, Asks, Waits, next_call, after_reply, answer_in, bound}
-use Rattle.ipam_claim.specs.Claim.{claim_at, claim_rest, claim_leaves}
-use Rattle.ipam_claim.specs.declared.claim.ClaimTurned.{ClaimTurned}
+use Rattle.ipam_parts.specs.Claim.{claim_at, claim_rest, claim_leaves}
+use Rattle.ipam_parts.specs.declared.claim.ClaimTurned.{ClaimTurned}
 use Rattle.ipam_model.specs.declared.outcome.ClaimAnswer.{ClaimAnswer}
 use Rattle.ipam_assign.specs.declared.assigning.AssigningTurned.{AssigningTurned}
-use Rattle.ipam_claim.specs.declared.claim.ClaimProc.{ClaimProc}
-use Rattle.ipam_claim.specs.declared.claim.Stage.{Stage as ClaimStage}
-use Rattle.ipam_claim.specs.declared.claim.Stage.TheVariants as claim
-use Rattle.ipam_claim.specs.declared.claim.Writing.TheVariants as writing
+use Rattle.ipam_parts.specs.declared.claim.ClaimProc.{ClaimProc}
+use Rattle.ipam_parts.specs.declared.claim.Stage.{Stage as ClaimStage}
+use Rattle.ipam_parts.specs.declared.claim.Stage.TheVariants as claim
+use Rattle.ipam_parts.specs.declared.claim.Writing.TheVariants as writing
 use Rattle.ipam_model.specs.declared.part.Left.{Left}
 use Rattle.ipam_model.specs.declared.request.AddRequest.{AddRequest}
 use Rattle.ipam_model.specs.Affinities.{claim as claim_word}

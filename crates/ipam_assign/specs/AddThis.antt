@@ -5,9 +5,9 @@ use Rattle.ipam_records.specs.declared.key.Key.TheVariants as key
 use Rattle.ipam_records.specs.declared.call.Call.TheVariants.{Get}
 use Rattle.ipam_records.specs.Label.{idle}
 use Rattle.ipam_records.specs.Word.{Word, Ends, Asks, bound}
-use Rattle.ipam_claim.specs.Claim.{claim_rest, claim_leaves}
-use Rattle.ipam_claim.specs.declared.claim.ClaimProc.{ClaimProc}
-use Rattle.ipam_claim.specs.declared.claim.ClaimTurned.{ClaimTurned}
+use Rattle.ipam_parts.specs.Claim.{claim_rest, claim_leaves}
+use Rattle.ipam_parts.specs.declared.claim.ClaimProc.{ClaimProc}
+use Rattle.ipam_parts.specs.declared.claim.ClaimTurned.{ClaimTurned}
 use Rattle.ipam_model.specs.declared.outcome.AddThisAnswer.{AddThisAnswer}
 use Rattle.ipam_model.specs.declared.part.Left.{Left}
 use Rattle.ipam_model.specs.declared.request.AddRequest.{AddRequest}

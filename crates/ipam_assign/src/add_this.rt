@@ -26,11 +26,10 @@ use crate::stopping::add_this_stopped;
 use crate::usable::usable_place;
 use ipam_addr::{Addr, Cidr};
 use ipam_block::Block;
-use ipam_claim::{ClaimProc, ClaimTurned};
 use ipam_model::{
     AddRequest, AddThisAnswer, Assigned, ClaimAnswer, GivenThis, Left, Outcome, Stop,
 };
-use ipam_parts::{all_left, block_in};
+use ipam_parts::{ClaimProc, ClaimTurned, all_left, block_in};
 use ipam_records::{Call, Config, Heard, Key, Procedure, Record, Reply};
 use std::alloc::{AllocError, Global};
 

@@ -7,7 +7,7 @@ ghost use Rattle.ipam_audit.specs.Reported.{excess_at, excess_of, excess_in};
 use crate::look::held_count;
 use crate::report::Excess;
 use ipam_addr::Cidr;
-use ipam_handle::Handle;
+use ipam_block::Handle;
 use ipam_records::Record;
 use ipam_store::Store;
 use ipam_text::Text;

@@ -1,6 +1,6 @@
 use crate::times;
 use ipam_addr::{Addr, Cidr, Family, cidr};
-use ipam_handle::Handle;
+use ipam_block::Handle;
 use ipam_record_text::{handle_of, handle_text};
 use ipam_text::Text;
 use std::alloc::{AllocError, Global};

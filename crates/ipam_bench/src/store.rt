@@ -7,7 +7,7 @@ ghost use Rattle.std.proofs.Props.{props};
 use crate::draws::Draws;
 use crate::times;
 use ipam_addr::{Cidr, is_handle_id, read_cidr};
-use ipam_handle::Handle;
+use ipam_block::Handle;
 use ipam_records::{Call, Key, Record, Reply, Write};
 use ipam_store::Store;
 use ipam_text::{Seq, Text};

@@ -1,4 +1,4 @@
--- Lemmas on blocks.
+-- Lemmas on blocks and on handles.
 pub mod Members
 pub mod Ordinals
 pub mod FreeOrdinals
@@ -9,3 +9,7 @@ pub mod Tested
 pub mod Marks
 pub mod Searched
 pub mod States
+pub mod Order
+pub mod Entries
+pub mod Reading
+pub mod Search

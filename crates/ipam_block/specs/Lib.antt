@@ -1,4 +1,4 @@
--- A block as contracts see it; an affinity's states and their names.
+-- Blocks, affinities and handles as contracts see them.
 pub mod Kept
 pub mod Pairs
 pub mod Shape
@@ -7,3 +7,8 @@ pub mod Operations
 pub mod Picked
 pub mod Test
 pub mod State
+pub mod HandleShape
+pub mod Order
+pub mod HandleSound
+pub mod HandleOperations
+pub mod Places

@@ -9,16 +9,16 @@ use Rattle.serde_json.specs.Find.{as_object}
 use Rattle.serde_json.specs.Read.{read}
 use Rattle.ipam_json.specs.Members.{only_if, whole_at, text_at}
 use Rattle.ipam_io.specs.Counts.{Rose}
-use Rattle.ipam_lines.specs.Feeds.{IsLine}
-use Rattle.ipam_lines.specs.Lines.{IsAnswerTo, OnReadFault, OnNoReadFault}
-use Rattle.ipam_lines.specs.declared.lines.Got.{Got}
-use Rattle.ipam_lines.specs.declared.lines.Got.TheVariants.{Line, End, Cut}
-use Rattle.ipam_lines.specs.declared.lines.LinesFault.{LinesFault}
-use Rattle.ipam_lines.specs.declared.lines.LinesFault.TheVariants as lines
+use Rattle.ipam_io.specs.Feeds.{IsLine}
+use Rattle.ipam_io.specs.Lines.{IsAnswerTo, OnReadFault, OnNoReadFault}
+use Rattle.ipam_io.specs.declared.lines.Got.{Got}
+use Rattle.ipam_io.specs.declared.lines.Got.TheVariants.{Line, End, Cut}
+use Rattle.ipam_io.specs.declared.lines.LinesFault.{LinesFault}
+use Rattle.ipam_io.specs.declared.lines.LinesFault.TheVariants as lines
 use Rattle.ipam_call.specs.declared.end.CallFault.TheVariants.{Read, Undecodable, Link, Reply, Memory}
 use Rattle.ipam_call.specs.declared.end.DaemonReply.{DaemonReply}
 use Rattle.ipam_call.specs.Calls.{CallOutcome, Received, LinkFaults, MayBeReceived, IsExchanged, IsReading, IsOutcomeOf}
-use Rattle.ipam_lines.specs.declared.limits.TheConstants.{SESSION_LINE_BYTES}
+use Rattle.ipam_io.specs.declared.limits.TheConstants.{SESSION_LINE_BYTES}
 use Rattle.ipam_call.specs.Replies.{HasNoReply, ends, too_long, other, are_of_reply, reply_in, reply_of_line}
 
 -- ---- the bytes

@@ -3,10 +3,10 @@ use Rattle.std.specs.Prelude.{◌≡◌, ℕ, ◌≤◌, List, Option, Some, Non
 use Rattle.std.specs.Io.KnownBytes.{append_known, IsAtEnd}
 use Rattle.ipam_io.specs.Counts.{Rose}
 use Rattle.ipam_io.specs.Streams.{AppendsPrefix}
-use Rattle.ipam_lines.specs.declared.lines.Got.{Got}
-use Rattle.ipam_lines.specs.declared.lines.Got.TheVariants.{Line, End, Cut}
-use Rattle.ipam_lines.specs.declared.lines.LinesFault.{LinesFault}
-use Rattle.ipam_lines.specs.declared.lines.LinesFault.TheVariants as lines
+use Rattle.ipam_io.specs.declared.lines.Got.{Got}
+use Rattle.ipam_io.specs.declared.lines.Got.TheVariants.{Line, End, Cut}
+use Rattle.ipam_io.specs.declared.lines.LinesFault.{LinesFault}
+use Rattle.ipam_io.specs.declared.lines.LinesFault.TheVariants as lines
 use Rattle.cni_types.specs.Reading.{Pair}
 use Rattle.cni_types.specs.declared.version.Version.{Version}
 use Rattle.cni_types.specs.declared.version.Version.TheVariants.{V1_0_0}

@@ -4,8 +4,8 @@ use Rattle.std.specs.Str.{is_utf8}
 use Rattle.serde_json.specs.Data.{Data, Members, no_members, member}
 use Rattle.serde_json.specs.Find.{as_object}
 use Rattle.serde_json.specs.Read.{read}
-use Rattle.ipam_lines.specs.declared.limits.TheConstants.{SESSION_LINE_BYTES}
-use Rattle.ipam_lines.specs.Feeds.{IsLine, IsTooLong}
+use Rattle.ipam_io.specs.declared.limits.TheConstants.{SESSION_LINE_BYTES}
+use Rattle.ipam_io.specs.Feeds.{IsLine, IsTooLong}
 use Rattle.ipam_json.specs.Members.{◌>>=◌, only_if, whole_at, text_at}
 use Rattle.ipam_call.specs.declared.end.DaemonReply.{DaemonReply}
 

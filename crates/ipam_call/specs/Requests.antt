@@ -4,7 +4,7 @@ use Rattle.serde_json.specs.Data.{Data, object, string, Members, no_members, put
 use Rattle.serde_json.specs.Written.{compact_text}
 use Rattle.ipam_json.specs.Built.{object_of}
 use Rattle.ipam_json.specs.Members.{◌>>=◌, only_if}
-use Rattle.ipam_lines.specs.declared.limits.TheConstants.{SESSION_LINE_BYTES}
+use Rattle.ipam_io.specs.declared.limits.TheConstants.{SESSION_LINE_BYTES}
 use Rattle.cni_types.specs.Looking.{input_text}
 use Rattle.cni_types.specs.Reading.{Pair}
 

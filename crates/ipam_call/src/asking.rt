@@ -7,8 +7,7 @@ ghost use Rattle.ipam_call.specs.Requests.{line_for};
 use crate::end::{CallFault, DaemonReply};
 use crate::reply::reply_of_line;
 use crate::request::line_for;
-use ipam_io::Link;
-use ipam_lines::{Got, Lines, LinesFault, SESSION_LINE_BYTES};
+use ipam_io::{Got, Lines, LinesFault, Link, SESSION_LINE_BYTES};
 use ipam_text::Text;
 use std::alloc::Global;
 

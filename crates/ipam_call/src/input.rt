@@ -2,11 +2,10 @@
 ghost use Rattle.std.specs.Prelude.{◌≡◌, ◌+◌, ◌≤◌, length, IfOk};
 ghost use Rattle.std.specs.Io.KnownBytes.{prepend_known, IsAtEnd};
 ghost use Rattle.ipam_io.specs.Counts.{Rose};
-ghost use Rattle.ipam_lines.specs.Inputs.{OnReadFault, OnNoReadFault};
+ghost use Rattle.ipam_io.specs.Inputs.{OnReadFault, OnNoReadFault};
 
 use cni_types::MOST_INPUT_BYTES;
-use ipam_io::Source;
-use ipam_lines::{InputFault, read_whole};
+use ipam_io::{InputFault, Source, read_whole};
 use std::alloc::Global;
 
 /// The bytes of the source to its end, or one more than standard input may have.

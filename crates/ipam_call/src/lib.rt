@@ -32,7 +32,7 @@ pub use database::{DATABASE, Database, database_named};
 pub use end::{CallEnd, CallFault, DaemonReply};
 pub use fixed::{FixedError, fixed_text};
 pub use input::read_input;
-pub use ipam_lines::InputFault;
+pub use ipam_io::InputFault;
 pub use ipam_socket::{Address, Limits};
 pub use laws::what_is_no_text_is_refused;
 pub use run::run_call;

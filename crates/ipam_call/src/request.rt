@@ -4,7 +4,7 @@ ghost use Rattle.serde_json.specs.View.{view, members_view};
 ghost use Rattle.ipam_call.specs.Requests.{last_of, with_last, env_members, call_data, cni_call_text, sendable, line_for};
 
 use cni_types::input_text;
-use ipam_lines::SESSION_LINE_BYTES;
+use ipam_io::SESSION_LINE_BYTES;
 use ipam_text::Text;
 use serde_json::{Map, Value, json, put};
 use std::alloc::{AllocError, Global};

@@ -12,8 +12,7 @@ use crate::input::read_input;
 use crate::telling::tell_end;
 use crate::version::version_for;
 use cni_types::Version;
-use ipam_io::{Link, Sink, Source};
-use ipam_lines::InputFault;
+use ipam_io::{InputFault, Link, Sink, Source};
 use ipam_text::Text;
 use std::alloc::{AllocError, Global};
 

@@ -9,8 +9,7 @@ use crate::input::read_input;
 use crate::telling::tell_end;
 use crate::version::version_for;
 use cni_types::Version;
-use ipam_io::{Sink, Source};
-use ipam_lines::InputFault;
+use ipam_io::{InputFault, Sink, Source};
 use std::alloc::{AllocError, Global};
 
 /// Writes the error of a call that didn't reach the daemon, the code 111 with the details `link`,

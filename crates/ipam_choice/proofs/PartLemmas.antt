@@ -10,7 +10,7 @@ use Rattle.std.specs.List.{AllByRecursion}
 use Rattle.std.specs.List.Sorted.{IsStrictlySortedBy, IsSearchInRange, IsBinarySearchResult}
 use Rattle.ipam_addr.specs.Shape.{CidrValue}
 use Rattle.ipam_addr.specs.Slots.{slot_of}
-use Rattle.ipam_handle.specs.Order.{cidr_cmp}
+use Rattle.ipam_block.specs.Order.{cidr_cmp}
 use Rattle.ipam_records.specs.KeyOrderLaws.{cidr_cmp_total}
 use Rattle.ipam_records.specs.Places.{IsFoundAt, IsGapAt}
 use Rattle.ipam_records.proofs.SearchLemmas.{searched, before_found, behind_found}

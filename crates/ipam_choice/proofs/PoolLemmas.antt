@@ -14,7 +14,7 @@ use Rattle.ipam_addr.specs.Shape.{CidrValue}
 use Rattle.ipam_addr.specs.Width.{IsCidr, width, size_of}
 use Rattle.ipam_addr.specs.Slots.{HasSlots, last_slot_of, slot_of}
 use Rattle.ipam_block.specs.Shape as block
-use Rattle.ipam_handle.specs.Order.{family_rank, cidr_cmp}
+use Rattle.ipam_block.specs.Order.{family_rank, cidr_cmp}
 use Rattle.ipam_records.specs.KeyOrderLaws.{cidr_cmp_total}
 use Rattle.ipam_pool.specs.declared.pools.Pool.{Pool}
 use Rattle.ipam_pool.specs.Slots.{IsSlotOf, is_slot_of}

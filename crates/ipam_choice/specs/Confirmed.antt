@@ -2,7 +2,7 @@
 use Rattle.std.specs.Prelude.{ℕ, Bool, false, ◌&&◌, List, Option, Some, None, bytes_eq, if◌then◌else◌}
 use Rattle.std.specs.BTreeSet.{contains}
 use Rattle.ipam_addr.specs.Shape.{CidrValue}
-use Rattle.ipam_handle.specs.Order.{cidr_cmp}
+use Rattle.ipam_block.specs.Order.{cidr_cmp}
 use Rattle.ipam_records.specs.declared.record.Record.{Record}
 use Rattle.ipam_records.specs.declared.record.Record.TheVariants as record_of
 use Rattle.ipam_model.specs.Usable.{is_same_cidr}

@@ -3,7 +3,7 @@ ghost use Rattle.std.specs.declared.cmp.Ordering.TheVariants.{Less, Greater};
 ghost use Rattle.std.specs.List.Sorted.{IsStrictlySortedBy};
 ghost use Rattle.ipam_addr.specs.Shape.{CidrValue};
 ghost use Rattle.ipam_addr.specs.Slots.{last_slot_of, slot_of};
-ghost use Rattle.ipam_handle.specs.Order.{cidr_cmp};
+ghost use Rattle.ipam_block.specs.Order.{cidr_cmp};
 ghost use Rattle.ipam_records.specs.Places.{IsFoundAt, IsGapAt};
 ghost use Rattle.ipam_choice.specs.First.{Has};
 ghost use Rattle.ipam_choice.specs.Sight.{IsSlotted};

@@ -1,6 +1,6 @@
 ghost use Rattle.std.specs.Prelude.{◌≡◌, ◌⊎◌, ◌&&◌, Some, None, IfSome, option_map, if◌then◌else◌};
 ghost use Rattle.std.specs.List.Sorted.{IsStrictlySortedBy};
-ghost use Rattle.ipam_handle.specs.Order.{cidr_cmp};
+ghost use Rattle.ipam_block.specs.Order.{cidr_cmp};
 ghost use Rattle.ipam_addr.specs.Width.{IsCidr};
 ghost use Rattle.ipam_block.specs.Operations.{node_bytes};
 ghost use Rattle.ipam_model.specs.Choice.{is_unowned_and_empty, if_rank, Own, Unconfirmed, Unclaimed, Foreign};

@@ -16,8 +16,8 @@ use Rattle.ipam_model.specs.Course.{is_due}
 use Rattle.ipam_model.specs.History.{MayCome, MayFeed, cluster_at}
 use Rattle.ipam_model.specs.Requests.{word_of}
 use Rattle.ipam_model.specs.SoundRequest.{IsSoundRequest}
-use Rattle.ipam_running.specs.declared.running.Running.{Running}
-use Rattle.ipam_running.specs.Running.{running_rest, running_grace, grace_of, is_over}
+use Rattle.ipam_cluster.specs.declared.running.Running.{Running}
+use Rattle.ipam_cluster.specs.Running.{running_rest, running_grace, grace_of, is_over}
 use Rattle.ipam_cluster.specs.declared.cluster.Cluster.{Cluster}
 use Rattle.ipam_cluster.specs.Cluster.{slot_of_cluster, Runs, IsSlot, IsCluster, AddsTo, StaysRight}
 use Rattle.ipam_cluster.specs.Slots.{slot_in, IsDue, RunsOn}

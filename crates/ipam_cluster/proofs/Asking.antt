@@ -28,9 +28,9 @@ use Rattle.ipam_model.specs.Cluster.{after, store_after, store_with}
 use Rattle.ipam_model.specs.History.{Base, Lawful, cluster_at, store_at}
 use Rattle.ipam_model.specs.Reads.{StoredRecord}
 use Rattle.ipam_store.specs.Granted.{IsGranted, IsSoundWrite}
-use Rattle.ipam_running.specs.declared.running.Running.{Running}
-use Rattle.ipam_running.specs.Running.{running_rest}
-use Rattle.ipam_running.proofs.StillLemmas.{runs_on}
+use Rattle.ipam_cluster.specs.declared.running.Running.{Running}
+use Rattle.ipam_cluster.specs.Running.{running_rest}
+use Rattle.ipam_cluster.proofs.StillLemmas.{runs_on}
 use Rattle.ipam_cluster.specs.declared.cluster.Cluster.{Cluster}
 use Rattle.ipam_cluster.specs.Cluster.{slot_of_cluster, state_in, IsCluster, Stood}
 use Rattle.ipam_cluster.proofs.Adding.{runs_there}

@@ -17,9 +17,9 @@ use Rattle.ipam_model.specs.Cluster as model
 use Rattle.ipam_model.specs.Cluster.{after, word_after_reply, call_entry, call_made, goes_on, record_written, store_after, store_with, write_told}
 use Rattle.ipam_model.specs.History.{MayCall}
 use Rattle.ipam_model.specs.Named.{name_of, told_of}
-use Rattle.ipam_running.specs.declared.running.Running.{Running}
-use Rattle.ipam_running.specs.declared.running.RunningTurned.{RunningTurned}
-use Rattle.ipam_running.specs.Running.{running_rest, running_leaves, running_grace}
+use Rattle.ipam_cluster.specs.declared.running.Running.{Running}
+use Rattle.ipam_cluster.specs.declared.running.RunningTurned.{RunningTurned}
+use Rattle.ipam_cluster.specs.Running.{running_rest, running_leaves, running_grace}
 use Rattle.ipam_cluster.specs.declared.cluster.Cluster.{Cluster}
 use Rattle.ipam_cluster.specs.declared.turns.Prepared.{Prepared}
 use Rattle.ipam_cluster.specs.Cluster.{slot_of_cluster, IsSlot, IsCluster, AddsTo}

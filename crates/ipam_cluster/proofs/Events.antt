@@ -19,8 +19,8 @@ use Rattle.ipam_model.specs.Course.{Begin, Turn, Feed, Stop, EventRefusal, Busy,
 use Rattle.ipam_model.specs.CourseLaw.{event_of}
 use Rattle.ipam_model.specs.History.{Base, Lawful, cluster_at}
 use Rattle.ipam_collect.specs.declared.collect.Grace.{Grace}
-use Rattle.ipam_running.specs.declared.running.Running.{Running}
-use Rattle.ipam_running.specs.Running.{running_rest, running_grace, grace_of, is_over}
+use Rattle.ipam_cluster.specs.declared.running.Running.{Running}
+use Rattle.ipam_cluster.specs.Running.{running_rest, running_grace, grace_of, is_over}
 use Rattle.ipam_cluster.specs.declared.cluster.Cluster.{Cluster}
 use Rattle.ipam_cluster.specs.Cluster.{slot_of_cluster, state_in, IsSlot, Runs, StandsFor, WaitsWith}
 use Rattle.ipam_cluster.specs.Turns.{IsTurn}

@@ -8,3 +8,6 @@ pub mod Asking
 pub mod Opening
 pub mod Events
 pub mod RowTexts
+pub mod AbsentLemmas
+pub mod TellingLemmas
+pub mod StillLemmas

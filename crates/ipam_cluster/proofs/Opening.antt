@@ -5,7 +5,7 @@ use Rattle.ipam_laws.proofs.StandsFor.{stands}
 use Rattle.ipam_laws.proofs.OpenedHistory.{opened_law}
 use Rattle.ipam_model.specs.History.{cluster_at}
 use Rattle.ipam_model.specs.Opened.{Texts, OpensAs}
-use Rattle.ipam_running.specs.declared.running.Running.{Running}
+use Rattle.ipam_cluster.specs.declared.running.Running.{Running}
 use Rattle.ipam_cluster.specs.declared.cluster.Cluster.{Cluster}
 use Rattle.ipam_cluster.specs.Busy.{busy, busy_count}
 use Rattle.ipam_cluster.specs.Cluster.{slot_of_cluster, IsSlot, StandsFor}

@@ -4,7 +4,7 @@ use Rattle.std.proofs.lemmas.Bool.{eqb-false}
 use Rattle.std.proofs.lemmas.Bool.{cases_Bool}
 use Rattle.std.proofs.lemmas.List.Sums.{sum_by-set, sum_by-cons}
 use Rattle.ipam_model.specs.Cluster as model
-use Rattle.ipam_running.specs.declared.running.Running.{Running}
+use Rattle.ipam_cluster.specs.declared.running.Running.{Running}
 use Rattle.ipam_cluster.specs.Cluster.{IsSlot}
 use Rattle.ipam_cluster.specs.Slots.{slot_in}
 use Rattle.ipam_cluster.specs.Busy.{busy, busy_count}

@@ -6,7 +6,7 @@ use Rattle.ipam_model.specs.declared.entry.SlotState.TheVariants as state
 use Rattle.ipam_model.specs.Cluster as model
 use Rattle.ipam_model.specs.Cluster.{state_of}
 use Rattle.ipam_model.specs.History.{Base, cluster_at}
-use Rattle.ipam_running.specs.declared.running.Running.{Running}
+use Rattle.ipam_cluster.specs.declared.running.Running.{Running}
 use Rattle.ipam_cluster.specs.declared.cluster.Cluster.{Cluster}
 use Rattle.ipam_cluster.specs.Cluster.{slot_of_cluster, state_in, IsSlot, IsCluster, IsUnchanged, StandsFor, Stood}
 use Rattle.std.specs.Prelude.{if◌then◌else◌}

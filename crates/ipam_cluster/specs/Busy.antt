@@ -1,6 +1,6 @@
 -- How many slots are busy.
 use Rattle.std.specs.Prelude.{ℕ, List, Option, Some, None, sum_by}
-use Rattle.ipam_running.specs.declared.running.Running.{Running}
+use Rattle.ipam_cluster.specs.declared.running.Running.{Running}
 
 abbrev pub busy : Option Running → ℕ
 busy None = 0

@@ -9,8 +9,8 @@ use Rattle.ipam_model.specs.History.{Base, cluster_at}
 use Rattle.ipam_model.specs.Right.{IsRight}
 use Rattle.ipam_model.specs.Stands.{Stands}
 use Rattle.ipam_collect.specs.declared.collect.Grace.{Grace}
-use Rattle.ipam_running.specs.declared.running.Running.{Running}
-use Rattle.ipam_running.specs.Running.{running_rest, running_grace, grace_of}
+use Rattle.ipam_cluster.specs.declared.running.Running.{Running}
+use Rattle.ipam_cluster.specs.Running.{running_rest, running_grace, grace_of}
 use Rattle.ipam_cluster.specs.Slots.{slot_in}
 use Rattle.ipam_cluster.specs.declared.cluster.Cluster.{Cluster}
 

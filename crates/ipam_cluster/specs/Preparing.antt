@@ -12,9 +12,9 @@ use Rattle.ipam_model.specs.declared.limits.TheConstants.{SLOTS}
 use Rattle.ipam_model.specs.Cluster.{record_written}
 use Rattle.ipam_model.specs.Named.{name_of, told_of}
 use Rattle.ipam_store.specs.Granted.{IsSoundWrite}
-use Rattle.ipam_running.specs.declared.running.Running.{Running}
-use Rattle.ipam_running.specs.declared.running.RunningTurned.{RunningTurned}
-use Rattle.ipam_running.specs.Running.{running_rest, running_leaves, FitsRunning}
+use Rattle.ipam_cluster.specs.declared.running.Running.{Running}
+use Rattle.ipam_cluster.specs.declared.running.RunningTurned.{RunningTurned}
+use Rattle.ipam_cluster.specs.Running.{running_rest, running_leaves, FitsRunning}
 use Rattle.ipam_cluster.specs.Cluster.{slot_of_cluster}
 use Rattle.ipam_cluster.specs.declared.cluster.Cluster.{Cluster}
 use Rattle.ipam_cluster.specs.declared.turns.Prepared.{Prepared}

@@ -2,9 +2,9 @@
 use Rattle.std.specs.Prelude.{◌≡◌, ℕ, List, Option, Some, None, IsTrue, slice_index_or, slice_set}
 use Rattle.ipam_records.specs.Word.{Word, waits}
 use Rattle.ipam_model.specs.declared.answer.Answer.{Answer}
-use Rattle.ipam_running.specs.declared.running.Running.{Running}
-use Rattle.ipam_running.specs.declared.running.RunningTurned.{RunningTurned}
-use Rattle.ipam_running.specs.Running.{running_rest, running_grace, FitsRunning, is_over}
+use Rattle.ipam_cluster.specs.declared.running.Running.{Running}
+use Rattle.ipam_cluster.specs.declared.running.RunningTurned.{RunningTurned}
+use Rattle.ipam_cluster.specs.Running.{running_rest, running_grace, FitsRunning, is_over}
 
 -- what runs in a slot; nothing in one that is not there
 abbrev pub slot_in : List (Option Running) → ℕ → Option Running

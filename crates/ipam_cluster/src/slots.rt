@@ -1,14 +1,14 @@
 //! The slots of a cluster, one beside the other.
 ghost use Rattle.std.specs.Prelude.{◌≡◌, ◌<◌, ℕ, Some, None, length, slice_set, IsSome, IsNone, IfOk, OnOk, OnErr};
 ghost use Rattle.ipam_records.specs.Word.{answer_in, after_feed};
-ghost use Rattle.ipam_running.specs.declared.running.Running.{Running as AnyRunning};
-ghost use Rattle.ipam_running.specs.Running.{running_rest, running_leaves};
+ghost use Rattle.ipam_cluster.specs.declared.running.Running.{Running as AnyRunning};
+ghost use Rattle.ipam_cluster.specs.Running.{running_rest, running_leaves};
 ghost use Rattle.ipam_cluster.specs.Busy.{busy_count};
 ghost use Rattle.ipam_cluster.specs.Slots.{slot_in, IsDue, MayGo, RunsOn};
 
+use crate::running::{Running, RunningTurned};
 use ipam_model::{Answer, SLOTS};
 use ipam_records::Procedure;
-use ipam_running::{Running, RunningTurned};
 use ipam_text::Text;
 use std::alloc::{AllocError, Global};
 use std::mem;

@@ -13,10 +13,10 @@ ghost use Rattle.ipam_cluster.specs.Turns.{IsTurn, write_by};
 
 use crate::cluster::{Cluster, MOST_ENTRIES};
 use crate::faults::PrepareFault;
+use crate::running::RunningTurned;
 use crate::slots::{go, put};
 use ipam_model::{Answer, CallName, Called, Entry, Fate, SLOTS, SlotState, Told};
 use ipam_records::{Call, Heard, Procedure, Record, Reply, Write};
-use ipam_running::RunningTurned;
 use std::alloc::{AllocError, Global};
 
 /// A call that is prepared: all memory that it takes is taken.

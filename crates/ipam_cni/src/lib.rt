@@ -1,10 +1,11 @@
 //! One CNI call over a keeper: standard input is read, the call is looked at, and its request runs by
-//! itself over the keeper's rows.
+//! itself over the keeper's rows. And what such calls are told.
 #![tactic(auto)]
 
 mod asking;
 mod calling;
 mod end;
+pub mod laws;
 mod reading;
 mod run;
 mod telling;

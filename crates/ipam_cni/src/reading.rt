@@ -2,7 +2,7 @@
 ghost use Rattle.std.specs.Prelude.{◌≡◌, ◌+◌, ◌≤◌, length, IfOk, OnErr, Ok, Err};
 ghost use Rattle.std.specs.Io.KnownBytes.{IsAtEnd, prepend_known};
 ghost use Rattle.ipam_io.specs.Counts.{Rose};
-ghost use Rattle.ipam_lines.specs.Inputs.{OnNoReadFault, OnReadFault};
+ghost use Rattle.ipam_io.specs.Inputs.{OnNoReadFault, OnReadFault};
 ghost use Rattle.cni_types.specs.declared.error.CniError.{CniError as OneError};
 ghost use Rattle.cni_types.specs.declared.error.LookFault.TheVariants.{Refused};
 ghost use Rattle.cni_types.specs.declared.limits.TheConstants.{MOST_INPUT_BYTES};

@@ -13,11 +13,11 @@ use Rattle.ipam_cni.specs.declared.end.CniFault.TheVariants.{Read, Undecodable, 
 use Rattle.ipam_cni.specs.Calls as cni
 use Rattle.ipam_cni.specs.Ends as cni_ends
 use Rattle.ipam_cni.specs.Replies.{ComesTo, StatusAndText}
-use Rattle.ipam_cni_laws.proofs.Records.{by_records}
-use Rattle.ipam_cni_laws.proofs.Spared as spared
-use Rattle.ipam_cni_laws.proofs.Spared.{gc_leaves, status_adds}
-use Rattle.ipam_cni_laws.proofs.TryAgain.{call_never_again}
-use Rattle.ipam_cni_laws.specs.Alone.{SaysTryAgain}
+use Rattle.ipam_cni.proofs.Records.{by_records}
+use Rattle.ipam_cni.proofs.Spared as spared
+use Rattle.ipam_cni.proofs.Spared.{gc_leaves, status_adds}
+use Rattle.ipam_cni.proofs.TryAgain.{call_never_again}
+use Rattle.ipam_cni.specs.Alone.{SaysTryAgain}
 use Rattle.ipam_kept.specs.Rows.{texts_loaded}
 use Rattle.ipam_cni.proofs.Shortness.{look_short}
 use Rattle.ipam_command.specs.CniCalls.{Finds, GoesWell, IsCallByRecords, IsReplySaid, LeavesWhatIsSpared, NeverSaysTryAgain, TellsOfAdd}

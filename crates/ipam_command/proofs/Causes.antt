@@ -13,8 +13,8 @@ use Rattle.ipam_kept.specs.declared.kept.KeptFault.{KeptFault}
 use Rattle.ipam_kept.specs.declared.kept.KeptFault.TheVariants as fault
 use Rattle.ipam_words.specs.declared.texts.TheConstants.{HELP, VERSION}
 use Rattle.ipam_words.specs.Words.{AskedCommand, Audit, Call, Cni, Play, Apply, Get, Help, Routes, Release, Gen, Serve, Show, Version}
-use Rattle.ipam_play_run.specs.declared.end.PlayEnd.{PlayEnd}
-use Rattle.ipam_play_run.specs.declared.end.PlayEnd.TheVariants as play
+use Rattle.ipam_play.specs.declared.end.PlayEnd.{PlayEnd}
+use Rattle.ipam_play.specs.declared.end.PlayEnd.TheVariants as play
 use Rattle.ipam_gen.specs.declared.end.GenEnd.{GenEnd}
 use Rattle.ipam_gen.specs.declared.end.GenEnd.TheVariants as gen
 use Rattle.ipam_gen.specs.Summary.{CountsFaults}
@@ -30,9 +30,9 @@ use Rattle.ipam_commands.specs.Texts.{routes_text}
 use Rattle.ipam_show.specs.Rows.{rows_text}
 use Rattle.ipam_resources.specs.declared.resource.Resource.{Resource}
 use Rattle.ipam_resources.specs.Printed.{applied_line, fault_line, refused_line}
-use Rattle.ipam_apply.specs.Applied as apply
-use Rattle.ipam_apply.specs.Applying as applying
-use Rattle.ipam_apply.specs.Outside as apply_outside
+use Rattle.ipam_commands.specs.Applied as apply
+use Rattle.ipam_commands.specs.Applying as applying
+use Rattle.ipam_commands.specs.Outside as apply_outside
 use Rattle.cni_types.specs.Reading.{Pair}
 use Rattle.cni_asks.specs.declared.replies.CniReply.{CniReply}
 use Rattle.cni_asks.specs.declared.replies.CniReply.TheVariants.{Addresses, Success, Failure}

@@ -3,7 +3,7 @@ use Rattle.std.proofs.Common.{◌≡◌, ℕ, List, Option, Some, None, sym, sub
 use Rattle.std.specs.Prelude.{IfSome}
 use Rattle.ipam_play.specs.Readings.{readings}
 use Rattle.ipam_play.specs.Script.{script_of}
-use Rattle.ipam_play_run.specs.Writing as play_run
+use Rattle.ipam_play.specs.Writing as play_run
 use Rattle.ipam_command.specs.Headline.{HasWrittenRight, script_in}
 use Rattle.ipam_command.proofs.Generating.{counted_right}
 use Rattle.ipam_command.proofs.Writing.{written_right}
@@ -11,10 +11,10 @@ use Rattle.cni_types.specs.Reading.{Pair}
 use Rattle.ipam_records.specs.declared.call.Row.{Row as RowText}
 use Rattle.ipam_records.specs.Datastore.{Datastore}
 use Rattle.ipam_words.specs.Words.{AskedCommand}
-use Rattle.ipam_play_run.specs.declared.end.PlayEnd.{PlayEnd}
+use Rattle.ipam_play.specs.declared.end.PlayEnd.{PlayEnd}
 use Rattle.ipam_gen.specs.declared.end.GenEnd.{GenEnd}
 use Rattle.ipam_gen.specs.Summary as gen
-use Rattle.ipam_apply.specs.Applied.{ApplyEnds, DocumentEnds, Read, ReadFailed, NoInput, Good, Bad, NoRoom}
+use Rattle.ipam_commands.specs.Applied.{ApplyEnds, DocumentEnds, Read, ReadFailed, NoInput, Good, Bad, NoRoom}
 use Rattle.ipam_commands.specs.declared.status.Status.{Status}
 use Rattle.ipam_commands.specs.Telling.{ReportsRows, Writes}
 use Rattle.ipam_command.specs.Commands.{Does, DoesGen, DoesPlay, DoesTell, PlayEnds, SaysFixedText, unknown_text}

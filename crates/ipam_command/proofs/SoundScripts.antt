@@ -6,10 +6,10 @@ use Rattle.std.proofs.lemmas.List.Elements.{All-append, All-from_recursion, All-
 use Rattle.ipam_model.specs.declared.entry.Fate.TheVariants.{Well, Before, After}
 use Rattle.ipam_model.specs.Course.{Event, Begin, Turn, Feed, Stop, Restart}
 use Rattle.ipam_model.specs.CourseLaw.{IsEvent}
-use Rattle.ipam_script.specs.declared.line.Line.{Line}
-use Rattle.ipam_script.specs.declared.line.Line.TheVariants as line
-use Rattle.ipam_script.specs.Lines.{ScriptLine, Whole, Long, lines_of}
-use Rattle.ipam_script.specs.Reading.{line_reading}
+use Rattle.ipam_answer_text.specs.declared.line.Line.{Line}
+use Rattle.ipam_answer_text.specs.declared.line.Line.TheVariants as line
+use Rattle.ipam_answer_text.specs.Lines.{ScriptLine, Whole, Long, lines_of}
+use Rattle.ipam_answer_text.specs.Reading.{line_reading}
 use Rattle.ipam_play.specs.declared.refusal.LineRefusal.TheVariants as refusal
 use Rattle.ipam_play.specs.Played.{events_in}
 use Rattle.ipam_play.specs.Readings.{LineReading, read_or_not, line_reading_of, readings}

@@ -3,8 +3,8 @@ use Rattle.std.proofs.Common.{ℕ, inl, inr, List, sym, subst}
 use Rattle.std.specs.Prelude.{◌++◌}
 use Rattle.ipam_model.specs.declared.entry.Entry.{Entry}
 use Rattle.ipam_play.specs.Played.{Whole}
-use Rattle.ipam_play_run.specs.declared.end.PlayEnd.TheVariants as end
-use Rattle.ipam_play_run.specs.Writing.{IsFront, IsSoFar, IsText, OfAll, OfFront, Opened, Unopened}
+use Rattle.ipam_play.specs.declared.end.PlayEnd.TheVariants as end
+use Rattle.ipam_play.specs.Writing.{IsFront, IsSoFar, IsText, OfAll, OfFront, Opened, Unopened}
 use Rattle.ipam_command.specs.Headline.{IsRightOf, IsRightText, SoFarRightLaw, WrittenRightLaw, script_in}
 use Rattle.ipam_command.proofs.Playing.{front_lawful, lawful_right, nothing_right, played_lawful, played_right}
 

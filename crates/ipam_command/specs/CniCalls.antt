@@ -31,9 +31,9 @@ use Rattle.ipam_cni.specs.declared.end.CniEnd.{CniEnd}
 use Rattle.ipam_cni.specs.declared.end.CniEnd.TheVariants.{Failed}
 use Rattle.ipam_cni.specs.declared.end.CniFault.TheVariants.{Memory}
 use Rattle.ipam_cni.specs.Replies.{StatusAndText, begun_by}
-use Rattle.ipam_cni_laws.specs.Alone.{SaysTryAgain}
-use Rattle.ipam_cni_laws.specs.ByRecords.{IsByRecords}
-use Rattle.ipam_cni_laws.specs.Spare.{LeavesSpared}
+use Rattle.ipam_cni.specs.Alone.{SaysTryAgain}
+use Rattle.ipam_cni.specs.ByRecords.{IsByRecords}
+use Rattle.ipam_cni.specs.Spare.{LeavesSpared}
 use Rattle.ipam_keeper.specs.Outside.{Outside}
 
 -- ---- premises and replies

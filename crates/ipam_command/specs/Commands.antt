@@ -7,8 +7,8 @@ use Rattle.ipam_records.specs.declared.call.Row.{Row as RowText}
 use Rattle.ipam_records.specs.Datastore.{Datastore}
 use Rattle.ipam_words.specs.Words.{AskedCommand, Audit, Call, Cni, Play, Apply, Get, Help, Routes, Release, Gen, Serve, Show, Version}
 use Rattle.ipam_words.specs.declared.texts.TheConstants.{HELP, VERSION}
-use Rattle.ipam_play_run.specs.declared.end.PlayEnd.{PlayEnd}
-use Rattle.ipam_play_run.specs.declared.end.PlayEnd.TheVariants as play
+use Rattle.ipam_play.specs.declared.end.PlayEnd.{PlayEnd}
+use Rattle.ipam_play.specs.declared.end.PlayEnd.TheVariants as play
 use Rattle.ipam_gen.specs.declared.end.GenEnd.{GenEnd}
 use Rattle.ipam_gen.specs.Summary as gen
 use Rattle.ipam_command.specs.Headline.{HasWrittenRight, HasWrittenSoFarRight, script_in}
@@ -24,7 +24,7 @@ use Rattle.ipam_kept.specs.declared.kept.KeptFault.{KeptFault}
 use Rattle.ipam_model.specs.declared.request.Request.TheVariants as request
 use Rattle.ipam_addr.specs.Shape.{CidrValue}
 use Rattle.cni_types.specs.Reading.{Pair}
-use Rattle.ipam_apply.specs.Applied as apply
+use Rattle.ipam_commands.specs.Applied as apply
 use Rattle.ipam_commands.specs.declared.status.Status.TheVariants as status_of
 use Rattle.ipam_cni.specs.declared.end.CniEnd.{CniEnd}
 use Rattle.ipam_cni.specs.Calls as cni

@@ -7,9 +7,9 @@ use Rattle.ipam_play.specs.Played.{Ending, IsPlayed, base_of}
 use Rattle.ipam_play.specs.Player.{IsBaseOpened}
 use Rattle.ipam_play.specs.Readings.{readings}
 use Rattle.ipam_play.specs.Script.{Script, script_of}
-use Rattle.ipam_play_run.specs.declared.end.PlayEnd.{PlayEnd}
-use Rattle.ipam_play_run.specs.declared.end.PlayEnd.TheVariants as end
-use Rattle.ipam_play_run.specs.Writing.{HasWrittenJournal, IsRefusedBase, IsRefusedLine, IsText, IsWhole, OfAll, OfFront, WritesAll, WritesFront, WritesPart, WritesSoFar, read_fault_text}
+use Rattle.ipam_play.specs.declared.end.PlayEnd.{PlayEnd}
+use Rattle.ipam_play.specs.declared.end.PlayEnd.TheVariants as end
+use Rattle.ipam_play.specs.Writing.{HasWrittenJournal, IsRefusedBase, IsRefusedLine, IsText, IsWhole, OfAll, OfFront, WritesAll, WritesFront, WritesPart, WritesSoFar, read_fault_text}
 
 -- the script that these bytes are
 abbrev pub script_in : List ℕ → Script

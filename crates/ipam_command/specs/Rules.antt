@@ -10,7 +10,7 @@ use Rattle.ipam_kept.specs.Broken.{broken_line}
 use Rattle.ipam_words.specs.Words.{AskedCommand, Audit, Call, Cni, Play, Apply, Get, Help, Routes, Release, Gen, Serve, Show, Version}
 use Rattle.ipam_words.specs.declared.texts.TheConstants.{HELP, VERSION}
 use Rattle.ipam_play.specs.Played.{Ending, Whole, LineRefused, NotOpened}
-use Rattle.ipam_play_run.specs.Writing.{WritesAll}
+use Rattle.ipam_play.specs.Writing.{WritesAll}
 use Rattle.ipam_gen.specs.Summary.{WritesSummary}
 use Rattle.ipam_command.specs.Headline.{script_in}
 use Rattle.ipam_commands.specs.declared.outcome.ChangeOutcome.{ChangeOutcome}
@@ -25,8 +25,8 @@ use Rattle.ipam_resources.specs.declared.refusal.Refusal.{Refusal}
 use Rattle.ipam_resources.specs.declared.resource.Resource.{Resource}
 use Rattle.ipam_resources.specs.Documents.{document_reading}
 use Rattle.ipam_resources.specs.Printed.{fault_line, answer_refusal, refused_line}
-use Rattle.ipam_apply.specs.Applying.{AreApplied, alone_on, applied_lines}
-use Rattle.ipam_apply.specs.Inputs.{IsDocument}
+use Rattle.ipam_commands.specs.Applying.{AreApplied, alone_on, applied_lines}
+use Rattle.ipam_commands.specs.Inputs.{IsDocument}
 use Rattle.std.specs.Prelude.{IfSome}
 use Rattle.cni_types.specs.declared.version.Version.TheVariants.{V1_0_0}
 use Rattle.cni_types.specs.Reading.{Pair}

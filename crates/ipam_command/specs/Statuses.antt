@@ -2,8 +2,8 @@
 use Rattle.std.specs.Prelude.{ℕ}
 use Rattle.ipam_gen.specs.declared.end.GenEnd.{GenEnd}
 use Rattle.ipam_gen.specs.declared.end.GenEnd.TheVariants as gen
-use Rattle.ipam_play_run.specs.declared.end.PlayEnd.{PlayEnd}
-use Rattle.ipam_play_run.specs.declared.end.PlayEnd.TheVariants as play
+use Rattle.ipam_play.specs.declared.end.PlayEnd.{PlayEnd}
+use Rattle.ipam_play.specs.declared.end.PlayEnd.TheVariants as play
 
 abbrev pub code_of_play : PlayEnd → ℕ
 code_of_play play.Done = 0

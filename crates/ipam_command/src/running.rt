@@ -8,13 +8,12 @@ ghost use Rattle.ipam_keeper.specs.Outside.{outside_of};
 ghost use Rattle.ipam_command.specs.Rules.{CompleteLaw, asks_keeper, reads};
 
 use crate::statuses::{code_of_gen, code_of_play};
-use ipam_apply::apply;
 use ipam_cni::cni;
-use ipam_commands::{DONE, UNKNOWN_WORDS, WRITE_FAULT, get, release, routes, show};
+use ipam_commands::{DONE, UNKNOWN_WORDS, WRITE_FAULT, apply, get, release, routes, show};
 use ipam_gen::generate;
 use ipam_io::{Sink, Source};
 use ipam_keeper::Keeper;
-use ipam_play_run::play;
+use ipam_play::play;
 use ipam_text::Text;
 use ipam_words::{Command, HELP, VERSION, read_words};
 use std::alloc::Global;

@@ -4,7 +4,7 @@ ghost use Rattle.ipam_command.specs.Statuses.{code_of_gen, code_of_play};
 
 use ipam_commands::{BROKEN_ROWS, DONE, LINE_REFUSED, NO_MEMORY, READ_FAULT, WRITE_FAULT};
 use ipam_gen::GenEnd;
-use ipam_play_run::PlayEnd;
+use ipam_play::PlayEnd;
 
 /// The status of a script that was played to this end.
 pub(crate) fn code_of_play(end: PlayEnd) -> u8

@@ -3,20 +3,19 @@ use crate::command::{WELL, push_run, push_run_by_word};
 use crate::texts::push_line;
 use crate::{asked, audits, freed, keepers, kept, rows, scripts, settled};
 use ipam_keeper::MemoryKeeper;
-use ipam_lines::report;
 use ipam_sqlite::FileKeeper;
 use std::alloc::{AllocError, Global};
 use std::thread::Threads;
 
 /// Plays the scenario, and answers its title and how many lines came of it, or these where they are not those that
 /// are wanted.
-pub(crate) fn reported<R: Threads + Sync>(
+pub fn report<R: Threads + Sync>(
     threads: &R,
     rt: &HostRuntime,
     scenario: &str,
 ) -> Result<String, AllocError> {
     let found = played(threads, rt, scenario)?;
-    report(rt.alloc(), scenario, found.as_str())
+    ipam_io::report(rt.alloc(), scenario, found.as_str())
 }
 
 /// What comes of the scenario. Below its title it has steps, or a line that begins with `script`, and the script.

@@ -4,3 +4,11 @@ pub mod RouteLines
 pub mod Loadings
 mod Refusals
 pub mod Wanting
+pub mod AdminWords
+pub mod DocumentKinds
+pub mod Readiness
+pub mod Steps
+pub mod Runs
+pub mod Endings
+pub mod AnySource
+pub mod FixedLines

@@ -1,18 +1,26 @@
-//! The operator's commands over a keeper's rows.
+//! The operator's commands over a keeper's rows, and `apply`: an operator's document of resources is applied over
+//! them.
 #![tactic(auto)]
 
 mod changing;
+mod document;
 mod getting;
+mod lines;
 mod loading;
 mod outcome;
+mod reading;
 mod releasing;
 mod reporting;
+mod resources;
 mod routing;
 mod showing;
 mod status;
+mod step;
 mod telling;
+mod told_apply;
 mod unreserving;
 
+pub use document::apply;
 pub use getting::get;
 pub use outcome::ChangeOutcome;
 pub use releasing::release;

@@ -3,8 +3,7 @@ ghost use Rattle.std.specs.Prelude.{◌≡◌, IfOk};
 ghost use Rattle.std.specs.Arc.{arc_value};
 
 use crate::alarm::Alarm;
-use ipam_patience::Queue;
-use ipam_serve::Opening;
+use ipam_serve::{Opening, Queue};
 use std::alloc::{AllocError, Global};
 use std::sync::Arc;
 

@@ -9,8 +9,7 @@ ghost use Rattle.ipam_serve.specs.Sessions.{RoseIf, Session, is_halted, is_read_
 
 use crate::serves::Serves;
 use ipam_io::{Link, SystemClock};
-use ipam_patience::{Queue, Queued};
-use ipam_serve::{Opening, SessionEnd, SessionGate};
+use ipam_serve::{Opening, Queue, Queued, SessionEnd, SessionGate};
 use ipam_shared::Pass;
 use std::alloc::Global;
 use std::sync::{Arc, Wait};

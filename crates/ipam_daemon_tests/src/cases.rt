@@ -14,7 +14,7 @@ pub fn report<R: Host + Sync + Files + Net<Listener = TcpListener, Stream = TcpS
 ) -> Result<String, AllocError> {
     let (title, steps) = scenario.split_once('\n').unwrap_or((scenario, ""));
     let found = told(host, rt, title, steps)?;
-    ipam_lines::report(rt.alloc(), scenario, found.as_str())
+    ipam_io::report(rt.alloc(), scenario, found.as_str())
 }
 
 /// What comes of the steps. The title begins with the kind of the scenario and a name, as in `session free:`.

@@ -6,8 +6,7 @@
 use crate::calls::called_over;
 use crate::loopback::limits_of;
 use crate::rows::push_line;
-use ipam_io::Sink;
-use ipam_lines::{Got, Lines, LinesFault};
+use ipam_io::{Got, Lines, LinesFault, Sink};
 use ipam_socket::{Address, SocketLink, Stream, connect};
 use std::alloc::{AllocError, Global};
 use std::str;

@@ -1,6 +1,5 @@
 //! A patience that counts how often it is asked.
-use ipam_patience::{Queue, Queued};
-use ipam_serve::Patience;
+use ipam_serve::{Patience, Queue, Queued};
 use std::alloc::{AllocError, Global};
 use std::sync::{Arc, Wait};
 

@@ -1,6 +1,6 @@
 //! Places in a queue, taken and left by one thread, which nobody rings.
 use crate::rows::push_line;
-use ipam_patience::{MOST_WAITS, Others, Place, Queue};
+use ipam_serve::{MOST_WAITS, Others, Place, Queue};
 use std::alloc::{AllocError, Global};
 use std::sync::Wait;
 

@@ -8,7 +8,7 @@ use crate::served::{served, share};
 use ipam_daemon::Serves;
 use ipam_io::ListGate;
 use ipam_keeper::Row;
-use ipam_patience::Queue;
+use ipam_serve::Queue;
 use ipam_shared::{Keeper, Pass, Shared};
 use std::alloc::{AllocError, Global};
 use std::sync::{Arc, Wait};

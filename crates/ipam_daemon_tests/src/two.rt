@@ -7,7 +7,7 @@ use crate::meeting::{Meeting, MeetingGate};
 use crate::rows::{FREE, keeper_of, numbers, push_line};
 use crate::served::{served, share};
 use ipam_daemon::Serves;
-use ipam_patience::Queue;
+use ipam_serve::Queue;
 use ipam_shared::{Keeper, Pass};
 use std::alloc::{AllocError, Global};
 use std::sync::{Arc, Wait};

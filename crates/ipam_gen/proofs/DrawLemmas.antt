@@ -6,8 +6,8 @@ use Rattle.ipam_model.specs.declared.entry.SlotState.TheVariants as state
 use Rattle.ipam_model.specs.Cluster as model
 use Rattle.ipam_model.specs.Course.{Begin, Turn}
 use Rattle.ipam_records.specs.Word.{waits}
-use Rattle.ipam_running.specs.Running.{running_rest}
-use Rattle.ipam_running.specs.declared.running.Running.{Running}
+use Rattle.ipam_cluster.specs.Running.{running_rest}
+use Rattle.ipam_cluster.specs.declared.running.Running.{Running}
 use Rattle.ipam_cluster.specs.declared.cluster.Cluster.{Cluster}
 use Rattle.ipam_cluster.specs.Cluster.{IsSlot, StandsFor, slot_of_cluster, state_in}
 use Rattle.ipam_cluster.proofs.Adding.{none_there}

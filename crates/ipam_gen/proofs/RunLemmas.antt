@@ -18,9 +18,9 @@ use Rattle.ipam_model.specs.CourseLaw.{event_of}
 use Rattle.ipam_model.specs.History.{cluster_at}
 use Rattle.ipam_model.specs.Requests.{word_of}
 use Rattle.ipam_collect.specs.Collect.{grace_asked}
-use Rattle.ipam_running.specs.declared.running.Running.{Running}
-use Rattle.ipam_running.specs.Running.{running_rest, running_grace, grace_of}
-use Rattle.ipam_running.proofs.StillLemmas.{waits_with}
+use Rattle.ipam_cluster.specs.declared.running.Running.{Running}
+use Rattle.ipam_cluster.specs.Running.{running_rest, running_grace, grace_of}
+use Rattle.ipam_cluster.proofs.StillLemmas.{waits_with}
 use Rattle.ipam_cluster.specs.declared.cluster.Cluster.{Cluster}
 use Rattle.ipam_cluster.proofs.Waiting.{asks-times, is-waiting}
 use Rattle.ipam_cluster.specs.Cluster.{IsSlot, StandsFor, WaitsWith, grace_in, slot_of_cluster, state_in}

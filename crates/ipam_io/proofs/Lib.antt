@@ -1,2 +1,5 @@
 pub mod CountLemmas
 pub mod ReadingLemmas
+pub mod AnswerLemmas
+pub mod FeedLemmas
+pub mod LineLemmas

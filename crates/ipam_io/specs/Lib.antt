@@ -4,3 +4,6 @@ pub mod Passing
 pub mod Fakes
 pub mod Standard
 pub mod Readings
+pub mod Feeds
+pub mod Lines
+pub mod Inputs

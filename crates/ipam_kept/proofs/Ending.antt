@@ -21,7 +21,7 @@ use Rattle.ipam_laws.proofs.AloneHistory.{alone_histories}
 use Rattle.ipam_laws.proofs.Fates.{alone_faults}
 use Rattle.ipam_laws.proofs.OwnAnswers.{own_answers}
 use Rattle.ipam_laws.proofs.StandsFor.{begins_anew, entries-are}
-use Rattle.ipam_running.specs.declared.running.Running.{Running}
+use Rattle.ipam_cluster.specs.declared.running.Running.{Running}
 use Rattle.ipam_cluster.specs.Cluster.{IsSlot, StandsFor, slot_of_cluster}
 use Rattle.ipam_kept.specs.declared.kept.Kept.{Kept}
 use Rattle.ipam_kept.specs.declared.write.RowWrite.{RowWrite}

@@ -19,8 +19,8 @@ use Rattle.ipam_model.specs.Cluster.{after, call_entry, call_made, store_with, w
 use Rattle.ipam_model.specs.Cluster as model
 use Rattle.ipam_model.specs.History.{Base, Lawful, cluster_at, store_at}
 use Rattle.ipam_laws.proofs.StoreSteps.{can-next, write_told-granted}
-use Rattle.ipam_running.specs.declared.running.Running.{Running}
-use Rattle.ipam_running.specs.Running.{running_rest}
+use Rattle.ipam_cluster.specs.declared.running.Running.{Running}
+use Rattle.ipam_cluster.specs.Running.{running_rest}
 use Rattle.ipam_cluster.specs.declared.cluster.Cluster.{Cluster}
 use Rattle.ipam_cluster.specs.Cluster.{IsSlot, StandsFor, slot_of_cluster}
 use Rattle.ipam_cluster.specs.Preparing.{write_asked, write_next}

@@ -18,10 +18,10 @@ use Rattle.ipam_model.specs.Cluster as model
 use Rattle.ipam_model.specs.Cluster.{after}
 use Rattle.ipam_model.specs.History.{cluster_at}
 use Rattle.ipam_laws.proofs.Fates.{faults}
-use Rattle.ipam_running.specs.declared.running.Running.{Running}
+use Rattle.ipam_cluster.specs.declared.running.Running.{Running}
 use Rattle.ipam_collect.specs.Collect.{grace_asked}
-use Rattle.ipam_running.specs.Running.{running_rest, running_grace, grace_of}
-use Rattle.ipam_running.proofs.StillLemmas.{waits_with}
+use Rattle.ipam_cluster.specs.Running.{running_rest, running_grace, grace_of}
+use Rattle.ipam_cluster.proofs.StillLemmas.{waits_with}
 use Rattle.ipam_cluster.proofs.Waiting.{asks-times, is-waiting, not-idle}
 use Rattle.ipam_cluster.specs.Cluster.{IsSlot, StandsFor, grace_in, slot_of_cluster, state_in, WaitsWith}
 use Rattle.ipam_kept.specs.declared.kept.Kept.{Kept}

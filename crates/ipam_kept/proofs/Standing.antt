@@ -19,8 +19,8 @@ use Rattle.ipam_model.specs.Opened.{OpensAs}
 use Rattle.ipam_laws.proofs.SlotsHistory.{consistent_law}
 use Rattle.ipam_keeper.specs.Keeping.{IsTold}
 use Rattle.ipam_keeper.specs.Rows.{Ascend}
-use Rattle.ipam_running.specs.declared.running.Running.{Running}
-use Rattle.ipam_running.specs.Running.{running_rest}
+use Rattle.ipam_cluster.specs.declared.running.Running.{Running}
+use Rattle.ipam_cluster.specs.Running.{running_rest}
 use Rattle.ipam_cluster.specs.declared.cluster.Cluster.{Cluster}
 use Rattle.ipam_cluster.specs.declared.turns.Prepared.{Prepared}
 use Rattle.ipam_cluster.specs.Cluster.{AddsTo, IsSlot, IsUnchanged, StandsFor, slot_of_cluster}

@@ -7,7 +7,7 @@ use Rattle.ipam_addr.specs.declared.address.Family.TheVariants.{V4, V6}
 use Rattle.ipam_addr.specs.Holding.{is_same_family}
 use Rattle.ipam_addr.specs.Shape.{CidrValue}
 use Rattle.ipam_block.specs.Shape as block
-use Rattle.ipam_handle.specs.Operations.{count_of}
+use Rattle.ipam_block.specs.HandleOperations.{count_of}
 use Rattle.ipam_records.specs.declared.call.Call.{Call}
 use Rattle.ipam_records.specs.declared.call.Call.TheVariants.{Get, List as ListAll}
 use Rattle.ipam_records.specs.declared.key.Key.TheVariants as key

@@ -8,8 +8,8 @@ use Rattle.ipam_block.specs.declared.state.State.TheVariants.{Pending, Confirmed
 use Rattle.ipam_block.specs.declared.allocation.Attributes.{Attributes}
 use Rattle.ipam_block.specs.Shape.{BlockValue}
 use Rattle.ipam_block.specs.Operations.{block_with_ordinal, block_without, next_block}
-use Rattle.ipam_handle.specs.Operations.{count_of, with_lowered_count, with_raised_count}
-use Rattle.ipam_handle.specs.Shape.{HandleValue}
+use Rattle.ipam_block.specs.HandleOperations.{count_of, with_lowered_count, with_raised_count}
+use Rattle.ipam_block.specs.HandleShape.{HandleValue}
 use Rattle.ipam_records.specs.declared.call.Call.{Call}
 use Rattle.ipam_records.specs.declared.call.Call.TheVariants.{Get, Create, Update, Delete}
 use Rattle.ipam_records.specs.declared.key.Key.{Key}

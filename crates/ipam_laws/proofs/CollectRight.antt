@@ -8,7 +8,7 @@ use Rattle.std.proofs.lemmas.List.Kept.{AllPairs-cons}
 use Rattle.ipam_addr.specs.Shape.{AddrValue}
 use Rattle.ipam_block.specs.Operations.{block_without, is_stamped, next_block}
 use Rattle.ipam_block.specs.Shape.{BlockValue}
-use Rattle.ipam_handle.specs.Order.{family_rank}
+use Rattle.ipam_block.specs.Order.{family_rank}
 use Rattle.ipam_records.specs.declared.call.Call.{Call}
 use Rattle.ipam_records.specs.declared.call.Call.TheVariants.{List as ListAll}
 use Rattle.ipam_records.specs.declared.key.Key.TheVariants as key

@@ -14,12 +14,12 @@ use Rattle.ipam_block.specs.declared.allocation.Allocation.{Allocation}
 use Rattle.ipam_block.specs.declared.allocation.Attributes.{Attributes}
 use Rattle.ipam_block.specs.Shape as block
 use Rattle.ipam_block.specs.Operations.{is_owned, block_with_ordinal, next_block}
-use Rattle.ipam_handle.specs.Shape as handle
-use Rattle.ipam_handle.specs.Operations.{count_in, count_of, counts_with, with_raised_count, with_lowered_count}
-use Rattle.ipam_handle.specs.Order.{cidr_cmp}
-use Rattle.ipam_handle.proofs.Order.{cidr_cmp_total, cidr_cmp_exact}
-use Rattle.ipam_handle.proofs.Entries.{lookup-insert_entry}
-use Rattle.ipam_handle.proofs.Reading.{counts_with-some}
+use Rattle.ipam_block.specs.HandleShape as handle
+use Rattle.ipam_block.specs.HandleOperations.{count_in, count_of, counts_with, with_raised_count, with_lowered_count}
+use Rattle.ipam_block.specs.Order.{cidr_cmp}
+use Rattle.ipam_block.proofs.Order.{cidr_cmp_total, cidr_cmp_exact}
+use Rattle.ipam_block.proofs.Entries.{lookup-insert_entry}
+use Rattle.ipam_block.proofs.Reading.{counts_with-some}
 use Rattle.ipam_model.specs.Usable.{is_same_cidr}
 
 -- ---- equal and other ranges and texts

@@ -6,10 +6,10 @@ use Rattle.ipam_addr.specs.Shape.{CidrValue}
 use Rattle.ipam_block.specs.declared.allocation.Allocation.{Allocation}
 use Rattle.ipam_block.specs.Operations.{block_without, is_owned, next_block}
 use Rattle.ipam_block.specs.Shape.{BlockValue}
-use Rattle.ipam_handle.specs.Operations.{content, count_of, counts_with, with_lowered_count, with_raised_count}
-use Rattle.ipam_handle.specs.Shape.{HandleValue}
-use Rattle.ipam_handle.specs.Sound.{AreCounts}
-use Rattle.ipam_handle.proofs.Reading.{count_in-here}
+use Rattle.ipam_block.specs.HandleOperations.{content, count_of, counts_with, with_lowered_count, with_raised_count}
+use Rattle.ipam_block.specs.HandleShape.{HandleValue}
+use Rattle.ipam_block.specs.HandleSound.{AreCounts}
+use Rattle.ipam_block.proofs.Reading.{count_in-here}
 use Rattle.ipam_records.specs.declared.call.Call.{Call}
 use Rattle.ipam_records.specs.declared.call.Call.TheVariants.{Get, List as ListAll, Create, Update, Delete}
 use Rattle.ipam_records.specs.declared.call.Write.TheVariants.{Put, Remove}

@@ -6,9 +6,9 @@ use Rattle.std.specs.Cmp.{Equal-is}
 use Rattle.std.specs.Map.{lookup}
 use Rattle.ipam_addr.specs.Shape.{CidrValue}
 use Rattle.ipam_block.specs.Operations.{is_owned}
-use Rattle.ipam_handle.specs.Operations.{count_in}
-use Rattle.ipam_handle.specs.Order.{cidr_cmp}
-use Rattle.ipam_handle.proofs.Order.{cidr_cmp_exact}
+use Rattle.ipam_block.specs.HandleOperations.{count_in}
+use Rattle.ipam_block.specs.Order.{cidr_cmp}
+use Rattle.ipam_block.proofs.Order.{cidr_cmp_exact}
 use Rattle.ipam_records.specs.declared.call.Call.TheVariants.{Get}
 use Rattle.ipam_records.specs.declared.key.Key.TheVariants as key
 use Rattle.ipam_records.specs.declared.record.Record.{Record}

@@ -24,7 +24,7 @@ use Rattle.ipam_block.specs.declared.allocation.Allocation.{Allocation}
 use Rattle.ipam_block.specs.Shape as block
 use Rattle.ipam_block.specs.Sound.{IsBlock, held_ordinals}
 use Rattle.ipam_block.proofs.Ordinals.{shared-below}
-use Rattle.ipam_handle.specs.Order.{cidr_cmp, family_rank}
+use Rattle.ipam_block.specs.Order.{cidr_cmp, family_rank}
 use Rattle.ipam_records.specs.declared.key.Key.TheVariants as key
 use Rattle.ipam_records.specs.declared.record.Record.{Record}
 use Rattle.ipam_records.specs.declared.record.Record.TheVariants as record_of

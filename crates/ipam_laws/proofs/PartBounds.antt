@@ -7,7 +7,7 @@ use Rattle.ipam_block.specs.Shape as block
 use Rattle.ipam_records.specs.Label.{Credit}
 use Rattle.ipam_records.specs.Said.{Said}
 use Rattle.ipam_records.specs.Word.{Word}
-use Rattle.ipam_handle.specs.Operations.{count_of}
+use Rattle.ipam_block.specs.HandleOperations.{count_of}
 use Rattle.ipam_addr.specs.declared.address.Family.{Family}
 use Rattle.ipam_model.specs.declared.answer.Scan.{Scan}
 use Rattle.ipam_model.specs.Add.{five_reads}

@@ -2,9 +2,9 @@
 use Rattle.std.proofs.Common.{◌≡◌, ◌≢◌, ℕ, zero, suc, ◌≤◌, inr, Bool, true, false, cond, List, [], ◌∷◌, Option, Some, None, refl, sym, ap, ◌∙◌, subst, arith}
 use Rattle.std.specs.Prelude.{nat_le}
 use Rattle.ipam_addr.specs.Shape.{CidrValue}
-use Rattle.ipam_handle.specs.Shape.{HandleValue}
-use Rattle.ipam_handle.specs.Operations.{content, count_in, count_of, with_lowered_count, with_raised_count}
-use Rattle.ipam_handle.specs.Sound.{AreCounts}
+use Rattle.ipam_block.specs.HandleShape.{HandleValue}
+use Rattle.ipam_block.specs.HandleOperations.{content, count_in, count_of, with_lowered_count, with_raised_count}
+use Rattle.ipam_block.specs.HandleSound.{AreCounts}
 use Rattle.ipam_records.specs.declared.call.Call.{Call}
 use Rattle.ipam_records.specs.declared.call.Call.TheVariants.{Get, Update, Delete}
 use Rattle.ipam_records.specs.declared.key.Key.TheVariants as key

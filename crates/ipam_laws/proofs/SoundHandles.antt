@@ -9,13 +9,13 @@ use Rattle.std.proofs.lemmas.List.Elements.{All-contains}
 use Rattle.std.proofs.lemmas.Map.Views.{Contains-from_lookup}
 use Rattle.ipam_addr.specs.Shape.{CidrValue}
 use Rattle.ipam_block.specs.Sound.{IsBlockCidr}
-use Rattle.ipam_handle.specs.Shape.{HandleValue}
-use Rattle.ipam_handle.specs.Operations.{content, count_in, count_of, counts_with, with_raised_count, with_lowered_count}
-use Rattle.ipam_handle.specs.Order.{cidr_cmp}
-use Rattle.ipam_handle.specs.Sound.{IsCount, AreCounts, IsHandleRecord}
-use Rattle.ipam_handle.proofs.Entries.{All-insert_entry, All-remove_entry}
-use Rattle.ipam_handle.proofs.Order.{cidr_cmp_total, cidr_cmp_exact}
-use Rattle.ipam_handle.proofs.Reading.{counts_with-some, count_in-here, AreCounts-counts_with, AreCounts-nil}
+use Rattle.ipam_block.specs.HandleShape.{HandleValue}
+use Rattle.ipam_block.specs.HandleOperations.{content, count_in, count_of, counts_with, with_raised_count, with_lowered_count}
+use Rattle.ipam_block.specs.Order.{cidr_cmp}
+use Rattle.ipam_block.specs.HandleSound.{IsCount, AreCounts, IsHandleRecord}
+use Rattle.ipam_block.proofs.Entries.{All-insert_entry, All-remove_entry}
+use Rattle.ipam_block.proofs.Order.{cidr_cmp_total, cidr_cmp_exact}
+use Rattle.ipam_block.proofs.Reading.{counts_with-some, count_in-here, AreCounts-counts_with, AreCounts-nil}
 use Rattle.ipam_records.specs.Sound.{IsHandleId}
 
 -- the counts and blocks of a handle, whether it is kept or has none yet

@@ -4,8 +4,8 @@ use Rattle.ipam_addr.specs.Shape.{CidrValue}
 use Rattle.ipam_block.specs.declared.state.State.{State}
 use Rattle.ipam_block.specs.declared.state.State.TheVariants.{Confirmed, PendingDeletion}
 use Rattle.ipam_block.specs.Shape as block
-use Rattle.ipam_handle.specs.Operations.{content, count_of, with_raised_count}
-use Rattle.ipam_handle.specs.Shape as handle
+use Rattle.ipam_block.specs.HandleOperations.{content, count_of, with_raised_count}
+use Rattle.ipam_block.specs.HandleShape as handle
 use Rattle.ipam_records.specs.declared.call.Write.TheVariants.{Remove}
 use Rattle.ipam_records.specs.declared.key.Key.{Key}
 use Rattle.ipam_records.specs.declared.key.Key.TheVariants as key

@@ -13,8 +13,8 @@ use Rattle.ipam_block.specs.declared.allocation.Allocation.{Allocation}
 use Rattle.ipam_block.specs.declared.allocation.Attributes.{Attributes}
 use Rattle.ipam_block.specs.Operations.{fresh_block, next_block, affine_to, block_with_ordinal, block_without, holder, is_owned}
 use Rattle.ipam_block.specs.Shape as block
-use Rattle.ipam_handle.specs.Operations.{content, count_of, with_raised_count, with_lowered_count}
-use Rattle.ipam_handle.specs.Shape as handle
+use Rattle.ipam_block.specs.HandleOperations.{content, count_of, with_raised_count, with_lowered_count}
+use Rattle.ipam_block.specs.HandleShape as handle
 use Rattle.ipam_records.specs.declared.call.Write.TheVariants.{Put, Remove}
 use Rattle.ipam_records.specs.declared.key.Key.TheVariants as key
 use Rattle.ipam_records.specs.declared.record.Record.{Record}

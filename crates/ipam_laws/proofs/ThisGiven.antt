@@ -7,9 +7,9 @@ use Rattle.std.specs.Map.{lookup}
 use Rattle.std.proofs.lemmas.Bool.{leb-true}
 use Rattle.ipam_addr.specs.Shape.{AddrValue, CidrValue}
 use Rattle.ipam_block.specs.Shape as block
-use Rattle.ipam_handle.specs.Operations.{count_in, count_of}
-use Rattle.ipam_handle.specs.Order.{cidr_cmp}
-use Rattle.ipam_handle.specs.Sound.{IsCount}
+use Rattle.ipam_block.specs.HandleOperations.{count_in, count_of}
+use Rattle.ipam_block.specs.Order.{cidr_cmp}
+use Rattle.ipam_block.specs.HandleSound.{IsCount}
 use Rattle.ipam_records.specs.declared.call.Call.{Call}
 use Rattle.ipam_records.specs.declared.call.Call.TheVariants.{Get}
 use Rattle.ipam_records.specs.declared.key.Key.TheVariants as key

@@ -2,8 +2,7 @@
 ghost use Rattle.std.specs.Prelude.{None, ◌≡◌, ◌<◌, length};
 
 use crate::clocks::numbers;
-use ipam_io::{Failed, MemorySource, Source};
-use ipam_lines::{Got, Lines, LinesFault};
+use ipam_io::{Failed, Got, Lines, LinesFault, MemorySource, Source};
 use std::alloc::{AllocError, Global};
 
 pub(crate) const LIMIT: usize = 1_048_576;

@@ -1,8 +1,7 @@
 //! What passes over links.
 use crate::lines::{LIMIT, answers, next_text};
 use crate::streams::{read_word, write_word};
-use ipam_io::{Failed, Link, StreamLink, TcpLink};
-use ipam_lines::Lines;
+use ipam_io::{Failed, Lines, Link, StreamLink, TcpLink};
 use std::alloc::{AllocError, Global};
 use std::io;
 use std::io::{ErrorKind, Read, Write};

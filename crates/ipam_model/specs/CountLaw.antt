@@ -3,7 +3,7 @@ use Rattle.std.specs.Prelude.{ℕ, ◌+◌, ◌≤◌, ◌&&◌, List, Option, S
 use Rattle.std.specs.List.{range_with_len, sum_by, count_by}
 use Rattle.ipam_addr.specs.Shape.{CidrValue}
 use Rattle.ipam_block.specs.Operations.{is_owned}
-use Rattle.ipam_handle.specs.Operations.{count_of}
+use Rattle.ipam_block.specs.HandleOperations.{count_of}
 use Rattle.ipam_records.specs.declared.key.Key.TheVariants as key
 use Rattle.ipam_records.specs.declared.record.Record.TheVariants as record_of
 use Rattle.ipam_records.specs.Datastore.{Datastore, row_of}

@@ -5,8 +5,8 @@ use Rattle.ipam_addr.specs.Shape.{CidrValue}
 use Rattle.ipam_block.specs.declared.allocation.Allocation.{Allocation}
 use Rattle.ipam_block.specs.Shape as block
 use Rattle.ipam_block.specs.Operations.{next_block, block_without, is_owned, is_stamped}
-use Rattle.ipam_handle.specs.Shape as handle
-use Rattle.ipam_handle.specs.Operations.{count_of, with_raised_count, with_lowered_count}
+use Rattle.ipam_block.specs.HandleShape as handle
+use Rattle.ipam_block.specs.HandleOperations.{count_of, with_raised_count, with_lowered_count}
 use Rattle.ipam_records.specs.declared.key.Key.TheVariants as key
 use Rattle.ipam_records.specs.declared.call.Call.{Call}
 use Rattle.ipam_records.specs.declared.call.Call.TheVariants.{Get, Update, Delete}

@@ -5,7 +5,7 @@ use Rattle.ipam_addr.specs.declared.address.Family.{Family}
 use Rattle.ipam_addr.specs.Holding.{Holds}
 use Rattle.ipam_addr.specs.Shape.{AddrValue, CidrValue}
 use Rattle.ipam_block.specs.Shape as block
-use Rattle.ipam_handle.specs.Operations.{count_of}
+use Rattle.ipam_block.specs.HandleOperations.{count_of}
 use Rattle.ipam_pool.specs.declared.pools.Pool.{Pool}
 use Rattle.ipam_pool.specs.Slots.{IsSlotOf}
 use Rattle.ipam_records.specs.declared.call.Call.TheVariants.{Get}

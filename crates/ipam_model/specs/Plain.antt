@@ -10,8 +10,8 @@ use Rattle.ipam_block.specs.declared.allocation.Attributes.{Attributes}
 use Rattle.ipam_block.specs.Shape as block
 use Rattle.ipam_block.specs.Operations.{ordinal_address, fresh_block, next_block, affine_to, block_with_ordinal, block_without, holder}
 use Rattle.ipam_block.specs.declared.state.State.TheVariants.{Confirmed}
-use Rattle.ipam_handle.specs.Shape as handle
-use Rattle.ipam_handle.specs.Operations.{with_raised_count, with_lowered_count}
+use Rattle.ipam_block.specs.HandleShape as handle
+use Rattle.ipam_block.specs.HandleOperations.{with_raised_count, with_lowered_count}
 use Rattle.ipam_records.specs.declared.key.Key.{Key}
 use Rattle.ipam_records.specs.declared.key.Key.TheVariants as key
 use Rattle.ipam_records.specs.declared.key.Kind.TheVariants as kind

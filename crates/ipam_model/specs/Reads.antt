@@ -4,8 +4,8 @@ use Rattle.ipam_pool.specs.declared.pools.Pool.{Pool}
 use Rattle.ipam_pool.specs.Shape.{ReservationValue}
 use Rattle.ipam_block.specs.Shape as block
 use Rattle.ipam_block.specs.declared.record.Affinity.{Affinity}
-use Rattle.ipam_handle.specs.Shape as handle
-use Rattle.ipam_handle.specs.Operations.{content}
+use Rattle.ipam_block.specs.HandleShape as handle
+use Rattle.ipam_block.specs.HandleOperations.{content}
 use Rattle.ipam_record_text.specs.declared.config.Config.{Config}
 use Rattle.ipam_records.specs.declared.record.Record.{Record}
 use Rattle.ipam_records.specs.declared.record.Record.TheVariants as record_of

@@ -8,7 +8,7 @@ use Rattle.ipam_addr.specs.declared.cidrs.AddrFault.{AddrFault}
 use Rattle.ipam_addr.specs.Shape.{AddrValue, CidrValue}
 use Rattle.ipam_addr.specs.Holding.{is_same_family, holds_address}
 use Rattle.ipam_addr.specs.Text.{cidr_reading}
-use Rattle.ipam_handle.specs.Order.{cidr_cmp}
+use Rattle.ipam_block.specs.Order.{cidr_cmp}
 use Rattle.ipam_pool.specs.declared.pools.Mode.{Mode}
 use Rattle.ipam_pool.specs.declared.pools.Mode.TheVariants.{Automatic, Manual}
 use Rattle.ipam_pool.specs.declared.pools.Pool.{Pool}

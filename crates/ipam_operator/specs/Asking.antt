@@ -3,7 +3,7 @@ use Rattle.std.specs.Prelude.{◌≡◌, ℕ, List, [], ◌∷◌, ◌++◌, cod
 use Rattle.std.specs.Io.KnownBytes.{append_known, prepend_known}
 use Rattle.ipam_io.specs.Counts.{Rose}
 use Rattle.ipam_io.specs.Streams.{AppendsPrefix}
-use Rattle.ipam_lines.specs.Feeds.{IsLine, IsTooLong}
+use Rattle.ipam_io.specs.Feeds.{IsLine, IsTooLong}
 use Rattle.ipam_model.specs.declared.request.Request.{Request}
 use Rattle.ipam_request_text.specs.Requests.{request_text}
 use Rattle.ipam_operator.specs.declared.asking.AskFault.{AskFault}

@@ -13,8 +13,7 @@ use crate::answer::OperatorAnswer;
 use crate::asking::{AskFault, REPLY_BYTES, ask_request};
 use crate::end::End;
 use crate::telling::{tell, tell_fault, tell_made};
-use ipam_io::{Link, Sink, Source};
-use ipam_lines::{InputFault, Lines, read_whole};
+use ipam_io::{InputFault, Lines, Link, Sink, Source, read_whole};
 use ipam_model::Request;
 use ipam_resources::{
     DOCUMENT_MAX, DocumentFault, Refusal, Resource, push_applied, push_document_fault,

@@ -5,8 +5,7 @@ ghost use Rattle.ipam_operator.specs.Answers.{answer_of_line};
 ghost use Rattle.ipam_operator.specs.Asking.{Asks, Comes, IsNotRead, IsNotReceived, IsSent, request_line};
 
 use crate::answer::{OperatorAnswer, answer_of_line};
-use ipam_io::Link;
-use ipam_lines::{Got, Lines, LinesFault};
+use ipam_io::{Got, Lines, LinesFault, Link};
 use ipam_model::Request;
 use ipam_request_text::push_request;
 use std::alloc::{AllocError, Global};

@@ -15,9 +15,8 @@ use crate::asking::{AskFault, REPLY_BYTES, ask};
 use crate::end::End;
 use crate::telling::{tell, tell_fault};
 use ipam_addr::{Cidr, push_cidr, read_cidr};
-use ipam_io::{Link, Sink};
+use ipam_io::{Lines, Link, Sink};
 use ipam_json::{items_at, text_at};
-use ipam_lines::Lines;
 use serde_json::Value;
 use std::alloc::{AllocError, Global};
 

@@ -9,3 +9,5 @@ pub mod FreeingAsks
 pub mod QueueFacts
 pub mod HeldFacts
 pub mod PlaceFacts
+mod StageLemmas
+mod ReleaseLemmas

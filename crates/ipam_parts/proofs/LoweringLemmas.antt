@@ -1,7 +1,7 @@
 -- What is left of the lowering of a count before each of its tries, and what is known of its read.
 use Rattle.std.proofs.Common.{◌≡◌, ◌≤◌, refl, sym, ℕ, List, Some}
 use Rattle.ipam_addr.specs.Shape.{CidrValue}
-use Rattle.ipam_handle.specs.Operations.{count_of}
+use Rattle.ipam_block.specs.HandleOperations.{count_of}
 use Rattle.ipam_records.specs.declared.key.Key.TheVariants as key
 use Rattle.ipam_records.specs.declared.call.Call.TheVariants.{Get}
 use Rattle.ipam_records.specs.declared.record.Record.TheVariants as record_of

@@ -4,3 +4,5 @@ pub mod Reading
 pub mod Raising
 pub mod Lowering
 pub mod Freeing
+pub mod Claim
+pub mod Release

@@ -11,7 +11,7 @@ use crate::left::after_lost;
 use crate::reading::{handle_in, revision_in};
 use crate::write_end::WriteEnd;
 use ipam_addr::Cidr;
-use ipam_handle::Handle;
+use ipam_block::Handle;
 use ipam_model::{Left, Outcome, Stop};
 use ipam_records::{Call, Heard, Key, Record};
 use ipam_text::Text;

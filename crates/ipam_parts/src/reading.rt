@@ -4,8 +4,7 @@ ghost use Rattle.ipam_records.specs.Said.{said};
 ghost use Rattle.ipam_model.specs.Reads.{handle_said, block_said, pools_said, reservations_said, rows_said};
 ghost use Rattle.ipam_parts.specs.Reading.{found_revision, lent_block};
 
-use ipam_block::Block;
-use ipam_handle::Handle;
+use ipam_block::{Block, Handle};
 use ipam_pool::{PoolTable, Reservation};
 use ipam_records::{Listing, Record, Reply};
 use ipam_text::Text;

@@ -13,12 +13,12 @@ use Rattle.ipam_block.specs.declared.allocation.Allocation.{Allocation}
 use Rattle.ipam_block.specs.declared.allocation.Attributes.{Attributes}
 use Rattle.ipam_block.specs.Operations.{block_with_ordinal, block_without, is_owned, next_block}
 use Rattle.ipam_block.specs.Shape.{BlockValue}
-use Rattle.ipam_handle.proofs.Entries.{sorted-insert_entry, sorted-remove_entry}
-use Rattle.ipam_handle.proofs.Order.{cidr_cmp_total}
-use Rattle.ipam_handle.proofs.Reading.{counts_with-some}
-use Rattle.ipam_handle.specs.Operations.{count_in, count_of, counts_with, with_lowered_count, with_raised_count}
-use Rattle.ipam_handle.specs.Order.{cidr_cmp}
-use Rattle.ipam_handle.specs.Shape.{HandleValue}
+use Rattle.ipam_block.proofs.Entries.{sorted-insert_entry, sorted-remove_entry}
+use Rattle.ipam_block.proofs.Order.{cidr_cmp_total}
+use Rattle.ipam_block.proofs.Reading.{counts_with-some}
+use Rattle.ipam_block.specs.HandleOperations.{count_in, count_of, counts_with, with_lowered_count, with_raised_count}
+use Rattle.ipam_block.specs.Order.{cidr_cmp}
+use Rattle.ipam_block.specs.HandleShape.{HandleValue}
 use Rattle.ipam_records.specs.declared.key.Key.TheVariants as key
 use Rattle.ipam_records.specs.declared.record.Record.{Record}
 use Rattle.ipam_records.specs.declared.record.Record.TheVariants as record_of

@@ -4,8 +4,8 @@ use Rattle.std.specs.List.{count_by}
 use Rattle.ipam_addr.specs.Shape.{CidrValue}
 use Rattle.ipam_block.specs.Operations.{block_without, next_block}
 use Rattle.ipam_block.specs.Shape.{BlockValue}
-use Rattle.ipam_handle.specs.Operations.{with_lowered_count}
-use Rattle.ipam_handle.specs.Shape.{HandleValue}
+use Rattle.ipam_block.specs.HandleOperations.{with_lowered_count}
+use Rattle.ipam_block.specs.HandleShape.{HandleValue}
 use Rattle.ipam_records.specs.declared.call.Call.TheVariants.{Get}
 use Rattle.ipam_records.specs.declared.key.Key.TheVariants as key
 use Rattle.ipam_records.specs.declared.record.Record.{Record}

@@ -7,7 +7,7 @@ use Rattle.ipam_block.specs.declared.allocation.Allocation.{Allocation}
 use Rattle.ipam_block.specs.declared.allocation.Attributes.{Attributes}
 use Rattle.ipam_block.specs.Operations.{ordinal_address, block_with_ordinal, next_block}
 use Rattle.ipam_block.specs.Shape.{BlockValue}
-use Rattle.ipam_handle.specs.Operations.{with_raised_count}
+use Rattle.ipam_block.specs.HandleOperations.{with_raised_count}
 use Rattle.ipam_records.specs.declared.key.Key.TheVariants as key
 use Rattle.ipam_records.specs.declared.record.Record.TheVariants as record_of
 use Rattle.ipam_model.specs.Affinities.{BlockRead}

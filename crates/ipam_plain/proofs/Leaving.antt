@@ -9,9 +9,9 @@ use Rattle.ipam_addr.specs.Shape.{CidrValue}
 use Rattle.ipam_block.specs.declared.allocation.Allocation.{Allocation}
 use Rattle.ipam_block.specs.Operations.{block_without, is_owned, next_block}
 use Rattle.ipam_block.specs.Shape.{BlockValue}
-use Rattle.ipam_handle.proofs.Reading.{listed}
-use Rattle.ipam_handle.specs.Operations.{count_of, with_lowered_count}
-use Rattle.ipam_handle.specs.Shape.{HandleValue}
+use Rattle.ipam_block.proofs.Reading.{listed}
+use Rattle.ipam_block.specs.HandleOperations.{count_of, with_lowered_count}
+use Rattle.ipam_block.specs.HandleShape.{HandleValue}
 use Rattle.ipam_records.specs.declared.key.Key.TheVariants as key
 use Rattle.ipam_records.specs.declared.record.Record.{Record}
 use Rattle.ipam_records.specs.declared.record.Record.TheVariants as record_of

@@ -25,3 +25,4 @@ mod Ahead
 mod QueueSteps
 mod QueueHistory
 mod WholeHistories
+pub mod Unfolded

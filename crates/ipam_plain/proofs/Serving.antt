@@ -3,8 +3,8 @@ use Rattle.std.proofs.Common.{◌≡◌, ◌≢◌, ℕ, zero, suc, ◌+◌, ◌
 use Rattle.ipam_addr.specs.declared.address.Family.{Family}
 use Rattle.ipam_addr.specs.Shape.{CidrValue}
 use Rattle.ipam_block.specs.Shape.{BlockValue}
-use Rattle.ipam_handle.specs.Operations.{count_of, with_raised_count}
-use Rattle.ipam_handle.specs.Shape.{HandleValue}
+use Rattle.ipam_block.specs.HandleOperations.{count_of, with_raised_count}
+use Rattle.ipam_block.specs.HandleShape.{HandleValue}
 use Rattle.ipam_records.specs.declared.call.Call.TheVariants.{Get, List as ListAll}
 use Rattle.ipam_records.specs.declared.key.Key.TheVariants as key
 use Rattle.ipam_records.specs.declared.key.Kind.TheVariants as kind

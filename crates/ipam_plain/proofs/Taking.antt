@@ -6,8 +6,8 @@ use Rattle.ipam_addr.specs.Shape.{CidrValue}
 use Rattle.ipam_block.specs.declared.allocation.Attributes.{Attributes}
 use Rattle.ipam_block.specs.Operations.{block_with_ordinal, next_block}
 use Rattle.ipam_block.specs.Shape.{BlockValue}
-use Rattle.ipam_handle.specs.Operations.{count_of, with_raised_count}
-use Rattle.ipam_handle.specs.Shape.{HandleValue}
+use Rattle.ipam_block.specs.HandleOperations.{count_of, with_raised_count}
+use Rattle.ipam_block.specs.HandleShape.{HandleValue}
 use Rattle.ipam_records.specs.declared.call.Call.TheVariants.{Get}
 use Rattle.ipam_records.specs.declared.key.Key.{Key}
 use Rattle.ipam_records.specs.declared.key.Key.TheVariants as key

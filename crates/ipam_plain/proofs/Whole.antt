@@ -6,9 +6,9 @@ use Rattle.std.specs.Map.{lookup}
 use Rattle.std.proofs.lemmas.Bool.{cases_Bool, eqb-false}
 use Rattle.std.proofs.lemmas.List.Elements.{All-head, All-tail}
 use Rattle.ipam_addr.specs.Shape.{CidrValue}
-use Rattle.ipam_handle.specs.Operations.{count_in, count_of}
-use Rattle.ipam_handle.specs.Order.{cidr_cmp}
-use Rattle.ipam_handle.specs.Sound.{IsCount}
+use Rattle.ipam_block.specs.HandleOperations.{count_in, count_of}
+use Rattle.ipam_block.specs.Order.{cidr_cmp}
+use Rattle.ipam_block.specs.HandleSound.{IsCount}
 use Rattle.ipam_records.specs.declared.key.Key.TheVariants as key
 use Rattle.ipam_records.specs.declared.record.Record.{Record}
 use Rattle.ipam_records.specs.Datastore.{Datastore, reply_to_get, row_of}

@@ -1,4 +1,4 @@
--- The laws of requests that run alone, of the order of the queue of a block, and all laws in one.
+-- The laws of requests that run alone, of the order of the queue of a block, and all laws in one. And known runs.
 pub mod AloneLaws
 pub mod Leaves
 pub mod Ready
@@ -6,3 +6,26 @@ pub mod Gains
 pub mod CountsFollow
 pub mod Queues
 pub mod Whole
+pub mod Setting
+pub mod FirstRun
+pub mod Races
+pub mod Releases
+pub mod Stops
+pub mod Collections
+pub mod Borrowing
+pub mod Families
+pub mod Limits
+pub mod LostRaces
+pub mod LargeBlock
+pub mod Dialogue
+pub mod NoRoom
+pub mod Parts
+pub mod OneAddress
+pub mod Deletions
+pub mod Checks
+pub mod Administration
+pub mod Refusals
+pub mod Probes
+pub mod ManualPools
+pub mod Choices
+pub mod Selectors

@@ -11,3 +11,10 @@ pub mod Takings
 pub mod Timings
 pub mod MayHappen
 pub mod Wants
+pub mod Outcomes
+pub mod RunSteps
+pub mod Endings
+pub mod Games
+pub mod Turning
+pub mod Closing
+pub mod Runs

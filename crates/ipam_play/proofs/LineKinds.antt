@@ -2,8 +2,8 @@
 use Rattle.std.proofs.Common.{◌≡◌, ℕ, List, Some, refl}
 use Rattle.ipam_records.specs.declared.call.Row.{Row}
 use Rattle.ipam_model.specs.Course.{Event}
-use Rattle.ipam_script.specs.declared.line.Line.{Line}
-use Rattle.ipam_script.specs.declared.line.Line.TheVariants as line
+use Rattle.ipam_answer_text.specs.declared.line.Line.{Line}
+use Rattle.ipam_answer_text.specs.declared.line.Line.TheVariants as line
 use Rattle.ipam_play.specs.Script.{Gathered, Happens, events_of, place_of}
 
 -- a line with events is not of the base

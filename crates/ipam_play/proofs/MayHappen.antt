@@ -16,9 +16,9 @@ use Rattle.ipam_model.specs.Cluster as model
 use Rattle.ipam_model.specs.Cluster.{call_entry, call_made}
 use Rattle.ipam_model.specs.Course.{Begin, Turn, Feed, Stop, Event, Busy, Idle, NotWaiting, TooSoon, Waiting, Worn, begin_entry, feed_entry, feed_waiting, is_due, most_entries, one, stop_entry, too_soon, turn_called, turn_entry, unless_worn}
 use Rattle.ipam_model.specs.History.{Base, cluster_at}
-use Rattle.ipam_running.specs.declared.running.Running.{Running}
-use Rattle.ipam_running.specs.Running.{grace_of, is_over, running_rest}
-use Rattle.ipam_running.proofs.StillLemmas.{waits_with}
+use Rattle.ipam_cluster.specs.declared.running.Running.{Running}
+use Rattle.ipam_cluster.specs.Running.{grace_of, is_over, running_rest}
+use Rattle.ipam_cluster.proofs.StillLemmas.{waits_with}
 use Rattle.ipam_cluster.specs.declared.cluster.Cluster.{Cluster}
 use Rattle.ipam_cluster.specs.Cluster.{IsSlot, StandsFor, WaitsWith, slot_of_cluster, state_in}
 use Rattle.ipam_cluster.proofs.Adding.{due_asked, none_there, runs_there, some_there}

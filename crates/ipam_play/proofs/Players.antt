@@ -11,8 +11,8 @@ use Rattle.ipam_model.specs.History.{Base, cluster_at, start}
 use Rattle.ipam_cluster.specs.Cluster.{StandsFor}
 use Rattle.ipam_opening.specs.declared.fault.OpenFault.{OpenFault}
 use Rattle.ipam_opening.specs.declared.fault.OpenFault.TheVariants as opening
-use Rattle.ipam_script.specs.declared.line.Line.{Line}
-use Rattle.ipam_script.specs.declared.line.Line.TheVariants as line
+use Rattle.ipam_answer_text.specs.declared.line.Line.{Line}
+use Rattle.ipam_answer_text.specs.declared.line.Line.TheVariants as line
 use Rattle.ipam_play.specs.declared.fault.PlayFault.{PlayFault}
 use Rattle.ipam_play.specs.declared.fault.PlayFault.TheVariants as fault
 use Rattle.ipam_play.specs.declared.cluster.OpenCluster.{OpenCluster}

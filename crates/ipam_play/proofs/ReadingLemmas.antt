@@ -7,13 +7,13 @@ use Rattle.std.proofs.lemmas.List.Elements.{All-head, All-tail}
 use Rattle.std.proofs.lemmas.Bool.{lt-ltb, ltb-true}
 use Rattle.std.proofs.lemmas.List.{length-append, take-append-drop}
 use Rattle.std.proofs.Math.Seq.{drop-cons, take-append_seam}
-use Rattle.ipam_lines.specs.Feeds.{HasNoFeed, IsTooLong}
-use Rattle.ipam_lines.proofs.AnswerLemmas.{stays_too_long}
-use Rattle.ipam_script.specs.Lines.{Long as LongLine, Whole, is_line_end, is_long, told_line, placed, without_empty_end}
+use Rattle.ipam_io.specs.Feeds.{HasNoFeed, IsTooLong}
+use Rattle.ipam_io.proofs.AnswerLemmas.{stays_too_long}
+use Rattle.ipam_answer_text.specs.Lines.{Long as LongLine, Whole, is_line_end, is_long, told_line, placed, without_empty_end}
 use Rattle.std.specs.Str.{is_utf8}
 use Rattle.ipam_json.specs.Members.{only_if}
-use Rattle.ipam_script.specs.Reading.{line_reading, text_reading}
-use Rattle.ipam_script.proofs.Cuts.{cut, uncut, split_some, behind}
+use Rattle.ipam_answer_text.specs.Reading.{line_reading, text_reading}
+use Rattle.ipam_answer_text.proofs.Cuts.{cut, uncut, split_some, behind}
 use Rattle.ipam_play.specs.declared.refusal.LineRefusal.TheVariants.{Long, Unreadable}
 use Rattle.ipam_play.specs.declared.lines.Next.{Next}
 use Rattle.ipam_play.specs.declared.lines.Next.TheVariants as next

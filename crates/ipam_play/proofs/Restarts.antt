@@ -10,7 +10,7 @@ use Rattle.ipam_model.specs.declared.entry.Entry.TheVariants as entry
 use Rattle.ipam_model.specs.Cluster as model
 use Rattle.ipam_model.specs.Course.{Restart, entries_of}
 use Rattle.ipam_model.specs.History.{Base, cluster_at}
-use Rattle.ipam_running.specs.declared.running.Running.{Running}
+use Rattle.ipam_cluster.specs.declared.running.Running.{Running}
 use Rattle.ipam_cluster.specs.declared.cluster.Cluster.{Cluster}
 use Rattle.ipam_cluster.specs.Cluster.{AddsTo, IsSlot, StandsFor, slot_of_cluster}
 use Rattle.ipam_play.specs.Events.{Happens, Keeps, onto}

@@ -12,10 +12,10 @@ use Rattle.ipam_request_text.specs.Live.{live_reading}
 use Rattle.ipam_request_text.specs.Reading.{request_reading}
 use Rattle.ipam_request_text.proofs.Lives.{live_reading-is}
 use Rattle.ipam_request_text.proofs.ReadBack.{read_sound}
-use Rattle.ipam_script.specs.declared.line.Line.{Line}
-use Rattle.ipam_script.specs.declared.line.Line.TheVariants as line
-use Rattle.ipam_script.specs.Reading.{begin_in, feed_in, feed_listed, line_parts, line_reading, lone_word, named_call, named_line, one_turn, row_in, row_line_of, text_reading, timed_feed, turn_in, turn_parts, turns_said}
-use Rattle.ipam_script.specs.Words.{number_of, slot_number_in, slot_named, split_word, turns_in, turns_of}
+use Rattle.ipam_answer_text.specs.declared.line.Line.{Line}
+use Rattle.ipam_answer_text.specs.declared.line.Line.TheVariants as line
+use Rattle.ipam_answer_text.specs.Reading.{begin_in, feed_in, feed_listed, line_parts, line_reading, lone_word, named_call, named_line, one_turn, row_in, row_line_of, text_reading, timed_feed, turn_in, turn_parts, turns_said}
+use Rattle.ipam_answer_text.specs.Words.{number_of, slot_number_in, slot_named, split_word, turns_in, turns_of}
 use Rattle.ipam_play.specs.SoundLine.{IsSoundLine}
 
 -- the line is sound, where there is one

@@ -7,8 +7,8 @@ use Rattle.ipam_model.specs.declared.entry.Entry.{Entry}
 use Rattle.ipam_model.specs.Course.{Event}
 use Rattle.ipam_cluster.specs.declared.cluster.Cluster.{Cluster}
 use Rattle.ipam_cluster.specs.Cluster.{StandsFor, Stood}
-use Rattle.ipam_script.specs.declared.line.Line.{Line}
-use Rattle.ipam_script.specs.declared.line.Line.TheVariants as line
+use Rattle.ipam_answer_text.specs.declared.line.Line.{Line}
+use Rattle.ipam_answer_text.specs.declared.line.Line.TheVariants as line
 use Rattle.ipam_play.specs.declared.cluster.OpenCluster.{OpenCluster}
 use Rattle.ipam_play.specs.declared.fault.PlayFault.{PlayFault}
 use Rattle.ipam_play.specs.declared.fault.PlayFault.TheVariants as fault

@@ -3,8 +3,8 @@ use Rattle.std.proofs.Common.{◌≡◌, ℕ, ◌+◌, List, [], ◌∷◌, ◌+
 use Rattle.std.specs.Prelude.{Ok}
 use Rattle.std.specs.Io.KnownBytes.{prepend_known}
 use Rattle.std.proofs.lemmas.List.{length-append}
-use Rattle.ipam_script.specs.declared.line.Line.{Line}
-use Rattle.ipam_script.specs.Lines.{lines_of, told_line}
+use Rattle.ipam_answer_text.specs.declared.line.Line.{Line}
+use Rattle.ipam_answer_text.specs.Lines.{lines_of, told_line}
 use Rattle.ipam_play.specs.declared.lines.ScriptLines.{ScriptLines}
 use Rattle.ipam_play.specs.Readings.{AreReadWhole, AreWholeLines, LineReading, TakesLine, TakesNone, line_reading_of, readings, readings_from}
 use Rattle.ipam_play.proofs.ReadingLemmas.{none_to_come, readings-line}

@@ -13,8 +13,8 @@ use Rattle.ipam_model.specs.Cluster as model
 use Rattle.ipam_model.specs.Cluster.{after, goes_on, run_after_feed, fresh_run}
 use Rattle.ipam_model.specs.History.{Base, cluster_at}
 use Rattle.ipam_records.specs.Datastore.{Datastore}
-use Rattle.ipam_running.specs.declared.running.Running.{Running}
-use Rattle.ipam_running.specs.Running.{grace_of}
+use Rattle.ipam_cluster.specs.declared.running.Running.{Running}
+use Rattle.ipam_cluster.specs.Running.{grace_of}
 use Rattle.ipam_cluster.specs.declared.cluster.Cluster.{Cluster}
 use Rattle.ipam_cluster.specs.Cluster.{AddsTo, IsSlot, IsUnchanged, StandsFor, grace_in, slot_of_cluster}
 use Rattle.ipam_play.specs.declared.cluster.OpenCluster.{OpenCluster}

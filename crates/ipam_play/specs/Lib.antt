@@ -1,4 +1,4 @@
--- What a script asks for, and what comes of it.
+-- What a script asks for, what comes of it, and what a run of it writes.
 pub mod Readings
 pub mod Script
 pub mod Played
@@ -8,3 +8,6 @@ pub mod SoundLine
 pub mod Events
 pub mod Times
 pub mod Player
+pub mod Outcome
+pub mod Writing
+pub mod Halting

@@ -2,10 +2,10 @@
 use Rattle.std.specs.Prelude.{◌≡◌, ℕ, ◌+◌, ⊤, ◌⊎◌, List, [], ◌∷◌, ◌++◌, length, map, Option, Some, None, option_map, Result, Ok, Err}
 use Rattle.std.specs.Io.KnownBytes.{prepend_known}
 use Rattle.std.specs.List.{slice_split}
-use Rattle.ipam_lines.specs.Feeds.{HasNoFeed}
-use Rattle.ipam_script.specs.declared.line.Line.{Line}
-use Rattle.ipam_script.specs.Lines.{ScriptLine, Whole, Long as LongLine, is_line_end, lines_of, placed, told_line, without_empty_end}
-use Rattle.ipam_script.specs.Reading.{line_reading}
+use Rattle.ipam_io.specs.Feeds.{HasNoFeed}
+use Rattle.ipam_answer_text.specs.declared.line.Line.{Line}
+use Rattle.ipam_answer_text.specs.Lines.{ScriptLine, Whole, Long as LongLine, is_line_end, lines_of, placed, told_line, without_empty_end}
+use Rattle.ipam_answer_text.specs.Reading.{line_reading}
 use Rattle.ipam_play.specs.declared.refusal.LineRefusal.{LineRefusal}
 use Rattle.ipam_play.specs.declared.refusal.LineRefusal.TheVariants.{Long, Unreadable}
 use Rattle.ipam_play.specs.declared.lines.Next.{Next}

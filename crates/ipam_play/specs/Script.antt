@@ -5,8 +5,8 @@ use Rattle.std.specs.List.{list_any}
 use Rattle.ipam_records.specs.declared.call.Row.{Row as RowText}
 use Rattle.ipam_model.specs.declared.entry.Fate.TheVariants.{Well, Before, After}
 use Rattle.ipam_model.specs.Course.{Event, Begin, Turn, Feed, Stop, Restart}
-use Rattle.ipam_script.specs.declared.line.Line.{Line}
-use Rattle.ipam_script.specs.declared.line.Line.TheVariants as line
+use Rattle.ipam_answer_text.specs.declared.line.Line.{Line}
+use Rattle.ipam_answer_text.specs.declared.line.Line.TheVariants as line
 use Rattle.ipam_play.specs.declared.refusal.LineRefusal.{LineRefusal}
 use Rattle.ipam_play.specs.declared.refusal.LineRefusal.TheVariants as refusal
 use Rattle.ipam_play.specs.Readings.{LineReading}

@@ -4,8 +4,8 @@ use Rattle.std.specs.List.{All}
 use Rattle.ipam_records.specs.Sound.{IsHandleId}
 use Rattle.ipam_model.specs.Course.{slot_count}
 use Rattle.ipam_model.specs.SoundRequest.{IsSoundRequest}
-use Rattle.ipam_script.specs.declared.line.Line.{Line}
-use Rattle.ipam_script.specs.declared.line.Line.TheVariants.{Row, Counter, Begin, Turn, Fail, Lose, Feed, Stop, Restart}
+use Rattle.ipam_answer_text.specs.declared.line.Line.{Line}
+use Rattle.ipam_answer_text.specs.declared.line.Line.TheVariants.{Row, Counter, Begin, Turn, Fail, Lose, Feed, Stop, Restart}
 
 -- the slot is there, and what is given is sound
 abbrev pub IsSoundLine : Line → Type 0

@@ -1,18 +1,17 @@
 //! The lines of a script, read of a source one after another.
 ghost use Rattle.std.specs.Prelude.{◌≡◌, ◌+◌, ◌++◌, ◌<◌, ◌≤◌, [], List, ℕ, true, length, slice_index, take, IfOk, IfErr, IfNone, IfSome, OnErr, OnOk};
 ghost use Rattle.ipam_io.specs.Counts.{Rose};
-ghost use Rattle.ipam_lines.specs.Feeds.{HasNoFeed};
-ghost use Rattle.ipam_script.specs.Lines.{Whole, is_long, told_line};
-ghost use Rattle.ipam_script.specs.declared.limits.TheConstants.{MOST_SCRIPT_BYTES};
+ghost use Rattle.ipam_io.specs.Feeds.{HasNoFeed};
+ghost use Rattle.ipam_answer_text.specs.Lines.{Whole, is_long, told_line};
+ghost use Rattle.ipam_answer_text.specs.declared.limits.TheConstants.{MOST_SCRIPT_BYTES};
 ghost use Rattle.std.specs.Io.KnownBytes.{IsAtEnd};
 ghost use Rattle.ipam_play.specs.Readings.{line_reading_of, coming, IfLine, IsLineEnd, IsNextOf, IsTold, IsLastTold, OnEnd, OnLine, Takes, UnlessRead};
 ghost use Rattle.ipam_play.specs.SoundLine.{IsSoundLine};
 
 use crate::offset::Offset;
 use crate::refusal::LineRefusal;
-use ipam_io::Source;
-use ipam_lines::{Got, Lines, LinesFault};
-use ipam_script::{Line, LineFault, MOST_LINE_BYTES, MOST_SCRIPT_BYTES, read_line};
+use ipam_answer_text::{Line, LineFault, MOST_LINE_BYTES, MOST_SCRIPT_BYTES, read_line};
+use ipam_io::{Got, Lines, LinesFault, Source};
 use std::alloc::{AllocError, Global};
 
 /// The most bytes of a line and its line end.

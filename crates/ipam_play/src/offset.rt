@@ -1,5 +1,5 @@
 ghost use Rattle.std.specs.Prelude.{◌≡◌, ◌+◌, ◌≤◌};
-ghost use Rattle.ipam_script.specs.declared.limits.TheConstants.{MOST_SCRIPT_BYTES};
+ghost use Rattle.ipam_answer_text.specs.declared.limits.TheConstants.{MOST_SCRIPT_BYTES};
 
 /// How many bytes stand before a line of a script.
 #[derive(Clone, Copy)]

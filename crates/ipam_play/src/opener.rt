@@ -17,9 +17,9 @@ use crate::cluster::OpenCluster;
 use crate::fault::PlayFault;
 use crate::gathering::Gathering;
 use crate::player::play_first;
+use ipam_answer_text::Line;
 use ipam_cluster::{Base, OpenFault};
 use ipam_model::Entry;
-use ipam_script::Line;
 use std::alloc::{AllocError, Global};
 
 /// What takes the memory for opening a base. What is generic over it knows nothing of it, and so can't state by

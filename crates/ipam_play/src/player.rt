@@ -16,9 +16,9 @@ use crate::fault::PlayFault;
 use crate::gathering::{GatherFault, Gathering};
 use crate::opener::{OpensBase, PlaysFirst};
 use crate::playing::play_line;
+use ipam_answer_text::Line;
 use ipam_cluster::OpenFault;
 use ipam_model::Entry;
-use ipam_script::Line;
 use std::alloc::Global;
 
 /// How far a script has come.

@@ -13,8 +13,8 @@ ghost use Rattle.ipam_play.specs.Times.{IsTimed, StandsTimed};
 
 use crate::cluster::OpenCluster;
 use crate::fault::PlayFault;
+use ipam_answer_text::Line;
 use ipam_model::{Entry, Fate, Request, SLOTS};
-use ipam_script::Line;
 use ipam_text::Text;
 use std::alloc::Global;
 

@@ -1,5 +1,5 @@
 use ipam_addr::{Cidr, push_cidr, read_cidr};
-use ipam_handle::{Handle, RaiseFault};
+use ipam_block::{Handle, RaiseFault};
 use ipam_text::{Seq, Text};
 use std::alloc::{AllocError, Global};
 

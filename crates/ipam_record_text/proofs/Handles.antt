@@ -24,13 +24,13 @@ use Rattle.ipam_addr.specs.Shape.{CidrValue}
 use Rattle.ipam_addr.specs.Text.{cidr_text_of}
 use Rattle.ipam_addr.specs.contracts.cidrs.CidrOrd.TheImpl.{ghosts}
 use Rattle.ipam_addr.specs.Names.{is_handle_text}
-use Rattle.ipam_handle.specs.Shape.{HandleValue}
-use Rattle.ipam_handle.specs.Operations.{content, count_in}
-use Rattle.ipam_handle.specs.Order.{cidr_cmp}
+use Rattle.ipam_block.specs.HandleShape.{HandleValue}
+use Rattle.ipam_block.specs.HandleOperations.{content, count_in}
+use Rattle.ipam_block.specs.Order.{cidr_cmp}
 use Rattle.ipam_block.specs.Sound.{IsBlockCidr}
-use Rattle.ipam_handle.specs.Sound.{AreCounts, IsCount, IsHandleRecord}
-use Rattle.ipam_handle.proofs.Entries.{lookup-insert_entry, sorted-insert_entry, All-insert_entry}
-use Rattle.ipam_handle.proofs.Order.{derived-is, cidr_cmp_total, cidr_cmp_exact}
+use Rattle.ipam_block.specs.HandleSound.{AreCounts, IsCount, IsHandleRecord}
+use Rattle.ipam_block.proofs.Entries.{lookup-insert_entry, sorted-insert_entry, All-insert_entry}
+use Rattle.ipam_block.proofs.Order.{derived-is, cidr_cmp_total, cidr_cmp_exact}
 use Rattle.ipam_json.specs.Canonical.{IsCanonical, IsCanonicalWithin}
 use Rattle.ipam_json.proofs.Constructors.{IsCanonicalWithin-put, IsCanonicalWithin-number}
 use Rattle.ipam_json.proofs.ReadsBack.{read-compact_text}

@@ -5,9 +5,9 @@ use Rattle.serde_json.specs.Data.{Data, number, unsigned, string, object, put, M
 use Rattle.serde_json.specs.Written.{compact_text}
 use Rattle.ipam_addr.specs.Shape.{CidrValue}
 use Rattle.ipam_addr.specs.Text.{cidr_text_of}
-use Rattle.ipam_handle.specs.Shape.{HandleValue}
-use Rattle.ipam_handle.specs.Operations.{content, count_in}
-use Rattle.ipam_handle.specs.Order.{cidr_cmp}
+use Rattle.ipam_block.specs.HandleShape.{HandleValue}
+use Rattle.ipam_block.specs.HandleOperations.{content, count_in}
+use Rattle.ipam_block.specs.Order.{cidr_cmp}
 use Rattle.ipam_json.specs.Built.{object_of}
 use Rattle.ipam_json.specs.Path.{as_whole}
 use Rattle.ipam_record_text.specs.declared.fault.BodyFault.{BodyFault}

@@ -2,16 +2,16 @@ ghost use Rattle.std.specs.Prelude.{◌≡◌, ◌≢◌, [], Err, Some, IfOk, I
 ghost use Rattle.std.specs.Bool.{OnTrue, OnFalse};
 ghost use Rattle.serde_json.specs.Data.{no_members};
 ghost use Rattle.serde_json.specs.View.{view, members_view};
-ghost use Rattle.ipam_handle.specs.Shape.{HandleValue};
-ghost use Rattle.ipam_handle.specs.Operations.{content, count_in};
-ghost use Rattle.ipam_handle.specs.Sound.{AreCounts, IsHandleRecord};
+ghost use Rattle.ipam_block.specs.HandleShape.{HandleValue};
+ghost use Rattle.ipam_block.specs.HandleOperations.{content, count_in};
+ghost use Rattle.ipam_block.specs.HandleSound.{AreCounts, IsHandleRecord};
 ghost use Rattle.ipam_record_text.specs.Handle.{handle_data, handle_body, with_counts, count_of_json, block_counted, AddsCount, counts_after, handle_of_counts, handle_in};
 ghost use Rattle.ipam_json.specs.Held.{held};
 
 use crate::blocks::{block_of, cidr_text, id_at};
 use crate::fault::BodyFault;
 use ipam_addr::Cidr;
-use ipam_handle::Handle;
+use ipam_block::Handle;
 use ipam_json::{in_32_bits, json_of, members_at};
 use ipam_text::{Seq, Text};
 use serde_json::{Map, Value, json, put};

@@ -2,8 +2,8 @@
 ghost use Rattle.std.specs.Prelude.{◌≡◌, ◌≢◌, ℕ, List, Ok, Err};
 ghost use Rattle.std.specs.List.{AllByRecursion};
 ghost use Rattle.ipam_block.specs.declared.record.Affinity.{Affinity};
-ghost use Rattle.ipam_handle.specs.Shape.{HandleValue};
-ghost use Rattle.ipam_handle.specs.Sound.{IsHandleRecord};
+ghost use Rattle.ipam_block.specs.HandleShape.{HandleValue};
+ghost use Rattle.ipam_block.specs.HandleSound.{IsHandleRecord};
 ghost use Rattle.ipam_pool.specs.declared.pools.Pool.{Pool};
 ghost use Rattle.ipam_pool.specs.Shape.{ReservationValue};
 ghost use Rattle.ipam_record_text.specs.declared.config.Config.{Config};

@@ -14,7 +14,7 @@ use Rattle.ipam_block.specs.Shape.{BlockValue}
 use Rattle.ipam_records.specs.declared.key.Key.TheVariants as key
 use Rattle.ipam_records.specs.declared.record.Record.{Record}
 use Rattle.ipam_records.specs.declared.record.Record.TheVariants as record_of
-use Rattle.ipam_handle.specs.Order.{cidr_cmp}
+use Rattle.ipam_block.specs.Order.{cidr_cmp}
 use Rattle.ipam_records.specs.KeyOrder.{key_cmp, keys_equal}
 use Rattle.ipam_records.specs.Datastore.{row_key, row_of}
 use Rattle.ipam_records.specs.BlockLists.{is_block, cidr_if, cidrs_where, HasNoBlock, name_cmp, named_lists, list_under, AreNamedLists, AreBlocks}

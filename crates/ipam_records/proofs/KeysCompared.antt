@@ -5,7 +5,7 @@ use Rattle.ipam_addr.specs.declared.address.Family.{Family}
 use Rattle.ipam_addr.specs.declared.address.Family.TheVariants.{V4, V6}
 use Rattle.ipam_addr.specs.Shape.{CidrValue}
 use Rattle.ipam_addr.specs.contracts.cidrs.CidrOrd.TheImpl.{ghosts}
-use Rattle.ipam_handle.specs.Order.{cidr_cmp}
+use Rattle.ipam_block.specs.Order.{cidr_cmp}
 
 by_parts : (f g : Family) (a b p q : ℕ) → ghosts.cmp (record { family = f; base = a; prefix = p }) (record { family = g; base = b; prefix = q }) ≡ cidr_cmp (record { family = f; base = a; prefix = p }) (record { family = g; base = b; prefix = q })
 by_parts V4 V4 a b p q = refl

@@ -2,7 +2,7 @@
 use Rattle.std.proofs.Common.{ℕ, List, Option, Some, None}
 use Rattle.ipam_block.specs.declared.record.Affinity.{Affinity}
 use Rattle.ipam_block.specs.Shape.{BlockValue}
-use Rattle.ipam_handle.specs.Shape.{HandleValue}
+use Rattle.ipam_block.specs.HandleShape.{HandleValue}
 use Rattle.ipam_pool.specs.declared.pools.Pool.{Pool}
 use Rattle.ipam_record_text.specs.declared.config.Config.{Config}
 use Rattle.ipam_pool.specs.Shape.{ReservationValue}

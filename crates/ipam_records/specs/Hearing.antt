@@ -1,6 +1,6 @@
 -- What a procedure may be told.
 use Rattle.std.specs.Prelude.{◌≡◌, ◌≤◌, Option, Some}
-use Rattle.ipam_handle.specs.Operations.{count_of}
+use Rattle.ipam_block.specs.HandleOperations.{count_of}
 use Rattle.ipam_records.specs.declared.key.Key.TheVariants as key
 use Rattle.ipam_records.specs.declared.record.Record.TheVariants as record_of
 use Rattle.ipam_records.specs.declared.call.Call.{Call}

@@ -8,7 +8,7 @@ use Rattle.ipam_records.specs.declared.record.Record.TheVariants as record_of
 use Rattle.ipam_records.specs.KeyOrder.{key_cmp}
 use Rattle.ipam_records.specs.Datastore.{Datastore, last_revision, row_key}
 pub use Rattle.ipam_block.specs.Sound.{IsBlockCidr, IsPair, AreAttributes, IsNode, IsBlockRecord}
-pub use Rattle.ipam_handle.specs.Sound.{IsHandleRecord}
+pub use Rattle.ipam_block.specs.HandleSound.{IsHandleRecord}
 pub use Rattle.ipam_record_text.specs.Affinity.{IsAffinityRecord}
 pub use Rattle.ipam_record_text.specs.Pools.{IsPoolsRecord}
 pub use Rattle.ipam_record_text.specs.Reservations.{IsReservation, IsReservationsRecord}

@@ -1,7 +1,7 @@
 ghost use Rattle.std.specs.Prelude.{◌≡◌, ◌<◌, ◌^◌, length, slice_get, option_map, Some};
 ghost use Rattle.std.specs.Option.{ForSome, ForNone};
 ghost use Rattle.std.specs.List.Sorted.{IsStrictlySortedBy};
-ghost use Rattle.ipam_handle.specs.Order.{cidr_cmp};
+ghost use Rattle.ipam_block.specs.Order.{cidr_cmp};
 ghost use Rattle.std.proofs.Props.{props};
 ghost use Rattle.ipam_records.specs.Pages.{rows_of_pages};
 ghost use Rattle.ipam_records.specs.BlockLists.{cidrs_of_node, cidrs_unowned, cidrs_roomy, named_lists, AreNamedLists, AreListsOf, AreBlocks, HasNoBlock};

@@ -2,8 +2,7 @@ ghost use Rattle.std.specs.Prelude.{◌≡◌, IfOk};
 
 use crate::key::Key;
 use crate::key_ref::KeyRef;
-use ipam_block::{Affinity, Block};
-use ipam_handle::Handle;
+use ipam_block::{Affinity, Block, Handle};
 use ipam_pool::{PoolTable, Reservation};
 use ipam_record_text::Config;
 use ipam_text::Seq;

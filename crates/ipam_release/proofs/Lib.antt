@@ -1,3 +1,5 @@
 mod FreeLemmas
 mod DelLemmas
 mod CheckLemmas
+mod AdminLemmas
+mod PoolLemmas

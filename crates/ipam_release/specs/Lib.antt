@@ -1,3 +1,5 @@
 pub mod Free
 pub mod Del
 pub mod Check
+pub mod Admin
+pub mod Change

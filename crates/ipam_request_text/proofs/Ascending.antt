@@ -9,7 +9,7 @@ use Rattle.std.specs.List.Sorted.{IsStrictlySortedBy}
 use Rattle.std.proofs.Math.ListN.{get_or-map}
 use Rattle.std.proofs.lemmas.List.{length-map}
 use Rattle.std.proofs.lemmas.Map.Keys.{sorted_from_all_adjacent}
-use Rattle.ipam_handle.proofs.Entries.{key_below}
+use Rattle.ipam_block.proofs.Entries.{key_below}
 use Rattle.ipam_model.specs.Pairs.{Pair}
 
 less : (r : Ordering) → true ≡ is_lt r → r ≡ Less

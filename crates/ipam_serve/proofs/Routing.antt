@@ -5,7 +5,7 @@ use Rattle.ipam_model.specs.Cluster.{RunningRequest}
 use Rattle.ipam_model.specs.History.{store_at}
 use Rattle.ipam_records.specs.declared.key.Key.{Key}
 use Rattle.ipam_words.specs.declared.kind.RowKind.{RowKind}
-use Rattle.ipam_pages.specs.declared.page.Page.{Page}
+use Rattle.ipam_session.specs.declared.page.Page.{Page}
 use Rattle.ipam_show.specs.declared.usage.PoolUsage.{PoolUsage}
 use Rattle.ipam_feed.specs.declared.route.Route.{Route}
 use Rattle.ipam_feed.specs.declared.change.Change.{Change}

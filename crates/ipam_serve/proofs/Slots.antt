@@ -14,7 +14,7 @@ use Rattle.ipam_model.specs.declared.request.Request.TheVariants.{Add, AddThis, 
 use Rattle.ipam_model.specs.Cluster.{ClusterState, RunningRequest, Slots, after, fresh_run, run_after_feed, goes_on, state_of, with_slot}
 use Rattle.ipam_model.specs.Course.{is_due}
 use Rattle.ipam_model.specs.History.{Lawful, MayFeed, cluster_at, slot_of_entry}
-use Rattle.ipam_running.specs.Running.{grace_of}
+use Rattle.ipam_cluster.specs.Running.{grace_of}
 use Rattle.ipam_laws.proofs.KeptWords.{own-slot}
 use Rattle.ipam_shared.specs.PassValue.{PassValue}
 use Rattle.ipam_shared.specs.Passes.{IsSamePass, runs_at, runs_in}

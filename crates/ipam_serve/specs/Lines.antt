@@ -6,8 +6,8 @@ use Rattle.ipam_model.specs.declared.request.Request.{Request}
 use Rattle.ipam_model.specs.declared.request.Request.TheVariants.{Collect}
 use Rattle.ipam_records.specs.declared.key.Key.{Key}
 use Rattle.ipam_words.specs.declared.kind.RowKind.{RowKind}
-use Rattle.ipam_pages.specs.declared.page.Page.{Page}
-use Rattle.ipam_pages.specs.Page.{page_in}
+use Rattle.ipam_session.specs.declared.page.Page.{Page}
+use Rattle.ipam_session.specs.Page.{page_in}
 use Rattle.ipam_show.specs.Usage.{pools_usage}
 use Rattle.ipam_feed.specs.Feed.{changes_since}
 use Rattle.ipam_feed.specs.Route.{routes_in}

@@ -3,8 +3,8 @@ use Rattle.std.specs.Prelude.{◌≡◌, ◌≢◌, ◌⊎◌, ℕ, ◌+◌, ◌
 use Rattle.std.specs.Io.KnownBytes.{prepend_known, append_known}
 use Rattle.ipam_io.specs.Counts.{Rose, next_count}
 use Rattle.ipam_io.specs.Streams.{AppendsPrefix}
-use Rattle.ipam_lines.specs.declared.limits.TheConstants.{SESSION_LINE_BYTES}
-use Rattle.ipam_lines.specs.Feeds.{IsLine, IsTooLong}
+use Rattle.ipam_io.specs.declared.limits.TheConstants.{SESSION_LINE_BYTES}
+use Rattle.ipam_io.specs.Feeds.{IsLine, IsTooLong}
 use Rattle.ipam_model.specs.declared.entry.Entry.{Entry}
 use Rattle.ipam_model.specs.declared.entry.Entry.TheVariants as entry
 use Rattle.ipam_session.specs.declared.replies.Reply.{Reply}

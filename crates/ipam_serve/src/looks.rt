@@ -1,10 +1,10 @@
 //! What a session looks at.
 ghost use Rattle.std.specs.Prelude.{◌≡◌, IfOk};
-ghost use Rattle.ipam_pages.specs.Page.{page_in};
+ghost use Rattle.ipam_session.specs.Page.{page_in};
 ghost use Rattle.ipam_serve.specs.Looks.{IsUsage};
 
-use ipam_pages::{Page, page_of};
 use ipam_records::Key;
+use ipam_session::{Page, page_of};
 use ipam_shared::Look;
 use ipam_show::{PoolUsage, pools_usage};
 use ipam_store::Store;

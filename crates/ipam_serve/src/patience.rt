@@ -1,55 +1,19 @@
-//! The races that a session loses.
-use ipam_model::{CallName, Called, Entry, Told};
-pub use ipam_patience::Patience;
+//! What a session does so that others finish.
 use std::sync::Wait;
 
-/// The races that were lost for one line.
-#[derive(Drop)]
-pub(crate) struct Losses {
-    count: u32,
-    // whether the last call was one
-    now: bool,
-}
+/// How a session lets others finish. It holds no lock when it is asked, and nobody waits for it for ever.
+pub trait Patience {
+    /// Lets those finish that came before. A request begins after that, or goes on with what it waited for.
+    fn enter<R: Wait>(&mut self, rt: &R);
 
-impl Losses {
-    /// None so far.
-    pub(crate) fn none() -> Losses {
-        Losses {
-            count: 0,
-            now: false,
-        }
-    }
+    /// Lets others finish after a lost race, before the next turn. So many races were lost for the line that
+    /// is done, this one among them.
+    fn wait<R: Wait>(&mut self, rt: &R, losses: u32);
 
-    /// Takes notice of what a turn came to.
-    pub(crate) fn note(&mut self, entry: &Entry) {
-        self.now = is_lost(entry);
-        if self.now {
-            self.count = self.count.saturating_add(1);
-        }
-    }
+    /// Lets those go on that came after: the request has its answer, or comes to none for now.
+    fn leave(&mut self);
 
-    /// Lets others finish, where the last call lost a race.
-    pub(crate) fn wait<R: Wait, P: Patience>(&self, rt: &R, patience: &mut P) {
-        if self.now {
-            patience.wait(rt, self.count);
-        }
-    }
-}
-
-/// Whether it is a write that came too late.
-fn is_lost(entry: &Entry) -> bool {
-    match entry {
-        Entry::Called(called) => is_late(called),
-        Entry::Began(_, _) | Entry::Fed(_, _, _) | Entry::Stopped(_) => false,
-    }
-}
-
-fn is_late(called: &Called) -> bool {
-    match called.call {
-        CallName::Create(_) | CallName::Update(_, _) | CallName::Delete(_, _) => matches!(
-            called.reply,
-            Told::Exists(_) | Told::Missing | Told::Conflict(_)
-        ),
-        CallName::Get(_) | CallName::List(_) => false,
-    }
+    /// Lets those finish that waited when the last request was left, before what was written is made sure of:
+    /// so that it is done once for all of them. Where nobody waited it takes no time.
+    fn before_settling<R: Wait>(&mut self, rt: &R);
 }

@@ -16,7 +16,8 @@ ghost use Rattle.ipam_serve.specs.Runs.{DoesDeed, DoesPart, FeedsList};
 ghost use Rattle.ipam_serve.specs.Spans.{Begins, Calls, Feeds, IsTimeless, list_deed, own_feed, waits_of};
 
 use crate::gates::SessionGate;
-use crate::patience::{Losses, Patience};
+use crate::losses::Losses;
+use crate::patience::Patience;
 use crate::ran::{Broken, Ran};
 use crate::turns::{Feeding, begin, call, feed};
 use ipam_io::{Passed, Point};

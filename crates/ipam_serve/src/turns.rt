@@ -18,7 +18,7 @@ ghost use Rattle.ipam_serve.specs.Looks.{IsUsage};
 ghost use Rattle.ipam_serve.specs.Turns.{Called, Fed, IsToldOf, TakesLook, TakesOne, answer_told};
 
 use crate::looks::{PageLook, UsageLook};
-use crate::patience::Losses;
+use crate::losses::Losses;
 use crate::ran::{Broken, Ran};
 use ipam_model::{Answer, Entry, Request};
 use ipam_records::Key;

@@ -4,3 +4,6 @@ pub mod Asked
 pub mod Refused
 pub mod NoFloats
 pub mod Replied
+pub mod Taking
+pub mod Skipping
+pub mod Fronts

@@ -5,7 +5,7 @@ use Rattle.ipam_json.specs.Built.{Field, array_of, object_of, whole_data}
 use Rattle.ipam_json.proofs.Floatless.{items_without}
 use Rattle.ipam_answer_text.proofs.Floats.{has_float-answer_data}
 use Rattle.ipam_records.specs.declared.record.Record.{Record}
-use Rattle.ipam_pages.specs.declared.page.Page.{Page}
+use Rattle.ipam_session.specs.declared.page.Page.{Page}
 use Rattle.ipam_show.specs.declared.usage.PoolUsage.{PoolUsage}
 use Rattle.ipam_feed.specs.declared.route.Route.{Route as OneRoute}
 use Rattle.ipam_feed.specs.declared.change.Change.{Change}

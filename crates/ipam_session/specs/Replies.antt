@@ -11,7 +11,7 @@ use Rattle.ipam_records.specs.declared.record.Record.{Record}
 use Rattle.ipam_records.specs.Body.{body_of}
 use Rattle.ipam_records.specs.Key.{key_of}
 use Rattle.ipam_records.specs.KeyText.{key_bytes}
-use Rattle.ipam_pages.specs.declared.page.Page.{Page}
+use Rattle.ipam_session.specs.declared.page.Page.{Page}
 use Rattle.ipam_show.specs.declared.usage.PoolUsage.{PoolUsage}
 use Rattle.ipam_feed.specs.declared.route.Route.{Route as OneRoute}
 use Rattle.ipam_feed.specs.declared.change.Change.{Change}

@@ -6,13 +6,13 @@ ghost use Rattle.ipam_records.specs.Key.{key_of};
 ghost use Rattle.ipam_records.specs.KeyText.{key_bytes};
 ghost use Rattle.ipam_session.specs.Replies.{call_reply_data, call_text, route_data, route_change_data, routes_data, changes_data, since_data, row_data, page_data, pool_usage_data, usage_data, reply_data, reply_line};
 
+use crate::page::Page;
 use crate::refusal::Refusal;
 use crate::route::Since;
 use ipam_answer_text::{answer_value, cidr_string};
 use ipam_feed::{Change, Route};
 use ipam_json::tagged;
 use ipam_model::Answer;
-use ipam_pages::Page;
 use ipam_records::{Record, key_text, to_text};
 use ipam_show::PoolUsage;
 use ipam_text::{Seq, Text};

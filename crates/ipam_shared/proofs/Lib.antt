@@ -7,3 +7,11 @@ mod Calling
 mod Routing
 mod Looking
 pub mod Settled
+pub mod SentSelectors
+pub mod SentRows
+pub mod SentStore
+pub mod SentParts
+pub mod SentProcedures
+pub mod SentCluster
+pub mod SentShared
+pub mod SentMemory

@@ -7,7 +7,7 @@ use Rattle.ipam_model.specs.Cluster.{ClusterState, after, fresh_run, run_after_f
 use Rattle.ipam_model.specs.Cluster as model
 use Rattle.ipam_model.specs.History.{Base, cluster_at, slot_of_entry}
 use Rattle.ipam_laws.proofs.KeptWords.{other-slot}
-use Rattle.ipam_running.specs.declared.running.Running.{Running}
+use Rattle.ipam_cluster.specs.declared.running.Running.{Running}
 use Rattle.ipam_cluster.specs.Cluster.{IsSlot, state_in, grace_in}
 use Rattle.ipam_shared.specs.Passes.{runs_at}
 use Rattle.ipam_shared.specs.Turning.{times_of}

@@ -6,7 +6,7 @@ use Rattle.ipam_model.specs.declared.entry.Entry.{Entry}
 use Rattle.ipam_model.specs.declared.entry.SlotState.TheVariants as state
 use Rattle.ipam_model.specs.Cluster.{RunningRequest, state_of}
 use Rattle.ipam_model.specs.History.{moment_of, slot_of_entry}
-use Rattle.ipam_running.specs.Running.{grace_of}
+use Rattle.ipam_cluster.specs.Running.{grace_of}
 use Rattle.ipam_kept.specs.declared.kept.Kept.{Kept}
 use Rattle.ipam_kept.specs.Feed.{FedFor}
 use Rattle.ipam_kept.specs.Kept.{KeptFor, Tells}

@@ -3,8 +3,12 @@
 //!
 //! Each call that is made for a request is one turn, so that others may come between two of them. The
 //! keeper is given a write in the turn that makes it, so rows are kept in the order of the history.
+//!
+//! A value may be handed to another thread where each of its parts may. That is shown here once, type
+//! by type from the rows up, for the crates that start threads over a cluster.
 #![tactic(auto)]
 
+mod crossing;
 mod deed;
 mod deeds;
 mod faults;
@@ -14,6 +18,7 @@ mod opened;
 mod pass;
 mod shared;
 
+pub use crossing::{may_be_shared, memory_may_cross};
 pub use faults::{SharedFault, SpentPass};
 pub use ipam_kept::{
     BeginFault, Change, FeedFault, KeepFault, Keeper, Kept, Memory, PrepareFault, Route, SinceFault,

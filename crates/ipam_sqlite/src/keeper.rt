@@ -54,11 +54,8 @@ impl SqliteKeeper<FileStore<File>> {
     pub fn open_with(rt: &HostRuntime, path: &str, syncs: Syncs) -> SqliteKeeper<FileStore<File>>
         ensures { faults_of result ≡ 0 }
     {
-        let opened = match open_database(rt, path, Aim::Keep) {
-            Ok(Some(mut opened)) => {
-                opened.sync(syncs);
-                Ok(opened)
-            }
+        let opened = match open_database(rt, path, Aim::Keep, syncs) {
+            Ok(Some(opened)) => Ok(opened),
             Ok(None) => Err(Trouble::Fault(StorageFault::NoFile)),
             Err(trouble) => Err(trouble),
         };

@@ -7,29 +7,24 @@ ghost use Rattle.ipam_sqlite.specs.Answers.{answer_of};
 ghost use Rattle.ipam_sqlite.specs.Refused.{IsRefused, AnswersRefused};
 
 use crate::fault::{StorageFault, Trouble};
-use crate::opened::Opened;
+use crate::opened::{Ask, Opened, Syncs};
 use crate::opening::{Aim, fold, open_database};
 use crate::tally::Tally;
 use ipam_keeper::{KeepFault, Keeper, Row};
 use ipam_text::Text;
 use sqlite::{File, FileStore};
+use std::alloc::Global;
 use std::mem;
 
-/// Whether a file is open.
+/// Whether a file is open. It is let go by `fold` alone.
+///
+/// The proof of a function that calls one written for any store goes through the whole store of files, and takes
+/// half a minute. Here only the two functions of a state do.
 enum State {
     Closed,
     Open(Opened<FileStore<File>>),
     /// Each call fails.
     Refused(StorageFault),
-}
-
-impl Drop for State {
-    fn drop(self) {
-        match self {
-            State::Open(_opened) => {}
-            State::Closed | State::Refused(_) => {}
-        }
-    }
 }
 
 impl State {
@@ -42,6 +37,17 @@ impl State {
                 None => Err(Trouble::Fault(StorageFault::FileGone)),
             },
             State::Closed | State::Refused(_) => Ok(()),
+        }
+    }
+
+    /// What the file answers that is open. Where there is none, there are no rows, and no change is made.
+    fn answer(&mut self, alloc: Global, ask: Ask<'_>) -> Result<Vec<Row>, Trouble>
+        ensures { IfOk result (λ loaded. Ascend loaded.items) }
+    {
+        match (self, ask) {
+            (State::Open(opened), _) => opened.answer(alloc, ask),
+            (_, Ask::Load) => Ok(Vec::new(alloc)),
+            (_, Ask::Put(..) | Ask::Remove(_)) => Err(Trouble::Fault(StorageFault::NoFile)),
         }
     }
 }
@@ -115,7 +121,7 @@ impl FileKeeper {
     {
         let answer = match &self.state {
             State::Refused(fault) => Err(Trouble::Fault(*fault)),
-            _ => mem::replace(&mut self.state, State::Closed).fold(),
+            _ => self.turn(State::Closed),
         };
         self.tally.counted(answer)
     }
@@ -131,21 +137,28 @@ impl FileKeeper {
             State::Closed => {}
         }
         match self.opened() {
-            Ok(state) => self.state = state,
-            Err(Trouble::Memory) => return Err(Trouble::Memory),
+            Ok(state) => self.turn(state),
+            Err(Trouble::Memory) => Err(Trouble::Memory),
             Err(Trouble::Fault(fault)) => {
-                self.state = State::Refused(fault);
-                return Err(Trouble::Fault(fault));
+                let _ = self.turn(State::Refused(fault));
+                Err(Trouble::Fault(fault))
             }
         }
-        Ok(())
+    }
+
+    /// Takes this state, and folds the one before.
+    fn turn(&mut self, state: State) -> Result<(), Trouble>
+        ensures state { self.new.state ≡ state }
+        ensures tally { self.new.tally ≡ self.old.tally }
+    {
+        mem::replace(&mut self.state, state).fold()
     }
 
     fn opened(&self) -> Result<State, Trouble> {
         let Some(path) = &self.path else {
             return Err(Trouble::Memory);
         };
-        match open_database(&self.rt, path.as_str(), self.aim)? {
+        match open_database(&self.rt, path.as_str(), self.aim, Syncs::AtOnce)? {
             Some(opened) => Ok(State::Open(opened)),
             None => Ok(State::Closed),
         }
@@ -158,10 +171,7 @@ impl FileKeeper {
         ensures tally { self.new.tally ≡ self.old.tally }
     {
         self.ready()?;
-        match &mut self.state {
-            State::Open(opened) => opened.rows(self.rt.alloc()),
-            _ => Ok(Vec::new(self.rt.alloc())),
-        }
+        self.state.answer(self.rt.alloc(), Ask::Load)
     }
 
     /// The answer of a change. Where the files are gone, they are let go, and no later call does anything.
@@ -173,30 +183,19 @@ impl FileKeeper {
         ensures never_falls { self.old.tally.faults ≤ self.new.tally.faults }
     {
         if answer == Err(Trouble::Fault(StorageFault::FileGone)) {
-            let _ = mem::replace(&mut self.state, State::Refused(StorageFault::FileGone)).fold();
+            let _ = self.turn(State::Refused(StorageFault::FileGone));
         }
         self.tally.counted(answer)
     }
 
-    fn put_row(&mut self, key: &str, revision: u64, body: &str) -> Result<(), Trouble>
+    fn change_row(&mut self, change: Ask<'_>) -> Result<(), Trouble>
         ensures refused { IsRefused self.old.state → AnswersRefused result self.new.state }
         ensures tally { self.new.tally ≡ self.old.tally }
     {
         self.ready()?;
-        match &mut self.state {
-            State::Open(opened) => opened.put(key, revision, body),
-            _ => Err(Trouble::Fault(StorageFault::NoFile)),
-        }
-    }
-
-    fn remove_row(&mut self, key: &str) -> Result<(), Trouble>
-        ensures refused { IsRefused self.old.state → AnswersRefused result self.new.state }
-        ensures tally { self.new.tally ≡ self.old.tally }
-    {
-        self.ready()?;
-        match &mut self.state {
-            State::Open(opened) => opened.remove(key),
-            _ => Err(Trouble::Fault(StorageFault::NoFile)),
+        match self.state.answer(self.rt.alloc(), change) {
+            Ok(_) => Ok(()),
+            Err(trouble) => Err(trouble),
         }
     }
 }
@@ -231,7 +230,7 @@ impl Keeper for FileKeeper {
         ensures no_fault { UnlessFailed result (self.new.tally.faults ≡ self.old.tally.faults) }
         ensures never_falls { self.old.tally.faults ≤ self.new.tally.faults }
     {
-        let answer = self.put_row(key, revision, body);
+        let answer = self.change_row(Ask::Put(key, revision, body));
         self.changed(answer)
     }
 
@@ -241,7 +240,7 @@ impl Keeper for FileKeeper {
         ensures no_fault { UnlessFailed result (self.new.tally.faults ≡ self.old.tally.faults) }
         ensures never_falls { self.old.tally.faults ≤ self.new.tally.faults }
     {
-        let answer = self.remove_row(key);
+        let answer = self.change_row(Ask::Remove(key));
         self.changed(answer)
     }
 
@@ -269,7 +268,7 @@ pub fn fold_log(rt: &HostRuntime, path: &str) -> Result<(), StorageFault> {
         Err(Trouble::Memory) => return Ok(()),
         Err(Trouble::Fault(fault)) => return Err(fault),
     }
-    match mem::replace(&mut keeper.state, State::Closed).fold() {
+    match keeper.turn(State::Closed) {
         Err(Trouble::Fault(fault)) => Err(fault),
         _ => Ok(()),
     }

@@ -30,6 +30,17 @@ pub enum Syncs {
     AtSettle,
 }
 
+/// What a database is asked.
+#[derive(Clone, Copy)]
+pub(crate) enum Ask<'a> {
+    /// Gives all rows.
+    Load,
+    /// Puts in a row of this key, this revision and this body.
+    Put(&'a str, u64, &'a str),
+    /// Takes out the row of this key, if there is one.
+    Remove(&'a str),
+}
+
 /// A database that is open, and the names of its files.
 pub(crate) struct Opened<S: Alter> {
     conn: Connection<S>,
@@ -64,19 +75,25 @@ impl<S: Alter + Drop> Opened<S> {
 }
 
 impl<S: Alter> Opened<S> {
-    /// A database that puts each change on the disk at once.
-    pub(crate) fn over(conn: Connection<S>, watch: Watch) -> Opened<S> {
+    pub(crate) fn over(conn: Connection<S>, watch: Watch, syncs: Syncs) -> Opened<S> {
         Opened {
             conn,
             watch,
-            syncs: Syncs::AtOnce,
+            syncs,
             has_unsettled: false,
         }
     }
 
-    /// Sets when the changes to come are put on the disk.
-    pub(crate) fn sync(&mut self, syncs: Syncs) {
-        self.syncs = syncs;
+    /// Does what is asked, and answers with the rows of a load. A change is answered with none.
+    pub(crate) fn answer(&mut self, alloc: Global, ask: Ask<'_>) -> Result<Vec<Row>, Trouble>
+        ensures { IfOk result (λ loaded. Ascend loaded.items) }
+    {
+        match ask {
+            Ask::Load => return self.rows(alloc),
+            Ask::Put(key, revision, body) => self.put(key, revision, body)?,
+            Ask::Remove(key) => self.remove(key)?,
+        }
+        Ok(Vec::new(alloc))
     }
 
     /// All rows, in order, also those that are not on the disk yet.

@@ -2,7 +2,7 @@
 use crate::fault::{StorageFault, Trouble};
 use crate::header::is_as_made;
 use crate::names::{Found, Watch, look, make, why_closed};
-use crate::opened::Opened;
+use crate::opened::{Opened, Syncs};
 use sqlite::{Alter, Connection, Error, ErrorCode, File, FileStore, Row};
 
 const MAKE_TABLE: &str =
@@ -29,6 +29,7 @@ pub(crate) fn open_database(
     rt: &HostRuntime,
     path: &str,
     aim: Aim,
+    syncs: Syncs,
 ) -> Result<Option<Opened<FileStore<File>>>, Trouble> {
     let found = look(rt, path)?;
     if aim == Aim::Look && found.is_nothing() {
@@ -37,11 +38,10 @@ pub(crate) fn open_database(
     if !found.is_there() {
         make(rt, path)?;
     }
-    let (conn, stage) = begun(rt, path, aim, open_files(rt, path)?)?;
-    match stage {
-        Stage::New => nothing(conn),
-        Stage::InLog => watched(rt, path, &found, folded(rt, path, conn)?),
-        Stage::Made => watched(rt, path, &found, conn),
+    match begin(rt, path, aim, syncs, &found, open_files(rt, path)?)? {
+        Begun::Empty => Ok(None),
+        Begun::InLog(conn) => watched(rt, path, syncs, &found, folded(rt, path, conn)?),
+        Begun::Made(opened) => Ok(Some(opened)),
     }
 }
 
@@ -75,16 +75,40 @@ pub(crate) fn fold(conn: Connection<FileStore<File>>) -> Result<(), Trouble> {
 fn watched<S: Alter + Drop>(
     rt: &HostRuntime,
     path: &str,
+    syncs: Syncs,
     found: &Found,
     conn: Connection<S>,
 ) -> Result<Option<Opened<S>>, Trouble> {
     let watch = Watch::over(rt, path, found)?;
-    Ok(Some(Opened::over(conn, watch)))
+    Ok(Some(Opened::over(conn, watch, syncs)))
 }
 
-/// A database without its table, for a reader.
-fn nothing<S: Alter + Drop>(_conn: Connection<S>) -> Result<Option<Opened<S>>, Trouble> {
-    Ok(None)
+/// What an opening comes to.
+enum Begun<S: Alter> {
+    /// There is no table, and none is made.
+    Empty,
+    /// The table is in the log alone.
+    InLog(Connection<S>),
+    Made(Opened<S>),
+}
+
+/// Makes the table where the aim is to keep rows.
+fn begin<S: Alter + Drop>(
+    rt: &HostRuntime,
+    path: &str,
+    aim: Aim,
+    syncs: Syncs,
+    found: &Found,
+    mut conn: Connection<S>,
+) -> Result<Begun<S>, Trouble> {
+    match made_stage(rt, path, aim, &mut conn)? {
+        Stage::New => Ok(Begun::Empty),
+        Stage::InLog => Ok(Begun::InLog(conn)),
+        Stage::Made => {
+            let watch = Watch::over(rt, path, found)?;
+            Ok(Begun::Made(Opened::over(conn, watch, syncs)))
+        }
+    }
 }
 
 /// How far the making of a database has come.
@@ -98,19 +122,19 @@ enum Stage {
     Made,
 }
 
-/// The connection, with the table where the aim is to keep rows, and how far the making has come.
-fn begun<S: Alter + Drop>(
+/// How far the making has come, once the table is made where the aim is to keep rows.
+fn made_stage<S: Alter>(
     rt: &HostRuntime,
     path: &str,
     aim: Aim,
-    mut conn: Connection<S>,
-) -> Result<(Connection<S>, Stage), Trouble> {
-    let stage = stage_of(rt, path, &mut conn)?;
+    conn: &mut Connection<S>,
+) -> Result<Stage, Trouble> {
+    let stage = stage_of(rt, path, conn)?;
     if stage != Stage::New || aim == Aim::Look {
-        return Ok((conn, stage));
+        return Ok(stage);
     }
     match conn.execute(MAKE_TABLE, &[]) {
-        Ok(_) => Ok((conn, Stage::InLog)),
+        Ok(_) => Ok(Stage::InLog),
         Err(error) => Err(Trouble::from(error)),
     }
 }

@@ -4,7 +4,7 @@ use Rattle.std.specs.BTreeSet.{insert_key}
 use Rattle.std.specs.List.Sorted.{IsStrictlySortedBy}
 use Rattle.std.specs.Ordering.{is_eq}
 use Rattle.ipam_addr.specs.Shape.{CidrValue}
-use Rattle.ipam_handle.specs.Order.{cidr_cmp}
+use Rattle.ipam_block.specs.Order.{cidr_cmp}
 
 -- the CIDRs ascend
 abbrev pub CidrsAscend : List CidrValue → Type 0

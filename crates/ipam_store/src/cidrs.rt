@@ -1,6 +1,6 @@
 ghost use Rattle.std.specs.Prelude.{◌≡◌, ◌+◌, ◌<◌, ◌≤◌, length, IfOk, IfErr};
 ghost use Rattle.std.specs.Vec.{vec_len, vec_capacity};
-ghost use Rattle.ipam_handle.specs.Order.{cidr_cmp};
+ghost use Rattle.ipam_block.specs.Order.{cidr_cmp};
 ghost use Rattle.ipam_records.specs.Places.{IsFoundAt, IsGapAt};
 ghost use Rattle.ipam_store.specs.CidrLists.{CidrsAscend, with_cidr, without_cidr};
 

@@ -1,23 +1,17 @@
-//! Tests of the datastore: the store, the ring of its last writes, and the opening of rows.
+//! Tests of the datastore: the store, the ring of its last writes, and the opening of rows. A line has a kind and a
+//! question, as `routes|4`. `ipam_tests` has the lines.
 #![tactic(auto)]
 
-#[cfg(test)]
+mod answers;
 mod calls;
-#[cfg(test)]
 mod compared;
-#[cfg(test)]
 mod limits;
-#[cfg(test)]
 mod opened;
-#[cfg(test)]
 mod openings;
-#[cfg(test)]
 mod plain;
-#[cfg(test)]
 mod records;
-#[cfg(test)]
-mod ring_tests;
-#[cfg(test)]
+mod reports;
 mod rings;
-#[cfg(test)]
-mod tests;
+mod tables;
+
+pub use answers::answered;

@@ -1,8 +1,9 @@
+//! As many rows as there may be, and more. Where a limit is passed the counter is below the revisions too, which is a
+//! later fault.
 use crate::opened::told;
-use ipam_records::{MOST_BLOCKS, MOST_ROWS, Row};
+use ipam_records::Row;
 use ipam_text::Text;
 use std::alloc::{AllocError, Global};
-use std::test::Fail;
 
 const POOLS: &str =
     r#"{"pools":[{"blockSize":32,"cidr":"10.100.0.0/16","disabled":false,"name":"p"}]}"#;
@@ -29,7 +30,15 @@ fn pools(alloc: Global) -> Result<Row, AllocError> {
     })
 }
 
-fn told_of_blocks(alloc: Global, count: usize, counter: u64) -> Result<String, AllocError> {
+/// How many rows there are, and the counter, of `COUNT COUNTER`.
+fn numbers(question: &str) -> (usize, u64) {
+    let (count, counter) = question.split_once(' ').unwrap_or((question, ""));
+    (count.parse().unwrap_or(0), counter.parse().unwrap_or(0))
+}
+
+/// What comes of so many blocks, and of pools behind them.
+pub(crate) fn blocks_answer(alloc: Global, question: &str) -> Result<String, AllocError> {
+    let (count, counter) = numbers(question);
     let mut rows = Vec::new(alloc);
     for place in 0..count {
         let (third, last) = (place / 150 % 150, place % 150);
@@ -50,30 +59,12 @@ fn handle(alloc: Global, id: usize) -> Result<Row, AllocError> {
     })
 }
 
-fn told_of_handles(alloc: Global, count: usize, counter: u64) -> Result<String, AllocError> {
+/// What comes of so many handles.
+pub(crate) fn handles_answer(alloc: Global, question: &str) -> Result<String, AllocError> {
+    let (count, counter) = numbers(question);
     let mut rows = Vec::new(alloc);
     for place in 0..count {
         rows.push(handle(alloc, place.wrapping_add(100_000))?)?;
     }
     told(alloc, rows.as_slice(), counter)
-}
-
-// Where the limit is passed the counter is below the revisions too, which is a later fault.
-
-#[test]
-fn as_many_blocks_open_as_there_may_be(rt: HostRuntime) -> Result<(), Fail> {
-    let full = told_of_blocks(rt.alloc(), MOST_BLOCKS, 1)?;
-    assert_eq!(rt; full.as_str(), "16385 rows at 1");
-    let over = told_of_blocks(rt.alloc(), MOST_BLOCKS + 2, 0)?;
-    assert_eq!(rt; over.as_str(), "rule 9: block/10.100.209.134/32");
-    Ok(())
-}
-
-#[test]
-fn as_many_rows_open_as_there_may_be(rt: HostRuntime) -> Result<(), Fail> {
-    let full = told_of_handles(rt.alloc(), MOST_ROWS, 1)?;
-    assert_eq!(rt; full.as_str(), "262144 rows at 1");
-    let over = told_of_handles(rt.alloc(), MOST_ROWS + 2, 0)?;
-    assert_eq!(rt; over.as_str(), "rule 9: handle/h362144");
-    Ok(())
 }

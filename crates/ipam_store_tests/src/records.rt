@@ -7,8 +7,7 @@ ghost use Rattle.ipam_records.specs.Datastore.{rows_of_kind};
 ghost use Rattle.ipam_store.specs.Granted.{HasRoomFor};
 
 use ipam_addr::{Addr, Cidr, Family, cidr, is_name, read_cidr};
-use ipam_block::{Affinity, Block, State};
-use ipam_handle::Handle;
+use ipam_block::{Affinity, Block, Handle, State};
 use ipam_pool::PoolTable;
 use ipam_records::{Call, Config, Key, Kind, MOST_BLOCKS, MOST_ROWS, Record, Reply, key_of_text};
 use ipam_store::{LoadFault, Store};

@@ -6,7 +6,7 @@ use Rattle.std.specs.List.{list_all, AllByRecursion}
 use Rattle.std.proofs.lemmas.Bool.{and_parts, and_from}
 use Rattle.std.proofs.lemmas.List.Elements.{All-from_recursion}
 use Rattle.std.proofs.lemmas.List.Folds.{list_all-append}
-use Rattle.ipam_lines.specs.Feeds.{HasNoFeed}
+use Rattle.ipam_io.specs.Feeds.{HasNoFeed}
 
 -- each byte passes the test
 pub record Passes (p : ℕ → Bool) (text : List ℕ) : Type 0 where

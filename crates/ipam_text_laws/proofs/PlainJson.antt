@@ -6,7 +6,7 @@ use Rattle.json.specs.Print.{escape_byte, escape, quoted}
 use Rattle.json.proofs.Printed.Strings.{escape_byte_plain}
 use Rattle.serde_json.specs.Data.{unsigned, negative, float, Num, Data, null, boolean, number, string, array, object, Items, no_items, item, Members, no_members, member}
 use Rattle.serde_json.specs.Written.{comma_if, number_text, compact_text, items_text, members_text}
-use Rattle.ipam_lines.specs.Feeds.{HasNoFeed}
+use Rattle.ipam_io.specs.Feeds.{HasNoFeed}
 use Rattle.ipam_text_laws.proofs.Plain.{is_no_feed, IsPlain, no_feed-above, passes-append, passes-cons, plain-text, plain-decimal, HasNoFeed-plain}
 
 -- ---- strings

@@ -10,8 +10,8 @@ use Rattle.ipam_block.specs.Shape as block
 use Rattle.ipam_block.specs.declared.record.Affinity.{Affinity}
 use Rattle.ipam_block.specs.declared.state.State.{State}
 use Rattle.ipam_block.specs.declared.state.State.TheVariants.{Pending, Confirmed, PendingDeletion}
-use Rattle.ipam_handle.specs.Shape as handle
-use Rattle.ipam_handle.specs.Operations.{count_of, with_raised_count, with_lowered_count}
+use Rattle.ipam_block.specs.HandleShape as handle
+use Rattle.ipam_block.specs.HandleOperations.{count_of, with_raised_count, with_lowered_count}
 use Rattle.ipam_records.specs.declared.record.Record.TheVariants as record_of
 use Rattle.ipam_records.specs.Label.{Credit}
 use Rattle.ipam_records.specs.Said.{Said, Found, Missing, Listed, Can, Exists, Conflict, Full, Spent}

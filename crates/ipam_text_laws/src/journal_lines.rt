@@ -4,7 +4,7 @@ ghost use Rattle.std.specs.Prelude.{◌≡◌, ℕ, ◌<◌, ◌^◌, List, ◌+
 ghost use Rattle.std.specs.List.{AllByRecursion, concat};
 ghost use Rattle.serde_json.specs.Data.{Data};
 ghost use Rattle.serde_json.specs.Written.{compact_text};
-ghost use Rattle.ipam_lines.specs.Feeds.{HasNoFeed};
+ghost use Rattle.ipam_io.specs.Feeds.{HasNoFeed};
 ghost use Rattle.ipam_records.specs.Sound.{IsDatastore, IsHandleId};
 ghost use Rattle.ipam_model.specs.declared.entry.Called.{Called};
 ghost use Rattle.ipam_model.specs.declared.entry.CallName.{CallName};

@@ -91,14 +91,16 @@ pub fn spread<R: Threads + Wait + Sync>(
     into
 }
 
-/// A book that `others` threads wrote beside this one. There is none where the memory did not last.
+/// A book with this counter that `others` threads wrote beside this one. There is none where the memory did not
+/// last.
 pub fn written<R: Threads + Wait + Sync>(
     rt: &R,
     alloc: Global,
+    first: u64,
     others: u32,
     count: u64,
 ) -> Option<Book> {
-    let (lock, pass) = TurnLock::new(alloc, Book::new(alloc, 7)).ok()?;
+    let (lock, pass) = TurnLock::new(alloc, Book::new(alloc, first)).ok()?;
     let pass = spread(rt, alloc, &lock, pass, others, count);
     if pass.is_last() {
         Some(lock.close(pass))

@@ -1,6 +1,6 @@
 use Rattle.std.proofs.Common.{◌+◌, ◌-◌, ◌/◌, sym, ap, subst, arith, List}
 use Rattle.std.specs.List.Sorted.{IsStrictlySortedBy}
-use Rattle.ipam_handle.specs.Order.{cidr_cmp}
+use Rattle.ipam_block.specs.Order.{cidr_cmp}
 use Rattle.ipam_records.specs.Listing.{rows_of}
 use Rattle.ipam_model.specs.Reads.{StoredRecord}
 use Rattle.ipam_choice.specs.Blocks.{cidrs_in, EndsBefore}

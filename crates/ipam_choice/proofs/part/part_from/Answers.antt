@@ -1,7 +1,7 @@
 use Rattle.std.proofs.Common.{List, subst}
 use Rattle.std.specs.List.Sorted.{IsStrictlySortedBy}
 use Rattle.ipam_addr.specs.Shape.{CidrValue}
-use Rattle.ipam_handle.specs.Order.{cidr_cmp}
+use Rattle.ipam_block.specs.Order.{cidr_cmp}
 use Rattle.ipam_choice.specs.First.{Has}
 use Rattle.ipam_choice.proofs.PartLemmas.{ascend-drop, all-behind, kept_from_found, kept_from_gap}
 use Rattle.ipam_choice.proofs.part.part_from.Goals as goal

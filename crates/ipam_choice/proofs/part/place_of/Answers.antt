@@ -1,6 +1,6 @@
 use Rattle.std.proofs.Common.{rules}
 use Rattle.std.proofs.lemmas.Fn.{always_returns_same}
-use Rattle.ipam_handle.specs.Order.{cidr_cmp}
+use Rattle.ipam_block.specs.Order.{cidr_cmp}
 use Rattle.ipam_records.proofs.KeysCompared.{cidrs_compared}
 use Rattle.ipam_choice.proofs.PartLemmas.{blocks_searched}
 use Rattle.ipam_choice.proofs.part.place_of.Goals as goal

@@ -1,6 +1,6 @@
 use Rattle.std.proofs.Common.{◌≡◌, List, refl, sym, ap, ◌∙◌, subst, rules}
 use Rattle.ipam_addr.specs.Shape.{CidrValue}
-use Rattle.ipam_handle.specs.Order.{cidr_cmp}
+use Rattle.ipam_block.specs.Order.{cidr_cmp}
 use Rattle.ipam_records.specs.Listing.{rows_of}
 use Rattle.ipam_records.proofs.KeysCompared.{cidrs_compared}
 use Rattle.ipam_choice.specs.Ahead.{cidrs_left}

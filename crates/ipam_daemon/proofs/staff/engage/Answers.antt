@@ -1,5 +1,5 @@
 use denote.Param.Send.{sendable}
-use Rattle.ipam_crossing.proofs.SentShared.{shared_send, shared_sync}
+use Rattle.ipam_shared.proofs.SentShared.{shared_send, shared_sync}
 use Rattle.ipam_daemon.proofs.staff.engage.Goals as goal
 
 pub engage_over-requires-send-S : goal.engage_over-requires-send-S

@@ -1,5 +1,5 @@
 use denote.Param.Send.{sendable}
-use Rattle.ipam_crossing.proofs.SentShared.{shared_sync}
+use Rattle.ipam_shared.proofs.SentShared.{shared_sync}
 use Rattle.ipam_daemon_tests.proofs.two.told_over.Goals as goal
 
 pub told_by_two-requires-sync-S : goal.told_by_two-requires-sync-S

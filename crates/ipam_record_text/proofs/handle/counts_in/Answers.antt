@@ -2,7 +2,7 @@ use Rattle.std.proofs.Common.{◌≡◌, ◌∙◌, ◌<◌, [], ap, subst, Bool
 use Rattle.std.specs.Bool.{OnTrue, OnFalse}
 use Rattle.serde_json.specs.Data.{member}
 use Rattle.serde_json.specs.View.{view, members_view}
-use Rattle.ipam_handle.specs.Operations.{count_in}
+use Rattle.ipam_block.specs.HandleOperations.{count_in}
 use Rattle.ipam_record_text.specs.Handle.{block_counted, counts_after, AddsCount}
 use Rattle.ipam_record_text.proofs.Handles.{no_counts, one_more, repeated, sound_added}
 use Rattle.ipam_record_text.proofs.handle.counts_in.Goals as goal

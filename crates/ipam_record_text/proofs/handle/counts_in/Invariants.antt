@@ -1,6 +1,6 @@
 use Rattle.std.proofs.Common.{◌≡◌, []}
 use Rattle.serde_json.specs.View.{members_view}
-use Rattle.ipam_handle.specs.Sound.{AreCounts}
+use Rattle.ipam_block.specs.HandleSound.{AreCounts}
 use Rattle.ipam_record_text.specs.Handle.{counts_after}
 use Rattle.ipam_record_text.proofs.handle.counts_in.Given as goal
 

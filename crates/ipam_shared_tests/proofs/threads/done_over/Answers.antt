@@ -1,5 +1,5 @@
 use denote.Param.Send.{sendable}
-use Rattle.ipam_crossing.proofs.SentShared.{shared_sync}
+use Rattle.ipam_shared.proofs.SentShared.{shared_sync}
 use Rattle.ipam_shared_tests.proofs.threads.done_over.Goals as goal
 
 pub spread-worked-requires-sync-T : goal.spread-worked-requires-sync-T

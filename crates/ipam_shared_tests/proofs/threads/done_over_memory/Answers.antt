@@ -1,5 +1,5 @@
 use denote.Param.Send.{sendable}
-use Rattle.ipam_crossing.proofs.SentMemory.{memory_send}
+use Rattle.ipam_shared.proofs.SentMemory.{memory_send}
 use Rattle.ipam_shared_tests.proofs.threads.done_over_memory.Goals as goal
 
 pub done_over-requires-send-D : goal.done_over-requires-send-D

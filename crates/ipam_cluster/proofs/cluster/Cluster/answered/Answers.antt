@@ -5,8 +5,8 @@ use Rattle.std.proofs.lemmas.Grind.{common_steps}
 use Rattle.ipam_records.specs.Hearing.{MayHear}
 use Rattle.ipam_records.specs.Datastore.{write_granted}
 use Rattle.ipam_records.specs.Said.{Said, said}
-use Rattle.ipam_running.specs.declared.running.RunningTurned.{RunningTurned}
-use Rattle.ipam_running.specs.Running.{running_rest}
+use Rattle.ipam_cluster.specs.declared.running.RunningTurned.{RunningTurned}
+use Rattle.ipam_cluster.specs.Running.{running_rest}
 use Rattle.ipam_cluster.specs.Cluster.{slot_of_cluster}
 use Rattle.ipam_cluster.specs.declared.turns.Prepared.{Prepared}
 use Rattle.ipam_cluster.specs.Preparing.{IsPrepared, Leads, TellsOf}

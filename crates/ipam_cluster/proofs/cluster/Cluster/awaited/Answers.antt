@@ -2,7 +2,7 @@ use Rattle.std.proofs.Common.{◌≡◌, Some, Option, ◌∙◌, sym, subst, ru
 use Rattle.std.specs.Prelude.{IfNone}
 use Rattle.ipam_collect.specs.declared.collect.Grace.{Grace}
 use Rattle.ipam_model.specs.declared.entry.SlotState.TheVariants as state
-use Rattle.ipam_running.proofs.StillLemmas.{waits_with}
+use Rattle.ipam_cluster.proofs.StillLemmas.{waits_with}
 use Rattle.ipam_cluster.specs.Cluster.{slot_of_cluster, state_in}
 use Rattle.ipam_cluster.proofs.cluster.Cluster.awaited.Goals as goal
 

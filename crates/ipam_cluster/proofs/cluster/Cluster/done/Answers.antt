@@ -1,6 +1,6 @@
 use Rattle.std.proofs.Common.{None, List, Option, set, ◌+◌, ap, ◌∙◌, subst}
-use Rattle.ipam_running.specs.declared.running.Running.{Running}
-use Rattle.ipam_running.specs.Running.{running_leaves}
+use Rattle.ipam_cluster.specs.declared.running.Running.{Running}
+use Rattle.ipam_cluster.specs.Running.{running_leaves}
 use Rattle.ipam_cluster.specs.Slots.{slot_in, RunsOn}
 use Rattle.ipam_cluster.proofs.Calling.{done}
 use Rattle.ipam_cluster.proofs.cluster.Cluster.done.Goals as goal

@@ -1,9 +1,9 @@
 use Rattle.std.proofs.Common.{◌≡◌, ◌≢◌, ◌+◌, [], ◌++◌, ◌∷◌, length, List, ℕ, subst}
 use Rattle.std.specs.Io.KnownBytes.{prepend_known, IsAtEnd}
-use Rattle.ipam_lines.specs.Feeds.{IsLine, IsTooLong}
-use Rattle.ipam_script.specs.Lines.{told_line}
+use Rattle.ipam_io.specs.Feeds.{IsLine, IsTooLong}
+use Rattle.ipam_answer_text.specs.Lines.{told_line}
 use Rattle.std.specs.Prelude.{OnErr}
-use Rattle.ipam_script.specs.Lines.{Whole}
+use Rattle.ipam_answer_text.specs.Lines.{Whole}
 use Rattle.ipam_play.specs.Readings.{line_reading_of, IsTold, OnLine}
 use Rattle.ipam_play.proofs.ReadingLemmas.{line_comes, last_comes, end_comes, long_comes, takes_last, takes_line, wanting_comes, wanting_takes}
 use Rattle.ipam_play.proofs.lines.ScriptLines.next.Goals as goal

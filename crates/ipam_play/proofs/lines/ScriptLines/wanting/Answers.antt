@@ -1,6 +1,6 @@
 use Rattle.std.proofs.Common.{◌∙◌, ap, sym}
 use Rattle.std.specs.Prelude.{if◌then◌else◌}
-use Rattle.ipam_script.specs.Lines.{Long, Whole}
+use Rattle.ipam_answer_text.specs.Lines.{Long, Whole}
 use Rattle.ipam_play.proofs.lines.ScriptLines.wanting.Goals as goal
 
 pub returns-then-is_long-clause-cut : goal.returns-then-is_long-clause-cut

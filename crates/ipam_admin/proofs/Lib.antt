@@ -1,2 +1,0 @@
-mod AdminLemmas
-mod PoolLemmas

@@ -1,2 +1,0 @@
-pub mod Admin
-pub mod Change

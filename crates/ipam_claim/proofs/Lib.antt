@@ -1,2 +1,0 @@
-mod StageLemmas
-mod ReleaseLemmas

@@ -1,5 +1,0 @@
-use Rattle.ipam_cni_laws.proofs.TryAgain.{no_try_again}
-use Rattle.ipam_cni_laws.proofs.no_call_is_told_to_try_again.Goals as goal
-
-pub returns : goal.returns
-returns c = no_try_again

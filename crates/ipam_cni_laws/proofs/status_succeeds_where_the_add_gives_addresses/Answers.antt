@@ -1,5 +1,0 @@
-use Rattle.ipam_cni_laws.proofs.Spared.{status_adds}
-use Rattle.ipam_cni_laws.proofs.status_succeeds_where_the_add_gives_addresses.Goals as goal
-
-pub returns : goal.returns
-returns c = status_adds

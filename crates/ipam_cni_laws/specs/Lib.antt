@@ -1,4 +1,0 @@
--- What CNI calls are told that run by themselves.
-pub mod Alone
-pub mod Spare
-pub mod ByRecords

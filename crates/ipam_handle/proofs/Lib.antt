@@ -1,4 +1,0 @@
-pub mod Order
-pub mod Entries
-pub mod Reading
-pub mod Search

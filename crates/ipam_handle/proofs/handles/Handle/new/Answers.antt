@@ -1,5 +1,0 @@
-use Rattle.ipam_handle.proofs.Reading.{AreCounts-nil}
-use Rattle.ipam_handle.proofs.handles.Handle.new.Goals as goal
-
-pub invariant_of-result : goal.invariant_of-result
-invariant_of-result c = rw c.new.ensures.items AreCounts-nil

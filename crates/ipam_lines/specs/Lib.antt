@@ -1,3 +1,0 @@
-pub mod Feeds
-pub mod Lines
-pub mod Inputs

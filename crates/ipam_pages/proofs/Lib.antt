@@ -1,4 +1,0 @@
--- Lemmas on pages.
-pub mod Taking
-pub mod Skipping
-pub mod Fronts

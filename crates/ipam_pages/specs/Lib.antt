@@ -1,2 +1,0 @@
--- A page of the rows of one kind.
-pub mod Page
