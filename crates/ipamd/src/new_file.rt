@@ -8,7 +8,7 @@ use ipam_asked::Target;
 use ipam_keeper::{KeepFault, Keeper, Row};
 use ipam_sqlite::{FileKeeper, SqliteKeeper, StorageFault, Syncs};
 use ipam_text::Text;
-use sqlite::{File, FileStore};
+use sqlite::{Alter, File, FileStore};
 use std::alloc::AllocError;
 use std::fs::OpenOptions;
 use std::os::unix::fs::OpenOptionsExt;
@@ -31,11 +31,12 @@ pub(crate) enum NotMade {
 /// The key of no row.
 const NO_KEY: &str = "";
 
-/// A keeper over a file that was not there before. Its settling puts all rows on the disk at once.
-pub(crate) struct NewFile {
+/// A keeper over a file that was not there before. Its settling puts all rows on the disk at once. Which store the file
+/// has stays open but where it is made, since proofs over files go through the whole store of them.
+pub(crate) struct NewFile<S: Alter> {
     rt: HostRuntime,
     /// None once it was closed.
-    keeper: Option<SqliteKeeper<FileStore<File>>>,
+    keeper: Option<SqliteKeeper<S>>,
     /// What folds the log into the file then.
     closing: FileKeeper,
     faults: u64,
@@ -43,7 +44,7 @@ pub(crate) struct NewFile {
     copied: u64,
 }
 
-impl Drop for NewFile {
+impl<S: Alter + Drop> Drop for NewFile<S> {
     fn drop(self) {
         let NewFile {
             rt: _,
@@ -55,9 +56,9 @@ impl Drop for NewFile {
     }
 }
 
-impl NewFile {
+impl NewFile<FileStore<File>> {
     /// Makes the file, with no row in it.
-    pub(crate) fn make(rt: &HostRuntime, path: &str) -> Result<NewFile, NotMade> {
+    pub(crate) fn make(rt: &HostRuntime, path: &str) -> Result<NewFile<FileStore<File>>, NotMade> {
         match make_file(rt, path) {
             Ok(()) => Ok(NewFile {
                 rt: *rt,
@@ -69,7 +70,9 @@ impl NewFile {
             Err(why) => Err(why),
         }
     }
+}
 
+impl<S: Alter + Drop> NewFile<S> {
     /// Why the last call that failed did so.
     pub(crate) fn why(&self) -> Option<StorageFault> {
         match &self.keeper {
@@ -145,7 +148,7 @@ pub(crate) fn unmake(rt: &HostRuntime, path: &str) {
     }
 }
 
-impl Keeper for NewFile {
+impl<S: Alter + Drop> Keeper for NewFile<S> {
     ghost use Rattle.std.specs.Prelude.{None, IfSome};
     ghost use Rattle.ipam_sqlite.specs.Known.{IsOut};
 
@@ -196,7 +199,7 @@ impl Keeper for NewFile {
     }
 }
 
-impl Target for NewFile {
+impl<S: Alter + Drop> Target for NewFile<S> {
     ghost closed = { λ _. Unit {0} };
 
     fn close(&mut self) -> Result<(), KeepFault> {

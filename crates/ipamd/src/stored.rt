@@ -35,14 +35,13 @@ pub(crate) fn run_at<R: Threads + Sync>(
     }
     let mut keeper = match aim {
         Use::Keep => FileKeeper::new(rt, path),
-        Use::Look => {
-            tell_missing(rt, path);
-            FileKeeper::reader(rt, path)
-        }
+        Use::Look => FileKeeper::reader(rt, path),
     };
     let status = run_over(rt, threads, words, variables, &mut keeper);
-    if let Some(why) = keeper.why() {
-        tell_why(rt, path, why);
+    match (keeper.why(), aim) {
+        (Some(why), _) => tell_why(rt, path, why),
+        (None, Use::Look) => tell_missing(rt, path),
+        (None, Use::Keep) => {}
     }
     status
 }

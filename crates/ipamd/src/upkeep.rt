@@ -14,6 +14,7 @@ use ipam_keeper::Keeper;
 use ipam_operator::{End, tell};
 use ipam_sqlite::FileKeeper;
 use ipam_words::Upkeep;
+use sqlite::{Alter, File, FileStore};
 use std::io;
 use std::thread::Threads;
 
@@ -58,13 +59,20 @@ fn ask_over<R: Threads + Sync, L: Link>(
 /// Puts the rows of the daemon into a new database at the path.
 fn back_up_over<L: Link>(rt: &HostRuntime, path: &str, link: &mut L) -> u8 {
     match new_file(rt, path) {
-        Ok(mut file) => {
-            let mut sink = StdSink::new(io::writer(rt));
-            let end = back_up_asked(rt.alloc(), &mut sink, link, &mut file);
-            finished(rt, path, file, end)
-        }
+        Ok(file) => fill_asked(rt, path, link, file),
         Err(status) => status,
     }
+}
+
+fn fill_asked<L: Link, S: Alter + Drop>(
+    rt: &HostRuntime,
+    path: &str,
+    link: &mut L,
+    mut file: NewFile<S>,
+) -> u8 {
+    let mut sink = StdSink::new(io::writer(rt));
+    let end = back_up_asked(rt.alloc(), &mut sink, link, &mut file);
+    finished(rt, path, file, end)
 }
 
 /// Removes the reservation of this name from the database, and answers the exit status.
@@ -112,22 +120,31 @@ pub(crate) fn back_up(rt: &HostRuntime, database: &Database, path: &str) -> u8 {
 /// The same with the rows of the database file at the source.
 fn back_up_file(rt: &HostRuntime, source: &str, path: &str) -> u8 {
     tell_reading(rt, source);
-    tell_missing(rt, source);
     let mut keeper = FileKeeper::reader(rt, source);
     let status = back_up_from(rt, &mut keeper, path);
-    tell_cause(rt, source, &keeper);
+    match keeper.why() {
+        Some(why) => tell_why(rt, source, why),
+        None => tell_missing(rt, source),
+    }
     status
 }
 
 fn back_up_from<D: Keeper>(rt: &HostRuntime, from: &mut D, path: &str) -> u8 {
     match new_file(rt, path) {
-        Ok(mut file) => {
-            let mut sink = StdSink::new(io::writer(rt));
-            let end = back_up_kept(rt.alloc(), &mut sink, from, &mut file);
-            finished(rt, path, file, end)
-        }
+        Ok(file) => fill_kept(rt, path, from, file),
         Err(status) => status,
     }
+}
+
+fn fill_kept<D: Keeper, S: Alter + Drop>(
+    rt: &HostRuntime,
+    path: &str,
+    from: &mut D,
+    mut file: NewFile<S>,
+) -> u8 {
+    let mut sink = StdSink::new(io::writer(rt));
+    let end = back_up_kept(rt.alloc(), &mut sink, from, &mut file);
+    finished(rt, path, file, end)
 }
 
 /// Tells why the last call that failed did so, if one did.
@@ -138,7 +155,7 @@ fn tell_cause(rt: &HostRuntime, path: &str, keeper: &FileKeeper) {
 }
 
 /// The file that is made for a backup, or the exit status where none is.
-fn new_file(rt: &HostRuntime, path: &str) -> Result<NewFile, u8> {
+fn new_file(rt: &HostRuntime, path: &str) -> Result<NewFile<FileStore<File>>, u8> {
     match NewFile::make(rt, path) {
         Ok(file) => Ok(file),
         Err(why) => Err(tell_not_made(rt, path, &why)),
@@ -165,7 +182,7 @@ fn say(rt: &HostRuntime, text: &str, end: End) -> u8 {
 }
 
 /// Leaves the file where the backup is whole and told, and removes it else.
-fn finished(rt: &HostRuntime, path: &str, file: NewFile, end: End) -> u8 {
+fn finished<S: Alter + Drop>(rt: &HostRuntime, path: &str, file: NewFile<S>, end: End) -> u8 {
     if let Some(why) = file.why() {
         tell_why(rt, path, why);
     }
