@@ -22,6 +22,14 @@ struct Failing {
     room: usize,
 }
 
+/// What a word is given, and where it writes.
+#[derive(Drop)]
+struct Given {
+    source: MemorySource,
+    sink: MemorySink,
+    link: MemoryLink,
+}
+
 /// What the words of a line `WORDS|INPUT|FAILING|REPLIES` come to: the status, what was sent and what was written.
 pub(crate) fn asked<R: Threads + Sync>(
     rt: &R,
@@ -32,12 +40,14 @@ pub(crate) fn asked<R: Threads + Sync>(
     let (input, rest) = rest.split_once('|').unwrap_or((rest, ""));
     let (failing, replies) = rest.split_once('|').unwrap_or((rest, ""));
     let failing = failing_of(failing);
-    let mut source = source_of(alloc, input, failing)?;
-    let mut sink = MemorySink::new(alloc, failing.room, Vec::new(alloc))?;
-    let mut link = link_of(alloc, replies, failing)?;
-    let status = run(rt, alloc, words, failing, &mut source, &mut sink, &mut link)?;
-    let sent = shown(alloc, link.written())?;
-    let written = shown(alloc, sink.written())?;
+    let mut given = given_of(alloc, input, replies, failing)?;
+    let status = run(rt, alloc, words, failing, &mut given)?;
+    came(alloc, status.as_str(), &given)
+}
+
+fn came(alloc: Global, status: &str, given: &Given) -> Result<String, AllocError> {
+    let sent = shown(alloc, given.link.written())?;
+    let written = shown(alloc, given.sink.written())?;
     format!(in alloc; "{status}|{sent}|{written}")
 }
 
@@ -63,6 +73,18 @@ fn failing_of(text: &str) -> Failing {
     failing
 }
 
+fn given_of(
+    alloc: Global,
+    input: &str,
+    replies: &str,
+    failing: Failing,
+) -> Result<Given, AllocError> {
+    let source = source_of(alloc, input, failing)?;
+    let sink = MemorySink::new(alloc, failing.room, Vec::new(alloc))?;
+    let link = link_of(alloc, replies, failing)?;
+    Ok(Given { source, sink, link })
+}
+
 fn source_of(alloc: Global, input: &str, failing: Failing) -> Result<MemorySource, AllocError> {
     let bytes = lines_of(alloc, input)?;
     Ok(MemorySource::new(bytes, vec![in alloc; failing.source]?))
@@ -80,12 +102,10 @@ fn run<R: Threads + Sync>(
     alloc: Global,
     words: &str,
     failing: Failing,
-    source: &mut MemorySource,
-    sink: &mut MemorySink,
-    link: &mut MemoryLink,
+    given: &mut Given,
 ) -> Result<String, AllocError> {
     let words = words_of(alloc, words)?;
-    match end_of(rt, alloc, words.as_slice(), failing, source, sink, link)? {
+    match end_of(rt, alloc, words.as_slice(), failing, given)? {
         Some(end) => format!(in alloc; "{}", end.code()),
         None => String::from_str(alloc, "unknown"),
     }
@@ -96,10 +116,9 @@ fn end_of<R: Threads + Sync>(
     alloc: Global,
     words: &[String],
     failing: Failing,
-    source: &mut MemorySource,
-    sink: &mut MemorySink,
-    link: &mut MemoryLink,
+    given: &mut Given,
 ) -> Result<Option<End>, AllocError> {
+    let Given { source, sink, link } = given;
     if let Some(asked) = upkeep_asked(words, None) {
         return Ok(Some(match asked.upkeep {
             Upkeep::Audit(workers) => audit(rt, alloc, sink, link, workers),

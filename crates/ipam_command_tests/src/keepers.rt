@@ -6,6 +6,7 @@ use crate::files::{change, change_all, clear, tell_mode, tell_size};
 use crate::telling::{tell, tell_loaded, tell_rows, tell_why};
 use ipam_keeper::{KeepFault, Keeper};
 use ipam_sqlite::{FileKeeper, SqliteKeeper, StorageFault, Syncs};
+use sqlite::Alter;
 use std::alloc::AllocError;
 use std::{fs, io};
 
@@ -41,7 +42,15 @@ fn played_by(rt: &HostRuntime, keeper: &str, script: &str) -> Result<String, All
 /// Plays the script over a keeper of the file `db` that is opened at once, and answers what comes of
 /// each line and why the keeper failed at last.
 fn played_open(rt: &HostRuntime, syncs: Syncs, script: &str) -> Result<String, AllocError> {
-    let mut keeper = SqliteKeeper::open_with(rt, "db", syncs);
+    played_over(rt, SqliteKeeper::open_with(rt, "db", syncs), script)
+}
+
+/// Which store the keeper has stays open here: proofs over files go through the whole store of them.
+fn played_over<S: Alter + Drop>(
+    rt: &HostRuntime,
+    mut keeper: SqliteKeeper<S>,
+    script: &str,
+) -> Result<String, AllocError> {
     let told = played(rt, &mut keeper, script);
     let why = keeper.why();
     with_why(told, why)
@@ -110,7 +119,13 @@ fn put<K: Keeper>(keeper: &mut K, rest: &str) -> Result<(), KeepFault> {
 
 /// Tells of a second keeper of the file, which is opened at once.
 fn other(rt: &HostRuntime, told: &mut String) -> Result<(), AllocError> {
-    let mut keeper = SqliteKeeper::open(rt, "db");
+    tell_other(SqliteKeeper::open(rt, "db"), told)
+}
+
+fn tell_other<S: Alter + Drop>(
+    mut keeper: SqliteKeeper<S>,
+    told: &mut String,
+) -> Result<(), AllocError> {
     let rows = keeper.load();
     let why = keeper.why();
     tell_loaded(told, rows, why)

@@ -12,15 +12,28 @@ const ROOM: usize = 1_000_000;
 /// that a journal is long, by `sum`: the status, and what was written, or its length and its sum.
 pub(crate) fn played(alloc: Global, text: &str) -> Result<String, AllocError> {
     let (way, lines) = text.split_once('\n').unwrap_or((text, ""));
+    let mut source = source_of(alloc, way, lines)?;
+    let mut sink = MemorySink::new(alloc, ROOM, vec![in alloc; number_after(way, "write ")]?)?;
+    let status = status(alloc, &mut source, &mut sink)?;
+    told(alloc, way, status, sink.written())
+}
+
+fn source_of(alloc: Global, way: &str, lines: &str) -> Result<MemorySource, AllocError> {
     let script = script_of(alloc, lines)?;
     let reads = vec![in alloc; number_after(way, "read ")]?;
-    let mut source = MemorySource::new(script.into_bytes(), reads);
-    let mut sink = MemorySink::new(alloc, ROOM, vec![in alloc; number_after(way, "write ")]?)?;
-    let mut keeper = MemoryKeeper::new(Vec::new(alloc), Vec::new(alloc));
+    Ok(MemorySource::new(script.into_bytes(), reads))
+}
+
+/// The status with which `play` ends, which asks for no rows.
+fn status(
+    alloc: Global,
+    source: &mut MemorySource,
+    sink: &mut MemorySink,
+) -> Result<u8, AllocError> {
     let words = words_of(alloc, "play")?;
     let env = Vec::new(alloc);
-    let status = status_of(alloc, &words, &env, &mut source, &mut sink, &mut keeper);
-    told(alloc, way, status, sink.written())
+    let mut keeper = MemoryKeeper::new(Vec::new(alloc), Vec::new(alloc));
+    Ok(status_of(alloc, &words, &env, source, sink, &mut keeper))
 }
 
 /// The number after the word, or 0.

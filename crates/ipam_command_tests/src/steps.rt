@@ -45,10 +45,9 @@ fn played_by_steps<R: Threads + Sync>(
     Ok(told)
 }
 
-/// Plays a line, and appends what comes of it. `row` puts a row, and `blocks` and `owners` put so many; `get`
-/// tells the rows whose keys begin so; `same` tells whether all rows are as they were at the last `keep`; `file`
-/// runs a command over a file; `keeper` is a case of a keeper of files. `audit` runs the words of an audit, and
-/// `unwritten` does so where its first write fails. The other words are those of `push_alone`.
+/// Plays a line, and appends what comes of it. `file` runs a command over a file; `keeper` is a case of a keeper of
+/// files; `ask` asks a word of a daemon. `audit` runs the words of an audit, and `unwritten` does so where its first
+/// write fails. The other words are those of `step_over_rows`.
 fn step<R: Threads + Sync>(
     threads: &R,
     rt: &HostRuntime,
@@ -60,17 +59,33 @@ fn step<R: Threads + Sync>(
     let alloc = rt.alloc();
     let (word, rest) = line.split_once(' ').unwrap_or((line, ""));
     match word {
+        "file" => push_run_over_file(rt, rest, told),
+        "keeper" => keepers::push_case(rt, rest, told),
+        "audit" => audits::push_report(threads, alloc, keeper, 0, rest, told),
+        "unwritten" => audits::push_report(threads, alloc, keeper, 1, rest, told),
+        "ask" => push_line(told, asked::asked(threads, alloc, rest)?.as_str()),
+        _ => step_over_rows(alloc, keeper, kept, word, rest, told),
+    }
+}
+
+/// Plays a line over the rows: `row` puts a row, and `blocks` and `owners` put so many; `get` tells the rows whose
+/// keys begin so; `same` tells whether all rows are as they were at the last `keep`. The other words are those of
+/// `push_alone`.
+fn step_over_rows(
+    alloc: Global,
+    keeper: &mut MemoryKeeper,
+    kept: &mut String,
+    word: &str,
+    rest: &str,
+    told: &mut String,
+) -> Result<(), AllocError> {
+    match word {
         "row" => rows::put_row(keeper, rest),
         "blocks" => rows::put_blocks(alloc, keeper, rest),
         "owners" => rows::put_owners(alloc, keeper, rest),
         "get" => rows::push_rows(alloc, keeper, rest, told),
         "keep" => rows::keep(alloc, keeper, kept),
         "same" => rows::push_same(alloc, keeper, kept, told),
-        "file" => push_run_over_file(rt, rest, told),
-        "keeper" => keepers::push_case(rt, rest, told),
-        "audit" => audits::push_report(threads, alloc, keeper, 0, rest, told),
-        "unwritten" => audits::push_report(threads, alloc, keeper, 1, rest, told),
-        "ask" => push_line(told, asked::asked(threads, alloc, rest)?.as_str()),
         _ => push_alone(alloc, keeper, word, rest, told),
     }
 }

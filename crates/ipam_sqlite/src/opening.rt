@@ -38,11 +38,16 @@ pub(crate) fn open_database(
     if !found.is_there() {
         make(rt, path)?;
     }
-    match begin(rt, path, aim, syncs, &found, open_files(rt, path)?)? {
-        Begun::Empty => Ok(None),
-        Begun::InLog(conn) => watched(rt, path, syncs, &found, folded(rt, path, conn)?),
-        Begun::Made(opened) => Ok(Some(opened)),
+    // A log that has the table is folded into the file before any row is kept, and then the file has it. So a
+    // file with rows is never taken for a new one, though it is copied without its log.
+    for _ in 0..2 {
+        match begin(rt, path, aim, syncs, &found, open_files(rt, path)?)? {
+            Begun::Empty => return Ok(None),
+            Begun::Made(opened) => return Ok(Some(opened)),
+            Begun::InLog(conn) => fold(conn)?,
+        }
     }
+    Err(Trouble::Fault(StorageFault::NoTable))
 }
 
 fn open_files(rt: &HostRuntime, path: &str) -> Result<Connection<FileStore<File>>, Trouble> {
@@ -53,34 +58,12 @@ fn open_files(rt: &HostRuntime, path: &str) -> Result<Connection<FileStore<File>
     }
 }
 
-/// Folds the log, which has the table, into the file before any row is kept. So a file with rows is never
-/// taken for a new one, though it is copied without its log.
-fn folded(
-    rt: &HostRuntime,
-    path: &str,
-    conn: Connection<FileStore<File>>,
-) -> Result<Connection<FileStore<File>>, Trouble> {
-    fold(conn)?;
-    open_files(rt, path)
-}
-
 /// Copies the log into the file, and closes both.
 pub(crate) fn fold(conn: Connection<FileStore<File>>) -> Result<(), Trouble> {
     match conn.close() {
         Ok(()) => Ok(()),
         Err(error) => Err(Trouble::from(error)),
     }
-}
-
-fn watched<S: Alter + Drop>(
-    rt: &HostRuntime,
-    path: &str,
-    syncs: Syncs,
-    found: &Found,
-    conn: Connection<S>,
-) -> Result<Option<Opened<S>>, Trouble> {
-    let watch = Watch::over(rt, path, found)?;
-    Ok(Some(Opened::over(conn, watch, syncs)))
 }
 
 /// What an opening comes to.

@@ -5,7 +5,6 @@ ghost use Rattle.ipam_words.specs.Upkeep.{IsFit, of_upkeep};
 
 mod asking;
 mod new_file;
-mod no_file;
 mod process;
 mod serving;
 mod stored;
@@ -48,16 +47,26 @@ fn run<R: Host + Files + Net<Listener = TcpListener, Stream = TcpStream> + Sync>
 ) -> Result<u8, AllocError> {
     let words = words_of(rt)?;
     let entries = entries_of(rt)?;
-    if let Some(text) = help_for(rt, &words)? {
+    run_asked(rt, threads, &words, &entries)
+}
+
+/// The same with the words and the environment.
+fn run_asked<R: Host + Files + Net<Listener = TcpListener, Stream = TcpStream> + Sync>(
+    rt: &HostRuntime,
+    threads: R,
+    words: &[String],
+    entries: &[Seq<u8>],
+) -> Result<u8, AllocError> {
+    if let Some(text) = help_for(rt, words)? {
         return Ok(write_help(rt, text.as_str()));
     }
-    if let Some(asked) = upkeep_asked(&words, daemon_named(&entries)) {
-        return run_upkeep(rt, &threads, &words, &entries, &asked);
+    if let Some(asked) = upkeep_asked(words, daemon_named(entries)) {
+        return run_upkeep(rt, &threads, words, entries, &asked);
     }
-    if let Some(asked) = asked_of(&words, &entries) {
+    if let Some(asked) = asked_of(words, entries) {
         return Ok(ask(rt, &asked));
     }
-    run_command_of(rt, threads, &words, &entries)
+    run_command_of(rt, threads, words, entries)
 }
 
 /// Runs the command that the words name.

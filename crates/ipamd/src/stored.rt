@@ -1,15 +1,16 @@
 //! Commands over the database.
-use crate::no_file::NoFile;
 use crate::telling::{tell_missing, tell_no_path, tell_reading, tell_why};
 use ipam_audit::run_audit;
 use ipam_command::run_command;
 use ipam_io::{StdSink, StdSource};
-use ipam_keeper::Keeper;
 use ipam_sqlite::FileKeeper;
 use ipam_text::Text;
 use ipam_words::{Command, read_words};
 use std::io;
 use std::thread::Threads;
+
+/// The path of no file: a keeper over it fails where it would open the file.
+pub(crate) const NO_PATH: &str = "";
 
 /// What a command does with the database.
 #[derive(Clone, Copy)]
@@ -61,21 +62,21 @@ pub(crate) fn run_at_none<R: Threads + Sync>(
     words: &[String],
     variables: &[(Text, Text)],
 ) -> u8 {
-    let mut keeper = NoFile::new();
+    let mut keeper = FileKeeper::reader(rt, NO_PATH);
     let status = run_over(rt, threads, words, variables, &mut keeper);
-    if keeper.was_asked() {
+    if keeper.why().is_some() {
         tell_no_path(rt);
     }
     status
 }
 
 /// Runs the command over standard input and output and the keeper.
-fn run_over<R: Threads + Sync, D: Keeper>(
+fn run_over<R: Threads + Sync>(
     rt: &HostRuntime,
     threads: &R,
     words: &[String],
     variables: &[(Text, Text)],
-    keeper: &mut D,
+    keeper: &mut FileKeeper,
 ) -> u8 {
     if is_audit(words) {
         let mut sink = StdSink::new(io::writer(rt));
@@ -90,11 +91,11 @@ fn is_audit(words: &[String]) -> bool {
 }
 
 /// Runs a command that needs no threads.
-fn run_words<D: Keeper>(
+fn run_words(
     rt: &HostRuntime,
     words: &[String],
     variables: &[(Text, Text)],
-    keeper: &mut D,
+    keeper: &mut FileKeeper,
 ) -> u8 {
     let mut source = StdSource::new(rt.stdin());
     let mut sink = StdSink::new(io::writer(rt));

@@ -4,13 +4,12 @@ ghost use Rattle.ipam_words.specs.Upkeep.{IsFit, of_upkeep};
 
 use crate::asking::unreached_at;
 use crate::new_file::{NewFile, NotMade, unmake};
-use crate::no_file::NoFile;
+use crate::stored::NO_PATH;
 use crate::telling::{tell_missing, tell_no_path, tell_reading, tell_there, tell_unmade, tell_why};
 use crate::viewed::Viewed;
-use ipam_asked::{audit, back_up_asked, back_up_kept};
+use ipam_asked::{Target, audit, back_up_asked, back_up_kept};
 use ipam_call::{Address, Connector, Connects, Database, Limits};
 use ipam_io::{Link, StdSink};
-use ipam_keeper::Keeper;
 use ipam_operator::{End, tell};
 use ipam_sqlite::FileKeeper;
 use ipam_words::Upkeep;
@@ -35,7 +34,7 @@ pub(crate) fn ask_upkeep<R: Threads + Sync>(
 }
 
 /// Asks over the link.
-fn ask_over<R: Threads + Sync, L: Link>(
+fn ask_over<R: Threads + Sync, L: Link + Rows>(
     rt: &HostRuntime,
     threads: &R,
     upkeep: &Upkeep<'_>,
@@ -52,26 +51,43 @@ fn ask_over<R: Threads + Sync, L: Link>(
             let mut sink = StdSink::new(io::writer(rt));
             ipam_operator::unreserve(rt.alloc(), &mut sink, link, name).code()
         }
-        Upkeep::Backup(path) => back_up_over(rt, path, link),
+        Upkeep::Backup(path) => back_up_from(rt, path, link),
     }
 }
 
-/// Puts the rows of the daemon into a new database at the path.
-fn back_up_over<L: Link>(rt: &HostRuntime, path: &str, link: &mut L) -> u8 {
+/// What a backup takes its rows from.
+pub(crate) trait Rows {
+    /// Puts all rows into the new database, and writes how many there are.
+    fn back_up<D: Target>(&mut self, rt: &HostRuntime, target: &mut D) -> End;
+}
+
+impl<L: Link> Rows for Viewed<L> {
+    fn back_up<D: Target>(&mut self, rt: &HostRuntime, target: &mut D) -> End {
+        back_up_asked(rt.alloc(), &mut StdSink::new(io::writer(rt)), self, target)
+    }
+}
+
+impl Rows for FileKeeper {
+    fn back_up<D: Target>(&mut self, rt: &HostRuntime, target: &mut D) -> End {
+        back_up_kept(rt.alloc(), &mut StdSink::new(io::writer(rt)), self, target)
+    }
+}
+
+/// Puts the rows into a new database at the path.
+fn back_up_from<F: Rows>(rt: &HostRuntime, path: &str, from: &mut F) -> u8 {
     match new_file(rt, path) {
-        Ok(file) => fill_asked(rt, path, link, file),
+        Ok(file) => filled(rt, path, from, file),
         Err(status) => status,
     }
 }
 
-fn fill_asked<L: Link, S: Alter + Drop>(
+fn filled<F: Rows, S: Alter + Drop>(
     rt: &HostRuntime,
     path: &str,
-    link: &mut L,
+    from: &mut F,
     mut file: NewFile<S>,
 ) -> u8 {
-    let mut sink = StdSink::new(io::writer(rt));
-    let end = back_up_asked(rt.alloc(), &mut sink, link, &mut file);
+    let end = from.back_up(rt, &mut file);
     finished(rt, path, file, end)
 }
 
@@ -83,7 +99,7 @@ pub(crate) fn unreserve(rt: &HostRuntime, database: &Database, name: &str) -> u8
         Database::File(path) => unreserve_at(rt, path.as_str(), name),
         Database::NoPath => {
             tell_no_path(rt);
-            unreserve_kept(rt, &mut NoFile::new(), name)
+            unreserve_kept(rt, &mut FileKeeper::new(rt, NO_PATH), name)
         }
     }
 }
@@ -99,7 +115,7 @@ fn unreserve_at(rt: &HostRuntime, path: &str, name: &str) -> u8
     status
 }
 
-fn unreserve_kept<D: Keeper>(rt: &HostRuntime, keeper: &mut D, name: &str) -> u8
+fn unreserve_kept(rt: &HostRuntime, keeper: &mut FileKeeper, name: &str) -> u8
     requires { IsName name.now }
 {
     let mut sink = StdSink::new(io::writer(rt));
@@ -112,7 +128,7 @@ pub(crate) fn back_up(rt: &HostRuntime, database: &Database, path: &str) -> u8 {
         Database::File(source) => back_up_file(rt, source.as_str(), path),
         Database::NoPath => {
             tell_no_path(rt);
-            back_up_from(rt, &mut NoFile::new(), path)
+            back_up_from(rt, path, &mut FileKeeper::reader(rt, NO_PATH))
         }
     }
 }
@@ -121,30 +137,12 @@ pub(crate) fn back_up(rt: &HostRuntime, database: &Database, path: &str) -> u8 {
 fn back_up_file(rt: &HostRuntime, source: &str, path: &str) -> u8 {
     tell_reading(rt, source);
     let mut keeper = FileKeeper::reader(rt, source);
-    let status = back_up_from(rt, &mut keeper, path);
+    let status = back_up_from(rt, path, &mut keeper);
     match keeper.why() {
         Some(why) => tell_why(rt, source, why),
         None => tell_missing(rt, source),
     }
     status
-}
-
-fn back_up_from<D: Keeper>(rt: &HostRuntime, from: &mut D, path: &str) -> u8 {
-    match new_file(rt, path) {
-        Ok(file) => fill_kept(rt, path, from, file),
-        Err(status) => status,
-    }
-}
-
-fn fill_kept<D: Keeper, S: Alter + Drop>(
-    rt: &HostRuntime,
-    path: &str,
-    from: &mut D,
-    mut file: NewFile<S>,
-) -> u8 {
-    let mut sink = StdSink::new(io::writer(rt));
-    let end = back_up_kept(rt.alloc(), &mut sink, from, &mut file);
-    finished(rt, path, file, end)
 }
 
 /// Tells why the last call that failed did so, if one did.
