@@ -9,6 +9,7 @@ find the rows from before, or those after a front part of what was asked, with e
 as applied. Each case that failed has a line. The last line is 'N passed, M failed'.
 It needs Linux, and strace for the writers that are killed or made to fail: without it those cases fail.
 """
+import contextlib
 import json
 import os
 import random
@@ -353,8 +354,13 @@ def let_go(held):
 
 
 def files_of(pid):
+    """The names of the files that the process has open, but for those that it closes meanwhile."""
     folder = f"/proc/{pid}/fd"
-    return [os.path.realpath(os.path.join(folder, name)) for name in os.listdir(folder)]
+    names = []
+    for name in os.listdir(folder):
+        with contextlib.suppress(OSError):
+            names.append(os.path.realpath(os.path.join(folder, name)))
+    return names
 
 
 def locks(tally, folder):
