@@ -78,7 +78,7 @@ def rows():
     yield "play makes no file", [b"play"], [], b"", 0, lambda out: True, False, []
     yield "gen makes no file", [b"gen", b"1"], [], b"", 0, lambda out: True, False, []
     for command in ([b"get"], [b"routes", b"n1"], [b"audit", b"2"]):
-        yield f"{command} makes no file", command, [], b"", 0, lambda out: True, False, []
+        yield f"{command} makes no file", command, [], b"", 0, lambda out: True, True, []
     for path in (bad, b"rows\xff.db", b""):
         for command in ([b"get"], [b"audit", b"2"], [b"release", b"n1", b"10.0.0.0/26"]):
             yield f"{command}, IPAM_DB is {path}", command, [b"IPAM_DB=" + path], b"", 5, fault, True, []
