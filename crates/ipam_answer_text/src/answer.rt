@@ -7,10 +7,10 @@ use crate::parts::{
     scans_value,
 };
 use ipam_addr::{Addr, Cidr};
-use ipam_json::tagged;
+use ipam_json::{tagged, two_members};
 use ipam_model::{Answer, Collected};
 use ipam_text::Text;
-use serde_json::{Value, json};
+use serde_json::{Map, Value, put};
 use std::alloc::{AllocError, Global};
 
 /// Appends the answer's text, which is one line.
@@ -70,54 +70,59 @@ fn moment_of(alloc: Global, name: &str, member: &str, moment: u64) -> Result<Val
 fn no_pool(alloc: Global, name: &Text, moment: u64) -> Result<Value, AllocError>
     ensures { IfOk result (λ v. view v ≡ no_pool_data name.now moment) }
 {
-    let name = name.as_str();
-    let inner = json!(in alloc; {"name": name, "p": moment})?;
+    let name = Value::try_from_str(alloc, name.as_str())?;
+    let inner = two_members(alloc, "name", name, "p", Value::from(moment))?;
     tagged(alloc, "noPool", inner)
 }
 
 fn taken(alloc: Global, holder: &Text, moment: u64) -> Result<Value, AllocError>
     ensures { IfOk result (λ v. view v ≡ taken_data holder.now moment) }
 {
-    let holder = holder.as_str();
-    let inner = json!(in alloc; {"b": moment, "holder": holder})?;
+    let holder = Value::try_from_str(alloc, holder.as_str())?;
+    let inner = two_members(alloc, "b", Value::from(moment), "holder", holder)?;
     tagged(alloc, "taken", inner)
 }
 
 fn not_affine(alloc: Global, cidr: Cidr, moment: u64) -> Result<Value, AllocError>
     ensures { IfOk result (λ v. view v ≡ not_affine_data cidr moment) }
 {
-    let cidr = cidr_string(alloc, cidr)?;
-    let inner = json!(in alloc; {"b": moment, "cidr": cidr})?;
+    let cidr = Value::String(cidr_string(alloc, cidr)?);
+    let inner = two_members(alloc, "b", Value::from(moment), "cidr", cidr)?;
     tagged(alloc, "notAffine", inner)
 }
 
 fn not_recorded(alloc: Global, address: Addr, moment: u64) -> Result<Value, AllocError>
     ensures { IfOk result (λ v. view v ≡ not_recorded_data address moment) }
 {
-    let address = address_string(alloc, address)?;
-    let inner = json!(in alloc; {"address": address, "moment": moment})?;
+    let address = Value::String(address_string(alloc, address)?);
+    let inner = two_members(alloc, "address", address, "moment", Value::from(moment))?;
     tagged(alloc, "notRecorded", inner)
 }
 
 fn collected_value(alloc: Global, collected: &Collected) -> Result<Value, AllocError>
     ensures { IfOk result (λ v. view v ≡ collected_data collected.now) }
 {
+    let mut members = Map::new(alloc);
+    put(&mut members, alloc, "b1", Value::from(collected.b1))?;
+    put(&mut members, alloc, "b2", Value::from(collected.b2))?;
     let items = items_value(alloc, collected.items.as_slice())?;
-    let inner = json!(in alloc; {"b1": collected.b1, "b2": collected.b2, "items": items})?;
-    tagged(alloc, "collected", inner)
+    put(&mut members, alloc, "items", items)?;
+    tagged(alloc, "collected", Value::Object(members))
 }
 
 fn refused(alloc: Global, number: u8, name: &Text) -> Result<Value, AllocError>
     ensures { IfOk result (λ v. view v ≡ refused_data number name.now) }
 {
-    let name = name.as_str();
-    let inner = json!(in alloc; {"name": name, "number": number})?;
+    let name = Value::try_from_str(alloc, name.as_str())?;
+    let inner = two_members(alloc, "name", name, "number", Value::from(number))?;
     tagged(alloc, "refused", inner)
 }
 
 fn again(alloc: Global, lost: u32, claims: u32) -> Result<Value, AllocError>
     ensures { IfOk result (λ v. view v ≡ again_data lost claims) }
 {
-    let inner = json!(in alloc; {"claims": claims, "lost": lost})?;
+    let claims = Value::from(claims);
+    let lost = Value::from(lost);
+    let inner = two_members(alloc, "claims", claims, "lost", lost)?;
     tagged(alloc, "again", inner)
 }

@@ -1,14 +1,14 @@
 //! The JSON of what answers are made of.
-ghost use Rattle.std.specs.Prelude.{◌≡◌, [], ◌∷◌, map, IfOk, string_bytes};
-ghost use Rattle.serde_json.specs.Data.{string};
-ghost use Rattle.serde_json.specs.View.{view};
-ghost use Rattle.ipam_json.specs.Built.{object_of, array_of};
+ghost use Rattle.std.specs.Prelude.{◌≡◌, codes, map, IfOk, OnOk, string_bytes};
+ghost use Rattle.serde_json.specs.Data.{string, no_members, put};
+ghost use Rattle.serde_json.specs.View.{view, members_view};
+ghost use Rattle.ipam_json.specs.Built.{array_of, whole_data};
 ghost use Rattle.ipam_addr.specs.Text.{address_text, cidr_text_of};
 ghost use Rattle.ipam_answer_text.specs.Answers.{scan_data, given_data, given_this_data, item_data, family_number};
 
 use ipam_addr::{Addr, Cidr, Family, push_addr, push_cidr};
 use ipam_model::{Given, GivenThis, Item, Scan};
-use serde_json::{Value, json};
+use serde_json::{Map, Value, put};
 use std::alloc::{AllocError, Global};
 
 pub(crate) fn address_string(alloc: Global, address: Addr) -> Result<String, AllocError>
@@ -37,63 +37,88 @@ fn family_number(family: Family) -> u8
     }
 }
 
+/// The moments of the reads of the blocks, of the configuration and of the pools.
+fn three_moments(alloc: Global, b: u64, c: u64, p: u64) -> Result<Map<String, Value>, AllocError>
+    ensures { IfOk result (λ m. members_view m.entries ≡ put (codes "p") (whole_data p)
+        (put (codes "c") (whole_data c) (put (codes "b") (whole_data b) no_members))) }
+{
+    let mut members = Map::new(alloc);
+    put(&mut members, alloc, "b", Value::from(b))?;
+    put(&mut members, alloc, "c", Value::from(c))?;
+    put(&mut members, alloc, "p", Value::from(p))?;
+    Ok(members)
+}
+
+/// Puts the moments of the list of affinities and of the read of the reservations.
+fn put_moments(
+    alloc: Global,
+    members: &mut Map<String, Value>,
+    f: u64,
+    r: u64,
+) -> Result<(), AllocError>
+    ensures { OnOk result (members_view members.new.entries
+        ≡ put (codes "r") (whole_data r) (put (codes "f") (whole_data f)
+        (members_view members.old.entries))) }
+{
+    put(members, alloc, "f", Value::from(f))?;
+    put(members, alloc, "r", Value::from(r))
+}
+
+fn put_address(
+    alloc: Global,
+    members: &mut Map<String, Value>,
+    address: Addr,
+) -> Result<(), AllocError>
+    ensures { OnOk result (members_view members.new.entries
+        ≡ put (codes "address") (string (address_text address)) (members_view members.old.entries)) }
+{
+    let text = address_string(alloc, address)?;
+    put(members, alloc, "address", Value::String(text))
+}
+
 #[tactic(auto, unfolding(crate::specs::Answers::scan_data))]
 pub(crate) fn scan_value(alloc: Global, scan: &Scan) -> Result<Value, AllocError>
     ensures { IfOk result (λ v. view v ≡ scan_data scan.now) }
 {
+    let mut members = three_moments(alloc, scan.b, scan.c, scan.p)?;
+    put_moments(alloc, &mut members, scan.f, scan.r)?;
     let family = family_number(scan.family);
-    json!(in alloc; {
-        "b": scan.b,
-        "c": scan.c,
-        "f": scan.f,
-        "family": family,
-        "p": scan.p,
-        "r": scan.r
-    })
+    put(&mut members, alloc, "family", Value::from(family))?;
+    Ok(Value::Object(members))
 }
 
 #[tactic(auto, unfolding(crate::specs::Answers::given_data))]
 fn given_value(alloc: Global, given: &Given) -> Result<Value, AllocError>
     ensures { IfOk result (λ v. view v ≡ given_data given.now) }
 {
-    let address = address_string(alloc, given.address)?;
-    json!(in alloc; {
-        "address": address,
-        "b": given.b,
-        "c": given.c,
-        "f": given.f,
-        "p": given.p,
-        "r": given.r,
-        "w": given.w
-    })
+    let mut members = three_moments(alloc, given.b, given.c, given.p)?;
+    put_moments(alloc, &mut members, given.f, given.r)?;
+    put_address(alloc, &mut members, given.address)?;
+    put(&mut members, alloc, "w", Value::from(given.w))?;
+    Ok(Value::Object(members))
 }
 
 #[tactic(auto, unfolding(crate::specs::Answers::given_this_data))]
 pub(crate) fn given_this_value(alloc: Global, given: &GivenThis) -> Result<Value, AllocError>
     ensures { IfOk result (λ v. view v ≡ given_this_data given.now) }
 {
-    let address = address_string(alloc, given.address)?;
-    json!(in alloc; {
-        "address": address,
-        "b": given.b,
-        "c": given.c,
-        "p": given.p,
-        "w": given.w
-    })
+    let mut members = three_moments(alloc, given.b, given.c, given.p)?;
+    put_address(alloc, &mut members, given.address)?;
+    put(&mut members, alloc, "w", Value::from(given.w))?;
+    Ok(Value::Object(members))
 }
 
 #[tactic(auto, unfolding(crate::specs::Answers::item_data))]
 fn item_value(alloc: Global, item: &Item) -> Result<Value, AllocError>
     ensures { IfOk result (λ v. view v ≡ item_data item.now) }
 {
-    let address = address_string(alloc, item.address)?;
-    let handle = item.handle.as_str();
-    json!(in alloc; {
-        "address": address,
-        "freed": item.freed,
-        "handle": handle,
-        "stamp": item.stamp
-    })
+    let mut members = Map::new(alloc);
+    put_address(alloc, &mut members, item.address)?;
+    put(&mut members, alloc, "freed", Value::Bool(item.freed))?;
+    let handle = Value::try_from_str(alloc, item.handle.as_str())?;
+    put(&mut members, alloc, "handle", handle)?;
+    put(&mut members, alloc, "stamp", Value::from(item.stamp))?;
+    Ok(Value::Object(members))
 }
 
 pub(crate) fn scans_value(alloc: Global, scans: &[Scan]) -> Result<Value, AllocError>

@@ -14,3 +14,5 @@ pub mod Numbers
 pub mod Canonical
 pub mod Exact
 pub mod Written
+pub mod StampPlaces
+pub mod PairsWritten

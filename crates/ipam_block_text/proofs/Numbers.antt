@@ -12,15 +12,13 @@ use Rattle.std.proofs.lemmas.Cmp.{tied_itself, nat_list_cmp_total}
 use Rattle.std.proofs.lemmas.Iterator.Adapters.{position_from-zero}
 use Rattle.std.proofs.lemmas.List.Sums.{fold_push}
 use Rattle.std.proofs.lemmas.Map.Lookups.{exact_bytes, exact_pairs}
-use Rattle.ipam_addr.specs.Shape.{CidrValue}
 use Rattle.ipam_block.specs.declared.allocation.Allocation.{Allocation}
 use Rattle.ipam_block.specs.declared.allocation.Attributes.{Attributes}
 use Rattle.ipam_block.specs.Shape.{BlockValue}
 use Rattle.ipam_block.specs.Operations.{holder}
 use Rattle.ipam_block_text.specs.Attributes.{Pair, are_same, with_attributes, with_those_of, distinct_attributes}
 use Rattle.ipam_block_text.specs.Numbering.{AttributesKey, pair_cmp, key_cmp, IsNumbering, placed, numbered_in, index_at}
-use Rattle.ipam_block_text.specs.declared.parts.Parts.{Parts}
-use Rattle.ipam_block_text.specs.Parts.{holder_place, block_parts}
+use Rattle.ipam_block_text.specs.Parts.{holder_place}
 use Rattle.ipam_block_text.proofs.ReadBack.{are_same-true, are_same-itself}
 
 -- ---- the order tells all attributes apart
@@ -361,24 +359,3 @@ held_ascends held found xs e up i j d before within =
     ordinals (q ∷ ps) [] e k p a under = absurd cc
     ordinals (q ∷ ps) (b ∷ as') e zero p a under = (tails _ _ _ _ e).0
     ordinals (q ∷ ps) (b ∷ as') e (suc k) p a under = ordinals ps as' (tails _ _ _ _ e).1 k p a (omega arith)
-
-abbrev made : Option (List ℕ) → List (Option ℕ) → List Attributes → CidrValue → ℕ → List ℕ → Parts
-made node places attributes cidr sequence queue =
-    record {
-      node = node;
-      places = places;
-      attributes = attributes;
-      cidr = cidr;
-      sequence = sequence;
-      queue = queue;
-    }
-
--- the parts that were found are those of the block
-pub parts_same : (b : BlockValue) (node : Option (List ℕ)) (places : List (Option ℕ)) (attributes : List Attributes) (cidr : CidrValue) (sequence : ℕ) (queue : List ℕ) → node ≡ b.node → places ≡ (block_parts b).places → attributes ≡ distinct_attributes b.allocations → cidr ≡ b.cidr → sequence ≡ b.sequence → queue ≡ b.queue → ◌≡◌ {A = Parts} (record { node = node; places = places; attributes = attributes; cidr = cidr; sequence = sequence; queue = queue }) (block_parts b)
-parts_same b node places attributes cidr sequence queue n p a c s q =
-    ap (λ x. made x places attributes cidr sequence queue) n
-    ∙ ap (λ x. made b.node x attributes cidr sequence queue) p
-    ∙ ap (λ x. made b.node (block_parts b).places x cidr sequence queue) a
-    ∙ ap (λ x. made b.node (block_parts b).places (block_parts b).attributes x sequence queue) c
-    ∙ ap (λ x. made b.node (block_parts b).places (block_parts b).attributes b.cidr x queue) s
-    ∙ ap (λ x. made b.node (block_parts b).places (block_parts b).attributes b.cidr b.sequence x) q

@@ -13,7 +13,7 @@ use Rattle.ipam_block_text.specs.Attributes.{Pair}
 use Rattle.ipam_block_text.specs.Body.{with_pair}
 use Rattle.ipam_block_text.specs.Limits.{keys_ascend, ascend_after}
 
-less_lt : (o : Ordering) → is_lt o ≡ true → o ≡ Less
+pub less_lt : (o : Ordering) → is_lt o ≡ true → o ≡ Less
 less_lt Less h = refl
 less_lt Equal h = absurd cc
 less_lt Greater h = absurd cc

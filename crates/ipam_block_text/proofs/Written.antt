@@ -1,26 +1,36 @@
 -- The text of a block is put together of its pieces.
-use Rattle.std.proofs.Common.{◌≡◌, ◌∙◌, ℕ, List, [], ◌∷◌, ◌++◌, Bool, true, ◌<◌, ◌≤◌, ◌+◌, length, get_or, drop, Option, Ok, Err, refl, ap, sym, append_assoc, codes, map}
+use Rattle.std.proofs.Common.{◌≡◌, ◌∙◌, ℕ, List, [], ◌∷◌, ◌++◌, Bool, true, ◌<◌, ◌≤◌, ◌+◌, ◌%◌, ◌^◌, length, get_or, drop, Option, Ok, Err, refl, ap, ap₂, sym, append_assoc, arith, codes, decimal, map}
+use Rattle.std.proofs.lemmas.Fmt.{decimal_by_steps}
 use Rattle.json.specs.Print.{escape, escape_byte, quoted}
+use Rattle.json.proofs.Printed.Strings.{escape_byte_plain}
 use Rattle.serde_json.specs.Data.{Data, string}
 use Rattle.ipam_addr.specs.Text.{cidr_text_of}
 use Rattle.serde_json.specs.View.{items_of}
 use Rattle.std.proofs.lemmas.List.{at_drop_more, drop_all}
 use Rattle.serde_json.specs.Written.{compact_text, comma_if, items_text, members_text}
-use Rattle.ipam_json.specs.Built.{array_of, members_from}
+use Rattle.ipam_json.specs.Built.{Field, array_of, members_from}
 use Rattle.std.specs.Borrow.{Bor}
 use Rattle.std.specs.Prelude.{OnOk, Result}
 use Rattle.std.proofs.lemmas.Grind.{flat_map-append}
 use Rattle.ipam_addr.specs.Shape.{CidrValue}
 use Rattle.ipam_block.specs.declared.allocation.Attributes.{Attributes}
-use Rattle.ipam_block.specs.Shape.{BlockValue}
 use Rattle.ipam_block_text.specs.declared.parts.Parts.{Parts}
-use Rattle.ipam_block_text.specs.Parts.{block_parts}
-use Rattle.ipam_block_text.specs.Body.{host_data, place_data, attributes_data, secondary_data, stamps_data, parts_data, block_body}
-use Rattle.ipam_block_text.specs.Attributes.{Pair}
+use Rattle.ipam_block_text.specs.Body.{host_data, place_data, attributes_data, secondary_data, parts_data}
 use Rattle.ipam_block_text.specs.Numbering.{borrowed}
-use Rattle.ipam_block_text.specs.Pieces.{holders_text, rest_text}
-use Rattle.ipam_block_text.proofs.Numbers.{parts_same}
-use Rattle.ipam_block_text.proofs.PairKeys.{pair_field}
+use Rattle.ipam_block_text.specs.Pieces.{holders_text, sequence_text, queue_text, rest_text}
+
+-- ---- texts that are appended
+
+-- what follows from a success
+pub on_ok : {T E P Q : Type 0} (r : Result T E) → OnOk r P → (P → Q) → OnOk r Q
+on_ok (Ok v) p f = f p
+on_ok (Err e) p f = tt
+
+pub then_more : (out mid after text rest : List ℕ) → mid ≡ out ++ text → after ≡ mid ++ rest → after ≡ out ++ (text ++ rest)
+then_more out mid after text rest first second =
+    second ∙ ap (λ s. s ++ rest) first ∙ append_assoc out text rest
+
+-- ---- the pieces of a block's text
 
 regroup : (a b c d e f r : List ℕ) → a ++ (b ++ (c ++ (d ++ (e ++ (f ++ r))))) ≡ (a ++ (b ++ (c ++ (d ++ (e ++ f))))) ++ r
 regroup a b c d e f r = simp append_assoc
@@ -36,27 +46,36 @@ text_of_parts p stamps =
     (codes ",\"cidr\":" ++ (compact_text (string (cidr_text_of p.cidr)) ++ rest_text p.sequence (compact_text stamps) p.queue))
 
 -- what is written one after the other
-pub block_written : (b : BlockValue) (o0 o1 o2 o3 : List ℕ) (node : Option (List ℕ)) (places : List (Option ℕ)) (attributes : List Attributes) (cidr : CidrValue) (sequence : ℕ) (stamps queue : List ℕ)
-    → o0 ≡ [] → node ≡ b.node → places ≡ (block_parts b).places → attributes ≡ (block_parts b).attributes → cidr ≡ b.cidr → sequence ≡ b.sequence
-    → stamps ≡ compact_text (stamps_data b.allocations) → queue ≡ b.queue
+pub parts_written : (p : Parts) (stamps : Data) (o0 o1 o2 o3 : List ℕ) (node : Option (List ℕ)) (places : List (Option ℕ)) (attributes : List Attributes) (cidr : CidrValue) (sequence : ℕ) (shown queue : List ℕ)
+    → o0 ≡ [] → node ≡ p.node → places ≡ p.places → attributes ≡ p.attributes → cidr ≡ p.cidr → sequence ≡ p.sequence → shown ≡ compact_text stamps → queue ≡ p.queue
     → o1 ≡ o0 ++ holders_text node places attributes
     → o2 ≡ o1 ++ (codes ",\"cidr\":" ++ compact_text (string (cidr_text_of cidr)))
-    → o3 ≡ o2 ++ rest_text sequence stamps queue
-    → o3 ≡ block_body b
-unfolding block_body
-block_written b o0 o1 o2 o3 node places attributes cidr sequence stamps queue empty n p a r s t q first second third =
-    let parts : Parts = record { node = node; places = places; attributes = attributes; cidr = cidr; sequence = sequence; queue = queue } in
+    → o3 ≡ o2 ++ rest_text sequence shown queue
+    → o3 ≡ compact_text (parts_data p stamps)
+parts_written p stamps o0 o1 o2 o3 node places attributes cidr sequence shown queue empty n l a r s t q first second third =
     let name = codes ",\"cidr\":" in
-    let shown = compact_text (string (cidr_text_of cidr)) in
-    let front = holders_text node places attributes in
-    let rest = rest_text sequence stamps queue in
+    let said = compact_text (string (cidr_text_of p.cidr)) in
+    let front = holders_text p.node p.places p.attributes in
+    let rest = rest_text p.sequence (compact_text stamps) p.queue in
+    let is_front = ap (λ x. holders_text x places attributes) n ∙ ap (λ x. holders_text p.node x attributes) l ∙ ap (holders_text p.node p.places) a in
+    let is_rest = ap (λ x. rest_text x shown queue) s ∙ ap (λ x. rest_text p.sequence x queue) t ∙ ap (rest_text p.sequence (compact_text stamps)) q in
+    let to_1 = first ∙ ap₂ (λ x y. x ++ y) empty is_front in
+    let to_2 = second ∙ ap₂ (λ x y. x ++ (name ++ compact_text (string (cidr_text_of y)))) to_1 r in
     third
-    ∙ ap (λ x. x ++ rest) (second ∙ ap (λ x. x ++ (name ++ shown)) (first ∙ ap (λ x. x ++ front) empty))
-    ∙ append_assoc front (name ++ shown) rest
-    ∙ ap (λ x. front ++ x) (append_assoc name shown rest)
-    ∙ ap (λ x. front ++ (name ++ (shown ++ rest_text sequence x queue))) t
-    ∙ sym (text_of_parts parts (stamps_data b.allocations))
-    ∙ ap (λ x. compact_text (parts_data x (stamps_data b.allocations))) (parts_same b node places attributes cidr sequence queue n p a r s q)
+    ∙ ap₂ (λ x y. x ++ y) to_2 is_rest
+    ∙ append_assoc front (name ++ said) rest
+    ∙ ap (λ x. front ++ x) (append_assoc name said rest)
+    ∙ sym (text_of_parts p stamps)
+
+-- the last members, piece by piece
+pub rest_written : (o0 o1 o2 o3 : List ℕ) (sequence : ℕ) (stamps queue : List ℕ)
+    → o1 ≡ o0 ++ sequence_text sequence → o2 ≡ o1 ++ stamps → o3 ≡ o2 ++ queue_text queue → o3 ≡ o0 ++ rest_text sequence stamps queue
+rest_written o0 o1 o2 o3 sequence stamps queue first second third =
+    let name = codes ",\"sequenceNumber\":" in
+    let next = codes ",\"sequenceNumberForAllocation\":" in
+    let rest = stamps ++ queue_text queue in
+    then_more o0 o1 o3 (sequence_text sequence) rest first (then_more o1 o2 o3 stamps (queue_text queue) second third)
+    ∙ ap (λ x. o0 ++ x) (append_assoc name (decimal sequence ++ next) rest ∙ ap (λ x. name ++ x) (append_assoc (decimal sequence) next rest))
 
 -- the text of attributes, piece by piece
 pub attributes_text : (a : Attributes) → compact_text (attributes_data a)
@@ -68,16 +87,7 @@ pub data_of_borrowed : (found : List (Bor Attributes)) → map (λ a. attributes
 data_of_borrowed [] = refl
 data_of_borrowed (a ∷ rest) = ap (λ ds. attributes_data a.now ∷ ds) (data_of_borrowed rest)
 
--- ---- texts that are appended
-
--- what follows from a success
-pub on_ok : {T E P Q : Type 0} (r : Result T E) → OnOk r P → (P → Q) → OnOk r Q
-on_ok (Ok v) p f = f p
-on_ok (Err e) p f = tt
-
-pub then_more : (out mid after text rest : List ℕ) → mid ≡ out ++ text → after ≡ mid ++ rest → after ≡ out ++ (text ++ rest)
-then_more out mid after text rest first second =
-    second ∙ ap (λ s. s ++ rest) first ∙ append_assoc out text rest
+-- ---- a plain text
 
 pub plain_more : (front after : List ℕ) (x : ℕ) → after ≡ front ++ x ∷ [] → escape_byte x ≡ x ∷ [] → escape front ≡ front → escape after ≡ after
 plain_more front after x more is before =
@@ -111,29 +121,44 @@ module _ {A : Type 0} (f : A → Data) where
   list_ended out after whole later xs i past before closed =
       closed ∙ sym (ap (λ ys. out ++ left_text later ys) (drop_all i xs past)) ∙ before
 
--- ---- pairs are written one by one
+-- ---- members are written one by one
 
--- the text of the pairs that are left, with the closing brace
-abbrev pub left_pairs : Bool → List Pair → List ℕ
-left_pairs later pairs = members_text later (members_from (map pair_field pairs))
-
-pair_split : (out comma key value rest : List ℕ) → (out ++ (comma ++ (key ++ 58 ∷ value))) ++ rest ≡ out ++ (comma ++ (key ++ 58 ∷ (value ++ rest)))
-pair_split out comma key value rest =
+member_split : (out comma key value rest : List ℕ) → (out ++ (comma ++ (key ++ 58 ∷ value))) ++ rest ≡ out ++ (comma ++ (key ++ 58 ∷ (value ++ rest)))
+member_split out comma key value rest =
     append_assoc out (comma ++ (key ++ 58 ∷ value)) rest
     ∙ ap (λ s. out ++ s) (append_assoc comma (key ++ 58 ∷ value) rest ∙ ap (λ s. comma ++ s) (append_assoc key (58 ∷ value) rest))
 
-pub pair_written : (out after whole : List ℕ) (later : Bool) (pairs : List Pair) (i : ℕ) (d : Pair)
-    → i < length pairs → after ≡ out ++ (comma_if later ++ (quoted (get_or pairs i d).0 ++ 58 ∷ quoted (get_or pairs i d).1))
-    → out ++ left_pairs later (drop i pairs) ≡ whole → after ++ left_pairs true (drop (i + 1) pairs) ≡ whole
-unfolding pair_field
-pair_written out after whole later pairs i d within more before =
-    let rest = left_pairs true (drop (i + 1) pairs) in
-    ap (λ s. s ++ rest) more
-    ∙ pair_split out (comma_if later) (quoted (get_or pairs i d).0) (quoted (get_or pairs i d).1) rest
-    ∙ sym (ap (λ s. out ++ s) (at_drop_more (left_pairs later) pairs i d within))
-    ∙ before
+module _ {A : Type 0} (field : A → Field) where
+  -- the text of the members that are left, with the closing brace
+  abbrev pub left_members : Bool → List A → List ℕ
+  left_members later xs = members_text later (members_from (map field xs))
 
-pub pairs_ended : (out after whole : List ℕ) (later : Bool) (pairs : List Pair) (i : ℕ)
-    → length pairs ≤ i → out ++ left_pairs later (drop i pairs) ≡ whole → after ≡ out ++ 125 ∷ [] → after ≡ whole
-pairs_ended out after whole later pairs i past before closed =
-    closed ∙ sym (ap (λ ys. out ++ left_pairs later ys) (drop_all i pairs past)) ∙ before
+  pub member_written : (out after whole : List ℕ) (later : Bool) (xs : List A) (i : ℕ) (d : A)
+      → i < length xs → after ≡ out ++ (comma_if later ++ (quoted (field (get_or xs i d)).0 ++ 58 ∷ compact_text (field (get_or xs i d)).1))
+      → out ++ left_members later (drop i xs) ≡ whole → after ++ left_members true (drop (i + 1) xs) ≡ whole
+  member_written out after whole later xs i d within more before =
+      let rest = left_members true (drop (i + 1) xs) in
+      ap (λ s. s ++ rest) more
+      ∙ member_split out (comma_if later) (quoted (field (get_or xs i d)).0) (compact_text (field (get_or xs i d)).1) rest
+      ∙ sym (ap (λ s. out ++ s) (at_drop_more (left_members later) xs i d within))
+      ∙ before
+
+  pub members_ended : (out after whole : List ℕ) (later : Bool) (xs : List A) (i : ℕ)
+      → length xs ≤ i → out ++ left_members later (drop i xs) ≡ whole → after ≡ out ++ 125 ∷ [] → after ≡ whole
+  members_ended out after whole later xs i past before closed =
+      closed ∙ sym (ap (λ ys. out ++ left_members later ys) (drop_all i xs past)) ∙ before
+
+-- ---- the name of a stamp has no escape
+
+plain_digit : (d : ℕ) → d < 10 → escape_byte (48 + d) ≡ (48 + d) ∷ []
+plain_digit d small = escape_byte_plain (48 + d) (λ e. omega arith) (λ e. omega arith) (omega arith)
+
+escape_decimal : (n : ℕ) → n < 2 ^ 64 → escape (decimal n) ≡ decimal n
+escape_decimal =
+    decimal_by_steps (λ n ds. escape ds ≡ ds)
+    (λ n small. ap (λ s. s ++ []) (plain_digit n small))
+    (λ n ds large same. flat_map-append escape_byte ds ((48 + n % 10) ∷ []) ∙ ap₂ (λ s t. s ++ (t ++ [])) same (plain_digit (n % 10) (omega arith)))
+
+pub stamp_text : (o s : ℕ) → o < 2 ^ 64 → 34 ∷ (decimal o ++ 34 ∷ 58 ∷ decimal s) ≡ quoted (decimal o) ++ 58 ∷ decimal s
+stamp_text o s fits =
+    ap (λ x. 34 ∷ x) (sym (append_assoc (decimal o) (34 ∷ []) (58 ∷ decimal s)) ∙ ap (λ e. (e ++ 34 ∷ []) ++ 58 ∷ decimal s) (sym (escape_decimal o fits)))

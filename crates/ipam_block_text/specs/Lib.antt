@@ -4,6 +4,7 @@ pub mod Limits
 pub mod Numbering
 pub mod Parts
 pub mod Body
+pub mod Stamps
 pub mod Pieces
 pub mod Reading
 pub mod Form

@@ -18,3 +18,12 @@ rest_text sequence stamps queue =
     codes ",\"sequenceNumber\":" ++ (decimal sequence
     ++ (codes ",\"sequenceNumberForAllocation\":" ++ (stamps
     ++ (codes ",\"unallocated\":" ++ (compact_text (array_of (map whole_data queue)) ++ codes "}")))))
+
+-- the sequence number, and the name of the stamps
+abbrev pub sequence_text : ℕ → List ℕ
+sequence_text sequence =
+    codes ",\"sequenceNumber\":" ++ (decimal sequence ++ codes ",\"sequenceNumberForAllocation\":")
+
+-- the queue, and the end
+abbrev pub queue_text : List ℕ → List ℕ
+queue_text queue = codes ",\"unallocated\":" ++ (compact_text (array_of (map whole_data queue)) ++ codes "}")

@@ -8,6 +8,7 @@ pub mod laws;
 mod parts;
 mod print;
 mod reading;
+mod stamps;
 mod writing;
 
 pub use fault::BodyFault;

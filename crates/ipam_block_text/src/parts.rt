@@ -48,6 +48,32 @@ pub(crate) fn uses_of<'a>(alloc: Global, block: &'a Block) -> Result<Uses<'a>, A
     })
 }
 
+/// The addresses and the attributes of the parts as they are.
+pub(crate) fn uses_in<'a>(alloc: Global, parts: &'a Parts) -> Result<Uses<'a>, AllocError>
+    ensures attributes { IfOk result (λ u. borrowed u.attributes.items ≡ parts.now.attributes) }
+    ensures places { IfOk result (λ u. u.places.items ≡ parts.now.places) }
+    ensures cidr { IfOk result (λ u. u.cidr ≡ parts.now.cidr) }
+{
+    let cidr = parts.cidr;
+    let attributes = each_of(alloc, parts.attributes.as_slice())?;
+    let places = Vec::from_slice(alloc, parts.places.as_slice())?;
+    Ok(Uses {
+        cidr,
+        attributes,
+        places,
+    })
+}
+
+fn each_of(alloc: Global, attributes: &[Attributes]) -> Result<Vec<&Attributes>, AllocError>
+    ensures { IfOk result (λ v. borrowed v.items ≡ attributes.now) }
+{
+    let mut each = Vec::with_capacity(alloc, attributes.len())?;
+    for own in attributes {
+        each.push(own)?;
+    }
+    Ok(each)
+}
+
 /// The attributes in use, each once, by the least ordinal that has them, and for each allocation its
 /// ordinal and the index of its attributes among these.
 fn numbered(

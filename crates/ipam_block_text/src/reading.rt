@@ -12,7 +12,7 @@ use crate::fault::BodyFault;
 use crate::form::{parts_in, stamps_in};
 use crate::held::block_in;
 use crate::parts::Parts;
-use crate::print::{block_text, parts_value};
+use crate::print::{block_text, parts_text};
 use ipam_block::{ADDRESSES_MAX, Block};
 use ipam_json::json_of;
 use serde_json::Value;
@@ -90,8 +90,6 @@ fn is_text_with(
     ensures { IfOk result (λ same. same
         ≡ bytes_eq (compact_text (parts_data parts.now (view stamps.now))) body.now) }
 {
-    let stamps = stamps.clone()?;
-    let value = parts_value(alloc, parts, stamps)?;
-    let text = value.to_string(alloc)?;
+    let text = parts_text(alloc, parts, stamps)?;
     Ok(text.as_str() == body)
 }

@@ -1,26 +1,26 @@
 //! What the text of a block is written with, a piece at a time. After an error the text may have got a
 //! part of it.
-ghost use Rattle.std.specs.Prelude.{◌≡◌, ◌++◌, [], ◌∷◌, Some, None, map, codes, decimal, IsTrue, OnOk, string_bytes};
+ghost use Rattle.std.specs.Prelude.{◌≡◌, ◌++◌, [], ◌∷◌, Some, None, map, codes, decimal, IsTrue, IfOk, OnOk, string_bytes};
 ghost use Rattle.json.specs.Print.{escape, escape_byte, quoted};
-ghost use Rattle.serde_json.specs.Data.{array, string};
+ghost use Rattle.serde_json.specs.Data.{array, object, string};
 ghost use Rattle.ipam_addr.specs.Text.{cidr_text_of};
-ghost use Rattle.serde_json.specs.View.{items_of};
+ghost use Rattle.serde_json.specs.View.{view, items_of};
 ghost use Rattle.serde_json.specs.Written.{compact_text, comma_if};
 ghost use Rattle.ipam_block.specs.Operations.{node_bytes};
 ghost use Rattle.ipam_block_text.specs.Numbering.{borrowed};
-ghost use Rattle.ipam_block_text.specs.Pieces.{holders_text, rest_text};
+ghost use Rattle.ipam_block_text.specs.Pieces.{holders_text, sequence_text, queue_text, rest_text};
+ghost use Rattle.ipam_block_text.specs.Stamps.{stamp_members};
 ghost use Rattle.ipam_json.specs.Built.{whole_data};
 ghost use Rattle.ipam_block_text.specs.Limits.{keys_ascend};
 ghost use Rattle.ipam_block_text.specs.Body.{host_data, place_data, attributes_data, secondary_data};
 
 use crate::form::keys_ascend;
 use crate::parts::Uses;
-use crate::print::secondary_value;
 use ipam_addr::{Cidr, push_cidr};
 use ipam_block::Attributes;
 use ipam_text::Text;
 use itoa::Buffer;
-use serde_json::Value;
+use serde_json::{Map, Value, put};
 use std::alloc::{AllocError, Global};
 
 /// Appends the first members: the node, and who holds what.
@@ -56,8 +56,23 @@ pub(crate) fn push_cidr_member(
     push_quoted(alloc, out, text.as_str())
 }
 
-/// Appends the last members: the sequence number, the stamps and the queue.
+/// Appends the last members: the sequence number, the stamps, which are in their order, and the queue.
 pub(crate) fn push_rest(
+    out: &mut String,
+    sequence: u64,
+    stamps: &[(u16, u64)],
+    queue: &[u64],
+) -> Result<(), AllocError>
+    ensures { OnOk result (string_bytes out.new ≡ string_bytes out.old
+        ++ rest_text sequence (compact_text (object (stamp_members stamps.now))) queue.now) }
+{
+    push_sequence(out, sequence)?;
+    push_stamps(out, stamps)?;
+    push_queue(out, queue)
+}
+
+/// Appends the last members, with this text of the stamps.
+pub(crate) fn push_rest_with(
     out: &mut String,
     sequence: u64,
     stamps: &str,
@@ -66,10 +81,24 @@ pub(crate) fn push_rest(
     ensures { OnOk result
         (string_bytes out.new ≡ string_bytes out.old ++ rest_text sequence stamps.now queue.now) }
 {
+    push_sequence(out, sequence)?;
+    push(out, stamps)?;
+    push_queue(out, queue)
+}
+
+/// Appends the sequence number, and the name of the stamps.
+fn push_sequence(out: &mut String, sequence: u64) -> Result<(), AllocError>
+    ensures { OnOk result (string_bytes out.new ≡ string_bytes out.old ++ sequence_text sequence) }
+{
     push(out, ",\"sequenceNumber\":")?;
     push_whole(out, sequence)?;
-    push(out, ",\"sequenceNumberForAllocation\":")?;
-    push(out, stamps)?;
+    push(out, ",\"sequenceNumberForAllocation\":")
+}
+
+/// Appends the queue, and the end.
+fn push_queue(out: &mut String, queue: &[u64]) -> Result<(), AllocError>
+    ensures { OnOk result (string_bytes out.new ≡ string_bytes out.old ++ queue_text queue.now) }
+{
     push(out, ",\"unallocated\":")?;
     push_numbers(out, queue)?;
     push(out, "}")
@@ -157,6 +186,17 @@ fn push_secondary(alloc: Global, out: &mut String, pairs: &[(Text, Text)]) -> Re
     push(out, text.as_str())
 }
 
+fn secondary_value(alloc: Global, pairs: &[(Text, Text)]) -> Result<Value, AllocError>
+    ensures { IfOk result (λ v. view v ≡ secondary_data pairs.now) }
+{
+    let mut members = Map::new(alloc);
+    for pair in pairs {
+        let value = Value::try_from_str(alloc, pair.1.as_str())?;
+        put(&mut members, alloc, pair.0.as_str(), value)?;
+    }
+    Ok(Value::Object(members))
+}
+
 /// Appends pairs that are in the order of their keys.
 fn push_ascending(alloc: Global, out: &mut String, pairs: &[(Text, Text)]) -> Result<(), AllocError>
     requires { IsTrue (keys_ascend pairs.now) }
@@ -186,6 +226,32 @@ fn push_pair(
     push_quoted(alloc, out, pair.0.as_str())?;
     push(out, ":")?;
     push_quoted(alloc, out, pair.1.as_str())
+}
+
+/// Appends the stamps in this order.
+fn push_stamps(out: &mut String, stamps: &[(u16, u64)]) -> Result<(), AllocError>
+    ensures { OnOk result (string_bytes out.new
+        ≡ string_bytes out.old ++ compact_text (object (stamp_members stamps.now))) }
+{
+    push(out, "{")?;
+    let mut later = false;
+    for stamp in stamps {
+        push_stamp(out, later, *stamp)?;
+        later = true;
+    }
+    push(out, "}")
+}
+
+/// Appends the stamp as a member, after a comma where something stands before.
+fn push_stamp(out: &mut String, later: bool, stamp: (u16, u64)) -> Result<(), AllocError>
+    ensures { OnOk result (string_bytes out.new
+        ≡ string_bytes out.old ++ (comma_if later ++ (quoted (decimal stamp.0) ++ 58 ∷ decimal stamp.1))) }
+{
+    push_comma(out, later)?;
+    push(out, "\"")?;
+    push_whole(out, u64::from(stamp.0))?;
+    push(out, "\":")?;
+    push_whole(out, stamp.1)
 }
 
 /// Appends the list of the numbers.

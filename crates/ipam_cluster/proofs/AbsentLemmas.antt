@@ -1,6 +1,7 @@
 -- A CIDR that is too large for a block has no affinity.
-use Rattle.std.proofs.Common.{◌≡◌, ℕ, ◌<◌, ◌≤◌, ◌-◌, ◌^◌, ◌⊎◌, inl, inr, List, Some, None, refl, ap, subst, sym, ◌∙◌, arith, lit<}
-use Rattle.std.proofs.Math.Nat.{pow-le-pow_right}
+use Rattle.std.proofs.Common.{◌≡◌, ℕ, ◌<◌, ◌≤◌, ◌-◌, ◌^◌, ◌⊎◌, inl, inr, List, Some, None, refl, ap, subst, sym, ◌∙◌, lit<}
+use Rattle.std.proofs.Math.Nat.{pow-le-pow_right, sub-le-sub_left, le-pred_of_lt, not-le_of_lt, lt_of_lt_of_le}
+use Rattle.std.proofs.lemmas.Bool.{cases_lt}
 use Rattle.ipam_addr.specs.Shape.{CidrValue}
 use Rattle.ipam_addr.specs.declared.address.Family.{Family}
 use Rattle.ipam_addr.specs.declared.address.Family.TheVariants.{V4, V6}
@@ -47,7 +48,7 @@ none_found : (node : List ℕ) (cidr : CidrValue) (found : Record) → ADDRESSES
 none_found node cidr (record_of.Affinity a) large sound is revision =
     let same : a.cidr ≡ cidr = ap (λ k. cidr_in k cidr) is in
     let small : cidr_size cidr ≤ ADDRESSES_MAX = subst (λ (c : CidrValue). cidr_size c ≤ ADDRESSES_MAX) same sound.range.small in
-    absurd (omega (arith, small, large))
+    absurd (not-le_of_lt large small)
 none_found node cidr (record_of.Config c) large sound is revision = refl
 none_found node cidr (record_of.Pools c) large sound is revision = refl
 none_found node cidr (record_of.Reservations c) large sound is revision = refl
@@ -82,28 +83,25 @@ absent_hears node cidr moment said large may =
     sym (at_none node cidr moment said (nothing_said node cidr said large can.0))
     ∙ ap (λ (w : Word ReleaseAnswer). after_reply w moment said) whole
 
-compare_le : (m n : ℕ) → (m ≤ n) ⊎ (n < m)
-compare_le m n = grind arith
-
 sized : (family : Family) (prefix : ℕ) → AllowsSize family prefix → size_of family prefix ≤ 2 ^ 12
-sized V4 prefix allowed = pow-le-pow_right (lit< tt) {i = 32 - prefix} {j = 12} (omega (arith, allowed.0, allowed.1))
-sized V6 prefix allowed = pow-le-pow_right (lit< tt) {i = 128 - prefix} {j = 12} (omega (arith, allowed.0, allowed.1))
+sized V4 prefix allowed = pow-le-pow_right (lit< tt) {i = 32 - prefix} {j = 12} (sub-le-sub_left allowed.0 32)
+sized V6 prefix allowed = pow-le-pow_right (lit< tt) {i = 128 - prefix} {j = 12} (sub-le-sub_left allowed.0 128)
 
 oversized : (family : Family) (prefix : ℕ) → prefix ≤ width family → (AllowsSize family prefix → ⊥) → 2 ^ 13 ≤ size_of family prefix
-oversized V4 prefix fits not = pow-le-pow_right (lit< tt) {i = 13} {j = 32 - prefix} (below (compare_le 20 prefix))
+oversized V4 prefix fits not = pow-le-pow_right (lit< tt) {i = 13} {j = 32 - prefix} (below (cases_lt prefix 20))
   where
-    below : (20 ≤ prefix) ⊎ (prefix < 20) → 13 ≤ 32 - prefix
-    below (inl more) = absurd (not (more, fits))
-    below (inr less) = omega (arith, less)
-oversized V6 prefix fits not = pow-le-pow_right (lit< tt) {i = 13} {j = 128 - prefix} (below (compare_le 116 prefix))
+    below : (prefix < 20) ⊎ (20 ≤ prefix) → 13 ≤ 32 - prefix
+    below (inl less) = sub-le-sub_left (le-pred_of_lt less) 32
+    below (inr more) = absurd (not (more, fits))
+oversized V6 prefix fits not = pow-le-pow_right (lit< tt) {i = 13} {j = 128 - prefix} (below (cases_lt prefix 116))
   where
-    below : (116 ≤ prefix) ⊎ (prefix < 116) → 13 ≤ 128 - prefix
-    below (inl more) = absurd (not (more, fits))
-    below (inr less) = omega (arith, less)
+    below : (prefix < 116) ⊎ (116 ≤ prefix) → 13 ≤ 128 - prefix
+    below (inl less) = sub-le-sub_left (le-pred_of_lt less) 128
+    below (inr more) = absurd (not (more, fits))
 
 -- the CIDR of a block, by its prefix
 pub block_sized : (cidr : CidrValue) → AllowsSize cidr.family cidr.prefix → cidr_size cidr ≤ ADDRESSES_MAX
 block_sized cidr allowed = sized cidr.family cidr.prefix allowed
 
 pub too_large : (cidr : CidrValue) → IsCidr cidr → (AllowsSize cidr.family cidr.prefix → ⊥) → ADDRESSES_MAX < cidr_size cidr
-too_large cidr sound not = omega (arith, oversized cidr.family cidr.prefix sound.prefix_fits not)
+too_large cidr sound not = lt_of_lt_of_le (lit< tt) (oversized cidr.family cidr.prefix sound.prefix_fits not)

@@ -17,7 +17,6 @@ use ipam_release::{AdminProc, CheckProc, DelProc};
 use std::alloc::{AllocError, Global};
 
 /// The procedure that serves the request.
-#[tactic(auto, unfolding(ipam_model::specs::Requests::word_of, crate::specs::Running::telling))]
 pub(crate) fn kept_of(alloc: Global, request: &Request) -> Result<Kept, AllocError>
     requires { IsSoundRequest request.now }
     ensures word { IfOk result (λ p. rest_of p ≡ word_of request.now) }

@@ -177,7 +177,6 @@ fn goes(kept: &mut Kept, turned: Turned) -> Option<Answer>
     }
 }
 
-#[tactic(auto, using(crate::proofs::TellingLemmas::asked_telling, crate::proofs::TellingLemmas::arm_asks))]
 fn call_of(alloc: Global, kept: &Kept) -> Result<Call, AllocError>
     requires { IsSome (next_call (rest_of kept.now)) }
     ensures { IfOk result (λ call. next_call (rest_of kept.now) ≡ Some call) }

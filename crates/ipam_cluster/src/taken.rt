@@ -9,7 +9,6 @@ use ipam_records::{Heard, Procedure};
 use std::alloc::{AllocError, Global};
 
 /// Where the reply leads the procedure.
-#[tactic(auto, using(crate::proofs::TellingLemmas::arm_took, crate::proofs::TellingLemmas::may_hear_telling))]
 pub(crate) fn turned_of(alloc: Global, kept: &Kept, hearing: &Heard) -> Result<Turned, AllocError>
     requires { MayHear (rest_of kept.now) (said hearing.now.reply) }
     ensures leaves { IfOk result (λ t. leaves_of kept.now t ≡ after_reply (rest_of kept.now) hearing.now.moment (said hearing.now.reply)) }

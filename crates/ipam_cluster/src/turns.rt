@@ -219,7 +219,9 @@ impl Cluster {
             written,
             turned,
         } = prepared;
-        drop((write, written, turned));
+        drop(write);
+        drop(written);
+        drop(turned);
         self.put(slot, None);
         Entry::Called(Called {
             slot,

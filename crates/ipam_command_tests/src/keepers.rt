@@ -56,7 +56,7 @@ fn played_over<S: Alter + Drop>(
     with_why(told, why)
 }
 
-/// The same over a keeper that opens the file when it has to.
+/// Plays it over a keeper that opens the file when it has to.
 fn played_lazily(
     rt: &HostRuntime,
     mut keeper: FileKeeper,

@@ -64,20 +64,28 @@ fn played<R: Host + Sync>(
 ) -> Result<String, AllocError> {
     let alloc = rt.alloc();
     let serving = serving_of(alloc, script)?;
+    let keeper = keeper_of(alloc, FREE, script)?;
     let Some(mut listener) = listening(rt, address) else {
         return String::from_str(alloc, "no listener\n");
     };
     let reached = reached(alloc, &listener, address)?;
     let clients = connected(rt, reached.as_str(), serving.connections)?;
-    let keeper = keeper_of(alloc, FREE, script)?;
     let (told, logged) = join(
         &host,
         move || play(alloc, clients, script),
         || serve(host, alloc, keeper, &mut listener, serving),
     );
     listener.close();
-    let mut told = told?;
-    told.push_str(logged?.as_str())?;
+    both(told, logged)
+}
+
+/// The two texts, one after the other.
+pub(crate) fn both(
+    first: Result<String, AllocError>,
+    second: Result<String, AllocError>,
+) -> Result<String, AllocError> {
+    let mut told = first?;
+    told.push_str(second?.as_str())?;
     Ok(told)
 }
 
@@ -89,25 +97,25 @@ fn serve<R: Host, D: Keeper + Send + Drop + 'static, L: Listens<Stream>>(
     listener: &mut L,
     serving: Serving,
 ) -> Result<String, AllocError> {
+    let opening = opening(alloc)?;
+    let alerts = Alerts::new(alloc)?;
+    let (alarm, _watch) = NewAlarm::new(alloc)?;
     let Ok(kept) = open_kept(alloc, keeper) else {
         return String::from_str(alloc, "not opened\n");
     };
-    let (alarm, _watch) = NewAlarm::new(alloc)?;
-    let mut staff = engage(
-        host,
-        alloc,
-        kept,
-        opening(alloc)?,
-        serving.workers,
-        limits_of(serving.millis),
-        Alerts::new(alloc)?,
-        alarm,
-    )?;
+    let workers = serving.workers;
+    let limits = limits_of(serving.millis);
+    let mut staff = engage(host, alloc, kept, opening, workers, limits, alerts, alarm)?;
     let log = Logged::new(host, Level::Info, Memory::new(alloc));
     let _ = staff.accept(&log, listener, serving.connections);
     staff.dismiss(&host);
+    let (_, logged) = log.into_parts();
+    lines_of(alloc, logged)
+}
+
+fn lines_of(alloc: Global, logged: Memory) -> Result<String, AllocError> {
     let mut told = String::new(alloc);
-    for line in log.into_parts().1.into_lines().as_slice() {
+    for line in logged.into_lines().as_slice() {
         push_line(&mut told, line.as_str())?;
     }
     Ok(told)

@@ -7,7 +7,7 @@ use crate::loopback::{ANY_PORT, limits_of, listening, reached, socket_path};
 use crate::rows::{FREE, keeper_of, numbers, opening, push_line};
 use ipam_call::{Connector, Connects};
 use ipam_daemon::{
-    Address, Host, Keeper, Leaving, Limits, NewAlarm, SocketListener, serve, serve_by,
+    Address, Host, Keeper, Leaving, Limits, NewAlarm, Served, SocketListener, serve, serve_by,
 };
 use std::alloc::{AllocError, Global};
 use std::fs::Files;
@@ -42,14 +42,25 @@ pub(crate) fn told_of_each<R: Host + Files + Net<Listener = TcpListener, Stream 
             } else {
                 word
             };
-            let keeper = keeper_of(alloc, rows, steps)?;
             push_line(
                 &mut told,
-                told_served(host, alloc, keeper, address)?.as_str(),
+                told_at(host, alloc, rows, steps, address)?.as_str(),
             )?;
         }
     }
     Ok(told)
+}
+
+/// How serving the rows ends at the address.
+fn told_at<R: Host + Files + Net<Listener = TcpListener, Stream = TcpStream>>(
+    host: R,
+    alloc: Global,
+    rows: &str,
+    steps: &str,
+    address: &str,
+) -> Result<String, AllocError> {
+    let keeper = keeper_of(alloc, rows, steps)?;
+    told_served(host, alloc, keeper, address)
 }
 
 /// The status with which serving ends, and what is written of it.
@@ -79,8 +90,16 @@ pub(crate) fn told<R: Host + Sync + Files + Net<Listener = TcpListener, Stream =
         || calls_of(rt, address.as_str(), steps),
         || told_until_end(host, rt, keeper, address.as_str(), steps),
     );
+    with_line(told, end)
+}
+
+/// What is told, and then the line.
+fn with_line(
+    told: Result<String, AllocError>,
+    line: Result<String, AllocError>,
+) -> Result<String, AllocError> {
     let mut told = told?;
-    push_line(&mut told, end?.as_str())?;
+    push_line(&mut told, line?.as_str())?;
     Ok(told)
 }
 
@@ -117,28 +136,44 @@ fn told_of_few<R: Host, D: Keeper + Send + Drop + 'static>(
 ) -> Result<String, AllocError> {
     let alloc = rt.alloc();
     let alerts = Alerts::new(alloc)?;
-    let listener = SocketListener::new(rt, alloc, Address::of(address));
-    let mut few = Few::new(listener, connections);
-    let (alarm, mut watch) = NewAlarm::new(alloc)?;
-    let (served, _keeper) = serve_by(
-        host,
-        alloc,
-        keeper,
-        opening(alloc)?,
-        &mut few,
-        2,
-        limits_of(LONG),
-        Leaving::Done,
-        alerts.another()?,
-        alarm,
-        &mut watch,
-    );
+    let another = alerts.another()?;
+    let served = served_few(host, rt, keeper, address, connections, another)?;
     let end = told_end(alloc, &served, 64)?;
     if steps.lines().any(|line| line == "alerts") {
         let count = alerts.count(rt);
         return format!(in alloc; "{end}, alerts {count}");
     }
     Ok(end)
+}
+
+fn served_few<R: Host, D: Keeper + Send + Drop + 'static>(
+    host: R,
+    rt: &HostRuntime,
+    keeper: D,
+    address: &str,
+    connections: u64,
+    alerts: Alerts,
+) -> Result<Served, AllocError> {
+    let alloc = rt.alloc();
+    let opening = opening(alloc)?;
+    let (alarm, mut watch) = NewAlarm::new(alloc)?;
+    let listener = SocketListener::new(rt, alloc, Address::of(address));
+    let mut few = Few::new(listener, connections);
+    let limits = limits_of(LONG);
+    let (served, _keeper) = serve_by(
+        host,
+        alloc,
+        keeper,
+        opening,
+        &mut few,
+        2,
+        limits,
+        Leaving::Done,
+        alerts,
+        alarm,
+        &mut watch,
+    );
+    Ok(served)
 }
 
 /// What the calls of the lines `call COMMAND` are told, each made once the one before is done. At a line `knock`

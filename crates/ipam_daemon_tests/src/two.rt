@@ -3,6 +3,7 @@ ghost use Rattle.std.specs.Prelude.{◌≡◌, None};
 ghost use Rattle.ipam_shared.specs.Passes.{runs_in};
 
 use crate::counting::Counting;
+use crate::daemon::both;
 use crate::meeting::{Meeting, MeetingGate};
 use crate::rows::{FREE, keeper_of, numbers, push_line};
 use crate::served::{served, share};
@@ -78,9 +79,7 @@ fn join_both<R: Threads + Wait + Sync, S: Serves + Sync>(
             requires { (second.lock ≡ S.id shared.now) × (runs_in second ≡ None) }
         { serve_second(rt, alloc, shared, other, second, meeting, others) },
     );
-    let mut told = first?;
-    told.push_str(second?.as_str())?;
-    Ok(told)
+    both(first, second)
 }
 
 /// Serves the session that waits.

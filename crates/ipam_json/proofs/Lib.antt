@@ -8,3 +8,4 @@ pub mod Floatless
 pub mod Listed
 pub mod Held
 pub mod MemberLemmas
+pub mod Steps

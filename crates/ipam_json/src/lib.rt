@@ -16,4 +16,4 @@ pub use members::{
 };
 pub use path::is_index;
 pub use read::{array, object, text, truth, whole};
-pub use written::{canonical_text, tagged};
+pub use written::{canonical_text, tagged, two_members};

@@ -1,4 +1,5 @@
 ghost use Rattle.std.specs.Prelude.{◌≡◌, Some, IfOk, string_bytes};
+ghost use Rattle.serde_json.specs.Data.{no_members, object, put};
 ghost use Rattle.serde_json.specs.Read.{read};
 ghost use Rattle.serde_json.specs.View.{view};
 ghost use Rattle.serde_json.specs.Written.{compact_text};
@@ -23,5 +24,22 @@ pub fn tagged(alloc: Global, name: &str, value: Value) -> Result<Value, AllocErr
 {
     let mut members = Map::new(alloc);
     put(&mut members, alloc, name, value)?;
+    Ok(Value::Object(members))
+}
+
+/// The object of these two members.
+pub fn two_members(
+    alloc: Global,
+    first: &str,
+    one: Value,
+    second: &str,
+    other: Value,
+) -> Result<Value, AllocError>
+    ensures { IfOk result (λ v. view v
+        ≡ object (put second.now (view other) (put first.now (view one) no_members))) }
+{
+    let mut members = Map::new(alloc);
+    put(&mut members, alloc, first, one)?;
+    put(&mut members, alloc, second, other)?;
     Ok(Value::Object(members))
 }

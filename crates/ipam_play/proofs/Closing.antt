@@ -215,11 +215,49 @@ never_write fault.Worn is = cc is
 never_write (fault.Open rule about) is = cc is
 never_write fault.Memory is = cc is
 
+pub refused_is_other : (one : Halt) (why : LineRefusal) → one ≡ halt.Refused why → one ≡ halt.Write → ⊥
+refused_is_other one why is write = cc (sym is ∙ write)
+
+pub not_opened_is_other : (one : Halt) (rule : ℕ) (about : List ℕ) → one ≡ halt.NotOpened rule about → one ≡ halt.Write → ⊥
+not_opened_is_other one rule about is write = cc (sym is ∙ write)
+
+pub memory_is_other : (one : Halt) → one ≡ halt.Memory → one ≡ halt.Write → ⊥
+memory_is_other one is write = cc (sym is ∙ write)
+
+pub write_not_fault : end.WriteFault ≢ end.ReadFault
+write_not_fault e = cc e
+
+pub write_not_done : end.WriteFault ≢ end.Done
+write_not_done e = cc e
+
+pub write_not_memory : end.WriteFault ≢ end.NoMemory
+write_not_memory e = cc e
+
+pub want_not_fault : end.NoMemory ≢ end.ReadFault
+want_not_fault e = cc e
+
+pub want_not_write : end.NoMemory ≢ end.WriteFault
+want_not_write e = cc e
+
+pub want_not_done : end.NoMemory ≢ end.Done
+want_not_done e = cc e
+
 pub finishes_known : {T : Type 0} {finished result : Result T PlayFault} (old new : Player) → finished ≡ result → Finishes finished old new → Finishes result old new
 finishes_known old new is f = subst (λ r. Finishes r old new) is f
 
 pub counts_same : (e : PlayEnd) (old mid new : ℕ) → mid ≡ old → CountsEnd e mid new → CountsEnd e old new
 counts_same e old mid new same h = subst (λ (n : ℕ). CountsEnd e n new) same h
+
+pub ends_rose : (e : PlayEnd) (old new : ℕ) → CountsEnd e old new → e ≡ end.WriteFault → Rose old new
+ends_rose e old new counts is = subst (λ (k : PlayEnd). CountsEnd k old new) is counts
+
+pub ends_same : (e : PlayEnd) (old new : ℕ) → CountsEnd e old new → e ≢ end.WriteFault → new ≡ old
+ends_same end.Done old new same other = same
+ends_same end.ReadFault old new same other = same
+ends_same end.NoMemory old new same other = same
+ends_same end.NotOpened old new same other = same
+ends_same end.LineRefused old new same other = same
+ends_same end.WriteFault old new rose other = absurd (other refl)
 
 -- the line did not happen, and what was written then
 pub counts_halted : (T : Type 0) (why : Halt) (e : PlayEnd) (old mid new : ℕ) → CountsWrites {T = T} (Err why) old mid → (why ≢ halt.Write → CountsEnd e mid new) → (why ≡ halt.Write → e ≡ end.WriteFault) → (why ≡ halt.Write → new ≡ mid) → CountsEnd e old new

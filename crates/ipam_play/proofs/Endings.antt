@@ -1,6 +1,6 @@
 -- What is written where a script that is played ends.
 use Rattle.std.proofs.Common.{◌≡◌, ℕ, suc, ◌+◌, ◌≤◌, List, [], ◌∷◌, ◌++◌, length, take, drop, Option, Some, None, refl, sym, ap, ◌∙◌, subst, arith, get_or, ◌<◌, append_assoc, append-nil, inl, inr}
-use Rattle.std.specs.Prelude.{Result, Ok, Err, OnErr}
+use Rattle.std.specs.Prelude.{Result, Ok, Err, OnErr, OnOk}
 use Rattle.std.specs.Io.KnownBytes.{append_known}
 use Rattle.std.proofs.lemmas.List.{length-append, take-append-drop, take-append-le, take_more}
 use Rattle.std.proofs.lemmas.Grind.{flat_map-append}
@@ -179,6 +179,10 @@ wrote_none (Some bytes) = record { done = []; kept = []; is_past = refl; written
 pub next_part_or : {T E : Type 0} (r : Result T E) (now mid after : Option (List ℕ)) (piece more : List ℕ) → mid ≡ append_known now piece → OnErr r (AppendsPrefix mid after more) → OnErr r (AppendsPrefix now after (piece ++ more))
 next_part_or (Ok done) now mid after piece more written part = tt
 next_part_or (Err e) now mid after piece more written part = next-part now mid after piece more written part
+
+pub next_whole_or : {T E : Type 0} (r : Result T E) (now mid after : Option (List ℕ)) (piece more : List ℕ) → mid ≡ append_known now piece → OnOk r (after ≡ append_known mid more) → OnOk r (after ≡ append_known now (piece ++ more))
+next_whole_or (Ok done) now mid after piece more written whole = whole ∙ ap (λ (k : Option (List ℕ)). append_known k more) written ∙ append-twice now piece more
+next_whole_or (Err e) now mid after piece more written whole = tt
 
 -- ---- pieces
 

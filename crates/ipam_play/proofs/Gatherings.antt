@@ -1,6 +1,6 @@
 -- Rows that are gathered.
-use Rattle.std.proofs.Common.{◌≡◌, ◌≢◌, ℕ, Bool, true, false, cond, ◌||◌, List, [], ◌∷◌, ◌++◌, map, Option, Some, None, BTreeMap, refl, sym, ap, ap₂, ◌∙◌, subst, arith, nat_lt}
-use Rattle.std.specs.Prelude.{bytes_eq, is_some}
+use Rattle.std.proofs.Common.{◌≡◌, ◌≢◌, ℕ, Bool, true, false, cond, ◌||◌, List, [], ◌∷◌, ◌++◌, map, Option, Some, None, BTreeMap, append_assoc, append-nil, refl, sym, ap, ap₂, ◌∙◌, subst, arith, nat_lt}
+use Rattle.std.specs.Prelude.{◌↔◌, Result, Ok, Err, bytes_eq, is_some}
 use Rattle.std.specs.declared.cmp.Ordering.{Ordering}
 use Rattle.std.specs.declared.cmp.Ordering.TheVariants.{Less, Equal, Greater}
 use Rattle.std.specs.BTreeMap.{get, insert_entry, is_at}
@@ -8,6 +8,7 @@ use Rattle.std.specs.Ordering.{is_eq, match_ordering}
 use Rattle.std.specs.List.{list_any}
 use Rattle.std.specs.List.Sorted.{IsPermutation, IsStrictlySortedBy}
 use Rattle.std.specs.Map.{keys_of, lookup}
+use Rattle.std.proofs.lemmas.Bool.{false≢true}
 use Rattle.std.proofs.lemmas.Bool.Decides.{nat_tests}
 use Rattle.std.proofs.lemmas.List.Sorted.{IsPermutation-insert, IsPermutation-refl, IsPermutation-to_front, IsPermutation-cons, IsPermutation-trans, list_any-IsPermutation}
 use Rattle.std.proofs.lemmas.Map.Text.{is_eq-slice_cmp}
@@ -18,6 +19,8 @@ use Rattle.ipam_keeper.specs.Rows.{text_cmp}
 use Rattle.ipam_play.specs.declared.gathering.Content.{Content}
 use Rattle.ipam_play.specs.declared.gathering.Counter.{Counter}
 use Rattle.ipam_play.specs.declared.gathering.Counter.TheVariants.{Greatest, Given}
+use Rattle.ipam_play.specs.declared.gathering.GatherFault.{GatherFault}
+use Rattle.ipam_play.specs.declared.gathering.GatherFault.TheVariants as gather
 use Rattle.ipam_play.specs.declared.gathering.Gathering.{Gathering}
 use Rattle.ipam_play.specs.Gathering.{Gathers, counter_from, raised, row_gathered, rows_gathered}
 use Rattle.ipam_play.specs.Played.{counter_of, greatest_of_base}
@@ -40,9 +43,40 @@ is_found (e ∷ es) key =
 pub key_given : (rows : BTreeMap (List ℕ) Content) (given : List Row) (key : List ℕ) → IsPermutation given (rows_gathered rows) → is_some (get text_cmp rows key) ≡ rows_have_key key given
 key_given rows given key same = is_found rows.entries key ∙ sym (list_any-IsPermutation (λ (row : Row). bytes_eq key row.key) given (rows_gathered rows) same)
 
+-- ---- a row that was not given before
+
+pub ok_not_again : {T : Type 0} (done : T) → Ok done ≡ Err gather.Again → ⊥
+ok_not_again done e = cc e
+
+pub memory_not_again : {T : Type 0} (result : Result T GatherFault) → result ≡ Err gather.Memory → result ≡ Err gather.Again → ⊥
+memory_not_again result memory again = cc (sym memory ∙ again)
+
+pub not_again : {T : Type 0} (result : Result T GatherFault) (rows : BTreeMap (List ℕ) Content) (given : List Row) (key : List ℕ) (found : Bool)
+    → IsPermutation given (rows_gathered rows) → found ≡ is_some (get text_cmp rows key) → found ≡ false → (result ≡ Err gather.Again → ⊥)
+    → (result ≡ Err gather.Again) ↔ (rows_have_key key given ≡ true)
+not_again result rows given key found same is never other =
+    (λ e. absurd (other e), λ e. absurd (false≢true (sym never ∙ is ∙ key_given rows given key same ∙ e)))
+
+-- ---- lists of rows
+
 -- the keys of the rows ascend as those of the entries
 pub by_key : (entries : List (List ℕ × Content)) → IsStrictlySortedBy text_cmp (keys_of entries) → AreByKey (map row_gathered entries)
 by_key entries ordered = subst (IsStrictlySortedBy text_cmp) (sym (map-map (λ (row : Row). row.key) row_gathered entries)) ordered
+
+-- the rows so far, and those of the entries that are left
+pub listed_more : (e : List ℕ × Content) (row : Row) (done after whole : List Row) (entries left : List (List ℕ × Content))
+    → entries ≡ e ∷ left → row ≡ row_gathered e → after ≡ done ++ row ∷ [] → done ++ map row_gathered entries ≡ whole
+    → after ++ map row_gathered left ≡ whole
+listed_more e row done after whole entries left step is pushed h =
+    ap (λ (l : List Row). l ++ map row_gathered left) pushed
+    ∙ append_assoc done (row ∷ []) (map row_gathered left)
+    ∙ ap (λ (r : Row). done ++ r ∷ map row_gathered left) is
+    ∙ sym (ap (λ (l : List (List ℕ × Content)). done ++ map row_gathered l) step)
+    ∙ h
+
+pub listed_all : (done whole : List Row) (entries : List (List ℕ × Content)) → entries ≡ [] → done ++ map row_gathered entries ≡ whole → done ≡ whole
+listed_all done whole entries end h =
+    sym (append-nil done) ∙ sym (ap (λ (l : List (List ℕ × Content)). done ++ map row_gathered l) end) ∙ h
 
 -- a content at a new key is one row more
 pub one_more : (entries : List (List ℕ × Content)) (key : List ℕ) (content : Content) → is_some (lookup (is_at (text_cmp key)) entries) ≡ false

@@ -18,3 +18,4 @@ pub mod Games
 pub mod Turning
 pub mod Closing
 pub mod Runs
+pub mod AnswerFacts

@@ -1,9 +1,14 @@
 -- What a line is read as.
-use Rattle.std.proofs.Common.{◌≡◌, ℕ, List, Some, refl}
+use Rattle.std.proofs.Common.{◌≡◌, ◌∙◌, ℕ, List, Option, Some, None, refl, sym}
+use Rattle.std.specs.Prelude.{IfSome, Result}
 use Rattle.ipam_records.specs.declared.call.Row.{Row}
+use Rattle.ipam_model.specs.declared.entry.Entry.{Entry}
 use Rattle.ipam_model.specs.Course.{Event}
+use Rattle.ipam_cluster.specs.declared.cluster.Cluster.{Cluster}
 use Rattle.ipam_answer_text.specs.declared.line.Line.{Line}
 use Rattle.ipam_answer_text.specs.declared.line.Line.TheVariants as line
+use Rattle.ipam_play.specs.declared.fault.PlayFault.{PlayFault}
+use Rattle.ipam_play.specs.Events.{ComesOf}
 use Rattle.ipam_play.specs.Script.{Gathered, Happens, events_of, place_of}
 
 -- a line with events is not of the base
@@ -29,3 +34,12 @@ some_events (line.Lose slot) no_row no_counter = (_, refl)
 some_events (line.Feed slot at live) no_row no_counter = (_, refl)
 some_events (line.Stop slot) no_row no_counter = (_, refl)
 some_events line.Restart no_row no_counter = (_, refl)
+
+-- ---- what a line asks for
+
+pub events_come : {T : Type 0} (result : Result T PlayFault) (old new : Cluster) (before after : List Entry) (found : Option (List Event)) (events : List Event) → found ≡ Some events
+    → ComesOf result old new before after events → IfSome found (ComesOf result old new before after)
+events_come result old new before after found events is h = rw is h
+
+pub has_events : {P : Type 0} (found : Option (List Event)) (events : List Event) → found ≡ Some events → found ≡ None → P
+has_events found events is none = absurd (cc (sym is ∙ none))

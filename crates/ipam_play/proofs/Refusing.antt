@@ -1,10 +1,12 @@
 -- What a cluster refuses is refused in each history that it stands for, and what it makes is made there.
-use Rattle.std.proofs.Common.{◌≡◌, ℕ, ◌+◌, ◌^◌, ◌<◌, ◌≤◌, List, [], ◌∷◌, refl, subst, sym, inr}
+use Rattle.std.proofs.Common.{◌≡◌, ℕ, ◌+◌, ◌^◌, ◌<◌, ◌≤◌, List, [], ◌∷◌, None, IsSome, refl, subst, sym, inr}
 use Rattle.std.specs.Prelude.{◌↔◌, Result, Ok, Err}
 use Rattle.ipam_model.specs.declared.entry.Entry.{Entry}
 use Rattle.ipam_model.specs.declared.entry.Fate.{Fate}
 use Rattle.ipam_model.specs.declared.entry.SlotState.TheVariants as state
-use Rattle.ipam_model.specs.Course.{Event, Turn, Feed, TooSoon, Worn, entries_of}
+use Rattle.ipam_collect.specs.declared.collect.Grace.{Grace}
+use Rattle.ipam_model.specs.declared.request.Request.{Request}
+use Rattle.ipam_model.specs.Course.{Event, Begin, Busy, Idle, Turn, Feed, NotWaiting, TooSoon, Waiting, Worn, entries_of}
 use Rattle.ipam_model.specs.CourseLaw.{event_of}
 use Rattle.ipam_model.specs.History.{cluster_at}
 use Rattle.ipam_cluster.specs.declared.cluster.Cluster.{Cluster}
@@ -53,3 +55,49 @@ feed_told cluster slot at live result exactly since grace is =
       is_told = refl;
       refuses = λ base history h. cluster_events.feed_too_soon cluster base history slot at live (record { at = since; grace = grace }) h facts.0 facts.1;
     })
+
+-- ---- what calls that take memory tell of a refusal
+
+pub begin_busy : (cluster : Cluster) (slot : ℕ) (request : Request) → IsSome (slot_of_cluster cluster slot) → IsToldOrMemory cluster (Begin slot request) fault.Busy
+begin_busy cluster slot request some = inr (record {
+  refusal = Busy;
+  is_told = refl;
+  refuses = λ base history h. cluster_events.begin_busy cluster base history slot request h some;
+})
+
+pub begin_worn : (cluster : Cluster) (slot : ℕ) (request : Request) → (slot_of_cluster cluster slot ≡ None) × (2 ^ 62 ≤ cluster.entries) → IsToldOrMemory cluster (Begin slot request) fault.Worn
+begin_worn cluster slot request facts = inr (record {
+  refusal = Worn;
+  is_told = refl;
+  refuses = λ base history h. cluster_events.begin_worn cluster base history slot request h facts.0 facts.1;
+})
+
+pub turn_idle : (cluster : Cluster) (slot : ℕ) (fate : Fate) → slot_of_cluster cluster slot ≡ None → IsToldOrMemory cluster (Turn slot fate) fault.Idle
+turn_idle cluster slot fate idle = inr (record {
+  refusal = Idle;
+  is_told = refl;
+  refuses = λ base history h. cluster_events.turn_idle cluster base history slot fate h idle;
+})
+
+pub turn_waiting : (cluster : Cluster) (slot : ℕ) (fate : Fate) → state_in (slot_of_cluster cluster slot) ≡ state.Waiting → IsToldOrMemory cluster (Turn slot fate) fault.Waiting
+turn_waiting cluster slot fate waiting = inr (record {
+  refusal = Waiting;
+  is_told = refl;
+  refuses = λ base history h. cluster_events.turn_waiting cluster base history slot fate h waiting;
+})
+
+pub feed_not_waiting : (cluster : Cluster) (slot at : ℕ) (live : List (List ℕ)) → (state_in (slot_of_cluster cluster slot) ≡ state.Waiting → ⊥) → IsToldOrMemory cluster (Feed slot at live) fault.NotWaiting
+feed_not_waiting cluster slot at live other = inr (record {
+  refusal = NotWaiting;
+  is_told = refl;
+  refuses = λ base history h. cluster_events.feed_not_waiting cluster base history slot at live h other;
+})
+
+pub feed_worn : (cluster : Cluster) (slot at : ℕ) (live : List (List ℕ))
+    → 2 ^ 62 ≤ cluster.entries × (grace : Grace) × WaitsWith (slot_of_cluster cluster slot) grace × grace.at + grace.grace ≤ at
+    → IsToldOrMemory cluster (Feed slot at live) fault.Worn
+feed_worn cluster slot at live (many, grace, with, due) = inr (record {
+  refusal = Worn;
+  is_told = refl;
+  refuses = λ base history h. cluster_events.feed_worn cluster base history slot at live grace h with due many;
+})

@@ -1,19 +1,17 @@
 //! How a script that is played ends.
-ghost use Rattle.std.specs.Prelude.{◌≡◌, ◌≢◌, ◌⊎◌, ◌∷◌, ◌++◌, [], ℕ, List, Option, Ok, OnErr, OnOk};
-ghost use Rattle.std.specs.Io.KnownBytes.{append_known};
-ghost use Rattle.ipam_io.specs.Counts.{Rose};
-ghost use Rattle.ipam_io.specs.Streams.{AppendsPrefix};
+ghost use Rattle.std.specs.Prelude.{◌≡◌, ◌≢◌, ◌⊎◌, ◌∷◌, [], ℕ, List, Option, Ok};
 ghost use Rattle.ipam_records.specs.Datastore.{Datastore};
 ghost use Rattle.ipam_model.specs.declared.entry.Entry.{Entry};
 ghost use Rattle.ipam_play.specs.Player.{IsPlaying, IsStanding};
 ghost use Rattle.ipam_play.specs.Readings.{LineReading};
 ghost use Rattle.ipam_play.specs.Script.{Gathered, Script};
 ghost use Rattle.ipam_play.specs.SoundLine.{IsSoundLine};
-ghost use Rattle.ipam_play.specs.Writing.{CountsEnd, HasWrittenJournal, WroteSoFar, ended_so, joined};
+ghost use Rattle.ipam_play.specs.Writing.{CountsEnd, HasWrittenJournal, WroteSoFar, ended_so};
 
 use crate::end::PlayEnd;
 use crate::game::Game;
 use crate::halt::Halt;
+use crate::output::Output;
 use crate::refusal::LineRefusal;
 use ipam_answer_text::Line;
 use ipam_io::{Failed, Sink};
@@ -22,19 +20,19 @@ use itoa::Buffer;
 use std::alloc::Global;
 
 impl Game {
-    ghost use Rattle.ipam_play.specs.Halting.{IsHalted, IsOn, held_by};
+    ghost use Rattle.ipam_play.specs.Halting.{IsHalted, IsOn};
 
     /// Plays the last line, which has no line end.
     pub(crate) fn last_line<K: Sink>(
-        mut self,
+        &mut self,
         alloc: Global,
         sink: &mut K,
         number: u64,
         line: &Line,
     ) -> PlayEnd
         requires sound { IsSoundLine line.now }
-        requires standing { IsStanding self.player }
-        ensures written { (script : Script) (first : Option (List ℕ)) → IsOn script first (K.written sink.old) self number (Ok line.now ∷ [])
+        requires standing { IsStanding self.old.player }
+        ensures written { (script : Script) (first : Option (List ℕ)) → IsOn script first (K.written sink.old) self.old number (Ok line.now ∷ [])
             → HasWrittenJournal result script first (K.written sink.new) }
         ensures no_read_fault { result ≢ PlayEnd.ReadFault }
         ensures counts { CountsEnd result (K.write_faults sink.old) (K.write_faults sink.new) }
@@ -47,23 +45,23 @@ impl Game {
     }
 
     /// The script is at its end. Once the base is open, this takes no memory.
-    pub(crate) fn finish<K: Sink>(mut self, alloc: Global, sink: &mut K, number: u64) -> PlayEnd
-        ensures written { (script : Script) (first : Option (List ℕ)) (next : ℕ) → IsOn script first (K.written sink.old) self next []
+    pub(crate) fn finish<K: Sink>(&mut self, alloc: Global, sink: &mut K, number: u64) -> PlayEnd
+        ensures written { (script : Script) (first : Option (List ℕ)) (next : ℕ) → IsOn script first (K.written sink.old) self.old next []
             → HasWrittenJournal result script first (K.written sink.new) }
         ensures no_read_fault { result ≢ PlayEnd.ReadFault }
-        ensures no_memory { (base : Gathered) (store : Datastore) (past : List Entry) → IsPlaying self.player base store past → result ≢ PlayEnd.NoMemory }
+        ensures no_memory { (base : Gathered) (store : Datastore) (past : List Entry) → IsPlaying self.old.player base store past → result ≢ PlayEnd.NoMemory }
         ensures counts { CountsEnd result (K.write_faults sink.old) (K.write_faults sink.new) }
         ensures rest { K.write_rest sink.new ≡ K.write_rest sink.old }
     {
         match self.player.finish(alloc) {
-            Ok(()) => ended(self.end(sink, &[]), PlayEnd::Done),
+            Ok(()) => ended(self.output.end(sink, &[]), PlayEnd::Done),
             Err(fault) => self.halted(sink, number, Halt::of(fault)),
         }
     }
 
     /// The script is not played on from this line. Telling so takes no memory.
-    pub(crate) fn halted<K: Sink>(self, sink: &mut K, number: u64, halt: Halt) -> PlayEnd
-        ensures written { (script : Script) (first : Option (List ℕ)) → IsHalted halt script first (K.written sink.old) self number
+    pub(crate) fn halted<K: Sink>(&self, sink: &mut K, number: u64, halt: Halt) -> PlayEnd
+        ensures written { (script : Script) (first : Option (List ℕ)) → IsHalted halt script first (K.written sink.old) self.now number
             → HasWrittenJournal result script first (K.written sink.new) }
         ensures no_read_fault { result ≢ PlayEnd.ReadFault }
         ensures not_done { result ≢ PlayEnd.Done }
@@ -74,16 +72,35 @@ impl Game {
         ensures rest { K.write_rest sink.new ≡ K.write_rest sink.old }
     {
         match halt {
-            Halt::Refused(why) => self.refused(sink, number, why),
-            Halt::NotOpened(rule, about) => self.not_opened(sink, rule, &about),
+            Halt::Refused(why) => self.output.refused(sink, number, why),
+            Halt::NotOpened(rule, about) => self.output.not_opened(sink, rule, &about),
             Halt::Write => PlayEnd::WriteFault,
             Halt::Memory => PlayEnd::NoMemory,
         }
     }
 
+    /// A read of the source failed. The lines of all entries so far are written, and the fault after them.
+    pub(crate) fn read_fault<K: Sink>(&self, sink: &mut K) -> PlayEnd
+        ensures written { (script : Script) (first : Option (List ℕ)) (number : ℕ) (more : List LineReading) → IsOn script first (K.written sink.old) self.now number more
+            → HasWrittenJournal result script first (K.written sink.new) }
+        ensures so_far { (script : Script) (first : Option (List ℕ)) (number : ℕ) → IsOn script first (K.written sink.old) self.now number []
+            → result ≡ PlayEnd.ReadFault → WroteSoFar script first (K.written sink.new) }
+        ensures faults { (result ≡ PlayEnd.ReadFault) ⊎ (result ≡ PlayEnd.WriteFault) }
+        ensures counts { CountsEnd result (K.write_faults sink.old) (K.write_faults sink.new) }
+        ensures rest { K.write_rest sink.new ≡ K.write_rest sink.old }
+    {
+        ended(self.output.end(sink, &["read fault\n"]), PlayEnd::ReadFault)
+    }
+}
+
+impl Output {
+    ghost use Rattle.ipam_play.specs.Played.{IsPlayed, LineRefused, NotOpened};
+    ghost use Rattle.ipam_play.specs.Writing.{Wrote, held_in};
+
     /// The line is refused.
-    fn refused<K: Sink>(self, sink: &mut K, number: u64, why: LineRefusal) -> PlayEnd
-        ensures written { (script : Script) (first : Option (List ℕ)) → IsHalted (Halt.Refused why) script first (K.written sink.old) self number
+    fn refused<K: Sink>(&self, sink: &mut K, number: u64, why: LineRefusal) -> PlayEnd
+        ensures written { (script : Script) (first : Option (List ℕ)) (past : List Entry)
+            → Wrote first (K.written sink.old) (held_in self.now) past → IsPlayed script past (LineRefused number why)
             → HasWrittenJournal result script first (K.written sink.new) }
         ensures no_read_fault { result ≢ PlayEnd.ReadFault }
         ensures not_done { result ≢ PlayEnd.Done }
@@ -97,8 +114,9 @@ impl Game {
     }
 
     /// The base is refused.
-    fn not_opened<K: Sink>(self, sink: &mut K, rule: u8, about: &Text) -> PlayEnd
-        ensures written { (script : Script) (first : Option (List ℕ)) (number : ℕ) → IsHalted (Halt.NotOpened rule about.now) script first (K.written sink.old) self number
+    fn not_opened<K: Sink>(&self, sink: &mut K, rule: u8, about: &Text) -> PlayEnd
+        ensures written { (script : Script) (first : Option (List ℕ)) (past : List Entry)
+            → Wrote first (K.written sink.old) (held_in self.now) past → IsPlayed script past (NotOpened rule about.now)
             → HasWrittenJournal result script first (K.written sink.new) }
         ensures no_read_fault { result ≢ PlayEnd.ReadFault }
         ensures not_done { result ≢ PlayEnd.Done }
@@ -115,32 +133,6 @@ impl Game {
             "\n",
         ];
         ended(self.end(sink, &last), PlayEnd::NotOpened)
-    }
-
-    /// Writes the lines that it holds, and after them the pieces of a last one.
-    fn end<K: Sink>(self, sink: &mut K, last: &[&str]) -> Result<(), Failed>
-        ensures wrote { OnOk result (K.written sink.new ≡ append_known (K.written sink.old) (held_by self ++ joined last.now)) }
-        ensures part { OnErr result (AppendsPrefix (K.written sink.old) (K.written sink.new) (held_by self ++ joined last.now)) }
-        ensures fault { OnErr result (Rose (K.write_faults sink.old) (K.write_faults sink.new)) }
-        ensures no_fault { OnOk result (K.write_faults sink.new ≡ K.write_faults sink.old) }
-        ensures rest { K.write_rest sink.new ≡ K.write_rest sink.old }
-    {
-        let Game { player, output } = self;
-        drop(player);
-        output.end(sink, last)
-    }
-
-    /// A read of the source failed. The lines of all entries so far are written, and the fault after them.
-    pub(crate) fn read_fault<K: Sink>(self, sink: &mut K) -> PlayEnd
-        ensures written { (script : Script) (first : Option (List ℕ)) (number : ℕ) (more : List LineReading) → IsOn script first (K.written sink.old) self number more
-            → HasWrittenJournal result script first (K.written sink.new) }
-        ensures so_far { (script : Script) (first : Option (List ℕ)) (number : ℕ) → IsOn script first (K.written sink.old) self number []
-            → result ≡ PlayEnd.ReadFault → WroteSoFar script first (K.written sink.new) }
-        ensures faults { (result ≡ PlayEnd.ReadFault) ⊎ (result ≡ PlayEnd.WriteFault) }
-        ensures counts { CountsEnd result (K.write_faults sink.old) (K.write_faults sink.new) }
-        ensures rest { K.write_rest sink.new ≡ K.write_rest sink.old }
-    {
-        ended(self.end(sink, &["read fault\n"]), PlayEnd::ReadFault)
     }
 }
 

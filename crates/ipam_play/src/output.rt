@@ -62,9 +62,9 @@ impl Output {
     }
 
     /// Writes its lines, and after them the pieces of a last one. It takes no memory.
-    pub(crate) fn end<K: Sink>(self, sink: &mut K, last: &[&str]) -> Result<(), Failed>
-        ensures wrote { OnOk result (K.written sink.new ≡ append_known (K.written sink.old) (held_in self ++ joined last.now)) }
-        ensures part { OnErr result (AppendsPrefix (K.written sink.old) (K.written sink.new) (held_in self ++ joined last.now)) }
+    pub(crate) fn end<K: Sink>(&self, sink: &mut K, last: &[&str]) -> Result<(), Failed>
+        ensures wrote { OnOk result (K.written sink.new ≡ append_known (K.written sink.old) (held_in self.now ++ joined last.now)) }
+        ensures part { OnErr result (AppendsPrefix (K.written sink.old) (K.written sink.new) (held_in self.now ++ joined last.now)) }
         ensures fault { OnErr result (Rose (K.write_faults sink.old) (K.write_faults sink.new)) }
         ensures no_fault { OnOk result (K.write_faults sink.new ≡ K.write_faults sink.old) }
         ensures rest { K.write_rest sink.new ≡ K.write_rest sink.old }

@@ -1,6 +1,6 @@
 -- A pool table's body is read back.
 use Rattle.std.proofs.Common.{◌≡◌, ℕ, ◌^◌, ◌<◌, List, [], ◌∷◌, ◌++◌, codes, map, Bool, true, false, Option, Some, None, option_map, Result, Ok, Err, IfOk, IfErr, inl, inr, nat_lt, refl, sym, ap, ◌∙◌, arith, lt-ltb, ltb-true, append_assoc, append-nil}
-use Rattle.std.specs.Prelude.{is_none, IsNone, IsOkUnless, ◌≢◌}
+use Rattle.std.specs.Prelude.{is_none, IsNone, IfSome, IsOkUnless, ◌≢◌, ◌&&◌}
 use Rattle.std.specs.List.{AllByRecursion}
 use Rattle.std.proofs.lemmas.Bool.{cases_Bool}
 use Rattle.std.proofs.lemmas.Option.{cond_some, same_Some, option_and_then_some}
@@ -322,3 +322,14 @@ table_fault there rest all p r Size same accepted is other = table_refused there
 table_fault there rest all p r Prefix same accepted is other = table_refused there rest all p same (not_added _ r Prefix accepted is (λ k. cc))
 table_fault there rest all p r TooMany same accepted is other = table_refused there rest all p same (not_added _ r TooMany accepted is (λ k. cc))
 table_fault there rest all p r OutOfMemory same accepted is other = absurd (other refl)
+
+-- a pool that was added was not refused
+not_refused : (o : Option PoolRefusal) (r : Result (Unit {0}) PoolRefusal) (u : Unit {0}) → IfSome o (λ refusal. r ≡ Err refusal) → r ≡ Ok u → is_none o ≡ true
+not_refused None r u refused is = refl
+not_refused (Some refusal) r u refused is = absurd cc
+
+-- one more pool was added
+pub one_added : (there more rest all : List Pool) (p : Pool) (r : Result (Unit {0}) PoolRefusal) (u : Unit {0}) → more ≡ there ++ p ∷ [] → IfSome (refusal_of there p) (λ refusal. r ≡ Err refusal) → r ≡ Ok u → there ++ p ∷ rest ≡ all → are_added there (p ∷ rest) ≡ are_added [] all → (more ++ rest ≡ all) × (are_added more rest ≡ are_added [] all)
+one_added there more rest all p r u new refused is whole same =
+    let free : is_none (refusal_of there p) ≡ true = not_refused (refusal_of there p) r u refused is in
+    (ap (λ l. l ++ rest) new ∙ append_assoc there (p ∷ []) rest ∙ whole, ap (λ l. are_added l rest) new ∙ sym (ap (λ b. b && are_added (there ++ p ∷ []) rest) free) ∙ same)

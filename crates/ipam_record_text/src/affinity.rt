@@ -56,11 +56,7 @@ fn held_affinity(alloc: Global, body: &str) -> Result<Option<Affinity>, AllocErr
         return Ok(None);
     };
     let text = affinity_text(alloc, &affinity)?;
-    if text.as_str() == body {
-        Ok(Some(affinity))
-    } else {
-        Ok(None)
-    }
+    Ok((text.as_str() == body).then_some(affinity))
 }
 
 fn affinity_in(alloc: Global, json: &Value) -> Result<Option<Affinity>, AllocError>

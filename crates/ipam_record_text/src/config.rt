@@ -64,11 +64,7 @@ fn held_config(alloc: Global, body: &str) -> Result<Option<Config>, AllocError>
         return Ok(None);
     };
     let text = config_text(alloc, &config)?;
-    if text.as_str() == body {
-        Ok(Some(config))
-    } else {
-        Ok(None)
-    }
+    Ok((text.as_str() == body).then_some(config))
 }
 
 #[tactic(auto, unfolding(crate::specs::Config::config_in))]

@@ -73,11 +73,7 @@ fn held_handle(alloc: Global, body: &str) -> Result<Option<Handle>, AllocError>
         return Ok(None);
     };
     let text = handle_text(alloc, &handle)?;
-    if text.as_str() == body {
-        Ok(Some(handle))
-    } else {
-        Ok(None)
-    }
+    Ok((text.as_str() == body).then_some(handle))
 }
 
 #[tactic(auto, unfolding(crate::specs::Handle::handle_in))]

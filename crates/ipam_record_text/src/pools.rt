@@ -128,11 +128,7 @@ fn held_pools(alloc: Global, body: &str) -> Result<Option<Vec<Pool>>, AllocError
         return Ok(None);
     };
     let text = list_text(alloc, pools.as_slice())?;
-    if text.as_str() == body {
-        Ok(Some(pools))
-    } else {
-        Ok(None)
-    }
+    Ok((text.as_str() == body).then_some(pools))
 }
 
 #[tactic(auto, unfolding(crate::specs::Pools::pool_list_in))]

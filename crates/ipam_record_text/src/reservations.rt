@@ -87,11 +87,7 @@ fn held_reservations(alloc: Global, body: &str) -> Result<Option<Vec<Reservation
         return Ok(None);
     };
     let text = reservations_text(alloc, list.as_slice())?;
-    if text.as_str() == body {
-        Ok(Some(list))
-    } else {
-        Ok(None)
-    }
+    Ok((text.as_str() == body).then_some(list))
 }
 
 #[tactic(auto, unfolding(crate::specs::Reservations::reservations_in))]

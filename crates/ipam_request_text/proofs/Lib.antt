@@ -1,4 +1,5 @@
 -- No request's JSON has a float, and lists of live handles are read back.
+pub mod Lists
 pub mod Floats
 pub mod Lives
 pub mod Ascending

@@ -9,12 +9,12 @@ use crate::members::{
 };
 use crate::parts::{address_value, addresses_value, cidr_value, cidrs_value, texts_value};
 use ipam_addr::{Addr, Cidr};
-use ipam_json::tagged;
+use ipam_json::{tagged, two_members};
 use ipam_model::{AddRequest, Admin, CollectRequest, ProbeRequest, Request};
 use ipam_pool::{Pool, Reservation};
 use ipam_records::Config;
 use ipam_text::Text;
-use serde_json::{Map, Value, json, put};
+use serde_json::{Map, Value, put};
 use std::alloc::{AllocError, Global};
 
 /// Appends the request's text, which is one line. A member stands in it only where it is not what
@@ -148,8 +148,8 @@ fn add_this_value(alloc: Global, add: &AddRequest, address: Addr) -> Result<Valu
 fn del_value(alloc: Global, id: &Text) -> Result<Value, AllocError>
     ensures { IfOk result (λ v. view v ≡ del_data id.now) }
 {
-    let handle = id.as_str();
-    let inner = json!(in alloc; {"handle": handle})?;
+    let handle = Value::try_from_str(alloc, id.as_str())?;
+    let inner = tagged(alloc, "handle", handle)?;
     tagged(alloc, "del", inner)
 }
 
@@ -157,8 +157,8 @@ fn check_value(alloc: Global, id: &Text, addresses: &[Addr]) -> Result<Value, Al
     ensures { IfOk result (λ v. view v ≡ check_data id.now addresses.now) }
 {
     let addresses = addresses_value(alloc, addresses)?;
-    let handle = id.as_str();
-    let inner = json!(in alloc; {"addresses": addresses, "handle": handle})?;
+    let handle = Value::try_from_str(alloc, id.as_str())?;
+    let inner = two_members(alloc, "addresses", addresses, "handle", handle)?;
     tagged(alloc, "check", inner)
 }
 
@@ -166,8 +166,8 @@ fn release_value(alloc: Global, node: &Text, cidr: Cidr) -> Result<Value, AllocE
     ensures { IfOk result (λ v. view v ≡ release_data node.now cidr) }
 {
     let cidr = cidr_value(alloc, cidr)?;
-    let node = node.as_str();
-    let inner = json!(in alloc; {"cidr": cidr, "node": node})?;
+    let node = Value::try_from_str(alloc, node.as_str())?;
+    let inner = two_members(alloc, "cidr", cidr, "node", node)?;
     tagged(alloc, "release", inner)
 }
 
@@ -216,8 +216,8 @@ fn pool_value(alloc: Global, pool: &Pool) -> Result<Value, AllocError>
 fn disable_value(alloc: Global, name: &Text, disabled: bool) -> Result<Value, AllocError>
     ensures { IfOk result (λ v. view v ≡ disable_data name.now disabled) }
 {
-    let name = name.as_str();
-    let inner = json!(in alloc; {"disabled": disabled, "name": name})?;
+    let name = Value::try_from_str(alloc, name.as_str())?;
+    let inner = two_members(alloc, "disabled", Value::Bool(disabled), "name", name)?;
     tagged(alloc, "disable", inner)
 }
 
@@ -225,16 +225,16 @@ fn reserve_value(alloc: Global, reservation: &Reservation) -> Result<Value, Allo
     ensures { IfOk result (λ v. view v ≡ reserve_data reservation.now) }
 {
     let cidrs = cidrs_value(alloc, reservation.cidrs())?;
-    let name = reservation.name();
-    let inner = json!(in alloc; {"cidrs": cidrs, "name": name})?;
+    let name = Value::try_from_str(alloc, reservation.name())?;
+    let inner = two_members(alloc, "cidrs", cidrs, "name", name)?;
     tagged(alloc, "reserve", inner)
 }
 
 fn unreserve_value(alloc: Global, name: &Text) -> Result<Value, AllocError>
     ensures { IfOk result (λ v. view v ≡ unreserve_data name.now) }
 {
-    let name = name.as_str();
-    let inner = json!(in alloc; {"name": name})?;
+    let name = Value::try_from_str(alloc, name.as_str())?;
+    let inner = tagged(alloc, "name", name)?;
     tagged(alloc, "unreserve", inner)
 }
 

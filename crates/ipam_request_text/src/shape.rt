@@ -1,5 +1,5 @@
 //! Which members each object of a request may have.
-ghost use Rattle.std.specs.Prelude.{◌≡◌};
+ghost use Rattle.std.specs.Prelude.{◌≡◌, ◌||◌, bytes_eq};
 ghost use Rattle.serde_json.specs.View.{members_view};
 ghost use Rattle.ipam_request_text.specs.Shapes.{in_probe, in_add, in_collect, in_pool, in_config, may_have, are_known, change_named, shape_named};
 
@@ -93,55 +93,60 @@ fn may_have(shape: Shape, name: &str) -> bool
     match shape {
         Shape::Add => in_add(name),
         Shape::Del => name == "handle",
-        Shape::Check => name == "addresses" || name == "handle",
-        Shape::Release => name == "cidr" || name == "node",
+        Shape::Check => is_either(name, "addresses", "handle"),
+        Shape::Release => is_either(name, "cidr", "node"),
         Shape::Collect => in_collect(name),
         Shape::Probe => in_probe(name),
         Shape::Pool => in_pool(name),
-        Shape::Disable => name == "disabled" || name == "name",
-        Shape::Reserve => name == "cidrs" || name == "name",
+        Shape::Disable => is_either(name, "disabled", "name"),
+        Shape::Reserve => is_either(name, "cidrs", "name"),
         Shape::Unreserve => name == "name",
         Shape::Config => in_config(name),
-        Shape::Scope => name == "network" || name == "node",
+        Shape::Scope => is_either(name, "network", "node"),
     }
+}
+
+fn is_either(name: &str, one: &str, other: &str) -> bool
+    ensures { result ≡ (bytes_eq name.now one.now || bytes_eq name.now other.now) }
+{
+    name == one || name == other
 }
 
 fn in_probe(name: &str) -> bool
     ensures { result ≡ in_probe name.now }
 {
-    name == "ipv4"
-        || name == "ipv6"
-        || name == "labels"
-        || name == "node"
-        || name == "pools4"
-        || name == "pools6"
+    matches!(
+        name,
+        "ipv4" | "ipv6" | "labels" | "node" | "pools4" | "pools6"
+    )
 }
 
 fn in_add(name: &str) -> bool
     ensures { result ≡ in_add name.now }
 {
-    in_probe(name) || name == "address" || name == "handle" || name == "secondary"
+    in_probe(name) || matches!(name, "address" | "handle" | "secondary")
 }
 
 fn in_collect(name: &str) -> bool
     ensures { result ≡ in_collect name.now }
 {
-    name == "at" || name == "grace" || name == "live" || name == "scope"
+    matches!(name, "at" | "grace" | "live" | "scope")
 }
 
 fn in_pool(name: &str) -> bool
     ensures { result ≡ in_pool name.now }
 {
-    name == "cidr"
-        || name == "disabled"
-        || name == "mode"
-        || name == "name"
-        || name == "selector"
-        || name == "size"
+    matches!(
+        name,
+        "cidr" | "disabled" | "mode" | "name" | "selector" | "size"
+    )
 }
 
 fn in_config(name: &str) -> bool
     ensures { result ≡ in_config name.now }
 {
-    name == "autoAllocateBlocks" || name == "maxBlocksPerHost" || name == "strictAffinity"
+    matches!(
+        name,
+        "autoAllocateBlocks" | "maxBlocksPerHost" | "strictAffinity"
+    )
 }

@@ -14,3 +14,4 @@ pub mod Routing
 pub mod Outcomes
 pub mod Settled
 pub mod Sessions
+pub mod Reading

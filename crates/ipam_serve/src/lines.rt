@@ -1,5 +1,5 @@
 //! A line is answered.
-ghost use Rattle.std.specs.Prelude.{◌≡◌, ℕ, Option, Some, None, Err, true, IfOk, OnOk, OnErr, IsTrue, option_map};
+ghost use Rattle.std.specs.Prelude.{◌≡◌, ℕ, Option, Some, None, Err, IfOk, OnOk, OnErr, IsTrue, option_map};
 ghost use Rattle.std.specs.List.{All};
 ghost use Rattle.ipam_io.specs.Readings.{prepend_known_readings};
 ghost use Rattle.ipam_records.specs.Sound.{IsHandleId};
@@ -12,7 +12,6 @@ ghost use Rattle.ipam_serve.specs.Spans.{IsTimeless};
 ghost use Rattle.ipam_session.specs.declared.wish.Wish.TheVariants as wish;
 ghost use Rattle.ipam_shared.specs.Passes.{runs_in};
 ghost use Rattle.ipam_serve.specs.Faults.{Halts, OnWorn};
-ghost use Rattle.ipam_serve.specs.Gains.{is_waiting};
 ghost use Rattle.ipam_serve.specs.Keeping.{MakesCalls};
 ghost use Rattle.ipam_serve.specs.Lines.{BreaksOff, Replies, WearsOut, asked_by, is_collect, clock_reading, reply_fed, reply_ran, server_at, timed};
 ghost use Rattle.ipam_serve.specs.Outcomes.{Comes, ComesOfCall};
@@ -147,7 +146,7 @@ fn answer_wish<R: Wait, D: Keeper, G: SessionGate, C: Clock, P: Patience>(
         Wish::Stop => answer_stop(rt, shared, pass),
         Wish::Routes => answer_routes(rt, shared, pass),
         Wish::RoutesSince(revision) => answer_since(rt, shared, pass, revision),
-        Wish::Rows(kind, after) => answer_rows(rt, alloc, shared, pass, kind, after),
+        Wish::Rows(kind, after) => answer_page(rt, alloc, shared, pass, kind, &after),
         Wish::Usage => answer_usage(rt, alloc, shared, pass),
         Wish::Opened => answer_opened(alloc, opening),
     }
@@ -254,32 +253,9 @@ fn answer_feed<R: Wait, D: Keeper, G: SessionGate, C: Clock, P: Patience>(
     ensures stops { Halts result (G.stops gate.old) (G.stops gate.new) }
     ensures lines { G.lines gate.new ≡ G.lines gate.old }
 {
-    if pass.running() {
-        return feed_waiting(rt, alloc, shared, pass, gate, clock, patience, live);
+    if !pass.running() {
+        return Ok(Reply::Refused(Refusal::NotWaiting));
     }
-    Ok(Reply::Refused(Refusal::NotWaiting))
-}
-
-/// A second list of the collection that waits.
-fn feed_waiting<R: Wait, D: Keeper, G: SessionGate, C: Clock, P: Patience>(
-    rt: &R,
-    alloc: Global,
-    shared: &Shared<D>,
-    pass: &mut Pass,
-    gate: &mut G,
-    clock: &mut C,
-    patience: &mut P,
-    live: &[Text],
-) -> Result<Reply, Broken>
-    requires lock { pass.old.lock ≡ shared.now }
-    requires waits { is_waiting (runs_in pass.old) ≡ true }
-    requires sound { All IsHandleId live.now }
-    ensures comes { Comes D.rows D.given D.faults (Some (wish.Feed live.now)) result
-        (server_at pass.old (G.turns gate.old) (C.ahead clock.old))
-        (server_at pass.new (G.turns gate.new) (C.ahead clock.new)) }
-    ensures stops { Halts result (G.stops gate.old) (G.stops gate.new) }
-    ensures lines { G.lines gate.new ≡ G.lines gate.old }
-{
     let at = clock.now();
     match run_feed(rt, alloc, shared, pass, gate, patience, live, at) {
         Ok(told) => Ok(reply_fed(told)),
@@ -300,25 +276,9 @@ fn answer_stop<R: Wait, D: Keeper>(
         (server_at pass.new turns ahead) }
     ensures stops { (count : ℕ) → Halts result count count }
 {
-    if pass.running() {
-        return stop_waiting(rt, shared, pass);
+    if !pass.running() {
+        return Ok(Reply::Refused(Refusal::NotWaiting));
     }
-    Ok(Reply::Refused(Refusal::NotWaiting))
-}
-
-/// A stop of the collection that waits.
-fn stop_waiting<R: Wait, D: Keeper>(
-    rt: &R,
-    shared: &Shared<D>,
-    pass: &mut Pass,
-) -> Result<Reply, Broken>
-    requires lock { pass.old.lock ≡ shared.now }
-    requires waits { is_waiting (runs_in pass.old) ≡ true }
-    ensures comes { (turns : Option ℕ) (ahead : Option (ℕ → ℕ)) → Comes D.rows D.given D.faults (Some wish.Stop) result
-        (server_at pass.old turns ahead)
-        (server_at pass.new turns ahead) }
-    ensures stops { (count : ℕ) → Halts result count count }
-{
     match stop(rt, shared, pass) {
         Ok(()) => Ok(Reply::Stopped),
         Err(broken) => Err(broken),
@@ -365,24 +325,6 @@ fn answer_since<R: Wait, D: Keeper>(
 }
 
 /// A page of rows.
-fn answer_rows<R: Wait, D: Keeper>(
-    rt: &R,
-    alloc: Global,
-    shared: &Shared<D>,
-    pass: &mut Pass,
-    kind: RowKind,
-    after: Option<Key>,
-) -> Result<Reply, Broken>
-    requires lock { pass.old.lock ≡ shared.now }
-    requires rests { IsAtRest (runs_in pass.old) }
-    ensures comes { (turns : Option ℕ) (ahead : Option (ℕ → ℕ)) → Comes D.rows D.given D.faults (Some (wish.Rows kind after)) result
-        (server_at pass.old turns ahead)
-        (server_at pass.new turns ahead) }
-    ensures stops { (count : ℕ) → Halts result count count }
-{
-    answer_page(rt, alloc, shared, pass, kind, &after)
-}
-
 fn answer_page<R: Wait, D: Keeper>(
     rt: &R,
     alloc: Global,

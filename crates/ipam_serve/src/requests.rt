@@ -3,9 +3,8 @@ ghost use Rattle.std.specs.Prelude.{◌≡◌, ◌⊎◌, Some, None, true, IsSo
 ghost use Rattle.std.specs.List.{All};
 ghost use Rattle.ipam_records.specs.Sound.{IsHandleId};
 ghost use Rattle.ipam_model.specs.declared.request.Request.{Request as Asked};
-ghost use Rattle.ipam_model.specs.declared.request.Request.TheVariants.{Collect};
 ghost use Rattle.ipam_model.specs.CanAnswer.{CanAnswer};
-ghost use Rattle.ipam_model.specs.SoundRequest.{IsSoundCollect, IsSoundRequest};
+ghost use Rattle.ipam_model.specs.SoundRequest.{IsSoundRequest};
 ghost use Rattle.ipam_shared.specs.Passes.{runs_in};
 ghost use Rattle.ipam_serve.specs.Faults.{Halts, IfAnswered, IsWorn, OnWaits, OnWorn, answer_ran, found_of, spared_by};
 ghost use Rattle.ipam_serve.specs.Gains.{request_running, is_early, is_waiting};
@@ -13,7 +12,7 @@ ghost use Rattle.ipam_serve.specs.Keeping.{MakesCalls};
 ghost use Rattle.ipam_serve.specs.Lines.{IsUnanswered};
 ghost use Rattle.ipam_serve.specs.Going.{FeedsOwn, GoesOnTo, GoesToAnswer, Steps};
 ghost use Rattle.ipam_serve.specs.Runs.{DoesDeed, DoesPart, FeedsList};
-ghost use Rattle.ipam_serve.specs.Spans.{Begins, Calls, Feeds, IsTimeless, list_deed, own_feed, waits_of};
+ghost use Rattle.ipam_serve.specs.Spans.{Begins, Calls, IsTimeless, list_deed, own_feed, waits_of};
 
 use crate::gates::SessionGate;
 use crate::losses::Losses;
@@ -21,7 +20,7 @@ use crate::patience::Patience;
 use crate::ran::{Broken, Ran};
 use crate::turns::{Feeding, begin, call, feed};
 use ipam_io::{Passed, Point};
-use ipam_model::{Answer, CollectRequest, Request};
+use ipam_model::{Answer, Request};
 use ipam_shared::{Keeper, Pass, Shared};
 use ipam_text::Text;
 use std::alloc::Global;
@@ -259,32 +258,9 @@ fn feed_own<R: Wait, D: Keeper, G: SessionGate, P: Patience>(
     ensures stops { Halts result (G.stops gate.old) (G.stops gate.new) }
     ensures lines { G.lines gate.new ≡ G.lines gate.old }
 {
-    match request {
-        Request::Collect(asked) => feed_first(rt, alloc, shared, pass, gate, patience, asked),
-        _ => Err(Broken::Memory),
-    }
-}
-
-fn feed_first<R: Wait, D: Keeper, G: SessionGate, P: Patience>(
-    rt: &R,
-    alloc: Global,
-    shared: &Shared<D>,
-    pass: &mut Pass,
-    gate: &mut G,
-    patience: &mut P,
-    asked: &CollectRequest,
-) -> Result<Answer, Broken>
-    requires lock { pass.old.lock ≡ shared.now }
-    requires waits { is_waiting (runs_in pass.old) ≡ true }
-    requires asked { request_running (runs_in pass.old) ≡ Some (Collect asked.now) }
-    requires sound { IsSoundCollect asked.now }
-    requires timeless { IsTimeless (Collect asked.now) }
-    ensures fed { FeedsOwn D.rows D.given D.faults (Feeds asked.now.live 0) (Collect asked.now) result
-        (record { pass = pass.old; turns = G.turns gate.old })
-        (record { pass = pass.new; turns = G.turns gate.new }) }
-    ensures stops { Halts result (G.stops gate.old) (G.stops gate.new) }
-    ensures lines { G.lines gate.new ≡ G.lines gate.old }
-{
+    let Request::Collect(asked) = request else {
+        return Err(Broken::Memory);
+    };
     let live = asked.live.as_slice();
     match run_feed(rt, alloc, shared, pass, gate, patience, live, 0) {
         Ok(Some(answer)) => Ok(answer),

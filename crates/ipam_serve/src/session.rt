@@ -1,5 +1,5 @@
 //! A session, line by line up to its end.
-ghost use Rattle.std.specs.Prelude.{◌≡◌, ◌⊎◌, ◌<◌, ℕ, List, Option, None, IsSome, IfOk, IfErr, OnOk, OnErr, false, option_map};
+ghost use Rattle.std.specs.Prelude.{◌≡◌, ◌⊎◌, ◌<◌, ℕ, List, Option, None, IfOk, IfErr, OnOk, OnErr, false, option_map};
 ghost use Rattle.std.specs.Io.KnownBytes.{append_known, prepend_known};
 ghost use Rattle.ipam_io.specs.Counts.{next_count};
 ghost use Rattle.ipam_io.specs.Streams.{AppendsPrefix};
@@ -11,7 +11,7 @@ ghost use Rattle.ipam_serve.specs.Keeping.{at_keeper};
 ghost use Rattle.ipam_serve.specs.Runs.{IsAtRest};
 ghost use Rattle.ipam_shared.specs.Settling.{IsSure, WasSettled};
 ghost use Rattle.ipam_serve.specs.Gains.{Settles};
-ghost use Rattle.ipam_serve.specs.Sessions.{Ends, EndsReply, Exchange, Exchanges, IsCause, IsStopped, Nothing, ReadsLine, RoseAt, RoseIf, Serves, Session, StopsLast, end_of, is_halted, is_read_fault, is_write_fault, talk_at};
+ghost use Rattle.ipam_serve.specs.Sessions.{Ends, EndsReply, Exchange, Exchanges, IsCause, Nothing, ReadsLine, RoseAt, RoseIf, Serves, Session, StopsLast, end_of, is_halted, is_read_fault, is_write_fault, talk_at};
 
 use crate::ends::SessionEnd;
 use crate::gates::SessionGate;
@@ -253,18 +253,9 @@ fn stop_last<R: Wait, D: Keeper>(rt: &R, shared: &Shared<D>, pass: &mut Pass)
     ensures stopped { StopsLast pass.old pass.new }
     ensures idle { runs_in pass.new ≡ None }
 {
-    if pass.running() {
-        stop_running(rt, shared, pass);
+    if !pass.running() {
+        return;
     }
-}
-
-fn stop_running<R: Wait, D: Keeper>(rt: &R, shared: &Shared<D>, pass: &mut Pass)
-    requires lock { pass.old.lock ≡ shared.now }
-    requires runs { IsSome (runs_in pass.old) }
-    requires left { 0 < pass.old.left }
-    ensures stopped { IsStopped pass.old pass.new }
-    ensures idle { runs_in pass.new ≡ None }
-{
     match shared.stop(rt, pass) {
         Ok(entry) => drop(entry),
         Err(SpentPass) => unreachable!(),

@@ -1,22 +1,25 @@
 //! Replies are written.
-ghost use Rattle.std.specs.Prelude.{◌≡◌, ◌++◌, [], ◌∷◌, map, codes, IfOk, OnOk, OnErr, string_bytes};
-ghost use Rattle.serde_json.specs.View.{view};
-ghost use Rattle.ipam_json.specs.Built.{object_of, array_of};
+ghost use Rattle.std.specs.Prelude.{◌≡◌, ◌++◌, [], map, codes, IfOk, OnOk, OnErr, string_bytes};
+ghost use Rattle.serde_json.specs.Data.{put, string};
+ghost use Rattle.serde_json.specs.View.{members_view, view};
+ghost use Rattle.ipam_addr.specs.Text.{cidr_text_of};
+ghost use Rattle.ipam_json.specs.Built.{array_of, members_from};
 ghost use Rattle.ipam_records.specs.Key.{key_of};
 ghost use Rattle.ipam_records.specs.KeyText.{key_bytes};
-ghost use Rattle.ipam_session.specs.Replies.{call_reply_data, call_text, route_data, route_change_data, routes_data, changes_data, since_data, row_data, page_data, pool_usage_data, usage_data, reply_data, reply_line};
+ghost use Rattle.ipam_session.specs.Replies.{call_reply_data, call_text, route_data, route_change_data, routes_data, changes_data, since_data, row_data, page_data, pool_usage_data, usage_data, reply_data, reply_line, with_more};
 
 use crate::page::Page;
 use crate::refusal::Refusal;
 use crate::route::Since;
+use ipam_addr::Cidr;
 use ipam_answer_text::{answer_value, cidr_string};
 use ipam_feed::{Change, Route};
-use ipam_json::tagged;
+use ipam_json::{tagged, two_members};
 use ipam_model::Answer;
 use ipam_records::{Record, key_text, to_text};
 use ipam_show::PoolUsage;
 use ipam_text::{Seq, Text};
-use serde_json::{Value, json};
+use serde_json::{Map, Value, put};
 use std::alloc::{AllocError, Global};
 
 /// What a line is replied.
@@ -92,7 +95,7 @@ fn reply_value(alloc: Global, reply: &Reply) -> Result<Value, AllocError>
 {
     match reply {
         Reply::Called(status, stdout) => call_value(alloc, *status, stdout.as_str()),
-        Reply::Answered(answer) => tagged(alloc, "answer", answer_value(alloc, answer)?),
+        Reply::Answered(answer) => answered_value(alloc, answer),
         Reply::Waiting => tagged(alloc, "waiting", Value::Bool(true)),
         Reply::Stopped => tagged(alloc, "stopped", Value::Bool(true)),
         Reply::Refused(why) => refused_value(alloc, *why),
@@ -108,7 +111,15 @@ fn reply_value(alloc: Global, reply: &Reply) -> Result<Value, AllocError>
 fn call_value(alloc: Global, status: u8, stdout: &str) -> Result<Value, AllocError>
     ensures { IfOk result (λ v. view v ≡ call_reply_data status stdout.now) }
 {
-    json!(in alloc; {"status": status, "stdout": stdout})
+    let stdout = Value::try_from_str(alloc, stdout)?;
+    two_members(alloc, "status", Value::from(status), "stdout", stdout)
+}
+
+fn answered_value(alloc: Global, answer: &Answer) -> Result<Value, AllocError>
+    ensures { IfOk result (λ v. view v ≡ reply_data (Reply.Answered answer.now)) }
+{
+    let value = answer_value(alloc, answer)?;
+    tagged(alloc, "answer", value)
 }
 
 fn refused_value(alloc: Global, why: Refusal) -> Result<Value, AllocError>
@@ -139,55 +150,84 @@ fn since_value(alloc: Global, since: &Since) -> Result<Value, AllocError>
 fn routes_value(alloc: Global, revision: u64, routes: &[Route]) -> Result<Value, AllocError>
     ensures { IfOk result (λ v. view v ≡ routes_data revision routes.now) }
 {
+    let list = routes_list(alloc, routes)?;
+    two_members(alloc, "revision", Value::from(revision), "routes", list)
+}
+
+fn routes_list(alloc: Global, routes: &[Route]) -> Result<Value, AllocError>
+    ensures { IfOk result (λ v. view v ≡ array_of (map route_data routes.now)) }
+{
     let mut list = Vec::new(alloc);
     for route in routes {
         list.push(route_value(alloc, route)?)?;
     }
-    let routes = Value::Array(list);
-    json!(in alloc; {"revision": revision, "routes": routes})
+    Ok(Value::Array(list))
 }
 
 #[tactic(auto, unfolding(crate::specs::Replies::changes_data))]
 fn changes_value(alloc: Global, revision: u64, changes: &[Change]) -> Result<Value, AllocError>
     ensures { IfOk result (λ v. view v ≡ changes_data revision changes.now) }
 {
+    let list = changes_list(alloc, changes)?;
+    two_members(alloc, "changes", list, "revision", Value::from(revision))
+}
+
+fn changes_list(alloc: Global, changes: &[Change]) -> Result<Value, AllocError>
+    ensures { IfOk result (λ v. view v ≡ array_of (map route_change_data changes.now)) }
+{
     let mut list = Vec::new(alloc);
     for change in changes {
         list.push(change_value(alloc, change)?)?;
     }
-    let changes = Value::Array(list);
-    json!(in alloc; {"changes": changes, "revision": revision})
+    Ok(Value::Array(list))
 }
 
 #[tactic(auto, unfolding(crate::specs::Replies::route_data))]
 fn route_value(alloc: Global, route: &Route) -> Result<Value, AllocError>
     ensures { IfOk result (λ v. view v ≡ route_data route.now) }
 {
-    let cidr = cidr_string(alloc, route.cidr)?;
-    let node = route.node.as_str();
-    json!(in alloc; {"cidr": cidr, "node": node})
+    let cidr = cidr_value(alloc, route.cidr)?;
+    let node = Value::try_from_str(alloc, route.node.as_str())?;
+    two_members(alloc, "cidr", cidr, "node", node)
 }
 
 #[tactic(auto, unfolding(crate::specs::Replies::route_change_data))]
 fn change_value(alloc: Global, change: &Change) -> Result<Value, AllocError>
     ensures { IfOk result (λ v. view v ≡ route_change_data change.now) }
 {
-    let cidr = cidr_string(alloc, change.route.cidr)?;
-    let node = change.route.node.as_str();
-    json!(in alloc; {"cidr": cidr, "node": node, "revision": change.revision, "up": change.up})
+    let mut members = Map::new(alloc);
+    put_cidr(alloc, &mut members, change.route.cidr)?;
+    put_text(alloc, &mut members, "node", change.route.node.as_str())?;
+    put(
+        &mut members,
+        alloc,
+        "revision",
+        Value::from(change.revision),
+    )?;
+    put(&mut members, alloc, "up", Value::Bool(change.up))?;
+    Ok(Value::Object(members))
 }
 
 #[tactic(auto, unfolding(crate::specs::Replies::page_data))]
 fn page_value(alloc: Global, page: &Page) -> Result<Value, AllocError>
     ensures { IfOk result (λ v. view v ≡ page_data page.now) }
 {
+    let mut members = more_members(alloc, page.more)?;
+    put(&mut members, alloc, "revision", Value::from(page.revision))?;
     let rows = rows_value(alloc, page.rows.as_slice())?;
-    let revision = page.revision;
-    if page.more {
-        json!(in alloc; {"more": true, "revision": revision, "rows": rows})
-    } else {
-        json!(in alloc; {"revision": revision, "rows": rows})
+    put(&mut members, alloc, "rows", rows)?;
+    Ok(Value::Object(members))
+}
+
+/// The member that says that there are more rows, where there are.
+fn more_members(alloc: Global, more: bool) -> Result<Map<String, Value>, AllocError>
+    ensures { IfOk result (λ m. members_view m.entries ≡ members_from (with_more more [])) }
+{
+    let mut members = Map::new(alloc);
+    if more {
+        put(&mut members, alloc, "more", Value::Bool(true))?;
     }
+    Ok(members)
 }
 
 fn rows_value(alloc: Global, rows: &[(u64, Record)]) -> Result<Value, AllocError>
@@ -204,9 +244,13 @@ fn rows_value(alloc: Global, rows: &[(u64, Record)]) -> Result<Value, AllocError
 fn row_value(alloc: Global, revision: u64, found: &Record) -> Result<Value, AllocError>
     ensures { IfOk result (λ v. view v ≡ row_data (revision, found.now)) }
 {
+    let mut members = Map::new(alloc);
     let body = to_text(alloc, found)?;
+    put(&mut members, alloc, "body", Value::String(body))?;
     let key = key_string(alloc, found)?;
-    json!(in alloc; {"body": body, "key": key, "revision": revision})
+    put(&mut members, alloc, "key", Value::String(key))?;
+    put(&mut members, alloc, "revision", Value::from(revision))?;
+    Ok(Value::Object(members))
 }
 
 /// The text of the record's key.
@@ -221,29 +265,60 @@ fn key_string(alloc: Global, found: &Record) -> Result<String, AllocError>
 fn usage_value(alloc: Global, revision: u64, pools: &[PoolUsage]) -> Result<Value, AllocError>
     ensures { IfOk result (λ v. view v ≡ usage_data revision pools.now) }
 {
+    let list = pools_list(alloc, pools)?;
+    two_members(alloc, "pools", list, "revision", Value::from(revision))
+}
+
+fn pools_list(alloc: Global, pools: &[PoolUsage]) -> Result<Value, AllocError>
+    ensures { IfOk result (λ v. view v ≡ array_of (map pool_usage_data pools.now)) }
+{
     let mut list = Vec::new(alloc);
     for pool in pools {
         list.push(pool_value(alloc, pool)?)?;
     }
-    let pools = Value::Array(list);
-    json!(in alloc; {"pools": pools, "revision": revision})
+    Ok(Value::Array(list))
 }
 
 #[tactic(auto, unfolding(crate::specs::Replies::pool_usage_data))]
 fn pool_value(alloc: Global, pool: &PoolUsage) -> Result<Value, AllocError>
     ensures { IfOk result (λ v. view v ≡ pool_usage_data pool.now) }
 {
-    let addresses = pool.addresses.as_str();
-    let cidr = cidr_string(alloc, pool.cidr)?;
-    let name = pool.name.as_str();
-    json!(in alloc; {
-        "addresses": addresses,
-        "blocks": pool.blocks,
-        "cidr": cidr,
-        "disabled": pool.disabled,
-        "free": pool.free,
-        "name": name,
-        "reserved": pool.reserved,
-        "used": pool.used
-    })
+    let mut members = Map::new(alloc);
+    put_text(alloc, &mut members, "addresses", pool.addresses.as_str())?;
+    put(&mut members, alloc, "blocks", Value::from(pool.blocks))?;
+    put_cidr(alloc, &mut members, pool.cidr)?;
+    put(&mut members, alloc, "disabled", Value::Bool(pool.disabled))?;
+    put(&mut members, alloc, "free", Value::from(pool.free))?;
+    put_text(alloc, &mut members, "name", pool.name.as_str())?;
+    put(&mut members, alloc, "reserved", Value::from(pool.reserved))?;
+    put(&mut members, alloc, "used", Value::from(pool.used))?;
+    Ok(Value::Object(members))
+}
+
+/// Puts a member whose value is a text.
+fn put_text(
+    alloc: Global,
+    members: &mut Map<String, Value>,
+    name: &str,
+    text: &str,
+) -> Result<(), AllocError>
+    ensures { OnOk result (members_view members.new.entries
+        ≡ put name.now (string text.now) (members_view members.old.entries)) }
+{
+    let value = Value::try_from_str(alloc, text)?;
+    put(members, alloc, name, value)
+}
+
+fn put_cidr(alloc: Global, members: &mut Map<String, Value>, cidr: Cidr) -> Result<(), AllocError>
+    ensures { OnOk result (members_view members.new.entries
+        ≡ put (codes "cidr") (string (cidr_text_of cidr)) (members_view members.old.entries)) }
+{
+    let value = cidr_value(alloc, cidr)?;
+    put(members, alloc, "cidr", value)
+}
+
+fn cidr_value(alloc: Global, cidr: Cidr) -> Result<Value, AllocError>
+    ensures { IfOk result (λ v. view v ≡ string (cidr_text_of cidr)) }
+{
+    Ok(Value::String(cidr_string(alloc, cidr)?))
 }

@@ -1,7 +1,8 @@
 -- What is gathered, one item after the other.
-use Rattle.std.proofs.Common.{◌≡◌, ℕ, ◌+◌, ◌<◌, Option, Some, None, List, ◌++◌, length, get_or, drop, sym, ap, ◌∙◌, refl, add-one, drop-cons, append_assoc, option_to_list}
+use Rattle.std.proofs.Common.{◌≡◌, ℕ, ◌+◌, ◌<◌, Option, Some, None, List, [], ◌∷◌, ◌++◌, length, get_or, drop, take, map, sym, ap, ◌∙◌, refl, add-one, drop-cons, append_assoc, option_to_list}
 use Rattle.std.specs.List.{filter_map, cons_option}
 use Rattle.std.specs.Global.{Vec}
+use Rattle.std.proofs.lemmas.List.{map_more}
 use Rattle.ipam_records.specs.declared.record.Record.{Record}
 use Rattle.ipam_records.specs.Pages.{rows_of_pages}
 use Rattle.ipam_records.proofs.PageLemmas.{rows_of_pages-drop}
@@ -27,3 +28,14 @@ step_page {Y} g splits pages i page e h found more all so_far is =
     let rest = rows_of_pages (drop (i + 1) pages) in
     let split : g (rows_of_pages (drop i pages)) ≡ g page.items ++ g rest = ap g (rows_of_pages-drop pages i page e h) ∙ splits page.items rest in
     ap (λ ys. ys ++ g rest) is ∙ (append_assoc {A = Y} found (g page.items) (g rest) ∙ (sym (ap (λ ys. found ++ ys) split) ∙ so_far))
+
+module _ {X Y : Type 0} where
+  -- one for each item, behind those in front
+  pub step_map : (f : X → Y) (front : List Y) (xs : List X) (i : ℕ) (x : X) (y : Y) (found more : List Y) → x ≡ get_or xs i x → i < length xs → y ≡ f x → more ≡ found ++ y ∷ [] → found ≡ front ++ map f (take i xs) → more ≡ front ++ map f (take (i + 1) xs)
+  step_map f front xs i x y found more at within is pushed so_far =
+      let before = map f (take i xs) in
+      pushed
+      ∙ ap (λ ys. ys ++ y ∷ []) so_far
+      ∙ append_assoc front before (y ∷ [])
+      ∙ ap (λ z. front ++ (before ++ z ∷ [])) (is ∙ ap f at)
+      ∙ ap (λ ys. front ++ ys) (sym (map_more f xs i x within))

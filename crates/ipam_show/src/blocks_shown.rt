@@ -4,7 +4,7 @@ ghost use Rattle.ipam_records.specs.Datastore.{most_blocks};
 ghost use Rattle.ipam_show.specs.Blocks.{block_head, block_row, block_rows, blocks_text, borrowed_word, block_state, used_word};
 ghost use Rattle.ipam_show.specs.Kept.{blocks_kept};
 
-use crate::cells::{cidr_cell, node_cell, number_cell, state_cell};
+use crate::cells::{cidr_cell, node_cell, number_cell, state_cell, words_row};
 use crate::counting::{BlockCount, counts_kept};
 use crate::keeping::state_kept;
 use crate::tables::table_text;
@@ -46,13 +46,7 @@ fn block_rows(
 fn block_head(alloc: Global) -> Result<Seq<Text>, AllocError>
     ensures { IfOk result (λ row. row ≡ block_head) }
 {
-    let cidr = Text::copied(alloc, "BLOCK")?;
-    let node = Text::copied(alloc, "NODE")?;
-    let state = Text::copied(alloc, "STATE")?;
-    let used = Text::copied(alloc, "USED")?;
-    let borrowed = Text::copied(alloc, "BORROWED")?;
-    let cells = vec![in alloc; cidr, node, state, used, borrowed]?;
-    Ok(Seq::of(cells))
+    words_row(alloc, &["BLOCK", "NODE", "STATE", "USED", "BORROWED"])
 }
 
 fn block_row(alloc: Global, store: &Store, count: &BlockCount) -> Result<Seq<Text>, AllocError>

@@ -1,14 +1,25 @@
 //! The texts of cells.
-ghost use Rattle.std.specs.Prelude.{◌≡◌, ◌++◌, ◌*◌, ◌/◌, ◌^◌, codes, decimal, IfOk, IfSome, IsNone};
+ghost use Rattle.std.specs.Prelude.{◌≡◌, ◌++◌, ◌*◌, ◌/◌, ◌^◌, codes, decimal, map, IfOk, IfSome, IsNone};
 ghost use Rattle.ipam_addr.specs.Text.{cidr_text_of};
 ghost use Rattle.ipam_addr.specs.Width.{cidr_size};
 ghost use Rattle.ipam_show.specs.Words.{node_word, percent_of, percent_text, state_word};
 
 use ipam_addr::{Cidr, push_cidr};
 use ipam_block::State;
-use ipam_text::Text;
+use ipam_text::{Seq, Text};
 use itoa::Buffer;
 use std::alloc::{AllocError, Global};
+
+/// The row of these words.
+pub(crate) fn words_row(alloc: Global, words: &[&str]) -> Result<Seq<Text>, AllocError>
+    ensures { IfOk result (λ row. row ≡ map (λ word. word.now) words.now) }
+{
+    let mut cells = Vec::new(alloc);
+    for word in words {
+        cells.push(Text::copied(alloc, word)?)?;
+    }
+    Ok(Seq::of(cells))
+}
 
 /// The number in decimal.
 pub(crate) fn number_cell(alloc: Global, number: u64) -> Result<Text, AllocError>

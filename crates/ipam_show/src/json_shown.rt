@@ -1,8 +1,11 @@
 //! `show --json`: the pools are shown to a program.
-ghost use Rattle.std.specs.Prelude.{◌≡◌, ◌<◌, ◌≤◌, ◌^◌, length, map, IfOk, string_bytes};
-ghost use Rattle.serde_json.specs.View.{view};
+ghost use Rattle.std.specs.Prelude.{◌≡◌, ◌<◌, ◌≤◌, ◌^◌, codes, decimal, length, map, IfOk, OnOk, string_bytes};
+ghost use Rattle.serde_json.specs.Data.{no_members, put, string};
+ghost use Rattle.serde_json.specs.View.{members_view, view};
 ghost use Rattle.serde_json.specs.Written.{compact_text};
-ghost use Rattle.ipam_json.specs.Built.{array_of};
+ghost use Rattle.ipam_addr.specs.Text.{cidr_text_of};
+ghost use Rattle.ipam_addr.specs.Width.{cidr_size};
+ghost use Rattle.ipam_json.specs.Built.{array_of, whole_data};
 ghost use Rattle.ipam_records.specs.Datastore.{most_blocks};
 ghost use Rattle.ipam_show.specs.Kept.{blocks_kept};
 ghost use Rattle.ipam_show.specs.Json.{json_text, pool_shown_data, pools_shown_data};
@@ -13,7 +16,8 @@ use crate::keeping::pools_kept;
 use crate::sums::{Scope, block_sum, free_sum, used_sum};
 use ipam_pool::Pool;
 use ipam_store::Store;
-use serde_json::{Value, json};
+use ipam_text::Text;
+use serde_json::{Map, Value, put};
 use std::alloc::{AllocError, Global};
 
 /// The pools and what they come to as one JSON object, on a line of its own.
@@ -41,11 +45,19 @@ fn pools_value(alloc: Global, counts: &[BlockCount], pools: &[Pool]) -> Result<V
     requires { length counts.now < 2 ^ 32 }
     ensures { IfOk result (λ json. view json ≡ pools_shown_data counts.now pools.now) }
 {
+    let scope = Scope::All;
+    let mut members = Map::new(alloc);
+    put_number(alloc, &mut members, "blocks", block_sum(&scope, counts))?;
+    put_number(
+        alloc,
+        &mut members,
+        "freeInBlocks",
+        free_sum(&scope, counts),
+    )?;
     let list = list_value(alloc, counts, pools)?;
-    let blocks = block_sum(&Scope::All, counts);
-    let free = free_sum(&Scope::All, counts);
-    let used = used_sum(&Scope::All, counts);
-    json!(in alloc; {"blocks": blocks, "freeInBlocks": free, "pools": list, "used": used})
+    put(&mut members, alloc, "pools", list)?;
+    put_number(alloc, &mut members, "used", used_sum(&scope, counts))?;
+    Ok(Value::Object(members))
 }
 
 fn list_value(alloc: Global, counts: &[BlockCount], pools: &[Pool]) -> Result<Value, AllocError>
@@ -65,20 +77,72 @@ fn pool_value(alloc: Global, counts: &[BlockCount], pool: &Pool) -> Result<Value
     ensures { IfOk result (λ json. view json ≡ pool_shown_data counts.now pool.now) }
 {
     let scope = Scope::Pool(pool.cidr);
-    let addresses = addresses_cell(alloc, pool.cidr)?;
-    let addresses = addresses.as_str();
-    let blocks = block_sum(&scope, counts);
-    let cidr = cidr_cell(alloc, pool.cidr)?;
-    let cidr = cidr.as_str();
-    let free = free_sum(&scope, counts);
-    let name = pool.name.as_str();
-    let used = used_sum(&scope, counts);
-    json!(in alloc; {
-        "addresses": addresses,
-        "blocks": blocks,
-        "cidr": cidr,
-        "freeInBlocks": free,
-        "name": name,
-        "used": used
-    })
+    let mut members = pool_members(alloc, pool)?;
+    put_number(alloc, &mut members, "blocks", block_sum(&scope, counts))?;
+    put_number(
+        alloc,
+        &mut members,
+        "freeInBlocks",
+        free_sum(&scope, counts),
+    )?;
+    put_number(alloc, &mut members, "used", used_sum(&scope, counts))?;
+    Ok(Value::Object(members))
+}
+
+/// The members that do not depend on the blocks.
+fn pool_members(alloc: Global, pool: &Pool) -> Result<Map<String, Value>, AllocError>
+    ensures { IfOk result (λ m. members_view m.entries
+        ≡ put (codes "name") (string pool.now.name) (put (codes "cidr") (string (cidr_text_of pool.now.cidr))
+        (put (codes "addresses") (string (decimal (cidr_size pool.now.cidr))) no_members))) }
+{
+    let mut members = Map::new(alloc);
+    put_cell(
+        alloc,
+        &mut members,
+        "addresses",
+        addresses_cell(alloc, pool.cidr)?,
+    )?;
+    put_cell(alloc, &mut members, "cidr", cidr_cell(alloc, pool.cidr)?)?;
+    put_text(alloc, &mut members, "name", pool.name.as_str())?;
+    Ok(members)
+}
+
+/// Puts a member whose value is a number.
+fn put_number(
+    alloc: Global,
+    members: &mut Map<String, Value>,
+    name: &str,
+    number: u64,
+) -> Result<(), AllocError>
+    ensures { OnOk result (members_view members.new.entries
+        ≡ put name.now (whole_data number) (members_view members.old.entries)) }
+{
+    put(members, alloc, name, Value::from(number))
+}
+
+/// Puts a member whose value is a text.
+fn put_text(
+    alloc: Global,
+    members: &mut Map<String, Value>,
+    name: &str,
+    text: &str,
+) -> Result<(), AllocError>
+    ensures { OnOk result (members_view members.new.entries
+        ≡ put name.now (string text.now) (members_view members.old.entries)) }
+{
+    let value = Value::try_from_str(alloc, text)?;
+    put(members, alloc, name, value)
+}
+
+/// Puts a member whose value is the text of a cell.
+fn put_cell(
+    alloc: Global,
+    members: &mut Map<String, Value>,
+    name: &str,
+    cell: Text,
+) -> Result<(), AllocError>
+    ensures { OnOk result (members_view members.new.entries
+        ≡ put name.now (string cell) (members_view members.old.entries)) }
+{
+    put_text(alloc, members, name, cell.as_str())
 }

@@ -5,7 +5,7 @@ ghost use Rattle.ipam_show.specs.Kept.{blocks_kept};
 ghost use Rattle.ipam_show.specs.Scopes.{is_within};
 ghost use Rattle.ipam_show.specs.Node.{node_head, node_row, node_rows, node_table, node_text, node_total};
 
-use crate::cells::{cidr_cell, number_cell};
+use crate::cells::{cidr_cell, number_cell, words_row};
 use crate::counting::{BlockCount, counts_kept};
 use crate::sums::{Scope, is_within, used_sum};
 use crate::tables::table_text;
@@ -62,11 +62,7 @@ fn add_node_rows(
 fn node_head(alloc: Global) -> Result<Seq<Text>, AllocError>
     ensures { IfOk result (λ row. row ≡ node_head) }
 {
-    let cidr = Text::copied(alloc, "BLOCK")?;
-    let size = Text::copied(alloc, "ADDRESSES")?;
-    let used = Text::copied(alloc, "USED")?;
-    let cells = vec![in alloc; cidr, size, used]?;
-    Ok(Seq::of(cells))
+    words_row(alloc, &["BLOCK", "ADDRESSES", "USED"])
 }
 
 fn node_row(alloc: Global, count: &BlockCount) -> Result<Seq<Text>, AllocError>

@@ -4,7 +4,7 @@ ghost use Rattle.ipam_records.specs.Datastore.{most_blocks};
 ghost use Rattle.ipam_show.specs.Kept.{blocks_kept};
 ghost use Rattle.ipam_show.specs.Pools.{pool_head, pool_row, pool_rows, pools_text, pools_total};
 
-use crate::cells::{addresses_cell, cidr_cell, number_cell, percent_cell};
+use crate::cells::{addresses_cell, cidr_cell, number_cell, percent_cell, words_row};
 use crate::counting::{BlockCount, counts_kept};
 use crate::keeping::pools_kept;
 use crate::sums::{Scope, block_sum, free_sum, used_sum};
@@ -49,15 +49,18 @@ fn pool_rows(
 fn pool_head(alloc: Global) -> Result<Seq<Text>, AllocError>
     ensures { IfOk result (λ row. row ≡ pool_head) }
 {
-    let cidr = Text::copied(alloc, "CIDR")?;
-    let name = Text::copied(alloc, "NAME")?;
-    let addresses = Text::copied(alloc, "ADDRESSES")?;
-    let used = Text::copied(alloc, "USED")?;
-    let free = Text::copied(alloc, "FREE IN BLOCKS")?;
-    let percent = Text::copied(alloc, "PERCENT USED")?;
-    let blocks = Text::copied(alloc, "BLOCKS")?;
-    let cells = vec![in alloc; cidr, name, addresses, used, free, percent, blocks]?;
-    Ok(Seq::of(cells))
+    words_row(
+        alloc,
+        &[
+            "CIDR",
+            "NAME",
+            "ADDRESSES",
+            "USED",
+            "FREE IN BLOCKS",
+            "PERCENT USED",
+            "BLOCKS",
+        ],
+    )
 }
 
 #[tactic(auto, unfolding(crate::specs::Pools::pool_row))]

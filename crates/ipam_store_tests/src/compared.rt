@@ -81,17 +81,42 @@ fn has_lists(listing: &Listing, rows: &[(u64, Record)]) -> bool {
         && is_filter(listing.roomy(), rows, Which::Roomy)
 }
 
-/// Whether each block is found exactly where the plain store has it.
-fn has_found(listing: &Listing, plain: &PlainStore) -> bool {
-    for number in 0..BLOCKS {
-        let Ok(cidr) = network(number, 32) else {
-            return false;
-        };
-        if !is_same(listing.find(cidr), plain.find(cidr)) {
-            return false;
+/// Whether each block of the rows is found by its CIDR.
+fn finds(listing: &Listing, rows: &[(u64, Record)]) -> bool {
+    for row in rows {
+        if let Record::Block(block) = &row.1 {
+            if !is_same(listing.find(block.cidr()), Some(row)) {
+                return false;
+            }
         }
     }
     true
+}
+
+/// How many of the blocks that the calls name are found.
+fn found(listing: &Listing) -> usize {
+    let mut count = 0usize;
+    for number in 0..BLOCKS {
+        if let Ok(cidr) = network(number, 32) {
+            if listing.find(cidr).is_some() {
+                count = count.wrapping_add(1);
+            }
+        }
+    }
+    count
+}
+
+/// How many of the rows are of a block of one address, as those that the calls name are.
+fn blocks_of_one(rows: &[(u64, Record)]) -> usize {
+    let mut count = 0usize;
+    for row in rows {
+        if let Record::Block(block) = &row.1 {
+            if block.cidr().prefix() == 32 {
+                count = count.wrapping_add(1);
+            }
+        }
+    }
+    count
 }
 
 /// Whether both have the same rows, the same list of the kind, and the same blocks in its lists.
@@ -101,7 +126,8 @@ fn are_same(both: &Both, kind: Kind) -> bool {
             let rows = both.plain.list(kind);
             is_list(&listing, rows)
                 && has_lists(&listing, rows)
-                && has_found(&listing, &both.plain)
+                && finds(&listing, rows)
+                && found(&listing) == blocks_of_one(rows)
                 && has_rows(&both.store, &both.plain)
         }
         _ => false,

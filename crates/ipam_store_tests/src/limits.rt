@@ -59,12 +59,27 @@ fn handle(alloc: Global, id: usize) -> Result<Row, AllocError> {
     })
 }
 
-/// What comes of so many handles.
-pub(crate) fn handles_answer(alloc: Global, question: &str) -> Result<String, AllocError> {
-    let (count, counter) = numbers(question);
-    let mut rows = Vec::new(alloc);
-    for place in 0..count {
+/// Adds the handles that are missing to so many.
+fn add_handles(alloc: Global, rows: &mut Vec<Row>, count: usize) -> Result<(), AllocError> {
+    for place in rows.len()..count {
         rows.push(handle(alloc, place.wrapping_add(100_000))?)?;
     }
-    told(alloc, rows.as_slice(), counter)
+    Ok(())
+}
+
+/// What comes of so many handles. A question has several numbers, one after another, of which none is less than the
+/// one before it.
+pub(crate) fn handles_answer(alloc: Global, question: &str) -> Result<String, AllocError> {
+    let mut rows = Vec::new(alloc);
+    let mut answers = String::new(alloc);
+    for part in question.split(", ") {
+        let (count, counter) = numbers(part);
+        add_handles(alloc, &mut rows, count)?;
+        let answer = told(alloc, rows.as_slice(), counter)?;
+        if !answers.is_empty() {
+            answers.push_str("; ")?;
+        }
+        answers.push_str(answer.as_str())?;
+    }
+    Ok(answers)
 }

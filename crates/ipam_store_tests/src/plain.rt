@@ -67,18 +67,6 @@ impl PlainStore {
         }
         None
     }
-
-    /// The row of this block.
-    pub fn find(&self, cidr: Cidr) -> Option<&(u64, Record)> {
-        for row in &self.blocks {
-            if let Record::Block(block) = &row.1 {
-                if block.cidr() == cidr {
-                    return Some(row);
-                }
-            }
-        }
-        None
-    }
 }
 
 /// How many of the rows stand before the key.

@@ -1,4 +1,4 @@
-use Rattle.std.proofs.Common.{rules, ◌≡◌, [], length, List}
+use Rattle.std.proofs.Common.{rules}
 use Rattle.ipam_play.proofs.ReadingLemmas.{nothing_asked}
 use Rattle.ipam_play.proofs.lines.asked.Goals as goal
 

@@ -17,3 +17,15 @@ returns-in_err-entry-clause-comes c =
 
 pub returns-clause-comes : goal.returns-clause-comes
 returns-clause-comes c = one_noted _ _ _ _ _ _ c.in_ok-entry.entry c.in_ok-entry.ensures.made c.note.ensures.items c.make_room.ensures.journal
+
+pub returns-in_err-may_begin-clause-timed : goal.returns-in_err-may_begin-clause-timed
+returns-in_err-may_begin-clause-timed c = c.requires.standing.1
+
+pub returns-in_err-make_room-clause-timed : goal.returns-in_err-make_room-clause-timed
+returns-in_err-make_room-clause-timed c = c.requires.standing.1
+
+pub returns-in_err-entry-clause-timed : goal.returns-in_err-entry-clause-timed
+returns-in_err-entry-clause-timed c = c.begin.ensures.timed
+
+pub returns-clause-timed : goal.returns-clause-timed
+returns-clause-timed c = c.begin.ensures.timed

@@ -1,16 +1,32 @@
-use Rattle.std.proofs.Common.{Some}
+use Rattle.std.proofs.Common.{◌≡◌, Some, true}
 use Rattle.ipam_session.specs.declared.wish.Wish.TheVariants as wish
 use Rattle.ipam_shared.specs.Passes.{runs_in}
-use Rattle.ipam_serve.proofs.LineParts.{feed-idle, none-waits, rests-none, rests-waits}
-use Rattle.ipam_serve.proofs.Outcomes.{comes-nothing}
-use Rattle.ipam_serve.proofs.lines.answer_feed.Goals as goal
+use Rattle.ipam_serve.specs.Gains.{is_waiting}
 use Rattle.ipam_serve.specs.Lines.{server_at}
+use Rattle.ipam_serve.proofs.LineParts.{feed-idle, none-waits, rests-none, rests-waits}
+use Rattle.ipam_serve.proofs.Outcomes.{comes-fed, comes-nothing, comes-unfed}
+use Rattle.ipam_serve.proofs.lines.answer_feed.Goals as goal
 
-pub feed_waiting-requires-clause-waits : goal.feed_waiting-requires-clause-waits
-feed_waiting-requires-clause-waits g c = rests-waits (runs_in c.args.pass.now) c.running.result c.requires.rests c.running.ensures c.if-running.true
+pub run_feed-requires-clause-waits : goal.run_feed-requires-clause-waits
+run_feed-requires-clause-waits g c = rests-waits (runs_in c.args.pass.now) c.running.result c.requires.rests c.running.ensures c.if-not-running.false
 
-pub returns-clause-comes : goal.returns-clause-comes
-returns-clause-comes g c =
+pub returns-then-not-running-clause-comes : goal.returns-then-not-running-clause-comes
+returns-then-not-running-clause-comes g c =
     comes-nothing g.D.Keeper.rows g.D.Keeper.given g.D.Keeper.faults (server_at c.args.pass.now (g.G.SessionGate.turns c.args.gate.now) (g.C.Clock.ahead c.args.clock.now)) (Some (wish.Feed c.args.live.now)) _ c.requires.rests
     (feed-idle (server_at c.args.pass.now (g.G.SessionGate.turns c.args.gate.now) (g.C.Clock.ahead c.args.clock.now)) c.args.live.now
-    (none-waits _ (rests-none (runs_in c.args.pass.now) c.running.result c.running.ensures c.if-running.false)))
+    (none-waits _ (rests-none (runs_in c.args.pass.now) c.running.result c.running.ensures c.if-not-running.true)))
+
+pub returns-in-Ok-clause-comes : goal.returns-in-Ok-clause-comes
+returns-in-Ok-clause-comes g c =
+    let waits : is_waiting (runs_in c.args.pass.now) ≡ true = rests-waits (runs_in c.args.pass.now) c.running.result c.requires.rests c.running.ensures c.if-not-running.false in
+    rw c.reply_fed.ensures
+    (comes-fed g.D.Keeper.rows g.D.Keeper.given g.D.Keeper.faults (server_at c.args.pass.now (g.G.SessionGate.turns c.args.gate.now) (g.C.Clock.ahead c.args.clock.now))
+    (server_at c.run_feed.new.pass (g.G.SessionGate.turns c.run_feed.new.gate) (g.C.Clock.ahead c.now-at.new.self))
+    c.args.live.now c.now-at.result waits c.now-at.ensures c.run_feed.ensures.keeper c.in-Ok.told c.in-Ok.ensures.fed)
+
+pub returns-in-Err-clause-comes : goal.returns-in-Err-clause-comes
+returns-in-Err-clause-comes g c =
+    let waits : is_waiting (runs_in c.args.pass.now) ≡ true = rests-waits (runs_in c.args.pass.now) c.running.result c.requires.rests c.running.ensures c.if-not-running.false in
+    comes-unfed g.D.Keeper.rows g.D.Keeper.given g.D.Keeper.faults (server_at c.args.pass.now (g.G.SessionGate.turns c.args.gate.now) (g.C.Clock.ahead c.args.clock.now))
+    (server_at c.run_feed.new.pass (g.G.SessionGate.turns c.run_feed.new.gate) (g.C.Clock.ahead c.now-at.new.self))
+    c.args.live.now c.now-at.result waits c.now-at.ensures c.run_feed.ensures.keeper c.in-Err.broken c.in-Err.ensures.broken c.in-Err.ensures.worn c.in-Err.ensures.runs

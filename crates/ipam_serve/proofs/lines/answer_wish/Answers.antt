@@ -17,7 +17,7 @@ pub returns-in-RoutesSince-clause-comes : goal.returns-in-RoutesSince-clause-com
 returns-in-RoutesSince-clause-comes g c = rw c.in-RoutesSince.is (c.answer_since.ensures.comes (g.G.SessionGate.turns c.args.gate.now) (g.C.Clock.ahead c.args.clock.now))
 
 pub returns-in-Rows-clause-comes : goal.returns-in-Rows-clause-comes
-returns-in-Rows-clause-comes g c = rw c.in-Rows.is (c.answer_rows.ensures.comes (g.G.SessionGate.turns c.args.gate.now) (g.C.Clock.ahead c.args.clock.now))
+returns-in-Rows-clause-comes g c = rw c.in-Rows.is (c.answer_page.ensures.comes (g.G.SessionGate.turns c.args.gate.now) (g.C.Clock.ahead c.args.clock.now))
 
 pub returns-in-Usage-clause-comes : goal.returns-in-Usage-clause-comes
 returns-in-Usage-clause-comes g c = rw c.in-Usage.is (c.answer_usage.ensures.comes (g.G.SessionGate.turns c.args.gate.now) (g.C.Clock.ahead c.args.clock.now))

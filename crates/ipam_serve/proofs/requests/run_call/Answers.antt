@@ -1,4 +1,5 @@
-use Rattle.std.proofs.Common.{Err, arith, inr}
+use Rattle.std.proofs.Common.{Err, ap, arith, inr, ◌∙◌}
+use Rattle.ipam_shared.specs.PassValue.{PassValue}
 use Rattle.ipam_serve.proofs.Going.{call-answered, call-broken, call-fed, worn-from, worn-so}
 use Rattle.ipam_serve.proofs.Running.{begins-calls-part}
 use Rattle.ipam_serve.proofs.Keeping.{makes-then}
@@ -50,3 +51,18 @@ returns-in-Ok-Waits-clause-worn g c =
 pub returns-in-Err-clause-worn : goal.returns-in-Err-clause-worn
 returns-in-Err-clause-worn g c =
     worn-so {T = Unit {0}} (Err c.in-Err.broken) _ _ (worn-more c.args.pass.now c.run_request.new.pass 0 (waits_of c.args.request.now) (omega arith)) c.in-Err.ensures.worn
+
+pub feed_own-requires-clause-lock : goal.feed_own-requires-clause-lock
+feed_own-requires-clause-lock g c = ap (λ (p : PassValue). p.lock) c.run_request.ensures.keeper.same ∙ c.requires.lock
+
+pub feed_own-requires-clause-waits : goal.feed_own-requires-clause-waits
+feed_own-requires-clause-waits g c = (rw c.in-Ok-Waits.field-0-is at c.in-Ok-Waits.ensures.waits).0
+
+pub feed_own-requires-clause-asked : goal.feed_own-requires-clause-asked
+feed_own-requires-clause-asked g c = (rw c.in-Ok-Waits.field-0-is at c.in-Ok-Waits.ensures.waits).1
+
+pub returns-in-Ok-Answered-clause-can_answer : goal.returns-in-Ok-Answered-clause-can_answer
+returns-in-Ok-Answered-clause-can_answer g c = rw c.in-Ok-Answered.field-0-is at c.in-Ok-Answered.ensures.can_answer
+
+pub returns-in-Ok-Answered-clause-idle : goal.returns-in-Ok-Answered-clause-idle
+returns-in-Ok-Answered-clause-idle g c = rw c.in-Ok-Answered.field-0-is at c.in-Ok-Answered.ensures.idle

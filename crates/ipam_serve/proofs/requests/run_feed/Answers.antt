@@ -2,6 +2,7 @@ use Rattle.std.proofs.Common.{◌∙◌}
 use Rattle.ipam_shared.specs.Passes.{runs_in}
 use Rattle.ipam_serve.proofs.Going.{fed-broken, fed-found, fed-runs, feeds-early, still-runs, worn-any, worn-so}
 use Rattle.ipam_serve.proofs.Running.{not-begun, waiting-some}
+use Rattle.ipam_serve.proofs.Turning.{took-lock}
 use Rattle.ipam_serve.proofs.Keeping.{makes-fed, makes-none, makes-then}
 use Rattle.ipam_serve.proofs.Wearing.{worn-then}
 use Rattle.ipam_serve.proofs.requests.run_feed.Goals as goal
@@ -54,3 +55,6 @@ returns-in-Ok-Fed-clause-worn g c =
 
 pub returns-in-Ok-Fed-clause-runs : goal.returns-in-Ok-Fed-clause-runs
 returns-in-Ok-Fed-clause-runs g c = c.run_fed.ensures.went.runs
+
+pub run_fed-requires-clause-lock : goal.run_fed-requires-clause-lock
+run_fed-requires-clause-lock g c = took-lock c.args.pass.now c.feed.new.pass _ 0 (rw c.in-Ok-Fed.field-0-is at c.in-Ok-Fed.ensures.fed).0 ∙ c.requires.lock

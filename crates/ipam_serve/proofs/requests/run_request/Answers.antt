@@ -1,6 +1,7 @@
-use Rattle.std.proofs.Common.{inl, inr}
+use Rattle.std.proofs.Common.{inl, inr, ◌∙◌}
 use Rattle.ipam_serve.proofs.Going.{broken-begun, ran-begun, ran-idle, ran-waits, worn-any, worn-so}
 use Rattle.ipam_serve.proofs.Running.{begun-asked, not-begun, some-asked}
+use Rattle.ipam_serve.proofs.Turning.{took-lock}
 use Rattle.ipam_serve.proofs.Keeping.{makes-begun, makes-none, makes-then}
 use Rattle.ipam_serve.proofs.Wearing.{worn-then}
 use Rattle.ipam_serve.proofs.requests.run_request.Goals as goal
@@ -52,3 +53,6 @@ returns-in-Err-clause-keeper g c = makes-none g.D.Keeper.rows g.D.Keeper.given g
 
 pub returns-in-Ok-clause-worn : goal.returns-in-Ok-clause-worn
 returns-in-Ok-clause-worn g c = worn-so c.run_on.result _ _ (worn-then c.args.pass.now c.begin.new.pass c.run_on.new.pass _ 0 0 c.in-Ok.ensures.begun) c.run_on.ensures.went.worn
+
+pub run_on-requires-clause-lock : goal.run_on-requires-clause-lock
+run_on-requires-clause-lock g c = took-lock c.args.pass.now c.begin.new.pass _ 0 c.in-Ok.ensures.begun ∙ c.requires.lock

@@ -8,6 +8,7 @@ use Rattle.ipam_serve.proofs.Coming.{on-ok}
 use Rattle.ipam_serve.proofs.Keeping.{came-none, came-so}
 use Rattle.ipam_serve.proofs.Routing.{same-rests}
 use Rattle.ipam_serve.proofs.Sessions.{ends-nothing, ends-told, ends-undone, exchanged}
+use Rattle.ipam_serve.proofs.Reading.{broken-reads, broken-stops, broken-writes}
 use Rattle.ipam_serve.proofs.Settled.{rose-after, rose-halts, took-sure}
 use Rattle.ipam_serve.proofs.session.exchange.Goals as goal
 
@@ -78,3 +79,15 @@ returns-in-Err-clause-ended g c =
     ends-nothing at c.in-Err.end old new
     (ap (λ turns. server_at c.args.pass.now turns (g.C.Clock.ahead c.args.clock.now)) c.read_line.ensures.turns)
     refl c.read_line.ensures.asked c.in-Err.ensures.none c.read_line.ensures.written (c.in-Err.ensures.cause c.args.pass.now c.args.pass.now)
+
+pub returns-in-Err-told-clause-lock : goal.returns-in-Err-told-clause-lock
+returns-in-Err-told-clause-lock g c = ap (λ (p : PassValue). p.lock) c.answer_line-told.ensures.keeper.same
+
+pub returns-in-Err-told-clause-reads : goal.returns-in-Err-told-clause-reads
+returns-in-Err-told-clause-reads g c = rw c.end_of.ensures (broken-reads c.in-Err-told.broken _ _ c.in-Ok.ensures.reads)
+
+pub returns-in-Err-told-clause-writes : goal.returns-in-Err-told-clause-writes
+returns-in-Err-told-clause-writes g c = rw c.end_of.ensures (broken-writes c.in-Err-told.broken _ _ c.in-Ok.ensures.writes)
+
+pub returns-in-Err-told-clause-stops : goal.returns-in-Err-told-clause-stops
+returns-in-Err-told-clause-stops g c = rw c.end_of.ensures (broken-stops c.in-Err-told.broken _ _ _ c.in-Ok.ensures.stops c.in-Err-told.ensures.stops)

@@ -1,8 +1,9 @@
-use Rattle.std.proofs.Common.{◌∷◌, ◌∙◌, refl}
+use Rattle.std.proofs.Common.{◌∷◌, ◌∙◌, Err, refl}
 use Rattle.std.specs.Io.KnownBytes.{prepend_known}
-use Rattle.ipam_serve.specs.Sessions.{Talk, talk_at}
+use Rattle.ipam_serve.specs.Sessions.{Talk, is_halted, is_read_fault, is_write_fault, talk_at}
 use Rattle.ipam_serve.specs.Keeping.{at_keeper}
 use Rattle.ipam_serve.proofs.Sessions.{talks-none}
+use Rattle.ipam_serve.proofs.Settled.{rose-after}
 use Rattle.ipam_serve.proofs.session.serve_lines.Goals as goal
 use Rattle.ipam_serve.specs.Lines.{server_at}
 
@@ -45,3 +46,21 @@ loop-init g c = record {
   writes = refl;
   stops = refl;
 }
+
+pub returns-in-Err-clause-served : goal.returns-in-Err-clause-served
+returns-in-Err-clause-served g c =
+    let between : Talk = talk_at (server_at c.loop.pass (g.G.SessionGate.turns c.loop.gate) (g.C.Clock.ahead c.loop.clock)) c.args.opening.now (g.G.SessionGate.lines c.loop.gate) (prepend_known c.loop.lines (g.L.Source.left c.loop.link)) (g.L.Sink.written c.loop.link) in
+    let made = c.loop.invariant.talks in
+    (c.exchange.new.lines, record { exchanges = made.0; between = between; talks = made.1; ends = c.in-Err.ensures.ended })
+
+pub returns-in-Err-clause-lock : goal.returns-in-Err-clause-lock
+returns-in-Err-clause-lock g c = c.exchange.ensures.lock ∙ c.loop.invariant.lock
+
+pub returns-in-Err-clause-reads : goal.returns-in-Err-clause-reads
+returns-in-Err-clause-reads g c = rose-after is_read_fault (Err c.in-Err.end) _ _ _ c.loop.invariant.reads c.in-Err.ensures.reads
+
+pub returns-in-Err-clause-writes : goal.returns-in-Err-clause-writes
+returns-in-Err-clause-writes g c = rose-after is_write_fault (Err c.in-Err.end) _ _ _ c.loop.invariant.writes c.in-Err.ensures.writes
+
+pub returns-in-Err-clause-stops : goal.returns-in-Err-clause-stops
+returns-in-Err-clause-stops g c = rose-after is_halted (Err c.in-Err.end) _ _ _ c.loop.invariant.stops c.in-Err.ensures.stops

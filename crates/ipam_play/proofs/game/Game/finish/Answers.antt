@@ -10,10 +10,10 @@ use Rattle.ipam_play.proofs.game.Game.finish.Goals as goal
 
 pub returns-in-Ok-clause-written : goal.returns-in-Ok-clause-written
 returns-in-Ok-clause-written g c = λ script first next on.
-    let f = finishes_known c.args.self.player c.finish.new.self c.in-Ok.is (record { gathered = c.finish.ensures.gathered; played = c.finish.ensures.played }) in
-    let all = all_played _ script first (g.K.Sink.written c.args.sink.now) c.args.self c.finish.new.self next f on in
+    let f = finishes_known c.args.self.now.player c.finish.new.self c.in-Ok.is (record { gathered = c.finish.ensures.gathered; played = c.finish.ensures.played }) in
+    let all = all_played _ script first (g.K.Sink.written c.args.sink.now) c.args.self.now c.finish.new.self next f on in
     subst (λ (e : PlayEnd). HasWrittenJournal e script first (g.K.Sink.written c.end.new.sink)) (sym c.ended.ensures)
-    (whole_ends c.end.result script first (g.K.Sink.written c.args.sink.now) (g.K.Sink.written c.end.new.sink) (held_by c.args.self) all.past all.wrote all.is_played c.end.ensures.wrote c.end.ensures.part)
+    (whole_ends c.end.result script first (g.K.Sink.written c.args.sink.now) (g.K.Sink.written c.end.new.sink) (held_by c.args.self.now) all.past all.wrote all.is_played c.end.ensures.wrote c.end.ensures.part)
 
 pub returns-in-Ok-clause-counts : goal.returns-in-Ok-clause-counts
 returns-in-Ok-clause-counts g c =
@@ -29,16 +29,16 @@ returns-in-Ok-clause-no_memory g c = λ base store past playing is. never_memory
 
 pub returns-in-Err-clause-no_memory : goal.returns-in-Err-clause-no_memory
 returns-in-Err-clause-no_memory g c = λ base store past playing.
-    let f = finishes_known c.args.self.player c.finish.new.self c.in-Err.is (record { gathered = c.finish.ensures.gathered; played = c.finish.ensures.played }) in
+    let f = finishes_known c.args.self.now.player c.finish.new.self c.in-Err.is (record { gathered = c.finish.ensures.gathered; played = c.finish.ensures.played }) in
     absurd (cc (f.played base store past playing))
 
 pub returns-in-Err-clause-written : goal.returns-in-Err-clause-written
 returns-in-Err-clause-written g c = λ script first next on.
-    let mid : Game = record { player = c.finish.new.self; output = c.args.self.output } in
-    let f = finishes_known c.args.self.player c.finish.new.self c.in-Err.is (record { gathered = c.finish.ensures.gathered; played = c.finish.ensures.played }) in
+    let mid : Game = record { player = c.finish.new.self; output = c.args.self.now.output } in
+    let f = finishes_known c.args.self.now.player c.finish.new.self c.in-Err.is (record { gathered = c.finish.ensures.gathered; played = c.finish.ensures.played }) in
     c.halted.ensures.written script first
     (subst (λ (k : Halt). IsHalted k script first (g.K.Sink.written c.args.sink.now) mid c.args.number) (sym c.of.ensures)
-    (end_halts c.in-Err.fault script first (g.K.Sink.written c.args.sink.now) c.args.self mid next c.args.number refl f on))
+    (end_halts c.in-Err.fault script first (g.K.Sink.written c.args.sink.now) c.args.self.now mid next c.args.number refl f on))
 
 pub returns-in-Err-clause-counts : goal.returns-in-Err-clause-counts
 returns-in-Err-clause-counts g c = c.halted.ensures.counts (λ is. never_write c.in-Err.fault (sym c.of.ensures ∙ is))

@@ -8,7 +8,7 @@ use Rattle.ipam_play.proofs.game.Game.read_fault.Goals as goal
 pub returns-clause-written : goal.returns-clause-written
 returns-clause-written g c = λ script first number more on.
     subst (λ (e : PlayEnd). HasWrittenJournal e script first (g.K.Sink.written c.end.new.sink)) (sym c.ended.ensures)
-    (fault_ends c.end.result script first (g.K.Sink.written c.args.sink.now) (g.K.Sink.written c.end.new.sink) c.args.self number more on c.end.ensures.wrote c.end.ensures.part)
+    (fault_ends c.end.result script first (g.K.Sink.written c.args.sink.now) (g.K.Sink.written c.end.new.sink) c.args.self.now number more on c.end.ensures.wrote c.end.ensures.part)
 
 pub returns-clause-counts : goal.returns-clause-counts
 returns-clause-counts g c =
@@ -21,4 +21,4 @@ returns-clause-faults g c = subst (λ (e : PlayEnd). (e ≡ end.ReadFault) ⊎ (
 
 pub returns-clause-so_far : goal.returns-clause-so_far
 returns-clause-so_far g c = λ script first number on is.
-    fault_so_far c.end.result script first (g.K.Sink.written c.args.sink.now) (g.K.Sink.written c.end.new.sink) c.args.self number on c.end.ensures.wrote (sym c.ended.ensures ∙ is)
+    fault_so_far c.end.result script first (g.K.Sink.written c.args.sink.now) (g.K.Sink.written c.end.new.sink) c.args.self.now number on c.end.ensures.wrote (sym c.ended.ensures ∙ is)

@@ -1,10 +1,12 @@
-use Rattle.std.proofs.Common.{◌≡◌, ◌≢◌, ◌+◌, [], ◌++◌, ◌∷◌, length, List, ℕ, subst}
+use Rattle.std.proofs.Common.{◌≡◌, ◌≢◌, ◌+◌, [], ◌++◌, ◌∷◌, length, List, ℕ, ap, subst}
 use Rattle.std.specs.Io.KnownBytes.{prepend_known, IsAtEnd}
 use Rattle.ipam_io.specs.Feeds.{IsLine, IsTooLong}
 use Rattle.ipam_answer_text.specs.Lines.{told_line}
-use Rattle.std.specs.Prelude.{OnErr}
+use Rattle.std.specs.Prelude.{OnErr, option_map}
 use Rattle.ipam_answer_text.specs.Lines.{Whole}
-use Rattle.ipam_play.specs.Readings.{line_reading_of, IsTold, OnLine}
+use Rattle.ipam_play.specs.declared.lines.ScriptFault.TheVariants.{Read}
+use Rattle.ipam_play.specs.Readings.{line_reading_of, readings_from, IsTold, OnLine}
+use Rattle.ipam_play.proofs.AnswerFacts.{last_fault, last_line, on_end, onward, same_next, told_end, told_fault, unless_read, wanting_end, wanting_fault, wanting_line, wanting_sound}
 use Rattle.ipam_play.proofs.ReadingLemmas.{line_comes, last_comes, end_comes, long_comes, takes_last, takes_line, wanting_comes, wanting_takes}
 use Rattle.ipam_play.proofs.lines.ScriptLines.next.Goals as goal
 
@@ -69,3 +71,113 @@ returns-in-Err-Memory-clause-next g c =
 pub returns-in-Err-Memory-clause-takes : goal.returns-in-Err-Memory-clause-takes
 returns-in-Err-Memory-clause-takes g c =
     wanting_takes c.wanting.result c.args.self.now _ (g.S.Source.left c.args.source.now) (g.S.Source.left c.next.new.source) c.next.new.self c.in-Err-Memory.ensures.bytes c.wanting.ensures.cut c.wanting.ensures.refused c.wanting.ensures.fault
+
+pub returns-in-Ok-Line-clause-sound : goal.returns-in-Ok-Line-clause-sound
+returns-in-Ok-Line-clause-sound g c = c.line.ensures.sound
+
+pub returns-in-Ok-Line-clause-end : goal.returns-in-Ok-Line-clause-end
+returns-in-Ok-Line-clause-end g c = told_end _ c.line.result _ c.line.ensures.told
+
+pub returns-in-Ok-Line-clause-onward : goal.returns-in-Ok-Line-clause-onward
+returns-in-Ok-Line-clause-onward g c = onward c.line.result _ _ _ c.line.ensures.before
+
+pub returns-in-Ok-Line-clause-within : goal.returns-in-Ok-Line-clause-within
+returns-in-Ok-Line-clause-within g c = c.line.ensures.within
+
+pub returns-in-Ok-Line-clause-fault : goal.returns-in-Ok-Line-clause-fault
+returns-in-Ok-Line-clause-fault g c = told_fault _ c.line.result _ c.line.ensures.told
+
+pub returns-in-Ok-Line-clause-no_fault : goal.returns-in-Ok-Line-clause-no_fault
+returns-in-Ok-Line-clause-no_fault g c = unless_read c.line.result c.in-Ok-Line.ensures.no_fault
+
+pub returns-in-Ok-Line-clause-never_falls : goal.returns-in-Ok-Line-clause-never_falls
+returns-in-Ok-Line-clause-never_falls g c = c.next.ensures.never_falls
+
+pub returns-in-Ok-Line-clause-rest : goal.returns-in-Ok-Line-clause-rest
+returns-in-Ok-Line-clause-rest g c = c.next.ensures.rest
+
+pub returns-in-Ok-Cut-clause-sound : goal.returns-in-Ok-Cut-clause-sound
+returns-in-Ok-Cut-clause-sound g c = c.last.ensures.sound
+
+pub returns-in-Ok-Cut-clause-end : goal.returns-in-Ok-Cut-clause-end
+returns-in-Ok-Cut-clause-end g c =
+    let cut : IsLine 1048577 c.next.new.self × (c.next.new.self ≢ []) × IsAtEnd (g.S.Source.left c.next.new.source) = rw c.in-Ok-Cut.field-0-is at c.in-Ok-Cut.ensures.cut in
+    on_end c.last.result cut.2
+
+pub returns-in-Ok-Cut-clause-onward : goal.returns-in-Ok-Cut-clause-onward
+returns-in-Ok-Cut-clause-onward g c = last_line _ c.last.result _ c.last.ensures.told
+
+pub returns-in-Ok-Cut-clause-within : goal.returns-in-Ok-Cut-clause-within
+returns-in-Ok-Cut-clause-within g c = last_line _ c.last.result _ c.last.ensures.told
+
+pub returns-in-Ok-Cut-clause-fault : goal.returns-in-Ok-Cut-clause-fault
+returns-in-Ok-Cut-clause-fault g c = last_fault _ c.last.result _ c.last.ensures.told
+
+pub returns-in-Ok-Cut-clause-no_fault : goal.returns-in-Ok-Cut-clause-no_fault
+returns-in-Ok-Cut-clause-no_fault g c = unless_read c.last.result c.in-Ok-Cut.ensures.no_fault
+
+pub returns-in-Ok-Cut-clause-never_falls : goal.returns-in-Ok-Cut-clause-never_falls
+returns-in-Ok-Cut-clause-never_falls g c = c.next.ensures.never_falls
+
+pub returns-in-Ok-Cut-clause-rest : goal.returns-in-Ok-Cut-clause-rest
+returns-in-Ok-Cut-clause-rest g c = c.next.ensures.rest
+
+pub returns-in-Ok-End-clause-end : goal.returns-in-Ok-End-clause-end
+returns-in-Ok-End-clause-end g c =
+    let end : (c.next.new.self ≡ []) × IsAtEnd (g.S.Source.left c.next.new.source) = rw c.in-Ok-End.field-0-is at c.in-Ok-End.ensures.end in
+    end.1
+
+pub returns-in-Ok-End-clause-no_fault : goal.returns-in-Ok-End-clause-no_fault
+returns-in-Ok-End-clause-no_fault g c = c.in-Ok-End.ensures.no_fault
+
+pub returns-in-Ok-End-clause-never_falls : goal.returns-in-Ok-End-clause-never_falls
+returns-in-Ok-End-clause-never_falls g c = c.next.ensures.never_falls
+
+pub returns-in-Ok-End-clause-rest : goal.returns-in-Ok-End-clause-rest
+returns-in-Ok-End-clause-rest g c = c.next.ensures.rest
+
+pub returns-in-Err-TooLong-clause-no_fault : goal.returns-in-Err-TooLong-clause-no_fault
+returns-in-Err-TooLong-clause-no_fault g c = rw c.in-Err-TooLong.field-0-is at c.in-Err-TooLong.ensures.no_fault
+
+pub returns-in-Err-TooLong-clause-never_falls : goal.returns-in-Err-TooLong-clause-never_falls
+returns-in-Err-TooLong-clause-never_falls g c = c.next.ensures.never_falls
+
+pub returns-in-Err-TooLong-clause-rest : goal.returns-in-Err-TooLong-clause-rest
+returns-in-Err-TooLong-clause-rest g c = c.next.ensures.rest
+
+pub returns-in-Err-Read-clause-next : goal.returns-in-Err-Read-clause-next
+returns-in-Err-Read-clause-next g c =
+    same_next Read _ _ (ap (option_map (readings_from c.args.self.now.before.bytes)) c.in-Err-Read.ensures.bytes)
+
+pub returns-in-Err-Read-clause-fault : goal.returns-in-Err-Read-clause-fault
+returns-in-Err-Read-clause-fault g c = λ is. rw c.in-Err-Read.field-0-is at c.in-Err-Read.ensures.fault
+
+pub returns-in-Err-Read-clause-never_falls : goal.returns-in-Err-Read-clause-never_falls
+returns-in-Err-Read-clause-never_falls g c = c.next.ensures.never_falls
+
+pub returns-in-Err-Read-clause-rest : goal.returns-in-Err-Read-clause-rest
+returns-in-Err-Read-clause-rest g c = c.next.ensures.rest
+
+pub returns-in-Err-Memory-clause-sound : goal.returns-in-Err-Memory-clause-sound
+returns-in-Err-Memory-clause-sound g c = wanting_sound c.wanting.result _ c.wanting.ensures.refused
+
+pub returns-in-Err-Memory-clause-end : goal.returns-in-Err-Memory-clause-end
+returns-in-Err-Memory-clause-end g c = wanting_end _ c.wanting.result c.wanting.ensures.refused
+
+pub returns-in-Err-Memory-clause-onward : goal.returns-in-Err-Memory-clause-onward
+returns-in-Err-Memory-clause-onward g c = wanting_line _ c.wanting.result c.wanting.ensures.refused
+
+pub returns-in-Err-Memory-clause-within : goal.returns-in-Err-Memory-clause-within
+returns-in-Err-Memory-clause-within g c = wanting_line _ c.wanting.result c.wanting.ensures.refused
+
+pub returns-in-Err-Memory-clause-fault : goal.returns-in-Err-Memory-clause-fault
+returns-in-Err-Memory-clause-fault g c = wanting_fault _ c.wanting.result c.wanting.ensures.fault
+
+pub returns-in-Err-Memory-clause-no_fault : goal.returns-in-Err-Memory-clause-no_fault
+returns-in-Err-Memory-clause-no_fault g c = unless_read c.wanting.result (rw c.in-Err-Memory.field-0-is at c.in-Err-Memory.ensures.no_fault)
+
+pub returns-in-Err-Memory-clause-never_falls : goal.returns-in-Err-Memory-clause-never_falls
+returns-in-Err-Memory-clause-never_falls g c = c.next.ensures.never_falls
+
+pub returns-in-Err-Memory-clause-rest : goal.returns-in-Err-Memory-clause-rest
+returns-in-Err-Memory-clause-rest g c = c.next.ensures.rest

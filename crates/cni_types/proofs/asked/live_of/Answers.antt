@@ -1,0 +1,23 @@
+use Rattle.std.proofs.Common.{◌+◌, [], ◌∷◌, ◌++◌, codes, drop, refl, ap, sym, ◌∙◌}
+use Rattle.std.proofs.lemmas.List.{drop_all}
+use Rattle.serde_json.specs.View.{items_view}
+use Rattle.cni_types.specs.Reading.{text_or_empty_at}
+use Rattle.cni_types.specs.Asked.{container_handle, live_after}
+use Rattle.ipam_json.proofs.Steps.{next_read}
+use Rattle.cni_types.proofs.asked.live_of.Goals as goal
+
+pub loop-item-init : goal.loop-item-init
+loop-item-init c = ap (λ live. live_after c.args.network.now live (items_view c.args.items.now)) c.new-live.ensures.items
+
+pub loop-item-preserved : goal.loop-item-preserved
+loop-item-preserved c =
+    let there = c.loop-item.live.items in
+    let network = c.args.network.now in
+    ap (λ live. live_after network live (items_view (drop (c.loop-item.item-index + 1) c.args.items.now))) c.in_ok-push.ensures.items
+    ∙ next_read (λ d. container_handle network (text_or_empty_at (codes "containerID") d)) (live_after network there) (λ handle ds. live_after network (there ++ handle ∷ []) ds) c.args.items.now _ _ _ _ (λ d ds. refl) c.item-item.is c.loop-item-test.true (c.in_ok-handle_of.ensures ∙ ap (container_handle network) c.text_at.ensures) c.loop-item.invariant
+
+pub returns : goal.returns
+returns c =
+    c.of.ensures
+    ∙ ap (λ left. live_after c.args.network.now c.loop-item.live.items (items_view left)) (sym (drop_all _ c.args.items.now c.loop-item-test.false))
+    ∙ c.loop-item.invariant

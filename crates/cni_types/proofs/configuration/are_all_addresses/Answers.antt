@@ -1,0 +1,18 @@
+use Rattle.std.proofs.Common.{true, false, not, ◌&&◌, refl, ap, sym, ◌∙◌}
+use Rattle.std.specs.Prelude.{is_some}
+use Rattle.std.proofs.lemmas.List.{drop_all}
+use Rattle.serde_json.specs.View.{items_view}
+use Rattle.cni_types.specs.Configuration.{address_with_prefix_in, are_all_addresses}
+use Rattle.ipam_json.proofs.Steps.{next_read}
+use Rattle.cni_types.proofs.configuration.are_all_addresses.Goals as goal
+
+pub returns-then-is_none : goal.returns-then-is_none
+returns-then-is_none c =
+    next_read (λ d. is_some (address_with_prefix_in d)) are_all_addresses (λ good ds. good && are_all_addresses ds) c.args.items.now _ _ false _ (λ d ds. refl) c.item-item.is c.loop-item-test.true (sym (c.is_none.ensures ∙ ap not c.if-is_none.true) ∙ ap is_some c.address_in.ensures) c.loop-item.invariant
+
+pub loop-item-preserved : goal.loop-item-preserved
+loop-item-preserved c =
+    next_read (λ d. is_some (address_with_prefix_in d)) are_all_addresses (λ good ds. good && are_all_addresses ds) c.args.items.now _ _ true _ (λ d ds. refl) c.item-item.is c.loop-item-test.true (sym (c.is_none.ensures ∙ ap not c.if-is_none.false) ∙ ap is_some c.address_in.ensures) c.loop-item.invariant
+
+pub returns : goal.returns
+returns c = ap (λ left. are_all_addresses (items_view left)) (sym (drop_all _ c.args.items.now c.loop-item-test.false)) ∙ c.loop-item.invariant
