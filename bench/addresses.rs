@@ -1,5 +1,7 @@
-// The same addresses, texts and sums as `ipam_bench`, by Rust's std::net.
+// Rust's std::net on what `ipam_bench` measures: with a number, prints so many mixed addresses; else reads the
+// addresses of standard input, and prints them, with the same sum and the same number of bytes.
 use std::fmt::Write;
+use std::io::Read;
 use std::net::{IpAddr, Ipv4Addr, Ipv6Addr};
 use std::time::Instant;
 
@@ -12,25 +14,26 @@ impl Draws {
     }
 }
 
-fn mixed(count: u32) -> Vec<IpAddr> {
+fn print_mixed(count: u32) {
     let mut draws = Draws(1);
-    (0..count)
-        .map(|place| {
-            if place % 2 == 0 {
-                IpAddr::V4(Ipv4Addr::from(draws.next_bits()))
-            } else {
-                let high = u128::from(draws.next_bits());
-                let low = u128::from(draws.next_bits());
-                IpAddr::V6(Ipv6Addr::from((0x2001_0db8 << 96) + (high << 33) + low))
-            }
-        })
-        .collect()
+    for place in 0..count {
+        if place % 2 == 0 {
+            println!("{}", Ipv4Addr::from(draws.next_bits()));
+        } else {
+            let high = u128::from(draws.next_bits());
+            let low = u128::from(draws.next_bits());
+            println!("{}", Ipv6Addr::from((0x2001_0db8 << 96) + (high << 33) + low));
+        }
+    }
 }
 
 fn main() {
-    let count: u32 = std::env::args().nth(1).unwrap().parse().unwrap();
-    let all = mixed(count);
-    let texts: Vec<String> = all.iter().map(|addr| addr.to_string()).collect();
+    if let Some(count) = std::env::args().nth(1) {
+        return print_mixed(count.parse().unwrap());
+    }
+    let mut lines = String::new();
+    std::io::stdin().read_to_string(&mut lines).unwrap();
+    let texts: Vec<&str> = lines.lines().collect();
 
     let start = Instant::now();
     let mut sum = 0u64;
@@ -44,8 +47,9 @@ fn main() {
         }
     }
     eprintln!("{} ns", start.elapsed().as_nanos());
-    println!("read {count} addresses, sum {sum}");
+    println!("{sum}");
 
+    let all: Vec<IpAddr> = texts.iter().map(|text| text.parse().unwrap()).collect();
     let start = Instant::now();
     let mut bytes = 0u64;
     let mut text = String::with_capacity(64);
@@ -55,5 +59,5 @@ fn main() {
         bytes = bytes.wrapping_add(text.len() as u64);
     }
     eprintln!("{} ns", start.elapsed().as_nanos());
-    println!("pushed {count} addresses, {bytes} bytes");
+    println!("{bytes}");
 }

@@ -84,3 +84,8 @@ def row_line(row):
 
 def row_lines(rows):
     return "".join(map(row_line, rows))
+
+
+def bare_lines(rows):
+    """The lines of the rows for `ipam_bench`, which gives revisions itself."""
+    return "".join(f"{key} {body}\n" for key, _, body in rows)

@@ -14,12 +14,10 @@ them whatever their number. What is looked for comes after the full ones:
 
 `choose` reads all affinities; `pick` has the node's confirmed ones gathered before, as a running ADD has.
 """
-import subprocess
 import sys
-import tempfile
 
-from bases import FIRST_REVISION, Block, row_lines, rows_of, text
-from measured import Checks
+from bases import Block, bare_lines, rows_of, text
+from measured import Checks, numbers_of
 
 FIRST = 10 << 24  # 10.0.0.0
 SIZE = 64
@@ -36,46 +34,45 @@ def blocks_of(count, step, room):
 
 def rows_with(blocks, strict=False, auto=True, state="confirmed"):
     """The rows of these blocks with the configuration, and the node's affinities in this state."""
-    rows = [(key, body) for key, _, body in rows_of(blocks)]
-    rows.append(("config", text({"autoAllocateBlocks": auto, "maxBlocksPerHost": 0, "strictAffinity": strict})))
+    config = {"autoAllocateBlocks": auto, "maxBlocksPerHost": 0, "strictAffinity": strict}
+    rows = [*rows_of(blocks), ("config", 0, text(config))]
     mine = "affinity/node-0/"
-    rows = [
-        (key, body.replace('"confirmed"', f'"{state}"') if key.startswith(mine) else body) for key, body in rows
-    ]
-    rows.sort(key=lambda row: row[0].encode())
-    return [(key, FIRST_REVISION + place, body) for place, (key, body) in enumerate(rows)]
+    stated = lambda key, body: body.replace('"confirmed"', f'"{state}"') if key.startswith(mine) else body
+    return sorted((key, revision, stated(key, body)) for key, revision, body in rows)
+
+
+def use(address):
+    """The number of this choice, as the program tells it."""
+    return (1 << 32) + address
+
+
+def claim(address):
+    return (2 << 32) + address
+
+
+def borrow(address):
+    return (3 << 32) + address
 
 
 def cases(count, step):
-    """The name of each measurement, its rows, and what is chosen."""
+    """The name of each measurement, its rows, and the number of what is chosen."""
     roomy, full = blocks_of(count, step, True)
     own = FIRST + SIZE * min(n for n in range(0, count, step) if n not in full)
-    yield "own", rows_with(roomy), f"use {own} 0"
-    yield "unconfirmed", rows_with(roomy, state="pending"), f"claim {own}"
+    yield "own", rows_with(roomy), use(own)
+    yield "unconfirmed", rows_with(roomy, state="pending"), claim(own)
     busy, full = blocks_of(count, step, False)
     other = FIRST + SIZE * min(n for n in range(count) if n not in full)
-    yield "unclaimed", rows_with(busy), f"claim {FIRST + SIZE * count}"
-    yield "foreign", rows_with(busy, auto=False), f"borrow {other} 0"
-    yield "nothing", rows_with(busy, auto=False, strict=True), "nothing"
-
-
-def told(program, rows, often):
-    """What was chosen, and the nanoseconds of a choice of each kind in the fastest of three runs."""
-    runs = []
-    with tempfile.TemporaryFile("w+") as given:
-        given.write(f"choose {often}\n{row_lines(rows)}")
-        for _ in range(3):
-            given.seek(0)
-            runs.append(subprocess.run([program], stdin=given, capture_output=True, text=True))
-    times = [[int(line.split()[0]) / often for line in run.stderr.splitlines()] for run in runs]
-    return runs[0].stdout.splitlines(), [min(way) for way in zip(*times)]
+    yield "unclaimed", rows_with(busy), claim(FIRST + SIZE * count)
+    yield "foreign", rows_with(busy, auto=False), borrow(other)
+    yield "nothing", rows_with(busy, auto=False, strict=True), 0
 
 
 def tell(program, checks, count, step):
     often = max(200, 2_000_000 // count)
     for name, rows, want in cases(count, step):
-        chosen, (choose, pick) = told(program, rows, often)
-        checks.same(f"{count} blocks, {name}", chosen, [want, want])
+        chosen, times = numbers_of(program, f"choose {often} 4\n{bare_lines(rows)}")
+        choose, pick = (one / often for one in times)
+        checks.same(f"{count} blocks, {name}", chosen, [often * want, often * want])
         own = (count + step - 1) // step
         print(f"{count:>8}{own:>6} {name:<12}{choose / 1000:>11.2f}{pick / 1000:>11.2f}", flush=True)
 

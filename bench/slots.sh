@@ -1,11 +1,6 @@
 #!/usr/bin/env bash
-# Asks a million times for the next slot with room past 16,384 reserved CIDRs: of one slot each, and
-# of 2^58 slots each. The two times should be alike.
+# Asks a million times for the next slot with room past 16,384 reserved CIDRs: of one slot each, and of 2^58 slots
+# each. The two times should be alike.
 set -eu
 top=$(cd "$(dirname "$0")/.." && pwd)
-count=${1:-1000000}
-program=$("$top/bench/built.sh" ipam_bench)
-for word in narrow-slots wide-slots; do
-    echo "$word:"
-    echo "$word $count" | "$program"
-done
+exec python3 "$top/bench/slots.py" "$("$top/bench/built.sh" ipam_bench)" "$@"

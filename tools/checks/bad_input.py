@@ -68,14 +68,19 @@ def without_rows():
         file.unlink()
 
 
-def with_rows(rows):
-    without_rows()
-    with sqlite3.connect(DATABASE) as database:
+def put_rows(path, rows):
+    """Makes a file of these rows."""
+    with sqlite3.connect(path) as database:
         # (these files need not outlive a loss of power)
         database.execute("PRAGMA synchronous = OFF")
         database.execute("CREATE TABLE rows(key TEXT PRIMARY KEY, revision INTEGER NOT NULL, body TEXT NOT NULL)")
         database.executemany("INSERT INTO rows VALUES(?, ?, ?)", rows)
     database.close()
+
+
+def with_rows(rows):
+    without_rows()
+    put_rows(DATABASE, rows)
 
 
 # ---- scripts

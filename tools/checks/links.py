@@ -11,9 +11,9 @@ PATIENCE = 60
 PIECE = 65_536
 
 
-def free_port():
+def free_port(host="127.0.0.1"):
     with socket.socket() as one:
-        one.bind(("127.0.0.1", 0))
+        one.bind((host, 0))
         return one.getsockname()[1]
 
 
@@ -38,15 +38,36 @@ def received(connection):
     return bytes(came)
 
 
-class Daemon:
-    """A daemon over this file, whose sessions come one after the other."""
+def connected(address):
+    """A connection to a socket file or a port of the loopback."""
+    if not address.startswith("/"):
+        host, _, port = address.rpartition(":")
+        connection = socket.create_connection((host, int(port)), timeout=PATIENCE)
+        connection.setsockopt(socket.IPPROTO_TCP, socket.TCP_NODELAY, 1)
+        return connection
+    connection = socket.socket(socket.AF_UNIX)
+    try:
+        connection.settimeout(PATIENCE)
+        connection.connect(address)
+    except OSError:
+        connection.close()
+        raise
+    return connection
 
-    def __init__(self, program, database, workers=1, env=None, patience=PATIENCE):
-        self.port, self.log, self.sessions, self.patience = free_port(), Path(f"{database}.log"), 0, patience
+
+class Daemon:
+    """A daemon over this file, whose sessions come one after the other. It is at a port of the loopback, or at this
+    address; `before` are words before the program's own."""
+
+    def __init__(self, program, database, workers=1, env=None, patience=PATIENCE, address=None, before=()):
+        self.address, self.log, self.sessions, self.patience = address, Path(f"{database}.log"), 0, patience
+        if address is None:
+            self.port = free_port()
+            self.address = f"127.0.0.1:{self.port}"
         whole = {"IPAM_DB": str(database), "RUST_LOG": "info", **(env or {})}
-        with open(self.log, "wb") as log:
-            words = [program, "serve", f"127.0.0.1:{self.port}", str(workers)]
-            self.process = subprocess.Popen(words, env=whole, stdout=subprocess.DEVNULL, stderr=log)
+        with open(self.log, "wb") as log, open(f"{database}.out", "wb") as out:
+            words = [*before, program, "serve", self.address, str(workers)]
+            self.process = subprocess.Popen(words, env=whole, stdout=out, stderr=log)
         self.connect().close()
         self.end()
 
@@ -54,10 +75,8 @@ class Daemon:
         until = time.monotonic() + PATIENCE
         while True:
             try:
-                connection = socket.create_connection(("127.0.0.1", self.port), timeout=PATIENCE)
-                connection.setsockopt(socket.IPPROTO_TCP, socket.TCP_NODELAY, 1)
-                return connection
-            except ConnectionRefusedError:
+                return connected(self.address)
+            except (ConnectionRefusedError, FileNotFoundError):
                 if time.monotonic() > until or self.process.poll() is not None:
                     raise
                 time.sleep(0.01)
@@ -65,7 +84,9 @@ class Daemon:
     def end(self):
         """How the session ended that ends next: the last words of its line of the log, or none."""
         until = time.monotonic() + self.patience
-        while time.monotonic() < until:
+        is_over = False
+        while not is_over:
+            is_over = time.monotonic() > until or self.process.poll() is not None
             lines = self.log.read_text().split("\n")[:-1]
             if len(lines) > self.sessions:
                 self.sessions += 1

@@ -1,5 +1,6 @@
 """Addresses, records and the datastore of the second allocator."""
 
+import functools
 import ipaddress
 import json
 
@@ -21,6 +22,7 @@ class Cidr:
         self.family, self.base, self.prefix = family, base, prefix
 
     @staticmethod
+    @functools.lru_cache(maxsize=4096)
     def read(text):
         net = ipaddress.ip_network(text)
         return Cidr(net.version, int(net.network_address), net.prefixlen)
@@ -99,6 +101,7 @@ def key_of(record):
     return "config"
 
 
+@functools.lru_cache(maxsize=None)
 def order_of(key):
     kind, _, rest = key.partition("/")
     if kind == "block":

@@ -8,7 +8,7 @@ import request_table
 import session_table
 from resource_table import Fault, parsed
 from second_allocator import Cluster
-from second_records import Block, Cidr, Datastore, compact, kind_of, order_of
+from second_records import Block, Cidr, Datastore, compact, key_of, kind_of, order_of
 from selector_table import Bad
 
 LIVE = request_table.list_of(request_table.handle)
@@ -61,12 +61,18 @@ class Routes(Datastore):
         bodies = [body for _, body in self.listed("affinity") if body["state"] == "confirmed"]
         return [{"cidr": body["cidr"], "node": body["node"]} for body in bodies]
 
+    def route_at(self, key):
+        """The route of the affinity that has this key, where it is confirmed."""
+        body = self.rows[key][1] if key in self.rows else {}
+        return {"cidr": body["cidr"], "node": body["node"]} if body.get("state") == "confirmed" else None
+
     def apply(self, call):
-        before = self.routes()
+        key = call[1] if call[0] == "delete" else key_of(call[1])
+        before = self.route_at(key)
         super().apply(call)
-        after = self.routes()
-        for route in [one for one in before + after if (one in before) != (one in after)]:
-            self.changes.append({**route, "revision": self.counter, "up": route in after})
+        after = self.route_at(key)
+        if before != after:
+            self.changes.append({**(after or before), "revision": self.counter, "up": after is not None})
 
     def since(self, revision):
         floor = self.changes[-MOST_CHANGES - 1]["revision"] if len(self.changes) > MOST_CHANGES else self.opened

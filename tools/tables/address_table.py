@@ -1,20 +1,15 @@
-#!/usr/bin/env python3
-"""Writes the lines `addr|..` of ipam_leaf_tests in crates/ipam_tests/stdin and stdout: address texts, and what
-must be read from each: the text and the number in hex, or `!` where it is refused.
+"""Address texts, and what must be read from each: the printed text and the number, or nothing where it is refused.
+`tools/check` asks the program all of them.
 
 The judge is Python's `ipaddress`. It and ipam_addr differ in two places, where ipam_addr's own
 rule decides:
 
   zone    `ipaddress` takes a zone, as in `fe80::1%eth0`; ipam_addr refuses it.
   dotted  newer `ipaddress` prints an IPv4-mapped address in dots; ipam_addr prints hex groups.
-
-Run it from the top of the repository: python3 tools/tables/address_table.py
 """
 
 import ipaddress
 import random
-
-from table_lines import put
 
 IPV6_LINES = 340
 IPV4_LINES = 120
@@ -118,8 +113,8 @@ def texts_ipv4(rng):
         yield spoil(rng, good, "0123456789....:-x")
 
 
-def lines(texts, count, version):
-    """`text|printed hex`, or `text|!` for a refused text."""
+def read(texts, count, version):
+    """So many of the texts, each with what is read of it: what it prints as and its number, or nothing."""
     seen = set()
     made = []
     for text in texts:
@@ -131,19 +126,10 @@ def lines(texts, count, version):
         address = value_of(text)
         if address is not None and address.version != version:
             continue
-        want = "!" if address is None else f"{printed(address)} {int(address):x}"
-        made.append(f"addr|{text}|{want}")
+        made.append((text, None if address is None else (printed(address), int(address))))
 
 
-def main():
+def cases():
+    """The texts of both families, always the same, with what is read of each."""
     rng = random.Random(20260101)
-    table = []
-    for texts, count, version in [(texts_ipv6, IPV6_LINES, 6), (texts_ipv4, IPV4_LINES, 4)]:
-        made = lines(texts(rng), count, version)
-        print(f"IPv{version}", len(made), "lines,", sum(line.endswith("|!") for line in made), "refused")
-        table += made
-    put("ipam_leaf_tests", ["addr"], [line.rpartition("|")[::2] for line in table])
-
-
-if __name__ == "__main__":
-    main()
+    return read(texts_ipv6(rng), IPV6_LINES, 6) + read(texts_ipv4(rng), IPV4_LINES, 4)

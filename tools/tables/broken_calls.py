@@ -1,18 +1,14 @@
-#!/usr/bin/env python3
-"""Writes scenarios of ipam_command_tests in crates/ipam_tests/stdin and stdout: CNI calls with one thing broken each, and their replies.
+"""Scenarios of CNI calls with one thing broken each, and their replies. `tools/checks/command_cases.py` plays them.
 
 In each call one thing is broken: a member, a variable, a version or the input (the calls of
 tools/tables/cni_table.py with code and details), the rows, or what the call asks of the rows. This script states
 the code and the details of each reply and builds its bytes. It runs nothing of the program. Each command
 is also called with nothing broken, and succeeds.
-
-Run it from the top of the repository: python3 tools/tables/broken_calls.py
 """
 
 import json
 
 from cni_table import GONE, good_config, good_env, stated_calls, text_of, with_member, with_variable
-from scenarios import replace
 
 MESSAGES = {
     1: "incompatible CNI version",
@@ -238,7 +234,7 @@ def stated_scenarios():
         by_code.setdefault(int(code), []).append((env, stdin, refusal(version, int(code), details)))
     for code, calls in sorted(by_code.items()):
         lines = [line for env, stdin, reply in calls for line in call(env, stdin, reply)]
-        yield scenario(f"Each is refused with the code {code}", rows({}) + unchanged(lines)), len(calls)
+        yield scenario(f"Each is refused with the code {code}", rows({}) + unchanged(lines))
 
 
 GOOD_REPLIES = {
@@ -270,16 +266,6 @@ def wish_scenarios():
         yield scenario(f"There is {title}", rows(changes) + unchanged(call(env, stdin, refusal(version, code, details))))
 
 
-def main():
-    stated = list(stated_scenarios())
-    made_well = list(good_scenario())
-    broken = sum(count for _, count in stated)
-    scenarios = [text for text, _ in stated] + made_well + list(row_scenarios()) + list(wish_scenarios())
-    calls, over_rows = broken + len(GOOD_REPLIES), len(BROKEN_ROWS) + len(BROKEN_WISHES)
-    assert sum(text.count("\nbare ") for text in scenarios) == calls + over_rows
-    replace(("Each is refused with the code ", "Rows have ", "There is ", *made_well), scenarios)
-    print(f"{broken} calls with one thing broken, {len(GOOD_REPLIES)} without, and {over_rows} over rows")
-
-
-if __name__ == "__main__":
-    main()
+def all_scenarios():
+    for made in (stated_scenarios(), good_scenario(), row_scenarios(), wish_scenarios()):
+        yield from made

@@ -1,21 +1,14 @@
-#!/usr/bin/env python3
-"""Writes the lines `call|..` of ipam_request_tests in crates/ipam_tests/stdin and stdout: CNI calls, and what must be read of each.
+"""The table of CNI calls, and what must be read of each.
 
-The reader below is written from the rules alone. A line has the environment, standard input, and
-what the call asks or `refused`, the version, the code and the details. The first lines have one
-thing broken each, with the code and the details stated by hand; the script stops where its own
-reader says otherwise. The last lines have several things broken, so that the order shows.
-
-Run it from the top of the repository: python3 tools/tables/cni_table.py
+The reader below is written from the rules alone. It answers the environment and standard input by what the
+call asks, or by `refused`, the version, the code and the details. The first calls have one thing broken each,
+with the code and the details stated by hand. The last ones have several things broken, so that the order shows.
 """
 
 import copy
 import ipaddress
 import json
-import random
 import re
-
-from table_lines import put
 
 RANDOM_LINES = 90
 VERSIONS = ["0.3.0", "0.3.1", "0.4.0", "1.0.0", "1.1.0"]
@@ -372,6 +365,9 @@ def good_calls():
         yield good_env("VERSION"), stdin
     only_ipv6 = {"type": "calico-ipam", "assign_ipv4": "false", "assign_ipv6": "true"}
     yield good_env("ADD"), text_of(with_member(good_config("ADD"), ("ipam",), only_ipv6))
+    for command, names in (("ADD", ["2001:DB8:0:0:0:0:0:0/48", "q"]), ("STATUS", ["q"])):
+        both = {"type": "calico-ipam", "assign_ipv6": "true", "ipv6_pools": names}
+        yield good_env(command), text_of(with_member(good_config(command), ("ipam",), both))
 
 
 def mixed_calls(draw):
@@ -392,30 +388,3 @@ def mixed_calls(draw):
             else:
                 config["cniVersion"] = draw.choice(VERSIONS + ["2.0.0", 3])
         yield env, text_of(config)
-
-
-def line(env, stdin, want):
-    """The question and its answer."""
-    pairs_text = "¦".join(f"{name}={value}" for name, value in env)
-    text = f"call|{pairs_text}⇒{stdin}"
-    assert text.count("⇒") == 1 and "\n" not in text
-    return text, want
-
-
-def main():
-    lines = []
-    for env, stdin, want in stated_calls():
-        assert read(env, stdin) == want or "1e999" in stdin, (env, stdin, read(env, stdin), want)
-        lines.append(line(env, stdin, want))
-    stated = len(lines)
-    for env, stdin in good_calls():
-        assert not read(env, stdin).startswith("refused"), (env, stdin, read(env, stdin))
-        lines.append(line(env, stdin, read(env, stdin)))
-    good = len(lines) - stated
-    lines += [line(env, stdin, read(env, stdin)) for env, stdin in mixed_calls(random.Random(19))]
-    put("ipam_request_tests", ["call"], lines)
-    print(f"{len(lines)} lines: {stated} with one thing broken, {good} good, {len(lines) - stated - good} mixed")
-
-
-if __name__ == "__main__":
-    main()

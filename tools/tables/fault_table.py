@@ -1,16 +1,14 @@
 #!/usr/bin/env python3
-"""Writes the tables of the tests of faults and stops, by the second allocator.
+"""Faults and stops, by the second allocator.
 
 Stops: four requests race in four slots, an ADD on each of two nodes, the release of a block and a
 collection, round by round. For each turn of theirs, and for each of `stop`, `fail` and `lose` in its
 place, the others go on to their ends. Then everything is stopped and opened again, and both handles are
-deleted. The second allocator has to leave no owner. The table has the script of each run, and the last line
-of its journal.
+deleted. The second allocator has to leave no owner. `tools/check` plays the script of each run.
 
-Doubts: a call by itself of which a write fails, done or not. The table has its reply, the replies to the
-calls after it, and the rows that are left.
+Doubts: a call by itself of which a write fails, done or not, with its reply, the replies to the calls after it, and
+the rows that are left. `tools/checks/command_cases.py` plays these scenarios.
 
-Run it from the top of the repository: python3 tools/tables/fault_table.py
 With --states FOLDER it writes an ADD there, and the rows after each front part of its writes.
 """
 
@@ -23,7 +21,6 @@ TOP = Path(__file__).resolve().parents[2]
 sys.path.append(str(TOP / "tools/second"))
 # pylint: disable=wrong-import-position
 from play_table import POOLS, add, begin, delete
-from scenarios import replace
 from second_allocator import Script, compact
 from second_records import Block
 
@@ -41,7 +38,6 @@ BEGUN = POOLS + (
 LINES = {str(slot): f"turn {slot}\n" for slot in range(4)}
 LINES |= {"w": f"feed 3 {LIVE}\n", "r": "restart\n", "x": delete("n.c1"), "y": delete("n.c2")}
 LINES |= {"c": begin(0, '{"collect":{"live":[]}}'), "z": "feed 0 []\n"}
-NO_OWNER = "No stop and no failure in the place of a turn leaves an owner."
 IN_PLACE = {"stop": "efgh", "fail": "ijkl", "lose": "mnop"}
 for word, signs in IN_PLACE.items():
     LINES |= {sign: f"{word} {slot}\n" for slot, sign in enumerate(signs)}
@@ -90,10 +86,11 @@ class Run:
         last = self.script.cluster.journal[-1]
         assert last.endswith('"items":[]}}') and not self.slots, last
 
-    def told(self):
-        """The run as a command of which the last line is told."""
-        script = BEGUN + "".join(map(LINES.get, self.signs))
-        return f"last play⇒⇒{script.replace(chr(10), '␤')}\n= 0 {self.script.cluster.journal[-1]}"
+    def text(self):
+        return BEGUN + "".join(map(LINES.get, self.signs))
+
+    def journal(self):
+        return "".join(f"{line}\n" for line in self.script.cluster.journal)
 
 
 def stops():
@@ -113,7 +110,7 @@ def stops():
             run.follow(turns[place + 1 :])
             run.clean()
             runs.append(run)
-    return turns, runs
+    return runs
 
 
 # ---- doubts
@@ -215,20 +212,7 @@ def write_states(place):
     database.close()
 
 
-# ---- the files
-
-
-def main():
-    if sys.argv[1:2] == ["--states"]:
-        write_states(Path(sys.argv[2]))
-        return
-    turns, runs = stops()
-    scenarios = doubts()
-    whole = "\n".join([NO_OWNER, *(run.told() for run in runs)])
-    replace((NO_OWNER, "Write "), [text.rstrip("\n") for text in scenarios] + [whole])
-    signs = sum(len(run.signs) for run in runs)
-    print(f"{len(turns)} turns, {len(runs)} runs, {signs} signs; {len(scenarios)} doubts")
-
-
 if __name__ == "__main__":
-    main()
+    if sys.argv[1:2] != ["--states"]:
+        sys.exit(__doc__)
+    write_states(Path(sys.argv[2]))

@@ -1,12 +1,9 @@
-#!/usr/bin/env python3
-"""Writes scenarios of ipam_command_tests in crates/ipam_tests/stdin and stdout: the scripts that `play` is tested with, and what `play` must write for each.
+"""Scripts that `play` is tested with, and what it must write for each. `tools/check` plays them.
 
 The second allocator gives what is expected. For scripts that are refused before anything happens, and for
 failing input and output, this script states it. Some scripts have lines that were worked out by hand, and
-the second allocator's journal has to contain them. For a long journal the table has only a sum of the
-expected bytes.
-
-Run it from the top of the repository: python3 tools/tables/play_table.py
+the second allocator's journal has to contain them. Those of failing input and output, and those of long lines, are
+scenarios, which `tools/checks/command_cases.py` plays.
 """
 
 import sys
@@ -17,8 +14,8 @@ sys.path.append(str(TOP / "tools/second"))
 # pylint: disable=wrong-import-position
 from random_scripts import text_of
 from second_allocator import play
-from scenarios import replace
 
+# How many of the scripts drawn at random are played whatever the seed is.
 RANDOM = 16
 
 POOL = '{"blockSize":30,"cidr":"10.0.0.0/29","disabled":false,"name":"p"}'
@@ -321,14 +318,6 @@ FAILING = [
 ]
 
 
-def sum_of(text):
-    """The 64-bit sum of Fowler, Noll and Vo of the bytes, of their variant 1a."""
-    total = 0xCBF29CE484222325
-    for byte in text.encode():
-        total = (total ^ byte) * 0x100000001B3 % 2**64
-    return total
-
-
 def worked(script, lines):
     """What is written of the script, which has these lines."""
     journal, status = play(script)
@@ -337,6 +326,11 @@ def worked(script, lines):
         found = written[place]
         assert found.endswith(line) if line.startswith((" ", '"')) else found == line, (script, place, found)
     return script, journal, status
+
+
+def long_scripts():
+    """Scripts with long journals."""
+    return [many_races(), *(text_of(number) for number in range(RANDOM))]
 
 
 def encoded(script):
@@ -354,19 +348,5 @@ def scenario(title, way, script, text, status):
     return f"{title}\n{way}\n{ended}= {status}\n" + "".join(f"= {line}\n" for line in text.splitlines())
 
 
-def main():
-    others = [(script, *play(script)) for script in OTHERS]
-    summed = [(script, *play(script)) for script in [many_races()] + [text_of(number) for number in range(RANDOM)]]
-    sums = [(script, f"{len(text.encode())} {sum_of(text)}\n", status) for script, text, status in summed]
-    scenarios = [scenario(f"Worked script {n + 1}.", "script", *worked(*one)) for n, one in enumerate(WORKED)]
-    scenarios += [scenario(f"Script {n + 1}.", "script", *one) for n, one in enumerate(others)]
-    scenarios += [scenario(f"Refused script {n + 1}.", "script", *one) for n, one in enumerate(REFUSED)]
-    scenarios += [scenario(*one) for one in FAILING]
-    scenarios += [scenario(f"Sum of script {n + 1}.", "script sum", *one) for n, one in enumerate(sums)]
-    titles = ("Worked script ", "Script ", "Refused script ", "Sum of script ", *(one[0] for one in FAILING))
-    replace(titles, [text.rstrip("\n") for text in scenarios])
-    print(f"{len(WORKED)} worked scripts, {len(others)} others, {len(REFUSED)} refused, {len(FAILING)} with faults and long lines, {len(sums)} long ones")
-
-
-if __name__ == "__main__":
-    main()
+def failing_scenarios():
+    return [scenario(*one).rstrip("\n") for one in FAILING]

@@ -1,10 +1,7 @@
-#!/usr/bin/env python3
-"""Writes the lines `request|..` and `live|..` of ipam_request_tests in crates/ipam_tests/stdin and stdout: texts of requests and of live lists, and what is read from each.
+"""The table of texts of requests and of live lists, and what is read from each.
 
-The reader below was written only from the format, over Python's own `json` and `ipaddress`. A line
-has a text, and the printed text of what it is read as, or `unreadable`.
-
-Run it from the top of the repository: python3 tools/tables/request_table.py
+The reader below was written only from the format, over Python's own `json` and `ipaddress`. A text is
+answered by the printed text of what it is read as, or by `unreadable`.
 """
 
 import json
@@ -19,7 +16,6 @@ from resource_table import Fault, address, below, cidr, levels, mode, name, of_t
 from resource_table import constant, floating, whole
 from second_records import Cidr, address_text
 from selector_table import Bad
-from table_lines import put
 
 HANDLE = re.compile(r"[A-Za-z0-9][A-Za-z0-9_.-]{0,506}")
 LABEL = re.compile(r"[A-Za-z0-9_./-]{1,317}")
@@ -316,22 +312,3 @@ def all_requests():
     ]
     plain = [compact({what: inner}) for what, (inner, _) in REQUESTS.items()]
     return plain + changed + [compact(one) for one in WHOLE] + SPELLED
-
-
-# ---- the lines
-
-
-def lines(kind, texts, reader):
-    return [(f"{kind}|{one}", answer(one, reader)) for one in texts]
-
-
-def main():
-    requests = all_requests()
-    made = lines("request", requests, request) + lines("live", LIVE, list_of(handle))
-    put("ipam_request_tests", ["request", "live"], made)
-    refused = sum(answer(one, request) == "unreadable" for one in requests)
-    print(f"{len(requests)} requests, {refused} refused; {len(LIVE)} live lists")
-
-
-if __name__ == "__main__":
-    main()

@@ -1,12 +1,8 @@
-#!/usr/bin/env python3
-"""Writes the lines `document|..` of ipam_request_tests in crates/ipam_tests/stdin and stdout: documents of resources, and what must be read from each.
+"""The table of documents of resources, and what must be read from each.
 
-The reader below is written from the format alone, over Python's own `json` and `ipaddress`. In a
-document `␤` stands for a line feed. What is told of it is, for each resource, its line and the text of
-the request that it becomes, or the line of the document's fault. The first documents are as
-`kubectl get .. -o json` prints them.
-
-Run it from the top of the repository: python3 tools/tables/resource_table.py
+The reader below is written from the format alone, over Python's own `json` and `ipaddress`. What is told
+of a document is, for each resource, its line and the text of the request that it becomes, or the line of the
+document's fault. The first documents are as `kubectl get .. -o json` prints them.
 """
 
 import ipaddress
@@ -14,7 +10,6 @@ import json
 import re
 
 from selector_table import TEXT_MAX, Bad, Parser, printed
-from table_lines import put
 
 NAME = re.compile(r"[A-Za-z0-9][A-Za-z0-9_.-]{0,252}")
 KINDS = ("IPPool", "IPReservation", "IPAMConfig", "IPAMConfiguration")
@@ -435,19 +430,3 @@ def all_documents():
     ]
     others = [compact(document) for document in [POOL, RESERVED, CONFIG] + ORDERED + LISTED]
     return REAL, changed + others + SPELLED
-
-
-# ---- the lines
-
-
-def main():
-    real, others = all_documents()
-    documents = real + others
-    assert not any("␤" in one for one in documents)
-    put("ipam_request_tests", ["document"], [("document|" + one, answer(one)) for one in documents])
-    refused = sum(answer(one).startswith("refused") for one in documents)
-    print(f"{len(documents)} documents, {refused} refused")
-
-
-if __name__ == "__main__":
-    main()

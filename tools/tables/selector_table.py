@@ -1,19 +1,14 @@
-#!/usr/bin/env python3
-"""Writes the lines `selector|..` of ipam_leaf_tests in crates/ipam_tests/stdin and stdout: selector texts and what must be read from each.
+"""Selector texts and what must be read from each. `tools/check` asks the program all of them.
 
-The parser, the printer and the matcher below were written only from the grammar. A line has a text,
-the printed form of what it is read as, and `y` or `n` for each of three lists of labels. A text that is
+The parser, the printer and the matcher below were written only from the grammar. An answer has the
+printed form of what a text is read as, and `y` or `n` for each of three lists of labels. A text that is
 refused has `form` or `long` in place of these.
-
-Run it from the top of the repository: python3 tools/tables/selector_table.py
 """
 
 import random
 import re
 
-from table_lines import put
-
-RANDOM_LINES = 90
+RANDOM_TEXTS = 90
 KEY = re.compile(r"[A-Za-z0-9_./-]+")
 TEXT_MAX, KEY_MAX, VALUE_MAX, DEPTH_MAX = 1024, 317, 253, 32
 
@@ -464,23 +459,12 @@ def damaged(rng, text):
 
 
 def all_texts():
+    """The texts, always the same, of which some are there twice."""
     rng = random.Random(19)
     yield ""
     yield "\t"
     yield from BY_HAND
     yield from by_length()
-    for n in range(RANDOM_LINES):
+    for n in range(RANDOM_TEXTS):
         text = random_text(rng, rng.randrange(4))
         yield damaged(rng, text) if n % 3 == 2 else text
-
-
-def main():
-    texts = [text for text in dict.fromkeys(all_texts()) if "⇒" not in text and "\n" not in text]
-    put("ipam_leaf_tests", ["selector"], [(f"selector|{text}", answer(text)) for text in texts])
-    answers = [answer(text) for text in texts]
-    good = len(texts) - answers.count("form") - answers.count("long")
-    print(f"{len(texts)} lines, {good} of them good, {answers.count('long')} long")
-
-
-if __name__ == "__main__":
-    main()

@@ -1,10 +1,7 @@
-#!/usr/bin/env python3
-"""Writes the lines `line|..` of ipam_request_tests in crates/ipam_tests/stdin and stdout: lines of a session, and what must be read from each.
+"""The table of lines of a session, and what must be read from each.
 
-The reader below was written only from the format, over Python's own `json`. A line of the table has
-a line and what it asks, or `line` if it asks for nothing that is known.
-
-Run it from the top of the repository: python3 tools/tables/session_table.py
+The reader below was written only from the format, over Python's own `json`. A line is answered by what it
+asks, or by `line` if it asks for nothing that is known.
 """
 
 import ipaddress
@@ -12,7 +9,6 @@ import json
 import re
 
 from resource_table import Fault, parsed
-from table_lines import put
 
 NAME = re.compile(r"[A-Za-z0-9][A-Za-z0-9_.-]{0,252}")
 KIND = re.compile("config|pools|reservations|block|affinity|handle")
@@ -198,6 +194,8 @@ SPELLINGS = [
     '{"rows":"block","after":"block/10.0.0.0/29","after":"block/10.0.0.0/30"}',
     '{"request":{"collect":{"grace":0,"live":[]}}}',
     '{"request":{"del":{"handle":"a"},"del":{"handle":"b"}}}',
+    '{"env":{"CNI_COMMAND":"VERSION","CNI_COMMAND":"ADD"},"stdin":"{\\"cniVersion\\":\\"\\u00fc\\ud83d\\ude00\\\\t\\"}"}',
+    '{"request":{"collect":{"live":["n.c1","n.c1","a"]}}}',
 ]
 BAD = [
     "", " ", "{}", "[]", "null", "true", '"stop"', "0", "{", '{"stop"}', '{"stop":true', '{"stop":true}}',
@@ -239,17 +237,3 @@ def cases():
     cut = [line[:-1] for line in GOOD]
     behind = [line + "," for line in GOOD[:4]]
     return GOOD + SPELLINGS + BAD + limits + deep + cut + behind
-
-
-# ---- the lines
-
-
-def main():
-    rows = cases()
-    put("ipam_request_tests", ["line"], [("line|" + line.replace("\r", "␍"), told(line)) for line in rows])
-    unread = sum(told(line) == "line" for line in rows)
-    print(f"{len(rows)} lines, {unread} of them refused")
-
-
-if __name__ == "__main__":
-    main()

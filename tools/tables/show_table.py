@@ -1,17 +1,12 @@
-#!/usr/bin/env python3
-"""Writes the lines of five kinds of ipam_record_tests in crates/ipam_tests/stdin and stdout: what an operator is shown of ten datastores.
+"""The table of what an operator is shown of ten datastores.
 
 Each datastore is made of pools, blocks and reservations, and its rows are written from them. What must be
 shown is counted from the same values, address by address, and not from the rows.
-
-Run it from the top of the repository: python3 tools/tables/show_table.py
 """
 
 import collections
 import ipaddress
 import json
-
-from table_lines import put
 
 def J(v): return json.dumps(v, separators=(',', ':'), ensure_ascii=False)
 def net(c): return ipaddress.ip_network(c)
@@ -44,7 +39,7 @@ class Base:
             rows[f"affinity/{n}/{c}"] = J({"cidr": c, "node": n, "state": st})
         for i, m in handles.items():
             rows["handle/" + i] = J({"block": dict(sorted(m.items())), "handleID": i})
-        return "".join(f"␤{9} {k} {rows[k]}" for k in sorted(rows, key=lambda k: k.encode()))
+        return [(k, 9, rows[k]) for k in sorted(rows, key=lambda k: k.encode())]
     def order(s): return sorted(s.blocks, key=lambda b: (net(b[0]).version, int(net(b[0]).network_address), net(b[0]).prefixlen))
     def reserved(s, a): return any(a in net(c) for n, l in s.res for c in l if net(c).version == a.version)
     def counts(s):
@@ -115,11 +110,14 @@ extra = {5: ["2001:db8::2", "2001:db8::", "2001:db8::f", "2001:db8::7", "8000::"
   6: ["10.1.0.0", "10.1.0.3", "10.2.0.0", "10.2.0.1", "10.2.0.3", "10.3.0.0", "10.3.0.4", "10.3.0.6", "10.3.0.7", "10.4.0.1", "10.4.0.0", "fd00::", "fd00::1", "fd00::2", "fd00::3", "fd00::4"],
   8: ["10.16.0.3", "10.16.0.4", "10.16.1.41", "10.16.1.0", "10.15.255.255"],
   9: ["ffff:ffff:ffff:ffff:ffff:ffff:ffff:ffff", "ffff:ffff:ffff:ffff:ffff:ffff:ffff:fffe", "fd00:0:0:1::"]}
-made = []
-def add(kind, asked, b, text):
-    made.append((f"{kind}|{asked}{b.rows()}", text))
-for i, b in enumerate(B):
-    add("pools", "", b, pools(b)); add("json", "", b, js(b)); add("blocks", "", b, blocks(b))
-    for n in (["a", "b", "node-1.example", "c"] if i < 8 else ["a", "z"]): add("node", n, b, node(b, n))
-    for a in (extra.get(i, []) + (asks if i < 5 or i == 7 else [])): add("address", a, b, address(b, a))
-put("ipam_record_tests", ["pools", "json", "blocks", "node", "address"], made)
+def cases():
+    """The words, the rows of a file and what must be shown of them."""
+    for i, b in enumerate(B):
+        rows = b.rows()
+        yield ["show"], rows, pools(b)
+        yield ["show", "--json"], rows, js(b)
+        yield ["show", "blocks"], rows, blocks(b)
+        for n in ["a", "b", "node-1.example", "c"] if i < 8 else ["a", "z"]:
+            yield ["show", "node", n], rows, node(b, n)
+        for a in extra.get(i, []) + (asks if i < 5 or i == 7 else []):
+            yield ["show", a], rows, address(b, a)

@@ -1,0 +1,2 @@
+-- Lemmas on writes that create.
+pub mod SoundWrites

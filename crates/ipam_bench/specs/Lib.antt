@@ -1,0 +1,2 @@
+-- What the measurements ask.
+pub mod Counted

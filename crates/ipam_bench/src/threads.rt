@@ -3,9 +3,12 @@ ghost use Rattle.std.specs.Prelude.{◌≡◌, ◌+◌, ◌*◌, ◌-◌};
 ghost use denote.Param.Send.{IsSync};
 
 use crate::tally::{Tally, Tick};
+use crate::work::tell;
 use std::alloc::Global;
-use std::sync::{Mutex, Wait};
+use std::io;
+use std::sync::Wait;
 use std::thread::{Threads, join};
+use std::time::Instant;
 use turn_lock::{TurnLock, Turns};
 
 type Pass = Turns<u64, u8>;
@@ -55,13 +58,20 @@ fn spread<R: Threads + Wait + Sync>(
     into
 }
 
-/// How many turns were made through a turn lock. There is no answer where there was no memory for it.
-pub fn by_turn_lock<R: Threads + Wait + Sync>(
-    rt: &R,
-    alloc: Global,
-    others: u32,
+/// Takes turns by so many threads, so many by each, and tells how many were made.
+pub fn take_turns<R: Threads + Wait + Sync>(
+    threads: &R,
+    rt: &HostRuntime,
+    count: u32,
     turns: u32,
-) -> Option<u64> {
+) -> io::Result<()> {
+    let start = Instant::now(rt)?;
+    let made = made(threads, rt.alloc(), count.saturating_sub(1), turns);
+    tell(rt, &start, made.unwrap_or(0))
+}
+
+/// There is no answer where there was no memory for the lock.
+fn made<R: Threads + Wait + Sync>(rt: &R, alloc: Global, others: u32, turns: u32) -> Option<u64> {
     let (lock, pass) = TurnLock::new(alloc, Tally { turns: 0 }).ok()?;
     let pass = spread(rt, &lock, pass, others, turns);
     if pass.is_last() {
@@ -69,32 +79,4 @@ pub fn by_turn_lock<R: Threads + Wait + Sync>(
     } else {
         None
     }
-}
-
-fn count<R: Wait>(rt: &R, tally: &Mutex<Tally>, turns: u32) {
-    for _ in 0..turns {
-        let mut guard = tally.lock(rt);
-        guard.turns = guard.turns.wrapping_add(1);
-    }
-}
-
-fn count_all<R: Threads + Wait + Sync>(rt: &R, tally: &Mutex<Tally>, others: u32, turns: u32) {
-    if others == 0 {
-        return count(rt, tally, turns);
-    }
-    let more = others - 1;
-    join(
-        rt,
-        move ||
-            requires { IsSync R.row }
-        { count_all(rt, tally, more, turns) },
-        move || count(rt, tally, turns),
-    );
-}
-
-/// How many turns were made through a mutex.
-pub fn by_mutex<R: Threads + Wait + Sync>(rt: &R, others: u32, turns: u32) -> u64 {
-    let tally = Mutex::new(Tally { turns: 0 });
-    count_all(rt, &tally, others, turns);
-    tally.into_inner().turns
 }

@@ -10,17 +10,16 @@ use std::thread::Threads;
 /// How many bytes an audit may write.
 const ROOM: usize = 65_536;
 
-/// Runs the words, and appends the status and what was written. The write of this number fails; none is 0.
+/// Runs the words, and appends the status and what was written.
 pub(crate) fn push_report<R: Threads + Sync>(
     threads: &R,
     alloc: Global,
     keeper: &mut MemoryKeeper,
-    write: u64,
     words: &str,
     told: &mut String,
 ) -> Result<(), AllocError> {
-    let mut sink = MemorySink::new(alloc, ROOM, vec![in alloc; write]?)?;
+    let mut sink = MemorySink::new(alloc, ROOM, Vec::new(alloc))?;
     let words = words_of(alloc, words)?;
     let status = run_audit(threads, alloc, &words, &mut sink, keeper);
-    push_reply(alloc, status, false, sink.written(), told)
+    push_reply(alloc, status, sink.written(), told)
 }

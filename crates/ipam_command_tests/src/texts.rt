@@ -10,29 +10,18 @@ pub(crate) fn words_of(alloc: Global, text: &str) -> Result<Vec<String>, AllocEr
     Ok(words)
 }
 
-/// The bytes of the text, with a line feed for each `␤`.
-pub(crate) fn lines_of(alloc: Global, text: &str) -> Result<Vec<u8>, AllocError> {
-    let mut bytes = Vec::new(alloc);
-    for (number, part) in text.split('␤').enumerate() {
-        if number > 0 {
-            bytes.push(b'\n')?;
+/// The line of the command that plays the script of these lines: those that do not begin with `= `. `∎` ends a line
+/// that has no line feed.
+pub(crate) fn play_of(alloc: Global, lines: &str) -> Result<String, AllocError> {
+    let mut script = String::from_str(alloc, "play⇒⇒")?;
+    for line in lines.lines() {
+        if let Some(part) = line.strip_suffix('∎') {
+            script.push_str(part)?;
+        } else if !line.starts_with("= ") {
+            push_line(&mut script, line)?;
         }
-        bytes.extend_from_slice(part.as_bytes())?;
     }
-    Ok(bytes)
-}
-
-/// The bytes as a text on one line.
-pub(crate) fn shown(alloc: Global, bytes: &[u8]) -> Result<String, AllocError> {
-    let mut shown = String::new(alloc);
-    let text = str::from_utf8(bytes).unwrap_or("no text");
-    for (number, part) in text.split('\n').enumerate() {
-        if number > 0 {
-            shown.push_str("␤")?;
-        }
-        shown.push_str(part)?;
-    }
-    Ok(shown)
+    Ok(script)
 }
 
 /// Appends the text as a line.

@@ -10,30 +10,8 @@ pub(crate) const FREE: &str =
 2 affinity/a/10.0.0.0/30 {"cidr":"10.0.0.0/30","node":"a","state":"confirmed"}
 3 block/10.0.0.0/30 {"affinity":"host:a","allocations":[null,null,null,null],"attributes":[],"cidr":"10.0.0.0/30","sequenceNumber":0,"sequenceNumberForAllocation":{},"unallocated":[0,1,2,3]}"#;
 
-/// Rows in which the container `n.c1` has an address.
-const HELD: &str =
-    r#"1 pools {"pools":[{"blockSize":30,"cidr":"10.0.0.0/29","disabled":false,"name":"p"}]}
-2 affinity/a/10.0.0.0/30 {"cidr":"10.0.0.0/30","node":"a","state":"confirmed"}
-3 block/10.0.0.0/30 {"affinity":"host:a","allocations":[0,null,null,null],"attributes":[{"handle_id":"n.c1","secondary":{}}],"cidr":"10.0.0.0/30","sequenceNumber":1,"sequenceNumberForAllocation":{"0":1},"unallocated":[1,2,3]}
-4 handle/n.c1 {"block":{"10.0.0.0/30":1},"handleID":"n.c1"}"#;
-
-/// A handle that counts an address which it has twice.
-const BROKEN: &str =
-    r#"1 pools {"pools":[{"blockSize":30,"cidr":"10.0.0.0/29","disabled":false,"name":"p"}]}
-3 block/10.0.0.0/30 {"affinity":null,"allocations":[0,0,null,null],"attributes":[{"handle_id":"n.c1","secondary":{}}],"cidr":"10.0.0.0/30","sequenceNumber":2,"sequenceNumberForAllocation":{"0":1,"1":2},"unallocated":[2,3]}
-4 handle/n.c1 {"block":{"10.0.0.0/30":1},"handleID":"n.c1"}"#;
-
 /// The text of the opening of which all sessions are.
 const OPENED: &str = "7-00000000000000fe";
-
-/// The rows of this name.
-pub(crate) fn named(name: &str) -> &'static str {
-    match name {
-        "held" => HELD,
-        "broken" => BROKEN,
-        _ => FREE,
-    }
-}
 
 pub(crate) fn opening(alloc: Global) -> Result<Opening, AllocError> {
     Ok(Opening::of(alloc, Text::copied(alloc, OPENED)?))

@@ -97,30 +97,14 @@ fn part_of<'a>(reply: &'a str, lines: &'a str) -> &'a str {
     reply
 }
 
-/// The link of a session. `> TEXT` is a line that comes in, `. TEXT` a text without a line feed, and
-/// `fill N` are N bytes without one. Of its reads and writes those fail that a line `break N..` says.
+/// The link of a session. `> TEXT` is a line that comes in.
 fn link_of(alloc: Global, lines: &str) -> Result<MemoryLink, AllocError> {
     let mut bytes = Vec::new(alloc);
     for line in lines.lines() {
-        let (word, rest) = line.split_once(' ').unwrap_or((line, ""));
-        match word {
-            ">" => push_coming(&mut bytes, rest, "\n")?,
-            "." => push_coming(&mut bytes, rest, "")?,
-            "fill" => fill(&mut bytes, rest.parse().unwrap_or(0))?,
-            _ => {}
+        if let Some(text) = line.strip_prefix("> ") {
+            bytes.extend_from_slice(text.as_bytes())?;
+            bytes.extend_from_slice(b"\n")?;
         }
     }
-    MemoryLink::new(alloc, bytes, ROOM, numbers(alloc, lines, "break ")?)
-}
-
-fn push_coming(bytes: &mut Vec<u8>, text: &str, end: &str) -> Result<(), AllocError> {
-    bytes.extend_from_slice(text.as_bytes())?;
-    bytes.extend_from_slice(end.as_bytes())
-}
-
-fn fill(bytes: &mut Vec<u8>, count: u32) -> Result<(), AllocError> {
-    for _ in 0..count {
-        bytes.push(b'x')?;
-    }
-    Ok(())
+    MemoryLink::new(alloc, bytes, ROOM, Vec::new(alloc))
 }

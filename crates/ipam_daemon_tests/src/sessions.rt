@@ -3,7 +3,7 @@ ghost use Rattle.std.specs.Prelude.{◌≡◌, ◌+◌, ◌≤◌, ◌^◌, None
 ghost use Rattle.ipam_shared.specs.Passes.{IsSamePass, runs_in};
 
 use crate::counting::Counting;
-use crate::rows::{keeper_of, numbers, push_line};
+use crate::rows::{FREE, keeper_of, numbers, push_line};
 use crate::served::{served, share};
 use ipam_daemon::Serves;
 use ipam_io::ListGate;
@@ -19,15 +19,10 @@ const END: &str = "\n= session ";
 /// The most entries that a cluster may be opened with.
 const MOST_FIRST: u64 = 1 << 62;
 
-/// What is told of up to three sessions over these rows, each of which goes up to the line of its end, and of
+/// What is told of up to three sessions, each of which goes up to the line of its end, and of
 /// the rows whose keys begin as a line `get START` says.
-pub(crate) fn told<R: Wait>(
-    rt: &R,
-    alloc: Global,
-    rows: &str,
-    steps: &str,
-) -> Result<String, AllocError> {
-    let keeper = keeper_of(alloc, rows, steps)?;
+pub(crate) fn told<R: Wait>(rt: &R, alloc: Global, steps: &str) -> Result<String, AllocError> {
+    let keeper = keeper_of(alloc, FREE, steps)?;
     match share(alloc, keeper, first_of(steps)) {
         Some((shared, pass)) => told_over(rt, alloc, shared, pass, steps),
         None => Err(AllocError),

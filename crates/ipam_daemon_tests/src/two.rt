@@ -3,7 +3,6 @@ ghost use Rattle.std.specs.Prelude.{◌≡◌, None};
 ghost use Rattle.ipam_shared.specs.Passes.{runs_in};
 
 use crate::counting::Counting;
-use crate::daemon::both;
 use crate::meeting::{Meeting, MeetingGate};
 use crate::rows::{FREE, keeper_of, numbers, push_line};
 use crate::served::{served, share};
@@ -152,5 +151,15 @@ fn serve<R: Wait, S: Serves>(
     if lines.contains("\npatience\n") {
         push_line(&mut told, patience.told(alloc)?.as_str())?;
     }
+    Ok(told)
+}
+
+/// The two texts, one after the other.
+fn both(
+    first: Result<String, AllocError>,
+    second: Result<String, AllocError>,
+) -> Result<String, AllocError> {
+    let mut told = first?;
+    told.push_str(second?.as_str())?;
     Ok(told)
 }

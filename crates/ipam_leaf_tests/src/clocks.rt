@@ -1,5 +1,5 @@
 //! The readings of clocks.
-use ipam_io::{Clock, ListClock, SystemClock};
+use ipam_io::{Clock, SystemClock};
 use std::alloc::{AllocError, Global};
 use std::cell::Cell;
 use std::io;
@@ -29,11 +29,6 @@ fn readings<C: Clock>(alloc: Global, clock: &mut C, count: u32) -> Result<String
 fn push_reading(alloc: Global, out: &mut String, reading: u64) -> Result<(), AllocError> {
     let text = format!(in alloc; "{reading} ")?;
     out.push_str(text.as_str())
-}
-
-/// Four readings of a list.
-pub(crate) fn readings_text(alloc: Global, text: &str) -> Result<String, AllocError> {
-    readings(alloc, &mut ListClock::new(numbers(alloc, text)?), 4)
 }
 
 // A system's clock that has these times in order, and can't be read at the zeros among them.

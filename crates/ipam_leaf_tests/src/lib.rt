@@ -1,23 +1,50 @@
-//! Tests of the lowest crates: addresses, selectors, pools, reservations, affinities, input and output,
-//! lines. A line has a kind and a question, as `cidr|10.0.0.0/24`. `ipam_tests` has the lines.
+//! Tests of what no program can be made to show: the system's clock where it is set back or can't be read, lines
+//! of a source after a read that failed, a connection over TCP, the error of a call that lost too many races, a
+//! result without addresses, members of JSON values that are read by their paths, a store against a plain one, and
+//! calls of the libraries that the program does not make. A line has a kind and a question, as `times|0 5000`. In it
+//! `␤` stands for a line feed. `ipam_tests` has the lines.
 #![tactic(auto)]
 
-mod addresses;
-mod answers;
+mod calls;
 mod clocks;
+mod compared;
+mod fields;
 mod lines;
 mod links;
-mod pools;
-mod reservations;
-mod selectors;
-mod streams;
+mod plain;
+mod records;
+mod texts;
 
-use answers::answer;
-use std::alloc::AllocError;
+use std::alloc::{AllocError, Global};
 
 /// The line, and after it the answer to its question.
 pub fn answered(rt: &HostRuntime, line: &str) -> Result<String, AllocError> {
     let (kind, question) = line.split_once('|').unwrap_or((line, ""));
     let answer = answer(rt, kind, question)?;
     format!(in rt.alloc(); "{line}|{answer}")
+}
+
+/// The answer to a question of this kind. A kind that is not known is answered as want of memory.
+fn answer(rt: &HostRuntime, kind: &str, question: &str) -> Result<String, AllocError> {
+    match kind {
+        "system" => clocks::system_text(rt),
+        "socket" => links::socket_text(rt, question),
+        "times" => clocks::times_text(rt.alloc(), question),
+        "lines" => lines::lines_text(rt.alloc(), question),
+        "again" => texts::again_text(rt.alloc(), question),
+        "empty" => texts::empty_text(rt.alloc(), question),
+        _ => value_answer(rt.alloc(), kind, question),
+    }
+}
+
+fn value_answer(alloc: Global, kind: &str, question: &str) -> Result<String, AllocError> {
+    match kind {
+        "field" => fields::field_answer(alloc, question),
+        "written" => fields::written_answer(alloc, question),
+        "free" => records::free_text(alloc, question),
+        "of" => records::of_text(alloc, question),
+        "freed" => records::freed_text(alloc, question),
+        "plain" => compared::handles_text(alloc),
+        _ => Err(AllocError),
+    }
 }

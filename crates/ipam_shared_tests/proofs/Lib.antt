@@ -1,1 +1,3 @@
+-- What is opened is kept.
+pub mod Opened
 pub mod Standing

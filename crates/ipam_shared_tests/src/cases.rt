@@ -1,7 +1,7 @@
 // Which case a text is.
 
 use crate::workers::Job;
-use crate::{after, settled, threads, turns, two};
+use crate::{after, settled, settlings, threads, turns, two, writes};
 use std::alloc::{AllocError, Global};
 use std::io;
 use std::sync::Wait;
@@ -21,15 +21,15 @@ pub fn told<R: Threads + Wait + Sync + Clock + Eprint>(
     Ok(told)
 }
 
-/// The first line has the name of the case and up to two numbers, and steps may follow.
+/// The first line has the name of the case and up to two numbers, or the numbers of what fails, and steps may follow.
 fn told_of<R: Threads + Wait + Sync>(
     rt: &R,
     alloc: Global,
     case: &str,
 ) -> Result<String, AllocError> {
     let (line, steps) = case.split_once('\n').unwrap_or((case, ""));
-    let mut words = line.split(' ');
-    let name = words.next().unwrap_or("");
+    let (name, rest) = line.split_once(' ').unwrap_or((line, ""));
+    let mut words = rest.split(' ');
     let one = number(words.next());
     let other = number(words.next());
     match name {
@@ -39,6 +39,8 @@ fn told_of<R: Threads + Wait + Sync>(
         "turns" => threads::told_turns(rt, alloc, Job::Turns(small(other)), small(one)),
         "settled" => settled::told(rt, alloc, one),
         "kept" => turns::told(alloc, small(one)),
+        "writes" => writes::told(alloc, rest, steps),
+        "settlings" => settlings::told(alloc, rest, steps),
         _ => String::from_str(alloc, "no such case"),
     }
 }

@@ -2,7 +2,7 @@
 use Rattle.std.proofs.Common.{◌≡◌, ℕ, ◌+◌, ◌<◌, Option, Some, None, List, [], ◌∷◌, ◌++◌, length, get_or, drop, take, map, sym, ap, ◌∙◌, refl, add-one, drop-cons, append_assoc, option_to_list}
 use Rattle.std.specs.List.{filter_map, cons_option}
 use Rattle.std.specs.Global.{Vec}
-use Rattle.std.proofs.lemmas.List.{map_more}
+use Rattle.std.proofs.lemmas.List.{map_more, at_drop_more}
 use Rattle.ipam_records.specs.declared.record.Record.{Record}
 use Rattle.ipam_records.specs.Pages.{rows_of_pages}
 use Rattle.ipam_records.proofs.PageLemmas.{rows_of_pages-drop}
@@ -28,6 +28,14 @@ step_page {Y} g splits pages i page e h found more all so_far is =
     let rest = rows_of_pages (drop (i + 1) pages) in
     let split : g (rows_of_pages (drop i pages)) ≡ g page.items ++ g rest = ap g (rows_of_pages-drop pages i page e h) ∙ splits page.items rest in
     ap (λ ys. ys ++ g rest) is ∙ (append_assoc {A = Y} found (g page.items) (g rest) ∙ (sym (ap (λ ys. found ++ ys) split) ∙ so_far))
+
+module _ {X Y : Type 0} where
+  -- a list for each item
+  pub step_list : (g : List X → List Y) (f : X → List Y) → ((x : X) (xs : List X) → g (x ∷ xs) ≡ f x ++ g xs) → (xs : List X) (i : ℕ) (x : X) → x ≡ get_or xs i x → i < length xs → (found more all : List Y) → found ++ g (drop i xs) ≡ all → more ≡ found ++ f x → more ++ g (drop (i + 1) xs) ≡ all
+  step_list g f splits xs i x e h found more all so_far is =
+      let rest = g (drop (i + 1) xs) in
+      let split : g (drop i xs) ≡ f x ++ rest = at_drop_more g xs i x h ∙ splits (get_or xs i x) (drop (i + 1) xs) ∙ ap (λ y. f y ++ rest) (sym e) in
+      ap (λ ys. ys ++ rest) is ∙ (append_assoc {A = Y} found (f x) rest ∙ (sym (ap (λ ys. found ++ ys) split) ∙ so_far))
 
 module _ {X Y : Type 0} where
   -- one for each item, behind those in front

@@ -1,16 +1,17 @@
 //! `show blocks`: the blocks are shown.
-ghost use Rattle.std.specs.Prelude.{◌≡◌, ◌≤◌, length, IfOk, string_bytes};
+ghost use Rattle.std.specs.Prelude.{◌≡◌, ◌≤◌, [], ◌∷◌, ◌++◌, length, IfOk, OnOk, string_bytes};
 ghost use Rattle.ipam_records.specs.Datastore.{most_blocks};
-ghost use Rattle.ipam_show.specs.Blocks.{block_head, block_row, block_rows, blocks_text, borrowed_word, block_state, used_word};
+ghost use Rattle.ipam_show.specs.Blocks.{block_row, block_rows, blocks_text, borrowed_word, block_state, used_word};
 ghost use Rattle.ipam_show.specs.Kept.{blocks_kept};
 
-use crate::cells::{cidr_cell, node_cell, number_cell, state_cell, words_row};
+use crate::cells::{add_row, cidr_cell, node_word, state_word};
 use crate::counting::{BlockCount, counts_kept};
 use crate::keeping::state_kept;
 use crate::tables::table_text;
 use ipam_block::State;
 use ipam_store::Store;
 use ipam_text::{Seq, Text};
+use itoa::Buffer;
 use std::alloc::{AllocError, Global};
 
 /// How many columns the table of blocks has.
@@ -36,30 +37,34 @@ fn block_rows(
     ensures { IfOk result (λ rows. rows.items ≡ block_rows store.now.store counts.now) }
 {
     let mut rows = Vec::new(alloc);
-    rows.push(block_head(alloc)?)?;
+    let head = ["BLOCK", "NODE", "STATE", "USED", "BORROWED"];
+    add_row(alloc, &mut rows, &head)?;
     for count in counts {
-        rows.push(block_row(alloc, store, count)?)?;
+        add_block_row(alloc, &mut rows, store, count)?;
     }
     Ok(rows)
 }
 
-fn block_head(alloc: Global) -> Result<Seq<Text>, AllocError>
-    ensures { IfOk result (λ row. row ≡ block_head) }
+fn add_block_row(
+    alloc: Global,
+    rows: &mut Vec<Seq<Text>>,
+    store: &Store,
+    count: &BlockCount,
+) -> Result<(), AllocError>
+    ensures { OnOk result (rows.new.items ≡ rows.old.items ++ block_row store.now.store count.now ∷ []) }
 {
-    words_row(alloc, &["BLOCK", "NODE", "STATE", "USED", "BORROWED"])
-}
-
-fn block_row(alloc: Global, store: &Store, count: &BlockCount) -> Result<Seq<Text>, AllocError>
-    ensures { IfOk result (λ row. row ≡ block_row store.now.store count.now) }
-{
-    let found = state_of(alloc, store, count)?;
+    let state = state_of(alloc, store, count)?;
     let cidr = cidr_cell(alloc, count.cidr)?;
-    let node = node_cell(alloc, &count.node)?;
-    let state = state_cell(alloc, found)?;
     let used = used_cell(alloc, count)?;
     let borrowed = borrowed_cell(alloc, count)?;
-    let cells = vec![in alloc; cidr, node, state, used, borrowed]?;
-    Ok(Seq::of(cells))
+    let words = [
+        cidr.as_str(),
+        node_word(&count.node),
+        state_word(&state),
+        used.as_str(),
+        borrowed.as_str(),
+    ];
+    add_row(alloc, rows, &words)
 }
 
 /// The state of the affinity of the block's node to it.
@@ -89,5 +94,6 @@ fn borrowed_cell(alloc: Global, count: &BlockCount) -> Result<Text, AllocError>
     if count.told == 0 {
         return Text::copied(alloc, "-");
     }
-    number_cell(alloc, u64::from(count.borrowed))
+    let mut buffer = Buffer::new();
+    Text::copied(alloc, buffer.format(count.borrowed))
 }

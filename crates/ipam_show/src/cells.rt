@@ -1,5 +1,5 @@
 //! The texts of cells.
-ghost use Rattle.std.specs.Prelude.{◌≡◌, ◌++◌, ◌*◌, ◌/◌, ◌^◌, codes, decimal, map, IfOk, IfSome, IsNone};
+ghost use Rattle.std.specs.Prelude.{◌≡◌, ◌++◌, ◌*◌, ◌/◌, ◌^◌, [], ◌∷◌, codes, decimal, map, IfOk, IfSome, IsNone, OnOk};
 ghost use Rattle.ipam_addr.specs.Text.{cidr_text_of};
 ghost use Rattle.ipam_addr.specs.Width.{cidr_size};
 ghost use Rattle.ipam_show.specs.Words.{node_word, percent_of, percent_text, state_word};
@@ -10,8 +10,19 @@ use ipam_text::{Seq, Text};
 use itoa::Buffer;
 use std::alloc::{AllocError, Global};
 
-/// The row of these words.
-pub(crate) fn words_row(alloc: Global, words: &[&str]) -> Result<Seq<Text>, AllocError>
+/// Adds the row of these words.
+pub(crate) fn add_row(
+    alloc: Global,
+    rows: &mut Vec<Seq<Text>>,
+    words: &[&str],
+) -> Result<(), AllocError>
+    ensures { OnOk result (rows.new.items ≡ rows.old.items ++ map (λ word. word.now) words.now ∷ []) }
+{
+    rows.push(words_row(alloc, words)?)?;
+    Ok(())
+}
+
+fn words_row(alloc: Global, words: &[&str]) -> Result<Seq<Text>, AllocError>
     ensures { IfOk result (λ row. row ≡ map (λ word. word.now) words.now) }
 {
     let mut cells = Vec::new(alloc);
@@ -19,14 +30,6 @@ pub(crate) fn words_row(alloc: Global, words: &[&str]) -> Result<Seq<Text>, Allo
         cells.push(Text::copied(alloc, word)?)?;
     }
     Ok(Seq::of(cells))
-}
-
-/// The number in decimal.
-pub(crate) fn number_cell(alloc: Global, number: u64) -> Result<Text, AllocError>
-    ensures { IfOk result (λ text. text ≡ decimal number) }
-{
-    let mut buffer = Buffer::new();
-    Text::copied(alloc, buffer.format(number))
 }
 
 pub(crate) fn cidr_cell(alloc: Global, cidr: Cidr) -> Result<Text, AllocError>
@@ -66,10 +69,7 @@ fn wide_cell(alloc: Global, number: u128) -> Result<Text, AllocError>
 fn cell_before_six(alloc: Global, number: u128) -> Result<Text, AllocError>
     ensures { IfOk result (λ text. text ≡ decimal number ++ codes "6") }
 {
-    let mut buffer = Buffer::new();
-    let mut text = String::from_str(alloc, buffer.format(number))?;
-    text.push_str("6")?;
-    Ok(Text::of(text))
+    Ok(Text::of(format!(in alloc; "{number}6")?))
 }
 
 /// How many of a hundred addresses are used, rounded down.
@@ -86,28 +86,26 @@ fn percent_of(used: u64, cidr: Cidr) -> u128
 pub(crate) fn percent_cell(alloc: Global, used: u64, cidr: Cidr) -> Result<Text, AllocError>
     ensures { IfOk result (λ text. text ≡ percent_text used (cidr_size cidr)) }
 {
-    let mut buffer = Buffer::new();
-    let mut text = String::from_str(alloc, buffer.format(percent_of(used, cidr)))?;
-    text.push_str("%")?;
-    Ok(Text::of(text))
+    let percent = percent_of(used, cidr);
+    Ok(Text::of(format!(in alloc; "{percent}%")?))
 }
 
 /// The node, or `-`.
-pub(crate) fn node_cell(alloc: Global, node: &Option<Text>) -> Result<Text, AllocError>
-    ensures { IfOk result (λ text. text ≡ node_word node.now) }
+pub(crate) fn node_word(node: &Option<Text>) -> &str
+    ensures { result.now ≡ node_word node.now }
 {
     match node {
-        Some(name) => name.clone(),
-        None => Text::copied(alloc, "-"),
+        Some(name) => name.as_str(),
+        None => "-",
     }
 }
 
 /// The state's name, or `-`.
-pub(crate) fn state_cell(alloc: Global, state: Option<State>) -> Result<Text, AllocError>
-    ensures { IfOk result (λ text. text ≡ state_word state) }
+pub(crate) fn state_word(state: &Option<State>) -> &str
+    ensures { result.now ≡ state_word state.now }
 {
     match state {
-        Some(state) => Text::copied(alloc, state.name()),
-        None => Text::copied(alloc, "-"),
+        Some(state) => state.name(),
+        None => "-",
     }
 }

@@ -8,12 +8,13 @@ ghost use Rattle.ipam_addr.specs.Width.{cidr_size};
 ghost use Rattle.ipam_json.specs.Built.{array_of, whole_data};
 ghost use Rattle.ipam_records.specs.Datastore.{most_blocks};
 ghost use Rattle.ipam_show.specs.Kept.{blocks_kept};
+ghost use Rattle.ipam_show.specs.Scopes.{block_sum, free_sum, is_within, used_sum};
 ghost use Rattle.ipam_show.specs.Json.{json_text, pool_shown_data, pools_shown_data};
 
 use crate::cells::{addresses_cell, cidr_cell};
 use crate::counting::{BlockCount, counts_kept};
 use crate::keeping::pools_kept;
-use crate::sums::{Scope, block_sum, free_sum, used_sum};
+use crate::sums::{Amount, Scope, amount_sum, block_sum};
 use ipam_pool::Pool;
 use ipam_store::Store;
 use ipam_text::Text;
@@ -45,18 +46,10 @@ fn pools_value(alloc: Global, counts: &[BlockCount], pools: &[Pool]) -> Result<V
     requires { length counts.now < 2 ^ 32 }
     ensures { IfOk result (λ json. view json ≡ pools_shown_data counts.now pools.now) }
 {
-    let scope = Scope::All;
     let mut members = Map::new(alloc);
-    put_number(alloc, &mut members, "blocks", block_sum(&scope, counts))?;
-    put_number(
-        alloc,
-        &mut members,
-        "freeInBlocks",
-        free_sum(&scope, counts),
-    )?;
+    put_sums(alloc, &mut members, &Scope::All, counts)?;
     let list = list_value(alloc, counts, pools)?;
     put(&mut members, alloc, "pools", list)?;
-    put_number(alloc, &mut members, "used", used_sum(&scope, counts))?;
     Ok(Value::Object(members))
 }
 
@@ -76,16 +69,8 @@ fn pool_value(alloc: Global, counts: &[BlockCount], pool: &Pool) -> Result<Value
     requires { length counts.now < 2 ^ 32 }
     ensures { IfOk result (λ json. view json ≡ pool_shown_data counts.now pool.now) }
 {
-    let scope = Scope::Pool(pool.cidr);
     let mut members = pool_members(alloc, pool)?;
-    put_number(alloc, &mut members, "blocks", block_sum(&scope, counts))?;
-    put_number(
-        alloc,
-        &mut members,
-        "freeInBlocks",
-        free_sum(&scope, counts),
-    )?;
-    put_number(alloc, &mut members, "used", used_sum(&scope, counts))?;
+    put_sums(alloc, &mut members, &Scope::Pool(pool.cidr), counts)?;
     Ok(Value::Object(members))
 }
 
@@ -107,17 +92,26 @@ fn pool_members(alloc: Global, pool: &Pool) -> Result<Map<String, Value>, AllocE
     Ok(members)
 }
 
-/// Puts a member whose value is a number.
-fn put_number(
+/// Puts what the blocks come to.
+fn put_sums(
     alloc: Global,
     members: &mut Map<String, Value>,
-    name: &str,
-    number: u64,
+    scope: &Scope<'_>,
+    counts: &[BlockCount],
 ) -> Result<(), AllocError>
+    requires { length counts.now < 2 ^ 32 }
     ensures { OnOk result (members_view members.new.entries
-        ≡ put name.now (whole_data number) (members_view members.old.entries)) }
+        ≡ put (codes "used") (whole_data (used_sum (is_within scope.now) counts.now))
+        (put (codes "freeInBlocks") (whole_data (free_sum (is_within scope.now) counts.now))
+        (put (codes "blocks") (whole_data (block_sum (is_within scope.now) counts.now))
+        (members_view members.old.entries)))) }
 {
-    put(members, alloc, name, Value::from(number))
+    let blocks = block_sum(scope, counts);
+    let free = amount_sum(Amount::Free, scope, counts);
+    let used = amount_sum(Amount::Used, scope, counts);
+    put(members, alloc, "blocks", Value::from(blocks))?;
+    put(members, alloc, "freeInBlocks", Value::from(free))?;
+    put(members, alloc, "used", Value::from(used))
 }
 
 /// Puts a member whose value is a text.

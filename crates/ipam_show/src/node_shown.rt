@@ -1,16 +1,17 @@
 //! `show node`: the blocks of a node are shown.
-ghost use Rattle.std.specs.Prelude.{◌≡◌, ◌<◌, ◌≤◌, ◌^◌, ◌++◌, length, IfOk, OnOk, string_bytes};
+ghost use Rattle.std.specs.Prelude.{◌≡◌, ◌<◌, ◌≤◌, ◌^◌, [], ◌∷◌, ◌++◌, length, IfOk, OnOk, string_bytes};
 ghost use Rattle.ipam_records.specs.Datastore.{most_blocks};
 ghost use Rattle.ipam_show.specs.Kept.{blocks_kept};
 ghost use Rattle.ipam_show.specs.Scopes.{is_within};
-ghost use Rattle.ipam_show.specs.Node.{node_head, node_row, node_rows, node_table, node_text, node_total};
+ghost use Rattle.ipam_show.specs.Node.{node_row, node_rows, node_table, node_text, node_total};
 
-use crate::cells::{cidr_cell, number_cell, words_row};
+use crate::cells::{add_row, cidr_cell};
 use crate::counting::{BlockCount, counts_kept};
-use crate::sums::{Scope, is_within, used_sum};
+use crate::sums::{Amount, Scope, amount_sum, is_within};
 use crate::tables::table_text;
 use ipam_store::Store;
 use ipam_text::{Seq, Text};
+use itoa::Buffer;
 use std::alloc::{AllocError, Global};
 
 /// How many columns the table of a node's blocks has.
@@ -37,9 +38,9 @@ fn node_table(
     ensures { IfOk result (λ rows. rows.items ≡ node_table (is_within scope.now) counts.now) }
 {
     let mut rows = Vec::new(alloc);
-    rows.push(node_head(alloc)?)?;
+    add_row(alloc, &mut rows, &["BLOCK", "ADDRESSES", "USED"])?;
     add_node_rows(alloc, &mut rows, scope, counts)?;
-    rows.push(node_total(alloc, scope, counts)?)?;
+    add_node_total(alloc, &mut rows, scope, counts)?;
     Ok(rows)
 }
 
@@ -53,39 +54,41 @@ fn add_node_rows(
 {
     for count in counts {
         if is_within(scope, count) {
-            rows.push(node_row(alloc, count)?)?;
+            add_node_row(alloc, rows, count)?;
         }
     }
     Ok(())
 }
 
-fn node_head(alloc: Global) -> Result<Seq<Text>, AllocError>
-    ensures { IfOk result (λ row. row ≡ node_head) }
-{
-    words_row(alloc, &["BLOCK", "ADDRESSES", "USED"])
-}
-
-fn node_row(alloc: Global, count: &BlockCount) -> Result<Seq<Text>, AllocError>
-    ensures { IfOk result (λ row. row ≡ node_row count.now) }
-{
-    let cidr = cidr_cell(alloc, count.cidr)?;
-    let size = number_cell(alloc, u64::from(count.size))?;
-    let used = number_cell(alloc, u64::from(count.used))?;
-    let cells = vec![in alloc; cidr, size, used]?;
-    Ok(Seq::of(cells))
-}
-
-fn node_total(
+fn add_node_row(
     alloc: Global,
+    rows: &mut Vec<Seq<Text>>,
+    count: &BlockCount,
+) -> Result<(), AllocError>
+    ensures { OnOk result (rows.new.items ≡ rows.old.items ++ node_row count.now ∷ []) }
+{
+    let mut size = Buffer::new();
+    let mut used = Buffer::new();
+    let cidr = cidr_cell(alloc, count.cidr)?;
+    let words = [
+        cidr.as_str(),
+        size.format(count.size),
+        used.format(count.used),
+    ];
+    add_row(alloc, rows, &words)
+}
+
+fn add_node_total(
+    alloc: Global,
+    rows: &mut Vec<Seq<Text>>,
     scope: &Scope<'_>,
     counts: &[BlockCount],
-) -> Result<Seq<Text>, AllocError>
+) -> Result<(), AllocError>
     requires { length counts.now < 2 ^ 32 }
-    ensures { IfOk result (λ row. row ≡ node_total (is_within scope.now) counts.now) }
+    ensures { OnOk result (rows.new.items ≡ rows.old.items ++ node_total (is_within scope.now) counts.now ∷ []) }
 {
-    let total = Text::copied(alloc, "total")?;
-    let size = Text::copied(alloc, "")?;
-    let used = number_cell(alloc, used_sum(scope, counts))?;
-    let cells = vec![in alloc; total, size, used]?;
-    Ok(Seq::of(cells))
+    let sum = amount_sum(Amount::Used, scope, counts);
+    let mut used = Buffer::new();
+    let words = ["total", "", used.format(sum)];
+    add_row(alloc, rows, &words)
 }

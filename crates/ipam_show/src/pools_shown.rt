@@ -1,17 +1,18 @@
 //! `show`: the pools are shown.
-ghost use Rattle.std.specs.Prelude.{◌≡◌, ◌<◌, ◌≤◌, ◌^◌, length, IfOk, string_bytes};
+ghost use Rattle.std.specs.Prelude.{◌≡◌, ◌<◌, ◌≤◌, ◌^◌, [], ◌∷◌, ◌++◌, length, IfOk, OnOk, string_bytes};
 ghost use Rattle.ipam_records.specs.Datastore.{most_blocks};
 ghost use Rattle.ipam_show.specs.Kept.{blocks_kept};
 ghost use Rattle.ipam_show.specs.Pools.{pool_head, pool_row, pool_rows, pools_text, pools_total};
 
-use crate::cells::{addresses_cell, cidr_cell, number_cell, percent_cell, words_row};
+use crate::cells::{add_row, addresses_cell, cidr_cell, percent_cell};
 use crate::counting::{BlockCount, counts_kept};
 use crate::keeping::pools_kept;
-use crate::sums::{Scope, block_sum, free_sum, used_sum};
+use crate::sums::{Amount, Scope, amount_sum, block_sum};
 use crate::tables::table_text;
 use ipam_pool::Pool;
 use ipam_store::Store;
 use ipam_text::{Seq, Text};
+use itoa::Buffer;
 use std::alloc::{AllocError, Global};
 
 /// How many columns the table of pools has.
@@ -38,61 +39,79 @@ fn pool_rows(
     ensures { IfOk result (λ rows. rows.items ≡ pool_rows counts.now pools.now) }
 {
     let mut rows = Vec::new(alloc);
-    rows.push(pool_head(alloc)?)?;
+    add_pool_head(alloc, &mut rows)?;
     for pool in pools {
-        rows.push(pool_row(alloc, counts, pool)?)?;
+        add_pool_row(alloc, &mut rows, counts, pool)?;
     }
-    rows.push(pools_total(alloc, counts)?)?;
+    add_pools_total(alloc, &mut rows, counts)?;
     Ok(rows)
 }
 
-fn pool_head(alloc: Global) -> Result<Seq<Text>, AllocError>
-    ensures { IfOk result (λ row. row ≡ pool_head) }
+fn add_pool_head(alloc: Global, rows: &mut Vec<Seq<Text>>) -> Result<(), AllocError>
+    ensures { OnOk result (rows.new.items ≡ rows.old.items ++ pool_head ∷ []) }
 {
-    words_row(
-        alloc,
-        &[
-            "CIDR",
-            "NAME",
-            "ADDRESSES",
-            "USED",
-            "FREE IN BLOCKS",
-            "PERCENT USED",
-            "BLOCKS",
-        ],
-    )
+    let words = [
+        "CIDR",
+        "NAME",
+        "ADDRESSES",
+        "USED",
+        "FREE IN BLOCKS",
+        "PERCENT USED",
+        "BLOCKS",
+    ];
+    add_row(alloc, rows, &words)
 }
 
 #[tactic(auto, unfolding(crate::specs::Pools::pool_row))]
-fn pool_row(alloc: Global, counts: &[BlockCount], pool: &Pool) -> Result<Seq<Text>, AllocError>
+fn add_pool_row(
+    alloc: Global,
+    rows: &mut Vec<Seq<Text>>,
+    counts: &[BlockCount],
+    pool: &Pool,
+) -> Result<(), AllocError>
     requires { length counts.now < 2 ^ 32 }
-    ensures { IfOk result (λ row. row ≡ pool_row counts.now pool.now) }
+    ensures { OnOk result (rows.new.items ≡ rows.old.items ++ pool_row counts.now pool.now ∷ []) }
 {
     let scope = Scope::Pool(pool.cidr);
-    let sum = used_sum(&scope, counts);
+    let sum = amount_sum(Amount::Used, &scope, counts);
+    let mut used = Buffer::new();
+    let mut free = Buffer::new();
+    let mut blocks = Buffer::new();
     let cidr = cidr_cell(alloc, pool.cidr)?;
-    let name = pool.name.clone()?;
     let addresses = addresses_cell(alloc, pool.cidr)?;
-    let used = number_cell(alloc, sum)?;
-    let free = number_cell(alloc, free_sum(&scope, counts))?;
     let percent = percent_cell(alloc, sum, pool.cidr)?;
-    let blocks = number_cell(alloc, block_sum(&scope, counts))?;
-    let cells = vec![in alloc; cidr, name, addresses, used, free, percent, blocks]?;
-    Ok(Seq::of(cells))
+    let words = [
+        cidr.as_str(),
+        pool.name.as_str(),
+        addresses.as_str(),
+        used.format(sum),
+        free.format(amount_sum(Amount::Free, &scope, counts)),
+        percent.as_str(),
+        blocks.format(block_sum(&scope, counts)),
+    ];
+    add_row(alloc, rows, &words)
 }
 
 #[tactic(auto, unfolding(crate::specs::Pools::pools_total))]
-fn pools_total(alloc: Global, counts: &[BlockCount]) -> Result<Seq<Text>, AllocError>
+fn add_pools_total(
+    alloc: Global,
+    rows: &mut Vec<Seq<Text>>,
+    counts: &[BlockCount],
+) -> Result<(), AllocError>
     requires { length counts.now < 2 ^ 32 }
-    ensures { IfOk result (λ row. row ≡ pools_total counts.now) }
+    ensures { OnOk result (rows.new.items ≡ rows.old.items ++ pools_total counts.now ∷ []) }
 {
-    let total = Text::copied(alloc, "total")?;
-    let name = Text::copied(alloc, "")?;
-    let addresses = Text::copied(alloc, "")?;
-    let used = number_cell(alloc, used_sum(&Scope::All, counts))?;
-    let free = number_cell(alloc, free_sum(&Scope::All, counts))?;
-    let percent = Text::copied(alloc, "")?;
-    let blocks = number_cell(alloc, block_sum(&Scope::All, counts))?;
-    let cells = vec![in alloc; total, name, addresses, used, free, percent, blocks]?;
-    Ok(Seq::of(cells))
+    let mut used = Buffer::new();
+    let mut free = Buffer::new();
+    let mut blocks = Buffer::new();
+    let words = [
+        "total",
+        "",
+        "",
+        used.format(amount_sum(Amount::Used, &Scope::All, counts)),
+        free.format(amount_sum(Amount::Free, &Scope::All, counts)),
+        "",
+        blocks.format(block_sum(&Scope::All, counts)),
+    ];
+    add_row(alloc, rows, &words)
 }

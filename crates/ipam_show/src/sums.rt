@@ -1,6 +1,6 @@
 //! What the blocks of a pool, of a node, or all of them come to.
 ghost use Rattle.std.specs.Prelude.{◌≡◌, ◌<◌, ◌^◌, length, sum_by};
-ghost use Rattle.ipam_show.specs.Scopes.{amount_for, amount_of, block_sum, free_sum, is_of_node, is_within, reserved_sum, used_sum};
+ghost use Rattle.ipam_show.specs.Scopes.{amount_for, amount_of, block_sum, is_of_node, is_within};
 
 use crate::counting::BlockCount;
 use ipam_addr::Cidr;
@@ -36,31 +36,6 @@ fn is_of_node(node: &str, count: &BlockCount) -> bool
     }
 }
 
-/// How many addresses of them are used.
-pub(crate) fn used_sum(scope: &Scope<'_>, counts: &[BlockCount]) -> u64
-    requires { length counts.now < 2 ^ 32 }
-    ensures sum { result ≡ used_sum (is_within scope.now) counts.now }
-    ensures small { result < 2 ^ 48 }
-{
-    amount_sum(Amount::Used, scope, counts)
-}
-
-/// How many addresses of them could still be given.
-pub(crate) fn free_sum(scope: &Scope<'_>, counts: &[BlockCount]) -> u64
-    requires { length counts.now < 2 ^ 32 }
-    ensures { result ≡ free_sum (is_within scope.now) counts.now }
-{
-    amount_sum(Amount::Free, scope, counts)
-}
-
-/// How many addresses of them are neither used nor could be given: they are reserved.
-pub(crate) fn reserved_sum(scope: &Scope<'_>, counts: &[BlockCount]) -> u64
-    requires { length counts.now < 2 ^ 32 }
-    ensures { result ≡ reserved_sum (is_within scope.now) counts.now }
-{
-    amount_sum(Amount::Reserved, scope, counts)
-}
-
 /// Which of the addresses of a block are counted.
 #[derive(Clone, Copy)]
 pub(crate) enum Amount {
@@ -71,7 +46,8 @@ pub(crate) enum Amount {
     Reserved,
 }
 
-fn amount_sum(amount: Amount, scope: &Scope<'_>, counts: &[BlockCount]) -> u64
+/// How many such addresses they have.
+pub(crate) fn amount_sum(amount: Amount, scope: &Scope<'_>, counts: &[BlockCount]) -> u64
     requires { length counts.now < 2 ^ 32 }
     ensures sum { result ≡ sum_by (amount_for amount (is_within scope.now)) counts.now }
     ensures small { result < 2 ^ 48 }

@@ -7,7 +7,7 @@ ghost use Rattle.ipam_show.specs.Usage.{pool_usage, pools_usage};
 use crate::cells::addresses_cell;
 use crate::counting::{BlockCount, counts_kept};
 use crate::keeping::pools_kept;
-use crate::sums::{Scope, block_sum, free_sum, reserved_sum, used_sum};
+use crate::sums::{Amount, Scope, amount_sum, block_sum};
 use ipam_addr::Cidr;
 use ipam_pool::Pool;
 use ipam_store::Store;
@@ -87,8 +87,8 @@ fn pool_usage(alloc: Global, counts: &[BlockCount], pool: &Pool) -> Result<PoolU
         disabled: pool.disabled,
         addresses,
         blocks: block_sum(&scope, counts),
-        used: used_sum(&scope, counts),
-        free: free_sum(&scope, counts),
-        reserved: reserved_sum(&scope, counts),
+        used: amount_sum(Amount::Used, &scope, counts),
+        free: amount_sum(Amount::Free, &scope, counts),
+        reserved: amount_sum(Amount::Reserved, &scope, counts),
     })
 }

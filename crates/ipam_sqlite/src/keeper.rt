@@ -17,7 +17,7 @@ use std::alloc::Global;
 /// A keeper over the table `rows(key TEXT PRIMARY KEY, revision INTEGER NOT NULL, body TEXT NOT
 /// NULL)` of a database file. It does not tell its rows.
 ///
-/// When its changes are on the disk is said at its making. Each refusal but want of memory is a fault. Before
+/// Its changes are on the disk once they are settled. Each refusal but want of memory is a fault. Before
 /// and after something is put on the disk the names of the file and its log are looked at: where one of them no
 /// longer leads to the file that was opened, this call and all later ones fail. So they do once a settling
 /// failed, and once a call failed that took back changes that waited for their settling. Such a call is a fault
@@ -40,21 +40,14 @@ impl<S: Alter + Drop> Drop for SqliteKeeper<S> {
 
 impl SqliteKeeper<FileStore<File>> {
     /// Opens the file, or makes it with the mode 0640 and its table. The file is locked while the
-    /// keeper is there, so a second one on the same file is refused. Each change is put on the disk at once.
+    /// keeper is there, so a second one on the same file is refused.
     ///
     /// Where this finds no memory, each call answers `Memory`. Where it fails otherwise, each call
     /// counts a fault and answers `Failed`, and `why` tells the cause.
     pub fn open(rt: &HostRuntime, path: &str) -> SqliteKeeper<FileStore<File>>
         ensures { faults_of result ≡ 0 }
     {
-        SqliteKeeper::open_with(rt, path, Syncs::AtOnce)
-    }
-
-    /// The same, where it is said when changes are put on the disk.
-    pub fn open_with(rt: &HostRuntime, path: &str, syncs: Syncs) -> SqliteKeeper<FileStore<File>>
-        ensures { faults_of result ≡ 0 }
-    {
-        let opened = match open_database(rt, path, Aim::Keep, syncs) {
+        let opened = match open_database(rt, path, Aim::Keep, Syncs::AtSettle) {
             Ok(Some(opened)) => Ok(opened),
             Ok(None) => Err(Trouble::Fault(StorageFault::NoFile)),
             Err(trouble) => Err(trouble),

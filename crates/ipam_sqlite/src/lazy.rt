@@ -3,7 +3,6 @@ ghost use Rattle.std.specs.Prelude.{◌≡◌, ◌≤◌, ◌↔◌, None, Err, 
 ghost use Rattle.ipam_io.specs.Counts.{next_count};
 ghost use Rattle.ipam_keeper.specs.Rows.{Ascend};
 ghost use Rattle.ipam_keeper.specs.Keeping.{OnFailed, OnMemory, UnlessFailed, StaysBroken};
-ghost use Rattle.ipam_sqlite.specs.Answers.{answer_of};
 ghost use Rattle.ipam_sqlite.specs.Refused.{IsRefused, AnswersRefused};
 
 use crate::fault::{StorageFault, Trouble};
@@ -19,7 +18,7 @@ use std::mem;
 /// Whether a file is open. It is let go by `fold` alone.
 ///
 /// The proof of a function that calls one written for any store goes through the whole store of files, and takes
-/// half a minute. Here only the two functions of a state do.
+/// half a minute. Here only `fold` and `FileKeeper::answer` do.
 enum State {
     Closed,
     Open(Opened<FileStore<File>>),
@@ -37,17 +36,6 @@ impl State {
                 None => Err(Trouble::Fault(StorageFault::FileGone)),
             },
             State::Closed | State::Refused(_) => Ok(()),
-        }
-    }
-
-    /// What the file answers that is open. Where there is none, there are no rows, and no change is made.
-    fn answer(&mut self, alloc: Global, ask: Ask<'_>) -> Result<Vec<Row>, Trouble>
-        ensures { IfOk result (λ loaded. Ascend loaded.items) }
-    {
-        match (self, ask) {
-            (State::Open(opened), _) => opened.answer(alloc, ask),
-            (_, Ask::Load) => Ok(Vec::new(alloc)),
-            (_, Ask::Put(..) | Ask::Remove(_)) => Err(Trouble::Fault(StorageFault::NoFile)),
         }
     }
 }
@@ -164,39 +152,36 @@ impl FileKeeper {
         }
     }
 
-    /// The rows of the file, and none where a reader found no file.
-    fn rows(&mut self) -> Result<Vec<Row>, Trouble>
+    /// What the file answers, once it is open. Where a reader found none, there are no rows, and no change is
+    /// made.
+    fn answer(&mut self, ask: Ask<'_>) -> Result<Vec<Row>, Trouble>
         ensures ascending { IfOk result (λ loaded. Ascend loaded.items) }
         ensures refused { IsRefused self.old.state → AnswersRefused result self.new.state }
         ensures tally { self.new.tally ≡ self.old.tally }
     {
         self.ready()?;
-        self.state.answer(self.rt.alloc(), Ask::Load)
+        match (&mut self.state, ask) {
+            (State::Open(opened), _) => opened.answer(self.rt.alloc(), ask),
+            (_, Ask::Load) => Ok(Vec::new(self.rt.alloc())),
+            (_, Ask::Put(..) | Ask::Remove(_)) => Err(Trouble::Fault(StorageFault::NoFile)),
+        }
     }
 
-    /// The answer of a change. Where the files are gone, they are let go, and no later call does anything.
-    fn changed(&mut self, answer: Result<(), Trouble>) -> Result<(), KeepFault>
-        ensures answer { result ≡ answer_of answer }
-        ensures refused { IsRefused self.old.state → IsRefused self.new.state }
+    /// Makes a change. Where the files are gone, they are let go, and no later call does anything.
+    fn change(&mut self, change: Ask<'_>) -> Result<(), KeepFault>
+        ensures refused { StaysBroken (IsRefused self.old.state) result (IsRefused self.new.state) }
         ensures fault { OnFailed result (self.new.tally.faults ≡ next_count self.old.tally.faults) }
         ensures no_fault { UnlessFailed result (self.new.tally.faults ≡ self.old.tally.faults) }
         ensures never_falls { self.old.tally.faults ≤ self.new.tally.faults }
     {
+        let answer = match self.answer(change) {
+            Ok(_) => Ok(()),
+            Err(trouble) => Err(trouble),
+        };
         if answer == Err(Trouble::Fault(StorageFault::FileGone)) {
             let _ = self.turn(State::Refused(StorageFault::FileGone));
         }
         self.tally.counted(answer)
-    }
-
-    fn change_row(&mut self, change: Ask<'_>) -> Result<(), Trouble>
-        ensures refused { IsRefused self.old.state → AnswersRefused result self.new.state }
-        ensures tally { self.new.tally ≡ self.old.tally }
-    {
-        self.ready()?;
-        match self.state.answer(self.rt.alloc(), change) {
-            Ok(_) => Ok(()),
-            Err(trouble) => Err(trouble),
-        }
     }
 }
 
@@ -220,7 +205,7 @@ impl Keeper for FileKeeper {
         ensures no_fault { UnlessFailed result (self.new.tally.faults ≡ self.old.tally.faults) }
         ensures never_falls { self.old.tally.faults ≤ self.new.tally.faults }
     {
-        let answer = self.rows();
+        let answer = self.answer(Ask::Load);
         self.tally.counted(answer)
     }
 
@@ -230,8 +215,7 @@ impl Keeper for FileKeeper {
         ensures no_fault { UnlessFailed result (self.new.tally.faults ≡ self.old.tally.faults) }
         ensures never_falls { self.old.tally.faults ≤ self.new.tally.faults }
     {
-        let answer = self.change_row(Ask::Put(key, revision, body));
-        self.changed(answer)
+        self.change(Ask::Put(key, revision, body))
     }
 
     fn remove(&mut self, key: &str) -> Result<(), KeepFault>
@@ -240,8 +224,7 @@ impl Keeper for FileKeeper {
         ensures no_fault { UnlessFailed result (self.new.tally.faults ≡ self.old.tally.faults) }
         ensures never_falls { self.old.tally.faults ≤ self.new.tally.faults }
     {
-        let answer = self.change_row(Ask::Remove(key));
-        self.changed(answer)
+        self.change(Ask::Remove(key))
     }
 
     fn settle(&mut self) -> Result<(), KeepFault>

@@ -14,4 +14,3 @@ mod tally;
 pub use fault::StorageFault;
 pub use keeper::SqliteKeeper;
 pub use lazy::{FileKeeper, fold_log};
-pub use opened::Syncs;

@@ -132,26 +132,33 @@ pub(crate) fn make(rt: &HostRuntime, path: &str) -> Result<(), Trouble> {
 
 /// Why files that `look` let pass could not be opened, as far as their names tell it.
 pub(crate) fn why_closed(rt: &HostRuntime, path: &str) -> Trouble {
-    match tried(rt, path) {
+    let tried = match fs::canonicalize(rt, path) {
+        Ok(real) => tried(rt, real.as_str()),
+        Err(error) => Err(Trouble::from(error)),
+    };
+    match tried {
         Ok(()) => Trouble::Fault(StorageFault::DiskFailed),
         Err(trouble) => trouble,
     }
 }
 
-fn tried(rt: &HostRuntime, path: &str) -> Result<(), Trouble> {
-    let real = fs::canonicalize(rt, path)?;
-    let real = real.as_str();
-    let journal = format!(in rt.alloc(); "{real}-journal")?;
-    if fs::symlink_metadata(rt, &journal).is_ok() {
+fn tried(rt: &HostRuntime, real: &str) -> Result<(), Trouble> {
+    if has_journal(rt, real)? {
         return Err(Trouble::Fault(StorageFault::Journal));
     }
     open_both_ways(rt, real)?;
-    match open_both_ways(rt, format!(in rt.alloc(); "{real}-wal")?.as_str()) {
+    let log = format!(in rt.alloc(); "{real}-wal")?;
+    match open_both_ways(rt, log.as_str()) {
         Err(error) if error.kind() == io::ErrorKind::NotFound => Err(Trouble::Fault(
             StorageFault::NoPermission,
         )),
         other => Ok(other?),
     }
+}
+
+fn has_journal(rt: &HostRuntime, real: &str) -> Result<bool, Trouble> {
+    let journal = format!(in rt.alloc(); "{real}-journal")?;
+    Ok(fs::symlink_metadata(rt, journal.as_str()).is_ok())
 }
 
 /// Opens the file to be read and written, and closes it.

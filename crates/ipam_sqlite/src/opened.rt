@@ -22,7 +22,7 @@ const REMOVE: &str = "DELETE FROM rows WHERE key = ?1";
 
 /// When changes are put on the disk.
 #[derive(Clone, Copy)]
-pub enum Syncs {
+pub(crate) enum Syncs {
     /// Each change is on the disk before its call answers.
     AtOnce,
     /// A settling puts all changes since the last one on the disk, at once and whole. Before it a crash, a
@@ -88,12 +88,15 @@ impl<S: Alter> Opened<S> {
     pub(crate) fn answer(&mut self, alloc: Global, ask: Ask<'_>) -> Result<Vec<Row>, Trouble>
         ensures { IfOk result (λ loaded. Ascend loaded.items) }
     {
-        match ask {
+        let done = match ask {
             Ask::Load => return self.rows(alloc),
-            Ask::Put(key, revision, body) => self.put(key, revision, body)?,
-            Ask::Remove(key) => self.remove(key)?,
+            Ask::Put(key, revision, body) => self.put(key, revision, body),
+            Ask::Remove(key) => self.remove(key),
+        };
+        match done {
+            Ok(()) => Ok(Vec::new(alloc)),
+            Err(trouble) => Err(trouble),
         }
-        Ok(Vec::new(alloc))
     }
 
     /// All rows, in order, also those that are not on the disk yet.

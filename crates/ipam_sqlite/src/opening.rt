@@ -146,22 +146,24 @@ fn stage_of<S: Alter>(
 /// Whether the table is there. It is a fault that it has another shape, or that something else has
 /// its name.
 fn has_table<S: Alter>(conn: &mut Connection<S>) -> Result<bool, Trouble> {
-    let row = match conn.query_row(FIND_TABLE, &[]) {
-        Ok(row) => row,
-        Err(Error::QueryReturnedNoRows) => return Ok(false),
-        Err(error) => return Err(Trouble::from(error)),
-    };
-    if is_ours(&row)? {
-        Ok(true)
-    } else {
-        Err(Trouble::Fault(StorageFault::OtherShape))
+    match conn.query_row(FIND_TABLE, &[]) {
+        Ok(row) => {
+            check_shape(&row)?;
+            Ok(true)
+        }
+        Err(Error::QueryReturnedNoRows) => Ok(false),
+        Err(error) => Err(Trouble::from(error)),
     }
 }
 
-fn is_ours(row: &Row) -> Result<bool, Trouble> {
+fn check_shape(row: &Row) -> Result<(), Trouble> {
     let kind: String = row.get(0)?;
     let statement: String = row.get(1)?;
-    Ok(kind.as_str() == "table" && is_spelled(statement.as_str(), SHAPE))
+    if kind.as_str() == "table" && is_spelled(statement.as_str(), SHAPE) {
+        Ok(())
+    } else {
+        Err(Trouble::Fault(StorageFault::OtherShape))
+    }
 }
 
 /// Whether the statement has this spelling, but for blanks and the case of its letters.

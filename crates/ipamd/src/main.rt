@@ -13,7 +13,7 @@ mod upkeep;
 mod viewed;
 
 use asking::{ask, asked_of};
-use ipam_call::{Database, call, call_variables, daemon_named, database_named};
+use ipam_call::{call, call_variables, daemon_named, database_named};
 use ipam_command::{DONE, NO_MEMORY, WRITE_FAULT};
 use ipam_daemon::Host;
 use ipam_io::{Sink, StdSink, StdSource};
@@ -29,7 +29,7 @@ use std::io;
 use std::net::{Net, TcpListener, TcpStream};
 use std::process::ExitCode;
 use std::thread::Threads;
-use stored::{Use, run_at, run_at_none};
+use stored::{Use, run_over};
 use telling::tell_unknown;
 use upkeep::{ask_upkeep, back_up, unreserve};
 
@@ -158,8 +158,6 @@ fn run_stored<R: Threads + Sync>(
     aim: Use,
 ) -> Result<u8, AllocError> {
     let variables = call_variables(rt.alloc(), entries)?;
-    match database_named(rt.alloc(), entries)? {
-        Database::File(path) => Ok(run_at(rt, threads, words, &variables, path.as_str(), aim)),
-        Database::NoPath => Ok(run_at_none(rt, threads, words, &variables)),
-    }
+    let database = database_named(rt.alloc(), entries)?;
+    Ok(run_over(rt, threads, words, &variables, &database, aim))
 }

@@ -6,7 +6,7 @@ ghost use Rattle.ipam_keeper.specs.Keeping.{OnFailed, UnlessFailed};
 use crate::telling::tell_copied;
 use ipam_asked::Target;
 use ipam_keeper::{KeepFault, Keeper, Row};
-use ipam_sqlite::{FileKeeper, SqliteKeeper, StorageFault, Syncs};
+use ipam_sqlite::{FileKeeper, SqliteKeeper, StorageFault};
 use ipam_text::Text;
 use sqlite::{Alter, File, FileStore};
 use std::alloc::AllocError;
@@ -62,7 +62,7 @@ impl NewFile<FileStore<File>> {
         match make_file(rt, path) {
             Ok(()) => Ok(NewFile {
                 rt: *rt,
-                keeper: Some(SqliteKeeper::open_with(rt, path, Syncs::AtSettle)),
+                keeper: Some(SqliteKeeper::open(rt, path)),
                 closing: FileKeeper::new(rt, path),
                 faults: 0,
                 copied: 0,

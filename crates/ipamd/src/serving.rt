@@ -3,7 +3,7 @@ use crate::telling::{tell_no_path, tell_reading, tell_why};
 use ipam_call::{Database, database_named};
 use ipam_daemon::{Host, Opening, Served, new_opening, serve, tell_served};
 use ipam_io::StdSink;
-use ipam_sqlite::{SqliteKeeper, Syncs, fold_log};
+use ipam_sqlite::{SqliteKeeper, fold_log};
 use ipam_text::Seq;
 use sqlite::Alter;
 use std::alloc::{AllocError, Global};
@@ -51,7 +51,7 @@ fn serve_at<R: Host + Files + Net<Listener = TcpListener, Stream = TcpStream>>(
     workers: u8,
 ) -> Served {
     tell_reading(rt, path);
-    let keeper = SqliteKeeper::open_with(rt, path, Syncs::AtSettle);
+    let keeper = SqliteKeeper::open(rt, path);
     if let Some(why) = keeper.why() {
         tell_why(rt, path, why);
     }

@@ -1,8 +1,10 @@
 //! Commands over the database.
 use crate::telling::{tell_missing, tell_no_path, tell_reading, tell_why};
 use ipam_audit::run_audit;
+use ipam_call::Database;
 use ipam_command::run_command;
 use ipam_io::{StdSink, StdSource};
+use ipam_keeper::Keeper;
 use ipam_sqlite::FileKeeper;
 use ipam_text::Text;
 use ipam_words::{Command, read_words};
@@ -10,7 +12,7 @@ use std::io;
 use std::thread::Threads;
 
 /// The path of no file: a keeper over it fails where it would open the file.
-pub(crate) const NO_PATH: &str = "";
+const NO_PATH: &str = "";
 
 /// What a command does with the database.
 #[derive(Clone, Copy)]
@@ -21,30 +23,58 @@ pub(crate) enum Use {
     Look,
 }
 
-/// Runs the command over the database file at the path, which is opened once the command asks for its
-/// rows. `threads` is the runtime too: what makes threads.
-pub(crate) fn run_at<R: Threads + Sync>(
+/// Runs the command over the database, which is opened once the command asks for its rows. `threads` is the
+/// runtime too: what makes threads.
+pub(crate) fn run_over<R: Threads + Sync>(
     rt: &HostRuntime,
     threads: &R,
     words: &[String],
     variables: &[(Text, Text)],
-    path: &str,
+    database: &Database,
     aim: Use,
 ) -> u8 {
     if reads_rows(words) {
-        tell_reading(rt, path);
+        tell_reading(rt, path_of(database));
     }
-    let mut keeper = match aim {
-        Use::Keep => FileKeeper::new(rt, path),
-        Use::Look => FileKeeper::reader(rt, path),
-    };
-    let status = run_over(rt, threads, words, variables, &mut keeper);
+    let mut keeper = keeper_of(rt, database, aim);
+    let status = run_kept(rt, threads, words, variables, &mut keeper);
+    match database {
+        Database::File(path) => tell_end(rt, path.as_str(), aim, &keeper),
+        Database::NoPath => tell_pathless_end(rt, &keeper),
+    }
+    status
+}
+
+/// The path of the database's file.
+pub(crate) fn path_of(database: &Database) -> &str {
+    match database {
+        Database::File(path) => path.as_str(),
+        Database::NoPath => NO_PATH,
+    }
+}
+
+/// The keeper of the database's rows. One over no file only reads, whatever the command does.
+fn keeper_of(rt: &HostRuntime, database: &Database, aim: Use) -> FileKeeper {
+    match (database, aim) {
+        (Database::File(path), Use::Keep) => FileKeeper::new(rt, path.as_str()),
+        _ => FileKeeper::reader(rt, path_of(database)),
+    }
+}
+
+/// Tells why the keeper failed, if it did, or that a command looked at a file that is not there.
+fn tell_end(rt: &HostRuntime, path: &str, aim: Use, keeper: &FileKeeper) {
     match (keeper.why(), aim) {
         (Some(why), _) => tell_why(rt, path, why),
         (None, Use::Look) => tell_missing(rt, path),
         (None, Use::Keep) => {}
     }
-    status
+}
+
+/// Tells that there is no path, where the command asked for the rows.
+fn tell_pathless_end(rt: &HostRuntime, keeper: &FileKeeper) {
+    if keeper.why().is_some() {
+        tell_no_path(rt);
+    }
 }
 
 /// Whether the command begins with reading all rows.
@@ -55,28 +85,14 @@ fn reads_rows(words: &[String]) -> bool {
     }
 }
 
-/// The same where the environment names a database and no path of one: what asks for its rows fails.
-pub(crate) fn run_at_none<R: Threads + Sync>(
+/// Runs the command over standard input and output and the keeper. Which keeper it is stays open here, since each
+/// call of code for any keeper with that of files is dear to prove.
+fn run_kept<R: Threads + Sync, D: Keeper>(
     rt: &HostRuntime,
     threads: &R,
     words: &[String],
     variables: &[(Text, Text)],
-) -> u8 {
-    let mut keeper = FileKeeper::reader(rt, NO_PATH);
-    let status = run_over(rt, threads, words, variables, &mut keeper);
-    if keeper.why().is_some() {
-        tell_no_path(rt);
-    }
-    status
-}
-
-/// Runs the command over standard input and output and the keeper.
-fn run_over<R: Threads + Sync>(
-    rt: &HostRuntime,
-    threads: &R,
-    words: &[String],
-    variables: &[(Text, Text)],
-    keeper: &mut FileKeeper,
+    keeper: &mut D,
 ) -> u8 {
     if is_audit(words) {
         let mut sink = StdSink::new(io::writer(rt));
@@ -91,11 +107,11 @@ fn is_audit(words: &[String]) -> bool {
 }
 
 /// Runs a command that needs no threads.
-fn run_words(
+fn run_words<D: Keeper>(
     rt: &HostRuntime,
     words: &[String],
     variables: &[(Text, Text)],
-    keeper: &mut FileKeeper,
+    keeper: &mut D,
 ) -> u8 {
     let mut source = StdSource::new(rt.stdin());
     let mut sink = StdSink::new(io::writer(rt));

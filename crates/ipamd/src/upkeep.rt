@@ -4,7 +4,7 @@ ghost use Rattle.ipam_words.specs.Upkeep.{IsFit, of_upkeep};
 
 use crate::asking::unreached_at;
 use crate::new_file::{NewFile, NotMade, unmake};
-use crate::stored::NO_PATH;
+use crate::stored::path_of;
 use crate::telling::{tell_missing, tell_no_path, tell_reading, tell_there, tell_unmade, tell_why};
 use crate::viewed::Viewed;
 use ipam_asked::{Target, audit, back_up_asked, back_up_kept};
@@ -95,54 +95,41 @@ fn filled<F: Rows, S: Alter + Drop>(
 pub(crate) fn unreserve(rt: &HostRuntime, database: &Database, name: &str) -> u8
     requires { IsName name.now }
 {
-    match database {
-        Database::File(path) => unreserve_at(rt, path.as_str(), name),
-        Database::NoPath => {
-            tell_no_path(rt);
-            unreserve_kept(rt, &mut FileKeeper::new(rt, NO_PATH), name)
-        }
-    }
-}
-
-/// The same from the database file at the path.
-fn unreserve_at(rt: &HostRuntime, path: &str, name: &str) -> u8
-    requires { IsName name.now }
-{
-    tell_reading(rt, path);
-    let mut keeper = FileKeeper::new(rt, path);
-    let status = unreserve_kept(rt, &mut keeper, name);
-    tell_cause(rt, path, &keeper);
-    status
-}
-
-fn unreserve_kept(rt: &HostRuntime, keeper: &mut FileKeeper, name: &str) -> u8
-    requires { IsName name.now }
-{
+    tell_opening(rt, database);
+    let mut keeper = FileKeeper::new(rt, path_of(database));
     let mut sink = StdSink::new(io::writer(rt));
-    ipam_commands::unreserve(rt.alloc(), &mut sink, keeper, name).code()
+    let status = ipam_commands::unreserve(rt.alloc(), &mut sink, &mut keeper, name).code();
+    if let Database::File(path) = database {
+        tell_cause(rt, path.as_str(), &keeper);
+    }
+    status
 }
 
 /// Puts the rows of the database into a new one at the path, and answers the exit status.
 pub(crate) fn back_up(rt: &HostRuntime, database: &Database, path: &str) -> u8 {
+    tell_opening(rt, database);
+    let mut keeper = FileKeeper::reader(rt, path_of(database));
+    let status = back_up_from(rt, path, &mut keeper);
+    if let Database::File(source) = database {
+        tell_source(rt, source.as_str(), &keeper);
+    }
+    status
+}
+
+/// Tells what is opened, where a person has to know.
+fn tell_opening(rt: &HostRuntime, database: &Database) {
     match database {
-        Database::File(source) => back_up_file(rt, source.as_str(), path),
-        Database::NoPath => {
-            tell_no_path(rt);
-            back_up_from(rt, path, &mut FileKeeper::reader(rt, NO_PATH))
-        }
+        Database::File(path) => tell_reading(rt, path.as_str()),
+        Database::NoPath => tell_no_path(rt),
     }
 }
 
-/// The same with the rows of the database file at the source.
-fn back_up_file(rt: &HostRuntime, source: &str, path: &str) -> u8 {
-    tell_reading(rt, source);
-    let mut keeper = FileKeeper::reader(rt, source);
-    let status = back_up_from(rt, path, &mut keeper);
+/// Tells why the source of a backup failed, or that it is not there.
+fn tell_source(rt: &HostRuntime, path: &str, keeper: &FileKeeper) {
     match keeper.why() {
-        Some(why) => tell_why(rt, source, why),
-        None => tell_missing(rt, source),
+        Some(why) => tell_why(rt, path, why),
+        None => tell_missing(rt, path),
     }
-    status
 }
 
 /// Tells why the last call that failed did so, if one did.

@@ -1,4 +1,4 @@
-use Rattle.std.proofs.Common.{[], ◌∷◌, map, ◌∙◌, ap}
+use Rattle.std.proofs.Common.{[], ◌∷◌, map, ◌∙◌, ap, refl}
 use Rattle.std.proofs.lemmas.List.{take_all}
 use Rattle.ipam_show.specs.Blocks.{block_head, block_row}
 use Rattle.ipam_show.proofs.Steps.{step_map}
@@ -7,7 +7,7 @@ use Rattle.ipam_show.proofs.blocks_shown.block_rows.Goals as goal
 pub loop-count-preserved : goal.loop-count-preserved
 loop-count-preserved c =
     let l = c.loop-count in
-    step_map (block_row c.args.store.now.store) (block_head ∷ []) c.args.counts.now l.count-index c.count-item.result c.in_ok-block_row.field-0 l.rows.items c.push-in-loop-count.new.self.items c.count-item.is c.loop-count-test.true c.in_ok-block_row.ensures c.in_ok-push-2.ensures.items l.invariant
+    step_map (block_row c.args.store.now.store) (block_head ∷ []) c.args.counts.now l.count-index c.count-item.result (block_row c.args.store.now.store c.count-item.result) l.rows.items c.add_block_row.new.rows.items c.count-item.is c.loop-count-test.true refl c.in_ok-add_block_row.ensures l.invariant
 
 pub returns : goal.returns
 returns c =

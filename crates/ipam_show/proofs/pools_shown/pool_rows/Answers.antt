@@ -1,9 +1,18 @@
-use Rattle.std.proofs.Common.{[], ◌∷◌}
-use Rattle.ipam_show.specs.Pools.{pool_head, pool_row}
+use Rattle.std.proofs.Common.{[], ◌∷◌, ◌++◌, map, refl, ap, ◌∙◌}
+use Rattle.std.proofs.lemmas.List.{take_all}
+use Rattle.ipam_show.specs.Pools.{pool_head, pool_row, pools_total}
 use Rattle.ipam_show.proofs.Steps.{step_map}
 use Rattle.ipam_show.proofs.pools_shown.pool_rows.Goals as goal
 
 pub loop-pool-preserved : goal.loop-pool-preserved
 loop-pool-preserved c =
     let l = c.loop-pool in
-    step_map (pool_row c.args.counts.now) (pool_head ∷ []) c.args.pools.now l.pool-index c.pool-item.result c.in_ok-pool_row.field-0 l.rows.items c.push-in-loop-pool.new.self.items c.pool-item.is c.loop-pool-test.true c.in_ok-pool_row.ensures c.in_ok-push-2.ensures.items l.invariant
+    step_map (pool_row c.args.counts.now) (pool_head ∷ []) c.args.pools.now l.pool-index c.pool-item.result (pool_row c.args.counts.now c.pool-item.result) l.rows.items c.add_pool_row.new.rows.items c.pool-item.is c.loop-pool-test.true refl c.in_ok-add_pool_row.ensures l.invariant
+
+pub returns : goal.returns
+returns c =
+    let l = c.loop-pool in
+    let counts = c.args.counts.now in
+    c.in_ok-add_pools_total.ensures
+    ∙ ap (λ rows. rows ++ pools_total counts ∷ []) l.invariant
+    ∙ ap (λ pools. pool_head ∷ (map (pool_row counts) pools ++ pools_total counts ∷ [])) (take_all l.pool-index c.args.pools.now c.loop-pool-test.false)

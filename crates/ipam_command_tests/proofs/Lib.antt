@@ -1,2 +1,0 @@
--- What is opened is kept.
-pub mod Opened

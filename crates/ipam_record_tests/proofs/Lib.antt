@@ -1,1 +1,0 @@
--- The tests have no lemmas.

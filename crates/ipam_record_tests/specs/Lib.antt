@@ -1,2 +1,0 @@
--- An example of a word.
-pub mod Example

@@ -1,3 +1,0 @@
--- Lemmas on what the tests ask, and on rows that are none.
-mod Empty
-pub mod SoundWrites
