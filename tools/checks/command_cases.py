@@ -453,7 +453,7 @@ class Played:
     """How many steps of a scenario passed, and what is told of the others."""
 
     def __init__(self, title):
-        self.title, self.passed, self.failed = title, 0, []
+        self.title, self.passed, self.failed, self.is_left = title, 0, [], False
 
     def want(self, step, found, wanted):
         if found == wanted:
@@ -477,6 +477,8 @@ def play(program, scenario):
                 found = scene.played(step)
                 if found or wanted:
                     played.want(step, found, wanted)
+        except failing_calls.NotThere:
+            played.is_left = True
         finally:
             scene.close()
     return played
@@ -496,12 +498,14 @@ def scenarios():
 
 def main():
     program = os.path.abspath(sys.argv[1]) if len(sys.argv) > 1 else str(TOP / "release/ipam")
-    passed = failed = 0
+    passed = failed = left = 0
     with multiprocessing.Pool() as pool:
         for played in pool.imap(functools.partial(play, program), scenarios()):
-            passed, failed = passed + played.passed, failed + len(played.failed)
+            passed, failed, left = passed + played.passed, failed + len(played.failed), left + played.is_left
             for one in played.failed:
                 print(one, flush=True)
+    if left:
+        print(f"{left} scenarios are not played to their end: here no call of the system can be made to fail")
     print(f"{passed} passed, {failed} failed")
     return 1 if failed or not passed else 0
 

@@ -29,6 +29,10 @@ CONTINUE = 1
 HEAD_OF_LOG = 40
 
 
+class NotThere(Exception):
+    """This kernel, or what the gate runs in, lets no program answer the calls of another."""
+
+
 class Writes:
     """Counts the changes of rows. Those of these numbers fail: `fail` before they are made, `lose` after it.
 
@@ -124,7 +128,10 @@ def run(words, fate, prepare, **more):
         put_filter(fate.calls, there)
 
     with here, there:
-        started = subprocess.Popen(words, preexec_fn=begin, **more)
+        try:
+            started = subprocess.Popen(words, preexec_fn=begin, **more)
+        except subprocess.SubprocessError as error:
+            raise NotThere from error
         asking = socket.recv_fds(here, 1, 1)[1][0]
     try:
         watch(asking, started.pid, fate)
