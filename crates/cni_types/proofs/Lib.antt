@@ -2,6 +2,7 @@
 pub mod ArgumentItems
 pub mod Counts
 pub mod Prefixes
+pub mod Told
 pub mod InputTexts
 pub mod NoFloats
 pub mod Ascending

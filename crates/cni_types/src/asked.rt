@@ -1,9 +1,7 @@
 //! What a good call asks is copied from it.
-ghost use Rattle.std.specs.Prelude.{◌≡◌, ◌++◌, [], IfOk, OnOk};
-ghost use Rattle.serde_json.specs.Find.{get};
-ghost use Rattle.serde_json.specs.View.{view, items_view, members_view};
-ghost use Rattle.cni_types.specs.Reading.{inside as found_inside};
-ghost use Rattle.cni_types.specs.Asked.{container_handle, handle_asked, items_found, listed_texts_after, pools_asked, labels_after, labels_asked, unless_empty, argument_asked, secondary_asked, add_asked, del_asked, listed_addresses_after, check_asked, live_after, gc_asked, status_asked, asked};
+ghost use Rattle.std.specs.Prelude.{◌≡◌, ◌++◌, IfOk, OnOk, option_map};
+ghost use Rattle.serde_json.specs.View.{view, items_view};
+ghost use Rattle.cni_types.specs.Asked.{container_handle, handle_asked, items_found, pools_asked, labels_asked, unless_empty, secondary_asked, add_asked, check_asked, gc_asked, status_asked, asked};
 
 use crate::arguments::argument;
 use crate::calls::{CniAdd, CniCheck, CniDel, CniGc, CniStatus, Look};
@@ -13,10 +11,10 @@ use crate::environment::value_of;
 use crate::members::{inside, text_at, text_of};
 use crate::refusal::Variable;
 use crate::version::Version;
-use ipam_addr::{Addr, read_addr};
+use ipam_addr::read_addr;
 use ipam_json::members_at;
 use ipam_text::{Seq, Text};
-use serde_json::{Map, Value};
+use serde_json::Value;
 use std::alloc::{AllocError, Global};
 
 /// What the command asks.
@@ -31,7 +29,10 @@ pub(crate) fn asked(
 {
     match command {
         Command::Add => Ok(Look::Add(add_asked(alloc, version, env, json)?)),
-        Command::Del => Ok(Look::Del(del_asked(alloc, version, env, json)?)),
+        Command::Del => {
+            let handle = handle_asked(alloc, env, json)?;
+            Ok(Look::Del(CniDel { version, handle }))
+        }
         Command::Check => Ok(Look::Check(check_asked(alloc, version, env, json)?)),
         Command::Version => Ok(Look::Version(version)),
         Command::Gc => Ok(Look::Gc(gc_asked(alloc, version, json)?)),
@@ -54,7 +55,8 @@ fn add_asked(
     let labels = labels_asked(alloc, json)?;
     let pools4 = pools_asked(alloc, json, "ipv4_pools")?;
     let pools6 = pools_asked(alloc, json, "ipv6_pools")?;
-    let address = read_addr(argument_asked(env, "IP").as_bytes()).ok();
+    let asked = argument(value_of(env, Variable::Args), "IP");
+    let address = read_addr(asked.as_bytes()).ok();
     Ok(CniAdd {
         version,
         handle,
@@ -69,18 +71,6 @@ fn add_asked(
     })
 }
 
-fn del_asked(
-    alloc: Global,
-    version: Version,
-    env: &[(Text, Text)],
-    json: &Value,
-) -> Result<CniDel, AllocError>
-    ensures { IfOk result (λ del. del ≡ del_asked version env.now (view json.now)) }
-{
-    let handle = handle_asked(alloc, env, json)?;
-    Ok(CniDel { version, handle })
-}
-
 fn check_asked(
     alloc: Global,
     version: Version,
@@ -89,12 +79,18 @@ fn check_asked(
 ) -> Result<CniCheck, AllocError>
     ensures { IfOk result (λ check. check ≡ check_asked version env.now (view json.now)) }
 {
+    let items = items_of(inside(json, "prevResult", "ips"));
+    let mut addresses = Vec::new(alloc);
+    for item in items {
+        if let Some(address) = address_in(item) {
+            addresses.push(address)?;
+        }
+    }
     let handle = handle_asked(alloc, env, json)?;
-    let addresses = addresses_of(alloc, items_inside(json, "prevResult", "ips"))?;
     Ok(CniCheck {
         version,
         handle,
-        addresses,
+        addresses: Seq::of(addresses),
     })
 }
 
@@ -102,14 +98,18 @@ fn gc_asked(alloc: Global, version: Version, json: &Value) -> Result<CniGc, Allo
     ensures { IfOk result (λ gc. gc ≡ gc_asked version (view json.now)) }
 {
     let name = text_at(json, "name");
+    let items = items_of(json.get("cni.dev/valid-attachments"));
+    let mut live = Vec::new(alloc);
+    for item in items {
+        live.push(handle_of(alloc, name, text_at(item, "containerID"))?)?;
+    }
     let network = Text::copied(alloc, name)?;
     let node = Text::copied(alloc, text_at(json, "nodename"))?;
-    let live = live_of(alloc, name, items_at(json, "cni.dev/valid-attachments"))?;
     Ok(CniGc {
         version,
         network,
         node,
-        live,
+        live: Seq::of(live),
     })
 }
 
@@ -150,22 +150,11 @@ fn handle_asked(alloc: Global, env: &[(Text, Text)], json: &Value) -> Result<Tex
     )
 }
 
-/// The items of an array of this name, or none.
-fn items_at<'a>(json: &'a Value, name: &str) -> &'a [Value]
-    ensures { items_view result.now ≡ items_found (get name.now (view json.now)) }
+/// The items of the array, or none where there is no array.
+fn items_of(found: Option<&Value>) -> &[Value]
+    ensures { items_view result.now ≡ items_found (option_map (λ v. view v.now) found.entry) }
 {
-    match ipam_json::items_at(json, name) {
-        Some(items) => items,
-        None => &[],
-    }
-}
-
-/// The items of an array that is a member of a member, or none.
-fn items_inside<'a>(json: &'a Value, outer: &str, name: &str) -> &'a [Value]
-    ensures { items_view result.now
-        ≡ items_found (found_inside outer.now name.now (view json.now)) }
-{
-    match inside(json, outer, name).and_then(Value::as_array) {
+    match found.and_then(Value::as_array) {
         Some(list) => list.as_slice(),
         None => &[],
     }
@@ -175,12 +164,7 @@ fn items_inside<'a>(json: &'a Value, outer: &str, name: &str) -> &'a [Value]
 fn pools_asked(alloc: Global, json: &Value, name: &str) -> Result<Seq<Text>, AllocError>
     ensures { IfOk result (λ pools. pools ≡ pools_asked name.now (view json.now)) }
 {
-    texts_of(alloc, items_inside(json, "ipam", name))
-}
-
-fn texts_of(alloc: Global, items: &[Value]) -> Result<Seq<Text>, AllocError>
-    ensures { IfOk result (λ texts. texts ≡ listed_texts_after [] (items_view items.now)) }
-{
+    let items = items_of(inside(json, "ipam", name));
     let mut texts = Vec::new(alloc);
     for item in items {
         texts.push(Text::copied(alloc, text_of(item))?)?;
@@ -188,43 +172,13 @@ fn texts_of(alloc: Global, items: &[Value]) -> Result<Seq<Text>, AllocError>
     Ok(Seq::of(texts))
 }
 
-fn addresses_of(alloc: Global, items: &[Value]) -> Result<Seq<Addr>, AllocError>
-    ensures { IfOk result (λ list. list ≡ listed_addresses_after [] (items_view items.now)) }
-{
-    let mut addresses = Vec::new(alloc);
-    for item in items {
-        if let Some(address) = address_in(item) {
-            addresses.push(address)?;
-        }
-    }
-    Ok(Seq::of(addresses))
-}
-
-/// The handles of the attachments.
-fn live_of(alloc: Global, network: &str, items: &[Value]) -> Result<Seq<Text>, AllocError>
-    ensures { IfOk result (λ live. live ≡ live_after network.now [] (items_view items.now)) }
-{
-    let mut live = Vec::new(alloc);
-    for item in items {
-        live.push(handle_of(alloc, network, text_at(item, "containerID"))?)?;
-    }
-    Ok(Seq::of(live))
-}
-
 /// The labels of the node.
 fn labels_asked(alloc: Global, json: &Value) -> Result<Seq<(Text, Text)>, AllocError>
     ensures { IfOk result (λ labels. labels ≡ labels_asked (view json.now)) }
 {
-    match members_at(json, "nodeLabels") {
-        Some(members) => labels_of(alloc, members),
-        None => Ok(Seq::new(alloc)),
-    }
-}
-
-fn labels_of(alloc: Global, members: &Map<String, Value>) -> Result<Seq<(Text, Text)>, AllocError>
-    ensures { IfOk result
-        (λ labels. labels ≡ labels_after [] (members_view members.now.entries)) }
-{
+    let Some(members) = members_at(json, "nodeLabels") else {
+        return Ok(Seq::new(alloc));
+    };
     let mut labels = Vec::new(alloc);
     for (key, value) in members {
         labels.push(pair(alloc, key.as_str(), text_of(value))?)?;
@@ -240,13 +194,6 @@ fn pair(alloc: Global, key: &str, value: &str) -> Result<(Text, Text), AllocErro
     Ok((key, value))
 }
 
-/// The value of a key of the arguments.
-fn argument_asked<'a>(env: &'a [(Text, Text)], key: &str) -> &'a str
-    ensures { result.now ≡ argument_asked key.now env.now }
-{
-    argument(value_of(env, Variable::Args), key)
-}
-
 /// What an address is recorded with.
 #[tactic(auto, unfolding(crate::specs::Asked::secondary_asked))]
 fn secondary_asked(
@@ -256,17 +203,14 @@ fn secondary_asked(
 ) -> Result<Seq<(Text, Text)>, AllocError>
     ensures { IfOk result (λ pairs. pairs ≡ secondary_asked env.now (view json.now)) }
 {
+    let arguments = value_of(env, Variable::Args);
+    let namespace = argument(arguments, "K8S_POD_NAMESPACE");
+    let pod = argument(arguments, "K8S_POD_NAME");
     let mut pairs = Vec::new(alloc);
-    let namespace = argument_asked(env, "K8S_POD_NAMESPACE");
     push_unless_empty(alloc, &mut pairs, "namespace", namespace)?;
     pairs.push(pair(alloc, "network", text_at(json, "name"))?)?;
     pairs.push(pair(alloc, "node", text_at(json, "nodename"))?)?;
-    push_unless_empty(
-        alloc,
-        &mut pairs,
-        "pod",
-        argument_asked(env, "K8S_POD_NAME"),
-    )?;
+    push_unless_empty(alloc, &mut pairs, "pod", pod)?;
     Ok(Seq::of(pairs))
 }
 

@@ -1,7 +1,7 @@
 ghost use Rattle.std.specs.Prelude.{◌≡◌};
 
 /// Why a call has no success. Numbers below 100 are CNI's, the others are this plugin's.
-#[derive(Clone, Copy, Debug)]
+#[derive(Clone, Copy)]
 pub enum Code {
     /// The version of the configuration is not supported, or has not the command.
     IncompatibleVersion,

@@ -3,7 +3,7 @@ ghost use Rattle.std.specs.Prelude.{◌≡◌};
 use crate::version::Version;
 
 /// What a runtime may ask of a plugin.
-#[derive(Clone, Copy, PartialEq, Eq)]
+#[derive(Clone, Copy)]
 pub enum Command {
     /// Asks for addresses for a container. Each version has it.
     Add,
@@ -58,8 +58,8 @@ impl Command {
     {
         match self {
             Command::Add | Command::Del | Command::Version => true,
-            Command::Check => version != Version::V0_3_0 && version != Version::V0_3_1,
-            Command::Gc | Command::Status => version == Version::V1_1_0,
+            Command::Check => !matches!(version, Version::V0_3_0 | Version::V0_3_1),
+            Command::Gc | Command::Status => matches!(version, Version::V1_1_0),
         }
     }
 }

@@ -1,79 +1,64 @@
 //! The configuration of a call is tested.
 ghost use Rattle.std.specs.Prelude.{◌≡◌, codes};
-ghost use Rattle.cni_types.specs.Reading.{text_found, inside as found_inside};
-ghost use Rattle.serde_json.specs.View.{view, items_view};
+ghost use Rattle.cni_types.specs.Reading.{inside as found_inside};
+ghost use Rattle.serde_json.specs.View.{view};
 ghost use Rattle.ipam_addr.specs.Text.{cidr_reading};
-ghost use Rattle.cni_types.specs.Configuration.{truth_of_text, truth_of, choice, wants_ipv4, wants_ipv6, is_pool_text, are_all_pools, are_pools, has_prefix, address_with_prefix, address_with_prefix_in, are_all_addresses, are_addresses, network_tested, families_tested, result_tested, attachment_tested, attachments_tested_from, attachments_tested, wishes_tested, check_tested, gc_tested, configuration_tested};
+ghost use Rattle.cni_types.specs.Configuration.{choice, wants_ipv4, wants_ipv6, is_pool_text, are_pools, has_prefix, address_with_prefix_in, are_addresses, network_tested, families_tested, result_tested, attachment_tested, attachments_tested, configuration_tested};
 
 use crate::command::Command;
 use crate::labels::are_labels;
-use crate::members::{
-    are_few, demand, inside, is_name_at, is_object, is_object_at, is_text_at, text_at, text_of,
-};
+use crate::members::{are_few, inside, is_name_at, text_at, text_of};
 use crate::refusal::Member;
 use ipam_addr::{Addr, AddrFault, is_name, read_addr, read_cidr};
 use ipam_block::CHECKED_MAX;
-use ipam_json::items_at;
+use ipam_json::{items_at, members_at};
 use ipam_pool::MOST_POOLS;
 use serde_json::Value;
 
 /// The first member that is bad, in the order in which they are tested.
+#[tactic(auto, unfolding(crate::specs::Configuration::wishes_tested, crate::specs::Configuration::check_tested, crate::specs::Configuration::gc_tested))]
 pub(crate) fn test_configuration(command: Command, json: &Value) -> Result<(), Member>
     ensures { result ≡ configuration_tested command (view json.now) }
 {
     match command {
-        Command::Add | Command::Del | Command::Status => test_wishes(json),
-        Command::Check => test_check(json),
-        Command::Gc => test_gc(json),
+        Command::Add | Command::Del | Command::Status => {
+            test_network(json)?;
+            test_families(json)
+        }
+        Command::Check => {
+            test_network(json)?;
+            test_families(json)?;
+            test_result(json)
+        }
+        Command::Gc => {
+            test_network(json)?;
+            test_attachments(json)
+        }
         Command::Version => Ok(()),
     }
-}
-
-#[tactic(auto, unfolding(crate::specs::Configuration::wishes_tested))]
-fn test_wishes(json: &Value) -> Result<(), Member>
-    ensures { result ≡ wishes_tested (view json.now) }
-{
-    test_network(json)?;
-    test_families(json)
-}
-
-#[tactic(auto, unfolding(crate::specs::Configuration::check_tested))]
-fn test_check(json: &Value) -> Result<(), Member>
-    ensures { result ≡ check_tested (view json.now) }
-{
-    test_wishes(json)?;
-    test_result(json)
-}
-
-#[tactic(auto, unfolding(crate::specs::Configuration::gc_tested))]
-fn test_gc(json: &Value) -> Result<(), Member>
-    ensures { result ≡ gc_tested (view json.now) }
-{
-    test_network(json)?;
-    test_attachments(json)
 }
 
 #[tactic(auto, unfolding(crate::specs::Configuration::network_tested))]
 fn test_network(json: &Value) -> Result<(), Member>
     ensures { result ≡ network_tested (view json.now) }
 {
-    demand(is_name_at(json, "name"), Member::Name)?;
-    demand(is_name_at(json, "nodename"), Member::NodeName)?;
-    demand(are_labels(json), Member::NodeLabels)?;
-    demand(is_object_at(json, "ipam"), Member::Ipam)?;
-    demand(
-        text_inside(json, "ipam", "type") == "calico-ipam",
-        Member::IpamType,
-    )
-}
-
-/// The text of a member of a member, or the empty one.
-fn text_inside<'a>(json: &'a Value, outer: &str, name: &str) -> &'a str
-    ensures { result.now ≡ text_found (found_inside outer.now name.now (view json.now)) }
-{
-    match inside(json, outer, name).and_then(Value::as_str) {
-        Some(text) => text,
-        None => "",
+    if !is_name_at(json, "name") {
+        return Err(Member::Name);
+    }
+    if !is_name_at(json, "nodename") {
+        return Err(Member::NodeName);
+    }
+    if !are_labels(json) {
+        return Err(Member::NodeLabels);
+    }
+    if members_at(json, "ipam").is_none() {
+        return Err(Member::Ipam);
+    }
+    let kind = inside(json, "ipam", "type").and_then(Value::as_str);
+    if kind.unwrap_or("") == "calico-ipam" {
+        Ok(())
+    } else {
+        Err(Member::IpamType)
     }
 }
 
@@ -81,17 +66,22 @@ fn text_inside<'a>(json: &'a Value, outer: &str, name: &str) -> &'a str
 fn test_families(json: &Value) -> Result<(), Member>
     ensures { result ≡ families_tested (view json.now) }
 {
-    demand(
-        choice(json, "assign_ipv4", true).is_some(),
-        Member::AssignIpv4,
-    )?;
-    demand(
-        choice(json, "assign_ipv6", false).is_some(),
-        Member::AssignIpv6,
-    )?;
-    demand(wants_ipv4(json) || wants_ipv6(json), Member::AssignIpv4)?;
-    demand(are_pools(json, "ipv4_pools"), Member::Ipv4Pools)?;
-    demand(are_pools(json, "ipv6_pools"), Member::Ipv6Pools)
+    if choice(json, "assign_ipv4", true).is_none() {
+        return Err(Member::AssignIpv4);
+    }
+    if choice(json, "assign_ipv6", false).is_none() {
+        return Err(Member::AssignIpv6);
+    }
+    if !wants_ipv4(json) && !wants_ipv6(json) {
+        return Err(Member::AssignIpv4);
+    }
+    if !are_pools(json, "ipv4_pools") {
+        return Err(Member::Ipv4Pools);
+    }
+    if !are_pools(json, "ipv6_pools") {
+        return Err(Member::Ipv6Pools);
+    }
+    Ok(())
 }
 
 /// Whether the configuration wants an IPv4 address.
@@ -108,34 +98,20 @@ pub(crate) fn wants_ipv6(json: &Value) -> bool
     choice(json, "assign_ipv6", false).unwrap_or(false)
 }
 
-/// Whether a family is wanted, where that is said rightly or not at all.
+/// Whether a family is wanted, where that is said rightly, by a truth value or its text, or not at
+/// all.
 fn choice(json: &Value, name: &str, default: bool) -> Option<bool>
     ensures { result ≡ choice name.now default (view json.now) }
 {
     match inside(json, "ipam", name) {
-        Some(value) => truth_of(value),
         None => Some(default),
-    }
-}
-
-/// The truth value, which may be a text.
-fn truth_of(value: &Value) -> Option<bool>
-    ensures { result ≡ truth_of (view value.now) }
-{
-    match value {
-        Value::Bool(truth) => Some(*truth),
-        Value::String(text) => truth_of_text(text.as_str()),
-        _ => None,
-    }
-}
-
-fn truth_of_text(text: &str) -> Option<bool>
-    ensures { result ≡ truth_of_text text.now }
-{
-    match text {
-        "true" => Some(true),
-        "false" => Some(false),
-        _ => None,
+        Some(Value::Bool(truth)) => Some(*truth),
+        Some(Value::String(text)) => match text.as_str() {
+            "true" => Some(true),
+            "false" => Some(false),
+            _ => None,
+        },
+        Some(_) => None,
     }
 }
 
@@ -143,24 +119,16 @@ fn truth_of_text(text: &str) -> Option<bool>
 fn are_pools(json: &Value, name: &str) -> bool
     ensures { result ≡ are_pools (found_inside (codes "ipam") name.now (view json.now)) }
 {
-    match inside(json, "ipam", name) {
-        Some(pools) => are_pool_items(pools),
-        None => true,
+    let Some(pools) = inside(json, "ipam", name) else {
+        return true;
+    };
+    let Some(list) = pools.as_array() else {
+        return false;
+    };
+    let items = list.as_slice();
+    if !are_few(items, MOST_POOLS) {
+        return false;
     }
-}
-
-fn are_pool_items(pools: &Value) -> bool
-    ensures { result ≡ are_pools (Some (view pools.now)) }
-{
-    match pools.as_array() {
-        Some(items) => are_few(items.as_slice(), MOST_POOLS) && are_all_pools(items.as_slice()),
-        None => false,
-    }
-}
-
-fn are_all_pools(items: &[Value]) -> bool
-    ensures { result ≡ are_all_pools (items_view items.now) }
-{
     for item in items {
         if !is_pool_text(text_of(item)) {
             return false;
@@ -180,8 +148,13 @@ fn is_pool_text(text: &str) -> bool
 fn test_result(json: &Value) -> Result<(), Member>
     ensures { result ≡ result_tested (view json.now) }
 {
-    demand(is_object_at(json, "prevResult"), Member::PrevResult)?;
-    demand(are_addresses(json), Member::PrevResultIps)
+    if members_at(json, "prevResult").is_none() {
+        return Err(Member::PrevResult);
+    }
+    if !are_addresses(json) {
+        return Err(Member::PrevResultIps);
+    }
+    Ok(())
 }
 
 /// Whether the addresses of the earlier result are missing or good.
@@ -189,26 +162,16 @@ fn are_addresses(json: &Value) -> bool
     ensures { result
         ≡ are_addresses (found_inside (codes "prevResult") (codes "ips") (view json.now)) }
 {
-    match inside(json, "prevResult", "ips") {
-        Some(list) => are_address_items(list),
-        None => true,
+    let Some(ips) = inside(json, "prevResult", "ips") else {
+        return true;
+    };
+    let Some(list) = ips.as_array() else {
+        return false;
+    };
+    let items = list.as_slice();
+    if !are_few(items, CHECKED_MAX) {
+        return false;
     }
-}
-
-fn are_address_items(list: &Value) -> bool
-    ensures { result ≡ are_addresses (Some (view list.now)) }
-{
-    match list.as_array() {
-        Some(items) => {
-            are_few(items.as_slice(), CHECKED_MAX) && are_all_addresses(items.as_slice())
-        }
-        None => false,
-    }
-}
-
-fn are_all_addresses(items: &[Value]) -> bool
-    ensures { result ≡ are_all_addresses (items_view items.now) }
-{
     for item in items {
         if address_in(item).is_none() {
             return false;
@@ -217,18 +180,13 @@ fn are_all_addresses(items: &[Value]) -> bool
     true
 }
 
-/// The address of an object, before the prefix of its text.
+/// The address of an object, whose text is an address, `/` and a prefix. Bits below the prefix may
+/// be set.
+#[tactic(auto, unfolding(crate::specs::Configuration::address_with_prefix))]
 pub(crate) fn address_in(value: &Value) -> Option<Addr>
     ensures { result ≡ address_with_prefix_in (view value.now) }
 {
-    address_with_prefix(text_at(value, "address"))
-}
-
-/// The address of a text that is an address, `/` and a prefix. Bits below the prefix may be set.
-#[tactic(auto, unfolding(crate::specs::Configuration::address_with_prefix))]
-fn address_with_prefix(text: &str) -> Option<Addr>
-    ensures { result ≡ address_with_prefix text.now }
-{
+    let text = text_at(value, "address");
     if !has_prefix(text) {
         return None;
     }
@@ -250,15 +208,9 @@ fn has_prefix(text: &str) -> bool
 fn test_attachments(json: &Value) -> Result<(), Member>
     ensures { result ≡ attachments_tested (view json.now) }
 {
-    match items_at(json, "cni.dev/valid-attachments") {
-        Some(items) => test_each_attachment(items),
-        None => Err(Member::Attachments),
-    }
-}
-
-fn test_each_attachment(items: &[Value]) -> Result<(), Member>
-    ensures { result ≡ attachments_tested_from 0 (items_view items.now) }
-{
+    let Some(items) = items_at(json, "cni.dev/valid-attachments") else {
+        return Err(Member::Attachments);
+    };
     for (index, item) in items.iter().enumerate() {
         test_attachment(index, item)?;
     }
@@ -269,13 +221,14 @@ fn test_each_attachment(items: &[Value]) -> Result<(), Member>
 fn test_attachment(index: usize, item: &Value) -> Result<(), Member>
     ensures { result ≡ attachment_tested index (view item.now) }
 {
-    demand(is_object(item), Member::Attachment(index))?;
-    demand(
-        is_name_at(item, "containerID"),
-        Member::AttachmentContainer(index),
-    )?;
-    demand(
-        is_text_at(item, "ifname"),
-        Member::AttachmentInterface(index),
-    )
+    if item.as_object().is_none() {
+        return Err(Member::Attachment(index));
+    }
+    if !is_name_at(item, "containerID") {
+        return Err(Member::AttachmentContainer(index));
+    }
+    match ipam_json::text_at(item, "ifname") {
+        Some(_) => Ok(()),
+        None => Err(Member::AttachmentInterface(index)),
+    }
 }

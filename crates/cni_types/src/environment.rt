@@ -1,12 +1,11 @@
 //! The environment of a call is tested.
 ghost use Rattle.std.specs.Prelude.{◌≡◌};
 ghost use Rattle.std.specs.List.{list_all};
-ghost use Rattle.cni_types.specs.Environment.{variable as value_of_variable, is_interface_byte, is_interface, is_address_asked, is_short_value, are_arguments, container_tested, environment_tested};
+ghost use Rattle.cni_types.specs.Environment.{variable as value_of_variable, is_interface_byte, is_interface, are_arguments, environment_tested};
 
 use crate::arguments::{are_items, argument};
 use crate::command::Command;
 use crate::limits::INTERFACE_BYTES_MAX;
-use crate::members::demand_variable as demand;
 use crate::refusal::Variable;
 use ipam_addr::{is_name, read_addr};
 use ipam_block::VALUE_BYTES_MAX;
@@ -27,29 +26,28 @@ pub(crate) fn value_of<'a>(env: &'a [(Text, Text)], variable: Variable) -> &'a s
 }
 
 /// The first variable that is bad, in the order in which they are tested.
+#[tactic(auto, unfolding(crate::specs::Environment::container_tested))]
 pub(crate) fn test_environment(command: Command, env: &[(Text, Text)]) -> Result<(), Variable>
     ensures { result ≡ environment_tested command env.now }
 {
-    match command {
-        Command::Add | Command::Check => test_container(true, env),
-        Command::Del => test_container(false, env),
-        Command::Version | Command::Gc | Command::Status => Ok(()),
+    let needs_namespace = match command {
+        Command::Add | Command::Check => true,
+        Command::Del => false,
+        Command::Version | Command::Gc | Command::Status => return Ok(()),
+    };
+    if !is_name(value_of(env, Variable::ContainerId).as_bytes()) {
+        return Err(Variable::ContainerId);
     }
-}
-
-#[tactic(auto, unfolding(crate::specs::Environment::container_tested))]
-fn test_container(needs_namespace: bool, env: &[(Text, Text)]) -> Result<(), Variable>
-    ensures { result ≡ container_tested needs_namespace env.now }
-{
-    let id = value_of(env, Variable::ContainerId);
-    demand(is_name(id.as_bytes()), Variable::ContainerId)?;
-    let namespace = value_of(env, Variable::Netns);
-    demand(!needs_namespace || !namespace.is_empty(), Variable::Netns)?;
-    demand(
-        is_interface(value_of(env, Variable::Ifname)),
-        Variable::Ifname,
-    )?;
-    demand(are_arguments(value_of(env, Variable::Args)), Variable::Args)
+    if needs_namespace && value_of(env, Variable::Netns).is_empty() {
+        return Err(Variable::Netns);
+    }
+    if !is_interface(value_of(env, Variable::Ifname)) {
+        return Err(Variable::Ifname);
+    }
+    if !are_arguments(value_of(env, Variable::Args)) {
+        return Err(Variable::Args);
+    }
+    Ok(())
 }
 
 /// Whether it may name an interface.
@@ -80,20 +78,9 @@ fn is_interface_byte(byte: u8) -> bool
 fn are_arguments(text: &str) -> bool
     ensures { result ≡ are_arguments text.now }
 {
+    let address = argument(text, "IP");
     are_items(text)
-        && is_address_asked(argument(text, "IP"))
-        && is_short(argument(text, "K8S_POD_NAMESPACE"))
-        && is_short(argument(text, "K8S_POD_NAME"))
-}
-
-fn is_address_asked(text: &str) -> bool
-    ensures { result ≡ is_address_asked text.now }
-{
-    text.is_empty() || read_addr(text.as_bytes()).is_ok()
-}
-
-fn is_short(text: &str) -> bool
-    ensures { result ≡ is_short_value text.now }
-{
-    text.len() <= VALUE_BYTES_MAX
+        && (address.is_empty() || read_addr(address.as_bytes()).is_ok())
+        && argument(text, "K8S_POD_NAMESPACE").len() <= VALUE_BYTES_MAX
+        && argument(text, "K8S_POD_NAME").len() <= VALUE_BYTES_MAX
 }

@@ -3,7 +3,7 @@ use crate::version::Version;
 use ipam_text::Text;
 
 /// What a call is answered that has no success.
-#[derive(Debug, Drop)]
+#[derive(Drop)]
 pub struct CniError {
     /// The configuration's version where it is supported, else 1.0.0.
     pub version: Version,
@@ -14,7 +14,7 @@ pub struct CniError {
 }
 
 /// Why a call is not taken.
-#[derive(Debug, Drop)]
+#[derive(Drop)]
 pub enum LookFault {
     /// The call is refused with this error.
     Refused(CniError),

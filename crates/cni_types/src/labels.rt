@@ -3,7 +3,7 @@ ghost use Rattle.std.specs.Prelude.{◌≡◌, ◌&&◌, codes};
 ghost use Rattle.std.specs.List.{list_all};
 ghost use Rattle.serde_json.specs.Find.{get};
 ghost use Rattle.serde_json.specs.View.{view, members_view};
-ghost use Rattle.cni_types.specs.Configuration.{is_key_byte, is_label_key, is_label_value, are_all_labels, are_labels};
+ghost use Rattle.cni_types.specs.Configuration.{is_key_byte, is_label_key, is_label_value, are_labels};
 ghost use Rattle.cni_types.specs.Reading.{are_few_members};
 
 use ipam_select::{LABEL_KEY_BYTES_MAX, LABEL_VALUE_BYTES_MAX, LABELS_MAX};
@@ -13,19 +13,21 @@ use serde_json::{Map, Value};
 pub(crate) fn are_labels(json: &Value) -> bool
     ensures { result ≡ are_labels (get (codes "nodeLabels") (view json.now)) }
 {
-    match json.get("nodeLabels") {
-        Some(labels) => are_label_members(labels),
-        None => true,
+    let Some(labels) = json.get("nodeLabels") else {
+        return true;
+    };
+    let Some(members) = labels.as_object() else {
+        return false;
+    };
+    if !are_few_members(members) {
+        return false;
     }
-}
-
-fn are_label_members(labels: &Value) -> bool
-    ensures { result ≡ are_labels (Some (view labels.now)) }
-{
-    match labels.as_object() {
-        Some(members) => are_few_members(members) && are_all_labels(members),
-        None => false,
+    for (key, value) in members {
+        if !is_label(key.as_bytes(), value) {
+            return false;
+        }
     }
+    true
 }
 
 #[tactic(auto, using(crate::proofs::Counts::members_counted))]
@@ -35,27 +37,13 @@ fn are_few_members(members: &Map<String, Value>) -> bool
     members.len() <= LABELS_MAX
 }
 
-fn are_all_labels(members: &Map<String, Value>) -> bool
-    ensures { result ≡ are_all_labels (members_view members.now.entries) }
-{
-    for (key, value) in members {
-        if !is_label(key.as_str(), value) {
-            return false;
-        }
-    }
-    true
-}
-
-fn is_label(key: &str, value: &Value) -> bool
+fn is_label(key: &[u8], value: &Value) -> bool
     ensures { result ≡ (is_label_key key.now && is_label_value (view value.now)) }
 {
-    is_label_key(key.as_bytes()) && is_label_value(value)
-}
-
-fn is_label_key(key: &[u8]) -> bool
-    ensures { result ≡ is_label_key key.now }
-{
-    !key.is_empty() && key.len() <= LABEL_KEY_BYTES_MAX && are_label_bytes(key)
+    !key.is_empty()
+        && key.len() <= LABEL_KEY_BYTES_MAX
+        && are_label_bytes(key)
+        && is_label_value(value)
 }
 
 fn are_label_bytes(bytes: &[u8]) -> bool

@@ -3,9 +3,7 @@ ghost use Rattle.std.specs.Prelude.{◌≡◌, IfOk, option_map};
 ghost use Rattle.serde_json.specs.View.{view};
 ghost use Rattle.cni_types.specs.declared.error.CniError.{CniError};
 ghost use Rattle.cni_types.specs.declared.error.LookFault.TheVariants.{Refused};
-ghost use Rattle.cni_types.specs.Configuration.{configuration_tested};
-ghost use Rattle.cni_types.specs.Environment.{environment_tested};
-ghost use Rattle.cni_types.specs.Looking.{only_object, is_for_versions, input_text, object_in, decoded, known_version_in, told_version, compatible, in_configuration, in_environment, all_tested, tested, unknown, code_of, details_of, error_of, undecodable, look_from, look_reading};
+ghost use Rattle.cni_types.specs.Looking.{input_text, decoded, known_version_in, told_version, compatible, tested, unknown, code_of, details_of, error_of, look_from, look_reading};
 ghost use Rattle.cni_types.specs.Sound.{IsSoundLook};
 
 use crate::asked::asked;
@@ -16,7 +14,7 @@ use crate::configuration::test_configuration;
 use crate::environment::{test_environment, value_of};
 use crate::error::{CniError, LookFault};
 use crate::limits::MOST_INPUT_BYTES;
-use crate::members::{is_object, text_at};
+use crate::members::text_at;
 use crate::refusal::{Refusal, Variable, member_string};
 use crate::version::Version;
 use ipam_json::json_of;
@@ -36,18 +34,9 @@ pub fn look(alloc: Global, env: &[(Text, Text)], stdin: &[u8]) -> Result<Look, L
     ensures sound { IfOk result IsSoundLook }
 {
     match look_at(alloc, env, stdin) {
-        Ok(outcome) => or_refused(outcome),
+        Ok(Ok(look)) => Ok(look),
+        Ok(Err(error)) => Err(LookFault::Refused(error)),
         Err(_) => Err(LookFault::Memory),
-    }
-}
-
-fn or_refused(outcome: Result<Look, CniError>) -> Result<Look, LookFault>
-    ensures asked { IfOk result (λ asked. outcome ≡ Ok asked) }
-    ensures refused { (error : CniError) → result ≡ Err (Refused error) → outcome ≡ Err error }
-{
-    match outcome {
-        Ok(look) => Ok(look),
-        Err(error) => Err(LookFault::Refused(error)),
     }
 }
 
@@ -62,7 +51,11 @@ fn look_at(
     let command = Command::of(value_of(env, Variable::Command));
     match decoded(alloc, command, stdin)? {
         Some(json) => look_for(alloc, command, env, &json),
-        None => Ok(Err(undecodable(alloc))),
+        None => Ok(Err(CniError {
+            version: Version::V1_0_0,
+            code: Code::Undecodable,
+            details: Text::of(String::new(alloc)),
+        })),
     }
 }
 
@@ -75,12 +68,19 @@ fn decoded(
 ) -> Result<Option<Value>, AllocError>
     ensures { IfOk result (λ found. option_map view found ≡ decoded command stdin.now) }
 {
-    if is_for_versions(command) && stdin.is_empty() {
+    if stdin.is_empty() && matches!(command, Some(Command::Version)) {
         return Ok(Some(Value::Object(Map::new(alloc))));
     }
-    match input_text(stdin) {
-        Some(text) => object_in(alloc, text),
-        None => Ok(None),
+    let Some(text) = input_text(stdin) else {
+        return Ok(None);
+    };
+    let Some(value) = json_of(alloc, text)? else {
+        return Ok(None);
+    };
+    if value.as_object().is_some() {
+        Ok(Some(value))
+    } else {
+        Ok(None)
     }
 }
 
@@ -97,30 +97,6 @@ pub fn input_text(stdin: &[u8]) -> Option<&str>
     }
 }
 
-fn is_for_versions(command: Option<Command>) -> bool
-    ensures { result ≡ is_for_versions command }
-{
-    match command {
-        Some(command) => command == Command::Version,
-        None => false,
-    }
-}
-
-fn object_in(alloc: Global, text: &str) -> Result<Option<Value>, AllocError>
-    ensures { IfOk result (λ found. option_map view found ≡ object_in text.now) }
-{
-    match json_of(alloc, text)? {
-        Some(value) => Ok(only_object(value)),
-        None => Ok(None),
-    }
-}
-
-fn only_object(value: Value) -> Option<Value>
-    ensures { option_map view result ≡ only_object (view value) }
-{
-    if is_object(&value) { Some(value) } else { None }
-}
-
 fn look_for(
     alloc: Global,
     command: Option<Command>,
@@ -129,21 +105,9 @@ fn look_for(
 ) -> Result<Result<Look, CniError>, AllocError>
     ensures { IfOk result (λ outcome. outcome ≡ look_from command env.now (Some (view json.now))) }
 {
-    match command {
-        Some(command) => look_for_known(alloc, command, env, json),
-        None => Ok(Err(error_of(alloc, json, unknown(json))?)),
-    }
-}
-
-fn look_for_known(
-    alloc: Global,
-    command: Command,
-    env: &[(Text, Text)],
-    json: &Value,
-) -> Result<Result<Look, CniError>, AllocError>
-    ensures { IfOk result
-        (λ outcome. outcome ≡ look_from (Some command) env.now (Some (view json.now))) }
-{
+    let Some(command) = command else {
+        return Ok(Err(error_of(alloc, json, unknown(json))?));
+    };
     match test(command, env, json) {
         Ok(version) => Ok(Ok(asked(alloc, command, version, env, json)?)),
         Err(refusal) => Ok(Err(error_of(alloc, json, refusal)?)),
@@ -151,39 +115,19 @@ fn look_for_known(
 }
 
 /// The version in which the call is answered, or the first refusal.
+#[tactic(auto, unfolding(crate::specs::Looking::all_tested))]
 fn test(command: Command, env: &[(Text, Text)], json: &Value) -> Result<Version, Refusal>
     ensures { result ≡ tested command env.now (view json.now) }
 {
-    match command {
-        Command::Version => Ok(told_version(json)),
-        _ => test_all(command, env, json),
+    if let Command::Version = command {
+        return Ok(told_version(json));
     }
-}
-
-#[tactic(auto, unfolding(crate::specs::Looking::all_tested))]
-fn test_all(command: Command, env: &[(Text, Text)], json: &Value) -> Result<Version, Refusal>
-    ensures { result ≡ all_tested command env.now (view json.now) }
-{
     let version = compatible(command, json)?;
-    in_configuration(command, json)?;
-    in_environment(command, env)?;
-    Ok(version)
-}
-
-fn in_configuration(command: Command, json: &Value) -> Result<(), Refusal>
-    ensures { result ≡ in_configuration (configuration_tested command (view json.now)) }
-{
-    match test_configuration(command, json) {
-        Ok(()) => Ok(()),
-        Err(member) => Err(Refusal::Configuration(member)),
+    if let Err(member) = test_configuration(command, json) {
+        return Err(Refusal::Configuration(member));
     }
-}
-
-fn in_environment(command: Command, env: &[(Text, Text)]) -> Result<(), Refusal>
-    ensures { result ≡ in_environment (environment_tested command env.now) }
-{
     match test_environment(command, env) {
-        Ok(()) => Ok(()),
+        Ok(()) => Ok(version),
         Err(variable) => Err(Refusal::Environment(variable)),
     }
 }
@@ -219,16 +163,6 @@ fn unknown(json: &Value) -> Refusal
     match version_in(json) {
         Some(_) => Refusal::Environment(Variable::Command),
         None => Refusal::Version,
-    }
-}
-
-fn undecodable(alloc: Global) -> CniError
-    ensures { result ≡ undecodable }
-{
-    CniError {
-        version: Version::V1_0_0,
-        code: Code::Undecodable,
-        details: Text::of(String::new(alloc)),
     }
 }
 

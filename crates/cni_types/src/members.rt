@@ -1,26 +1,10 @@
 //! What the members of a JSON object hold. None of this takes memory.
 ghost use Rattle.std.specs.Prelude.{◌≡◌, option_map};
 ghost use Rattle.serde_json.specs.View.{view, items_view};
-ghost use Rattle.cni_types.specs.Reading.{demand as demanded, text_or_empty as text_in, text_or_empty_at as text_of_name, inside as found_inside, is_object as is_an_object, is_object_at as has_object, is_text_at as has_text, is_name_at as has_name, are_few as are_at_most};
+ghost use Rattle.cni_types.specs.Reading.{text_or_empty as text_in, text_or_empty_at as text_of_name, inside as found_inside, is_name_at as has_name, are_few as are_at_most};
 
-use crate::refusal::{Member, Variable};
 use ipam_addr::is_name;
-use ipam_json::members_at;
 use serde_json::Value;
-
-/// The fault, unless it passes.
-pub(crate) fn demand(passes: bool, member: Member) -> Result<(), Member>
-    ensures { result ≡ demanded passes member }
-{
-    if passes { Ok(()) } else { Err(member) }
-}
-
-/// The fault, unless it passes.
-pub(crate) fn demand_variable(passes: bool, variable: Variable) -> Result<(), Variable>
-    ensures { result ≡ demanded passes variable }
-{
-    if passes { Ok(()) } else { Err(variable) }
-}
 
 /// The text, or the empty one where it is no text.
 pub(crate) fn text_of(value: &Value) -> &str
@@ -49,24 +33,6 @@ pub(crate) fn inside<'a>(value: &'a Value, outer: &str, name: &str) -> Option<&'
 {
     let object = value.get(outer)?;
     object.get(name)
-}
-
-pub(crate) fn is_object(value: &Value) -> bool
-    ensures { result ≡ is_an_object (view value.now) }
-{
-    value.as_object().is_some()
-}
-
-pub(crate) fn is_object_at(value: &Value, name: &str) -> bool
-    ensures { result ≡ has_object name.now (view value.now) }
-{
-    members_at(value, name).is_some()
-}
-
-pub(crate) fn is_text_at(value: &Value, name: &str) -> bool
-    ensures { result ≡ has_text name.now (view value.now) }
-{
-    ipam_json::text_at(value, name).is_some()
 }
 
 pub(crate) fn is_name_at(value: &Value, name: &str) -> bool

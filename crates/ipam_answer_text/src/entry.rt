@@ -26,61 +26,72 @@ pub fn push_entry(alloc: Global, out: &mut String, entry: &Entry) -> Result<(), 
 fn line_of(alloc: Global, entry: &Entry) -> Result<String, AllocError>
     ensures { IfOk result (λ s. string_bytes s ≡ entry_line entry.now) }
 {
+    let mut line = String::with_capacity(alloc, ROOM)?;
+    push_line(alloc, &mut line, entry)?;
+    Ok(line)
+}
+
+fn push_line(alloc: Global, out: &mut String, entry: &Entry) -> Result<(), AllocError>
+    ensures { OnOk result (string_bytes out.new ≡ string_bytes out.old ++ entry_line entry.now) }
+{
     match entry {
-        Entry::Began(slot, request) => began(alloc, *slot, request),
-        Entry::Fed(slot, at, live) => fed(alloc, *slot, *at, live.as_slice()),
-        Entry::Called(called) => called_line(alloc, called),
-        Entry::Stopped(slot) => stopped(alloc, *slot),
+        Entry::Began(slot, request) => push_began(alloc, out, *slot, request),
+        Entry::Fed(slot, at, live) => push_fed(alloc, out, *slot, *at, live.as_slice()),
+        Entry::Called(called) => push_called(alloc, out, called),
+        Entry::Stopped(slot) => push_stopped(out, *slot),
     }
 }
 
 #[tactic(auto, unfolding(crate::specs::Entries::began_line))]
-fn began(alloc: Global, slot: u8, request: &Request) -> Result<String, AllocError>
-    ensures { IfOk result (λ s. string_bytes s ≡ began_line slot request.now) }
+fn push_began(
+    alloc: Global,
+    out: &mut String,
+    slot: u8,
+    request: &Request,
+) -> Result<(), AllocError>
+    ensures { OnOk result (string_bytes out.new ≡ string_bytes out.old ++ began_line slot request.now) }
 {
-    let mut line = String::with_capacity(alloc, ROOM)?;
-    push_number(&mut line, u64::from(slot))?;
-    line.push_str(" began ")?;
-    push_request(alloc, &mut line, request)?;
-    line.push_str("\n")?;
-    Ok(line)
+    push_number(out, u64::from(slot))?;
+    out.push_str(" began ")?;
+    push_request(alloc, out, request)?;
+    out.push_str("\n")
 }
 
 #[tactic(auto, unfolding(crate::specs::Entries::fed_line))]
-fn fed(alloc: Global, slot: u8, at: u64, live: &[Text]) -> Result<String, AllocError>
-    ensures { IfOk result (λ s. string_bytes s ≡ fed_line slot at live.now) }
+fn push_fed(
+    alloc: Global,
+    out: &mut String,
+    slot: u8,
+    at: u64,
+    live: &[Text],
+) -> Result<(), AllocError>
+    ensures { OnOk result (string_bytes out.new ≡ string_bytes out.old ++ fed_line slot at live.now) }
 {
-    let mut line = String::with_capacity(alloc, ROOM)?;
-    push_number(&mut line, u64::from(slot))?;
-    line.push_str(" fed ")?;
-    push_at(&mut line, at)?;
-    push_live(alloc, &mut line, live)?;
-    line.push_str("\n")?;
-    Ok(line)
+    push_number(out, u64::from(slot))?;
+    out.push_str(" fed ")?;
+    push_at(out, at)?;
+    push_live(alloc, out, live)?;
+    out.push_str("\n")
 }
 
 #[tactic(auto, unfolding(crate::specs::Entries::stopped_line))]
-fn stopped(alloc: Global, slot: u8) -> Result<String, AllocError>
-    ensures { IfOk result (λ s. string_bytes s ≡ stopped_line slot) }
+fn push_stopped(out: &mut String, slot: u8) -> Result<(), AllocError>
+    ensures { OnOk result (string_bytes out.new ≡ string_bytes out.old ++ stopped_line slot) }
 {
-    let mut line = String::with_capacity(alloc, ROOM)?;
-    push_number(&mut line, u64::from(slot))?;
-    line.push_str(" stopped\n")?;
-    Ok(line)
+    push_number(out, u64::from(slot))?;
+    out.push_str(" stopped\n")
 }
 
 #[tactic(auto, unfolding(crate::specs::Entries::called_line))]
-fn called_line(alloc: Global, called: &Called) -> Result<String, AllocError>
-    ensures { IfOk result (λ s. string_bytes s ≡ called_line called.now) }
+fn push_called(alloc: Global, out: &mut String, called: &Called) -> Result<(), AllocError>
+    ensures { OnOk result (string_bytes out.new ≡ string_bytes out.old ++ called_line called.now) }
 {
-    let mut line = String::with_capacity(alloc, ROOM)?;
-    push_number(&mut line, u64::from(called.slot))?;
-    line.push_str(" called ")?;
-    push_asked(alloc, &mut line, called)?;
-    line.push_str(" ")?;
-    push_heard(alloc, &mut line, called)?;
-    line.push_str("\n")?;
-    Ok(line)
+    push_number(out, u64::from(called.slot))?;
+    out.push_str(" called ")?;
+    push_asked(alloc, out, called)?;
+    out.push_str(" ")?;
+    push_heard(alloc, out, called)?;
+    out.push_str("\n")
 }
 
 /// Appends the call and its fate.

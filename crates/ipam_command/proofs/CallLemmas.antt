@@ -7,19 +7,19 @@ use Rattle.cni_types.specs.declared.calls.Look.TheVariants.{Gc, Status}
 use Rattle.cni_types.specs.declared.error.CniError.{CniError}
 use Rattle.cni_types.specs.Looking.{look_reading}
 use Rattle.cni_types.specs.Reading.{Pair}
-use Rattle.ipam_cni.specs.declared.end.CniEnd.{CniEnd}
-use Rattle.ipam_cni.specs.declared.end.CniEnd.TheVariants.{Told, Failed}
-use Rattle.ipam_cni.specs.declared.end.CniFault.TheVariants.{Read, Undecodable, Keeper, Memory}
-use Rattle.ipam_cni.specs.Calls as cni
-use Rattle.ipam_cni.specs.Ends as cni_ends
-use Rattle.ipam_cni.specs.Replies.{ComesTo, StatusAndText}
-use Rattle.ipam_cni.proofs.Records.{by_records}
-use Rattle.ipam_cni.proofs.Spared as spared
-use Rattle.ipam_cni.proofs.Spared.{gc_leaves, status_adds}
-use Rattle.ipam_cni.proofs.TryAgain.{call_never_again}
-use Rattle.ipam_cni.specs.Alone.{SaysTryAgain}
+use Rattle.ipam_command.specs.declared.cni_end.CniEnd.{CniEnd}
+use Rattle.ipam_command.specs.declared.cni_end.CniEnd.TheVariants.{Told, Failed}
+use Rattle.ipam_command.specs.declared.cni_end.CniFault.TheVariants.{Read, Undecodable, Keeper, Memory}
+use Rattle.ipam_command.specs.Calls as cni
+use Rattle.ipam_command.specs.Ends as cni_ends
+use Rattle.ipam_command.specs.Replies.{ComesTo, StatusAndText}
+use Rattle.ipam_command.proofs.Records.{by_records}
+use Rattle.ipam_command.proofs.Spared as spared
+use Rattle.ipam_command.proofs.Spared.{gc_leaves, status_adds}
+use Rattle.ipam_command.proofs.TryAgain.{call_never_again}
+use Rattle.ipam_command.specs.Alone.{SaysTryAgain}
 use Rattle.ipam_kept.specs.Rows.{texts_loaded}
-use Rattle.ipam_cni.proofs.Shortness.{look_short}
+use Rattle.ipam_command.proofs.Shortness.{look_short}
 use Rattle.ipam_command.specs.CniCalls.{Finds, GoesWell, IsCallByRecords, IsReplySaid, LeavesWhatIsSpared, NeverSaysTryAgain, TellsOfAdd}
 use Rattle.ipam_keeper.specs.Outside.{Outside}
 

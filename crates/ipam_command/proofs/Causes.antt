@@ -15,9 +15,9 @@ use Rattle.ipam_words.specs.declared.texts.TheConstants.{HELP, VERSION}
 use Rattle.ipam_words.specs.Words.{AskedCommand, Audit, Call, Cni, Play, Apply, Get, Help, Routes, Release, Gen, Serve, Show, Version}
 use Rattle.ipam_play.specs.declared.end.PlayEnd.{PlayEnd}
 use Rattle.ipam_play.specs.declared.end.PlayEnd.TheVariants as play
-use Rattle.ipam_gen.specs.declared.end.GenEnd.{GenEnd}
-use Rattle.ipam_gen.specs.declared.end.GenEnd.TheVariants as gen
-use Rattle.ipam_gen.specs.Summary.{CountsFaults}
+use Rattle.ipam_command.specs.declared.gen_end.GenEnd.{GenEnd}
+use Rattle.ipam_command.specs.declared.gen_end.GenEnd.TheVariants as gen
+use Rattle.ipam_command.specs.Summary.{CountsFaults}
 use Rattle.ipam_commands.specs.declared.outcome.ChangeOutcome.{ChangeOutcome}
 use Rattle.ipam_commands.specs.declared.outcome.ChangeOutcome.TheVariants as outcome
 use Rattle.ipam_commands.specs.declared.status.Status.{Status}
@@ -38,11 +38,11 @@ use Rattle.cni_asks.specs.declared.replies.CniReply.{CniReply}
 use Rattle.cni_asks.specs.declared.replies.CniReply.TheVariants.{Addresses, Success, Failure}
 use Rattle.cni_asks.specs.Replying.{reply_status}
 use Rattle.cni_types.specs.declared.version.Version as versions
-use Rattle.ipam_cni.specs.declared.end.CniEnd.{CniEnd}
-use Rattle.ipam_cni.specs.declared.end.CniEnd.TheVariants.{Told, Failed}
-use Rattle.ipam_cni.specs.Calls as cni
-use Rattle.ipam_cni.specs.Ends as cni_ends
-use Rattle.ipam_cni.specs.Replies as replies
+use Rattle.ipam_command.specs.declared.cni_end.CniEnd.{CniEnd}
+use Rattle.ipam_command.specs.declared.cni_end.CniEnd.TheVariants.{Told, Failed}
+use Rattle.ipam_command.specs.Calls as cni
+use Rattle.ipam_command.specs.Ends as cni_ends
+use Rattle.ipam_command.specs.Replies as replies
 use Rattle.ipam_command.specs.Commands as does
 use Rattle.ipam_command.specs.Commands.{Does, DoesApply, DoesCni, DoesGen, DoesPlay, DoesRelease, DoesSay, DoesTell, SaysFixedText, unknown_text}
 use Rattle.ipam_keeper.specs.Outside.{LeavesKeeper, LeavesSource, Outside}

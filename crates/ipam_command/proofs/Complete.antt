@@ -14,9 +14,9 @@ use Rattle.ipam_words.specs.Words.{AskedCommand, Audit, Call, Cni, Play, Apply, 
 use Rattle.ipam_play.specs.declared.end.PlayEnd.{PlayEnd}
 use Rattle.ipam_play.specs.declared.end.PlayEnd.TheVariants as play
 use Rattle.ipam_play.specs.Writing.{WritesAll}
-use Rattle.ipam_gen.specs.declared.end.GenEnd.{GenEnd}
-use Rattle.ipam_gen.specs.declared.end.GenEnd.TheVariants as gen
-use Rattle.ipam_gen.specs.Summary.{CountsFaults, WritesSummary}
+use Rattle.ipam_command.specs.declared.gen_end.GenEnd.{GenEnd}
+use Rattle.ipam_command.specs.declared.gen_end.GenEnd.TheVariants as gen
+use Rattle.ipam_command.specs.Summary.{CountsFaults, WritesSummary}
 use Rattle.ipam_command.specs.Generating.{HasCountedRight}
 use Rattle.ipam_command.specs.Headline.{HasWrittenRight, script_in}
 use Rattle.ipam_commands.specs.declared.outcome.ChangeOutcome.{ChangeOutcome}
@@ -37,12 +37,12 @@ use Rattle.ipam_commands.specs.Inputs.{IsDocument}
 use Rattle.cni_types.specs.declared.version.Version as versions
 use Rattle.cni_types.specs.Reading.{Pair}
 use Rattle.cni_types.specs.Texts.{error_text}
-use Rattle.ipam_cni.specs.declared.end.CniEnd.{CniEnd}
-use Rattle.ipam_cni.specs.declared.end.CniEnd.TheVariants.{Told, Failed}
-use Rattle.ipam_cni.specs.declared.end.CniFault.TheVariants as cni_fault
-use Rattle.ipam_cni.specs.Calls as cni
-use Rattle.ipam_cni.specs.Ends as cni_ends
-use Rattle.ipam_cni.specs.Replies.{Refused}
+use Rattle.ipam_command.specs.declared.cni_end.CniEnd.{CniEnd}
+use Rattle.ipam_command.specs.declared.cni_end.CniEnd.TheVariants.{Told, Failed}
+use Rattle.ipam_command.specs.declared.cni_end.CniFault.TheVariants as cni_fault
+use Rattle.ipam_command.specs.Calls as cni
+use Rattle.ipam_command.specs.Ends as cni_ends
+use Rattle.ipam_command.specs.Replies.{Refused}
 use Rattle.ipam_command.specs.Commands as does
 use Rattle.ipam_command.specs.Commands.{Does, SaysFixedText, unknown_text}
 use Rattle.ipam_keeper.specs.Outside.{LeavesKeeper, Outside}

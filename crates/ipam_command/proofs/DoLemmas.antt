@@ -12,8 +12,8 @@ use Rattle.ipam_records.specs.declared.call.Row.{Row as RowText}
 use Rattle.ipam_records.specs.Datastore.{Datastore}
 use Rattle.ipam_words.specs.Words.{AskedCommand}
 use Rattle.ipam_play.specs.declared.end.PlayEnd.{PlayEnd}
-use Rattle.ipam_gen.specs.declared.end.GenEnd.{GenEnd}
-use Rattle.ipam_gen.specs.Summary as gen
+use Rattle.ipam_command.specs.declared.gen_end.GenEnd.{GenEnd}
+use Rattle.ipam_command.specs.Summary as gen
 use Rattle.ipam_commands.specs.Applied.{ApplyEnds, DocumentEnds, Read, ReadFailed, NoInput, Good, Bad, NoRoom}
 use Rattle.ipam_commands.specs.declared.status.Status.{Status}
 use Rattle.ipam_commands.specs.Telling.{ReportsRows, Writes}

@@ -1,8 +1,8 @@
 -- What is generated is a right history.
 use Rattle.ipam_laws.proofs.RightWhole.{right_law}
-use Rattle.ipam_gen.proofs.BaseLemmas.{consistent}
-use Rattle.ipam_gen.specs.Requests.{base}
-use Rattle.ipam_gen.specs.declared.end.GenEnd.TheVariants as end
+use Rattle.ipam_command.proofs.BaseLemmas.{consistent}
+use Rattle.ipam_command.specs.Requests.{base}
+use Rattle.ipam_command.specs.declared.gen_end.GenEnd.TheVariants as end
 use Rattle.ipam_command.specs.Generating.{CountedRightLaw, GeneratedRightLaw}
 
 pub generated_right : GeneratedRightLaw

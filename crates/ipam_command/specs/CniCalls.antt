@@ -27,13 +27,13 @@ use Rattle.cni_asks.specs.declared.asks.Ask.TheVariants.{Begin}
 use Rattle.cni_asks.specs.declared.replies.CniReply.{CniReply}
 use Rattle.cni_asks.specs.Replying.{told}
 use Rattle.cni_asks.specs.GcAsking.{collect_of, probe_of}
-use Rattle.ipam_cni.specs.declared.end.CniEnd.{CniEnd}
-use Rattle.ipam_cni.specs.declared.end.CniEnd.TheVariants.{Failed}
-use Rattle.ipam_cni.specs.declared.end.CniFault.TheVariants.{Memory}
-use Rattle.ipam_cni.specs.Replies.{StatusAndText, begun_by}
-use Rattle.ipam_cni.specs.Alone.{SaysTryAgain}
-use Rattle.ipam_cni.specs.ByRecords.{IsByRecords}
-use Rattle.ipam_cni.specs.Spare.{LeavesSpared}
+use Rattle.ipam_command.specs.declared.cni_end.CniEnd.{CniEnd}
+use Rattle.ipam_command.specs.declared.cni_end.CniEnd.TheVariants.{Failed}
+use Rattle.ipam_command.specs.declared.cni_end.CniFault.TheVariants.{Memory}
+use Rattle.ipam_command.specs.Replies.{StatusAndText, begun_by}
+use Rattle.ipam_command.specs.Alone.{SaysTryAgain}
+use Rattle.ipam_command.specs.ByRecords.{IsByRecords}
+use Rattle.ipam_command.specs.Spare.{LeavesSpared}
 use Rattle.ipam_keeper.specs.Outside.{Outside}
 
 -- ---- premises and replies

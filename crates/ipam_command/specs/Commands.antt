@@ -9,8 +9,8 @@ use Rattle.ipam_words.specs.Words.{AskedCommand, Audit, Call, Cni, Play, Apply, 
 use Rattle.ipam_words.specs.declared.texts.TheConstants.{HELP, VERSION}
 use Rattle.ipam_play.specs.declared.end.PlayEnd.{PlayEnd}
 use Rattle.ipam_play.specs.declared.end.PlayEnd.TheVariants as play
-use Rattle.ipam_gen.specs.declared.end.GenEnd.{GenEnd}
-use Rattle.ipam_gen.specs.Summary as gen
+use Rattle.ipam_command.specs.declared.gen_end.GenEnd.{GenEnd}
+use Rattle.ipam_command.specs.Summary as gen
 use Rattle.ipam_command.specs.Headline.{HasWrittenRight, HasWrittenSoFarRight, script_in}
 use Rattle.ipam_command.specs.Generating.{HasCountedRight}
 use Rattle.ipam_commands.specs.declared.status.Status.{Status}
@@ -26,10 +26,10 @@ use Rattle.ipam_addr.specs.Shape.{CidrValue}
 use Rattle.cni_types.specs.Reading.{Pair}
 use Rattle.ipam_commands.specs.Applied as apply
 use Rattle.ipam_commands.specs.declared.status.Status.TheVariants as status_of
-use Rattle.ipam_cni.specs.declared.end.CniEnd.{CniEnd}
-use Rattle.ipam_cni.specs.Calls as cni
+use Rattle.ipam_command.specs.declared.cni_end.CniEnd.{CniEnd}
+use Rattle.ipam_command.specs.Calls as cni
 use Rattle.ipam_call.specs.Ends.{IsStatus}
-use Rattle.ipam_cni.specs.Ends as cni_ends
+use Rattle.ipam_command.specs.Ends as cni_ends
 use Rattle.ipam_command.specs.CniCalls.{IsCallByRecords, LeavesWhatIsSpared, NeverSaysTryAgain, TellsOfAdd}
 use Rattle.ipam_keeper.specs.Outside.{LeavesKeeper, LeavesSource, Outside}
 use Rattle.ipam_commands.specs.Statuses.{code_of_status}

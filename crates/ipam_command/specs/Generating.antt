@@ -2,11 +2,11 @@
 use Rattle.std.specs.Prelude.{◌≡◌, ℕ, List, Option}
 use Rattle.ipam_model.specs.declared.entry.Entry.{Entry}
 use Rattle.ipam_model.specs.Right.{IsRight}
-use Rattle.ipam_gen.specs.declared.end.GenEnd.{GenEnd}
-use Rattle.ipam_gen.specs.declared.end.GenEnd.TheVariants as end
-use Rattle.ipam_gen.specs.Generated.{IsGenerated}
-use Rattle.ipam_gen.specs.Requests.{base}
-use Rattle.ipam_gen.specs.Summary.{HasWrittenSummary, WritesSummaryFront, WritesSummary}
+use Rattle.ipam_command.specs.declared.gen_end.GenEnd.{GenEnd}
+use Rattle.ipam_command.specs.declared.gen_end.GenEnd.TheVariants as end
+use Rattle.ipam_command.specs.Generated.{IsGenerated}
+use Rattle.ipam_command.specs.Requests.{base}
+use Rattle.ipam_command.specs.Summary.{HasWrittenSummary, WritesSummaryFront, WritesSummary}
 
 -- The newest entry is first.
 abbrev pub GeneratedRightLaw : Type 0

@@ -5,3 +5,15 @@ pub mod CniCalls
 pub mod Commands
 pub mod Headline
 pub mod Generating
+pub mod Draws
+pub mod Requests
+pub mod Generated
+pub mod Summary
+pub mod Counted
+pub mod Numbers
+pub mod Replies
+pub mod Ends
+pub mod Calls
+pub mod Alone
+pub mod Spare
+pub mod ByRecords

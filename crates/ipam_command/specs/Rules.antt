@@ -11,7 +11,7 @@ use Rattle.ipam_words.specs.Words.{AskedCommand, Audit, Call, Cni, Play, Apply, 
 use Rattle.ipam_words.specs.declared.texts.TheConstants.{HELP, VERSION}
 use Rattle.ipam_play.specs.Played.{Ending, Whole, LineRefused, NotOpened}
 use Rattle.ipam_play.specs.Writing.{WritesAll}
-use Rattle.ipam_gen.specs.Summary.{WritesSummary}
+use Rattle.ipam_command.specs.Summary.{WritesSummary}
 use Rattle.ipam_command.specs.Headline.{script_in}
 use Rattle.ipam_commands.specs.declared.outcome.ChangeOutcome.{ChangeOutcome}
 use Rattle.ipam_commands.specs.Changing.{IsChanged, OpenedSo, outcome_status, release_line}
@@ -32,10 +32,10 @@ use Rattle.cni_types.specs.declared.version.Version.TheVariants.{V1_0_0}
 use Rattle.cni_types.specs.Reading.{Pair}
 use Rattle.cni_types.specs.Texts.{error_text}
 use Rattle.ipam_call.specs.Versions.{version_for}
-use Rattle.ipam_cni.specs.declared.end.CniFault.TheVariants.{Memory}
-use Rattle.ipam_cni.specs.Calls.{IsInput}
-use Rattle.ipam_cni.specs.Ends.{fault_error}
-use Rattle.ipam_cni.specs.Replies.{ComesTo, StatusAndText}
+use Rattle.ipam_command.specs.declared.cni_end.CniFault.TheVariants.{Memory}
+use Rattle.ipam_command.specs.Calls.{IsInput}
+use Rattle.ipam_command.specs.Ends.{fault_error}
+use Rattle.ipam_command.specs.Replies.{ComesTo, StatusAndText}
 use Rattle.ipam_command.specs.CniCalls.{IsReplySaid}
 use Rattle.ipam_command.specs.Commands.{unknown_text}
 use Rattle.ipam_keeper.specs.Outside.{Outside, LeavesKeeper}

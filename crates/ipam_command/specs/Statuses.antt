@@ -1,7 +1,7 @@
 -- The statuses that the program ends with where it played or generated.
 use Rattle.std.specs.Prelude.{ℕ}
-use Rattle.ipam_gen.specs.declared.end.GenEnd.{GenEnd}
-use Rattle.ipam_gen.specs.declared.end.GenEnd.TheVariants as gen
+use Rattle.ipam_command.specs.declared.gen_end.GenEnd.{GenEnd}
+use Rattle.ipam_command.specs.declared.gen_end.GenEnd.TheVariants as gen
 use Rattle.ipam_play.specs.declared.end.PlayEnd.{PlayEnd}
 use Rattle.ipam_play.specs.declared.end.PlayEnd.TheVariants as play
 

@@ -7,10 +7,10 @@ ghost use Rattle.ipam_command.specs.Commands.{Does, SaysFixedText, unknown_text}
 ghost use Rattle.ipam_keeper.specs.Outside.{outside_of};
 ghost use Rattle.ipam_command.specs.Rules.{CompleteLaw, asks_keeper, reads};
 
+use crate::cni_run::cni;
+use crate::gen_whole::generate;
 use crate::statuses::{code_of_gen, code_of_play};
-use ipam_cni::cni;
 use ipam_commands::{DONE, UNKNOWN_WORDS, WRITE_FAULT, apply, get, release, routes, show};
-use ipam_gen::generate;
 use ipam_io::{Sink, Source};
 use ipam_keeper::Keeper;
 use ipam_play::play;

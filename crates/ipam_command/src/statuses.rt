@@ -2,8 +2,8 @@
 ghost use Rattle.std.specs.Prelude.{◌≡◌};
 ghost use Rattle.ipam_command.specs.Statuses.{code_of_gen, code_of_play};
 
+use crate::gen_end::GenEnd;
 use ipam_commands::{BROKEN_ROWS, DONE, LINE_REFUSED, NO_MEMORY, READ_FAULT, WRITE_FAULT};
-use ipam_gen::GenEnd;
 use ipam_play::PlayEnd;
 
 /// The status of a script that was played to this end.

@@ -37,15 +37,6 @@ handed_more n n' n'' h h' h'' a a' a'' s en (inr (eh, ea)) =
       attended = ea ∙ ap next_count s.attended;
     }
 
-pub accepted_none : (n : ℕ) → n ≡ raised 0 n
-accepted_none n = refl
-
-suc_of : (k : ℕ) → suc k ≡ k + 1
-suc_of k = omega arith
-
-pub accepted_more : (k n n' n'' : ℕ) → n' ≡ raised k n → n'' ≡ next_count n' → n'' ≡ raised (k + 1) n
-accepted_more k n n' n'' so_far is = is ∙ ap next_count so_far ∙ ap (λ j. raised j n) (suc_of k)
-
 pub hired_none : (h : ℕ) → h ≡ h + 0
 hired_none h = omega arith
 

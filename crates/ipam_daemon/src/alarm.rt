@@ -1,6 +1,5 @@
 //! How the thread that accepts connections learns that nothing more can be served.
 ghost use Rattle.std.specs.Prelude.{◌≡◌, IfOk};
-ghost use Rattle.ipam_io.specs.Counts.{next_count};
 ghost use Rattle.ipam_daemon.specs.Alarms.{IsHeeded};
 
 use crate::channel::{HandingEnd, TakingEnd, channel};
@@ -89,12 +88,17 @@ impl Alarm {
         })
     }
 
-    /// Raises it once where a session that ended so did since the keeper failed, and else not.
+    /// Raises it once where a session that ended so did since the keeper failed, and sends an alert. Where the one
+    /// before waits to be taken, that one is enough. Else it doesn't raise it.
     pub(crate) fn heed<R: Wait>(&mut self, rt: &R, end: SessionEnd)
         ensures { IsHeeded end self.old.raises self.new.raises }
     {
         match end {
-            SessionEnd::KeeperFault => self.raise(rt),
+            SessionEnd::KeeperFault => {
+                self.raises = self.raises.saturating_add(1);
+                self.raised.store(1, Ordering::SeqCst);
+                let _ = self.alerts.offer(rt, Alert);
+            }
             SessionEnd::Closed
             | SessionEnd::Cut
             | SessionEnd::LineTooLong
@@ -104,14 +108,5 @@ impl Alarm {
             | SessionEnd::Worn
             | SessionEnd::Memory => {}
         }
-    }
-
-    /// Raises it, and sends an alert. Where the one before waits to be taken, that one is enough.
-    fn raise<R: Wait>(&mut self, rt: &R)
-        ensures { self.new.raises ≡ next_count self.old.raises }
-    {
-        self.raises = self.raises.saturating_add(1);
-        self.raised.store(1, Ordering::SeqCst);
-        let _ = self.alerts.offer(rt, Alert);
     }
 }

@@ -1,6 +1,5 @@
 //! The gate of a worker's sessions.
-ghost use Rattle.std.specs.Prelude.{◌≡◌, ◌≤◌, ℕ, Some};
-ghost use Rattle.std.specs.Option.{option_map};
+ghost use Rattle.std.specs.Prelude.{◌≡◌, ◌≤◌, Some};
 ghost use Rattle.ipam_io.specs.Counts.{Rose};
 ghost use Rattle.ipam_io.specs.Passing.{OnGo, OnStop, count_of_turns};
 ghost use Rattle.ipam_serve.specs.Asking.{count_of_lines};
@@ -14,24 +13,9 @@ use ipam_socket::{Peer, PeerGate};
 /// a line it doesn't look: only what is read shows whether the peer closed after its last reply.
 #[derive(Drop)]
 pub(crate) struct Asking<P> {
-    gate: PeerGate<P>,
-    lines: u64,
-    turns: u64,
-}
-
-impl<P: Peer> Asking<P> {
-    /// A gate that looks at this peer, and was not asked yet.
-    pub(crate) fn new(peer: P) -> Asking<P>
-        ensures peer { peer_of result.gate ≡ peer }
-        ensures lines { result.lines ≡ 0 }
-        ensures turns { result.turns ≡ 0 }
-    {
-        Asking {
-            gate: PeerGate::new(peer),
-            lines: 0,
-            turns: 0,
-        }
-    }
+    pub(crate) gate: PeerGate<P>,
+    pub(crate) lines: u64,
+    pub(crate) turns: u64,
 }
 
 impl<P: Peer> SessionGate for Asking<P> {

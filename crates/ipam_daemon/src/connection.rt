@@ -13,7 +13,7 @@ use crate::desk::Desk;
 use crate::serves::Serves;
 use ipam_io::Link;
 use ipam_serve::{SessionEnd, SessionGate};
-use ipam_socket::{Limits, SocketLink, Stream, StreamPeer};
+use ipam_socket::{Limits, PeerGate, SocketLink, Stream, StreamPeer};
 use std::sync::Wait;
 use std::time::Clock;
 
@@ -74,6 +74,10 @@ impl<'a, C: Clock + Copy> Opens<&'a Stream, SocketLink<C, &'a Stream>, Asking<St
     }
 
     fn gate(&self, stream: &'a Stream) -> Asking<StreamPeer<'a>> {
-        Asking::new(StreamPeer::new(stream))
+        Asking {
+            gate: PeerGate::new(StreamPeer::new(stream)),
+            lines: 0,
+            turns: 0,
+        }
     }
 }

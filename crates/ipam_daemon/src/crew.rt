@@ -1,5 +1,5 @@
 //! Threads for workers.
-ghost use Rattle.std.specs.Prelude.{◌≡◌, IfOk};
+ghost use Rattle.std.specs.Prelude.{IfOk};
 ghost use Rattle.std.specs.Vec.{vec_len};
 ghost use Rattle.ipam_daemon.specs.Crews.{IsHired};
 
@@ -7,40 +7,17 @@ use crate::channel::TakingEnd;
 use crate::handing::{Attends, work};
 use crate::host::Host;
 use ipam_socket::Stream;
-use std::alloc::{AllocError, Global};
+use std::alloc::AllocError;
 use std::thread;
 use std::thread::JoinHandle;
 
 /// Threads that are started, in each of which a worker serves what is taken from one channel.
 #[derive(Drop)]
 pub(crate) struct Crew<'a, R> {
-    rt: &'a R,
-    from: &'a TakingEnd<Stream>,
-    threads: Vec<JoinHandle<()>>,
-    faults: u64,
-}
-
-impl<'a, R> Crew<'a, R> {
-    /// A crew of nobody.
-    pub(crate) fn new(rt: &'a R, alloc: Global, from: &'a TakingEnd<Stream>) -> Crew<'a, R>
-        ensures threads { vec_len result.threads ≡ 0 }
-        ensures faults { result.faults ≡ 0 }
-    {
-        Crew {
-            rt,
-            from,
-            threads: Vec::new(alloc),
-            faults: 0,
-        }
-    }
-
-    /// The threads, and how often one could not be made.
-    pub(crate) fn into_parts(self) -> (Vec<JoinHandle<()>>, u64)
-        ensures threads { vec_len result.0 ≡ vec_len self.entry.threads }
-        ensures faults { result.1 ≡ self.entry.faults }
-    {
-        (self.threads, self.faults)
-    }
+    pub(crate) rt: &'a R,
+    pub(crate) from: &'a TakingEnd<Stream>,
+    pub(crate) threads: Vec<JoinHandle<()>>,
+    pub(crate) faults: u64,
 }
 
 /// Starts a thread in which the worker works. False where the system makes no thread.
@@ -70,10 +47,9 @@ pub(crate) fn start<R: Host, T: Send + Drop + 'static, W: Attends<T> + Send + Dr
     from: TakingEnd<T>,
     worker: W,
 ) -> Option<JoinHandle<()>> {
-    thread::spawn(&rt, move || work_for(&rt, from, worker)).ok()
-}
-
-/// Attends to what is taken from the channel.
-fn work_for<R: Host, T: Drop, W: Attends<T> + Drop>(rt: &R, mut from: TakingEnd<T>, mut worker: W) {
-    work(rt, &mut from, &mut worker);
+    thread::spawn(&rt, move || {
+        let (mut from, mut worker) = (from, worker);
+        work(&rt, &mut from, &mut worker);
+    })
+    .ok()
 }

@@ -9,7 +9,7 @@ ghost use Rattle.ipam_serve.specs.Sessions.{RoseIf, Session, is_halted, is_read_
 
 use crate::serves::Serves;
 use ipam_io::{Link, SystemClock};
-use ipam_serve::{Opening, Queue, Queued, SessionEnd, SessionGate};
+use ipam_serve::{Opening, Queued, SessionEnd, SessionGate};
 use ipam_shared::Pass;
 use std::alloc::Global;
 use std::sync::{Arc, Wait};
@@ -19,47 +19,18 @@ use std::time::Clock;
 /// counts them.
 #[derive(Drop)]
 pub(crate) struct Desk<S: Serves, C> {
-    alloc: Global,
-    shared: Arc<S, Global>,
-    opening: Arc<Opening, Global>,
-    pass: Pass,
-    clock: SystemClock<C>,
-    patience: Queued,
-    sessions: u64,
+    pub(crate) alloc: Global,
+    pub(crate) shared: Arc<S, Global>,
+    pub(crate) opening: Arc<Opening, Global>,
+    pub(crate) pass: Pass,
+    pub(crate) clock: SystemClock<C>,
+    pub(crate) patience: Queued,
+    pub(crate) sessions: u64,
     ghost own: { pass.lock ≡ S.id (arc_value shared) },
     ghost idle: { IsNone (runs_in pass) },
 }
 
 impl<S: Serves, C: Clock> Desk<S, C> {
-    /// A desk that serves sessions of this opening by this pass, with this queue of requests, and has served
-    /// none.
-    #[tactic(auto, using(crate::proofs::Idle::is_idle))]
-    pub(crate) fn new(
-        alloc: Global,
-        shared: Arc<S, Global>,
-        opening: Arc<Opening, Global>,
-        queue: Arc<Queue, Global>,
-        pass: Pass,
-        clock: C,
-    ) -> Desk<S, C>
-        requires own { pass.lock ≡ S.id (arc_value shared) }
-        requires idle { runs_in pass ≡ None }
-        ensures pass { result.pass ≡ pass }
-        ensures opening { result.opening ≡ opening }
-        ensures sessions { result.sessions ≡ 0 }
-    {
-        let patience = Queued::new(queue, pass.slot());
-        Desk {
-            alloc,
-            shared,
-            opening,
-            pass,
-            patience,
-            clock: SystemClock::new(clock),
-            sessions: 0,
-        }
-    }
-
     /// Serves a session over the link to its end, as `serve_session` does. What the client began and
     /// didn't see the end of is stopped by then.
     #[tactic(auto, using(crate::proofs::Idle::is_idle, crate::proofs::Idle::none_runs))]

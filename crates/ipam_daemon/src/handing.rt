@@ -1,5 +1,5 @@
 //! Connections are handed over, and each is served. Alerts are handed over so too.
-ghost use Rattle.std.specs.Prelude.{◌≡◌, ◌≤◌, ℕ, OnSome, IfNone, OnOk, OnErr};
+ghost use Rattle.std.specs.Prelude.{◌≡◌, ℕ, OnSome, IfNone, OnOk, OnErr};
 ghost use Rattle.std.specs.Bool.{OnTrue, OnFalse};
 ghost use Rattle.ipam_io.specs.Counts.{Rose, next_count};
 ghost use Rattle.ipam_daemon.specs.Handing.{IsEachServed, IsHandedOver, IsOneHandedOver, raised};
@@ -76,31 +76,8 @@ pub fn work<R: Wait + Log + Clock, T, Q: Takes<T>, W: Attends<T>>(
     unreachable!()
 }
 
-/// Accepts up to so many connections, one after the other, and hands each over, or has it served
-/// here where nobody can take it. It ends early where accepting fails, and nowhere else.
-#[tactic(auto, using(crate::proofs::Counts::handed_none, crate::proofs::Counts::handed_more, crate::proofs::Counts::accepted_none, crate::proofs::Counts::accepted_more))]
-pub fn hand_over<R: Wait + Log + Clock, T, L: Listens<T>, H: Hands<T>, W: Attends<T>>(
-    rt: &R,
-    listener: &mut L,
-    most: u64,
-    to: &mut H,
-    own: &mut W,
-) -> Result<(), Failed>
-    ensures each { IsHandedOver (L.accepted listener.old) (L.accepted listener.new)
-        (H.handed to.old) (H.handed to.new) (W.attended own.old) (W.attended own.new) }
-    ensures all { OnOk result (L.accepted listener.new ≡ raised most (L.accepted listener.old)) }
-    ensures fault { OnErr result (Rose (L.faults listener.old) (L.faults listener.new)) }
-    ensures no_fault { OnOk result (L.faults listener.new ≡ L.faults listener.old) }
-{
-    for _ in 0..most {
-        let connection = listener.accept()?;
-        hand_one(rt, connection, to, own);
-    }
-    Ok(())
-}
-
-/// The same for every connection, until a look before one finds the alarm raised, or accepting fails. It ends
-/// nowhere else.
+/// Accepts connections, one after the other, and hands each over, or has it served here where nobody can take it.
+/// It ends where a look before one finds the alarm raised, or accepting fails, and nowhere else.
 #[tactic(auto, using(crate::proofs::Counts::handed_none, crate::proofs::Counts::handed_more))]
 pub fn hand_over_all<
     R: Wait + Log + Clock,

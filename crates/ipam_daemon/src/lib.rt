@@ -25,7 +25,7 @@ mod worker;
 
 pub use alarm::{Alert, NewAlarm, Watch};
 pub use ending::log_end;
-pub use handing::{Attends, Hands, Takes, Watches, hand_over, hand_over_all, work};
+pub use handing::{Attends, Hands, Takes, Watches, hand_over_all, work};
 pub use host::Host;
 pub use ipam_serve::{Keeper, Opening, SessionEnd};
 pub use ipam_socket::{Address, Limits, Listens, SocketListener, Stream};
@@ -34,4 +34,4 @@ pub use opening::{new_opening, open_kept};
 pub use served::{Served, tell_served};
 pub use serves::Serves;
 pub use serving::{serve, serve_by};
-pub use staff::{Leaving, Staff, engage};
+pub use staff::{Staff, engage};

@@ -1,13 +1,12 @@
 //! The cluster is opened, and shared.
-ghost use Rattle.std.specs.Prelude.{◌≡◌, None, IfOk, IfErr};
+ghost use Rattle.std.specs.Prelude.{◌≡◌, IfOk, IfErr};
 ghost use Rattle.ipam_kept.specs.Opening.{IsOpened};
-ghost use Rattle.ipam_shared.specs.Passes.{IsNewlyKept, runs_in};
+ghost use Rattle.ipam_shared.specs.Passes.{IsNewlyKept};
 ghost use Rattle.ipam_daemon.specs.Opening.{IsUnopened, end_of};
 
 use crate::served::Served;
 use ipam_kept::{Keeper, Kept, KeptFault, OpensKept};
 use ipam_serve::Opening;
-use ipam_shared::{Pass, Shared};
 use ipam_text::Text;
 use std::alloc::{AllocError, Global};
 use std::random::RandomSource;
@@ -51,23 +50,4 @@ pub fn new_opening<R: Clock + RandomSource>(rt: &R, alloc: Global) -> Result<Ope
     };
     let text = format!(in alloc; "{}-{word:016x}", time.as_secs())?;
     Ok(Opening::of(alloc, Text::of(text)))
-}
-
-/// The cluster for many threads, and its first pass.
-pub(crate) fn share<D: Keeper + Drop>(
-    alloc: Global,
-    kept: Kept<D>,
-) -> Result<(Shared<D>, Pass), AllocError>
-    requires { IsNewlyKept D.rows D.settled kept }
-    ensures own { IfOk result (λ r. r.1.lock ≡ r.0) }
-    ensures slot { IfOk result (λ r. r.1.slot ≡ 0) }
-    ensures idle { IfOk result (λ r. runs_in r.1 ≡ None) }
-{
-    match Shared::new(alloc, kept) {
-        Ok(shared) => Ok(shared),
-        Err(kept) => {
-            drop(kept);
-            Err(AllocError)
-        }
-    }
 }

@@ -10,7 +10,7 @@ use crate::host::Host;
 use crate::knocker::Knocker;
 use crate::opening::open_kept;
 use crate::served::Served;
-use crate::staff::{Leaving, engage};
+use crate::staff::engage;
 use ipam_kept::{Keeper, Kept};
 use ipam_serve::Opening;
 use ipam_socket::{Address, Failed, Limits, Listens, SocketListener, Stream};
@@ -55,14 +55,13 @@ pub fn serve<
         &mut listener,
         workers,
         limits,
-        Leaving::AtWork,
         knocker,
         alarm,
         &mut watch,
     )
 }
 
-/// The same over this listener, within these limits, with this end and this knocker, which is to make a connection at
+/// The same over this listener, within these limits and with this knocker, which is to make a connection at
 /// each alert. Where it makes none, serving ends once another one comes. It ends with a fault of listening
 /// exactly where the listener failed, and by the keeper after the rows were opened exactly where the watch found the
 /// alarm raised, which is to be the watch of this alarm.
@@ -81,7 +80,6 @@ pub fn serve_by<
     listener: &mut L,
     workers: u8,
     limits: Limits,
-    leaving: Leaving,
     knocker: K,
     alarm: NewAlarm,
     watch: &mut A,
@@ -97,7 +95,7 @@ pub fn serve_by<
     match listener.open() {
         Ok(()) => {
             let served = serve_at(
-                rt, alloc, kept, opening, listener, workers, limits, leaving, knocker, alarm, watch,
+                rt, alloc, kept, opening, listener, workers, limits, knocker, alarm, watch,
             );
             listener.close();
             (served, None)
@@ -124,7 +122,6 @@ fn serve_at<
     listener: &mut L,
     workers: u8,
     limits: Limits,
-    leaving: Leaving,
     knocker: K,
     alarm: NewAlarm,
     watch: &mut A,
@@ -135,14 +132,10 @@ fn serve_at<
     ensures alarmed { FindsAlarmAtEnd result (A.found watch.old) (A.found watch.new) }
 {
     match engage(rt, alloc, kept, opening, workers, limits, knocker, alarm) {
-        Ok(mut staff) => {
-            let accepted = staff.accept_all(&rt, listener, watch);
-            staff.leave(&rt, leaving);
-            match accepted {
-                Ok(()) => Served::KeeperFault,
-                Err(Failed) => Served::ListenFault,
-            }
-        }
+        Ok(mut staff) => match staff.accept_all(&rt, listener, watch) {
+            Ok(()) => Served::KeeperFault,
+            Err(Failed) => Served::ListenFault,
+        },
         Err(_) => Served::NoMemory,
     }
 }

@@ -5,15 +5,14 @@ ghost use Rattle.std.specs.Vec.{vec_len};
 ghost use Rattle.ipam_io.specs.Counts.{Rose};
 ghost use Rattle.ipam_shared.specs.Passes.{IsNewlyKept, runs_in};
 ghost use Rattle.ipam_daemon.specs.Crews.{IsEngaged};
-ghost use Rattle.ipam_daemon.specs.Handing.{IsHandedOver, raised};
+ghost use Rattle.ipam_daemon.specs.Handing.{IsHandedOver};
 
 use crate::alarm::{Alert, NewAlarm};
 use crate::channel::{HandingEnd, channel};
 use crate::common::Common;
 use crate::crew::{Crew, hire, start};
-use crate::handing::{Attends, Watches, hand_over, hand_over_all};
+use crate::handing::{Attends, Watches, hand_over_all};
 use crate::host::Host;
-use crate::opening::share;
 use crate::serves::Serves;
 use crate::worker::Worker;
 use ipam_kept::{Keeper, Kept};
@@ -23,20 +22,11 @@ use ipam_socket::{Failed, Limits, Listens, Stream};
 use log::Log;
 use std::alloc::{AllocError, Global};
 use std::sync::Wait;
-use std::thread::{JoinHandle, Threads};
+use std::thread::JoinHandle;
 use std::time::Clock;
 
 /// How many connections may be accepted before a worker takes them. The system lets others wait.
 const MOST_WAITING: usize = 16;
-
-/// What becomes of the workers where serving ends.
-#[derive(Clone, Copy)]
-pub enum Leaving {
-    /// They are left with the sessions that they serve by then, which end with the process.
-    AtWork,
-    /// They are waited for until they have served all that was accepted.
-    Done,
-}
 
 /// Workers in threads of their own, and one more, who serves where none of them was started.
 #[derive(Drop)]
@@ -48,55 +38,9 @@ pub struct Staff<S: Serves, R> {
 }
 
 impl<S: Serves + Drop, C: Clock + Copy + Drop> Staff<S, C> {
-    /// How many workers have a thread of their own.
-    pub fn hired(&self) -> usize
-        ensures { result ≡ vec_len self.now.threads }
-    {
-        self.threads.len()
-    }
-
-    /// Has up to so many connections of the listener served, one by each worker at a time. It ends
-    /// early where accepting fails, and doesn't wait for the sessions that are served by then.
-    pub fn accept<R: Wait + Log + Clock, L: Listens<Stream>>(
-        &mut self,
-        rt: &R,
-        listener: &mut L,
-        most: u64,
-    ) -> Result<(), Failed>
-        ensures each { IsHandedOver (L.accepted listener.old) (L.accepted listener.new)
-            self.old.to.handed self.new.to.handed self.old.own.desk.sessions self.new.own.desk.sessions }
-        ensures all { OnOk result (L.accepted listener.new ≡ raised most (L.accepted listener.old)) }
-        ensures fault { OnErr result (Rose (L.faults listener.old) (L.faults listener.new)) }
-        ensures no_fault { OnOk result (L.faults listener.new ≡ L.faults listener.old) }
-    {
-        hand_over(rt, listener, most, &mut self.to, &mut self.own)
-    }
-
-    /// Waits until the workers have served all that was accepted.
-    pub fn dismiss<R: Threads>(self, rt: &R) {
-        let Staff {
-            to,
-            threads,
-            own,
-            ..
-        } = self;
-        drop(to);
-        for thread in threads {
-            thread.join(rt);
-        }
-        drop(own);
-    }
-
-    /// Leaves the workers so.
-    pub(crate) fn leave<R: Threads>(self, rt: &R, leaving: Leaving) {
-        match leaving {
-            Leaving::AtWork => drop(self),
-            Leaving::Done => self.dismiss(rt),
-        }
-    }
-
-    /// Has connections served as `accept` does, until accepting fails, or the watch finds that a session ended since
-    /// the keeper failed. The latter shows once a connection comes, be it by who knocks.
+    /// Has the connections of the listener served, one by each worker at a time, until accepting fails, or the watch
+    /// finds that a session ended since the keeper failed. It doesn't wait for the sessions that are served by then.
+    /// The latter shows once a connection comes, be it by who knocks.
     pub(crate) fn accept_all<R: Wait + Log + Clock, L: Listens<Stream>, A: Watches>(
         &mut self,
         rt: &R,
@@ -134,7 +78,9 @@ pub fn engage<
     ensures engaged { IfOk result (λ staff. IsEngaged workers 0 (vec_len staff.threads) 0 staff.thread_faults staff.own.desk.pass) }
     ensures first { IfOk result (λ staff. staff.own.desk.pass.slot ≡ 0) }
 {
-    let (shared, pass) = share(alloc, kept)?;
+    let Ok((shared, pass)) = Shared::new(alloc, kept) else {
+        return Err(AllocError);
+    };
     engage_over(
         rt, alloc, shared, opening, pass, workers, limits, knocker, alarm,
     )
@@ -165,9 +111,18 @@ fn engage_over<
     let NewAlarm { alarm, alerts } = alarm;
     let common = Common::of(alloc, shared, opening, alarm)?;
     let (to, from) = channel(alloc, MOST_WAITING)?;
-    let mut crew = Crew::new(&rt, alloc, &from);
+    let mut crew = Crew {
+        rt: &rt,
+        from: &from,
+        threads: Vec::new(alloc),
+        faults: 0,
+    };
     hire_all(rt, alloc, &common, &mut pass, &mut crew, workers, limits)?;
-    let (threads, thread_faults) = crew.into_parts();
+    let Crew {
+        threads,
+        faults: thread_faults,
+        ..
+    } = crew;
     let own = Worker::new(alloc, common, pass, rt, limits);
     // Where the system makes no thread for it, nobody knocks.
     let _ = start(rt, alerts, knocker);

@@ -13,7 +13,8 @@ use crate::desk::Desk;
 use crate::ending::{log_end, log_refused};
 use crate::handing::Attends;
 use crate::serves::Serves;
-use ipam_serve::SessionEnd;
+use ipam_io::SystemClock;
+use ipam_serve::{Queued, SessionEnd};
 use ipam_shared::Pass;
 use ipam_socket::{Limits, SocketLink, Stream, StreamPeer};
 use log::Log;
@@ -33,6 +34,7 @@ pub(crate) struct Worker<S: Serves, C> {
 impl<S: Serves, C: Clock + Copy> Worker<S, C> {
     /// A worker that serves sessions by this pass, with what it has in common with others and within these
     /// limits.
+    #[tactic(auto, using(crate::proofs::Idle::is_idle))]
     pub(crate) fn new(
         alloc: Global,
         common: Common<S>,
@@ -52,7 +54,15 @@ impl<S: Serves, C: Clock + Copy> Worker<S, C> {
             alarm,
         } = common;
         Worker {
-            desk: Desk::new(alloc, shared, opening, queue, pass, clock),
+            desk: Desk {
+                alloc,
+                shared,
+                opening,
+                patience: Queued::new(queue, pass.slot()),
+                pass,
+                clock: SystemClock::new(clock),
+                sessions: 0,
+            },
             clock,
             limits,
             alarm,

@@ -20,21 +20,6 @@ use ipam_keeper::{KeepFault, Keeper};
 use ipam_records::Row;
 use std::alloc::Global;
 
-/// Loads all rows, and has the keeper make sure of them.
-fn load_sure<D: Keeper>(keeper: &mut D) -> Result<Vec<Row>, KeepFault>
-    ensures ascending { IfOk result (λ loaded. Ascend loaded.items) }
-    ensures told { IfOk result (λ loaded. IsTold (D.rows keeper.old) loaded.items) }
-    ensures kept { D.rows keeper.new ≡ D.rows keeper.old }
-    ensures settled { OnOk result (D.settled keeper.new ≡ D.rows keeper.new) }
-    ensures fault { OnFailed result (Rose (D.faults keeper.old) (D.faults keeper.new)) }
-    ensures no_fault { UnlessFailed result (D.faults keeper.new ≡ D.faults keeper.old) }
-    ensures same { D.name keeper.new ≡ D.name keeper.old }
-{
-    let rows = keeper.load()?;
-    keeper.settle()?;
-    Ok(rows)
-}
-
 /// What takes the memory for opening a keeper's rows. What is generic over it knows nothing of it, and so can't
 /// state by itself that it found none.
 pub trait OpensKept {
@@ -66,11 +51,17 @@ impl OpensKept for Global {
     ghost wants = { λ _. Unit {0} };
 
     fn load_sure<D: Keeper>(&self, keeper: &mut D) -> Result<Vec<Row>, KeepFault> {
-        load_sure(keeper)
+        let rows = keeper.load()?;
+        keeper.settle()?;
+        Ok(rows)
     }
 
     fn open_fed(&self, rows: Vec<Row>, first: u64) -> Result<(Cluster, Ring), OpenFault> {
-        open_fed(*self, rows, first)
+        let cluster = open_cluster(*self, rows, first)?;
+        match open_ring(*self, cluster.store()) {
+            Ok(ring) => Ok((cluster, ring)),
+            Err(_) => Err(OpenFault::Memory),
+        }
     }
 }
 
@@ -92,23 +83,6 @@ impl<T: OpensKept + Drop> Opens for Feeding<T> {
 
     fn open(self, rows: Vec<Row>) -> Result<(Cluster, Ring), OpenFault> {
         self.alloc.open_fed(rows, self.first)
-    }
-}
-
-fn open_fed(alloc: Global, rows: Vec<Row>, first: u64) -> Result<(Cluster, Ring), OpenFault>
-    requires ascend { Ascend rows.items }
-    requires first { first ≤ 2 ^ 62 + SLOTS }
-    ensures opens { IfOk result (λ both. OpensAs (texts_loaded rows.items) both.0.store.store) }
-    ensures entries { IfOk result (λ both. both.0.entries ≡ first) }
-    ensures idle { IfOk result (λ both. (slot : ℕ) → slot_of_cluster both.0 slot ≡ None) }
-    ensures stands { IfOk result (λ both. StandsFor both.0 (record { store = both.0.store.store; first = first }) []) }
-    ensures fed { IfOk result (λ both. Follows both.1 both.0.store.store []) }
-    ensures refused { IfErr result (IsFaultOf (texts_loaded rows.items)) }
-{
-    let cluster = open_cluster(alloc, rows, first)?;
-    match open_ring(alloc, cluster.store()) {
-        Ok(ring) => Ok((cluster, ring)),
-        Err(_) => Err(OpenFault::Memory),
     }
 }
 

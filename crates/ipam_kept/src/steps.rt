@@ -2,9 +2,8 @@
 ghost use Rattle.std.specs.Prelude.{◌≡◌, ◌-◌, ◌^◌, ◌⊎◌, IfOk, OnOk, OnErr};
 ghost use Rattle.ipam_model.specs.declared.entry.Entry.TheVariants as entry;
 ghost use Rattle.ipam_model.specs.declared.entry.SlotState.TheVariants as state;
-ghost use Rattle.ipam_model.specs.SoundRequest.{IsSoundCollect, IsSoundRequest};
-ghost use Rattle.ipam_model.specs.declared.request.Request.TheVariants.{Collect};
-ghost use Rattle.ipam_cluster.specs.Cluster.{WaitsWith, slot_of_cluster, state_in};
+ghost use Rattle.ipam_model.specs.SoundRequest.{IsSoundRequest};
+ghost use Rattle.ipam_cluster.specs.Cluster.{slot_of_cluster, state_in};
 ghost use Rattle.ipam_kept.specs.Kept.{IsKept, KeepsWith, LeavesKeeper, Stays};
 ghost use Rattle.ipam_kept.specs.Solo.{HasNoGrace, NothingRuns};
 ghost use Rattle.ipam_kept.specs.Steps.{Begins, CameToEnd, CountsOne, IsDoneCall, IsFailedCall, IsFed, IsNoStep, IsStep, IsStop, IsUnbegun, MayBegin, MayGoOn, Runs, Wants, WentOn, answer_told};
@@ -13,7 +12,7 @@ use crate::going::Going;
 use crate::kept::Kept;
 use ipam_cluster::{BeginFault, FeedFault, PrepareFault};
 use ipam_keeper::Keeper;
-use ipam_model::{Answer, CollectRequest, Entry, Request, SlotState};
+use ipam_model::{Answer, Entry, Request, SlotState};
 use std::alloc::{AllocError, Global};
 
 /// What takes the memory for the steps of a request that runs by itself. What is generic over it knows nothing
@@ -52,7 +51,11 @@ impl MakesSteps for Global {
     ghost wants = { λ _. Unit {0} };
 
     fn begin<D: Keeper>(&self, kept: &mut Kept<D>, request: &Request) -> Result<(), AllocError> {
-        begin(*self, kept, request)
+        match kept.begin(*self, 0, request) {
+            Ok(_) => Ok(()),
+            Err(BeginFault::SlotBusy) => unreachable!(),
+            Err(BeginFault::Worn | BeginFault::Memory) => Err(AllocError),
+        }
     }
 
     fn step<D: Keeper>(
@@ -60,7 +63,14 @@ impl MakesSteps for Global {
         kept: &mut Kept<D>,
         request: &Request,
     ) -> Result<Option<Answer>, AllocError> {
-        step(*self, kept, request)
+        match kept.cluster().state(0) {
+            SlotState::Idle => unreachable!(),
+            SlotState::Running => turn(*self, kept),
+            SlotState::Waiting => {
+                feed(*self, kept, request)?;
+                Ok(None)
+            }
+        }
     }
 }
 
@@ -103,46 +113,6 @@ impl<'a, T: MakesSteps, D: Keeper> Going<Kept<D>> for Alone<'a, T> {
     }
 }
 
-/// Begins the request. On `Err` nothing has changed.
-fn begin<D: Keeper>(alloc: Global, kept: &mut Kept<D>, request: &Request) -> Result<(), AllocError>
-    requires sound { IsSoundRequest request.now }
-    requires idle { NothingRuns kept.old }
-    ensures begun { OnOk result (KeepsWith D.rows kept.old kept.new (entry.Began 0 request.now)) }
-    ensures unchanged { OnErr result (Stays D.rows kept.old kept.new) }
-    ensures keeper { LeavesKeeper kept.old kept.new }
-{
-    match kept.begin(alloc, 0, request) {
-        Ok(_) => Ok(()),
-        Err(BeginFault::SlotBusy) => unreachable!(),
-        Err(BeginFault::Worn | BeginFault::Memory) => Err(AllocError),
-    }
-}
-
-/// Makes the next call, or feeds the collection that waits its own first list; with the answer, once
-/// there is one. On `Err` the cluster is as it was.
-fn step<D: Keeper>(
-    alloc: Global,
-    kept: &mut Kept<D>,
-    request: &Request,
-) -> Result<Option<Answer>, AllocError>
-    requires sound { IsSoundRequest request.now }
-    requires no_grace { HasNoGrace request.now }
-    requires runs { Runs D.rows request.now kept.old }
-    ensures stepped { IfOk result (IsStep D.rows D.faults request.now kept.old kept.new) }
-    ensures unchanged { OnErr result (Stays D.rows kept.old kept.new) }
-    ensures no_step { OnErr result (IsNoStep D.faults kept.old kept.new) }
-    ensures same { D.name kept.new.keeper ≡ D.name kept.old.keeper }
-{
-    match kept.cluster().state(0) {
-        SlotState::Idle => unreachable!(),
-        SlotState::Running => turn(alloc, kept),
-        SlotState::Waiting => {
-            feed(alloc, kept, request)?;
-            Ok(None)
-        }
-    }
-}
-
 /// Makes the next call.
 fn turn<D: Keeper>(alloc: Global, kept: &mut Kept<D>) -> Result<Option<Answer>, AllocError>
     requires kept { IsKept D.rows kept.old }
@@ -170,7 +140,7 @@ fn answer_told(entry: Entry) -> Option<Answer>
     }
 }
 
-/// Feeds the collection that waits its own first list.
+/// Feeds the collection that waits its own first list. It has no grace, so the list is not too early.
 fn feed<D: Keeper>(alloc: Global, kept: &mut Kept<D>, request: &Request) -> Result<(), AllocError>
     requires sound { IsSoundRequest request.now }
     requires no_grace { HasNoGrace request.now }
@@ -182,29 +152,10 @@ fn feed<D: Keeper>(alloc: Global, kept: &mut Kept<D>, request: &Request) -> Resu
     ensures no_step { OnErr result (IsNoStep D.faults kept.old kept.new) }
     ensures keeper { LeavesKeeper kept.old kept.new }
 {
-    match request {
-        Request::Collect(collect) => feed_first(alloc, kept, collect),
-        _ => unreachable!(),
-    }
-}
-
-/// Feeds the first list of the collection that waits. It has no grace, so the list is not too early.
-fn feed_first<D: Keeper>(
-    alloc: Global,
-    kept: &mut Kept<D>,
-    collect: &CollectRequest,
-) -> Result<(), AllocError>
-    requires sound { IsSoundCollect collect.now }
-    requires kept { IsKept D.rows kept.old }
-    requires waits { WaitsWith (slot_of_cluster kept.old.cluster 0) (record { at = collect.now.at; grace = 0 }) }
-    ensures fed { OnOk result (IsFed D.rows (Collect collect.now) kept.old kept.new) }
-    ensures counts { OnOk result (CountsOne kept.old kept.new) }
-    ensures unchanged { OnErr result (Stays D.rows kept.old kept.new) }
-    ensures no_step { OnErr result (IsNoStep D.faults kept.old kept.new) }
-    ensures keeper { LeavesKeeper kept.old kept.new }
-{
-    let live = collect.live.as_slice();
-    match kept.feed(alloc, 0, live, collect.at) {
+    let Request::Collect(collect) = request else {
+        unreachable!()
+    };
+    match kept.feed(alloc, 0, collect.live.as_slice(), collect.at) {
         Ok(_fed) => Ok(()),
         Err(FeedFault::NotWaiting) => unreachable!(),
         Err(

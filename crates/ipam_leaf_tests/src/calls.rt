@@ -2,7 +2,7 @@
 ghost use Rattle.std.specs.Prelude.{◌≡◌, ℕ, IsTrue, IfOk, Some};
 ghost use Rattle.ipam_records.specs.Datastore.{reply_of};
 ghost use Rattle.ipam_records.specs.Said as says;
-ghost use Rattle.ipam_records.specs.Sound.{IsRecord, IsCountedBelow};
+ghost use Rattle.ipam_records.specs.Sound.{IsRecord};
 ghost use Rattle.ipam_leaf_tests.specs.RecordCall.{IsRecordCall, IsCountedWrite};
 
 use ipam_records::{Call, Record, Reply, Write, from_text, key_of_text};
@@ -44,22 +44,13 @@ fn granted(store: &Store, call: &Call) -> Option<u64>
     }
 }
 
-/// Whether a block was written less often than its revision.
-fn is_counted(revision: u64, new: &Record) -> bool
-    ensures { IsTrue result → IsCountedBelow revision new.now }
-{
-    match new {
-        Record::Block(block) => block.sequence() < revision,
-        _ => true,
-    }
-}
-
-fn is_counted_write(write: &Write) -> bool
+/// Whether a block that the write puts was written less often than its revision says.
+fn is_counted(write: &Write) -> bool
     ensures { IsTrue result → IsCountedWrite write.now }
 {
     match write {
-        Write::Put(revision, new) => is_counted(*revision, new),
-        Write::Remove(..) => true,
+        Write::Put(revision, Record::Block(block)) => block.sequence() < *revision,
+        _ => true,
     }
 }
 
@@ -70,7 +61,7 @@ pub(crate) fn apply(store: &mut Store, call: Call) -> Result<Option<u64>, AllocE
     store.reserve()?;
     if let Some(revision) = granted(store, &call) {
         if let Some(write) = call.into_write(revision) {
-            if is_counted_write(&write) {
+            if is_counted(&write) {
                 store.apply(write);
                 return Ok(Some(revision));
             }

@@ -17,20 +17,6 @@ pub(crate) fn numbers(alloc: Global, text: &str) -> Result<Vec<u64>, AllocError>
     Ok(numbers)
 }
 
-/// So many readings of the clock, each with a space after it.
-fn readings<C: Clock>(alloc: Global, clock: &mut C, count: u32) -> Result<String, AllocError> {
-    let mut out = String::new(alloc);
-    for _ in 0..count {
-        push_reading(alloc, &mut out, clock.now())?;
-    }
-    Ok(out)
-}
-
-fn push_reading(alloc: Global, out: &mut String, reading: u64) -> Result<(), AllocError> {
-    let text = format!(in alloc; "{reading} ")?;
-    out.push_str(text.as_str())
-}
-
 // A system's clock that has these times in order, and can't be read at the zeros among them.
 #[derive(Drop)]
 struct Told {
@@ -60,7 +46,12 @@ pub(crate) fn times_text(alloc: Global, text: &str) -> Result<String, AllocError
         milliseconds: numbers(alloc, text)?,
         asked: Cell::new(0),
     });
-    readings(alloc, &mut clock, 7)
+    let mut out = String::new(alloc);
+    for _ in 0..7 {
+        let reading = format!(in alloc; "{} ", clock.now())?;
+        out.push_str(reading.as_str())?;
+    }
+    Ok(out)
 }
 
 /// Whether the system's time is past the year 2020.

@@ -8,14 +8,6 @@ const NESTED: &str =
     [], 18446744073709551615], \"twice\": 1, \"one\": 1.0, \"hundred\": 1e2, \"zero\": -0, \
     \"large\": 18446744073709551616, \"nothing\": null, \"0\": {\"1\": false}, \"twice\": 2}";
 
-/// What a fault wants, and at which path.
-fn fault_text(alloc: Global, fault: ReadFault) -> Result<String, AllocError> {
-    match fault {
-        ReadFault::Field(FieldFault { path, want }) => format!(in alloc; "{want:?} at {path}"),
-        ReadFault::Memory => Err(AllocError),
-    }
-}
-
 /// What is read of the value at the path, of an array and of an object its length.
 fn read(alloc: Global, value: &Value, kind: &str, path: &str) -> Result<String, AllocError> {
     match kind {
@@ -27,13 +19,17 @@ fn read(alloc: Global, value: &Value, kind: &str, path: &str) -> Result<String, 
     }
 }
 
+/// What was read, or what a fault wants and at which path.
 fn told<T: Display + Drop>(
     alloc: Global,
     read: Result<T, ReadFault>,
 ) -> Result<String, AllocError> {
     match read {
         Ok(found) => format!(in alloc; "{found}"),
-        Err(fault) => fault_text(alloc, fault),
+        Err(ReadFault::Field(FieldFault { path, want })) => {
+            format!(in alloc; "{want:?} at {path}")
+        }
+        Err(ReadFault::Memory) => Err(AllocError),
     }
 }
 

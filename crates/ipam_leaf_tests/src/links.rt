@@ -1,6 +1,6 @@
 //! What passes over a connection.
-use ipam_io::{Sink, Source, TcpLink};
-use std::alloc::{AllocError, Global};
+use ipam_io::{Failed, Sink, Source, TcpLink};
+use std::alloc::AllocError;
 use std::io;
 use std::net::{TcpListener, TcpStream};
 
@@ -12,25 +12,15 @@ fn connected(rt: &HostRuntime) -> io::Result<(TcpStream, TcpStream)> {
     Ok((near, far))
 }
 
-/// A link over the stream, and whether it sends with no delay.
-fn client_of(near: TcpStream) -> io::Result<(TcpLink, bool)> {
-    let twin = near.try_clone()?;
-    let client = TcpLink::new(near);
-    let is_quick = twin.nodelay()?;
-    Ok((client, is_quick))
-}
-
-/// What the write of five bytes at one end answers, and what their read at the other.
-fn passed(
-    alloc: Global,
-    near: &mut TcpLink,
-    far: &mut TcpLink,
-    text: &str,
-) -> Result<String, AllocError> {
-    let mut into = [0u8; 5];
-    let written = near.write(text.as_bytes());
-    let read = far.read(&mut into);
-    format!(in alloc; "{written:?} {read:?} {into:?}")
+/// Whether a client over the stream sends with no delay, and what its write of the bytes answers.
+fn sent(near: TcpStream, bytes: &[u8]) -> (bool, Result<(), Failed>) {
+    let twin = near.try_clone();
+    let written = TcpLink::new(near).write(bytes);
+    let is_quick = match twin {
+        Ok(twin) => twin.nodelay().unwrap_or(false),
+        Err(_) => false,
+    };
+    (is_quick, written)
 }
 
 /// Whether a client sends with no delay, and what comes of the text.
@@ -38,9 +28,8 @@ pub(crate) fn socket_text(rt: &HostRuntime, text: &str) -> Result<String, AllocE
     let Ok((near, far)) = connected(rt) else {
         return Err(AllocError);
     };
-    let Ok((mut client, is_quick)) = client_of(near) else {
-        return Err(AllocError);
-    };
-    let told = passed(rt.alloc(), &mut client, &mut TcpLink::new(far), text)?;
-    format!(in rt.alloc(); "{is_quick} {told}")
+    let mut into = [0u8; 5];
+    let (is_quick, written) = sent(near, text.as_bytes());
+    let read = TcpLink::new(far).read(&mut into);
+    format!(in rt.alloc(); "{is_quick} {written:?} {read:?} {into:?}")
 }

@@ -5,8 +5,11 @@ use std::alloc::{AllocError, Global};
 
 /// The error of a call that lost too many races, with these details.
 pub(crate) fn again_text(alloc: Global, details: &str) -> Result<String, AllocError> {
+    let Some(version) = Version::of("0.4.0") else {
+        return Err(AllocError);
+    };
     let error = CniError {
-        version: version_of("0.4.0")?,
+        version,
         code: Code::TryAgain,
         details: Text::copied(alloc, details)?,
     };
@@ -17,12 +20,10 @@ pub(crate) fn again_text(alloc: Global, details: &str) -> Result<String, AllocEr
 
 /// The result of a call of this version that has no addresses.
 pub(crate) fn empty_text(alloc: Global, version: &str) -> Result<String, AllocError> {
-    let version = version_of(version)?;
+    let Some(version) = Version::of(version) else {
+        return Err(AllocError);
+    };
     let mut out = String::new(alloc);
     push_result(alloc, &mut out, version, &[])?;
     Ok(out)
-}
-
-fn version_of(text: &str) -> Result<Version, AllocError> {
-    Version::of(text).ok_or(AllocError)
 }

@@ -7,3 +7,14 @@ pub mod Releasing
 pub mod Unreserving
 pub mod Routing
 pub mod Applying
+pub mod Page
+pub mod Rows
+pub mod Getting
+pub mod Datastore
+pub mod Showing
+pub mod Standing
+pub mod Looking
+pub mod RowsTelling
+pub mod Filling
+pub mod Moment
+pub mod Backing

@@ -1,9 +1,7 @@
 //! The reply to a request is read.
 ghost use Rattle.std.specs.Prelude.{◌≡◌, IfOk, option_map};
-ghost use Rattle.std.specs.Str.{is_utf8};
 ghost use Rattle.serde_json.specs.View.{view};
-ghost use Rattle.ipam_json.specs.Members.{only_if};
-ghost use Rattle.ipam_operator.specs.Answers.{answer_in, answer_of_line, answer_value, json_of_line, member_answer, named_answer, refused_answer, word_answer};
+ghost use Rattle.ipam_operator.specs.Answers.{answer_in, answer_of_line, json_of_line, member_answer, refused_answer, word_answer};
 
 use ipam_json::{in_8_bits, json_of, only_member, text_at, whole_at};
 use ipam_text::Text;
@@ -46,24 +44,17 @@ pub(crate) fn answer_of_line(
 }
 
 /// The JSON that the line is, or none.
-#[tactic(auto, unfolding(crate::specs::Answers::json_of_line))]
+#[tactic(auto, unfolding(crate::specs::Answers::json_of_line), using(crate::proofs::Utf8::text_told, crate::proofs::Utf8::no_text_told))]
 pub fn json_of_line(alloc: Global, line: &[u8]) -> Result<Option<Value>, AllocError>
     ensures { IfOk result (λ found. option_map view found ≡ json_of_line line.now) }
 {
-    let Some(text) = text_of(line) else {
-        return Ok(None);
-    };
-    json_of(alloc, text)
+    match str::from_utf8(line) {
+        Ok(text) => json_of(alloc, text),
+        Err(_) => Ok(None),
+    }
 }
 
-/// The line as a text, where it is UTF-8.
-#[tactic(auto, using(crate::proofs::Utf8::text_told, crate::proofs::Utf8::no_text_told))]
-fn text_of(line: &[u8]) -> Option<&str>
-    ensures { option_map (λ t. t.now) result ≡ only_if (is_utf8 line.now) line.now }
-{
-    str::from_utf8(line).ok()
-}
-
+/// An answer is a word, or an object of one member.
 #[tactic(auto, unfolding(crate::specs::Answers::answer_in))]
 fn answer_in(alloc: Global, json: &Value) -> Result<Option<OperatorAnswer>, AllocError>
     ensures { IfOk result (λ found. found ≡ answer_in (view json.now)) }
@@ -74,17 +65,9 @@ fn answer_in(alloc: Global, json: &Value) -> Result<Option<OperatorAnswer>, Allo
     let Some((name, value)) = only_member(members) else {
         return Ok(None);
     };
-    if name == "answer" {
-        answer_value(alloc, value)
-    } else {
-        Ok(None)
+    if name != "answer" {
+        return Ok(None);
     }
-}
-
-/// An answer is a word, or an object of one member.
-fn answer_value(alloc: Global, value: &Value) -> Result<Option<OperatorAnswer>, AllocError>
-    ensures { IfOk result (λ found. found ≡ answer_value (view value.now)) }
-{
     match value.as_str() {
         Some(word) => Ok(word_answer(word)),
         None => member_answer(alloc, value),
@@ -114,19 +97,9 @@ fn member_answer(alloc: Global, value: &Value) -> Result<Option<OperatorAnswer>,
     let Some(members) = value.as_object() else {
         return Ok(None);
     };
-    match only_member(members) {
-        Some((name, inner)) => named_answer(alloc, name, inner),
-        None => Ok(None),
-    }
-}
-
-fn named_answer(
-    alloc: Global,
-    name: &str,
-    value: &Value,
-) -> Result<Option<OperatorAnswer>, AllocError>
-    ensures { IfOk result (λ found. found ≡ named_answer name.now (view value.now)) }
-{
+    let Some((name, inner)) = only_member(members) else {
+        return Ok(None);
+    };
     if name == "done" {
         Ok(Some(OperatorAnswer::Done))
     } else if name == "noAffinity" {
@@ -134,7 +107,7 @@ fn named_answer(
     } else if name == "again" {
         Ok(Some(OperatorAnswer::Again))
     } else if name == "refused" {
-        refused_answer(alloc, value)
+        refused_answer(alloc, inner)
     } else {
         Ok(None)
     }

@@ -157,8 +157,20 @@ fn tell_item<K: Sink>(
         Ok(OperatorAnswer::Refused(number, name)) => {
             tell_numbered(alloc, sink, resource, number, name)
         }
-        Ok(OperatorAnswer::Full) => tell_refused(alloc, sink, resource, &Refusal::Full),
-        Ok(OperatorAnswer::Spent) => tell_refused(alloc, sink, resource, &Refusal::Spent),
+        Ok(OperatorAnswer::Full) => {
+            tell_made(
+                sink,
+                refused_line(alloc, resource, &Refusal::Full),
+                End::Refused,
+            )
+        }
+        Ok(OperatorAnswer::Spent) => {
+            tell_made(
+                sink,
+                refused_line(alloc, resource, &Refusal::Spent),
+                End::Refused,
+            )
+        }
         Ok(OperatorAnswer::Again) => { tell_made(sink, again_line(alloc, resource), End::Refused) }
         Ok(OperatorAnswer::Fault) => tell(sink, "keeper fault\n", End::KeeperFault),
         Ok(OperatorAnswer::Released) => tell(sink, "reply fault\n", End::ReplyFault),
@@ -195,16 +207,6 @@ fn refused_line(alloc: Global, resource: &Resource, why: &Refusal) -> Result<Str
     Ok(text)
 }
 
-/// Writes why the resource is refused.
-fn tell_refused<K: Sink>(alloc: Global, sink: &mut K, resource: &Resource, why: &Refusal) -> End
-    ensures told { Says (Unit {0}) (K.written sink.old) (K.written sink.new)
-        (K.write_faults sink.old) (K.write_faults sink.new) (refused_line resource.now why.now) End.Refused result }
-    ensures rest { K.write_rest sink.new ≡ K.write_rest sink.old }
-{
-    let text = refused_line(alloc, resource, why);
-    tell_made(sink, text, End::Refused)
-}
-
 /// Writes the refusal of this number, about the pool of this name. No memory is taken where none has the number.
 fn tell_numbered<K: Sink>(
     alloc: Global,
@@ -219,7 +221,7 @@ fn tell_numbered<K: Sink>(
     ensures rest { K.write_rest sink.new ≡ K.write_rest sink.old }
 {
     match numbered(number, name) {
-        Some(why) => tell_refused(alloc, sink, resource, &why),
+        Some(why) => tell_made(sink, refused_line(alloc, resource, &why), End::Refused),
         None => tell(sink, "reply fault\n", End::ReplyFault),
     }
 }

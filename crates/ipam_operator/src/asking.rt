@@ -15,7 +15,7 @@ use std::alloc::{AllocError, Global};
 pub const REPLY_BYTES: usize = 67_108_864;
 
 /// Why there is no reply.
-#[derive(Clone, Copy, Debug, PartialEq, Eq)]
+#[derive(Clone, Copy)]
 pub enum AskFault {
     /// A read or a write of the link failed.
     Link,

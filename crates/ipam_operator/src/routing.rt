@@ -5,16 +5,15 @@ ghost use Rattle.std.specs.Result.{result_map_both};
 ghost use Rattle.serde_json.specs.View.{items_view, view};
 ghost use Rattle.ipam_operator.specs.declared.asking.AskFault.{AskFault as Fault};
 ghost use Rattle.ipam_operator.specs.Asking.{Asks};
-ghost use Rattle.ipam_operator.specs.Routes.{found_cidr, route_text, route_texts, routes_in, routes_line, routes_of_line, text_of_route};
+ghost use Rattle.ipam_operator.specs.Routes.{route_text, route_texts, routes_line, routes_of_line};
 ghost use Rattle.ipam_operator.specs.Routing.{routes_end, routes_said};
 ghost use Rattle.ipam_operator.specs.Telling.{Says};
-ghost use Rattle.ipam_addr.specs.Text.{cidr_reading};
 
 use crate::answer::json_of_line;
 use crate::asking::{AskFault, REPLY_BYTES, ask};
 use crate::end::End;
 use crate::telling::{tell, tell_fault};
-use ipam_addr::{Cidr, push_cidr, read_cidr};
+use ipam_addr::{push_cidr, read_cidr};
 use ipam_io::{Lines, Link, Sink};
 use ipam_json::{items_at, text_at};
 use serde_json::Value;
@@ -109,29 +108,16 @@ fn route_text(alloc: Global, node: &str, item: &Value) -> Result<Option<String>,
     let Some(text) = text_at(item, "cidr") else {
         return Ok(None);
     };
-    let Some(cidr) = found_cidr(text) else {
+    let Ok(cidr) = read_cidr(text.as_bytes()) else {
         return Ok(None);
     };
     let Some(other) = text_at(item, "node") else {
         return Ok(None);
     };
-    let line = text_of_route(alloc, node, other, cidr)?;
-    Ok(Some(line))
-}
-
-fn found_cidr(text: &str) -> Option<Cidr>
-    ensures { result ≡ found_cidr (cidr_reading text.now) }
-{
-    read_cidr(text.as_bytes()).ok()
-}
-
-fn text_of_route(alloc: Global, node: &str, other: &str, cidr: Cidr) -> Result<String, AllocError>
-    ensures { IfOk result (λ text. string_bytes text ≡ text_of_route node.now other.now cidr) }
-{
-    let mut text = String::new(alloc);
+    let mut line = String::new(alloc);
     if other == node {
-        push_cidr(alloc, &mut text, cidr)?;
-        text.push_str("\n")?;
+        push_cidr(alloc, &mut line, cidr)?;
+        line.push_str("\n")?;
     }
-    Ok(text)
+    Ok(Some(line))
 }

@@ -19,8 +19,8 @@ use Rattle.ipam_keeper.specs.Rows.{text_cmp}
 use Rattle.ipam_play.specs.declared.gathering.Content.{Content}
 use Rattle.ipam_play.specs.declared.gathering.Counter.{Counter}
 use Rattle.ipam_play.specs.declared.gathering.Counter.TheVariants.{Greatest, Given}
-use Rattle.ipam_play.specs.declared.gathering.GatherFault.{GatherFault}
-use Rattle.ipam_play.specs.declared.gathering.GatherFault.TheVariants as gather
+use Rattle.ipam_play.specs.declared.fault.PlayFault.{PlayFault}
+use Rattle.ipam_play.specs.declared.fault.PlayFault.TheVariants as fault
 use Rattle.ipam_play.specs.declared.gathering.Gathering.{Gathering}
 use Rattle.ipam_play.specs.Gathering.{Gathers, counter_from, raised, row_gathered, rows_gathered}
 use Rattle.ipam_play.specs.Played.{counter_of, greatest_of_base}
@@ -45,15 +45,15 @@ key_given rows given key same = is_found rows.entries key ∙ sym (list_any-IsPe
 
 -- ---- a row that was not given before
 
-pub ok_not_again : {T : Type 0} (done : T) → Ok done ≡ Err gather.Again → ⊥
+pub ok_not_again : {T : Type 0} (done : T) → Ok done ≡ Err fault.Base → ⊥
 ok_not_again done e = cc e
 
-pub memory_not_again : {T : Type 0} (result : Result T GatherFault) → result ≡ Err gather.Memory → result ≡ Err gather.Again → ⊥
+pub memory_not_again : {T : Type 0} (result : Result T PlayFault) → result ≡ Err fault.Memory → result ≡ Err fault.Base → ⊥
 memory_not_again result memory again = cc (sym memory ∙ again)
 
-pub not_again : {T : Type 0} (result : Result T GatherFault) (rows : BTreeMap (List ℕ) Content) (given : List Row) (key : List ℕ) (found : Bool)
-    → IsPermutation given (rows_gathered rows) → found ≡ is_some (get text_cmp rows key) → found ≡ false → (result ≡ Err gather.Again → ⊥)
-    → (result ≡ Err gather.Again) ↔ (rows_have_key key given ≡ true)
+pub not_again : {T : Type 0} (result : Result T PlayFault) (rows : BTreeMap (List ℕ) Content) (given : List Row) (key : List ℕ) (found : Bool)
+    → IsPermutation given (rows_gathered rows) → found ≡ is_some (get text_cmp rows key) → found ≡ false → (result ≡ Err fault.Base → ⊥)
+    → (result ≡ Err fault.Base) ↔ (rows_have_key key given ≡ true)
 not_again result rows given key found same is never other =
     (λ e. absurd (other e), λ e. absurd (false≢true (sym never ∙ is ∙ key_given rows given key same ∙ e)))
 

@@ -1,6 +1,6 @@
 pub mod ReadingLemmas
 pub mod SoundLines
-pub mod Refusing
+pub mod Making
 pub mod Happenings
 pub mod Restarts
 pub mod Gatherings

@@ -1,5 +1,5 @@
 -- What may happen, and what is refused, by what is known of a cluster before memory is taken.
-use Rattle.std.proofs.Common.{◌≡◌, ℕ, ◌<◌, ◌≤◌, ◌+◌, ◌^◌, arith, true, List, [], ◌∷◌, Option, Some, None, IsSome, refl, sym, ap, ◌∙◌, subst, inl, inr}
+use Rattle.std.proofs.Common.{◌≡◌, ℕ, ◌<◌, ◌≤◌, ◌+◌, ◌^◌, arith, true, List, [], ◌∷◌, Option, Some, None, IsSome, refl, sym, ap, ◌∙◌, subst}
 use Rattle.std.specs.Prelude.{Result, Ok, Err, IfErr, OnErr, OnOk, slice_index, if◌then◌else◌}
 use Rattle.std.proofs.lemmas.Bool.{lt-ltb}
 use Rattle.std.proofs.lemmas.Bool.Decides.{nat_tests}
@@ -14,7 +14,7 @@ use Rattle.ipam_model.specs.declared.entry.SlotState.TheVariants as state
 use Rattle.ipam_model.specs.declared.request.Request.{Request}
 use Rattle.ipam_model.specs.Cluster as model
 use Rattle.ipam_model.specs.Cluster.{call_entry, call_made}
-use Rattle.ipam_model.specs.Course.{Begin, Turn, Feed, Stop, Event, Busy, Idle, NotWaiting, TooSoon, Waiting, Worn, begin_entry, feed_entry, feed_waiting, is_due, most_entries, one, stop_entry, too_soon, turn_called, turn_entry, unless_worn}
+use Rattle.ipam_model.specs.Course.{Begin, Turn, Feed, Stop, Busy, Idle, NotWaiting, TooSoon, Waiting, Worn, begin_entry, feed_entry, feed_waiting, is_due, most_entries, one, stop_entry, too_soon, turn_called, turn_entry, unless_worn}
 use Rattle.ipam_model.specs.History.{Base, cluster_at}
 use Rattle.ipam_cluster.specs.declared.running.Running.{Running}
 use Rattle.ipam_cluster.specs.Running.{grace_of, is_over, running_rest}
@@ -28,7 +28,7 @@ use Rattle.ipam_cluster.proofs.Waiting.{is-waiting, not-idle}
 use Rattle.ipam_play.specs.declared.cluster.OpenCluster.{OpenCluster}
 use Rattle.ipam_play.specs.declared.fault.PlayFault.{PlayFault}
 use Rattle.ipam_play.specs.declared.fault.PlayFault.TheVariants as fault
-use Rattle.ipam_play.specs.Events.{IsCause, IsToldBy, IsToldOrMemory, MayMake}
+use Rattle.ipam_play.specs.Events.{IsToldBy, MayMake}
 use Rattle.ipam_play.specs.Times.{StandsTimed}
 
 -- ---- states
@@ -206,12 +206,6 @@ feed_told_worn opened slot at live told is stands waiting late many =
       is_told = is;
       refuses = λ base history h. cluster_events.feed_worn opened.cluster base history slot at live grace h with due many;
     }
-
--- ---- a call that takes memory, of an event that may happen
-
-pub exact_cause : (cluster : Cluster) (event : Event) (told : PlayFault) → MayMake cluster [] event → IsToldOrMemory cluster event told → IsCause cluster [] event told
-exact_cause cluster event told may (inl memory) = inl (memory, may)
-exact_cause cluster event told may (inr is) = inr is
 
 -- ---- what is known of a test of the number of entries
 

@@ -9,8 +9,6 @@ use Rattle.ipam_model.specs.Cluster as model
 use Rattle.ipam_model.specs.Course.{Course, Event, Turn, course, entries_of}
 use Rattle.ipam_model.specs.History.{Base, cluster_at, start}
 use Rattle.ipam_cluster.specs.Cluster.{StandsFor}
-use Rattle.ipam_opening.specs.declared.fault.OpenFault.{OpenFault}
-use Rattle.ipam_opening.specs.declared.fault.OpenFault.TheVariants as opening
 use Rattle.ipam_answer_text.specs.declared.line.Line.{Line}
 use Rattle.ipam_answer_text.specs.declared.line.Line.TheVariants as line
 use Rattle.ipam_play.specs.declared.fault.PlayFault.{PlayFault}
@@ -20,7 +18,7 @@ use Rattle.ipam_play.specs.declared.player.Player.{Player}
 use Rattle.ipam_play.specs.declared.player.Stage.TheVariants as stage
 use Rattle.ipam_play.specs.Events.{ComesOf, IsCause, Keeps, Stops, onto}
 use Rattle.ipam_play.specs.Played.{base_of}
-use Rattle.ipam_play.specs.Player.{HasHappened, IsBegunWith, IsCauseAtFirst, IsCauseOnceOpened, IsGathering, IsBaseOpened, IsPlaying, IsRefusal, IsWanting, cluster_of, journal_of, not_opened}
+use Rattle.ipam_play.specs.Player.{HasHappened, IsBegunWith, IsCauseAtFirst, IsCauseOnceOpened, IsGathering, IsBaseOpened, IsPlaying, IsRefusal, IsWanting, cluster_of, journal_of}
 use Rattle.ipam_play.specs.Script.{Gathered, events_of}
 use Rattle.ipam_play.proofs.Happenings.{course-cons, course_from, course-nothing, onto-append}
 

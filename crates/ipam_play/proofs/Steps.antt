@@ -1,5 +1,5 @@
 -- What a line does to a player, wherever it stands.
-use Rattle.std.proofs.Common.{◌≡◌, ◌≢◌, ℕ, Bool, true, false, cond, List, [], ◌++◌, Option, Some, None, refl, sym, ap, ◌∙◌, subst}
+use Rattle.std.proofs.Common.{◌≡◌, ◌≢◌, ℕ, Bool, true, false, cond, List, [], ◌++◌, ◌⊎◌, inl, inr, Option, Some, None, refl, sym, ap, ◌∙◌, subst}
 use Rattle.std.specs.Prelude.{◌↔◌, Result, Ok, Err, IfSome, IfErr, OnOk, OnErr, is_some}
 use Rattle.ipam_records.specs.declared.call.Row.{Row}
 use Rattle.ipam_records.specs.Datastore.{Datastore}
@@ -12,15 +12,13 @@ use Rattle.ipam_answer_text.specs.declared.line.Line.TheVariants as line
 use Rattle.ipam_play.specs.declared.cluster.OpenCluster.{OpenCluster}
 use Rattle.ipam_play.specs.declared.fault.PlayFault.{PlayFault}
 use Rattle.ipam_play.specs.declared.fault.PlayFault.TheVariants as fault
-use Rattle.ipam_play.specs.declared.gathering.GatherFault.{GatherFault}
-use Rattle.ipam_play.specs.declared.gathering.GatherFault.TheVariants as gather
 use Rattle.ipam_play.specs.declared.gathering.Gathering.{Gathering}
 use Rattle.ipam_play.specs.declared.player.Player.{Player}
 use Rattle.ipam_play.specs.declared.player.Stage.TheVariants as stage
 use Rattle.ipam_play.specs.Events.{ComesOf, Keeps, onto}
 use Rattle.ipam_play.specs.Gathering.{Gathers}
 use Rattle.ipam_play.specs.Played.{base_of}
-use Rattle.ipam_play.specs.Player.{IsBegun, IsBegunWith, IsCauseAtFirst, IsFinished, IsGathering, IsGatheredLine, IsBaseOpened, IsPlayedLine, IsPlaying, journal_of, told_of}
+use Rattle.ipam_play.specs.Player.{IsBegun, IsBegunWith, IsCauseAtFirst, IsFinished, IsGathering, IsGatheredLine, IsBaseOpened, IsPlayedLine, IsPlaying, journal_of}
 use Rattle.ipam_play.specs.Script.{Again, Gathered, OfBase, events_of, rows_have_key, place_of, with_counter, with_base_row}
 use Rattle.ipam_play.proofs.LineKinds.{place-events}
 use Rattle.ipam_play.proofs.Players.{base_keeps, first_keeps, line_happened, line_keeps}
@@ -54,43 +52,44 @@ never_gathering player opened base is h = cc (sym h.is ∙ is)
 gathers_on : (new : Player) (n : Gathering) (base : Gathered) → new.stage ≡ stage.Gathering n → journal_of new ≡ [] → Gathers n base → IsGathering new base
 gathers_on new n base is none gathers = record { gathering = n; is = is; gathers = gathers; nothing = none }
 
-row-by : {T : Type 0} (new : Player) (n : Gathering) (base longer : Gathered) (b : Bool) (r : Result T GatherFault) → new.stage ≡ stage.Gathering n → journal_of new ≡ []
-    → (r ≡ Err gather.Again) ↔ (b ≡ true) → OnOk r (Gathers n longer) → OnErr r (Gathers n base) → IsGatheredLine (told_of r) new base (cond b Again (OfBase longer))
-row-by new n base longer true (Ok done) is none again added kept = absurd (cc (again.1 refl))
-row-by new n base longer false (Ok done) is none again added kept = gathers_on new n longer is none added
-row-by new n base longer true (Err gather.Again) is none again added kept = (gathers_on new n base is none kept, refl)
-row-by new n base longer false (Err gather.Again) is none again added kept = absurd (cc (again.0 refl))
-row-by new n base longer true (Err gather.Memory) is none again added kept = absurd (cc (again.1 refl))
-row-by new n base longer false (Err gather.Memory) is none again added kept = (gathers_on new n base is none kept, refl)
+row-by : {T : Type 0} (new : Player) (n : Gathering) (base longer : Gathered) (b : Bool) (r : Result T PlayFault) → new.stage ≡ stage.Gathering n → journal_of new ≡ []
+    → (r ≡ Err fault.Base) ↔ (b ≡ true) → OnOk r (Gathers n longer) → OnErr r (Gathers n base) → IfErr r (λ why. (why ≡ fault.Base) ⊎ (why ≡ fault.Memory))
+    → IsGatheredLine r new base (cond b Again (OfBase longer))
+row-by new n base longer true (Ok done) is none again added kept why = absurd (cc (again.1 refl))
+row-by new n base longer false (Ok done) is none again added kept why = gathers_on new n longer is none added
+row-by new n base longer true (Err told) is none again added kept why = (gathers_on new n base is none kept, cc (again.1 refl))
+row-by new n base longer false (Err told) is none again added kept (inl is_base) = absurd (cc (again.0 (ap Err is_base)))
+row-by new n base longer false (Err told) is none again added kept (inr is_memory) = (gathers_on new n base is none kept, is_memory)
 
-counter-by : {T : Type 0} (new : Player) (n : Gathering) (base longer : Gathered) (b : Bool) (r : Result T GatherFault) → new.stage ≡ stage.Gathering n → journal_of new ≡ []
-    → OnErr r (b ≡ true × r ≡ Err gather.Again × Gathers n base) → OnOk r (b ≡ false × Gathers n longer) → IsGatheredLine (told_of r) new base (cond b Again (OfBase longer))
+counter-by : {T : Type 0} (new : Player) (n : Gathering) (base longer : Gathered) (b : Bool) (r : Result T PlayFault) → new.stage ≡ stage.Gathering n → journal_of new ≡ []
+    → OnErr r (b ≡ true × r ≡ Err fault.Base × Gathers n base) → OnOk r (b ≡ false × Gathers n longer) → IsGatheredLine r new base (cond b Again (OfBase longer))
 counter-by new n base longer true (Ok done) is none again set = absurd (cc set.0)
 counter-by new n base longer false (Ok done) is none again set = gathers_on new n longer is none set.1
-counter-by new n base longer true (Err gather.Again) is none again set = (gathers_on new n base is none again.2, refl)
-counter-by new n base longer true (Err gather.Memory) is none again set = absurd (cc again.1)
-counter-by new n base longer false (Err why) is none again set = absurd (cc again.0)
+counter-by new n base longer true (Err told) is none again set = (gathers_on new n base is none again.2, cc again.1)
+counter-by new n base longer false (Err told) is none again set = absurd (cc again.0)
 
 module _ (old new : Player) (g n : Gathering) (was : old.stage ≡ stage.Gathering g) (is : new.stage ≡ stage.Gathering n) (same : journal_of new ≡ journal_of old) where
-  pub row_line : {T : Type 0} (row : Row) (r : Result T GatherFault) → ((gathered : Gathered) → Gathers g gathered → (r ≡ Err gather.Again) ↔ (rows_have_key row.key gathered.rows ≡ true))
+  pub row_line : {T : Type 0} (row : Row) (r : Result T PlayFault) → ((gathered : Gathered) → Gathers g gathered → (r ≡ Err fault.Base) ↔ (rows_have_key row.key gathered.rows ≡ true))
       → ((gathered : Gathered) → Gathers g gathered → OnOk r (Gathers n (with_base_row row gathered))) → ((gathered : Gathered) → Gathers g gathered → OnErr r (Gathers n gathered))
-      → (base : Gathered) → IsGathering old base → IsGatheredLine (told_of r) new base (place_of base (line.Row row))
-  row_line row r again added kept base h =
+      → IfErr r (λ why. (why ≡ fault.Base) ⊎ (why ≡ fault.Memory))
+      → (base : Gathered) → IsGathering old base → IsGatheredLine r new base (place_of base (line.Row row))
+  row_line row r again added kept why base h =
       let gathers = gathers_there old g base was h in
-      row-by new n base (with_base_row row base) (rows_have_key row.key base.rows) r is (same ∙ h.nothing) (again base gathers) (added base gathers) (kept base gathers)
+      row-by new n base (with_base_row row base) (rows_have_key row.key base.rows) r is (same ∙ h.nothing) (again base gathers) (added base gathers) (kept base gathers) why
 
-  pub counter_line : {T : Type 0} (counter : ℕ) (r : Result T GatherFault) → ((gathered : Gathered) → Gathers g gathered → OnErr r (is_some gathered.counter ≡ true × r ≡ Err gather.Again × Gathers n gathered))
+  pub counter_line : {T : Type 0} (counter : ℕ) (r : Result T PlayFault) → ((gathered : Gathered) → Gathers g gathered → OnErr r (is_some gathered.counter ≡ true × r ≡ Err fault.Base × Gathers n gathered))
       → ((gathered : Gathered) → Gathers g gathered → OnOk r (is_some gathered.counter ≡ false × Gathers n (with_counter counter gathered)))
-      → (base : Gathered) → IsGathering old base → IsGatheredLine (told_of r) new base (place_of base (line.Counter counter))
+      → (base : Gathered) → IsGathering old base → IsGatheredLine r new base (place_of base (line.Counter counter))
   counter_line counter r again set base h =
       let gathers = gathers_there old g base was h in
       counter-by new n base (with_counter counter base) (is_some base.counter) r is (same ∙ h.nothing) (again base gathers) (set base gathers)
 
 -- a counter takes no memory
-pub counter_told : {T : Type 0} (r : Result T GatherFault) → IfErr r (λ why. why ≡ gather.Again) → told_of r ≢ Err fault.Memory
-counter_told (Ok done) again told = cc told
-counter_told (Err gather.Again) again told = cc told
-counter_told (Err gather.Memory) again told = cc again
+pub counter_told : {T : Type 0} (r : Result T PlayFault) → IfErr r (λ why. why ≡ fault.Base) → r ≢ Err fault.Memory
+counter_told (Ok done) is told = cc told
+counter_told (Err why) is told =
+    let memory : why ≡ fault.Memory = cc told in
+    cc (sym is ∙ memory)
 
 -- ---- the base is opened
 

@@ -53,10 +53,6 @@ MayMake cluster made event =
 abbrev pub IsCause : Cluster → List Entry → Event → PlayFault → Type 0
 IsCause cluster made event told = ((told ≡ fault.Memory) × MayMake cluster made event) ⊎ IsToldBy cluster made event told
 
--- the same of a call that takes memory, whatever it finds
-abbrev pub IsToldOrMemory : Cluster → Event → PlayFault → Type 0
-IsToldOrMemory cluster event told = (told ≡ fault.Memory) ⊎ IsToldBy cluster [] event told
-
 -- what the one stands for, the other stands for
 abbrev pub Keeps : (old new : Cluster) → Type 0
 Keeps old new = (base : Base) (history : List Entry) → StandsFor old base history → StandsFor new base history

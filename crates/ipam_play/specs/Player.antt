@@ -7,12 +7,8 @@ use Rattle.ipam_model.specs.Course.{Event, EventRefusal, course, entries_of}
 use Rattle.ipam_model.specs.History.{cluster_at}
 use Rattle.ipam_model.specs.Opened.{IsRefusedBy, OpensAs, Texts}
 use Rattle.ipam_cluster.specs.Cluster.{StandsFor}
-use Rattle.ipam_opening.specs.declared.fault.OpenFault.{OpenFault}
-use Rattle.ipam_opening.specs.declared.fault.OpenFault.TheVariants as opening
 use Rattle.ipam_play.specs.declared.fault.PlayFault.{PlayFault}
 use Rattle.ipam_play.specs.declared.fault.PlayFault.TheVariants as fault
-use Rattle.ipam_play.specs.declared.gathering.GatherFault.{GatherFault}
-use Rattle.ipam_play.specs.declared.gathering.GatherFault.TheVariants as gather
 use Rattle.ipam_play.specs.declared.gathering.Gathering.{Gathering}
 use Rattle.ipam_play.specs.declared.cluster.OpenCluster.{OpenCluster}
 use Rattle.ipam_play.specs.declared.player.Player.{Player}
@@ -114,12 +110,6 @@ IsPlayedLine result old new store past (Some events) = HasHappened result old ne
 
 -- ---- lines while the base is gathered
 
--- how it is told why a line of the base was not gathered
-abbrev pub told_of : {T : Type 0} → Result T GatherFault → Result T PlayFault
-told_of (Ok done) = Ok done
-told_of (Err gather.Again) = Err fault.Base
-told_of (Err gather.Memory) = Err fault.Memory
-
 -- a cluster over the base that was opened, in which all of the events happened
 pub record IsBegunWith (open_cluster : OpenCluster) (before after : List Entry) (base : Gathered) (events : List Event) : Type 0 where
   pub store : Datastore
@@ -154,11 +144,6 @@ pub record IsWantingFirst (store : Datastore) (events : List Event) (told : Play
 -- why the first line after the base did not happen, over what was opened
 abbrev pub IsCauseOnceOpened : Gathered → Datastore → List Event → PlayFault → Type 0
 IsCauseOnceOpened base store events told = IsWantingFirst store events told ⊎ IsRefusedFirst base events told
-
--- what a fault in opening the base is told as
-abbrev pub not_opened : OpenFault → PlayFault
-not_opened (opening.Refused rule about) = fault.Open rule about
-not_opened opening.Memory = fault.Memory
 
 -- the base was not opened
 pub record IsNotOpened (base : Gathered) (told : PlayFault) : Type 0 where

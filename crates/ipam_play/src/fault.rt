@@ -1,7 +1,7 @@
 use ipam_text::Text;
 
 /// Why a line did not happen.
-#[derive(Debug, Drop)]
+#[derive(Drop)]
 pub enum PlayFault {
     /// A row or a counter that was given before, or that stands after the base.
     Base,

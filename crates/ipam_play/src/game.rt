@@ -40,7 +40,9 @@ impl Game {
     {
         Game {
             player: Player::new(alloc),
-            output: Output::new(alloc),
+            output: Output {
+                text: String::new(alloc),
+            },
         }
     }
 

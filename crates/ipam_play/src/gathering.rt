@@ -1,35 +1,25 @@
 //! The base of a script is gathered.
-ghost use Rattle.std.specs.Prelude.{◌≡◌, ◌↔◌, ◌∷◌, IfOk, IfErr, OnOk, OnErr, Err, true, false, is_some};
+ghost use Rattle.std.specs.Prelude.{◌≡◌, ◌↔◌, ◌⊎◌, ◌∷◌, IfOk, IfErr, OnOk, OnErr, Err, true, false, is_some};
 ghost use Rattle.std.specs.BTreeMap.{get};
 ghost use Rattle.std.specs.List.Sorted.{IsPermutation};
-ghost use Rattle.ipam_cluster.specs.Turns.{texts_in};
 ghost use Rattle.ipam_model.specs.Opened.{AreByKey};
 ghost use Rattle.ipam_keeper.specs.Rows.{text_cmp};
 ghost use Rattle.ipam_play.specs.Gathering.{row_gathered};
-ghost use Rattle.ipam_play.specs.Played.{AreTextsOfBase};
-ghost use Rattle.ipam_play.specs.Script.{Gathered, rows_have_key, nothing_gathered, with_base_row, with_counter};
+ghost use Rattle.ipam_play.specs.Script.{Gathered, rows_have_key, with_base_row, with_counter};
 
-use ipam_cluster::Base;
+use crate::fault::PlayFault;
 use ipam_records::Row;
 use ipam_text::Text;
 use std::alloc::{AllocError, Global};
 use std::collections::BTreeMap;
 
 /// Where the counter of a base is from.
-#[derive(Clone, Copy, PartialEq, Eq)]
+#[derive(Clone, Copy)]
 pub(crate) enum Counter {
     /// It is the greatest revision, or 0.
     Greatest,
     /// It was given.
     Given,
-}
-
-/// Why a row was not gathered.
-#[derive(Clone, Copy)]
-pub(crate) enum GatherFault {
-    /// One of its key was given before.
-    Again,
-    Memory,
 }
 
 /// What a row has beside its key.
@@ -43,40 +33,16 @@ pub(crate) struct Content {
 /// them in any order.
 #[derive(Drop)]
 pub(crate) struct Gathering {
-    rows: BTreeMap<Text, Content>,
-    counter: u64,
-    from: Counter,
+    pub(crate) rows: BTreeMap<Text, Content>,
+    pub(crate) counter: u64,
+    pub(crate) from: Counter,
 }
 
 impl Gathering {
     ghost use Rattle.ipam_play.specs.Gathering.{Gathers, raised, rows_gathered};
 
-    /// No line was read.
-    pub(crate) fn new(alloc: Global) -> Gathering
-        ensures { Gathers result nothing_gathered }
-    {
-        Gathering {
-            rows: BTreeMap::new(alloc),
-            counter: 0,
-            from: Counter::Greatest,
-        }
-    }
-
-    /// The base as far as it is known, its rows by ascending key.
-    pub(crate) fn base(&self, alloc: Global) -> Result<Base, AllocError>
-        ensures texts { (gathered : Gathered) → Gathers self.now gathered → IfOk result
-            (λ base. AreTextsOfBase (texts_in base) gathered) }
-        ensures by_key { IfOk result (λ base. AreByKey base.rows.items) }
-        ensures first { IfOk result (λ base. base.first ≡ 0) }
-    {
-        Ok(Base {
-            rows: self.listed(alloc)?,
-            counter: self.counter,
-            first: 0,
-        })
-    }
-
-    fn listed(&self, alloc: Global) -> Result<Vec<Row>, AllocError>
+    /// The rows, by ascending key.
+    pub(crate) fn listed(&self, alloc: Global) -> Result<Vec<Row>, AllocError>
         ensures rows { IfOk result (λ rows. rows.items ≡ rows_gathered self.now.rows) }
         ensures by_key { IfOk result (λ rows. AreByKey (rows_gathered self.now.rows)) }
     {
@@ -87,38 +53,41 @@ impl Gathering {
         Ok(rows)
     }
 
-    /// One row more. On `Err` nothing changes.
-    pub(crate) fn add(&mut self, alloc: Global, row: &Row) -> Result<(), GatherFault>
-        ensures again { (gathered : Gathered) → Gathers self.old gathered → ((result ≡ Err GatherFault.Again)
+    /// One row more, unless one of its key was given before. On `Err` nothing changes.
+    pub(crate) fn add(&mut self, alloc: Global, row: &Row) -> Result<(), PlayFault>
+        ensures again { (gathered : Gathered) → Gathers self.old gathered → ((result ≡ Err PlayFault.Base)
             ↔ (rows_have_key row.now.key gathered.rows ≡ true)) }
         ensures added { (gathered : Gathered) → Gathers self.old gathered → OnOk result
             (Gathers self.new (with_base_row row.now gathered)) }
         ensures unchanged { (gathered : Gathered) → Gathers self.old gathered → OnErr result
             (Gathers self.new gathered) }
+        ensures told { IfErr result (λ why. (why ≡ PlayFault.Base) ⊎ (why ≡ PlayFault.Memory)) }
     {
         if self.rows.contains_key(&row.key) {
-            return Err(GatherFault::Again);
+            return Err(PlayFault::Base);
         }
         match self.insert(alloc, row) {
             Ok(()) => Ok(()),
-            Err(_) => Err(GatherFault::Memory),
+            Err(_) => Err(PlayFault::Memory),
         }
     }
 
     /// The counter, once. Where it was given before nothing changes.
-    pub(crate) fn set_counter(&mut self, counter: u64) -> Result<(), GatherFault>
+    pub(crate) fn set_counter(&mut self, counter: u64) -> Result<(), PlayFault>
         ensures again { (gathered : Gathered) → Gathers self.old gathered → OnErr result
-            (is_some gathered.counter ≡ true × result ≡ Err GatherFault.Again × Gathers self.new gathered) }
+            (is_some gathered.counter ≡ true × result ≡ Err PlayFault.Base × Gathers self.new gathered) }
         ensures set { (gathered : Gathered) → Gathers self.old gathered → OnOk result
             (is_some gathered.counter ≡ false × Gathers self.new (with_counter counter gathered)) }
-        ensures told { IfErr result (λ why. why ≡ GatherFault.Again) }
+        ensures told { IfErr result (λ why. why ≡ PlayFault.Base) }
     {
-        if self.from == Counter::Given {
-            return Err(GatherFault::Again);
+        match self.from {
+            Counter::Given => Err(PlayFault::Base),
+            Counter::Greatest => {
+                self.counter = counter;
+                self.from = Counter::Given;
+                Ok(())
+            }
         }
-        self.counter = counter;
-        self.from = Counter::Given;
-        Ok(())
     }
 
     /// Puts the row where it goes. On `Err` nothing changes.

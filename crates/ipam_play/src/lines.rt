@@ -31,7 +31,7 @@ pub enum Next {
 }
 
 /// Why nothing could be read.
-#[derive(Clone, Copy, Debug, PartialEq, Eq)]
+#[derive(Clone, Copy)]
 pub enum ScriptFault {
     /// A read of the source failed.
     Read,
@@ -55,7 +55,7 @@ impl ScriptLines {
     {
         ScriptLines {
             lines: Lines::new(alloc),
-            before: Offset::start(),
+            before: Offset { bytes: 0 },
         }
     }
 
@@ -114,7 +114,9 @@ impl ScriptLines {
     {
         match asked(alloc, self.before, bytes) {
             Ok(Ok(line)) => {
-                self.before = self.before.behind(bytes.len());
+                self.before = Offset {
+                    bytes: self.before.bytes + bytes.len() as u64 + 1,
+                };
                 Ok(Next::Line(line))
             }
             Ok(Err(why)) => Ok(Next::Refused(why)),

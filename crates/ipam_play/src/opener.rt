@@ -16,10 +16,10 @@ ghost use Rattle.ipam_play.specs.Times.{IsTimed, StandsTimed};
 use crate::cluster::OpenCluster;
 use crate::fault::PlayFault;
 use crate::gathering::Gathering;
-use crate::player::play_first;
+use crate::playing::play_line;
 use ipam_answer_text::Line;
-use ipam_cluster::{Base, OpenFault};
-use ipam_model::Entry;
+use ipam_cluster::{Base, Cluster, OpenFault};
+use ipam_model::{Entry, SLOTS};
 use std::alloc::{AllocError, Global};
 
 /// What takes the memory for opening a base. What is generic over it knows nothing of it, and so can't state by
@@ -51,11 +51,20 @@ impl OpensBase for Global {
     ghost wants = { λ _. Unit {0} };
 
     fn base(&self, gathering: &Gathering) -> Result<Base, AllocError> {
-        gathering.base(*self)
+        Ok(Base {
+            rows: gathering.listed(*self)?,
+            counter: gathering.counter,
+            first: 0,
+        })
     }
 
     fn open(&self, base: &Base) -> Result<OpenCluster, OpenFault> {
-        OpenCluster::open(*self, base)
+        let cluster = Cluster::open(*self, base)?;
+        Ok(OpenCluster {
+            cluster,
+            at: [0; SLOTS],
+            grace: [0; SLOTS],
+        })
     }
 }
 
@@ -93,6 +102,8 @@ impl PlaysFirst for Global {
         journal: &mut Vec<Entry>,
         line: &Line,
     ) -> Result<OpenCluster, PlayFault> {
-        play_first(*self, cluster, journal, line)
+        let mut cluster = cluster;
+        play_line(*self, &mut cluster, journal, line)?;
+        Ok(cluster)
     }
 }

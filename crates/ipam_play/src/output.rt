@@ -1,5 +1,5 @@
 //! What is written of a script.
-ghost use Rattle.std.specs.Prelude.{◌≡◌, ◌++◌, [], List, ℕ, Option, OnOk, OnErr};
+ghost use Rattle.std.specs.Prelude.{◌≡◌, ◌++◌, List, ℕ, Option, OnOk, OnErr};
 ghost use Rattle.std.specs.Io.KnownBytes.{append_known};
 ghost use Rattle.ipam_io.specs.Counts.{Rose};
 ghost use Rattle.ipam_io.specs.Streams.{AppendsPrefix};
@@ -18,20 +18,11 @@ const LARGE: usize = 65_536;
 /// Lines of a journal that are to be written.
 #[derive(Drop)]
 pub(crate) struct Output {
-    text: String,
+    pub(crate) text: String,
 }
 
 impl Output {
     ghost use Rattle.ipam_play.specs.Writing.{held_in};
-
-    /// No lines.
-    pub(crate) fn new(alloc: Global) -> Output
-        ensures { held_in result ≡ [] }
-    {
-        Output {
-            text: String::new(alloc),
-        }
-    }
 
     /// Takes the lines of the entries. Where there is no memory it has some of them.
     pub(crate) fn take(&mut self, alloc: Global, entries: &[Entry]) -> Result<(), AllocError>

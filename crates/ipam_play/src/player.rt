@@ -6,20 +6,21 @@ ghost use Rattle.ipam_play.specs.Script.{Gathered, nothing_gathered, place_of, e
 ghost use Rattle.ipam_play.specs.SoundLine.{IsSoundLine};
 ghost use Rattle.ipam_play.specs.Gathering.{Gathers};
 ghost use Rattle.ipam_play.specs.Played.{base_of};
-ghost use Rattle.ipam_play.specs.Player.{IsBaseOpened, IsNotOpened, IsBegunWith, IsCauseAtFirst, IsCauseOnceOpened, not_opened, told_of};
+ghost use Rattle.ipam_play.specs.Player.{IsBaseOpened, IsNotOpened, IsBegunWith, IsCauseAtFirst};
 ghost use Rattle.ipam_cluster.specs.Cluster.{StandsFor};
 ghost use Rattle.ipam_play.specs.Times.{StandsTimed};
 ghost use Rattle.ipam_model.specs.Course.{Event};
 
 use crate::cluster::OpenCluster;
 use crate::fault::PlayFault;
-use crate::gathering::{GatherFault, Gathering};
+use crate::gathering::{Counter, Gathering};
 use crate::opener::{OpensBase, PlaysFirst};
 use crate::playing::play_line;
 use ipam_answer_text::Line;
 use ipam_cluster::OpenFault;
 use ipam_model::Entry;
 use std::alloc::Global;
+use std::collections::BTreeMap;
 
 /// How far a script has come.
 #[derive(Drop)]
@@ -46,7 +47,11 @@ impl Player {
         ensures standing { IsStanding result }
     {
         Player {
-            stage: Stage::Gathering(Gathering::new(alloc)),
+            stage: Stage::Gathering(Gathering {
+                rows: BTreeMap::new(alloc),
+                counter: 0,
+                from: Counter::Greatest,
+            }),
             journal: Vec::new(alloc),
         }
     }
@@ -73,8 +78,8 @@ impl Player {
     {
         match &mut self.stage {
             Stage::Gathering(gathering) => match line {
-                Line::Row(row) => told(gathering.add(alloc, row)),
-                Line::Counter(counter) => told(gathering.set_counter(*counter)),
+                Line::Row(row) => gathering.add(alloc, row),
+                Line::Counter(counter) => gathering.set_counter(*counter),
                 _ => {
                     let cluster = first_line(alloc, gathering, &mut self.journal, line)?;
                     self.stage = Stage::Playing(cluster);
@@ -153,17 +158,8 @@ fn opened<T: OpensBase + Drop>(alloc: T, gathering: &Gathering) -> Result<OpenCl
     };
     match alloc.open(&base) {
         Ok(cluster) => Ok(cluster),
-        Err(fault) => Err(not_opened(fault)),
-    }
-}
-
-/// Why the base was not opened. Takes no memory, so that a refusal stays one.
-fn not_opened(fault: OpenFault) -> PlayFault
-    ensures { result ≡ not_opened fault }
-{
-    match fault {
-        OpenFault::Refused(rule, about) => PlayFault::Open(rule, about),
-        OpenFault::Memory => PlayFault::Memory,
+        Err(OpenFault::Refused(rule, about)) => Err(PlayFault::Open(rule, about)),
+        Err(OpenFault::Memory) => Err(PlayFault::Memory),
     }
 }
 
@@ -188,39 +184,5 @@ fn first_line<T: OpensBase + PlaysFirst + Copy + Drop>(
     match opened(alloc, gathering) {
         Ok(cluster) => alloc.play_first(cluster, journal, line),
         Err(fault) => Err(fault),
-    }
-}
-
-/// Plays the first line after the base, over what was opened. On `Err` nothing changes, and `Memory` is
-/// returned only for an event that is not refused.
-pub(crate) fn play_first(
-    alloc: Global,
-    cluster: OpenCluster,
-    journal: &mut Vec<Entry>,
-    line: &Line,
-) -> Result<OpenCluster, PlayFault>
-    requires sound { IsSoundLine line.now }
-    requires standing { StandsTimed cluster }
-    ensures begun { (base : Gathered) (store : Datastore) (events : List Event) → IsBaseOpened base store → StandsFor cluster.cluster (base_of store) []
-        → events_of line.now ≡ Some events → IfOk result (λ opened. IsBegunWith opened journal.old.items journal.new.items base events) }
-    ensures cause { (base : Gathered) (store : Datastore) (events : List Event) → IsBaseOpened base store → StandsFor cluster.cluster (base_of store) []
-        → events_of line.now ≡ Some events → IfErr result (IsCauseOnceOpened base store events) }
-    ensures standing { IfOk result StandsTimed }
-    ensures kept { (base : Gathered) (store : Datastore) → IsBaseOpened base store → StandsFor cluster.cluster (base_of store) []
-        → OnErr result (journal.new.items ≡ journal.old.items) }
-{
-    let mut cluster = cluster;
-    play_line(alloc, &mut cluster, journal, line)?;
-    Ok(cluster)
-}
-
-/// How the player reports why a line of the base was not gathered.
-fn told(gathered: Result<(), GatherFault>) -> Result<(), PlayFault>
-    ensures { result ≡ told_of gathered }
-{
-    match gathered {
-        Ok(()) => Ok(()),
-        Err(GatherFault::Again) => Err(PlayFault::Base),
-        Err(GatherFault::Memory) => Err(PlayFault::Memory),
     }
 }

@@ -9,7 +9,7 @@ ghost use Rattle.ipam_model.specs.declared.entry.Fate.TheVariants.{Well};
 ghost use Rattle.ipam_play.specs.Script.{events_of};
 ghost use Rattle.ipam_play.specs.SoundLine.{IsSoundLine};
 ghost use Rattle.ipam_play.specs.Events.{ComesOf, Keeps};
-ghost use Rattle.ipam_play.specs.Times.{IsTimed, StandsTimed};
+ghost use Rattle.ipam_play.specs.Times.{IsTimed, StandsTimed, times_asked};
 
 use crate::cluster::OpenCluster;
 use crate::fault::PlayFault;
@@ -46,6 +46,7 @@ pub(crate) fn play_line(
     }
 }
 
+/// The request begins. Once it is known that it may, only memory can be wanting.
 fn begin(
     alloc: Global,
     cluster: &mut OpenCluster,
@@ -62,11 +63,19 @@ fn begin(
 {
     cluster.may_begin(slot)?;
     make_room(journal, 1)?;
-    let entry = cluster.begin(alloc, slot, request)?;
-    note(journal, entry);
-    Ok(())
+    match cluster.cluster.begin(alloc, slot, request) {
+        Ok(entry) => {
+            let (at, grace) = times_asked(request);
+            cluster.at[slot as usize] = at;
+            cluster.grace[slot as usize] = grace;
+            note(journal, entry);
+            Ok(())
+        }
+        Err(_) => Err(PlayFault::Memory),
+    }
 }
 
+/// The slot's next call is made, with this fate. Once it is known that it may be, only memory can be wanting.
 fn turn(
     alloc: Global,
     cluster: &mut OpenCluster,
@@ -82,9 +91,13 @@ fn turn(
 {
     cluster.may_turn(slot)?;
     make_room(journal, 1)?;
-    let entry = cluster.turn(alloc, slot, fate)?;
-    note(journal, entry);
-    Ok(())
+    match cluster.cluster.prepare(alloc, slot) {
+        Ok(prepared) => {
+            note(journal, cluster.cluster.commit(prepared, fate));
+            Ok(())
+        }
+        Err(_) => Err(PlayFault::Memory),
+    }
 }
 
 /// So many turns. Where one does not happen, those before it stay.
@@ -107,6 +120,7 @@ fn turns(
     Ok(())
 }
 
+/// The slot's collection is fed its second list. Once it is known that it may be, only memory can be wanting.
 fn feed(
     alloc: Global,
     cluster: &mut OpenCluster,
@@ -124,9 +138,13 @@ fn feed(
 {
     cluster.may_feed(slot, at)?;
     make_room(journal, 1)?;
-    let entry = cluster.feed(alloc, slot, at, live)?;
-    note(journal, entry);
-    Ok(())
+    match cluster.cluster.feed(alloc, slot, live, at) {
+        Ok(entry) => {
+            note(journal, entry);
+            Ok(())
+        }
+        Err(_) => Err(PlayFault::Memory),
+    }
 }
 
 fn stop(cluster: &mut OpenCluster, journal: &mut Vec<Entry>, slot: u8) -> Result<(), PlayFault>
@@ -138,9 +156,13 @@ fn stop(cluster: &mut OpenCluster, journal: &mut Vec<Entry>, slot: u8) -> Result
 {
     cluster.may_stop(slot)?;
     make_room(journal, 1)?;
-    let entry = cluster.stop(slot)?;
-    note(journal, entry);
-    Ok(())
+    match cluster.stop(slot) {
+        Some(entry) => {
+            note(journal, entry);
+            Ok(())
+        }
+        None => Err(PlayFault::Idle),
+    }
 }
 
 /// Stops whatever runs, slot by slot. The rows are not read again: what would be opened of them is
@@ -153,11 +175,21 @@ fn restart(cluster: &mut OpenCluster, journal: &mut Vec<Entry>) -> Result<(), Pl
 {
     make_room(journal, SLOTS)?;
     for slot in 0..SLOTS {
-        if let Some(entry) = cluster.clear(slot as u8) {
+        if let Some(entry) = cluster.stop(slot as u8) {
             note(journal, entry);
         }
     }
     Ok(())
+}
+
+/// When the first list of the request was made, and its grace, in seconds; 0 where it is no collection.
+fn times_asked(request: &Request) -> (u64, u64)
+    ensures { result ≡ times_asked request.now }
+{
+    match request {
+        Request::Collect(asked) => (asked.at, asked.grace),
+        _ => (0, 0),
+    }
 }
 
 /// Takes the memory for so many entries more.

@@ -2,7 +2,7 @@ ghost use Rattle.std.specs.Prelude.{◌≡◌};
 ghost use Rattle.ipam_play.specs.Output.{line_refusal_text};
 
 /// Why a line of a script is refused.
-#[derive(Clone, Copy, Debug, PartialEq, Eq)]
+#[derive(Clone, Copy)]
 pub enum LineRefusal {
     /// It has more than 1,048,576 bytes, or its last byte stands after the first 67,108,864 bytes of
     /// the script.

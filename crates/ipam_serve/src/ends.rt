@@ -1,5 +1,5 @@
 /// How a session ended.
-#[derive(Clone, Copy, Debug, PartialEq, Eq)]
+#[derive(Clone, Copy, Debug)]
 pub enum SessionEnd {
     /// The input ended between lines.
     Closed,

@@ -28,15 +28,6 @@ pub trait SessionGate {
         ensures line { lines self.new ≡ option_map (count_of_lines point) (lines self.old) };
 }
 
-fn ask<G: Gate>(gate: &mut G, point: Point) -> Passed
-    ensures stop { OnStop result (Rose (G.stops gate.old) (G.stops gate.new)) }
-    ensures go { OnGo result (G.stops gate.new ≡ G.stops gate.old) }
-    ensures never_falls { G.stops gate.old ≤ G.stops gate.new }
-    ensures turn { G.turns gate.new ≡ option_map (count_of_turns point) (G.turns gate.old) }
-{
-    gate.pass(point)
-}
-
 /// It stops no session, and counts none of its passes.
 impl SessionGate for OpenGate {
     ghost use Rattle.std.specs.Prelude.{None};
@@ -48,7 +39,7 @@ impl SessionGate for OpenGate {
     ghost lines = { λ _. None };
 
     fn pass(&mut self, point: Point) -> Passed {
-        ask(self, point)
+        Gate::pass(self, point)
     }
 }
 
@@ -63,6 +54,6 @@ impl SessionGate for ListGate {
     ghost lines = { λ _. None };
 
     fn pass(&mut self, point: Point) -> Passed {
-        ask(self, point)
+        Gate::pass(self, point)
     }
 }

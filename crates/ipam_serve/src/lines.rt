@@ -13,16 +13,17 @@ ghost use Rattle.ipam_session.specs.declared.wish.Wish.TheVariants as wish;
 ghost use Rattle.ipam_shared.specs.Passes.{runs_in};
 ghost use Rattle.ipam_serve.specs.Faults.{Halts, OnWorn};
 ghost use Rattle.ipam_serve.specs.Keeping.{MakesCalls};
-ghost use Rattle.ipam_serve.specs.Lines.{BreaksOff, Replies, WearsOut, asked_by, is_collect, clock_reading, reply_fed, reply_ran, server_at, timed};
+ghost use Rattle.ipam_serve.specs.Lines.{BreaksOff, Replies, WearsOut, asked_by, is_collect, clock_reading, reply_ran, server_at, timed};
 ghost use Rattle.ipam_serve.specs.Outcomes.{Comes, ComesOfCall};
 ghost use Rattle.ipam_serve.specs.Runs.{IsAtRest};
 
 use crate::gates::SessionGate;
+use crate::looks::{PageLook, UsageLook};
 use crate::opening::Opening;
 use crate::patience::Patience;
 use crate::ran::{Broken, Ran};
 use crate::requests::{run_call, run_feed, run_request};
-use crate::turns::{page, routes, routes_since, stop, usage};
+use crate::turns::{look, routes_since};
 use cni_types::Version;
 use ipam_io::Clock;
 use ipam_model::{Answer, Request};
@@ -30,7 +31,7 @@ use ipam_records::Key;
 use ipam_session::{
     AskFault, CallBegun, Refusal, Reply, RowKind, Wish, begin_call, read_wish, tell_call,
 };
-use ipam_shared::{Keeper, Pass, Shared};
+use ipam_shared::{Keeper, Pass, Shared, SpentPass};
 use ipam_text::{Seq, Text};
 use std::alloc::{AllocError, Global};
 use std::sync::Wait;
@@ -258,7 +259,8 @@ fn answer_feed<R: Wait, D: Keeper, G: SessionGate, C: Clock, P: Patience>(
     }
     let at = clock.now();
     match run_feed(rt, alloc, shared, pass, gate, patience, live, at) {
-        Ok(told) => Ok(reply_fed(told)),
+        Ok(Some(answer)) => Ok(Reply::Answered(answer)),
+        Ok(None) => Ok(Reply::Refused(Refusal::TooSoon)),
         Err(broken) => Err(broken),
     }
 }
@@ -279,9 +281,15 @@ fn answer_stop<R: Wait, D: Keeper>(
     if !pass.running() {
         return Ok(Reply::Refused(Refusal::NotWaiting));
     }
-    match stop(rt, shared, pass) {
-        Ok(()) => Ok(Reply::Stopped),
-        Err(broken) => Err(broken),
+    if pass.left() < 2 {
+        return Err(Broken::Worn);
+    }
+    match shared.stop(rt, pass) {
+        Ok(entry) => {
+            drop(entry);
+            Ok(Reply::Stopped)
+        }
+        Err(SpentPass) => unreachable!(),
     }
 }
 
@@ -298,9 +306,12 @@ fn answer_routes<R: Wait, D: Keeper>(
         (server_at pass.new turns ahead) }
     ensures stops { (count : ℕ) → Halts result count count }
 {
-    match routes(rt, shared, pass) {
+    if pass.left() < 2 {
+        return Err(Broken::Worn);
+    }
+    match shared.routes(rt, pass) {
         Ok((revision, routes)) => Ok(Reply::Routes(revision, Seq::of(routes))),
-        Err(broken) => Err(broken),
+        Err(_) => Err(Broken::Memory),
     }
 }
 
@@ -340,9 +351,10 @@ fn answer_page<R: Wait, D: Keeper>(
         (server_at pass.new turns ahead) }
     ensures stops { (count : ℕ) → Halts result count count }
 {
-    match page(rt, alloc, shared, pass, kind, after) {
-        Ok(page) => Ok(Reply::Rows(page)),
-        Err(broken) => Err(broken),
+    match look(rt, shared, pass, PageLook { alloc, kind, after }) {
+        Some(Ok(page)) => Ok(Reply::Rows(page)),
+        Some(Err(_)) => Err(Broken::Memory),
+        None => Err(Broken::Worn),
     }
 }
 
@@ -360,9 +372,10 @@ fn answer_usage<R: Wait, D: Keeper>(
         (server_at pass.new turns ahead) }
     ensures stops { (count : ℕ) → Halts result count count }
 {
-    match usage(rt, alloc, shared, pass) {
-        Ok((revision, pools)) => Ok(Reply::Usage(revision, Seq::of(pools))),
-        Err(broken) => Err(broken),
+    match look(rt, shared, pass, UsageLook { alloc }) {
+        Some(Ok((revision, pools))) => Ok(Reply::Usage(revision, Seq::of(pools))),
+        Some(Err(_)) => Err(Broken::Memory),
+        None => Err(Broken::Worn),
     }
 }
 
@@ -446,14 +459,5 @@ fn reply_ran(ran: Ran) -> Reply
     match ran {
         Ran::Answered(answer) => Reply::Answered(answer),
         Ran::Waits => Reply::Waiting,
-    }
-}
-
-fn reply_fed(told: Option<Answer>) -> Reply
-    ensures { result ≡ reply_fed told }
-{
-    match told {
-        Some(answer) => Reply::Answered(answer),
-        None => Reply::Refused(Refusal::TooSoon),
     }
 }

@@ -1,25 +1,17 @@
 //! The races that a session loses.
 use crate::patience::Patience;
-use ipam_model::{CallName, Called, Entry, Told};
+use ipam_model::{CallName, Entry, Told};
 use std::sync::Wait;
 
 /// The races that were lost for one line.
 #[derive(Drop)]
 pub(crate) struct Losses {
-    count: u32,
+    pub(crate) count: u32,
     // whether the last call was one
-    now: bool,
+    pub(crate) now: bool,
 }
 
 impl Losses {
-    /// None so far.
-    pub(crate) fn none() -> Losses {
-        Losses {
-            count: 0,
-            now: false,
-        }
-    }
-
     /// Takes notice of what a turn came to.
     pub(crate) fn note(&mut self, entry: &Entry) {
         self.now = is_lost(entry);
@@ -38,13 +30,9 @@ impl Losses {
 
 /// Whether it is a write that came too late.
 fn is_lost(entry: &Entry) -> bool {
-    match entry {
-        Entry::Called(called) => is_late(called),
-        Entry::Began(_, _) | Entry::Fed(_, _, _) | Entry::Stopped(_) => false,
-    }
-}
-
-fn is_late(called: &Called) -> bool {
+    let Entry::Called(called) = entry else {
+        return false;
+    };
     match called.call {
         CallName::Create(_) | CallName::Update(_, _) | CallName::Delete(_, _) => matches!(
             called.reply,

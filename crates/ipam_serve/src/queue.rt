@@ -92,12 +92,6 @@ impl Queue {
             (rung % (1 << 32)) as u32,
             Duration::from_millis(WAIT_MILLIS),
         );
-        self.give_up(turn);
-        false
-    }
-
-    /// Gives up this number, where it still is the last that may go on.
-    fn give_up(&self, turn: u64) {
         let next = turn.saturating_add(1);
         let moved = self
             .turn
@@ -105,6 +99,7 @@ impl Queue {
         if moved.is_ok() {
             self.ring(next);
         }
+        false
     }
 
     /// Leaves the place, and lets the next one go on. Those are told who have a place by then.

@@ -3,6 +3,7 @@ use crate::patience::Patience;
 use crate::queue::{Others, Place, Queue};
 use crate::sleeps::Sleeps;
 use std::alloc::Global;
+use std::sync::atomic::AtomicU64;
 use std::sync::{Arc, Wait};
 
 /// Requests enter one queue, and leave it with their answer. So they seldom meet at a block, and what one
@@ -23,7 +24,11 @@ impl Queued {
             queue,
             place: None,
             others: None,
-            sleeps: Sleeps::new(slot),
+            sleeps: Sleeps {
+                slot,
+                doublings: 0,
+                silent: AtomicU64::new(0),
+            },
         }
     }
 }

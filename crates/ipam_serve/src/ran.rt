@@ -10,7 +10,7 @@ pub enum Ran {
 }
 
 /// Why a request is not brought to its answer.
-#[derive(Clone, Copy, Debug, PartialEq, Eq)]
+#[derive(Clone, Copy)]
 pub enum Broken {
     /// The gate stopped it.
     Halted,

@@ -1,12 +1,12 @@
 //! What a session's slot is given goes on to its answer. The gate is passed before each call.
-ghost use Rattle.std.specs.Prelude.{◌≡◌, ◌⊎◌, Some, None, true, IsSome, IfOk, OnOk, OnErr, IfSome};
+ghost use Rattle.std.specs.Prelude.{◌≡◌, Some, None, true, IsSome, IfOk, OnOk, OnErr, IfSome};
 ghost use Rattle.std.specs.List.{All};
 ghost use Rattle.ipam_records.specs.Sound.{IsHandleId};
 ghost use Rattle.ipam_model.specs.declared.request.Request.{Request as Asked};
 ghost use Rattle.ipam_model.specs.CanAnswer.{CanAnswer};
 ghost use Rattle.ipam_model.specs.SoundRequest.{IsSoundRequest};
 ghost use Rattle.ipam_shared.specs.Passes.{runs_in};
-ghost use Rattle.ipam_serve.specs.Faults.{Halts, IfAnswered, IsWorn, OnWaits, OnWorn, answer_ran, found_of, spared_by};
+ghost use Rattle.ipam_serve.specs.Faults.{Halts, IfAnswered, IsWorn, OnWaits, OnWorn, answer_ran, spared_by};
 ghost use Rattle.ipam_serve.specs.Gains.{request_running, is_early, is_waiting};
 ghost use Rattle.ipam_serve.specs.Keeping.{MakesCalls};
 ghost use Rattle.ipam_serve.specs.Lines.{IsUnanswered};
@@ -85,7 +85,10 @@ pub(crate) fn run_on<R: Wait, D: Keeper, G: SessionGate, P: Patience>(
     ensures stops { Halts result (G.stops gate.old) (G.stops gate.new) }
     ensures lines { G.lines gate.new ≡ G.lines gate.old }
 {
-    let mut losses = Losses::none();
+    let mut losses = Losses {
+        count: 0,
+        now: false,
+    };
     loop {
         match step_on(rt, alloc, shared, pass, gate, &mut losses) {
             Ok(Some(ran)) => {
@@ -143,17 +146,9 @@ fn run_fed<R: Wait, D: Keeper, G: SessionGate, P: Patience>(
     ensures lines { G.lines gate.new ≡ G.lines gate.old }
 {
     match run_on(rt, alloc, shared, pass, gate, patience) {
-        Ok(ran) => found_of(ran),
+        Ok(Ran::Answered(answer)) => Ok(Some(answer)),
+        Ok(Ran::Waits) => Err(Broken::Memory),
         Err(broken) => Err(broken),
-    }
-}
-
-fn found_of(ran: Ran) -> Result<Option<Answer>, Broken>
-    ensures { result ≡ found_of ran }
-{
-    match ran {
-        Ran::Answered(answer) => Ok(Some(answer)),
-        Ran::Waits => Err(Broken::Memory),
     }
 }
 

@@ -20,37 +20,23 @@ const MOST_DOUBLINGS: u32 = 8;
 /// two sessions that met once do not meet again.
 #[derive(Drop)]
 pub(crate) struct Sleeps {
-    slot: u8,
-    doublings: u32,
+    pub(crate) slot: u8,
+    pub(crate) doublings: u32,
     // nobody wakes who sleeps on it
-    silent: AtomicU64,
+    pub(crate) silent: AtomicU64,
 }
 
 impl Sleeps {
-    /// The sleeps of a session in this slot.
-    pub(crate) fn new(slot: u8) -> Sleeps {
-        Sleeps {
-            slot,
-            doublings: 0,
-            silent: AtomicU64::new(0),
-        }
-    }
-
     /// Sleeps after a lost race. So many were lost for the line that is done, this one among them.
     pub(crate) fn sleep<R: Wait>(&mut self, rt: &R, losses: u32) {
-        self.doublings = doublings_after(self.doublings, losses);
+        self.doublings = if losses < 2 {
+            self.doublings.saturating_sub(1)
+        } else {
+            self.doublings.saturating_add(3).min(MOST_DOUBLINGS)
+        };
         let time = Duration::from_nanos(sleep_nanos(self.slot, self.doublings));
         self.silent.park_timeout(rt, 0, time);
     }
-}
-
-/// How often the least time is doubled after so many losses for one line, where it was doubled so often
-/// before the last of them.
-fn doublings_after(doublings: u32, losses: u32) -> u32 {
-    if losses < 2 {
-        return doublings.saturating_sub(1);
-    }
-    doublings.saturating_add(3).min(MOST_DOUBLINGS)
 }
 
 /// How long a session in this slot sleeps, in nanoseconds: the least time, doubled so often, and by the

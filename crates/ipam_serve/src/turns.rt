@@ -1,28 +1,21 @@
 //! One turn of a session's slot. Each leaves a turn for the last stop.
-ghost use Rattle.std.specs.Prelude.{◌≡◌, ◌≢◌, ◌⊎◌, ◌+◌, ◌<◌, ◌≤◌, ◌^◌, [], ◌∷◌, Some, None, Ok, Err, true, false, IsSome, IfOk, IfSome, OnOk, OnErr, ℕ};
+ghost use Rattle.std.specs.Prelude.{◌≡◌, ◌≢◌, ◌+◌, ◌<◌, [], ◌∷◌, Some, None, Ok, Err, true, IsSome, IfOk, IfSome, OnOk, OnErr, ℕ};
 ghost use Rattle.std.specs.List.{All};
 ghost use Rattle.ipam_records.specs.Sound.{IsHandleId};
 ghost use Rattle.ipam_model.specs.declared.entry.Entry.TheVariants as entry;
-ghost use Rattle.ipam_model.specs.declared.entry.SlotState.TheVariants as state;
-ghost use Rattle.ipam_model.specs.CanAnswer.{CanAnswer};
-ghost use Rattle.ipam_model.specs.Cluster.{state_of};
 ghost use Rattle.ipam_model.specs.SoundRequest.{IsSoundRequest};
 ghost use Rattle.ipam_shared.specs.Passes.{runs_in};
 ghost use Rattle.ipam_serve.specs.Faults.{IsWorn, OnHalted, OnWorn};
-ghost use Rattle.ipam_serve.specs.Gains.{TookTurns, request_running, is_early, is_waiting};
+ghost use Rattle.ipam_serve.specs.Gains.{TookTurns, is_waiting};
 ghost use Rattle.ipam_serve.specs.Keeping.{MakesCalls};
-ghost use Rattle.ipam_kept.specs.Feed.{AreRoutes};
 ghost use Rattle.ipam_model.specs.History.{store_at};
-ghost use Rattle.ipam_serve.specs.Lines.{page_seen, since_in};
-ghost use Rattle.ipam_serve.specs.Looks.{IsUsage};
+ghost use Rattle.ipam_serve.specs.Lines.{since_in};
 ghost use Rattle.ipam_serve.specs.Turns.{Called, Fed, IsToldOf, TakesLook, TakesOne, answer_told};
 
-use crate::looks::{PageLook, UsageLook};
 use crate::losses::Losses;
 use crate::ran::{Broken, Ran};
-use ipam_model::{Answer, Entry, Request};
-use ipam_records::Key;
-use ipam_session::{Page, PoolUsage, Route, RowKind, Since};
+use ipam_model::{Entry, Request};
+use ipam_session::Since;
 use ipam_shared::{
     BeginFault, FeedFault, Keeper, Look, Pass, PrepareFault, Shared, SharedFault, SinceFault,
     SpentPass,
@@ -188,50 +181,6 @@ fn not_fed(fault: SharedFault<FeedFault>) -> Result<Feeding, Broken>
     }
 }
 
-/// Stops the collection that waits.
-pub(crate) fn stop<R: Wait, D: Keeper>(
-    rt: &R,
-    shared: &Shared<D>,
-    pass: &mut Pass,
-) -> Result<(), Broken>
-    requires lock { pass.old.lock ≡ shared.now }
-    requires runs { IsSome (runs_in pass.old) }
-    ensures stopped { OnOk result (TookTurns pass.old (entry.Stopped pass.old.slot ∷ []) 0 pass.new) }
-    ensures not_stopped { OnErr result (pass.new ≡ pass.old) }
-    ensures worn { OnWorn result (pass.new.left < 2) }
-    ensures not_halted { OnHalted result ⊥ }
-{
-    if pass.left() < 2 {
-        return Err(Broken::Worn);
-    }
-    match shared.stop(rt, pass) {
-        Ok(entry) => {
-            drop(entry);
-            Ok(())
-        }
-        Err(SpentPass) => unreachable!(),
-    }
-}
-
-/// The datastore's revision and its routes.
-pub(crate) fn routes<R: Wait, D: Keeper>(
-    rt: &R,
-    shared: &Shared<D>,
-    pass: &mut Pass,
-) -> Result<(u64, Vec<Route>), Broken>
-    requires lock { pass.old.lock ≡ shared.now }
-    ensures turn { TakesOne result pass.old pass.new }
-    ensures told { IfOk result (λ told. AreRoutes pass.new.base pass.new.seen told.0 told.1.items) }
-{
-    if pass.left() < 2 {
-        return Err(Broken::Worn);
-    }
-    match shared.routes(rt, pass) {
-        Ok(told) => Ok(told),
-        Err(_) => Err(Broken::Memory),
-    }
-}
-
 /// What became of the routes after the revision.
 pub(crate) fn routes_since<R: Wait, D: Keeper>(
     rt: &R,
@@ -268,7 +217,7 @@ fn not_told(fault: SharedFault<SinceFault>) -> Result<Since, Broken>
 }
 
 /// What the look tells of the datastore. None where too few turns are left.
-fn look<R: Wait, D: Keeper, L: Look + Drop>(
+pub(crate) fn look<R: Wait, D: Keeper, L: Look + Drop>(
     rt: &R,
     shared: &Shared<D>,
     pass: &mut Pass,
@@ -284,43 +233,5 @@ fn look<R: Wait, D: Keeper, L: Look + Drop>(
     match shared.look(rt, pass, look) {
         Ok(told) => Some(told),
         Err(SpentPass) => unreachable!(),
-    }
-}
-
-/// A page of the rows of the kind after this key, or from the first on.
-pub(crate) fn page<R: Wait, D: Keeper>(
-    rt: &R,
-    alloc: Global,
-    shared: &Shared<D>,
-    pass: &mut Pass,
-    kind: RowKind,
-    after: &Option<Key>,
-) -> Result<Page, Broken>
-    requires lock { pass.old.lock ≡ shared.now }
-    ensures turn { TakesOne result pass.old pass.new }
-    ensures told { IfOk result (λ page. page ≡ page_seen pass.new kind after.now) }
-{
-    match look(rt, shared, pass, PageLook { alloc, kind, after }) {
-        Some(Ok(page)) => Ok(page),
-        Some(Err(_)) => Err(Broken::Memory),
-        None => Err(Broken::Worn),
-    }
-}
-
-/// The datastore's revision, and what each pool is used for.
-pub(crate) fn usage<R: Wait, D: Keeper>(
-    rt: &R,
-    alloc: Global,
-    shared: &Shared<D>,
-    pass: &mut Pass,
-) -> Result<(u64, Vec<PoolUsage>), Broken>
-    requires lock { pass.old.lock ≡ shared.now }
-    ensures turn { TakesOne result pass.old pass.new }
-    ensures told { IfOk result (λ usage. IsUsage (store_at pass.new.base pass.new.seen) usage.0 usage.1.items) }
-{
-    match look(rt, shared, pass, UsageLook { alloc }) {
-        Some(Ok(usage)) => Ok(usage),
-        Some(Err(_)) => Err(Broken::Memory),
-        None => Err(Broken::Worn),
     }
 }

@@ -1,7 +1,8 @@
 // Which case a text is.
 
+use crate::telling::Told;
 use crate::workers::Job;
-use crate::{after, settled, settlings, threads, turns, two, writes};
+use crate::{asks, keepers, pair, steps, threads};
 use std::alloc::{AllocError, Global};
 use std::io;
 use std::sync::Wait;
@@ -21,37 +22,64 @@ pub fn told<R: Threads + Wait + Sync + Clock + Eprint>(
     Ok(told)
 }
 
-/// The first line has the name of the case and up to two numbers, or the numbers of what fails, and steps may follow.
+/// The first line has the name of the case and two numbers, or what fails, and steps may follow.
 fn told_of<R: Threads + Wait + Sync>(
     rt: &R,
     alloc: Global,
     case: &str,
 ) -> Result<String, AllocError> {
     let (line, steps) = case.split_once('\n').unwrap_or((case, ""));
-    let (name, rest) = line.split_once(' ').unwrap_or((line, ""));
-    let mut words = rest.split(' ');
-    let one = number(words.next());
-    let other = number(words.next());
+    let (name, words) = line.split_once(' ').unwrap_or((line, ""));
+    let mut told = Told::new(alloc);
     match name {
-        "after" => after::told(alloc, one, steps),
-        "two" => two::told(rt, alloc),
-        "grants" => threads::told_grants(rt, alloc, small(one), small(other)),
-        "turns" => threads::told_turns(rt, alloc, Job::Turns(small(other)), small(one)),
-        "settled" => settled::told(rt, alloc, one),
-        "kept" => turns::told(alloc, small(one)),
-        "writes" => writes::told(alloc, rest, steps),
-        "settlings" => settlings::told(alloc, rest, steps),
-        _ => String::from_str(alloc, "no such case"),
+        "grants" | "turns" => tell_threads(rt, alloc, name, words, &mut told),
+        _ => tell_steps(rt, alloc, name, words, steps, &mut told),
+    }
+    told.into_text()
+}
+
+/// `OTHERS COUNT`: each of so many threads and one more asks for so many addresses, over a keeper whose writes fail now
+/// and then, or takes so many turns.
+fn tell_threads<R: Threads + Wait + Sync>(
+    rt: &R,
+    alloc: Global,
+    name: &str,
+    words: &str,
+    told: &mut Told,
+) {
+    let (others, count) = words.split_once(' ').unwrap_or((words, ""));
+    let count = count.parse().unwrap_or(0);
+    let (pools, failing, job) = match name {
+        "grants" => (keepers::LARGE, 20_000, Job::Grants(count)),
+        _ => (keepers::MANY, 0, Job::Turns(count)),
+    };
+    match keepers::failing_now_and_then(alloc, pools, failing) {
+        Ok(keeper) => threads::tell(rt, alloc, keeper, others.parse().unwrap_or(0), job, told),
+        Err(_) => told.push(Err(AllocError)),
     }
 }
 
-fn number(word: Option<&str>) -> u64 {
-    match word {
-        Some(word) => word.parse().unwrap_or(0),
-        None => 0,
+/// Steps by a kept cluster after so many entries, by two passes, or of requests one after the other.
+fn tell_steps<R: Wait>(
+    rt: &R,
+    alloc: Global,
+    name: &str,
+    words: &str,
+    steps: &str,
+    told: &mut Told,
+) {
+    let pools = match name {
+        "kept" => keepers::MANY,
+        "passes" => keepers::SMALL,
+        _ => "",
+    };
+    let Ok(keeper) = keepers::failing_at(alloc, pools, words) else {
+        told.push(Err(AllocError));
+        return;
+    };
+    match name {
+        "kept" => steps::tell(alloc, keeper, words.parse().unwrap_or(0), steps, told),
+        "passes" => pair::tell(rt, alloc, keeper, steps, told),
+        _ => asks::tell(alloc, keeper, steps, told),
     }
-}
-
-fn small(number: u64) -> u32 {
-    u32::try_from(number).unwrap_or(0)
 }

@@ -1,6 +1,6 @@
 // Keepers in memory, and clusters over them.
 ghost use Rattle.std.specs.Prelude.{◌≡◌, ◌+◌, ◌≤◌, ◌^◌, IfSome};
-ghost use Rattle.ipam_kept.specs.Kept.{IsKept};
+ghost use Rattle.ipam_kept.specs.Solo.{NothingRuns};
 ghost use Rattle.ipam_shared.specs.Passes.{IsNewlyKept};
 
 use ipam_keeper::{Keeper, MemoryKeeper};
@@ -8,34 +8,65 @@ use ipam_shared::{Kept, Pass, Shared};
 use std::alloc::{AllocError, Global};
 use std::sync::Wait;
 
-/// A keeper of these pools. The writes of these numbers fail: the first is that of the pools.
-pub fn keeper_of(
-    alloc: Global,
-    pools: &str,
-    failing: Vec<(u64, bool)>,
-) -> Result<MemoryKeeper, AllocError> {
-    let mut keeper = MemoryKeeper::new(Vec::new(alloc), failing);
-    match keeper.put("pools", 1, pools) {
-        Ok(()) => Ok(keeper),
-        Err(_) => Err(AllocError),
+/// Eight addresses in blocks of four.
+pub const SMALL: &str =
+    r#"{"pools":[{"blockSize":30,"cidr":"10.0.0.0/29","disabled":false,"name":"p"}]}"#;
+
+/// 1,024 addresses in blocks of 16.
+pub const MANY: &str =
+    r#"{"pools":[{"blockSize":28,"cidr":"10.0.0.0/22","disabled":false,"name":"p"}]}"#;
+
+/// 4,096 addresses in blocks of 64.
+pub const LARGE: &str =
+    r#"{"pools":[{"blockSize":26,"cidr":"10.0.0.0/20","disabled":false,"name":"p"}]}"#;
+
+/// The keeper with a row of these pools, or with no row where there are none.
+fn with_pools(mut keeper: MemoryKeeper, pools: &str) -> Result<MemoryKeeper, AllocError> {
+    if pools.is_empty() || keeper.put("pools", 1, pools).is_ok() {
+        Ok(keeper)
+    } else {
+        Err(AllocError)
     }
 }
 
-/// Each seventh of so many writes fails, each second one of these with its change done.
-pub fn each_seventh(alloc: Global, writes: u64) -> Result<Vec<(u64, bool)>, AllocError> {
+/// A keeper of these pools. Each seventh of so many writes fails, each second one of these with its change done.
+pub fn failing_now_and_then(
+    alloc: Global,
+    pools: &str,
+    writes: u64,
+) -> Result<MemoryKeeper, AllocError> {
     let mut failing = Vec::new(alloc);
     for number in 1..writes {
         if number % 7 == 0 {
             failing.push((number, number % 2 == 0))?;
         }
     }
-    Ok(failing)
+    with_pools(MemoryKeeper::new(Vec::new(alloc), failing), pools)
+}
+
+/// A keeper of these pools, of which the writes and settlings fail that the words say: `-N` a write whose change is not
+/// made, `+N` one whose change is, and `sN` a settling. The first write is that of the pools, if any, and the first
+/// settling that of the opening.
+pub fn failing_at(alloc: Global, pools: &str, words: &str) -> Result<MemoryKeeper, AllocError> {
+    let mut failing = Vec::new(alloc);
+    let mut unsettled = Vec::new(alloc);
+    for word in words.split(' ') {
+        let number = word.get(1..).unwrap_or("").parse().unwrap_or(0);
+        if word.starts_with('s') {
+            unsettled.push(number)?;
+        } else if word.starts_with('-') || word.starts_with('+') {
+            failing.push((number, word.starts_with('+')))?;
+        }
+    }
+    let keeper = MemoryKeeper::new(Vec::new(alloc), failing).failing_to_settle(unsettled);
+    with_pools(keeper, pools)
 }
 
 /// What the keeper has, opened after so many entries. None where its rows are not opened.
 pub fn open<D: Keeper + Drop>(alloc: Global, keeper: D, first: u64) -> Option<Kept<D>>
     requires { first ≤ 2 ^ 62 }
-    ensures { IfSome result (IsNewlyKept D.rows D.settled) }
+    ensures kept { IfSome result (IsNewlyKept D.rows D.settled) }
+    ensures idle { IfSome result NothingRuns }
 {
     match Kept::open(alloc, keeper, first) {
         Ok(kept) => Some(kept),
@@ -47,17 +78,7 @@ pub fn open<D: Keeper + Drop>(alloc: Global, keeper: D, first: u64) -> Option<Ke
 pub fn share<D: Keeper + Drop>(alloc: Global, keeper: D) -> Option<(Shared<D>, Pass)>
     ensures { IfSome result (λ opened. opened.1.lock ≡ opened.0) }
 {
-    match open(alloc, keeper, 0) {
-        Some(kept) => share_kept(alloc, kept),
-        None => None,
-    }
-}
-
-fn share_kept<D: Keeper + Drop>(alloc: Global, kept: Kept<D>) -> Option<(Shared<D>, Pass)>
-    requires { IsNewlyKept D.rows D.settled kept }
-    ensures { IfSome result (λ opened. opened.1.lock ≡ opened.0) }
-{
-    match Shared::new(alloc, kept) {
+    match Shared::new(alloc, open(alloc, keeper, 0)?) {
         Ok(opened) => Some(opened),
         Err(kept) => {
             drop(kept.into_keeper());

@@ -2,18 +2,16 @@
 //! first line of a case says which it is. How long it took goes to standard error. `ipam_tests` has the cases.
 #![tactic(auto)]
 
-mod after;
+mod asks;
 mod cases;
 mod keepers;
-mod passes;
+mod pair;
 mod requests;
-mod settled;
-mod settlings;
+mod runs;
+mod steps;
 mod team;
+mod telling;
 mod threads;
-mod turns;
-mod two;
 mod workers;
-mod writes;
 
 pub use cases::told;

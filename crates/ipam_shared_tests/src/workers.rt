@@ -2,19 +2,14 @@
 ghost use Rattle.std.specs.Prelude.{◌≡◌};
 ghost use Rattle.ipam_model.specs.SoundRequest.{IsSoundRequest};
 
-use crate::passes::{Turned, begin, finish, run, turn};
 use crate::requests;
-use crate::two::given;
+use crate::runs::{asked, finished};
+use crate::team::{Team, Turned};
 use ipam_addr::Addr;
-use ipam_keeper::Keeper;
 use ipam_model::Request;
-use ipam_shared::{Pass, Shared};
-use std::alloc::{AllocError, Global};
+use ipam_shared::Pass;
+use std::alloc::Global;
 use std::sync::Wait;
-
-/// 1,024 addresses in blocks of 16.
-pub const MANY: &str =
-    r#"{"pools":[{"blockSize":28,"cidr":"10.0.0.0/22","disabled":false,"name":"p"}]}"#;
 
 /// How often a DEL is asked for that is not answered.
 const MOST_TRIES: u32 = 40;
@@ -47,40 +42,13 @@ pub struct Worked {
     /// How many handles could not be deleted, or were not asked for since there was no memory.
     pub lost: u32,
     /// How many turns were taken.
-    pub turns: u64,
-}
-
-/// The handle with this number of those that are asked for in this slot.
-pub fn handle_of(alloc: Global, slot: u8, number: u32) -> Result<String, AllocError> {
-    format!(in alloc; "n.s{slot}x{number}")
+    pub turns: u32,
 }
 
 /// Does the job by the pass.
-pub fn work<R: Wait, D: Keeper>(
-    rt: &R,
-    alloc: Global,
-    shared: &Shared<D>,
-    pass: Pass,
-    job: Job,
-) -> Worked
-    requires { pass.lock ≡ shared.now }
-    ensures { result.pass.lock ≡ shared.now }
-{
-    match job {
-        Job::Grants(count) => ask_all(rt, alloc, shared, pass, count),
-        Job::Turns(count) => take_all(rt, alloc, shared, pass, count),
-    }
-}
-
-fn ask_all<R: Wait, D: Keeper>(
-    rt: &R,
-    alloc: Global,
-    shared: &Shared<D>,
-    pass: Pass,
-    count: u32,
-) -> Worked
-    requires { pass.lock ≡ shared.now }
-    ensures { result.pass.lock ≡ shared.now }
+pub fn work<R: Wait, T: Team>(rt: &R, alloc: Global, team: &T, pass: Pass, job: Job) -> Worked
+    requires { pass.lock ≡ T.id team.now }
+    ensures { result.pass.lock ≡ T.id team.now }
 {
     let mut worked = Worked {
         pass,
@@ -89,57 +57,41 @@ fn ask_all<R: Wait, D: Keeper>(
         lost: 0,
         turns: 0,
     };
-    for number in 0..count {
-        if ask_once(rt, alloc, shared, &mut worked, number).is_none() {
-            worked.lost = worked.lost.wrapping_add(1);
-        }
+    match job {
+        Job::Grants(count) => ask_all(rt, alloc, team, &mut worked, count),
+        Job::Turns(count) => take_all(rt, alloc, team, &mut worked, count),
     }
     worked
 }
 
-fn take_all<R: Wait, D: Keeper>(
-    rt: &R,
-    alloc: Global,
-    shared: &Shared<D>,
-    mut pass: Pass,
-    count: u32,
-) -> Worked
-    requires { pass.lock ≡ shared.now }
-    ensures { result.pass.lock ≡ shared.now }
+fn ask_all<R: Wait, T: Team>(rt: &R, alloc: Global, team: &T, worked: &mut Worked, count: u32)
+    requires { worked.old.pass.lock ≡ T.id team.now }
+    ensures { worked.new.pass.lock ≡ worked.old.pass.lock }
 {
-    let turns = made_turns(rt, alloc, shared, &mut pass, count);
-    finish(rt, alloc, shared, &mut pass);
-    Worked {
-        pass,
-        grants: Vec::new(alloc),
-        failed: 0,
-        lost: 0,
-        turns,
+    for number in 0..count {
+        if !ask(rt, alloc, team, worked, number) {
+            worked.lost = worked.lost.wrapping_add(1);
+        }
     }
 }
 
-/// One handle asks for an address. Each second one gives it back, and so does one that was not given
-/// any, since a part of it may be recorded. None where that was not answered.
-fn ask_once<R: Wait, D: Keeper>(
-    rt: &R,
-    alloc: Global,
-    shared: &Shared<D>,
-    worked: &mut Worked,
-    number: u32,
-) -> Option<()>
-    requires { worked.old.pass.lock ≡ shared.now }
+/// One handle asks for an address. Two slots have one node, so they race for its blocks. Each second one gives it
+/// back, and so does one that was not given any, since a part of it may be recorded. Whether that was answered.
+fn ask<R: Wait, T: Team>(rt: &R, alloc: Global, team: &T, worked: &mut Worked, number: u32) -> bool
+    requires { worked.old.pass.lock ≡ T.id team.now }
     ensures { worked.new.pass.lock ≡ worked.old.pass.lock }
 {
     let slot = worked.pass.slot();
-    let handle = handle_of(alloc, slot, number).ok()?;
-    let found = ask(rt, alloc, shared, &mut worked.pass, handle.as_str());
-    let keeps = number % 2 == 1 && found.is_some();
-    if !keeps && !give_back(rt, alloc, shared, &mut worked.pass, handle.as_str()) {
-        return None;
+    let node = slot / 2;
+    let text = format!(in alloc; r#"{{"add":{{"handle":"n.s{slot}x{number}","node":"w{node}"}}}}"#);
+    let added = asked(rt, alloc, team, &mut worked.pass, text);
+    let keeps = number % 2 == 1 && matches!(added, Turned::Added(_));
+    if !keeps && !is_deleted(rt, alloc, team, &mut worked.pass, number) {
+        return false;
     }
-    let Some(address) = found else {
+    let Turned::Added(address) = added else {
         worked.failed = worked.failed.wrapping_add(1);
-        return Some(());
+        return true;
     };
     let grant = Grant {
         slot,
@@ -147,138 +99,79 @@ fn ask_once<R: Wait, D: Keeper>(
         address,
         is_deleted: !keeps,
     };
-    worked.grants.push(grant).ok()
+    worked.grants.push(grant).is_ok()
 }
 
-/// Asks for an address. Two slots have one node, so they race for its blocks.
-fn ask<R: Wait, D: Keeper>(
+/// Asks for the deletion of the pass's handle with this number until it is answered, and says whether it was.
+fn is_deleted<R: Wait, T: Team>(
     rt: &R,
     alloc: Global,
-    shared: &Shared<D>,
+    team: &T,
     pass: &mut Pass,
-    handle: &str,
-) -> Option<Addr>
-    requires { pass.old.lock ≡ shared.now }
-    ensures { pass.new.lock ≡ pass.old.lock }
-{
-    match requests::add(alloc, pass.slot() / 2, handle) {
-        Some(request) => given(run(rt, alloc, shared, pass, &request)),
-        None => None,
-    }
-}
-
-/// Gives back what the handle holds, and says whether that was answered.
-fn give_back<R: Wait, D: Keeper>(
-    rt: &R,
-    alloc: Global,
-    shared: &Shared<D>,
-    pass: &mut Pass,
-    handle: &str,
+    number: u32,
 ) -> bool
-    requires { pass.old.lock ≡ shared.now }
+    requires { pass.old.lock ≡ T.id team.now }
     ensures { pass.new.lock ≡ pass.old.lock }
 {
-    match requests::del(alloc, handle) {
-        Some(request) => delete(rt, alloc, shared, pass, &request),
-        None => false,
-    }
-}
-
-/// Asks for the deletion until it is answered, and says whether it was.
-fn delete<R: Wait, D: Keeper>(
-    rt: &R,
-    alloc: Global,
-    shared: &Shared<D>,
-    pass: &mut Pass,
-    request: &Request,
-) -> bool
-    requires lock { pass.old.lock ≡ shared.now }
-    requires sound { IsSoundRequest request.now }
-    ensures { pass.new.lock ≡ pass.old.lock }
-{
+    let slot = pass.slot();
     for _ in 0..MOST_TRIES {
-        if matches!(run(rt, alloc, shared, pass, request), Turned::Deleted) {
+        let text = format!(in alloc; r#"{{"del":{{"handle":"n.s{slot}x{number}"}}}}"#);
+        if matches!(asked(rt, alloc, team, pass, text), Turned::Deleted) {
             return true;
         }
     }
     false
 }
 
-/// How many of so many turns were made, by ADDs and DELs of one handle. The last one may still run.
-fn made_turns<R: Wait, D: Keeper>(
-    rt: &R,
-    alloc: Global,
-    shared: &Shared<D>,
-    pass: &mut Pass,
-    turns: u32,
-) -> u64
-    requires { pass.old.lock ≡ shared.now }
-    ensures { pass.new.lock ≡ pass.old.lock }
+/// Takes so many turns by ADDs and DELs of one handle, and then those of the last one.
+fn take_all<R: Wait, T: Team>(rt: &R, alloc: Global, team: &T, worked: &mut Worked, turns: u32)
+    requires { worked.old.pass.lock ≡ T.id team.now }
+    ensures { worked.new.pass.lock ≡ worked.old.pass.lock }
 {
-    let slot = pass.slot();
-    let Ok(handle) = handle_of(alloc, slot, 0) else {
-        return 0;
+    let Some((add, del)) = requests::add_and_del(alloc, worked.pass.slot()) else {
+        return;
     };
-    match requests::add_and_del(alloc, slot, handle.as_str()) {
-        Some((add, del)) => take(rt, alloc, shared, pass, &add, &del, turns),
-        None => 0,
-    }
-}
-
-fn take<R: Wait, D: Keeper>(
-    rt: &R,
-    alloc: Global,
-    shared: &Shared<D>,
-    pass: &mut Pass,
-    add: &Request,
-    del: &Request,
-    turns: u32,
-) -> u64
-    requires lock { pass.old.lock ≡ shared.now }
-    requires add { IsSoundRequest add.now }
-    requires del { IsSoundRequest del.now }
-    ensures { pass.new.lock ≡ pass.old.lock }
-{
-    let mut made = 0u64;
     let mut adds = true;
     for _ in 0..turns {
-        let is_idle = !pass.running();
-        made = made.wrapping_add(u64::from(go_on(rt, alloc, shared, pass, add, del, adds)));
+        let is_idle = !worked.pass.running();
+        if goes_on(rt, alloc, team, &mut worked.pass, &add, &del, adds) {
+            worked.turns = worked.turns.wrapping_add(1);
+        }
         adds = adds != is_idle;
     }
-    made
+    finished(rt, alloc, team, &mut worked.pass);
 }
 
 /// Takes the next turn of what runs in the pass's slot, or begins one of the two requests where nothing
 /// does, and says whether it could.
-fn go_on<R: Wait, D: Keeper>(
+fn goes_on<R: Wait, T: Team>(
     rt: &R,
     alloc: Global,
-    shared: &Shared<D>,
+    team: &T,
     pass: &mut Pass,
     add: &Request,
     del: &Request,
     adds: bool,
 ) -> bool
-    requires lock { pass.old.lock ≡ shared.now }
+    requires lock { pass.old.lock ≡ T.id team.now }
     requires add { IsSoundRequest add.now }
     requires del { IsSoundRequest del.now }
     ensures { pass.new.lock ≡ pass.old.lock }
 {
     if pass.running() {
-        !matches!(turn(rt, alloc, shared, pass), Turned::Nothing)
+        !matches!(team.turned(rt, alloc, pass), Turned::Nothing)
     } else if adds {
-        begin(rt, alloc, shared, pass, add)
+        team.begins(rt, alloc, pass, add)
     } else {
-        begin(rt, alloc, shared, pass, del)
+        team.begins(rt, alloc, pass, del)
     }
 }
 
 /// What both did. The other's pass is joined, where nothing runs in its slot.
-pub fn both<D: Keeper>(shared: &Shared<D>, mut worked: Worked, other: Worked) -> Worked
-    requires worked { worked.pass.lock ≡ shared.now }
-    requires other { other.pass.lock ≡ shared.now }
-    ensures { result.pass.lock ≡ shared.now }
+pub fn both<T: Team>(team: &T, mut worked: Worked, other: Worked) -> Worked
+    requires worked { worked.pass.lock ≡ T.id team.now }
+    requires other { other.pass.lock ≡ T.id team.now }
+    ensures { result.pass.lock ≡ T.id team.now }
 {
     let Worked {
         pass,
@@ -287,9 +180,7 @@ pub fn both<D: Keeper>(shared: &Shared<D>, mut worked: Worked, other: Worked) ->
         lost,
         turns,
     } = other;
-    if !pass.running() {
-        shared.join(&mut worked.pass, pass);
-    }
+    team.take_back(&mut worked.pass, pass);
     worked.failed = worked.failed.wrapping_add(failed);
     worked.lost = worked.lost.wrapping_add(lost);
     worked.turns = worked.turns.wrapping_add(turns);

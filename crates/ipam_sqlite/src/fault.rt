@@ -5,7 +5,7 @@ use std::{fmt, io};
 
 /// Why a keeper over a file failed. It is displayed as a plain sentence without the file's name, for
 /// the person who runs the program; no contract speaks of it.
-#[derive(Clone, Copy, Debug, PartialEq, Eq)]
+#[derive(Clone, Copy)]
 pub enum StorageFault {
     /// Another process, or another keeper of this one, has the file open.
     HeldByAnother,
@@ -75,7 +75,7 @@ impl fmt::Display for StorageFault {
 }
 
 /// Why a step of a keeper did not end well.
-#[derive(Clone, Copy, PartialEq, Eq)]
+#[derive(Clone, Copy)]
 pub(crate) enum Trouble {
     Memory,
     Fault(StorageFault),
@@ -84,12 +84,6 @@ pub(crate) enum Trouble {
 impl From<AllocError> for Trouble {
     fn from(_: AllocError) -> Trouble {
         Trouble::Memory
-    }
-}
-
-impl From<StorageFault> for Trouble {
-    fn from(fault: StorageFault) -> Trouble {
-        Trouble::Fault(fault)
     }
 }
 

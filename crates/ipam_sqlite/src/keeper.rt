@@ -7,7 +7,7 @@ ghost use Rattle.ipam_sqlite.specs.Known.{faults_of, unopened, IsOut};
 ghost use Rattle.ipam_sqlite.specs.Answers.{answer_of};
 
 use crate::fault::{StorageFault, Trouble};
-use crate::opened::{Opened, Syncs};
+use crate::opened::{Ask, Opened};
 use crate::opening::{Aim, open_database};
 use crate::tally::Tally;
 use ipam_keeper::{KeepFault, Keeper, Row};
@@ -32,7 +32,7 @@ impl<S: Alter + Drop> Drop for SqliteKeeper<S> {
     fn drop(self) {
         let SqliteKeeper {
             opened: _,
-            tally: _,
+            tally: Tally { faults: _, why: _ },
             alloc: _,
         } = self;
     }
@@ -47,14 +47,17 @@ impl SqliteKeeper<FileStore<File>> {
     pub fn open(rt: &HostRuntime, path: &str) -> SqliteKeeper<FileStore<File>>
         ensures { faults_of result ≡ 0 }
     {
-        let opened = match open_database(rt, path, Aim::Keep, Syncs::AtSettle) {
+        let opened = match open_database(rt, path, Aim::KeepAtSettle) {
             Ok(Some(opened)) => Ok(opened),
             Ok(None) => Err(Trouble::Fault(StorageFault::NoFile)),
             Err(trouble) => Err(trouble),
         };
         SqliteKeeper {
             opened,
-            tally: Tally::new(),
+            tally: Tally {
+                faults: 0,
+                why: None,
+            },
             alloc: rt.alloc(),
         }
     }
@@ -71,33 +74,30 @@ impl<S: Alter> SqliteKeeper<S> {
 }
 
 impl<S: Alter + Drop> SqliteKeeper<S> {
-    /// Counts the answer of a load or a change. Where the files are gone, or changes that it took are, the
-    /// files are let go, and no later call does anything.
-    fn answered<T>(&mut self, answer: Result<T, Trouble>) -> Result<T, KeepFault>
-        ensures answer { result ≡ answer_of answer }
+    /// What the file answers. A failure is counted. Where the files are gone, or changes that they took are,
+    /// they are let go, and no later call does anything.
+    fn asked(&mut self, ask: Ask<'_>) -> Result<Vec<Row>, KeepFault>
+        ensures ascending { IfOk result (λ loaded. Ascend loaded.items) }
+        ensures unopened { IfSome (unopened self.old) (λ fault. result ≡ Err fault) }
         ensures out { IsOut self.old → IsOut self.new }
         ensures fault { OnFailed result (faults_of self.new ≡ next_count (faults_of self.old)) }
         ensures no_fault { UnlessFailed result (faults_of self.new ≡ faults_of self.old) }
         ensures never_falls { faults_of self.old ≤ faults_of self.new }
     {
+        let answer = match &mut self.opened {
+            Ok(opened) => opened.answer(self.alloc, ask),
+            Err(trouble) => Err(*trouble),
+        };
         if let Err(Trouble::Fault(fault)) = &answer {
-            self.let_go_if_lost(*fault);
+            let is_lost = match &self.opened {
+                Ok(opened) => matches!(*fault, StorageFault::FileGone) || opened.has_lost(),
+                Err(_) => false,
+            };
+            if is_lost {
+                self.opened = Err(Trouble::Fault(*fault));
+            }
         }
         self.tally.counted(answer)
-    }
-
-    /// Lets the files go where a call that failed for this cause found them gone, or took back changes.
-    fn let_go_if_lost(&mut self, fault: StorageFault)
-        ensures out { IsOut self.old → IsOut self.new }
-        ensures tally { self.new.tally ≡ self.old.tally }
-    {
-        let is_lost = match &self.opened {
-            Ok(opened) => fault == StorageFault::FileGone || opened.has_lost(),
-            Err(_) => false,
-        };
-        if is_lost {
-            self.opened = Err(Trouble::Fault(fault));
-        }
     }
 }
 
@@ -122,11 +122,7 @@ impl<S: Alter + Drop> Keeper for SqliteKeeper<S> {
         ensures no_fault { UnlessFailed result (faults_of self.new ≡ faults_of self.old) }
         ensures never_falls { faults_of self.old ≤ faults_of self.new }
     {
-        let answer = match &mut self.opened {
-            Ok(opened) => opened.rows(self.alloc),
-            Err(trouble) => Err(*trouble),
-        };
-        self.answered(answer)
+        self.asked(Ask::Load)
     }
 
     fn put(&mut self, key: &str, revision: u64, body: &str) -> Result<(), KeepFault>
@@ -136,11 +132,10 @@ impl<S: Alter + Drop> Keeper for SqliteKeeper<S> {
         ensures no_fault { UnlessFailed result (faults_of self.new ≡ faults_of self.old) }
         ensures never_falls { faults_of self.old ≤ faults_of self.new }
     {
-        let answer = match &mut self.opened {
-            Ok(opened) => opened.put(key, revision, body),
-            Err(trouble) => Err(*trouble),
-        };
-        self.answered(answer)
+        match self.asked(Ask::Put(key, revision, body)) {
+            Ok(_) => Ok(()),
+            Err(fault) => Err(fault),
+        }
     }
 
     fn remove(&mut self, key: &str) -> Result<(), KeepFault>
@@ -150,11 +145,10 @@ impl<S: Alter + Drop> Keeper for SqliteKeeper<S> {
         ensures no_fault { UnlessFailed result (faults_of self.new ≡ faults_of self.old) }
         ensures never_falls { faults_of self.old ≤ faults_of self.new }
     {
-        let answer = match &mut self.opened {
-            Ok(opened) => opened.remove(key),
-            Err(trouble) => Err(*trouble),
-        };
-        self.answered(answer)
+        match self.asked(Ask::Remove(key)) {
+            Ok(_) => Ok(()),
+            Err(fault) => Err(fault),
+        }
     }
 
     fn settle(&mut self) -> Result<(), KeepFault>

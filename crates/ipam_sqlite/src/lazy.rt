@@ -6,8 +6,8 @@ ghost use Rattle.ipam_keeper.specs.Keeping.{OnFailed, OnMemory, UnlessFailed, St
 ghost use Rattle.ipam_sqlite.specs.Refused.{IsRefused, AnswersRefused};
 
 use crate::fault::{StorageFault, Trouble};
-use crate::opened::{Ask, Opened, Syncs};
-use crate::opening::{Aim, fold, open_database};
+use crate::opened::{Ask, Opened};
+use crate::opening::{Aim, open_database};
 use crate::tally::Tally;
 use ipam_keeper::{KeepFault, Keeper, Row};
 use ipam_text::Text;
@@ -18,7 +18,7 @@ use std::mem;
 /// Whether a file is open. It is let go by `fold` alone.
 ///
 /// The proof of a function that calls one written for any store goes through the whole store of files, and takes
-/// half a minute. Here only `fold` and `FileKeeper::answer` do.
+/// half a minute. Only `FileKeeper::answer`, `Opened::fold` and `open_database` do.
 enum State {
     Closed,
     Open(Opened<FileStore<File>>),
@@ -31,10 +31,7 @@ impl State {
     /// by now, the log is left as it is, for whoever finds the file.
     fn fold(self) -> Result<(), Trouble> {
         match self {
-            State::Open(opened) => match opened.into_own() {
-                Some(conn) => fold(conn),
-                None => Err(Trouble::Fault(StorageFault::FileGone)),
-            },
+            State::Open(opened) => opened.fold(),
             State::Closed | State::Refused(_) => Ok(()),
         }
     }
@@ -62,7 +59,7 @@ impl Drop for FileKeeper {
             path: _,
             aim: _,
             state,
-            tally: _,
+            tally: Tally { faults: _, why: _ },
         } = self;
         let _ = state.fold();
     }
@@ -74,7 +71,16 @@ impl FileKeeper {
     pub fn new(rt: &HostRuntime, path: &str) -> FileKeeper
         ensures { result.tally.faults ≡ 0 }
     {
-        FileKeeper::closed(rt, path, Aim::Keep)
+        FileKeeper {
+            rt: *rt,
+            path: Text::copied(rt.alloc(), path).ok(),
+            aim: Aim::KeepAtOnce,
+            state: State::Closed,
+            tally: Tally {
+                faults: 0,
+                why: None,
+            },
+        }
     }
 
     /// A keeper for a caller that only looks: a file that is not there is read as no rows, and is not
@@ -82,19 +88,9 @@ impl FileKeeper {
     pub fn reader(rt: &HostRuntime, path: &str) -> FileKeeper
         ensures { result.tally.faults ≡ 0 }
     {
-        FileKeeper::closed(rt, path, Aim::Look)
-    }
-
-    fn closed(rt: &HostRuntime, path: &str, aim: Aim) -> FileKeeper
-        ensures { result.tally.faults ≡ 0 }
-    {
-        FileKeeper {
-            rt: *rt,
-            path: Text::copied(rt.alloc(), path).ok(),
-            aim,
-            state: State::Closed,
-            tally: Tally::new(),
-        }
+        let mut keeper = FileKeeper::new(rt, path);
+        keeper.aim = Aim::Look;
+        keeper
     }
 
     /// Why the last call that failed did so. No contract speaks of it.
@@ -124,8 +120,12 @@ impl FileKeeper {
             State::Refused(fault) => return Err(Trouble::Fault(*fault)),
             State::Closed => {}
         }
-        match self.opened() {
-            Ok(state) => self.turn(state),
+        let Some(path) = &self.path else {
+            return Err(Trouble::Memory);
+        };
+        match open_database(&self.rt, path.as_str(), self.aim) {
+            Ok(Some(opened)) => self.turn(State::Open(opened)),
+            Ok(None) => Ok(()),
             Err(Trouble::Memory) => Err(Trouble::Memory),
             Err(Trouble::Fault(fault)) => {
                 let _ = self.turn(State::Refused(fault));
@@ -140,16 +140,6 @@ impl FileKeeper {
         ensures tally { self.new.tally ≡ self.old.tally }
     {
         mem::replace(&mut self.state, state).fold()
-    }
-
-    fn opened(&self) -> Result<State, Trouble> {
-        let Some(path) = &self.path else {
-            return Err(Trouble::Memory);
-        };
-        match open_database(&self.rt, path.as_str(), self.aim, Syncs::AtOnce)? {
-            Some(opened) => Ok(State::Open(opened)),
-            None => Ok(State::Closed),
-        }
     }
 
     /// What the file answers, once it is open. Where a reader found none, there are no rows, and no change is
@@ -178,7 +168,7 @@ impl FileKeeper {
             Ok(_) => Ok(()),
             Err(trouble) => Err(trouble),
         };
-        if answer == Err(Trouble::Fault(StorageFault::FileGone)) {
+        if let Err(Trouble::Fault(StorageFault::FileGone)) = answer {
             let _ = self.turn(State::Refused(StorageFault::FileGone));
         }
         self.tally.counted(answer)

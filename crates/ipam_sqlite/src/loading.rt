@@ -6,7 +6,7 @@ ghost use Rattle.ipam_sqlite.specs.Order.{IsAboveAll};
 use crate::fault::{StorageFault, Trouble};
 use ipam_keeper::Row;
 use ipam_text::Text;
-use sqlite::{Alter, Connection, Error, Rows};
+use sqlite::{Alter, Connection, Rows};
 use std::alloc::Global;
 
 const LOAD: &str = "SELECT key, revision, body FROM rows ORDER BY key";
@@ -35,24 +35,15 @@ pub(crate) fn load_rows<S: Alter>(
 }
 
 fn next_row<S: Alter>(rows: &mut Rows<'_, S>) -> Result<Option<Row>, Trouble> {
-    if let Err(error) = rows.advance() {
-        return Err(Trouble::from(error));
-    }
+    rows.advance()?;
     let Some(row) = rows.get() else {
         return Ok(None);
     };
-    match read_row(row) {
-        Ok(row) => Ok(Some(row)),
-        Err(error) => Err(Trouble::from(error)),
-    }
-}
-
-fn read_row(row: &sqlite::Row) -> Result<Row, Error> {
-    Ok(Row {
+    Ok(Some(Row {
         key: Text::of(row.get(0)?),
         revision: row.get(1)?,
         body: Text::of(row.get(2)?),
-    })
+    }))
 }
 
 fn push_row(rows: &mut Vec<Row>, row: Row) -> Result<(), Trouble>

@@ -5,9 +5,10 @@ ghost use Rattle.ipam_keeper.specs.Rows.{Ascend};
 use crate::fault::{StorageFault, Trouble};
 use crate::loading::load_rows;
 use crate::names::Watch;
+use crate::opening::{Aim, fold};
 use ipam_keeper::Row;
 use sqlite::types::ValueRef;
-use sqlite::{Alter, Connection, params};
+use sqlite::{Alter, Connection, File, FileStore, params};
 use std::alloc::Global;
 
 const PUT: &str =
@@ -19,16 +20,6 @@ const BEGIN: &str = "BEGIN";
 const COMMIT: &str = "COMMIT";
 
 const REMOVE: &str = "DELETE FROM rows WHERE key = ?1";
-
-/// When changes are put on the disk.
-#[derive(Clone, Copy)]
-pub(crate) enum Syncs {
-    /// Each change is on the disk before its call answers.
-    AtOnce,
-    /// A settling puts all changes since the last one on the disk, at once and whole. Before it a crash, a
-    /// kill or a drop takes back all of them.
-    AtSettle,
-}
 
 /// What a database is asked.
 #[derive(Clone, Copy)]
@@ -43,11 +34,11 @@ pub(crate) enum Ask<'a> {
 
 /// A database that is open, and the names of its files.
 pub(crate) struct Opened<S: Alter> {
-    conn: Connection<S>,
-    watch: Watch,
-    syncs: Syncs,
+    pub(crate) conn: Connection<S>,
+    pub(crate) watch: Watch,
+    pub(crate) aim: Aim,
     /// Whether it took changes since the last settling.
-    has_unsettled: bool,
+    pub(crate) has_unsettled: bool,
 }
 
 impl<S: Alter + Drop> Drop for Opened<S> {
@@ -55,71 +46,51 @@ impl<S: Alter + Drop> Drop for Opened<S> {
         let Opened {
             conn: _,
             watch: _,
-            syncs: _,
+            aim: _,
             has_unsettled: _,
         } = self;
     }
 }
 
-impl<S: Alter + Drop> Opened<S> {
-    /// The connection alone, where the name of the file still leads to it.
-    pub(crate) fn into_own(self) -> Option<Connection<S>> {
+impl Opened<FileStore<File>> {
+    /// Folds the log into the file and closes both. Where another file has its name by now, the log is left as
+    /// it is, for whoever finds the file.
+    pub(crate) fn fold(self) -> Result<(), Trouble> {
         let Opened {
             conn,
             watch,
-            syncs: _,
+            aim: _,
             has_unsettled: _,
         } = self;
-        if watch.has_file() { Some(conn) } else { None }
+        if watch.has_file() {
+            fold(conn)
+        } else {
+            Err(Trouble::Fault(StorageFault::FileGone))
+        }
     }
 }
 
 impl<S: Alter> Opened<S> {
-    pub(crate) fn over(conn: Connection<S>, watch: Watch, syncs: Syncs) -> Opened<S> {
-        Opened {
-            conn,
-            watch,
-            syncs,
-            has_unsettled: false,
-        }
-    }
-
-    /// Does what is asked, and answers with the rows of a load. A change is answered with none.
+    /// Does what is asked, and answers with the rows of a load: all rows, in order, also those that are not on
+    /// the disk yet. A change is answered with none. A column holds no number from 2^63 on.
     pub(crate) fn answer(&mut self, alloc: Global, ask: Ask<'_>) -> Result<Vec<Row>, Trouble>
         ensures { IfOk result (λ loaded. Ascend loaded.items) }
     {
         let done = match ask {
-            Ask::Load => return self.rows(alloc),
-            Ask::Put(key, revision, body) => self.put(key, revision, body),
-            Ask::Remove(key) => self.remove(key),
+            Ask::Load => match load_rows(&mut self.conn, alloc) {
+                Ok(loaded) => return Ok(loaded),
+                Err(trouble) => Err(self.weighed(trouble)),
+            },
+            Ask::Put(key, revision, body) => match i64::try_from(revision) {
+                Ok(revision) => self.change(PUT, params![key, revision, body]),
+                Err(_) => Err(Trouble::Fault(StorageFault::Refused)),
+            },
+            Ask::Remove(key) => self.change(REMOVE, params![key]),
         };
         match done {
             Ok(()) => Ok(Vec::new(alloc)),
             Err(trouble) => Err(trouble),
         }
-    }
-
-    /// All rows, in order, also those that are not on the disk yet.
-    pub(crate) fn rows(&mut self, alloc: Global) -> Result<Vec<Row>, Trouble>
-        ensures { IfOk result (λ loaded. Ascend loaded.items) }
-    {
-        match load_rows(&mut self.conn, alloc) {
-            Ok(loaded) => Ok(loaded),
-            Err(trouble) => Err(self.weighed(trouble)),
-        }
-    }
-
-    /// Puts in a row. A column holds no number from 2^63 on.
-    pub(crate) fn put(&mut self, key: &str, revision: u64, body: &str) -> Result<(), Trouble> {
-        match i64::try_from(revision) {
-            Ok(revision) => self.change(PUT, params![key, revision, body]),
-            Err(_) => Err(Trouble::Fault(StorageFault::Refused)),
-        }
-    }
-
-    /// Takes out the row of a key, if there is one.
-    pub(crate) fn remove(&mut self, key: &str) -> Result<(), Trouble> {
-        self.change(REMOVE, params![key])
     }
 
     /// Puts all changes on the disk that it took since the last settling. The names of the files are looked
@@ -139,16 +110,12 @@ impl<S: Alter> Opened<S> {
         self.has_unsettled && self.conn.is_autocommit()
     }
 
-    /// Runs a statement that changes a row.
+    /// Runs a statement that changes a row: so that it is on the disk, or in the transaction that stays open
+    /// until the next settling.
     fn change(&mut self, sql: &str, values: &[ValueRef<'_>]) -> Result<(), Trouble> {
-        match self.syncs {
-            Syncs::AtOnce => self.run_watched(sql, values),
-            Syncs::AtSettle => self.take(sql, values),
+        if !matches!(self.aim, Aim::KeepAtSettle) {
+            return self.run_watched(sql, values);
         }
-    }
-
-    /// Runs a statement in the transaction that stays open until the next settling.
-    fn take(&mut self, sql: &str, values: &[ValueRef<'_>]) -> Result<(), Trouble> {
         if self.conn.is_autocommit() {
             self.run(BEGIN, &[])?;
         }
@@ -175,10 +142,9 @@ impl<S: Alter> Opened<S> {
 
     /// The trouble of a statement. Want of memory is told as such only where nothing has changed by it.
     fn weighed(&self, trouble: Trouble) -> Trouble {
-        if trouble == Trouble::Memory && self.has_lost() {
-            Trouble::Fault(StorageFault::NoMemory)
-        } else {
-            trouble
+        match trouble {
+            Trouble::Memory if self.has_lost() => Trouble::Fault(StorageFault::NoMemory),
+            _ => trouble,
         }
     }
 }

@@ -1,8 +1,8 @@
 //! A database file is opened, or made with its table.
 use crate::fault::{StorageFault, Trouble};
 use crate::header::is_as_made;
-use crate::names::{Found, Watch, look, make, why_closed};
-use crate::opened::{Opened, Syncs};
+use crate::names::{FileId, Found, Watch, look, make, why_closed};
+use crate::opened::Opened;
 use sqlite::{Alter, Connection, Error, ErrorCode, File, FileStore, Row};
 
 const MAKE_TABLE: &str =
@@ -13,15 +13,18 @@ const SHAPE: &str = "createtablerows(keytextprimarykey,revisionintegernotnull,bo
 
 const FIND_TABLE: &str = "SELECT type, sql FROM sqlite_schema WHERE name = 'rows' COLLATE NOCASE";
 
-const COUNT_OBJECTS: &str = "SELECT count(*) FROM sqlite_schema";
+const LIST_OBJECTS: &str = "SELECT type FROM sqlite_schema";
 
-/// What a keeper may do with its file.
-#[derive(Clone, Copy, PartialEq, Eq)]
+/// What a keeper may do with its file, and when its changes are put on the disk.
+#[derive(Clone, Copy)]
 pub(crate) enum Aim {
-    /// Read and write it, and make it where it is not there.
-    Keep,
     /// Read it.
     Look,
+    /// Read and write it, and make it where it is not there. Each change is on the disk before its call answers.
+    KeepAtOnce,
+    /// The same, but a settling puts all changes since the last one on the disk, at once and whole. Before it a
+    /// crash, a kill or a drop takes back all of them.
+    KeepAtSettle,
 }
 
 /// Opens the database at the path. None where the aim is to look and there is none yet.
@@ -29,19 +32,18 @@ pub(crate) fn open_database(
     rt: &HostRuntime,
     path: &str,
     aim: Aim,
-    syncs: Syncs,
 ) -> Result<Option<Opened<FileStore<File>>>, Trouble> {
-    let found = look(rt, path)?;
-    if aim == Aim::Look && found.is_nothing() {
+    let Found { file, is_nothing } = look(rt, path)?;
+    if is_nothing && matches!(aim, Aim::Look) {
         return Ok(None);
     }
-    if !found.is_there() {
+    if file.is_none() {
         make(rt, path)?;
     }
     // A log that has the table is folded into the file before any row is kept, and then the file has it. So a
     // file with rows is never taken for a new one, though it is copied without its log.
     for _ in 0..2 {
-        match begin(rt, path, aim, syncs, &found, open_files(rt, path)?)? {
+        match begin(rt, path, aim, file, open_files(rt, path)?)? {
             Begun::Empty => return Ok(None),
             Begun::Made(opened) => return Ok(Some(opened)),
             Begun::InLog(conn) => fold(conn)?,
@@ -53,7 +55,9 @@ pub(crate) fn open_database(
 fn open_files(rt: &HostRuntime, path: &str) -> Result<Connection<FileStore<File>>, Trouble> {
     match Connection::open(rt, path) {
         Ok(conn) => Ok(conn),
-        Err(Error::SqliteFailure(ErrorCode::CannotOpen)) => Err(why_closed(rt, path)),
+        Err(Error::SqliteFailure(ErrorCode::CannotOpen)) => Err(Trouble::Fault(why_closed(
+            rt, path,
+        )?)),
         Err(error) => Err(Trouble::from(error)),
     }
 }
@@ -75,27 +79,36 @@ enum Begun<S: Alter> {
     Made(Opened<S>),
 }
 
-/// Makes the table where the aim is to keep rows.
+/// Makes the table where the aim is to keep rows and there is none.
 fn begin<S: Alter + Drop>(
     rt: &HostRuntime,
     path: &str,
     aim: Aim,
-    syncs: Syncs,
-    found: &Found,
+    file: Option<FileId>,
     mut conn: Connection<S>,
 ) -> Result<Begun<S>, Trouble> {
-    match made_stage(rt, path, aim, &mut conn)? {
-        Stage::New => Ok(Begun::Empty),
+    match stage_of(rt, path, &mut conn)? {
+        Stage::New => match aim {
+            Aim::Look => Ok(Begun::Empty),
+            Aim::KeepAtOnce | Aim::KeepAtSettle => {
+                conn.execute(MAKE_TABLE, &[])?;
+                Ok(Begun::InLog(conn))
+            }
+        },
         Stage::InLog => Ok(Begun::InLog(conn)),
         Stage::Made => {
-            let watch = Watch::over(rt, path, found)?;
-            Ok(Begun::Made(Opened::over(conn, watch, syncs)))
+            let watch = Watch::over(rt, path, file)?;
+            Ok(Begun::Made(Opened {
+                conn,
+                watch,
+                aim,
+                has_unsettled: false,
+            }))
         }
     }
 }
 
 /// How far the making of a database has come.
-#[derive(Clone, Copy, PartialEq, Eq)]
 enum Stage {
     /// There is no table yet.
     New,
@@ -105,53 +118,33 @@ enum Stage {
     Made,
 }
 
-/// How far the making has come, once the table is made where the aim is to keep rows.
-fn made_stage<S: Alter>(
-    rt: &HostRuntime,
-    path: &str,
-    aim: Aim,
-    conn: &mut Connection<S>,
-) -> Result<Stage, Trouble> {
-    let stage = stage_of(rt, path, conn)?;
-    if stage != Stage::New || aim == Aim::Look {
-        return Ok(stage);
-    }
-    match conn.execute(MAKE_TABLE, &[]) {
-        Ok(_) => Ok(Stage::InLog),
-        Err(error) => Err(Trouble::from(error)),
-    }
-}
-
-/// How far the making has come. It is a fault that the table has another shape, and that there is none
-/// though the file had one once, has something else, or was not made here.
+/// How far the making has come. It is a fault that the table has another shape, that something else has its
+/// name, and that there is none though the file had one once, has something else, or was not made here.
 fn stage_of<S: Alter>(
     rt: &HostRuntime,
     path: &str,
     conn: &mut Connection<S>,
 ) -> Result<Stage, Trouble> {
     let is_as_made = is_as_made(rt, path)?;
-    if has_table(conn)? {
+    if let Some(row) = first_row(conn, FIND_TABLE)? {
+        check_shape(&row)?;
         return Ok(if is_as_made {
             Stage::InLog
         } else {
             Stage::Made
         });
     }
-    if !is_as_made || has_objects(conn)? {
-        return Err(Trouble::Fault(StorageFault::NoTable));
+    if is_as_made && first_row(conn, LIST_OBJECTS)?.is_none() {
+        Ok(Stage::New)
+    } else {
+        Err(Trouble::Fault(StorageFault::NoTable))
     }
-    Ok(Stage::New)
 }
 
-/// Whether the table is there. It is a fault that it has another shape, or that something else has
-/// its name.
-fn has_table<S: Alter>(conn: &mut Connection<S>) -> Result<bool, Trouble> {
-    match conn.query_row(FIND_TABLE, &[]) {
-        Ok(row) => {
-            check_shape(&row)?;
-            Ok(true)
-        }
-        Err(Error::QueryReturnedNoRows) => Ok(false),
+fn first_row<S: Alter>(conn: &mut Connection<S>, sql: &str) -> Result<Option<Row>, Trouble> {
+    match conn.query_row(sql, &[]) {
+        Ok(row) => Ok(Some(row)),
+        Err(Error::QueryReturnedNoRows) => Ok(None),
         Err(error) => Err(Trouble::from(error)),
     }
 }
@@ -168,19 +161,16 @@ fn check_shape(row: &Row) -> Result<(), Trouble> {
 
 /// Whether the statement has this spelling, but for blanks and the case of its letters.
 fn is_spelled(statement: &str, spelling: &str) -> bool {
-    let bare = statement
-        .bytes()
-        .filter(|byte| !is_blank(*byte))
-        .map(|byte| byte.to_ascii_lowercase());
-    bare.eq(spelling.bytes())
+    let mut letters = spelling.bytes();
+    for byte in statement.bytes() {
+        if !is_blank(byte) && letters.next() != Some(byte.to_ascii_lowercase()) {
+            return false;
+        }
+    }
+    letters.next().is_none()
 }
 
 /// It has no contract, so that no proof goes through the ranges of blanks.
 fn is_blank(byte: u8) -> bool {
     byte.is_ascii_whitespace()
-}
-
-fn has_objects<S: Alter>(conn: &mut Connection<S>) -> Result<bool, Trouble> {
-    let count: i64 = conn.query_row(COUNT_OBJECTS, &[])?.get(0)?;
-    Ok(count > 0)
 }

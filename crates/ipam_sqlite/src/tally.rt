@@ -8,22 +8,12 @@ use crate::fault::{StorageFault, Trouble};
 use ipam_keeper::KeepFault;
 
 /// How many calls of a keeper failed, and why the last one of them did.
-#[derive(Clone, Copy)]
 pub(crate) struct Tally {
     pub(crate) faults: u64,
     pub(crate) why: Option<StorageFault>,
 }
 
 impl Tally {
-    pub(crate) fn new() -> Tally
-        ensures { result.faults ≡ 0 }
-    {
-        Tally {
-            faults: 0,
-            why: None,
-        }
-    }
-
     /// Counts an answer that is a fault, and keeps why.
     pub(crate) fn counted<T>(&mut self, answer: Result<T, Trouble>) -> Result<T, KeepFault>
         ensures answer { result ≡ answer_of answer }

@@ -4,12 +4,10 @@ ghost use Rattle.ipam_call.specs.Daemon.{address_of};
 ghost use Rattle.ipam_call.specs.Values.{last_value};
 ghost use Rattle.ipam_words.specs.Daemon.{ask_of, daemon_asked};
 
-use crate::telling::{tell_unasked, tell_unreached};
 use crate::viewed::Viewed;
-use ipam_asked::{get, show};
 use ipam_call::{Address, Connector, Connects, Limits, daemon_named};
 use ipam_io::{Link, Sink, StdSink, StdSource};
-use ipam_operator::{apply, release, routes, unreached};
+use ipam_operator::{apply, get, release, routes, show, unreached};
 use ipam_text::Seq;
 use ipam_words::{Command, DaemonAsk, daemon_asked};
 use std::io;
@@ -39,7 +37,9 @@ pub(crate) fn ask(rt: &HostRuntime, asked: &DaemonAsk<'_>) -> u8 {
 
 /// Tells that no daemon is asked these words.
 fn unasked(rt: &HostRuntime) -> u8 {
-    tell_unasked(rt);
+    let _ = eprintln!(rt;
+        "ipam: a daemon is asked apply, get, show, routes NODE, release NODE CIDR, unreserve NAME, audit N and backup FILE; ipam --help tells the words"
+    );
     match StdSink::new(io::writer(rt)).write(b"unknown words\n") {
         Ok(()) => UNKNOWN_WORDS,
         Err(_) => WRITE_FAULT,
@@ -57,7 +57,7 @@ fn ask_at(rt: &HostRuntime, address: &str, command: &Command<'_>) -> u8 {
 
 /// Tells that nobody answers at the address.
 pub(crate) fn unreached_at(rt: &HostRuntime, address: &str) -> u8 {
-    tell_unreached(rt, address);
+    let _ = eprintln!(rt; "ipam: no daemon answers at {address:?}");
     unreached(&mut StdSink::new(io::writer(rt))).code()
 }
 

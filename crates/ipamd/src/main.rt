@@ -1,6 +1,7 @@
 //! The program: its commands over standard input and output, and over a database file, and its daemon.
 #![tactic(auto)]
 
+ghost use Rattle.std.specs.Prelude.{IfSome};
 ghost use Rattle.ipam_words.specs.Upkeep.{IsFit, of_upkeep};
 
 mod asking;
@@ -14,9 +15,10 @@ mod viewed;
 
 use asking::{ask, asked_of};
 use ipam_call::{call, call_variables, daemon_named, database_named};
-use ipam_command::{DONE, NO_MEMORY, WRITE_FAULT};
+use ipam_command::NO_MEMORY;
 use ipam_daemon::Host;
-use ipam_io::{Sink, StdSink, StdSource};
+use ipam_io::{StdSink, StdSource};
+use ipam_operator::End;
 use ipam_text::Seq;
 use ipam_words::{
     Command, Upkeep, UpkeepAsk, help_asked, help_of, help_text, read_words, upkeep_asked,
@@ -31,7 +33,7 @@ use std::process::ExitCode;
 use std::thread::Threads;
 use stored::{Use, run_over};
 use telling::tell_unknown;
-use upkeep::{ask_upkeep, back_up, unreserve};
+use upkeep::{ask_upkeep, say};
 
 fn main(rt: HostRuntime) -> ExitCode {
     match run(&rt, rt) {
@@ -58,7 +60,7 @@ fn run_asked<R: Host + Files + Net<Listener = TcpListener, Stream = TcpStream> +
     entries: &[Seq<u8>],
 ) -> Result<u8, AllocError> {
     if let Some(text) = help_for(rt, words)? {
-        return Ok(write_help(rt, text.as_str()));
+        return Ok(say(rt, text.as_str(), End::Done));
     }
     if let Some(asked) = upkeep_asked(words, daemon_named(entries)) {
         return run_upkeep(rt, &threads, words, entries, &asked);
@@ -81,10 +83,10 @@ fn run_command_of<R: Host + Files + Net<Listener = TcpListener, Stream = TcpStre
             rt, threads, entries, address, workers,
         ),
         Some(Command::Call(address)) => call_at(rt, entries, address),
-        Some(command) => run_stored(rt, &threads, words, entries, use_of(&command)),
+        Some(command) => run_stored(rt, &threads, words, entries, use_of(&command), None),
         None => {
             tell_unknown(rt, words);
-            run_stored(rt, &threads, words, entries, Use::Keep)
+            run_stored(rt, &threads, words, entries, Use::Keep, None)
         }
     }
 }
@@ -108,13 +110,6 @@ fn help_for(rt: &HostRuntime, words: &[String]) -> Result<Option<String>, AllocE
     }
 }
 
-fn write_help(rt: &HostRuntime, text: &str) -> u8 {
-    match StdSink::new(io::writer(rt)).write(text.as_bytes()) {
-        Ok(()) => DONE,
-        Err(_) => WRITE_FAULT,
-    }
-}
-
 /// Asks the daemon, or the database where no daemon is named.
 fn run_upkeep<R: Threads + Sync>(
     rt: &HostRuntime,
@@ -128,17 +123,11 @@ fn run_upkeep<R: Threads + Sync>(
     if let Some(address) = asked.daemon {
         return Ok(ask_upkeep(rt, threads, address, &asked.upkeep));
     }
-    match asked.upkeep {
-        Upkeep::Audit(_) => run_stored(rt, threads, words, entries, Use::Look),
-        Upkeep::Backup(path) => {
-            let database = database_named(rt.alloc(), entries)?;
-            Ok(back_up(rt, &database, path))
-        }
-        Upkeep::Unreserve(name) => {
-            let database = database_named(rt.alloc(), entries)?;
-            Ok(unreserve(rt, &database, name))
-        }
-    }
+    let aim = match asked.upkeep {
+        Upkeep::Unreserve(_) => Use::Keep,
+        Upkeep::Audit(_) | Upkeep::Backup(_) => Use::Look,
+    };
+    run_stored(rt, threads, words, entries, aim, Some(&asked.upkeep))
 }
 
 /// Makes a CNI call of the daemon, over standard input and output.
@@ -149,15 +138,18 @@ fn call_at(rt: &HostRuntime, entries: &[Seq<u8>], address: &str) -> Result<u8, A
     Ok(call(rt, rt.alloc(), address, &variables, &mut source, &mut sink))
 }
 
-/// Runs a command of the database, which is opened once the command asks for its rows.
+/// Runs a command of the database, or its upkeep. It is opened once its rows are asked for.
 fn run_stored<R: Threads + Sync>(
     rt: &HostRuntime,
     threads: &R,
     words: &[String],
     entries: &[Seq<u8>],
     aim: Use,
-) -> Result<u8, AllocError> {
+    upkeep: Option<&Upkeep<'_>>,
+) -> Result<u8, AllocError>
+    requires { IfSome upkeep (λ asked. IsFit (of_upkeep asked.now)) }
+{
     let variables = call_variables(rt.alloc(), entries)?;
     let database = database_named(rt.alloc(), entries)?;
-    Ok(run_over(rt, threads, words, &variables, &database, aim))
+    Ok(run_over(rt, threads, words, &variables, &database, aim, upkeep))
 }

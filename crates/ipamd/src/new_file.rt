@@ -3,9 +3,9 @@ ghost use Rattle.std.specs.Prelude.{◌≡◌, ◌≤◌};
 ghost use Rattle.ipam_io.specs.Counts.{next_count};
 ghost use Rattle.ipam_keeper.specs.Keeping.{OnFailed, UnlessFailed};
 
-use crate::telling::tell_copied;
-use ipam_asked::Target;
+use crate::telling::{EACH_ROWS, tell_progress};
 use ipam_keeper::{KeepFault, Keeper, Row};
+use ipam_operator::Target;
 use ipam_sqlite::{FileKeeper, SqliteKeeper, StorageFault};
 use ipam_text::Text;
 use sqlite::{Alter, File, FileStore};
@@ -117,15 +117,8 @@ fn open_new(rt: &HostRuntime, path: &str) -> Result<(), NotMade> {
         .open(rt, path)
     {
         Ok(_) => Ok(()),
-        Err(error) => Err(why_unopened(error)),
-    }
-}
-
-fn why_unopened(error: io::Error) -> NotMade {
-    if error.kind() == io::ErrorKind::AlreadyExists {
-        NotMade::There
-    } else {
-        NotMade::Failed(error)
+        Err(error) if error.kind() == io::ErrorKind::AlreadyExists => Err(NotMade::There),
+        Err(error) => Err(NotMade::Failed(error)),
     }
 }
 
@@ -133,11 +126,10 @@ fn why_unopened(error: io::Error) -> NotMade {
 fn has_leavings(rt: &HostRuntime, path: &str) -> Result<bool, AllocError> {
     let log = Text::of(format!(in rt.alloc(); "{path}-wal")?);
     let journal = Text::of(format!(in rt.alloc(); "{path}-journal")?);
-    Ok(is_there(rt, log.as_str()) || is_there(rt, journal.as_str()))
-}
-
-fn is_there(rt: &HostRuntime, path: &str) -> bool {
-    fs::symlink_metadata(rt, path).is_ok()
+    Ok(
+        fs::symlink_metadata(rt, log.as_str()).is_ok()
+            || fs::symlink_metadata(rt, journal.as_str()).is_ok(),
+    )
 }
 
 /// Removes the file that was made and its log, as far as that can be done.
@@ -178,7 +170,7 @@ impl<S: Alter + Drop> Keeper for NewFile<S> {
         };
         let answer = keeper.put(key, revision, body);
         self.copied = self.copied.saturating_add(1);
-        tell_copied(&self.rt, self.copied);
+        tell_progress(&self.rt, self.copied, EACH_ROWS, "rows copied");
         self.counted(answer)
     }
 

@@ -2,10 +2,10 @@
 use ipam_text::Seq;
 use ipam_words::words_given;
 use std::alloc::AllocError;
+use std::env;
 use std::env::FillError;
 use std::io::ErrorKind;
 use std::rt::Env;
-use std::{env, io};
 
 /// The bytes that an entry of the environment is first read into.
 const FIRST_ROOM: usize = 256;
@@ -19,7 +19,8 @@ pub(crate) fn words_of(rt: &HostRuntime) -> Result<Vec<String>, AllocError> {
 fn all_words(rt: &HostRuntime) -> Result<Option<Vec<String>>, AllocError> {
     match env::args(rt) {
         Ok(args) => Ok(Some(kept(rt, args)?)),
-        Err(error) => unread(&error),
+        Err(error) if error.kind() == ErrorKind::InvalidData => Ok(None),
+        Err(_) => Err(AllocError),
     }
 }
 
@@ -29,15 +30,6 @@ fn kept(rt: &HostRuntime, args: env::Args) -> Result<Vec<String>, AllocError> {
         words.push(word)?;
     }
     Ok(words)
-}
-
-/// Why the words weren't read: one is no text, or there was no memory.
-fn unread(error: &io::Error) -> Result<Option<Vec<String>>, AllocError> {
-    if error.kind() == ErrorKind::InvalidData {
-        Ok(None)
-    } else {
-        Err(AllocError)
-    }
 }
 
 /// The entries of the environment, in their order.

@@ -21,7 +21,10 @@ pub(crate) fn serve_database<R: Host + Files + Net<Listener = TcpListener, Strea
     workers: u8,
 ) -> Result<u8, AllocError> {
     let served = match database_named(rt.alloc(), entries)? {
-        Database::File(path) => serve_file(rt, threads, path.as_str(), address, workers)?,
+        Database::File(path) => {
+            let opening = new_opening(rt, rt.alloc())?;
+            serve_file(rt, threads, path.as_str(), opening, address, workers)
+        }
         Database::NoPath => {
             tell_no_path(rt);
             Served::KeeperFault
@@ -32,17 +35,6 @@ pub(crate) fn serve_database<R: Host + Files + Net<Listener = TcpListener, Strea
 }
 
 fn serve_file<R: Host + Files + Net<Listener = TcpListener, Stream = TcpStream>>(
-    rt: &HostRuntime,
-    threads: R,
-    path: &str,
-    address: &str,
-    workers: u8,
-) -> Result<Served, AllocError> {
-    let opening = new_opening(rt, rt.alloc())?;
-    Ok(serve_at(rt, threads, path, opening, address, workers))
-}
-
-fn serve_at<R: Host + Files + Net<Listener = TcpListener, Stream = TcpStream>>(
     rt: &HostRuntime,
     threads: R,
     path: &str,

@@ -1,13 +1,18 @@
 //! Commands over the database.
+ghost use Rattle.std.specs.Prelude.{IfSome};
+ghost use Rattle.ipam_words.specs.Upkeep.{IsFit, of_upkeep};
+
 use crate::telling::{tell_missing, tell_no_path, tell_reading, tell_why};
+use crate::upkeep::{Rows, back_up};
 use ipam_audit::run_audit;
 use ipam_call::Database;
 use ipam_command::run_command;
+use ipam_commands::unreserve;
 use ipam_io::{StdSink, StdSource};
 use ipam_keeper::Keeper;
 use ipam_sqlite::FileKeeper;
 use ipam_text::Text;
-use ipam_words::{Command, read_words};
+use ipam_words::{Command, Upkeep, read_words};
 use std::io;
 use std::thread::Threads;
 
@@ -23,8 +28,8 @@ pub(crate) enum Use {
     Look,
 }
 
-/// Runs the command over the database, which is opened once the command asks for its rows. `threads` is the
-/// runtime too: what makes threads.
+/// Runs the command over the database, or its upkeep. The database is opened once its rows are asked for.
+/// `threads` is the runtime too: what makes threads.
 pub(crate) fn run_over<R: Threads + Sync>(
     rt: &HostRuntime,
     threads: &R,
@@ -32,21 +37,21 @@ pub(crate) fn run_over<R: Threads + Sync>(
     variables: &[(Text, Text)],
     database: &Database,
     aim: Use,
-) -> u8 {
-    if reads_rows(words) {
+    upkeep: Option<&Upkeep<'_>>,
+) -> u8
+    requires { IfSome upkeep (λ asked. IsFit (of_upkeep asked.now)) }
+{
+    if upkeep.is_some() || reads_rows(words) {
         tell_reading(rt, path_of(database));
     }
     let mut keeper = keeper_of(rt, database, aim);
-    let status = run_kept(rt, threads, words, variables, &mut keeper);
-    match database {
-        Database::File(path) => tell_end(rt, path.as_str(), aim, &keeper),
-        Database::NoPath => tell_pathless_end(rt, &keeper),
-    }
+    let status = run_kept(rt, threads, words, variables, upkeep, &mut keeper);
+    tell_end(rt, database, aim, &keeper);
     status
 }
 
 /// The path of the database's file.
-pub(crate) fn path_of(database: &Database) -> &str {
+fn path_of(database: &Database) -> &str {
     match database {
         Database::File(path) => path.as_str(),
         Database::NoPath => NO_PATH,
@@ -62,18 +67,12 @@ fn keeper_of(rt: &HostRuntime, database: &Database, aim: Use) -> FileKeeper {
 }
 
 /// Tells why the keeper failed, if it did, or that a command looked at a file that is not there.
-fn tell_end(rt: &HostRuntime, path: &str, aim: Use, keeper: &FileKeeper) {
-    match (keeper.why(), aim) {
-        (Some(why), _) => tell_why(rt, path, why),
-        (None, Use::Look) => tell_missing(rt, path),
-        (None, Use::Keep) => {}
-    }
-}
-
-/// Tells that there is no path, where the command asked for the rows.
-fn tell_pathless_end(rt: &HostRuntime, keeper: &FileKeeper) {
-    if keeper.why().is_some() {
-        tell_no_path(rt);
+fn tell_end(rt: &HostRuntime, database: &Database, aim: Use, keeper: &FileKeeper) {
+    match (database, keeper.why(), aim) {
+        (Database::File(path), Some(why), _) => tell_why(rt, path.as_str(), why),
+        (Database::File(path), None, Use::Look) => tell_missing(rt, path.as_str()),
+        (Database::NoPath, Some(_), _) => tell_no_path(rt),
+        _ => {}
     }
 }
 
@@ -87,23 +86,36 @@ fn reads_rows(words: &[String]) -> bool {
 
 /// Runs the command over standard input and output and the keeper. Which keeper it is stays open here, since each
 /// call of code for any keeper with that of files is dear to prove.
-fn run_kept<R: Threads + Sync, D: Keeper>(
+fn run_kept<R: Threads + Sync, D: Keeper + Rows>(
     rt: &HostRuntime,
     threads: &R,
     words: &[String],
     variables: &[(Text, Text)],
+    upkeep: Option<&Upkeep<'_>>,
     keeper: &mut D,
-) -> u8 {
-    if is_audit(words) {
-        let mut sink = StdSink::new(io::writer(rt));
-        run_audit(threads, rt.alloc(), words, &mut sink, keeper)
-    } else {
-        run_words(rt, words, variables, keeper)
+) -> u8
+    requires { IfSome upkeep (λ asked. IsFit (of_upkeep asked.now)) }
+{
+    match upkeep {
+        Some(Upkeep::Unreserve(name)) => {
+            let mut sink = StdSink::new(io::writer(rt));
+            unreserve(rt.alloc(), &mut sink, keeper, name).code()
+        }
+        Some(Upkeep::Backup(path)) => back_up(rt, path, keeper),
+        Some(Upkeep::Audit(_)) => run_workers(rt, threads, words, keeper),
+        None => run_words(rt, words, variables, keeper),
     }
 }
 
-fn is_audit(words: &[String]) -> bool {
-    matches!(read_words(words), Some(Command::Audit(_)))
+/// Runs the audit that the words name.
+fn run_workers<R: Threads + Sync, D: Keeper>(
+    rt: &HostRuntime,
+    threads: &R,
+    words: &[String],
+    keeper: &mut D,
+) -> u8 {
+    let mut sink = StdSink::new(io::writer(rt));
+    run_audit(threads, rt.alloc(), words, &mut sink, keeper)
 }
 
 /// Runs a command that needs no threads.

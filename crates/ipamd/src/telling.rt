@@ -8,10 +8,10 @@ use std::io::{self, IsTerminal};
 const LARGE: u64 = 16 * 1024 * 1024;
 
 /// How many requests to a daemon there are from one line to the next. Each asks for a resource or a page of rows.
-const EACH_REQUESTS: u64 = 100;
+pub(crate) const EACH_REQUESTS: u64 = 100;
 
 /// How many rows of a backup there are from one line to the next.
-const EACH_ROWS: u64 = 10_000;
+pub(crate) const EACH_ROWS: u64 = 10_000;
 
 /// The words that begin a command.
 const FIRST_WORDS: &str =
@@ -19,12 +19,10 @@ const FIRST_WORDS: &str =
 
 /// Tells which of the words is wrong: the first, or those that follow one that begins a command.
 pub(crate) fn tell_unknown(rt: &HostRuntime, words: &[String]) {
-    if let [first, rest @ ..] = words {
-        tell_unknown_after(rt, first.as_str(), rest);
-    }
-}
-
-fn tell_unknown_after(rt: &HostRuntime, first: &str, rest: &[String]) {
+    let [first, rest @ ..] = words else {
+        return;
+    };
+    let first = first.as_str();
     if first == "\u{fffd}" {
         let _ = eprintln!(rt; "ipam: a word is no UTF-8; ipam --help tells the words");
     } else if begins_command(first) {
@@ -51,49 +49,30 @@ fn begins_command(word: &str) -> bool {
 
 /// Tells a person at a terminal that the rows of a large database are being read.
 pub(crate) fn tell_reading(rt: &HostRuntime, path: &str) {
-    if rt.stderr().is_terminal() && is_large(rt, path) {
-        let _ = eprintln!(rt; "ipam: {path}: reading its rows");
+    if !rt.stderr().is_terminal() {
+        return;
+    }
+    match fs::metadata(rt, path) {
+        Ok(found) if found.len() >= LARGE => {
+            let _ = eprintln!(rt; "ipam: {path}: reading its rows");
+        }
+        _ => {}
     }
 }
 
 /// Tells that the file of a command that only looks is not there, which is read as no rows.
 pub(crate) fn tell_missing(rt: &HostRuntime, path: &str) {
-    if is_missing(rt, path) {
-        let _ = eprintln!(rt; "ipam: {path}: there is no such file, so there are no rows");
-    }
-}
-
-fn is_missing(rt: &HostRuntime, path: &str) -> bool {
     match fs::metadata(rt, path) {
-        Ok(_) => false,
-        Err(error) => error.kind() == io::ErrorKind::NotFound,
+        Err(error) if error.kind() == io::ErrorKind::NotFound => {
+            let _ = eprintln!(rt; "ipam: {path}: there is no such file, so there are no rows");
+        }
+        _ => {}
     }
 }
 
-fn is_large(rt: &HostRuntime, path: &str) -> bool {
-    match fs::metadata(rt, path) {
-        Ok(found) => found.len() >= LARGE,
-        Err(_) => false,
-    }
-}
-
-/// Tells how many requests a daemon was sent, where a line is due.
-pub(crate) fn tell_sent(rt: &HostRuntime, requests: u64) {
-    if requests % EACH_REQUESTS == 0 {
-        tell_progress(rt, requests, "requests sent");
-    }
-}
-
-/// Tells how many rows the file of a backup was given, where a line is due.
-pub(crate) fn tell_copied(rt: &HostRuntime, rows: u64) {
-    if rows % EACH_ROWS == 0 {
-        tell_progress(rt, rows, "rows copied");
-    }
-}
-
-/// Tells a person at a terminal how far a long work has come.
-fn tell_progress(rt: &HostRuntime, count: u64, what: &str) {
-    if rt.stderr().is_terminal() {
+/// Tells a person at a terminal how far a long work has come, a line from each so many to the next.
+pub(crate) fn tell_progress(rt: &HostRuntime, count: u64, each: u64, what: &str) {
+    if count.checked_rem(each) == Some(0) && rt.stderr().is_terminal() {
         let _ = eprintln!(rt; "ipam: {count} {what}");
     }
 }
@@ -106,28 +85,4 @@ pub(crate) fn tell_why(rt: &HostRuntime, path: &str, why: StorageFault) {
 /// Tells that `IPAM_DB` names no file.
 pub(crate) fn tell_no_path(rt: &HostRuntime) {
     let _ = eprintln!(rt; "ipam: IPAM_DB is empty or no UTF-8, so it names no file");
-}
-
-/// Tells that no daemon is asked these words.
-pub(crate) fn tell_unasked(rt: &HostRuntime) {
-    let _ = eprintln!(rt;
-        "ipam: a daemon is asked apply, get, show, routes NODE, release NODE CIDR, unreserve NAME, audit N and backup FILE; ipam --help tells the words"
-    );
-}
-
-/// Tells that nobody answers at the address.
-pub(crate) fn tell_unreached(rt: &HostRuntime, address: &str) {
-    let _ = eprintln!(rt; "ipam: no daemon answers at {address:?}");
-}
-
-/// Tells that a backup makes a new file.
-pub(crate) fn tell_there(rt: &HostRuntime, path: &str) {
-    let _ = eprintln!(rt;
-        "ipam: {path}: a backup makes a new file, and this one or its log is there"
-    );
-}
-
-/// Tells why the file of a backup was not made.
-pub(crate) fn tell_unmade(rt: &HostRuntime, path: &str, error: &io::Error) {
-    let _ = eprintln!(rt; "ipam: {path}: the file of the backup is not made: {error}");
 }

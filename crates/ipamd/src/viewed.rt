@@ -1,7 +1,7 @@
 //! A link whose requests are counted for a person at a terminal.
 ghost use Rattle.std.specs.Prelude.{◌≡◌};
 
-use crate::telling::tell_sent;
+use crate::telling::{EACH_REQUESTS, tell_progress};
 use ipam_io::{Failed, Link, Sink, Source};
 
 /// A link over which each write asks for one thing. It does what the link does, and tells how many it sent.
@@ -28,7 +28,7 @@ impl<L: Link> Viewed<L> {
         ensures { self.new.link ≡ self.old.link }
     {
         self.sent = self.sent.saturating_add(1);
-        tell_sent(&self.rt, self.sent);
+        tell_progress(&self.rt, self.sent, EACH_REQUESTS, "requests sent");
     }
 }
 

@@ -8,4 +8,4 @@ mod writers;
 
 pub use book::{Book, Note, Write};
 pub use cases::answered;
-pub use writers::{Pass, spread, write, write_all, written};
+pub use writers::{Pass, spread, write, write_all};

@@ -1,11 +1,11 @@
 // Threads that write into one book.
-ghost use Rattle.std.specs.Prelude.{◌≡◌, ◌+◌, ◌-◌, ◌++◌, IfOk, IfErr, IfSome};
+ghost use Rattle.std.specs.Prelude.{◌≡◌, ◌+◌, ◌-◌, ◌++◌, IfSome};
 ghost use denote.Param.Send.{IsSync};
 ghost use Rattle.turn_lock.specs.Histories.{Grew};
 ghost use Rattle.turn_lock_tests.specs.Written.{Wrote};
 
 use crate::book::{Book, Note, Write};
-use std::alloc::{AllocError, Global};
+use std::alloc::Global;
 use std::sync::Wait;
 use std::thread::{Threads, join};
 use turn_lock::{TurnLock, Turns};
@@ -26,11 +26,9 @@ pub fn write<R: Wait>(rt: &R, lock: &TurnLock<Book>, pass: &mut Pass, note: Note
     }
 }
 
-fn note(alloc: Global, by: u8, place: u64) -> Result<Note, AllocError>
-    ensures { IfOk result (λ note. note.by ≡ by) }
-{
-    let text = format!(in alloc; "{by}:{place}")?;
-    Ok(Note { by, place, text })
+/// The number that the text of a note has.
+pub(crate) fn number_of(by: u8, place: u64) -> u64 {
+    place.wrapping_mul(256).wrapping_add(u64::from(by))
 }
 
 /// Writes so many notes. It stops early where there is no memory.
@@ -46,10 +44,10 @@ pub fn write_all<R: Wait>(
 {
     let by = pass.number();
     for place in 0..count {
-        let Ok(next) = note(alloc, by, place) else {
+        let Ok(text) = format!(in alloc; "{}", number_of(by, place)) else {
             break;
         };
-        if write(rt, lock, &mut pass, next) != Some(true) {
+        if write(rt, lock, &mut pass, Note { by, place, text }) != Some(true) {
             break;
         }
     }
@@ -89,22 +87,4 @@ pub fn spread<R: Threads + Wait + Sync>(
     );
     lock.join(&mut into, other);
     into
-}
-
-/// A book with this counter that `others` threads wrote beside this one. There is none where the memory did not
-/// last.
-pub fn written<R: Threads + Wait + Sync>(
-    rt: &R,
-    alloc: Global,
-    first: u64,
-    others: u32,
-    count: u64,
-) -> Option<Book> {
-    let (lock, pass) = TurnLock::new(alloc, Book::new(alloc, first)).ok()?;
-    let pass = spread(rt, alloc, &lock, pass, others, count);
-    if pass.is_last() {
-        Some(lock.close(pass))
-    } else {
-        None
-    }
 }

@@ -12,10 +12,6 @@ pub returns-in_ok-gc_asked-in-Gc : goal.returns-in_ok-gc_asked-in-Gc
 returns-in_ok-gc_asked-in-Gc c =
     ap look.Gc c.in_ok-gc_asked-in-Gc.ensures ∙ ap (λ command. asked command c.args.version c.args.env.now (view c.args.json.now)) (sym c.in-Gc.is)
 
-pub returns-in_ok-del_asked-in-Del : goal.returns-in_ok-del_asked-in-Del
-returns-in_ok-del_asked-in-Del c =
-    ap look.Del c.in_ok-del_asked-in-Del.ensures ∙ ap (λ command. asked command c.args.version c.args.env.now (view c.args.json.now)) (sym c.in-Del.is)
-
 pub returns-in_ok-check_asked-in-Check : goal.returns-in_ok-check_asked-in-Check
 returns-in_ok-check_asked-in-Check c =
     ap look.Check c.in_ok-check_asked-in-Check.ensures ∙ ap (λ command. asked command c.args.version c.args.env.now (view c.args.json.now)) (sym c.in-Check.is)

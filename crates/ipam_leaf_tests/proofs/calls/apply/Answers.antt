@@ -11,6 +11,6 @@ apply-requires-clause-granted c =
 
 pub apply-requires-clause-sound : goal.apply-requires-clause-sound
 apply-requires-clause-sound c =
-    let counted : IsTrue c.is_counted_write.result = search rules in
+    let counted : IsTrue c.is_counted.result = search rules in
     IsSoundWrite-asked c.args.call c.in-Some.revision c.in-Some-into_write.write c.requires
-    (sym c.into_write.ensures ∙ c.in-Some-into_write.is) (c.is_counted_write.ensures counted)
+    (sym c.into_write.ensures ∙ c.in-Some-into_write.is) (c.is_counted.ensures counted)

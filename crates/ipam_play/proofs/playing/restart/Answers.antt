@@ -15,21 +15,21 @@ pub loop-slot-preserved : goal.loop-slot-preserved
 loop-slot-preserved c =
     let below = c.loop-slot-test.true in
     let room = c.loop-slot.invariant.room in
-    elim c.match-clear.branch [
+    elim c.match-stop.branch [
       | in-Some w ↦
           let len = w.note.ensures.len in
           let capacity = w.note.ensures.capacity in
           rw w.journal-is (record {
             cleared = busy_cleared _ c.loop-slot.cluster.cluster _ _ c.loop-slot.journal.items _ c.loop-slot.slot w.in-Some.entry c.loop-slot.invariant.cleared
-                (λ e. cc (w.in-Some.ensures.idle.1 e)) w.in-Some.ensures.entry w.in-Some.ensures.adds c.clear.ensures.others w.note.ensures.items;
+                (λ e. cc (w.in-Some.ensures.idle.1 e)) w.in-Some.ensures.entry w.in-Some.ensures.adds c.stop.ensures.others w.note.ensures.items;
             room = omega (arith, room, below, len, capacity);
-            timed = c.clear.ensures.timed c.loop-slot.invariant.timed;
+            timed = c.stop.ensures.timed c.loop-slot.invariant.timed;
           })
       | in_default w ↦ rw w.journal-is (record {
         cleared = idle_cleared _ c.loop-slot.cluster.cluster _ _ c.loop-slot.journal.items c.loop-slot.slot c.loop-slot.invariant.cleared
-            (w.in_default.ensures.idle.0 refl) w.in_default.ensures.kept c.clear.ensures.others;
+            (w.in_default.ensures.idle.0 refl) w.in_default.ensures.kept c.stop.ensures.others;
         room = omega (arith, room, below);
-        timed = c.clear.ensures.timed c.loop-slot.invariant.timed;
+        timed = c.stop.ensures.timed c.loop-slot.invariant.timed;
       })
     ]
 

@@ -1,21 +1,35 @@
-use Rattle.std.proofs.Common.{Some}
+use Rattle.std.proofs.Common.{◌≤◌, Some}
+use Rattle.std.specs.Prelude.{Ok, Err}
 use Rattle.ipam_session.specs.declared.wish.Wish.TheVariants as wish
+use Rattle.ipam_serve.specs.declared.ran.Broken.TheVariants.{Memory, Worn}
+use Rattle.ipam_serve.specs.Lines.{server_at}
+use Rattle.ipam_serve.specs.Turns.{TakesOne}
+use Rattle.ipam_serve.proofs.Coming.{knows-err, one-err, sees-none}
 use Rattle.ipam_serve.proofs.LineParts.{routes-wears}
-use Rattle.ipam_serve.proofs.Outcomes.{comes-seen, comes-unseen, never-halts}
+use Rattle.ipam_serve.proofs.Looking.{memory-one, told-one, worn-one}
+use Rattle.ipam_serve.proofs.Outcomes.{comes-seen, comes-unseen}
 use Rattle.ipam_serve.proofs.Routing.{routes-breaks, routes-replies}
 use Rattle.ipam_serve.proofs.lines.answer_routes.Goals as goal
-use Rattle.ipam_serve.specs.Lines.{server_at}
+
+pub returns-then-left-lt2-clause-comes : goal.returns-then-left-lt2-clause-comes
+returns-then-left-lt2-clause-comes g c turns ahead =
+    let one : TakesOne {T = Unit {0}} (Err Worn) c.args.pass.now c.args.pass.now = worn-one c.args.pass.now (rw (← c.left.ensures) c.if-left-lt2.true) in
+    comes-unseen g.D.Keeper.rows g.D.Keeper.given g.D.Keeper.faults (server_at c.args.pass.now turns ahead) c.args.pass.now one.took (Some wish.Routes) Worn
+    (routes-breaks (server_at c.args.pass.now turns ahead) c.args.pass.now one.took) (routes-wears c.args.pass.now c.args.pass.now one.took) one.worn
 
 pub returns-in-Ok-clause-comes : goal.returns-in-Ok-clause-comes
 returns-in-Ok-clause-comes g c turns ahead =
-    rw c.of.ensures (comes-seen g.D.Keeper.rows g.D.Keeper.given g.D.Keeper.faults (server_at c.args.pass.now turns ahead) c.routes.new.pass c.in-Ok.ensures.turn.took (Some wish.Routes) _ c.in-Ok.ensures.turn.runs c.requires.rests
-    (routes-replies (server_at c.args.pass.now turns ahead) c.routes.new.pass c.in-Ok.ensures.turn.took c.in-Ok.revision c.in-Ok.routes.items c.in-Ok.ensures.told c.in-Ok.ensures.turn.one))
+    let enough : 2 ≤ c.args.pass.now.left = rw (← c.left.ensures) c.if-left-lt2.false in
+    let one : TakesOne {T = Unit {0}} (Ok tt) c.args.pass.now c.routes.new.pass = told-one c.args.pass.now c.routes.new.pass c.in-Ok.ensures.same c.in-Ok.ensures.seen c.in-Ok.ensures.knows c.in-Ok.ensures.left enough tt in
+    rw c.of.ensures (comes-seen g.D.Keeper.rows g.D.Keeper.given g.D.Keeper.faults (server_at c.args.pass.now turns ahead) c.routes.new.pass one.took (Some wish.Routes) _ one.runs c.requires.rests
+    (routes-replies (server_at c.args.pass.now turns ahead) c.routes.new.pass one.took c.in-Ok.revision c.in-Ok.routes.items c.in-Ok.ensures.routes one.one))
 
 pub returns-in-Err-clause-comes : goal.returns-in-Err-clause-comes
 returns-in-Err-clause-comes g c turns ahead =
-    comes-unseen g.D.Keeper.rows g.D.Keeper.given g.D.Keeper.faults (server_at c.args.pass.now turns ahead) c.routes.new.pass c.in-Err.ensures.turn.took (Some wish.Routes) c.in-Err.broken
-    (routes-breaks (server_at c.args.pass.now turns ahead) c.routes.new.pass c.in-Err.ensures.turn.took)
-    (routes-wears c.args.pass.now c.routes.new.pass c.in-Err.ensures.turn.took) c.in-Err.ensures.turn.worn
-
-pub returns-in-Err-clause-stops : goal.returns-in-Err-clause-stops
-returns-in-Err-clause-stops g c count = never-halts c.in-Err.broken count c.in-Err.ensures.turn.not_halted
+    let enough : 2 ≤ c.args.pass.now.left = rw (← c.left.ensures) c.if-left-lt2.false in
+    let one : TakesOne {T = Unit {0}} (Err Memory) c.args.pass.now c.routes.new.pass = memory-one c.args.pass.now c.routes.new.pass c.in-Err.ensures.same
+    (sees-none c.args.pass.now c.routes.new.pass c.in-Err.field-0 c.in-Err.ensures.spent enough c.in-Err.ensures.seen)
+    (knows-err c.args.pass.now c.routes.new.pass c.in-Err.field-0 c.in-Err.ensures.spent enough c.in-Err.ensures.knows)
+    (one-err c.args.pass.now c.routes.new.pass c.in-Err.field-0 c.in-Err.ensures.spent enough c.in-Err.ensures.left) enough in
+    comes-unseen g.D.Keeper.rows g.D.Keeper.given g.D.Keeper.faults (server_at c.args.pass.now turns ahead) c.routes.new.pass one.took (Some wish.Routes) Memory
+    (routes-breaks (server_at c.args.pass.now turns ahead) c.routes.new.pass one.took) (routes-wears c.args.pass.now c.routes.new.pass one.took) one.worn

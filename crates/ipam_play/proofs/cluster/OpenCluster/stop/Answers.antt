@@ -3,12 +3,7 @@ use Rattle.ipam_play.specs.declared.cluster.OpenCluster.{OpenCluster}
 use Rattle.ipam_play.proofs.Timings.{timed_stopped}
 use Rattle.ipam_play.proofs.cluster.OpenCluster.stop.Goals as goal
 
-pub returns-in-Some-clause-timed : goal.returns-in-Some-clause-timed
-returns-in-Some-clause-timed c = λ timed.
-    let new : OpenCluster = record { cluster = c.stop.new.self; at = c.args.self.now.at; grace = c.args.self.now.grace } in
-    timed_stopped c.args.self.now new c.args.slot timed c.stop.ensures.idle_after c.stop.ensures.others refl refl
-
-pub returns-in-None-clause-timed : goal.returns-in-None-clause-timed
-returns-in-None-clause-timed c = λ timed.
+pub returns-clause-timed : goal.returns-clause-timed
+returns-clause-timed c = λ timed.
     let new : OpenCluster = record { cluster = c.stop.new.self; at = c.args.self.now.at; grace = c.args.self.now.grace } in
     timed_stopped c.args.self.now new c.args.slot timed c.stop.ensures.idle_after c.stop.ensures.others refl refl

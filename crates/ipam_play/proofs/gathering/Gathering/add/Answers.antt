@@ -1,5 +1,5 @@
 use Rattle.std.proofs.Common.{refl, sym, ◌∙◌}
-use Rattle.ipam_play.proofs.Gatherings.{gathers_row, key_given, memory_not_again, not_again, ok_not_again}
+use Rattle.ipam_play.proofs.Gatherings.{gathers_row, gathers_same, key_given, memory_not_again, not_again, ok_not_again}
 use Rattle.ipam_play.proofs.gathering.Gathering.add.Goals as goal
 
 pub returns-then-contains_key-clause-again : goal.returns-then-contains_key-clause-again
@@ -16,3 +16,6 @@ returns-in-Err-clause-again c = λ gathered h.
 
 pub returns-in-Ok-clause-added : goal.returns-in-Ok-clause-added
 returns-in-Ok-clause-added c = λ gathered h. gathers_row _ _ gathered _ h c.in-Ok.ensures.rows c.in-Ok.ensures.counter c.insert.ensures.from
+
+pub returns-in-Err-clause-unchanged : goal.returns-in-Err-clause-unchanged
+returns-in-Err-clause-unchanged c = λ gathered h. gathers_same _ _ gathered h c.in-Err.ensures.rows_kept c.in-Err.ensures.counter_kept c.insert.ensures.from

@@ -22,16 +22,16 @@ returns-in_err-cluster-in_default c =
 
 pub returns-in-Row-clause-gathered : goal.returns-in-Row-clause-gathered
 returns-in-Row-clause-gathered c =
-    rw (c.told.ensures, c.in-Row.is) (row_line c.args.self.now _ c.in-Gathering.gathering c.add.new.self c.in-Gathering.is refl refl c.in-Row.row c.add.result
-    c.add.ensures.again c.add.ensures.added c.add.ensures.unchanged)
+    rw c.in-Row.is (row_line c.args.self.now _ c.in-Gathering.gathering c.add.new.self c.in-Gathering.is refl refl c.in-Row.row c.add.result
+    c.add.ensures.again c.add.ensures.added c.add.ensures.unchanged c.add.ensures.told)
 
 pub returns-in-Counter-clause-gathered : goal.returns-in-Counter-clause-gathered
 returns-in-Counter-clause-gathered c =
-    rw (c.told-in-Counter.ensures, c.in-Counter.is) (counter_line c.args.self.now _ c.in-Gathering.gathering c.set_counter.new.self c.in-Gathering.is refl refl c.in-Counter.counter c.set_counter.result
+    rw c.in-Counter.is (counter_line c.args.self.now _ c.in-Gathering.gathering c.set_counter.new.self c.in-Gathering.is refl refl c.in-Counter.counter c.set_counter.result
     c.set_counter.ensures.again c.set_counter.ensures.set)
 
 pub returns-in-Counter-clause-counter : goal.returns-in-Counter-clause-counter
-returns-in-Counter-clause-counter c = rw c.told-in-Counter.ensures (λ counter is. counter_told c.set_counter.result c.set_counter.ensures.told)
+returns-in-Counter-clause-counter c = λ counter is. counter_told c.set_counter.result c.set_counter.ensures.told
 
 pub returns-in_ok-cluster-in_default : goal.returns-in_ok-cluster-in_default
 returns-in_ok-cluster-in_default c =

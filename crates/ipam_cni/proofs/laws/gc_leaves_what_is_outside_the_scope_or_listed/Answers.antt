@@ -1,5 +1,0 @@
-use Rattle.ipam_cni.proofs.Spared.{gc_leaves}
-use Rattle.ipam_cni.proofs.laws.gc_leaves_what_is_outside_the_scope_or_listed.Goals as goal
-
-pub returns : goal.returns
-returns c = gc_leaves

@@ -1,5 +1,0 @@
-use Rattle.ipam_cni.proofs.TryAgain.{call_never_again}
-use Rattle.ipam_cni.proofs.laws.no_call_that_is_read_is_told_to_try_again.Goals as goal
-
-pub returns : goal.returns
-returns c = call_never_again

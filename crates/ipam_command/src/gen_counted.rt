@@ -1,0 +1,120 @@
+//! A cluster that events happen to one by one, and what is counted of the answers.
+ghost use Rattle.std.specs.Prelude.{◌≡◌, ◌<◌, ◌+◌, ◌^◌, ℕ, true, false, [], None, IfOk, OnOk, if◌then◌else◌};
+ghost use Rattle.std.specs.List.{All};
+ghost use Rattle.ipam_records.specs.Sound.{IsHandleId};
+ghost use Rattle.ipam_model.specs.Course.{Begin, Feed, Turn};
+ghost use Rattle.ipam_model.specs.SoundRequest.{IsSoundRequest};
+ghost use Rattle.ipam_model.specs.declared.entry.Fate.TheVariants.{Well};
+ghost use Rattle.ipam_model.specs.declared.entry.SlotState.TheVariants as state;
+ghost use Rattle.ipam_cluster.specs.Cluster.{WaitsWith, slot_of_cluster, state_in};
+ghost use Rattle.ipam_command.specs.Counted.{CountsOne};
+ghost use Rattle.ipam_command.specs.Summary.{answer_told, is_again, is_exhausted};
+
+use crate::gen_base::open;
+use crate::gen_events;
+use crate::gen_telling::{is_again, is_exhausted};
+use ipam_cluster::Cluster;
+use ipam_model::{Entry, Request, SLOTS, SlotState};
+use ipam_text::Text;
+use std::alloc::{AllocError, Global};
+
+/// A cluster over the generator's base, and how many requests were answered so.
+#[derive(Drop)]
+pub(crate) struct Counted {
+    pub(crate) cluster: Cluster,
+    /// That they were tried too often.
+    pub(crate) again: u64,
+    /// That no address was left.
+    pub(crate) exhausted: u64,
+}
+
+impl Counted {
+    ghost use Rattle.ipam_command.specs.Counted.{Happens, HappensAs, IsCounted, IsSomewhere};
+
+    /// Nothing has happened.
+    pub(crate) fn new(alloc: Global) -> Result<Counted, AllocError>
+        ensures { IfOk result (λ counted. IsCounted counted []) }
+    {
+        Ok(Counted {
+            cluster: open(alloc)?,
+            again: 0,
+            exhausted: 0,
+        })
+    }
+
+    /// Whether nothing runs in the slot.
+    pub(crate) fn is_idle(&self, slot: u8) -> bool
+        requires { slot < SLOTS }
+        ensures idle { result ≡ true → slot_of_cluster self.now.cluster slot ≡ None }
+        ensures busy { result ≡ false → ¬ (state_in (slot_of_cluster self.now.cluster slot) ≡ state.Idle) }
+    {
+        match self.cluster.state(slot) {
+            SlotState::Idle => true,
+            SlotState::Running | SlotState::Waiting => false,
+        }
+    }
+
+    /// The request begins in the slot.
+    pub(crate) fn begin(
+        &mut self,
+        alloc: Global,
+        slot: u8,
+        request: &Request,
+    ) -> Result<(), AllocError>
+        requires slot { slot < SLOTS }
+        requires sound { IsSoundRequest request.now }
+        requires idle { slot_of_cluster self.old.cluster slot ≡ None }
+        requires somewhere { IsSomewhere self.old }
+        ensures happens { OnOk result (Happens self.old self.new (Begin slot request.now)) }
+        ensures counts { OnOk result (CountsOne self.old.cluster self.new.cluster) }
+    {
+        let entry = gen_events::begin(alloc, &mut self.cluster, slot, request)?;
+        self.note(&entry);
+        drop(entry);
+        Ok(())
+    }
+
+    /// The slot takes a turn.
+    pub(crate) fn turn(&mut self, alloc: Global, slot: u8) -> Result<Entry, AllocError>
+        requires slot { slot < SLOTS }
+        requires running { state_in (slot_of_cluster self.old.cluster slot) ≡ state.Running }
+        requires somewhere { IsSomewhere self.old }
+        ensures happens { IfOk result (HappensAs self.old self.new (Turn slot Well)) }
+        ensures counts { OnOk result (CountsOne self.old.cluster self.new.cluster) }
+        ensures others { (other : ℕ) → ¬ (other ≡ slot) → slot_of_cluster self.new.cluster other ≡ slot_of_cluster self.old.cluster other }
+    {
+        let entry = gen_events::turn(alloc, &mut self.cluster, slot)?;
+        self.note(&entry);
+        Ok(entry)
+    }
+
+    /// The collection that waits in slot 0 is fed the list.
+    pub(crate) fn feed(&mut self, alloc: Global, live: &[Text]) -> Result<(), AllocError>
+        requires waits { WaitsWith (slot_of_cluster self.old.cluster 0) (record { at = 0; grace = 0 }) }
+        requires sound { All IsHandleId live.now }
+        requires somewhere { IsSomewhere self.old }
+        ensures happens { OnOk result (Happens self.old self.new (Feed 0 0 live.now)) }
+        ensures counts { OnOk result (CountsOne self.old.cluster self.new.cluster) }
+    {
+        let entry = gen_events::feed(alloc, &mut self.cluster, live)?;
+        self.note(&entry);
+        drop(entry);
+        Ok(())
+    }
+
+    /// Counts the answer, if the entry has one.
+    fn note(&mut self, entry: &Entry)
+        requires again { self.old.again < 2 ^ 63 }
+        requires exhausted { self.old.exhausted < 2 ^ 63 }
+        ensures again { self.new.again ≡ (if is_again (answer_told entry.now) then 1 else 0) + self.old.again }
+        ensures exhausted { self.new.exhausted ≡ (if is_exhausted (answer_told entry.now) then 1 else 0) + self.old.exhausted }
+        ensures cluster { self.new.cluster ≡ self.old.cluster }
+    {
+        if is_again(entry) {
+            self.again += 1;
+        }
+        if is_exhausted(entry) {
+            self.exhausted += 1;
+        }
+    }
+}

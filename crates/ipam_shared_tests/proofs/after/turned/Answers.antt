@@ -1,6 +1,0 @@
-use Rattle.ipam_shared_tests.proofs.Standing.{kept-after}
-use Rattle.ipam_shared_tests.proofs.after.turned.Goals as goal
-
-pub returns : goal.returns
-returns g c =
-    kept-after g.D.Keeper.rows c.args.kept.now c.turn.new.self c.turn.result c.turn.ensures.keeps c.turn.ensures.unchanged c.requires.kept

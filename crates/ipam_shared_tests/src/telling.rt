@@ -1,0 +1,33 @@
+// A text that is told piece by piece.
+use std::alloc::{AllocError, Global};
+
+/// What is told so far. Where there was no memory for a piece, there is none for the whole.
+#[derive(Drop)]
+pub struct Told {
+    text: String,
+    is_lost: bool,
+}
+
+impl Told {
+    pub fn new(alloc: Global) -> Told {
+        Told {
+            text: String::new(alloc),
+            is_lost: false,
+        }
+    }
+
+    pub fn push(&mut self, piece: Result<String, AllocError>) {
+        let is_pushed = match piece {
+            Ok(piece) => self.text.push_str(piece.as_str()).is_ok(),
+            Err(_) => false,
+        };
+        if !is_pushed {
+            self.is_lost = true;
+        }
+    }
+
+    pub fn into_text(self) -> Result<String, AllocError> {
+        let Told { text, is_lost } = self;
+        if is_lost { Err(AllocError) } else { Ok(text) }
+    }
+}
