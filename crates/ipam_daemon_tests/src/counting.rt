@@ -28,12 +28,12 @@ impl Counting {
         }
     }
 
-    /// What it was asked.
+    /// A line of what it was asked.
     pub(crate) fn told(&self, alloc: Global) -> Result<String, AllocError> {
         let (waits, losses, settlings) = (self.waits, self.losses, self.settlings);
         let (entered, left) = (self.entered, self.left);
         format!(in alloc;
-            "entered {entered}, waits {waits}, losses {losses}, left {left}, settlings {settlings}"
+            "entered {entered}, waits {waits}, losses {losses}, left {left}, settlings {settlings}\n"
         )
     }
 }

@@ -1,5 +1,5 @@
 //! What is logged at ends.
-use crate::rows::push_line;
+use crate::told::Told;
 use ipam_daemon::{SessionEnd, log_end};
 use log::sink::Memory;
 use std::alloc::{AllocError, Global};
@@ -17,16 +17,17 @@ pub(crate) fn told_logged(alloc: Global) -> Result<String, AllocError> {
         SessionEnd::Memory,
         SessionEnd::KeeperFault,
     ];
-    let mut told = String::new(alloc);
+    let mut told = Told::new(alloc);
     for end in ends {
-        let log = Memory::new(alloc);
-        log_end(&log, end);
-        for line in log.into_lines().as_slice() {
-            push_line(
-                &mut told,
-                format!(in alloc; "{end:?} {}", line.as_str())?.as_str(),
-            )?;
-        }
+        tell_logged(alloc, end, &mut told);
     }
-    Ok(told)
+    told.into_text()
+}
+
+fn tell_logged(alloc: Global, end: SessionEnd, told: &mut Told) {
+    let log = Memory::new(alloc);
+    log_end(&log, end);
+    for line in log.into_lines().as_slice() {
+        told.push(format!(in alloc; "{end:?} {}\n", line.as_str()));
+    }
 }

@@ -6,12 +6,12 @@
 mod cases;
 mod counting;
 mod ends;
-mod meeting;
 mod queues;
 mod rows;
 mod served;
 mod sessions;
 mod silent;
+mod told;
 mod two;
 
 pub use cases::report;

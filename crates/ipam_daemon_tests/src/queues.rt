@@ -1,5 +1,5 @@
 //! Places in a queue, taken and left by one thread, which nobody rings.
-use crate::rows::push_line;
+use crate::told::Told;
 use ipam_serve::{MOST_WAITS, Others, Place, Queue};
 use std::alloc::{AllocError, Global};
 use std::sync::Wait;
@@ -10,16 +10,15 @@ pub(crate) fn told<R: Wait>(rt: &R, alloc: Global, steps: &str) -> Result<String
     let queue = Queue::new();
     let mut places = Vec::new(alloc);
     let mut others = Vec::new(alloc);
-    let mut told = String::new(alloc);
+    let mut told = Told::new(alloc);
     for line in steps.lines() {
         let (word, rest) = line.split_once(' ').unwrap_or((line, ""));
         let number = rest.parse().unwrap_or(0u32);
         if let Some(waits) = step(rt, &queue, &mut places, &mut others, word, number)? {
-            let line = format!(in alloc; "{waits} of {MOST_WAITS}")?;
-            push_line(&mut told, line.as_str())?;
+            told.push(format!(in alloc; "{waits} of {MOST_WAITS}\n"));
         }
     }
-    Ok(told)
+    told.into_text()
 }
 
 /// Does a step: `enter` takes a place, `leave N` leaves the one with this number, `outwait N` waits for the others

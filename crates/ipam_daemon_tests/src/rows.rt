@@ -1,7 +1,5 @@
-//! Rows, and keepers of them in memory.
+//! Rows, keepers of them in memory, and numbers of steps.
 use ipam_keeper::{Keeper, MemoryKeeper};
-use ipam_serve::Opening;
-use ipam_text::Text;
 use std::alloc::{AllocError, Global};
 
 /// Rows in which the block of the node `a` has no address given out, as `REVISION KEY BODY`.
@@ -10,26 +8,30 @@ pub(crate) const FREE: &str =
 2 affinity/a/10.0.0.0/30 {"cidr":"10.0.0.0/30","node":"a","state":"confirmed"}
 3 block/10.0.0.0/30 {"affinity":"host:a","allocations":[null,null,null,null],"attributes":[],"cidr":"10.0.0.0/30","sequenceNumber":0,"sequenceNumberForAllocation":{},"unallocated":[0,1,2,3]}"#;
 
-/// The text of the opening of which all sessions are.
-const OPENED: &str = "7-00000000000000fe";
-
-pub(crate) fn opening(alloc: Global) -> Result<Opening, AllocError> {
-    Ok(Opening::of(alloc, Text::copied(alloc, OPENED)?))
-}
-
-pub(crate) fn push_line(out: &mut String, line: &str) -> Result<(), AllocError> {
-    out.push_str(line)?;
-    out.push_str("\n")
-}
-
-/// The numbers of the line that begins so, or none.
-pub(crate) fn numbers(alloc: Global, lines: &str, start: &str) -> Result<Vec<u64>, AllocError> {
-    let mut numbers = Vec::new(alloc);
+/// What is on the first line that begins so, after that.
+pub(crate) fn rest_of<'a>(lines: &'a str, start: &str) -> Option<&'a str> {
     for line in lines.lines() {
         if let Some(rest) = line.strip_prefix(start) {
-            for word in rest.split(' ') {
-                numbers.push(word.parse().unwrap_or(0))?;
-            }
+            return Some(rest);
+        }
+    }
+    None
+}
+
+/// The number on the first line that begins so, or 0.
+pub(crate) fn number_of(lines: &str, start: &str) -> u64 {
+    match rest_of(lines, start) {
+        Some(rest) => rest.parse().unwrap_or(0),
+        None => 0,
+    }
+}
+
+/// The numbers on the first line that begins so, or none.
+pub(crate) fn numbers(alloc: Global, lines: &str, start: &str) -> Result<Vec<u64>, AllocError> {
+    let mut numbers = Vec::new(alloc);
+    for word in rest_of(lines, start).unwrap_or("").split(' ') {
+        if let Ok(number) = word.parse() {
+            numbers.push(number)?;
         }
     }
     Ok(numbers)
@@ -47,7 +49,14 @@ pub(crate) fn keeper_of(
     let unsettled = numbers(alloc, steps, "unsettled ")?;
     let mut keeper = MemoryKeeper::new(Vec::new(alloc), failing).failing_to_settle(unsettled);
     for row in rows.lines() {
-        put(&mut keeper, row)?;
+        let (revision, rest) = row.split_once(' ').unwrap_or((row, ""));
+        let (key, body) = rest.split_once(' ').unwrap_or((rest, ""));
+        if keeper
+            .put(key, revision.parse().unwrap_or(0), body)
+            .is_err()
+        {
+            return Err(AllocError);
+        }
     }
     Ok(keeper)
 }
@@ -58,13 +67,4 @@ fn failing_of(alloc: Global, steps: &str) -> Result<Vec<(u64, bool)>, AllocError
         failing.push((*number, false))?;
     }
     Ok(failing)
-}
-
-fn put(keeper: &mut MemoryKeeper, row: &str) -> Result<(), AllocError> {
-    let (revision, rest) = row.split_once(' ').unwrap_or((row, ""));
-    let (key, body) = rest.split_once(' ').unwrap_or((rest, ""));
-    match keeper.put(key, revision.parse().unwrap_or(0), body) {
-        Ok(()) => Ok(()),
-        Err(_) => Err(AllocError),
-    }
 }

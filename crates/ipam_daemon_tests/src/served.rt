@@ -3,17 +3,22 @@ ghost use Rattle.std.specs.Prelude.{◌≡◌, ◌+◌, ◌≤◌, ◌^◌, None
 ghost use Rattle.ipam_shared.specs.Passes.{IsNewlyKept, IsSamePass, runs_in};
 
 use crate::counting::Counting;
-use crate::rows::{numbers, opening, push_line};
+use crate::rows::{numbers, rest_of};
+use crate::told::Told;
 use ipam_daemon::Serves;
 use ipam_io::{ListClock, MemoryLink};
-use ipam_serve::{SessionEnd, SessionGate};
+use ipam_serve::{Opening, SessionGate};
 use ipam_shared::{Keeper, Kept, Pass, Shared};
+use ipam_text::Text;
 use std::alloc::{AllocError, Global};
 use std::str;
 use std::sync::Wait;
 
 /// How many bytes can be written to a link.
 const ROOM: usize = 1_048_576;
+
+/// The text of the opening of which all sessions are.
+const OPENED: &str = "7-00000000000000fe";
 
 /// The cluster of this keeper, opened after so many entries and shared, and its first pass.
 pub(crate) fn share<D: Keeper + Drop>(
@@ -26,18 +31,9 @@ pub(crate) fn share<D: Keeper + Drop>(
     ensures idle { IfSome result (λ opened. runs_in opened.1 ≡ None) }
     ensures last { IfSome result (λ opened. opened.1.joined + 1 ≡ opened.1.made) }
 {
-    match Kept::open(alloc, keeper, first) {
-        Ok(kept) => share_kept(alloc, kept),
-        Err(_) => None,
-    }
-}
-
-fn share_kept<D: Keeper + Drop>(alloc: Global, kept: Kept<D>) -> Option<(Shared<D>, Pass)>
-    requires { IsNewlyKept D.rows D.settled kept }
-    ensures lock { IfSome result (λ opened. opened.1.lock ≡ opened.0) }
-    ensures idle { IfSome result (λ opened. runs_in opened.1 ≡ None) }
-    ensures last { IfSome result (λ opened. opened.1.joined + 1 ≡ opened.1.made) }
-{
+    let Ok(kept) = Kept::open(alloc, keeper, first) else {
+        return None;
+    };
     match Shared::new(alloc, kept) {
         Ok(opened) => Some(opened),
         Err(kept) => {
@@ -45,6 +41,23 @@ fn share_kept<D: Keeper + Drop>(alloc: Global, kept: Kept<D>) -> Option<(Shared<
             None
         }
     }
+}
+
+/// What a session has beside the cluster.
+#[derive(Drop)]
+struct Given {
+    link: MemoryLink,
+    clock: ListClock,
+    opening: Opening,
+}
+
+/// What these lines give. `> TEXT` is a line that comes in, and `clock N..` has the readings of the clock.
+fn make_given(alloc: Global, lines: &str) -> Result<Given, AllocError> {
+    Ok(Given {
+        link: link_of(alloc, lines)?,
+        clock: ListClock::new(numbers(alloc, lines, "clock ")?),
+        opening: Opening::of(alloc, Text::copied(alloc, OPENED)?),
+    })
 }
 
 /// Serves the session whose lines these are, and tells its replies and its end.
@@ -56,48 +69,45 @@ pub(crate) fn served<R: Wait, S: Serves, G: SessionGate>(
     gate: &mut G,
     patience: &mut Counting,
     lines: &str,
-) -> Result<String, AllocError>
+    told: &mut Told,
+)
     requires lock { pass.old.lock ≡ S.id shared.now }
     requires idle { runs_in pass.old ≡ None }
     ensures same { IsSamePass pass.old pass.new }
     ensures idle { runs_in pass.new ≡ None }
 {
-    let mut link = link_of(alloc, lines)?;
-    let mut clock = ListClock::new(numbers(alloc, lines, "clock ")?);
-    let opening = opening(alloc)?;
+    let Ok(mut given) = make_given(alloc, lines) else {
+        told.push(Err(AllocError));
+        return;
+    };
     let end = shared.session(
-        rt, alloc, &opening, pass, gate, &mut clock, patience, &mut link,
+        rt,
+        alloc,
+        &given.opening,
+        pass,
+        gate,
+        &mut given.clock,
+        patience,
+        &mut given.link,
     );
-    told_session(alloc, link.written(), end, lines)
+    tell_replies(given.link.written(), lines, told);
+    told.push(format!(in alloc; "session {end:?}\n"));
 }
 
-/// The replies, of each the part that a line says which begins with `part `, and how the session ended.
-fn told_session(
-    alloc: Global,
-    written: &[u8],
-    end: SessionEnd,
-    lines: &str,
-) -> Result<String, AllocError> {
-    let mut told = String::new(alloc);
-    for reply in str::from_utf8(written).unwrap_or("no text").lines() {
-        push_line(&mut told, part_of(reply, lines))?;
-    }
-    let last = format!(in alloc; "session {end:?}")?;
-    push_line(&mut told, last.as_str())?;
-    Ok(told)
-}
-
-fn part_of<'a>(reply: &'a str, lines: &'a str) -> &'a str {
-    for line in lines.lines() {
-        let part = line.strip_prefix("part ").unwrap_or("");
+/// Of each reply the part that a line says which begins with `part `.
+fn tell_replies(written: &[u8], lines: &str, told: &mut Told) {
+    let part = rest_of(lines, "part ").unwrap_or("");
+    let replies = str::from_utf8(written).unwrap_or("no text");
+    for reply in replies.lines() {
         if !part.is_empty() && reply.contains(part) {
-            return part;
+            told.push_line(part);
+        } else {
+            told.push_line(reply);
         }
     }
-    reply
 }
 
-/// The link of a session. `> TEXT` is a line that comes in.
+/// The link on which the lines come in.
 fn link_of(alloc: Global, lines: &str) -> Result<MemoryLink, AllocError> {
     let mut bytes = Vec::new(alloc);
     for line in lines.lines() {

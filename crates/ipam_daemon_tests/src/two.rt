@@ -1,165 +1,124 @@
-//! Two sessions at one cluster, each by a thread and with a pass of its own.
-ghost use Rattle.std.specs.Prelude.{◌≡◌, None};
+//! Two sessions at one cluster, of which one is served before a pass of the other.
+ghost use Rattle.std.specs.Prelude.{◌≡◌, None, IsNone};
 ghost use Rattle.ipam_shared.specs.Passes.{runs_in};
 
 use crate::counting::Counting;
-use crate::meeting::{Meeting, MeetingGate};
-use crate::rows::{FREE, keeper_of, numbers, push_line};
+use crate::rows::{FREE, keeper_of, number_of};
 use crate::served::{served, share};
+use crate::told::Told;
 use ipam_daemon::Serves;
-use ipam_serve::Queue;
+use ipam_io::{OpenGate, Passed, Point};
+use ipam_serve::{Queue, SessionGate};
 use ipam_shared::{Keeper, Pass};
 use std::alloc::{AllocError, Global};
 use std::sync::{Arc, Wait};
-use std::thread::{Threads, join};
 
-/// What is told of two sessions. The first has the steps before a line `meanwhile`, and waits before the pass
-/// that its line `at N` says until the second has served those behind it. The requests of both enter one queue.
-pub(crate) fn told<R: Threads + Wait + Sync>(
-    rt: &R,
+/// The gate of a session, which never stops it. At one pass it has another session served to its end.
+#[derive(Drop)]
+struct Meanwhile<'a, R: Wait, S: Serves> {
+    rt: &'a R,
     alloc: Global,
-    steps: &str,
-) -> Result<String, AllocError> {
+    shared: &'a S,
+    pass: Pass,
+    patience: Counting,
+    lines: &'a str,
+    /// How many passes there are until then. With 0 it never does.
+    passes_left: u64,
+    told: Told,
+    ghost own: { pass.lock ≡ S.id shared.now },
+    ghost idle: { IsNone (runs_in pass) },
+}
+
+impl<R: Wait, S: Serves> SessionGate for Meanwhile<'_, R, S> {
+    ghost use Rattle.std.specs.Prelude.{None};
+
+    ghost stops = { λ _. 0 };
+
+    ghost turns = { λ _. None };
+
+    ghost lines = { λ _. None };
+
+    #[tactic(auto, using(ipam_daemon::proofs::Idle::is_idle, ipam_daemon::proofs::Idle::none_runs))]
+    fn pass(&mut self, _point: Point) -> Passed {
+        self.passes_left = self.passes_left.wrapping_sub(1);
+        if self.passes_left == 0 {
+            served(
+                self.rt,
+                self.alloc,
+                self.shared,
+                &mut self.pass,
+                &mut OpenGate::new(),
+                &mut self.patience,
+                self.lines,
+                &mut self.told,
+            );
+        }
+        Passed::Go
+    }
+}
+
+/// What is told of two sessions. The first has the steps before a line `meanwhile`. Before the pass that its line
+/// `at N` says the second is served, which has those behind it. The requests of both enter one queue.
+pub(crate) fn told<R: Wait>(rt: &R, alloc: Global, steps: &str) -> Result<String, AllocError> {
     told_over(rt, alloc, keeper_of(alloc, FREE, "")?, steps)
 }
 
-fn told_over<R: Threads + Wait + Sync, D: Keeper + Send + Drop>(
+fn told_over<R: Wait, D: Keeper + Drop>(
     rt: &R,
     alloc: Global,
     keeper: D,
     steps: &str,
 ) -> Result<String, AllocError> {
-    match share(alloc, keeper, 0) {
-        Some((shared, pass)) => told_by_two(rt, alloc, &shared, pass, steps),
+    let Some((shared, mut first)) = share(alloc, keeper, 0) else {
+        return Err(AllocError);
+    };
+    match shared.split_off(&mut first) {
+        Some(second) => told_of_both(rt, alloc, &shared, first, second, steps),
         None => Err(AllocError),
     }
 }
 
-fn told_by_two<R: Threads + Wait + Sync, S: Serves + Sync>(
+/// Where a line `patience` says so, it is also told what the patience of the first was asked.
+#[tactic(auto, using(ipam_daemon::proofs::Idle::is_idle))]
+fn told_of_both<R: Wait, S: Serves>(
     rt: &R,
     alloc: Global,
     shared: &S,
     mut first: Pass,
-    steps: &str,
-) -> Result<String, AllocError>
-    requires lock { first.lock ≡ S.id shared.now }
-    requires idle { runs_in first ≡ None }
-{
-    let (lines, others) = steps.split_once("\nmeanwhile\n").unwrap_or((steps, ""));
-    match shared.split_off(&mut first) {
-        Some(second) => join_both(rt, alloc, shared, first, lines, second, others),
-        None => Err(AllocError),
-    }
-}
-
-/// Serves both at once, with one queue.
-fn join_both<R: Threads + Wait + Sync, S: Serves + Sync>(
-    rt: &R,
-    alloc: Global,
-    shared: &S,
-    first: Pass,
-    lines: &str,
     second: Pass,
-    others: &str,
+    steps: &str,
 ) -> Result<String, AllocError>
     requires lock { (first.lock ≡ S.id shared.now) × (second.lock ≡ S.id shared.now) }
     requires idle { (runs_in first ≡ None) × (runs_in second ≡ None) }
 {
-    let kept = Meeting::new();
-    let meeting = &kept;
+    let (lines, others) = steps.split_once("\nmeanwhile\n").unwrap_or((steps, ""));
     let queue = Arc::new(alloc, Queue::new())?;
-    let other = Arc::try_clone(&queue)?;
-    let (first, second) = join(
-        rt,
-        move || -> Result<String, AllocError>
-            requires { (first.lock ≡ S.id shared.now) × (runs_in first ≡ None) }
-        { serve_first(rt, alloc, shared, queue, first, meeting, lines) },
-        move || -> Result<String, AllocError>
-            requires { (second.lock ≡ S.id shared.now) × (runs_in second ≡ None) }
-        { serve_second(rt, alloc, shared, other, second, meeting, others) },
-    );
-    both(first, second)
-}
-
-/// Serves the session that waits.
-fn serve_first<R: Wait, S: Serves>(
-    rt: &R,
-    alloc: Global,
-    shared: &S,
-    queue: Arc<Queue, Global>,
-    pass: Pass,
-    meeting: &Meeting,
-    lines: &str,
-) -> Result<String, AllocError>
-    requires lock { pass.lock ≡ S.id shared.now }
-    requires idle { runs_in pass ≡ None }
-{
-    let at = numbers(alloc, lines, "at ")?.first().copied().unwrap_or(0);
-    let told = serve(rt, alloc, shared, queue, pass, meeting, at, lines);
-    meeting.arrive();
-    told
-}
-
-/// Serves the session that is waited for.
-fn serve_second<R: Wait, S: Serves>(
-    rt: &R,
-    alloc: Global,
-    shared: &S,
-    queue: Arc<Queue, Global>,
-    pass: Pass,
-    meeting: &Meeting,
-    lines: &str,
-) -> Result<String, AllocError>
-    requires lock { pass.lock ≡ S.id shared.now }
-    requires idle { runs_in pass ≡ None }
-{
-    meeting.await_first();
-    let told = serve(rt, alloc, shared, queue, pass, meeting, 0, lines);
-    meeting.end();
-    told
-}
-
-/// Serves a session that waits at this pass. Where a line `patience` says so, it also tells what its patience was
-/// asked.
-fn serve<R: Wait, S: Serves>(
-    rt: &R,
-    alloc: Global,
-    shared: &S,
-    queue: Arc<Queue, Global>,
-    mut pass: Pass,
-    meeting: &Meeting,
-    at: u64,
-    lines: &str,
-) -> Result<String, AllocError>
-    requires lock { pass.lock ≡ S.id shared.now }
-    requires idle { runs_in pass ≡ None }
-{
-    let mut gate = MeetingGate {
-        meeting,
-        passes_left: at,
-    };
-    let mut patience = Counting::new(queue, pass.slot());
-    let mut told = served(
+    let mut patience = Counting::new(Arc::try_clone(&queue)?, first.slot());
+    let mut gate = Meanwhile {
         rt,
         alloc,
         shared,
-        &mut pass,
+        patience: Counting::new(queue, second.slot()),
+        pass: second,
+        lines: others,
+        passes_left: number_of(lines, "at "),
+        told: Told::new(alloc),
+    };
+    let mut told = Told::new(alloc);
+    served(
+        rt,
+        alloc,
+        shared,
+        &mut first,
         &mut gate,
         &mut patience,
         lines,
-    )?;
+        &mut told,
+    );
     if lines.contains("\npatience\n") {
-        push_line(&mut told, patience.told(alloc)?.as_str())?;
+        told.push(patience.told(alloc));
     }
-    Ok(told)
-}
-
-/// The two texts, one after the other.
-fn both(
-    first: Result<String, AllocError>,
-    second: Result<String, AllocError>,
-) -> Result<String, AllocError> {
-    let mut told = first?;
-    told.push_str(second?.as_str())?;
-    Ok(told)
+    let Meanwhile { told: other, .. } = gate;
+    told.push(other.into_text());
+    told.into_text()
 }

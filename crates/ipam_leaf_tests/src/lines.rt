@@ -6,7 +6,7 @@ use std::alloc::{AllocError, Global};
 const LIMIT: usize = 1_048_576;
 
 /// The bytes of the numbers of the signs, where `␤` stands for a line feed.
-fn bytes_of(alloc: Global, text: &str) -> Result<Vec<u8>, AllocError> {
+pub(crate) fn bytes_of(alloc: Global, text: &str) -> Result<Vec<u8>, AllocError> {
     let mut bytes = Vec::new(alloc);
     for sign in text.chars() {
         let byte = if sign == '␤' { 10 } else { u32::from(sign) };

@@ -1,6 +1,6 @@
 //! What reservations, pools and a block answer, each read of its text.
 use crate::calls::record;
-use ipam_addr::{push_addr, read_addr, read_cidr};
+use ipam_addr::{Addr, push_addr, read_addr, read_cidr};
 use ipam_block::Block;
 use ipam_pool::Reserved;
 use ipam_records::Record;
@@ -11,12 +11,24 @@ const RESERVATIONS: &str =
 
 /// The first address of a CIDR that is not reserved.
 pub(crate) fn free_text(alloc: Global, cidr: &str) -> Result<String, AllocError> {
-    let read = record(alloc, "reservations", RESERVATIONS)?;
-    let (Record::Reservations(list), Ok(cidr)) = (&read, read_cidr(cidr.as_bytes())) else {
+    let Ok(cidr) = read_cidr(cidr.as_bytes()) else {
         return Err(AllocError);
     };
+    let read = record(alloc, "reservations", RESERVATIONS)?;
+    match &read {
+        Record::Reservations(list) => {
+            addr_text(
+                alloc,
+                Reserved::of(alloc, list.as_slice())?.first_free_in(cidr),
+            )
+        }
+        _ => Err(AllocError),
+    }
+}
+
+fn addr_text(alloc: Global, addr: Option<Addr>) -> Result<String, AllocError> {
     let mut out = String::new(alloc);
-    match Reserved::of(alloc, list.as_slice())?.first_free_in(cidr) {
+    match addr {
         Some(addr) => push_addr(alloc, &mut out, addr)?,
         None => out.push_str("none")?,
     }
