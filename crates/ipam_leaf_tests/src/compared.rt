@@ -1,62 +1,69 @@
 //! The store against a plain one.
 use crate::calls::{apply, read_call};
-use crate::plain;
+use crate::plain::PlainStore;
 use ipam_records::{Call, KeyRef, Kind, Listing, Record, Reply};
 use ipam_store::Store;
 use std::alloc::{AllocError, Global};
 
-/// A store and the rows of a plain one, which were asked the same.
+/// A store and a plain one, which were asked the same.
 #[derive(Drop)]
 struct Both {
     store: Store,
-    rows: Vec<(u64, Record)>,
+    plain: PlainStore,
 }
 
-/// Asks the store the call of the text, and applies to both what it grants.
-fn ask_both(both: &mut Both, alloc: Global, text: &str) -> Result<(), AllocError> {
-    let Some(revision) = apply(&mut both.store, read_call(alloc, text)?)? else {
-        return Ok(());
-    };
-    match read_call(alloc, text)?.into_write(revision) {
-        Some(write) => plain::apply(&mut both.rows, write),
+/// Applies the write of the call at this revision.
+fn apply_plain(plain: &mut PlainStore, call: Call, revision: u64) -> Result<(), AllocError> {
+    match call.into_write(revision) {
+        Some(write) => plain.apply(write),
         None => Ok(()),
     }
 }
 
-/// Whether both have one revision and one key.
-fn is_same(found: (u64, &Record), row: &(u64, Record)) -> bool {
-    found.0 == row.0 && KeyRef::of_record(found.1).is_same(&KeyRef::of_record(&row.1))
+/// Asks the store the call of the text, and applies to both what it grants.
+fn ask_both(both: &mut Both, alloc: Global, text: &str) -> Result<(), AllocError> {
+    match apply(&mut both.store, read_call(alloc, text)?)? {
+        Some(revision) => apply_plain(&mut both.plain, read_call(alloc, text)?, revision),
+        None => Ok(()),
+    }
 }
 
-/// Whether the store has these rows, at the same places.
-fn has_rows(store: &Store, rows: &[(u64, Record)]) -> bool {
-    for (place, row) in rows.iter().enumerate() {
-        if place >= store.rows() || !is_same(store.row(place), row) {
+/// Whether the rows have one revision and one key, or there is none in both.
+fn is_same(found: Option<(u64, &Record)>, plain: Option<&(u64, Record)>) -> bool {
+    match (found, plain) {
+        (Some((revision, record)), Some(row)) => {
+            revision == row.0 && KeyRef::of_record(record).is_same(&KeyRef::of_record(&row.1))
+        }
+        (None, None) => true,
+        _ => false,
+    }
+}
+
+/// Whether there are as many rows as in the plain store, and at each place the same one.
+fn has_rows(store: &Store, plain: &PlainStore) -> bool {
+    for place in 0..store.rows() {
+        if !is_same(Some(store.row(place)), plain.row(place)) {
             return false;
         }
     }
-    rows.len() == store.rows()
+    plain.row(store.rows()).is_none()
 }
 
-/// Whether the list has those of the rows that are of handles.
-fn is_list(listing: &Listing, rows: &[(u64, Record)]) -> bool {
-    let mut place = 0;
-    for row in rows {
-        if matches!(row.1, Record::Handle(_)) {
-            if place >= listing.len() || !is_same(listing.at(place), row) {
-                return false;
-            }
-            place += 1;
+/// Whether the list has the plain rows.
+fn is_list(listing: &Listing, plain: &[(u64, Record)]) -> bool {
+    for place in 0..listing.len() {
+        if !is_same(Some(listing.at(place)), plain.get(place)) {
+            return false;
         }
     }
-    place == listing.len()
+    listing.len() == plain.len()
 }
 
-/// Whether both have the same rows, and the same list of handles.
-fn are_same(both: &Both) -> bool {
-    match both.store.reply(&Call::List(Kind::Handle)) {
+/// Whether both have the same rows, and the same list of the kind.
+fn are_same(both: &Both, kind: Kind) -> bool {
+    match both.store.reply(&Call::List(kind)) {
         Reply::Listed(listing) => {
-            is_list(&listing, &both.rows) && has_rows(&both.store, &both.rows)
+            is_list(&listing, both.plain.list(kind)) && has_rows(&both.store, &both.plain)
         }
         _ => false,
     }
@@ -97,7 +104,7 @@ fn first_difference(alloc: Global, both: &mut Both) -> Result<Option<String>, Al
     for step in 0..HANDLES + HANDLES / 2 {
         let text = handle_call(alloc, step)?;
         ask_both(both, alloc, text.as_str())?;
-        if !are_same(both) {
+        if !are_same(both, Kind::Handle) {
             return Ok(Some(text));
         }
     }
@@ -109,7 +116,7 @@ fn first_difference(alloc: Global, both: &mut Both) -> Result<Option<String>, Al
 pub(crate) fn handles_text(alloc: Global) -> Result<String, AllocError> {
     let mut both = Both {
         store: Store::new(alloc, 0),
-        rows: Vec::new(alloc),
+        plain: PlainStore::new(alloc),
     };
     match first_difference(alloc, &mut both)? {
         Some(text) => format!(in alloc; "not the same after {text}"),
